@@ -1,0 +1,119 @@
+-- What is given for fields, and by which arguments.
+use Rattle.std.proofs.Common.{◌≡◌, ◌≢◌, ℕ, zero, suc, ◌+◌, ◌<◌, ◌≤◌, Bool, true, false, cond, ◌==◌, List, [], ◌∷◌, ◌++◌, length, get_or, set, take, Option, Some, None, IsTrue, refl, ap, sym, subst, ◌∙◌, arith, ⊎_elim, slice_get}
+use Rattle.std.proofs.lemmas.Bool.{false≢true, cases_eq, cases_Bool}
+use Rattle.std.proofs.lemmas.Bool.Decides.{Decides-eqb}
+use Rattle.std.proofs.lemmas.List.{length-set, take-map, map_more}
+use Rattle.std.proofs.lemmas.Option.{none-some, slice_get_within, slice_get-map, slice_get-get_or}
+use Rattle.std.specs.Borrow.{Bor}
+use Rattle.std.specs.Option.{is_some, option_copied, option_map}
+use Rattle.feel_tests.specs.declared.value.Value.{Value}
+use Rattle.adjudicate.specs.declared.plan.table.Field.{Field}
+use Rattle.adjudicate.specs.Evaluation.{Given, value_at, option_flatten}
+use Rattle.adjudicate.specs.Arguments.{Assignment, IsSplit, NamesField, texts_of, IsArgument, EachArgument, AreApart, Gives, assigned}
+
+-- a reference that is there leads to a value
+pub some_value : (found : Option (Bor Value)) (given : Option Value) → is_some found ≡ true → option_copied found ≡ given → (value : Value) × (given ≡ Some value)
+some_value None given some same = absurd (false≢true some)
+some_value (Some reference) given some same = (reference.now, cc)
+
+-- and one that isn't there to none
+pub no_value : (found : Option (Bor Value)) (given : Option Value) → is_some found ≡ false → option_copied found ≡ given → given ≡ None
+no_value None given none same = sym same
+no_value (Some reference) given none same = absurd (false≢true (sym none))
+
+-- the field of this name stands at the place
+pub names_field : (fields : List Field) (text name literal : List ℕ) (place : ℕ) (field : Field) → IsSplit text name literal → slice_get fields place ≡ Some field → field.name ≡ name
+    → NamesField fields text place field literal
+names_field fields text name literal place field split standing same =
+    let P : List ℕ → Type 0 = λ n. IsSplit text n literal in
+    record { split = subst P (sym same) split; standing = standing }
+
+-- the text of an argument
+pub texts_of-at : (arguments : List (Bor (List ℕ))) (place : ℕ) (d : Bor (List ℕ)) → place < length arguments → slice_get (texts_of arguments) place ≡ Some (get_or arguments place d).now
+texts_of-at arguments place d within =
+    slice_get-map (λ (a : Bor (List ℕ)). a.now) arguments place ∙ ap (option_map (λ (a : Bor (List ℕ)). a.now)) (slice_get-get_or arguments place d within)
+
+pub texts_of-more : (arguments : List (Bor (List ℕ))) (place : ℕ) (d : Bor (List ℕ)) → place < length arguments
+    → take (place + 1) (texts_of arguments) ≡ take place (texts_of arguments) ++ (get_or arguments place d).now ∷ []
+texts_of-more arguments place d within =
+    let text : Bor (List ℕ) → List ℕ = λ a. a.now in
+    take-map text (place + 1) arguments ∙ map_more text arguments place d within ∙ ap (λ front. front ++ (get_or arguments place d).now ∷ []) (sym (take-map text place arguments))
+
+slice_get-set_same : {A : Type 0} (xs : List A) (i : ℕ) (x : A) → i < length xs → slice_get (set xs i x) i ≡ Some x
+slice_get-set_same [] i x within = absurd (omega arith)
+slice_get-set_same (y ∷ ys) zero x within = refl
+slice_get-set_same (y ∷ ys) (suc i) x within = slice_get-set_same ys i x (omega arith)
+
+slice_get-set_other : {A : Type 0} (xs : List A) (i j : ℕ) (x : A) → j ≢ i → slice_get (set xs i x) j ≡ slice_get xs j
+slice_get-set_other [] i j x other = refl
+slice_get-set_other (y ∷ ys) zero zero x other = absurd (other refl)
+slice_get-set_other (y ∷ ys) zero (suc j) x other = refl
+slice_get-set_other (y ∷ ys) (suc i) zero x other = refl
+slice_get-set_other (y ∷ ys) (suc i) (suc j) x other = slice_get-set_other ys i j x (λ e. other (ap suc e))
+
+EachArgument-push : (fields : List Field) (arguments : List (List ℕ)) (assignments : List Assignment) (text : List ℕ) (a : Assignment) → EachArgument fields arguments assignments
+    → IsArgument fields text a → EachArgument fields (arguments ++ text ∷ []) (assignments ++ a ∷ [])
+EachArgument-push fields [] [] text a each more = (more, tt)
+EachArgument-push fields [] (b ∷ bs) text a each more = absurd each
+EachArgument-push fields (t ∷ ts) [] text a each more = absurd each
+EachArgument-push fields (t ∷ ts) (b ∷ bs) text a each more = (each.0, EachArgument-push fields ts bs text a each.1 more)
+
+-- a choice that is nothing was made for its second part
+second_part : (test : Bool) (value : Value) (rest : Option Value) → cond test (Some value) rest ≡ None → (test ≡ false) × (rest ≡ None)
+second_part true value rest none = absurd (none-some value (sym none))
+second_part false value rest none = (refl, none)
+
+differs : (a b : ℕ) → a ≢ b → (a == b) ≡ false
+differs a b other = ⊎_elim (λ same. absurd (other ((Decides-eqb a b).0 same))) (λ different. different) (cases_Bool (a == b))
+
+-- a further assignment counts where none before it does
+assigned-push : (assignments : List Assignment) (a : Assignment) (place : ℕ) → assigned assignments place ≡ None → assigned (assignments ++ a ∷ []) place ≡ cond (a.place == place) (Some a.value) None
+assigned-push [] a place none = refl
+assigned-push (b ∷ bs) a place none =
+    let parts = second_part (b.place == place) b.value (assigned bs place) none in
+    ap (λ test. cond test (Some b.value) (assigned (bs ++ a ∷ []) place)) parts.0 ∙ assigned-push bs a place parts.1
+
+-- and elsewhere the assignments before it stand
+assigned-kept : (assignments : List Assignment) (a : Assignment) (place : ℕ) → a.place ≢ place → assigned (assignments ++ a ∷ []) place ≡ assigned assignments place
+assigned-kept [] a place other = ap (λ test. cond test (Some a.value) None) (differs a.place place other)
+assigned-kept (b ∷ bs) a place other = ap (λ rest. cond (b.place == place) (Some b.value) rest) (assigned-kept bs a place other)
+
+AreApart-push : (assignments : List Assignment) (a : Assignment) → AreApart assignments → assigned assignments a.place ≡ None → AreApart (assignments ++ a ∷ [])
+AreApart-push [] a apart fresh = (refl, tt)
+AreApart-push (b ∷ bs) a apart fresh =
+    let parts = second_part (b.place == a.place) b.value (assigned bs a.place) fresh in
+    let other : a.place ≢ b.place = λ e. false≢true (sym parts.0 ∙ (Decides-eqb b.place a.place).1 (sym e)) in
+    (assigned-kept bs a b.place other ∙ apart.0, AreApart-push bs a apart.1 parts.1)
+
+-- one more argument gives one more value
+pub Gives-more : (fields : List Field) (arguments : List (List ℕ)) (given : Given) (text : List ℕ) (a : Assignment) → Gives fields arguments given → IsArgument fields text a
+    → value_at given a.place ≡ None → Gives fields (arguments ++ text ∷ []) (set given a.place (Some a.value))
+Gives-more fields arguments given text a before argument fresh =
+    let unassigned : assigned before.assignments a.place ≡ None = sym (before.found a.place) ∙ fresh in
+    let within : a.place < length given = omega (arith, slice_get_within fields a.place argument.field argument.named.standing, before.whole) in
+    record {
+      assignments = before.assignments ++ a ∷ [];
+      each = EachArgument-push fields arguments before.assignments text a before.each argument;
+      once = AreApart-push before.assignments a before.once unassigned;
+      whole = length-set given a.place (Some a.value) ∙ before.whole;
+      found = λ place. ⊎_elim
+          (λ (here : a.place ≡ place). subst (λ p. value_at (set given a.place (Some a.value)) p ≡ assigned (before.assignments ++ a ∷ []) p) here
+          (ap option_flatten (slice_get-set_same given a.place (Some a.value) within)
+          ∙ sym (assigned-push before.assignments a a.place unassigned ∙ ap (λ test. cond test (Some a.value) None) ((Decides-eqb a.place a.place).1 refl))))
+          (λ (other : a.place ≢ place). ap option_flatten (slice_get-set_other given a.place place (Some a.value) (λ e. other (sym e)))
+          ∙ before.found place ∙ sym (assigned-kept before.assignments a place other))
+          (cases_eq a.place place);
+    }
+
+-- the place of an argument's field is one of the inputs
+pub place_within : (fields : List Field) (arguments : List (List ℕ)) (given : Given) (text : List ℕ) (a : Assignment) → Gives fields arguments given → IsArgument fields text a → a.place < length given
+place_within fields arguments given text a before argument =
+    omega (arith, slice_get_within fields a.place argument.field argument.named.standing, before.whole)
+
+-- and so does the next of the arguments
+pub Gives-next : (fields : List Field) (arguments : List (Bor (List ℕ))) (place : ℕ) (d : Bor (List ℕ)) (given : Given) (a : Assignment) → Gives fields (take place (texts_of arguments)) given
+    → place < length arguments → IsArgument fields (get_or arguments place d).now a → value_at given a.place ≡ None
+    → Gives fields (take (place + 1) (texts_of arguments)) (set given a.place (Some a.value))
+Gives-next fields arguments place d given a before within argument fresh =
+    let P : List (List ℕ) → Type 0 = λ texts. Gives fields texts (set given a.place (Some a.value)) in
+    subst P (sym (texts_of-more arguments place d within)) (Gives-more fields _ given _ a before argument fresh)

@@ -1,0 +1,15 @@
+pub mod Causes
+pub mod DocumentItems
+pub mod Givens
+pub mod Lines
+pub mod Matching
+pub mod Names
+pub mod PlanColumns
+pub mod PlanNames
+pub mod PlanOnce
+pub mod PlanTables
+pub mod Puts
+pub mod ReadFields
+pub mod Refusals
+pub mod Splits
+pub mod Values

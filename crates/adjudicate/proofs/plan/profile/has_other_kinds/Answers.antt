@@ -1,0 +1,12 @@
+use Rattle.std.proofs.Common.{◌∙◌, rules, tests}
+use Rattle.std.proofs.lemmas.Iterator.{YieldsList-from_slice}
+use Rattle.std.proofs.lemmas.Iterator.Search.{any_from_yields_List}
+use Rattle.toml.specs.View.{view}
+use Rattle.adjudicate.specs.Profile.{has_other_kind}
+use Rattle.adjudicate.proofs.DocumentItems.{any_item-view}
+use Rattle.adjudicate.proofs.plan.profile.has_other_kinds.Goals as goal
+
+pub returns : goal.returns
+returns c =
+    any_from_yields_List (λ v. has_other_kind (view v)) _ _ _ c.any.ensures.ran (YieldsList-from_slice c.args.columns.now cc) (λ x b q k. search (rules, tests))
+    ∙ any_item-view has_other_kind c.args.columns.now

@@ -1,0 +1,198 @@
+-- What each refusal says of the texts, its line on standard error, and its exit status.
+use Rattle.std.specs.Prelude.{◌≡◌, ◌≢◌, ℕ, ◌+◌, ◌<◌, ◌++◌, Bool, true, List, [], ◌∷◌, length, codes, decimal, Option, Some, None, Err, Contains, slice_get, take}
+use Rattle.std.specs.Io.KnownBytes.{Appends, Keeps}
+use Rattle.feel_tests.specs.declared.fault.CellFault.{CellFault}
+use Rattle.feel_tests.specs.declared.fault.CellCause.{CellCause}
+use Rattle.feel_tests.specs.declared.fault.CellCause.TheVariants as cell
+use Rattle.feel_tests.specs.Fault.{number_of}
+use Rattle.feel_tests.specs.declared.value.Value.{Value}
+use Rattle.feel_tests.specs.Cell.{SpellsValue}
+use Rattle.adjudicate.specs.declared.evaluation.Fault.{Fault}
+use Rattle.adjudicate.specs.declared.evaluation.Fault.TheVariants.{NoRule, Clash}
+use Rattle.adjudicate.specs.declared.plan.fault.PlanCause.{PlanCause}
+use Rattle.adjudicate.specs.declared.plan.fault.PlanCause.TheVariants as cause
+use Rattle.adjudicate.specs.declared.plan.fault.PlanFault.{PlanFault}
+use Rattle.adjudicate.specs.declared.plan.table.Field.{Field}
+use Rattle.adjudicate.specs.declared.plan.table.Plan.{Plan}
+use Rattle.adjudicate.specs.declared.plan.table.Table.{Table}
+use Rattle.adjudicate.specs.declared.stop.ArgumentFault.{ArgumentFault}
+use Rattle.adjudicate.specs.declared.stop.ArgumentFault.TheVariants as argument
+use Rattle.adjudicate.specs.declared.stop.Stop.{Stop}
+use Rattle.adjudicate.specs.declared.stop.Stop.TheVariants as stop
+use Rattle.adjudicate.specs.Plan.{IsPlanText, field_names}
+use Rattle.adjudicate.specs.Evaluation.{Given, value_at, values_from}
+use Rattle.adjudicate.specs.Arguments.{equals_sign, IsSplit, NamesField, Gives, IsReady, IsFirstMissing}
+use Rattle.adjudicate.specs.ValueText.{line_end, IsValueText}
+
+-- the number of the cause of a plan's fault
+abbrev pub plan_cause_number : PlanCause → ℕ
+plan_cause_number cause.Toml = 1
+plan_cause_number cause.Missing = 2
+plan_cause_number cause.Unknown = 3
+plan_cause_number cause.Duplicate = 4
+plan_cause_number cause.Kind = 5
+plan_cause_number cause.Limit = 10
+plan_cause_number (cause.Cell fault) = 11
+plan_cause_number cause.OutOfMemory = 12
+
+-- ` cell K at B`
+abbrev pub cell_fault_text : CellFault → List ℕ
+cell_fault_text fault = codes " cell " ++ (decimal (number_of fault.cause) ++ (codes " at " ++ decimal fault.at))
+
+-- the same where a plan's fault is a cell's
+abbrev pub plan_cause_text : PlanCause → List ℕ
+plan_cause_text (cause.Cell fault) = cell_fault_text fault
+plan_cause_text _ = []
+
+-- `plan fault N table T rule R column C`, for a cell followed by ` cell K at B`
+abbrev pub plan_fault_text : PlanFault → List ℕ
+plan_fault_text fault =
+    codes "plan fault " ++ (decimal (plan_cause_number fault.cause) ++ (codes " table " ++ (decimal fault.table
+    ++ (codes " rule " ++ (decimal fault.rule ++ (codes " column " ++ (decimal fault.column ++ plan_cause_text fault.cause)))))))
+
+-- the number of an argument's fault
+abbrev pub argument_fault_number : ArgumentFault → ℕ
+argument_fault_number argument.NoEquals = 1
+argument_fault_number argument.UnknownName = 2
+argument_fault_number argument.RepeatedName = 3
+argument_fault_number (argument.Literal fault) = 4
+
+-- the same where an argument's fault is its literal's
+abbrev pub argument_cell_text : ArgumentFault → List ℕ
+argument_cell_text (argument.Literal fault) = cell_fault_text fault
+argument_cell_text _ = []
+
+-- `argument K fault N`, for a literal followed by ` cell K at B`
+abbrev pub argument_fault_text : ℕ → ArgumentFault → List ℕ
+argument_fault_text number fault =
+    codes "argument " ++ (decimal number ++ (codes " fault " ++ (decimal (argument_fault_number fault) ++ argument_cell_text fault)))
+
+-- the reason of a fault of the tables
+abbrev pub fault_text : Fault → List ℕ
+fault_text (NoRule table) = codes "norule:" ++ decimal table
+fault_text (Clash table) = codes "clash:" ++ decimal table
+
+-- the words of a refusal
+abbrev pub stop_text : Stop → List ℕ
+stop_text (stop.Plan fault) = plan_fault_text fault
+stop_text (stop.Argument number fault) = argument_fault_text number fault
+stop_text (stop.Missing name) = codes "missing " ++ name
+stop_text (stop.Tables fault) = codes "fault " ++ fault_text fault
+stop_text (stop.Write written) = codes "write fault at " ++ decimal written
+stop_text stop.NoMemory = codes "no memory"
+
+-- the line of a refusal
+abbrev pub stop_line : Stop → List ℕ
+stop_line s = stop_text s ++ line_end ∷ []
+
+-- 1 where the texts are refused, 3 where a resource is wanting
+abbrev pub status_of : Stop → ℕ
+status_of (stop.Plan fault) = 1
+status_of (stop.Argument number fault) = 1
+status_of (stop.Missing name) = 1
+status_of (stop.Tables fault) = 1
+status_of (stop.Write written) = 3
+status_of stop.NoMemory = 3
+
+-- why an argument gives no value, beside what the arguments in front of it gave: the faults are tried in this order
+abbrev pub IsArgumentFault : List Field → Given → List ℕ → ArgumentFault → Type 0
+IsArgumentFault fields given text argument.NoEquals = ¬ Contains text equals_sign
+IsArgumentFault fields given text argument.UnknownName = (name : List ℕ) × (literal : List ℕ) × IsSplit text name literal × ¬ Contains (field_names fields) name
+IsArgumentFault fields given text argument.RepeatedName =
+    (place : ℕ) × (field : Field) × (literal : List ℕ) × (value : Value) × NamesField fields text place field literal × (value_at given place ≡ Some value)
+IsArgumentFault fields given text (argument.Literal fault) =
+    (place : ℕ) × (field : Field) × (literal : List ℕ) × NamesField fields text place field literal × (value_at given place ≡ None)
+    × (fault.cause ≢ cell.OutOfMemory) × ((value : Value) → ¬ SpellsValue field.kind literal value)
+
+-- the argument with this number is the first that gives no value, for this reason
+pub record IsFirstBadArgument (fields : List Field) (arguments : List (List ℕ)) (number : ℕ) (fault : ArgumentFault) : Type 0 where
+  pub place : ℕ
+  pub counted : number ≡ place + 1
+  pub text : List ℕ
+  pub standing : slice_get arguments place ≡ Some text
+  pub given : Given
+  pub gives : Gives fields (take place arguments) given
+  pub fault_is : IsArgumentFault fields given text fault
+
+-- the texts give this refusal: for a refusal of the texts, what is wrong with them; the others can come with any texts
+abbrev pub IsReason : List ℕ → List (List ℕ) → Stop → Type 0
+IsReason plan_text arguments (stop.Plan fault) = (fault.cause ≢ cause.OutOfMemory) × ((plan : Plan) → ¬ IsPlanText plan_text plan)
+IsReason plan_text arguments (stop.Argument number fault) = (plan : Plan) × IsPlanText plan_text plan × IsFirstBadArgument plan.fields arguments number fault
+IsReason plan_text arguments (stop.Missing name) =
+    (plan : Plan) × (given : Given) × IsPlanText plan_text plan × Gives plan.fields arguments given × IsFirstMissing plan.fields plan.tables given name
+IsReason plan_text arguments (stop.Tables fault) =
+    (plan : Plan) × (given : Given) × IsPlanText plan_text plan × Gives plan.fields arguments given × IsReady plan.tables given × (values_from 1 given plan.tables ≡ Err fault)
+IsReason plan_text arguments (stop.Write written) = Unit {0}
+IsReason plan_text arguments stop.NoMemory = Unit {0}
+
+-- what a writer has got, once a command is done: the text that `value` prints
+pub record WritesText (plan_text : List ℕ) (arguments : List (List ℕ)) (old new : Option (List ℕ)) : Type 0 where
+  pub text : List ℕ
+  pub is_text : IsValueText plan_text arguments text
+  pub appended : Appends old new text
+
+-- the writer has got exactly the first bytes of that text, as many as `written` says, and not all of them
+pub record WritesFront (plan_text : List ℕ) (arguments : List (List ℕ)) (old new : Option (List ℕ)) (written : ℕ) : Type 0 where
+  pub text : List ℕ
+  pub is_text : IsValueText plan_text arguments text
+  pub cut : written < length text
+  pub appended : Appends old new (take written text)
+
+-- what a writer has got at a refusal: the first bytes of the text where the writer failed, and otherwise nothing
+abbrev pub WritesUntil : List ℕ → List (List ℕ) → Option (List ℕ) → Option (List ℕ) → Stop → Type 0
+WritesUntil plan_text arguments old new (stop.Plan fault) = Keeps old new
+WritesUntil plan_text arguments old new (stop.Argument number fault) = Keeps old new
+WritesUntil plan_text arguments old new (stop.Missing name) = Keeps old new
+WritesUntil plan_text arguments old new (stop.Tables fault) = Keeps old new
+WritesUntil plan_text arguments old new (stop.Write written) = WritesFront plan_text arguments old new written
+WritesUntil plan_text arguments old new stop.NoMemory = Keeps old new
+
+-- whether the writer has failed after a refusal: at a write fault it has, and no other refusal changes that
+abbrev pub failed_after : Bool → Stop → Bool
+failed_after before (stop.Plan fault) = before
+failed_after before (stop.Argument number fault) = before
+failed_after before (stop.Missing name) = before
+failed_after before (stop.Tables fault) = before
+failed_after before (stop.Write written) = true
+failed_after before stop.NoMemory = before
+
+-- the refusal that a fault of the plan's text becomes: want of memory is no fault of the text
+abbrev pub IsStopOfPlan : PlanFault → Stop → Type 0
+IsStopOfPlan fault (stop.Plan same) = (same ≡ fault) × (fault.cause ≢ cause.OutOfMemory)
+IsStopOfPlan fault stop.NoMemory = fault.cause ≡ cause.OutOfMemory
+IsStopOfPlan fault _ = ⊥
+
+-- the argument's fault is want of memory while its literal was read
+abbrev pub IsMemoryFault : ArgumentFault → Type 0
+IsMemoryFault argument.NoEquals = ⊥
+IsMemoryFault argument.UnknownName = ⊥
+IsMemoryFault argument.RepeatedName = ⊥
+IsMemoryFault (argument.Literal fault) = fault.cause ≡ cell.OutOfMemory
+
+-- the refusal that a fault of the argument with this number becomes: want of memory is no fault of the argument
+abbrev pub IsStopOfArgument : ℕ → ArgumentFault → Stop → Type 0
+IsStopOfArgument number fault (stop.Argument same_number same) = (same_number ≡ number) × (same ≡ fault) × ¬ IsMemoryFault fault
+IsStopOfArgument number fault stop.NoMemory = IsMemoryFault fault
+IsStopOfArgument number fault _ = ⊥
+
+-- a refusal of the arguments, before the tables are looked at
+abbrev pub RefusesArguments : List Field → List (List ℕ) → Stop → Type 0
+RefusesArguments fields arguments (stop.Argument number fault) = IsFirstBadArgument fields arguments number fault
+RefusesArguments fields arguments stop.NoMemory = Unit {0}
+RefusesArguments fields arguments _ = ⊥
+
+-- a refusal of the tables
+abbrev pub RefusesValues : List Table → Given → Stop → Type 0
+RefusesValues tables given (stop.Tables fault) = values_from 1 given tables ≡ Err fault
+RefusesValues tables given stop.NoMemory = Unit {0}
+RefusesValues tables given _ = ⊥
+
+-- a refusal of the texts, or want of memory: what `value` answers before it writes
+abbrev pub RefusesText : List ℕ → List (List ℕ) → Stop → Type 0
+RefusesText plan_text arguments (stop.Write written) = ⊥
+RefusesText plan_text arguments s = IsReason plan_text arguments s
+
+-- a write fault in the midst of a text, which the writer has got up to there
+abbrev pub PutsUntil : List ℕ → Option (List ℕ) → Option (List ℕ) → Stop → Type 0
+PutsUntil text old new (stop.Write written) = (written < length text) × Appends old new (take written text)
+PutsUntil text old new _ = ⊥

@@ -1,0 +1,177 @@
+//! Why a command stopped: each refusal has one line on standard error and one exit status.
+
+ghost use Rattle.std.specs.Prelude.{◌≡◌, ◌<◌, ◌≤◌, take};
+ghost use Rattle.adjudicate.specs.Stop.{IsStopOfArgument, argument_fault_number, plan_cause_number, status_of, stop_line};
+
+pub mod line;
+
+use crate::evaluation::Fault;
+use crate::plan::{Name, PlanCause, PlanFault};
+use feel_tests::{CellCause, CellFault};
+use line::{LINE_LIMIT_BYTES, Line};
+use std::alloc::{AllocError, AllocFailed};
+use thiserror::Error;
+
+/// Why an argument gives no value.
+#[derive(Clone, Copy, Debug, PartialEq, Eq, Error)]
+pub enum ArgumentFault {
+    #[error("there is no `=`")]
+    NoEquals,
+    #[error("no field has this name")]
+    UnknownName,
+    #[error("the name was given before")]
+    RepeatedName,
+    #[error("the literal can't be read: {0}")]
+    Literal(CellFault),
+}
+
+impl ArgumentFault {
+    /// The fault's number in the program's lines.
+    pub fn number(&self) -> u8
+        ensures number { result ≡ argument_fault_number self.now }
+        ensures small { result < 10 }
+    {
+        match self {
+            ArgumentFault::NoEquals => 1,
+            ArgumentFault::UnknownName => 2,
+            ArgumentFault::RepeatedName => 3,
+            ArgumentFault::Literal(_) => 4,
+        }
+    }
+}
+
+impl PlanCause {
+    /// The cause's number in the program's lines.
+    pub fn number(&self) -> u8
+        ensures number { result ≡ plan_cause_number self.now }
+        ensures small { result < 100 }
+    {
+        match self {
+            PlanCause::Toml => 1,
+            PlanCause::Missing => 2,
+            PlanCause::Unknown => 3,
+            PlanCause::Duplicate => 4,
+            PlanCause::Kind => 5,
+            PlanCause::Limit => 10,
+            PlanCause::Cell(_) => 11,
+            PlanCause::OutOfMemory => 12,
+        }
+    }
+}
+
+/// Why a command stopped. Arguments count from 1.
+#[derive(Debug, Drop, Error)]
+pub enum Stop {
+    #[error("plan: {0}")]
+    Plan(PlanFault),
+    #[error("argument {number}: {fault}")]
+    Argument { number: usize, fault: ArgumentFault },
+    #[error("a value is missing")]
+    Missing(Name),
+    #[error("tables: {0}")]
+    Tables(Fault),
+    #[error("the writer failed after {written} bytes")]
+    Write { written: usize },
+    #[error("out of memory")]
+    NoMemory,
+}
+
+impl Stop {
+    /// The exit status: 1 where the texts are refused, 3 where a resource is wanting.
+    pub fn status(&self) -> u8
+        ensures { result ≡ status_of self.now }
+    {
+        match self {
+            Stop::Plan(_) | Stop::Argument { .. } | Stop::Missing(_) | Stop::Tables(_) => 1,
+            Stop::Write { .. } | Stop::NoMemory => 3,
+        }
+    }
+
+    /// Writes the refusal's line, with its end, to the front of the buffer, and returns its length in bytes.
+    pub fn write_line(&self, buffer: &mut [u8; LINE_LIMIT_BYTES]) -> usize
+        ensures fits { result ≤ LINE_LIMIT_BYTES }
+        ensures written { take result buffer.new ≡ stop_line self.now }
+    {
+        let mut line = Line::new();
+        match self {
+            Stop::Plan(fault) => line.put_plan_fault(fault),
+            Stop::Argument { number, fault } => line.put_argument_fault(*number, fault),
+            Stop::Missing(name) => {
+                line.put("missing ");
+                line.put(name.as_str());
+            }
+            Stop::Tables(fault) => line.put_tables_fault(fault),
+            Stop::Write { written } => {
+                line.put("write fault at ");
+                line.put_number(*written);
+            }
+            Stop::NoMemory => line.put("no memory"),
+        }
+        line.put("\n");
+        line.copy_to(buffer)
+    }
+
+    /// The refusal for a fault of the argument with this number, counted from 1.
+    pub(crate) fn from_argument(number: usize, fault: ArgumentFault) -> Stop
+        ensures { IsStopOfArgument number fault result }
+    {
+        match fault {
+            ArgumentFault::Literal(
+                CellFault {
+                    cause: CellCause::OutOfMemory,
+                    ..
+                },
+            ) => Stop::NoMemory,
+            fault => Stop::Argument { number, fault },
+        }
+    }
+}
+
+impl From<PlanFault> for Stop {
+    ghost use Rattle.adjudicate.specs.Stop.{IsStopOfPlan};
+
+    ghost from_gives = { λ fault stop. IsStopOfPlan fault stop };
+
+    fn from(fault: PlanFault) -> Stop {
+        match fault.cause {
+            PlanCause::OutOfMemory => Stop::NoMemory,
+            _ => Stop::Plan(fault),
+        }
+    }
+}
+
+impl From<Fault> for Stop {
+    ghost use Rattle.std.specs.Prelude.{◌≡◌};
+    ghost use Rattle.adjudicate.specs.declared.stop.Stop.TheVariants.{Tables};
+
+    ghost from_gives = { λ fault stop. stop ≡ Tables fault };
+
+    fn from(fault: Fault) -> Stop {
+        Stop::Tables(fault)
+    }
+}
+
+impl From<AllocError> for Stop {
+    ghost use Rattle.std.specs.Prelude.{◌≡◌};
+    ghost use Rattle.adjudicate.specs.declared.stop.Stop.TheVariants.{NoMemory};
+
+    ghost from_gives = { λ _ stop. stop ≡ NoMemory };
+
+    fn from(_error: AllocError) -> Stop {
+        Stop::NoMemory
+    }
+}
+
+impl<T: Drop> From<AllocFailed<T>> for Stop {
+    ghost use Rattle.std.specs.Prelude.{◌≡◌};
+    ghost use Rattle.adjudicate.specs.declared.stop.Stop.TheVariants.{NoMemory};
+
+    ghost from_gives = { λ _ stop. stop ≡ NoMemory };
+
+    fn from(_failed: AllocFailed<T>) -> Stop {
+        Stop::NoMemory
+    }
+}
+
+#[cfg(test)]
+mod tests;

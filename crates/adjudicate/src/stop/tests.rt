@@ -1,0 +1,96 @@
+//! The lines of refusals, as the formats give them.
+use super::*;
+use std::process::Abort;
+use std::test::Fail;
+
+/// A plan's fault with its place: table, rule, column.
+fn plan_fault(place: (usize, usize, usize), cause: PlanCause) -> Stop {
+    let (table, rule, column) = place;
+    Stop::Plan(PlanFault {
+        table,
+        rule,
+        column,
+        cause,
+    })
+}
+
+fn says(rt: &impl Abort, stop: &Stop, line: &str, status: u8) {
+    let mut buffer = [0; LINE_LIMIT_BYTES];
+    let length = stop.write_line(&mut buffer);
+    assert_eq!(rt; &buffer[..length], line.as_bytes(), "{line}");
+    assert_eq!(rt; stop.status(), status, "{line}");
+}
+
+#[test]
+fn refusals_of_the_plan_say_where(rt: HostRuntime) {
+    let columns = plan_fault((1, 0, 17), PlanCause::Limit);
+    says(&rt, &columns, "plan fault 10 table 1 rule 0 column 17\n", 1);
+    let cell = PlanCause::Cell(CellFault {
+        at: 128,
+        cause: CellCause::TooMany,
+    });
+    let line = "plan fault 11 table 1 rule 1 column 1 cell 6 at 128\n";
+    says(&rt, &plan_fault((1, 1, 1), cell), line, 1);
+    for (cause, line) in [
+        (PlanCause::Toml, "plan fault 1 table 0 rule 0 column 0\n"),
+        (PlanCause::Missing, "plan fault 2 table 0 rule 0 column 0\n"),
+        (PlanCause::Unknown, "plan fault 3 table 0 rule 0 column 0\n"),
+        (
+            PlanCause::Duplicate,
+            "plan fault 4 table 0 rule 0 column 0\n",
+        ),
+        (PlanCause::Kind, "plan fault 5 table 0 rule 0 column 0\n"),
+    ] {
+        says(&rt, &plan_fault((0, 0, 0), cause), line, 1);
+    }
+}
+
+#[test]
+fn the_longest_line_has_room(rt: HostRuntime) {
+    let cell = PlanCause::Cell(CellFault {
+        at: usize::MAX,
+        cause: CellCause::Trailing,
+    });
+    let most = plan_fault((usize::MAX, usize::MAX, usize::MAX), cell);
+    let mut buffer = [0; LINE_LIMIT_BYTES];
+    assert_eq!(rt; most.write_line(&mut buffer), 126);
+}
+
+#[test]
+fn other_refusals_have_their_lines(rt: HostRuntime) -> Result<(), Fail> {
+    let trailing = ArgumentFault::Literal(CellFault {
+        at: 2,
+        cause: CellCause::Trailing,
+    });
+    let missing = Stop::Missing(Name::new(rt.alloc(), "x")?);
+    for (stop, line, status) in [
+        (
+            Stop::from_argument(1, ArgumentFault::NoEquals),
+            "argument 1 fault 1\n",
+            1,
+        ),
+        (
+            Stop::from_argument(1, ArgumentFault::UnknownName),
+            "argument 1 fault 2\n",
+            1,
+        ),
+        (
+            Stop::from_argument(2, ArgumentFault::RepeatedName),
+            "argument 2 fault 3\n",
+            1,
+        ),
+        (
+            Stop::from_argument(3, trailing),
+            "argument 3 fault 4 cell 7 at 2\n",
+            1,
+        ),
+        (Stop::from(Fault::NoRule(1)), "fault norule:1\n", 1),
+        (Stop::from(Fault::Clash(1)), "fault clash:1\n", 1),
+        (Stop::Write { written: 37 }, "write fault at 37\n", 3),
+        (Stop::from(AllocError), "no memory\n", 3),
+        (missing, "missing x\n", 1),
+    ] {
+        says(&rt, &stop, line, status);
+    }
+    Ok(())
+}

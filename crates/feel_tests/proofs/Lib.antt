@@ -1,0 +1,5 @@
+pub mod NumberFront
+pub mod SymbolFront
+pub mod FirstWord
+pub mod Literals
+pub mod Denials

@@ -1,0 +1,29 @@
+-- The date of a day number, in the Gregorian calendar of `jiff`.
+use Rattle.std.specs.Prelude.{ℕ, ◌+◌, ◌/◌, ◌%◌, ℤ, pos, ◌-ℤ◌, int_le, unsigned_abs, List, [], ◌∷◌, ◌++◌, count_by}
+use Rattle.std.specs.List.{range_with_len}
+use Rattle.jiff_core.specs.Calendar.{days_from_civil}
+
+-- how many of the years 1 to 9999 have begun by the day: its year
+unfoldable pub year_of : ℤ → ℕ
+year_of day = count_by (λ year. int_le (days_from_civil (pos year) 1 1) day) (range_with_len 1 9999)
+
+-- how many months of its year have begun by the day: its month
+unfoldable pub month_of : ℤ → ℕ
+month_of day = count_by (λ month. int_le (days_from_civil (pos (year_of day)) month 1) day) (range_with_len 1 12)
+
+-- the day's place in its month, from 1
+unfoldable pub day_of : ℤ → ℕ
+day_of day = unsigned_abs (day -ℤ days_from_civil (pos (year_of day)) (month_of day) 1) + 1
+
+-- a number below 100 in two digits
+abbrev pub two_digits : ℕ → List ℕ
+two_digits n = (48 + n / 10) ∷ (48 + n % 10) ∷ []
+
+-- a date as `YYYY-MM-DD`
+abbrev pub ymd_text : ℕ → ℕ → ℕ → List ℕ
+ymd_text year month day =
+    two_digits (year / 100) ++ two_digits (year % 100) ++ 45 ∷ [] ++ two_digits month ++ 45 ∷ [] ++ two_digits day
+
+-- the text of a day, as `YYYY-MM-DD`
+abbrev pub day_text : ℤ → List ℕ
+day_text day = ymd_text (year_of day) (month_of day) (day_of day)

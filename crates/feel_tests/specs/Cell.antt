@@ -1,0 +1,33 @@
+-- What a text spells: the definitions that the readers' contracts cite.
+use Rattle.std.specs.Prelude.{◌≡◌, ◌≢◌, ℕ, ◌⊎◌, List}
+use Rattle.feel_tests.specs.Words.{Sign, IsBlank, Begins}
+use Rattle.feel_tests.specs.Grammar.{IsLiteral, IsList}
+use Rattle.feel_tests.specs.declared.symbol.Symbol.TheVariants as symbols
+use Rattle.feel_tests.specs.declared.fault.CellCause.TheVariants.{OutOfMemory}
+use Rattle.feel_tests.specs.declared.fault.CellFault.{CellFault}
+use Rattle.feel_tests.specs.declared.kind.Kind.{Kind}
+use Rattle.feel_tests.specs.declared.value.Value.{Value}
+use Rattle.feel_tests.specs.declared.cell.Cell.{Cell}
+use Rattle.feel_tests.specs.declared.cell.Cell.TheVariants.{Dash, OneOf, NoneOf}
+
+-- the whole text is a literal of the kind, with white space round it, that denotes the value
+abbrev pub SpellsValue : Kind → List ℕ → Value → Type 0
+SpellsValue kind text value = (rest : List ℕ) × IsLiteral kind text value rest × IsBlank rest
+
+-- the whole text is a cell of the kind: blank or a dash, or a list of tests
+abbrev pub SpellsCell : Kind → List ℕ → Cell → Type 0
+SpellsCell kind text Dash = IsBlank text ⊎ ((rest : List ℕ) × Begins text (Sign symbols.Dash) rest × IsBlank rest)
+SpellsCell kind text (OneOf tests) = (rest : List ℕ) × IsList kind text tests rest × IsBlank rest
+SpellsCell kind text (NoneOf tests) = ⊥
+
+-- a fault other than want of memory comes only where nothing is spelled
+abbrev pub Refuses : {X : Type 0} → (X → Type 0) → CellFault → Type 0
+Refuses {X} P fault = fault.cause ≢ OutOfMemory → (x : X) → ¬ P x
+
+-- a text spells at most one value of a kind
+abbrev pub SpellsOneValue : Type 0
+SpellsOneValue = (kind : Kind) (text : List ℕ) (one other : Value) → SpellsValue kind text one → SpellsValue kind text other → one ≡ other
+
+-- a text spells at most one cell of a kind
+abbrev pub SpellsOneCell : Type 0
+SpellsOneCell = (kind : Kind) (text : List ℕ) (one other : Cell) → SpellsCell kind text one → SpellsCell kind text other → one ≡ other

@@ -1,0 +1,15 @@
+-- Why a text is no cell and no literal.
+use Rattle.std.specs.Prelude.{ℕ}
+use Rattle.feel_tests.specs.declared.fault.CellCause.{CellCause}
+use Rattle.feel_tests.specs.declared.fault.CellCause.TheVariants.{Token, Literal, WrongKind, BadEscape, BadDate, TooMany, Trailing, OutOfMemory}
+
+-- the cause's number in a program's messages
+abbrev pub number_of : CellCause → ℕ
+number_of Token = 1
+number_of Literal = 2
+number_of WrongKind = 3
+number_of BadEscape = 4
+number_of BadDate = 5
+number_of TooMany = 6
+number_of Trailing = 7
+number_of OutOfMemory = 8

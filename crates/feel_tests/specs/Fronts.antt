@@ -1,0 +1,31 @@
+-- What the private functions that split a word off a text compute.
+use Rattle.std.specs.Prelude.{ℕ, ◌+◌, ◌==◌, ◌&&◌, nat_lt, if◌then◌else◌, List, [], ◌∷◌, drop}
+use Rattle.std.specs.List.{prefix_len}
+use Rattle.std.specs.Char.{is_ascii_digit}
+use Rattle.feel_tests.specs.Words.{Word, Sign, Digits, Begins}
+use Rattle.feel_tests.specs.declared.word.Token.{Token}
+use Rattle.feel_tests.specs.declared.word.Token.TheVariants as tokens
+
+-- how many bytes from the front on are digits
+abbrev pub digits_len : List ℕ → ℕ
+digits_len bytes = prefix_len is_ascii_digit bytes
+
+-- how many bytes from the front on are a dot and digits
+abbrev pub fraction_len : List ℕ → ℕ
+fraction_len [] = 0
+fraction_len (b ∷ bs) = if (b == 46) && nat_lt 0 (digits_len bs) then 1 + digits_len bs else 0
+
+-- how many are digits, and a dot with digits
+abbrev pub unsigned_len : List ℕ → ℕ
+unsigned_len bytes = digits_len bytes + fraction_len (drop (digits_len bytes) bytes)
+
+-- how many are a number text; none where they aren't
+abbrev pub number_len : List ℕ → ℕ
+number_len [] = 0
+number_len (b ∷ bs) = if b == 45 then (if nat_lt 0 (unsigned_len bs) then 1 + unsigned_len bs else 0) else unsigned_len (b ∷ bs)
+
+-- the token is the word that the text begins with, behind white space
+abbrev pub IsToken : List ℕ → Token → Type 0
+IsToken text (tokens.Sign symbol rest) = Begins text (Sign symbol) rest.now
+IsToken text (tokens.Number digits rest) = Begins text (Digits digits.now) rest.now
+IsToken text tokens.Nothing = (word : Word) (rest : List ℕ) → ¬ Begins text word rest

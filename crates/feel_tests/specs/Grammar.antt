@@ -1,0 +1,90 @@
+-- The grammar of cells over words (DMN 1.4, S-FEEL, unary tests): which text begins with a literal, a
+-- test or a list of tests, and what rest follows it.
+use Rattle.std.specs.Prelude.{◌≡◌, ℕ, Bool, true, false, List, [], ◌∷◌, Option, Some, None}
+use Rattle.fixpoint.specs.NumberText.{Denotes}
+use Rattle.feel_tests.specs.Words.{Sign, Digits, Begins}
+use Rattle.feel_tests.specs.declared.symbol.Symbol.{Symbol}
+use Rattle.feel_tests.specs.declared.symbol.Symbol.TheVariants as symbols
+use Rattle.feel_tests.specs.declared.kind.Kind.{Kind}
+use Rattle.feel_tests.specs.declared.kind.Kind.TheVariants as kinds
+use Rattle.feel_tests.specs.declared.value.Value.{Value}
+use Rattle.feel_tests.specs.declared.value.Value.TheVariants.{Number, Text, Flag, Day}
+use Rattle.feel_tests.specs.declared.cell.Op.{Op}
+use Rattle.feel_tests.specs.declared.cell.Op.TheVariants.{Less, AtMost, More, AtLeast}
+use Rattle.feel_tests.specs.declared.cell.Test.{Test}
+use Rattle.feel_tests.specs.declared.cell.Test.TheVariants.{Equal, Compare, Between}
+
+-- the values of the kind have an order: numbers and days
+abbrev pub HasOrder : Kind → Type 0
+HasOrder kinds.Number = Unit {0}
+HasOrder kinds.Text = ⊥
+HasOrder kinds.Flag = ⊥
+HasOrder kinds.Day = Unit {0}
+
+-- the symbol of a comparison
+abbrev pub op_symbol : Op → Symbol
+op_symbol Less = symbols.Less
+op_symbol AtMost = symbols.AtMost
+op_symbol More = symbols.More
+op_symbol AtLeast = symbols.AtLeast
+
+-- the brackets that start an interval, with whether its low end is in
+abbrev pub start_in : Symbol → Option Bool
+start_in symbols.OpenSquare = Some true
+start_in symbols.OpenRound = Some false
+start_in symbols.CloseSquare = Some false
+start_in _ = None
+
+-- the brackets that end an interval, with whether its high end is in
+abbrev pub end_in : Symbol → Option Bool
+end_in symbols.CloseSquare = Some true
+end_in symbols.CloseRound = Some false
+end_in symbols.OpenSquare = Some false
+end_in _ = None
+
+-- the text begins with a literal of the kind that denotes the value
+abbrev pub IsLiteral : Kind → List ℕ → Value → List ℕ → Type 0
+IsLiteral kind text (Number units) rest = (kind ≡ kinds.Number) × (digits : List ℕ) × Begins text (Digits digits) rest × Denotes digits units
+IsLiteral kind text (Text bytes) rest = ⊥
+IsLiteral kind text (Flag flag) rest = ⊥
+IsLiteral kind text (Day day) rest = ⊥
+
+-- the text begins with a literal, `..`, a literal and a bracket that ends an interval; the ends are so in or out
+pub record IsSpan (kind : Kind) (text : List ℕ) (low : Value) (high : Value) (high_in : Bool) (rest : List ℕ) : Type 0 where
+  pub behind_low : List ℕ
+  pub behind_dots : List ℕ
+  pub behind_high : List ℕ
+  pub bracket : Symbol
+  pub has_low : IsLiteral kind text low behind_low
+  pub dots : Begins behind_low (Sign symbols.Dots) behind_dots
+  pub has_high : IsLiteral kind behind_dots high behind_high
+  pub closes : Begins behind_high (Sign bracket) rest
+  pub end_is : end_in bracket ≡ Some high_in
+
+-- the text begins with an operator and a literal
+pub record IsComparison (kind : Kind) (text : List ℕ) (op : Op) (value : Value) (rest : List ℕ) : Type 0 where
+  pub ordered : HasOrder kind
+  pub literal : List ℕ
+  pub operator : Begins text (Sign (op_symbol op)) literal
+  pub has_literal : IsLiteral kind literal value rest
+
+-- the text begins with an interval: a bracket that starts it, and what the bracket spans
+pub record IsInterval (kind : Kind) (text : List ℕ) (low : Value) (low_in : Bool) (high : Value) (high_in : Bool) (rest : List ℕ) : Type 0 where
+  pub ordered : HasOrder kind
+  pub bracket : Symbol
+  pub span : List ℕ
+  pub opens : Begins text (Sign bracket) span
+  pub start_is : start_in bracket ≡ Some low_in
+  pub has_span : IsSpan kind span low high high_in rest
+
+-- the text begins with this test
+abbrev pub IsTest : Kind → List ℕ → Test → List ℕ → Type 0
+IsTest kind text (Equal value) rest = IsLiteral kind text value rest
+IsTest kind text (Compare op value) rest = IsComparison kind text op value rest
+IsTest kind text (Between low low_in high high_in) rest = IsInterval kind text low low_in high high_in rest
+
+-- the text begins with this list of tests: one so far
+abbrev pub IsList : Kind → List ℕ → List Test → List ℕ → Type 0
+IsList kind text [] rest = ⊥
+IsList kind text (test ∷ []) rest = IsTest kind text test rest
+IsList kind text (test ∷ next ∷ more) rest = ⊥

@@ -1,0 +1,12 @@
+pub mod TextBytes
+pub mod DayNumber
+pub mod Fault
+pub mod Calendar
+pub mod Value
+pub mod Holds
+pub mod Words
+pub mod Grammar
+pub mod Cell
+pub mod Symbols
+pub mod Fronts
+pub mod Parts

@@ -1,0 +1,32 @@
+-- What the private readers say of a part that they could not read, and the parts of an interval.
+use Rattle.std.specs.Prelude.{◌≡◌, ◌≢◌, ℕ, Bool, List, Some}
+use Rattle.feel_tests.specs.Words.{Sign, Begins}
+use Rattle.feel_tests.specs.Grammar.{start_in, end_in, IsSpan}
+use Rattle.feel_tests.specs.declared.kind.Kind.{Kind}
+use Rattle.feel_tests.specs.declared.cell.Test.{Test}
+use Rattle.feel_tests.specs.declared.cell.Test.TheVariants.{Equal, Compare, Between}
+use Rattle.feel_tests.specs.declared.symbol.Symbol.{Symbol}
+use Rattle.feel_tests.specs.declared.fault.CellCause.TheVariants.{OutOfMemory}
+use Rattle.feel_tests.specs.declared.refusal.Refusal.{Refusal}
+
+-- unless memory ran out, nothing is so
+abbrev pub Denies : {X : Type 0} → (X → Type 0) → Refusal → Type 0
+Denies {X} P refusal = refusal.cause ≢ OutOfMemory → (x : X) → ¬ P x
+
+-- unless memory ran out, no part at the front is so, whatever the rest
+abbrev pub DeniesPart : {X : Type 0} → (X → List ℕ → Type 0) → Refusal → Type 0
+DeniesPart {X} P refusal = refusal.cause ≢ OutOfMemory → (x : X) (rest : List ℕ) → ¬ P x rest
+
+-- the text begins with a bracket that starts an interval
+abbrev pub IsStart : List ℕ → Bool → List ℕ → Type 0
+IsStart text low_in rest = (bracket : Symbol) × Begins text (Sign bracket) rest × (start_in bracket ≡ Some low_in)
+
+-- the text begins with a bracket that ends an interval
+abbrev pub IsEnd : List ℕ → Bool → List ℕ → Type 0
+IsEnd text high_in rest = (bracket : Symbol) × Begins text (Sign bracket) rest × (end_in bracket ≡ Some high_in)
+
+-- the text begins with the span of an interval, whose low end is so in or out
+abbrev pub IsSpanTest : Kind → Bool → List ℕ → Test → List ℕ → Type 0
+IsSpanTest kind low_in text (Equal value) rest = ⊥
+IsSpanTest kind low_in text (Compare op value) rest = ⊥
+IsSpanTest kind low_in text (Between low in_low high high_in) rest = (in_low ≡ low_in) × IsSpan kind text low high high_in rest

@@ -1,0 +1,11 @@
+-- The bytes that a text may have.
+use Rattle.std.specs.Prelude.{ℕ, ◌≤◌, List, length, IsUtf8}
+use Rattle.feel_tests.specs.declared.text.TheConstants.{TEXT_LIMIT_BYTES}
+
+-- within the limit of a text
+abbrev pub IsShort : List ℕ → Type 0
+IsShort bytes = length bytes ≤ TEXT_LIMIT_BYTES
+
+-- the bytes of a text: UTF-8 within the limit
+abbrev pub IsText : List ℕ → Type 0
+IsText bytes = IsUtf8 bytes × IsShort bytes

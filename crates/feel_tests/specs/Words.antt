@@ -1,0 +1,50 @@
+-- The words of a cell's text (DMN 1.4, S-FEEL, the grammar's terminals): white space stands between
+-- them, and each is the longest that can stand at its place.
+use Rattle.std.specs.Prelude.{◌≡◌, ℕ, ◌≤◌, Bool, ◌==◌, ◌||◌, if◌then◌else◌, List, [], ◌∷◌, ◌++◌, length, codes}
+use Rattle.fixpoint.specs.NumberText.{IsNumberText}
+use Rattle.feel_tests.specs.declared.symbol.Symbol.{Symbol}
+use Rattle.feel_tests.specs.declared.symbol.Symbol.TheVariants.{Less, AtMost, More, AtLeast, OpenRound, CloseRound, OpenSquare, CloseSquare, Dots, Comma, Dash}
+
+-- space, tab, carriage return and line feed
+abbrev pub is_white : ℕ → Bool
+is_white b = (b == 32) || (b == 9) || (b == 13) || (b == 10)
+
+-- a text without the white space in front
+abbrev pub skip_white : List ℕ → List ℕ
+skip_white [] = []
+skip_white (b ∷ bs) = if is_white b then skip_white bs else b ∷ bs
+
+-- white space alone
+abbrev pub IsBlank : List ℕ → Type 0
+IsBlank text = skip_white text ≡ []
+
+-- the bytes of a symbol
+abbrev pub symbol_text : Symbol → List ℕ
+symbol_text Less = codes "<"
+symbol_text AtMost = codes "<="
+symbol_text More = codes ">"
+symbol_text AtLeast = codes ">="
+symbol_text OpenRound = codes "("
+symbol_text CloseRound = codes ")"
+symbol_text OpenSquare = codes "["
+symbol_text CloseSquare = codes "]"
+symbol_text Dots = codes ".."
+symbol_text Comma = codes ","
+symbol_text Dash = codes "-"
+
+-- a word: a symbol, or a number by its bytes
+pub data Word : Type 0 where
+  Sign : Symbol → Word
+  Digits : List ℕ → Word
+
+-- these bytes are the word
+abbrev pub Spells : List ℕ → Word → Type 0
+Spells bytes (Sign symbol) = bytes ≡ symbol_text symbol
+Spells bytes (Digits digits) = (bytes ≡ digits) × IsNumberText bytes
+
+-- behind white space the text begins with the word, then comes the rest; no longer word can stand there
+pub record Begins (text : List ℕ) (word : Word) (rest : List ℕ) : Type 0 where
+  pub front : List ℕ
+  pub joined : skip_white text ≡ front ++ rest
+  pub spelled : Spells front word
+  pub longest : (other after : List ℕ) (longer : Word) → skip_white text ≡ other ++ after → Spells other longer → length other ≤ length front

@@ -1,0 +1,160 @@
+//! Cells: the unary tests that one entry of a decision table asks of a value.
+ghost use Rattle.std.specs.Prelude.{◌≡◌, [], ◌∷◌};
+ghost use Rattle.feel_tests.specs.Holds.{holds, passes, is_less, is_at_most, is_below, one_passes};
+
+use crate::value::Value;
+use smallvec::SmallVec;
+use std::alloc::Global;
+use std::marker::Model;
+
+/// How a value is compared with a literal.
+#[derive(Clone, Copy, Debug, PartialEq, Eq, Hash)]
+pub enum Op {
+    /// `<`
+    Less,
+    /// `<=`
+    AtMost,
+    /// `>`
+    More,
+    /// `>=`
+    AtLeast,
+}
+
+/// One question about a value.
+#[derive(Debug, Drop)]
+pub enum Test {
+    /// It equals this one.
+    Equal(Value),
+    /// It stands so to this one.
+    Compare(Op, Value),
+    /// It lies between these two; a bracket says whether an end itself is in.
+    Between {
+        low: Value,
+        low_in: bool,
+        high: Value,
+        high_in: bool,
+    },
+}
+
+/// The default is a question like any other. It takes no memory.
+impl Default for Test {
+    fn default() -> Test {
+        Test::Equal(Value::Flag(false))
+    }
+}
+
+/// The tests of a cell, in the order of its text.
+#[derive(Debug, Drop)]
+pub struct Tests {
+    items: SmallVec<Test, 1>,
+}
+
+impl Model for Tests {
+    ghost use Rattle.std.specs.Prelude.{List};
+    ghost use Rattle.feel_tests.specs.declared.cell.Test.{Test};
+
+    ghost Value = { List Test };
+
+    ghost view = { λ t. t.items.items };
+}
+
+impl Tests {
+    // A list of one test, which takes no memory.
+    pub(crate) fn one(alloc: Global, test: Test) -> Tests
+        ensures { result ≡ test ∷ [] }
+    {
+        let mut items = SmallVec::new(alloc);
+        items.push_reserved(test);
+        Tests { items }
+    }
+
+    /// The tests.
+    pub fn as_slice(&self) -> &[Test]
+        ensures { result.now ≡ self.now }
+    {
+        self.items.as_slice()
+    }
+}
+
+/// What one entry of a table asks of a value.
+#[derive(Debug, Drop)]
+pub enum Cell {
+    /// Nothing: every value is good.
+    Dash,
+    /// One of the tests is to hold.
+    OneOf(Tests),
+    /// None of the tests is to hold.
+    NoneOf(Tests),
+}
+
+impl Cell {
+    /// Whether the cell holds of the value. Values of different kinds are neither equal nor ordered.
+    pub fn holds(&self, value: &Value) -> bool
+        ensures { result ≡ holds self.now value.now }
+    {
+        match self {
+            Cell::Dash => true,
+            Cell::OneOf(tests) => one_passes(tests.as_slice(), value),
+            Cell::NoneOf(tests) => !one_passes(tests.as_slice(), value),
+        }
+    }
+}
+
+fn one_passes(tests: &[Test], value: &Value) -> bool
+    ensures { result ≡ one_passes tests.now value.now }
+{
+    tests.iter().any(|test| test.passes(value))
+}
+
+impl Test {
+    fn passes(&self, value: &Value) -> bool
+        ensures { result ≡ passes self.now value.now }
+    {
+        match self {
+            Test::Equal(literal) => value == literal,
+            Test::Compare(Op::Less, literal) => value.is_less(literal),
+            Test::Compare(Op::AtMost, literal) => value.is_at_most(literal),
+            Test::Compare(Op::More, literal) => literal.is_less(value),
+            Test::Compare(Op::AtLeast, literal) => literal.is_at_most(value),
+            Test::Between {
+                low,
+                low_in,
+                high,
+                high_in,
+            } => low.is_below(*low_in, value) && value.is_below(*high_in, high),
+        }
+    }
+}
+
+impl Value {
+    // Whether this value comes before the other, or is it and the end is in.
+    fn is_below(&self, end_in: bool, other: &Value) -> bool
+        ensures { result ≡ is_below end_in self.now other.now }
+    {
+        if end_in {
+            self.is_at_most(other)
+        } else {
+            self.is_less(other)
+        }
+    }
+
+    fn is_less(&self, other: &Value) -> bool
+        ensures { result ≡ is_less self.now other.now }
+    {
+        match (self, other) {
+            (Value::Number(one), Value::Number(two)) => one < two,
+            (Value::Day(one), Value::Day(two)) => one < two,
+            _ => false,
+        }
+    }
+
+    fn is_at_most(&self, other: &Value) -> bool
+        ensures { result ≡ is_at_most self.now other.now }
+    {
+        match (self, other) {
+            (Value::Number(one), Value::Number(two)) => one <= two,
+            (Value::Day(one), Value::Day(two)) => one <= two,
+            _ => false,
+        }
+    }
+}

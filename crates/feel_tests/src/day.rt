@@ -1,0 +1,52 @@
+//! Days of the Gregorian calendar, held as their number.
+ghost use Rattle.std.specs.Prelude.{◌≡◌};
+ghost use Rattle.std.specs.Option.{SomeIff};
+ghost use Rattle.feel_tests.specs.DayNumber.{IsDayNumber};
+
+use std::marker::Model;
+
+/// A Gregorian civil date of the years 0001 to 9999, as the days since 1 January 1970.
+#[derive(Clone, Copy, Debug, PartialEq, Eq, PartialOrd, Ord, Hash)]
+pub struct Day {
+    epoch_day: i32,
+}
+
+impl Model for Day {
+    ghost use Rattle.std.specs.Prelude.{ℤ};
+    ghost use Rattle.feel_tests.specs.DayNumber.{IsDayNumber};
+
+    ghost Value = { ℤ };
+
+    ghost view = { λ d. d.epoch_day };
+
+    ghost invariant = { λ d. IsDayNumber d.epoch_day };
+
+    ghost inverse = { λ number. record { epoch_day = number } };
+}
+
+/// The number of 1 January of the year 1.
+const FIRST_DAY: i32 = -719_162;
+
+/// The number of 31 December of the year 9999.
+const LAST_DAY: i32 = 2_932_896;
+
+impl Day {
+    /// The day of this number, which counts from 1 January 1970.
+    pub fn from_epoch_day(number: i32) -> Option<Day>
+        ensures { SomeIff result (IsDayNumber number) number }
+    {
+        if FIRST_DAY <= number && number <= LAST_DAY {
+            Some(Day { epoch_day: number })
+        } else {
+            None
+        }
+    }
+
+    /// The day's number, which counts from 1 January 1970.
+    pub fn epoch_day(self) -> i32
+        ensures value { result ≡ self }
+        ensures in_range { IsDayNumber result }
+    {
+        self.epoch_day
+    }
+}

@@ -1,0 +1,25 @@
+//! The four kinds of value that a table's columns have.
+ghost use Rattle.std.specs.Prelude.{◌↔◌, IsTrue};
+ghost use Rattle.feel_tests.specs.Grammar.{HasOrder};
+
+/// A kind of value.
+#[derive(Clone, Copy, Debug, PartialEq, Eq, PartialOrd, Ord, Hash)]
+pub enum Kind {
+    /// A decimal number with four places.
+    Number,
+    /// A text of at most 256 bytes.
+    Text,
+    /// True or false.
+    Flag,
+    /// A day of the Gregorian calendar.
+    Day,
+}
+
+impl Kind {
+    /// Whether its values can be compared and lie in intervals.
+    pub(crate) fn has_order(self) -> bool
+        ensures { IsTrue result ↔ HasOrder self }
+    {
+        matches!(self, Kind::Number | Kind::Day)
+    }
+}

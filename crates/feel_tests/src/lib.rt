@@ -1,0 +1,34 @@
+//! The unary tests of a decision table's cells, and the literals in them: DMN 1.4, S-FEEL.
+//!
+//! A `Value` is a number, a text, a flag or a day. A `Cell` is what one entry of a table asks of a
+//! value: nothing, one of a list of tests, or none of them. `read_cell` and `read_value` read their
+//! texts, `Cell::holds` asks the question, `Value::write_text` writes a value as a literal.
+//! Numbers come from `fixpoint`, the calendar from `jiff`, the list of a cell's tests from `smallvec`.
+//!
+//! Begin with `specs/Words.antt` and `specs/Grammar.antt`, which say what a text spells, and
+//! `specs/Holds.antt`, which says what a cell holds of; then read `cell.rt` and `reading.rt`.
+#![tactic(auto)]
+
+mod cell;
+mod day;
+mod fault;
+mod kind;
+mod literal;
+mod reading;
+mod refusal;
+mod symbol;
+#[cfg(test)]
+mod tests;
+mod text;
+mod value;
+mod word;
+
+pub use cell::{Cell, Op, Test, Tests};
+pub use day::Day;
+pub use fault::{CellCause, CellFault};
+pub use kind::Kind;
+pub use reading::{
+    read_cell, read_value, text_spells_at_most_one_cell, text_spells_at_most_one_value,
+};
+pub use text::{TEXT_LIMIT_BYTES, Text};
+pub use value::Value;

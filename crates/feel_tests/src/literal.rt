@@ -1,0 +1,57 @@
+//! Writing a value as the literal that a cell would have for it.
+ghost use Rattle.std.specs.Prelude.{◌≡◌, ◌++◌, IfOk, OnOk, OnErr};
+ghost use Rattle.feel_tests.specs.Value.{literal_text, quoted};
+ghost use Rattle.fixpoint.specs.NumberText.{shortest_text};
+
+use crate::value::Value;
+use fixpoint::Fixed;
+use std::alloc::{AllocError, Global};
+
+impl Value {
+    /// Appends the literal that writes the value.
+    pub fn write_text(&self, out: &mut Vec<u8>) -> Result<(), AllocError>
+        ensures ok { OnOk result (out.new.items ≡ out.old.items ++ literal_text self.now) }
+        ensures err { OnErr result (out.new.items ≡ out.old.items) }
+    {
+        match self {
+            Value::Number(number) => write_number(*number, out),
+            Value::Text(text) => write_quoted(text.as_bytes(), out),
+            Value::Flag(true) => out.extend_from_slice(b"true"),
+            Value::Flag(false) => out.extend_from_slice(b"false"),
+            Value::Day(_) => Err(AllocError),
+        }
+    }
+}
+
+fn write_number(number: Fixed, out: &mut Vec<u8>) -> Result<(), AllocError>
+    ensures ok { OnOk result (out.new.items ≡ out.old.items ++ shortest_text number) }
+    ensures err { OnErr result (out.new.items ≡ out.old.items) }
+{
+    let mut buffer = [0; 24];
+    let len = number.write_into(&mut buffer);
+    out.extend_from_slice(&buffer[..len])
+}
+
+fn write_quoted(bytes: &[u8], out: &mut Vec<u8>) -> Result<(), AllocError>
+    ensures ok { OnOk result (out.new.items ≡ out.old.items ++ quoted bytes.now) }
+    ensures err { OnErr result (out.new.items ≡ out.old.items) }
+{
+    let literal = quoted(*out.allocator(), bytes)?;
+    out.extend_from_slice(&literal)
+}
+
+// The bytes between quotes, with a backslash before each quote and backslash.
+fn quoted(alloc: Global, bytes: &[u8]) -> Result<Vec<u8>, AllocError>
+    ensures { IfOk result (λ literal. literal.items ≡ quoted bytes.now) }
+{
+    let mut literal = Vec::new(alloc);
+    literal.push(b'"')?;
+    for byte in bytes {
+        if *byte == b'"' || *byte == b'\\' {
+            literal.push(b'\\')?;
+        }
+        literal.push(*byte)?;
+    }
+    literal.push(b'"')?;
+    Ok(literal)
+}

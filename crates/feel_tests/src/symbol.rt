@@ -1,0 +1,116 @@
+//! The symbols among a cell's words.
+ghost use Rattle.std.specs.Prelude.{◌≡◌, find, nat_eq};
+ghost use Rattle.std.specs.List.{starts_with};
+ghost use Rattle.feel_tests.specs.Words.{symbol_text};
+ghost use Rattle.feel_tests.specs.Grammar.{start_in, end_in};
+ghost use Rattle.feel_tests.specs.Symbols.{symbols, op_of};
+
+use crate::cell::Op;
+
+/// A symbol of the grammar of cells.
+#[derive(Clone, Copy, Debug, PartialEq, Eq)]
+pub enum Symbol {
+    /// `<`
+    Less,
+    /// `<=`
+    AtMost,
+    /// `>`
+    More,
+    /// `>=`
+    AtLeast,
+    /// `(`
+    OpenRound,
+    /// `)`
+    CloseRound,
+    /// `[`
+    OpenSquare,
+    /// `]`
+    CloseSquare,
+    /// `..`
+    Dots,
+    /// `,`
+    Comma,
+    /// `-`
+    Dash,
+}
+
+// The symbols of two bytes stand in front of those that they begin with.
+const SYMBOLS: [Symbol; 11] = [
+    Symbol::AtMost,
+    Symbol::AtLeast,
+    Symbol::Dots,
+    Symbol::Less,
+    Symbol::More,
+    Symbol::OpenRound,
+    Symbol::CloseRound,
+    Symbol::OpenSquare,
+    Symbol::CloseSquare,
+    Symbol::Comma,
+    Symbol::Dash,
+];
+
+impl Symbol {
+    /// The longest symbol that the bytes begin with.
+    pub fn at_front(bytes: &[u8]) -> Option<Symbol>
+        ensures { result ≡ find (λ symbol. starts_with nat_eq bytes.now (symbol_text symbol)) symbols }
+    {
+        SYMBOLS
+            .iter()
+            .copied()
+            .find(|symbol| bytes.starts_with(symbol.text()))
+    }
+
+    /// Its bytes.
+    pub fn text(self) -> &'static [u8]
+        ensures { result.now ≡ symbol_text self }
+    {
+        match self {
+            Symbol::Less => b"<",
+            Symbol::AtMost => b"<=",
+            Symbol::More => b">",
+            Symbol::AtLeast => b">=",
+            Symbol::OpenRound => b"(",
+            Symbol::CloseRound => b")",
+            Symbol::OpenSquare => b"[",
+            Symbol::CloseSquare => b"]",
+            Symbol::Dots => b"..",
+            Symbol::Comma => b",",
+            Symbol::Dash => b"-",
+        }
+    }
+
+    /// The comparison that it is the operator of.
+    pub fn op(self) -> Option<Op>
+        ensures { result ≡ op_of self }
+    {
+        match self {
+            Symbol::Less => Some(Op::Less),
+            Symbol::AtMost => Some(Op::AtMost),
+            Symbol::More => Some(Op::More),
+            Symbol::AtLeast => Some(Op::AtLeast),
+            _ => None,
+        }
+    }
+
+    /// For a bracket that starts an interval, whether the low end is in.
+    pub fn start_in(self) -> Option<bool>
+        ensures { result ≡ start_in self }
+    {
+        match self {
+            Symbol::OpenSquare => Some(true),
+            Symbol::OpenRound | Symbol::CloseSquare => Some(false),
+            _ => None,
+        }
+    }
+
+    /// For a bracket that ends an interval, whether the high end is in.
+    pub fn end_in(self) -> Option<bool>
+        ensures { result ≡ end_in self }
+    {
+        match self {
+            Symbol::CloseSquare => Some(true),
+            Symbol::CloseRound | Symbol::OpenSquare => Some(false),
+            _ => None,
+        }
+    }
+}

@@ -1,0 +1,48 @@
+//! Values of the four kinds: what a literal denotes and a test asks about.
+ghost use Rattle.std.specs.Prelude.{◌≡◌, IfOk};
+ghost use Rattle.feel_tests.specs.Value.{kind_of};
+
+use crate::day::Day;
+use crate::kind::Kind;
+use crate::text::Text;
+use fixpoint::Fixed;
+use std::alloc::{AllocError, Global};
+
+/// A value of one of the four kinds.
+#[derive(Debug, Drop, PartialEq)]
+pub enum Value {
+    /// A decimal number with four places.
+    Number(Fixed),
+    /// A text.
+    Text(Text),
+    /// True or false.
+    Flag(bool),
+    /// A day of the calendar.
+    Day(Day),
+}
+
+impl Value {
+    /// The value's kind.
+    pub fn kind(&self) -> Kind
+        ensures { result ≡ kind_of self.now }
+    {
+        match self {
+            Value::Number(_) => Kind::Number,
+            Value::Text(_) => Kind::Text,
+            Value::Flag(_) => Kind::Flag,
+            Value::Day(_) => Kind::Day,
+        }
+    }
+
+    /// A copy, whose text is in memory of its own.
+    pub fn duplicate(&self, alloc: Global) -> Result<Value, AllocError>
+        ensures { IfOk result (λ copy. copy ≡ self.now) }
+    {
+        match self {
+            Value::Number(number) => Ok(Value::Number(*number)),
+            Value::Text(text) => Ok(Value::Text(Text::new(alloc, text.as_str())?)),
+            Value::Flag(flag) => Ok(Value::Flag(*flag)),
+            Value::Day(day) => Ok(Value::Day(*day)),
+        }
+    }
+}

@@ -1,0 +1,125 @@
+//! The words of a cell's text: one is split off the front at a time.
+ghost use Rattle.std.specs.Prelude.{◌≡◌, ℕ, ◌≤◌, List, length, IsTrue, IfSome, IfNone, ◌↔◌};
+ghost use Rattle.feel_tests.specs.Words.{is_white, skip_white, IsBlank, Sign, Begins};
+ghost use Rattle.feel_tests.specs.declared.symbol.Symbol.{Symbol};
+ghost use Rattle.feel_tests.specs.Fronts.{digits_len, fraction_len, unsigned_len, number_len, IsToken};
+
+use crate::symbol::Symbol;
+
+/// The word at the front of a text, with what follows it.
+#[derive(Clone, Copy, Debug)]
+pub enum Token<'a> {
+    Sign(Symbol, &'a [u8]),
+    Number(&'a [u8], &'a [u8]),
+    /// No word can stand here, or the text ends.
+    Nothing,
+}
+
+/// Splits the first word off, behind white space.
+pub fn first_token(text: &[u8]) -> Token<'_>
+    ensures { IsToken text.now result }
+{
+    let bytes = skip_white(text);
+    let len = number_len(bytes);
+    if len > 0 {
+        let (digits, rest) = bytes.split_at(len);
+        return Token::Number(digits, rest);
+    }
+    match Symbol::at_front(bytes) {
+        Some(symbol) => Token::Sign(symbol, &bytes[symbol.text().len()..]),
+        None => Token::Nothing,
+    }
+}
+
+/// The symbol that the text begins with, with what follows it.
+pub fn first_symbol(text: &[u8]) -> Option<(Symbol, &[u8])>
+    ensures some { IfSome result (λ found. Begins text.now (Sign found.0) found.1.now) }
+    ensures none { IfNone result ((symbol : Symbol) (rest : List ℕ) → ¬ Begins text.now (Sign symbol) rest) }
+{
+    match first_token(text) {
+        Token::Sign(symbol, rest) => Some((symbol, rest)),
+        Token::Number(_, _) => None,
+        Token::Nothing => None,
+    }
+}
+
+/// What follows the symbol, where the text begins with it.
+pub fn after_symbol(text: &[u8], symbol: Symbol) -> Option<&[u8]>
+    ensures some { IfSome result (λ rest. Begins text.now (Sign symbol) rest.now) }
+    ensures none { IfNone result ((rest : List ℕ) → ¬ Begins text.now (Sign symbol) rest) }
+{
+    let (found, rest) = first_symbol(text)?;
+    if found == symbol { Some(rest) } else { None }
+}
+
+/// The text without the white space in front.
+pub fn skip_white(text: &[u8]) -> &[u8]
+    ensures { result.now ≡ skip_white text.now }
+{
+    let mut rest = text;
+    while let [first, tail @ ..] = rest {
+        if !is_white(*first) {
+            return rest;
+        }
+        rest = tail;
+    }
+    rest
+}
+
+/// Whether the text is white space alone.
+pub fn is_blank(text: &[u8]) -> bool
+    ensures { IsTrue result ↔ IsBlank text.now }
+{
+    skip_white(text).is_empty()
+}
+
+fn is_white(byte: u8) -> bool
+    ensures { result ≡ is_white byte }
+{
+    byte == b' ' || byte == b'\t' || byte == b'\r' || byte == b'\n'
+}
+
+fn digits_len(bytes: &[u8]) -> usize
+    ensures value { result ≡ digits_len bytes.now }
+    ensures within { result ≤ length bytes.now }
+{
+    let mut len = 0;
+    while len < bytes.len() && bytes[len].is_ascii_digit() {
+        len += 1;
+    }
+    len
+}
+
+fn fraction_len(bytes: &[u8]) -> usize
+    ensures value { result ≡ fraction_len bytes.now }
+    ensures within { result ≤ length bytes.now }
+{
+    match bytes {
+        [b'.', digits @ ..] => {
+            let len = digits_len(digits);
+            if len > 0 { 1 + len } else { 0 }
+        }
+        _ => 0,
+    }
+}
+
+fn unsigned_len(bytes: &[u8]) -> usize
+    ensures value { result ≡ unsigned_len bytes.now }
+    ensures within { result ≤ length bytes.now }
+{
+    let whole = digits_len(bytes);
+    whole + fraction_len(&bytes[whole..])
+}
+
+fn number_len(bytes: &[u8]) -> usize
+    ensures value { result ≡ number_len bytes.now }
+    ensures within { result ≤ length bytes.now }
+{
+    match bytes {
+        [b'-', unsigned @ ..] => {
+            let len = unsigned_len(unsigned);
+            if len > 0 { 1 + len } else { 0 }
+        }
+        _ => unsigned_len(bytes),
+    }
+}

@@ -1,0 +1,11 @@
+use Rattle.std.proofs.Common.{SomeIff, rules}
+use Rattle.fixpoint.specs.Money.{cents_of_product}
+use Rattle.fixpoint.specs.Number.{IsInRange}
+use Rattle.fixpoint.proofs.NearestCents.{rounded_where_exact}
+use Rattle.fixpoint.proofs.fixed.Fixed.mul_cents.Goals as goal
+
+pub returns-clause-rounded : goal.returns-clause-rounded
+returns-clause-rounded c =
+    let units = cents_of_product c.args.self c.args.rate in
+    let exact : SomeIff c.from_units.result (IsInRange units) units = search rules in
+    rounded_where_exact c.args.self c.args.rate c.from_units.result (IsInRange units) exact

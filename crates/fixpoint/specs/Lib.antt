@@ -1,0 +1,5 @@
+pub mod Number
+pub mod NumberText
+pub mod Out
+pub mod Reading
+pub mod Money

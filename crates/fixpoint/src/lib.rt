@@ -1,0 +1,28 @@
+//! Fixed-point decimals with four places, money, and a writer that remembers a failure.
+//!
+//! A `Fixed` is a whole count of ten-thousandths, called its units, of at most fifteen digits, and
+//! contracts see it as that count. `Fixed::parse` reads a number text, `write_into` writes the
+//! shortest one and `write_money` the one with two decimals. Sums are exact, products are rounded
+//! once to whole cents. `Out` passes pieces of bytes to a writer, one write a piece.
+//! The digits come from `itoa`, the messages of the faults from `thiserror`. Nothing here allocates.
+//!
+//! Begin with `specs/Number.antt`, `specs/NumberText.antt` and `specs/Money.antt`, which say what
+//! numbers, their texts and money are; then read `fixed.rt`, and `out.rt` with `specs/Out.antt`.
+#![tactic(auto)]
+
+mod fault;
+mod fixed;
+mod laws;
+mod out;
+mod reading;
+mod rounding;
+#[cfg(test)]
+mod tests;
+mod writing;
+
+pub use fault::NumFault;
+pub use fixed::{Fixed, MAX_UNITS};
+pub use laws::{
+    money_text_denotes, products_are_rounded, shortest_text_denotes, text_denotes_at_most_one,
+};
+pub use out::{Failed, Out};

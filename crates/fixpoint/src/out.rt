@@ -1,0 +1,72 @@
+//! A writer that takes one piece of bytes a write, and writes no more once that failed.
+use std::io::Write;
+use thiserror::Error;
+
+/// The writer took nothing, now or earlier.
+#[derive(Clone, Copy, Debug, PartialEq, Eq, Error)]
+#[error("the writer takes no more bytes")]
+pub struct Failed;
+
+/// Passes pieces of bytes to a writer until one fails.
+#[derive(Drop)]
+pub struct Out<W> {
+    writer: W,
+    failed: bool,
+}
+
+impl<W: Write> Out<W> {
+    ghost use Rattle.std.specs.Prelude.{◌≡◌, ◌<◌, ◌≤◌, true, false, length, take, OnErr, OnOk, IfOk, IsErr, IsTrue};
+    ghost use Rattle.std.specs.Io.KnownBytes.{Appends, Keeps};
+    ghost use Rattle.fixpoint.specs.Out.{writer_of, has_failed};
+
+    /// An `Out` that has not failed.
+    pub fn new(writer: W) -> Out<W>
+        ensures writer { writer_of result ≡ writer }
+        ensures failed { has_failed result ≡ false }
+    {
+        Out {
+            writer,
+            failed: false,
+        }
+    }
+
+    /// The writer.
+    pub fn into_inner(self) -> W
+        ensures { result ≡ writer_of self }
+    {
+        self.writer
+    }
+
+    /// Whether a `put` has failed.
+    pub fn failed(&self) -> bool
+        ensures { result ≡ has_failed self.now }
+    {
+        self.failed
+    }
+
+    /// Hands the piece to the writer in one write, and returns how many of its bytes went out.
+    pub fn put(&mut self, piece: &[u8]) -> Result<usize, Failed>
+        requires { 0 < length piece.now }
+        ensures wrote { IfOk result (λ count. (1 ≤ count) × (count ≤ length piece.now)) }
+        ensures bytes { IfOk result (λ count. Appends (W.contents (writer_of self.old))
+            (W.contents (writer_of self.new)) (take count piece.now)) }
+        ensures ok { OnOk result ((has_failed self.old ≡ false) × (has_failed self.new ≡ false)) }
+        ensures failed { OnErr result (has_failed self.new ≡ true) }
+        ensures nothing { OnErr result (Keeps (W.contents (writer_of self.old))
+            (W.contents (writer_of self.new))) }
+        ensures later { IsTrue (has_failed self.old)
+            → IsErr result × (writer_of self.new ≡ writer_of self.old) }
+    {
+        let Out { writer, failed } = self;
+        if *failed {
+            return Err(Failed);
+        }
+        match writer.write(piece) {
+            Ok(count) if count > 0 => Ok(count),
+            _ => {
+                *failed = true;
+                Err(Failed)
+            }
+        }
+    }
+}

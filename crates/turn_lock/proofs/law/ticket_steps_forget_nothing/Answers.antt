@@ -1,0 +1,10 @@
+use Rattle.turn_lock.proofs.TicketMoves.{looks_remember, draws_remember, serves_remember, leaves_remember}
+use Rattle.turn_lock.proofs.law.ticket_steps_forget_nothing.Goals as goal
+
+pub returns : goal.returns
+returns g c = record {
+  looks = looks_remember g.T.Growing.leads g.T.Growing.reflexive;
+  draws = draws_remember g.T.Growing.leads g.T.Growing.reflexive;
+  serves = serves_remember g.T.Growing.leads g.T.Growing.reflexive;
+  leaves = leaves_remember g.T.Growing.leads g.T.Growing.reflexive;
+}

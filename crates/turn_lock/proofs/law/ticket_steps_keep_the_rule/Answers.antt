@@ -1,0 +1,13 @@
+use Rattle.std.proofs.Common.{arith}
+use Rattle.turn_lock.proofs.TicketMoves.{opens, splits_allowed, looks_allowed, draws_allowed, serves_allowed, leaves_allowed}
+use Rattle.turn_lock.proofs.law.ticket_steps_keep_the_rule.Goals as goal
+
+pub returns : goal.returns
+returns g c = record {
+  opens = opens g.T.Growing.leads c.args.first g.T.Growing.reflexive (omega arith);
+  splits = splits_allowed g.T.Growing.leads c.args.first;
+  looks = looks_allowed g.T.Growing.leads c.args.first;
+  draws = draws_allowed g.T.Growing.leads c.args.first;
+  serves = λ slots id me ticket empty is. serves_allowed g.T.Growing.leads c.args.first slots id me ticket empty is g.T.Growing.reflexive;
+  leaves = λ slots id me ticket value is carried grown. leaves_allowed g.T.Growing.leads c.args.first slots id me ticket value is carried grown g.T.Growing.reflexive g.T.Growing.transitive;
+}

@@ -1,0 +1,6 @@
+use Rattle.std.proofs.Common.{rules}
+use Rattle.turn_lock.proofs.TicketMoves.{draws_allowed}
+use Rattle.turn_lock.proofs.ticket.lock.TicketLock.draw.Goals as goal
+
+pub compare_exchange-found-requires : goal.compare_exchange-found-requires
+compare_exchange-found-requires g c = (search rules, search rules, draws_allowed g.T.Growing.leads _ _ _ _ _ c.args.looked.looked.1 c.args.looked.looked.2 c.args.looked.left)

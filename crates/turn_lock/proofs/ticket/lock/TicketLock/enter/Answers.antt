@@ -1,0 +1,7 @@
+use Rattle.std.proofs.Common.{rules, sym, ap, ◌∙◌, Some, ◌∷◌}
+use Rattle.atomic_table.specs.Table.{rest}
+use Rattle.turn_lock.proofs.ticket.lock.TicketLock.enter.Goals as goal
+
+pub exchange-taken-requires : goal.exchange-taken-requires
+exchange-taken-requires g c = let begun = c.await_turn-seat.ensures.begun in let out = ap (λ me. me.1) begun.4 in
+    (search rules, (Some begun.1, out ∙ ap (λ slots. (0, Some begun.1) ∷ rest slots) (sym out)))

@@ -1,0 +1,10 @@
+use Rattle.std.proofs.Common.{rules}
+use Rattle.turn_lock.proofs.TicketMoves.{leaves_from}
+use Rattle.turn_lock.proofs.ticket.lock.TicketLock.leave.Goals as goal
+
+pub fetch_add-requires : goal.fetch_add-requires
+fetch_add-requires g c = (
+  search rules,
+  search rules,
+  leaves_from g.T.Growing.leads _ _ _ c.args.holding.seat.me _ _ c.args.value c.args.holding.holds.1 c.requires.grown (search rules) (search rules) g.T.Growing.reflexive g.T.Growing.transitive,
+)

@@ -1,0 +1,70 @@
+-- That each kind of step keeps the rule of its lock, whatever the other passes do between two steps of one.
+-- `Allows holds slots id me word f kind` says: in each state that the rule admits, in which the pass id is me, the word may become f of what it was, such that
+-- the pass is then as the kind of step says, and the rule holds again. The moves that read or write the slot while a pass holds it change no word, no slot at home and no view.
+use Rattle.std.specs.Prelude.{◌≡◌, ◌<◌, ◌≤◌, ◌^◌, ◌%◌, ℕ, ◌+◌, eqb, false, true, [], ◌∷◌, slice_index, Option, Some}
+use mathlib.Core.Option.{none}
+use prog.Atomic.{either}
+use Rattle.atomic_table.specs.Table.{opening, Step, step, Allows, Splits}
+use Rattle.turn_lock.specs.declared.spin.view.SpinView.{SpinView}
+use Rattle.turn_lock.specs.declared.ticket.view.Stage.TheVariants.{Idle, Looked, Waiting, Holding}
+use Rattle.turn_lock.specs.declared.ticket.view.Known.{Known}
+use Rattle.turn_lock.specs.declared.ticket.view.TicketView.{TicketView}
+use Rattle.turn_lock.specs.declared.ticket.view.TicketView.TheVariants.{Live}
+use Rattle.turn_lock.specs.Spin as spin
+use Rattle.turn_lock.specs.Ticket.{TicketState, TicketSeat, HasTicket, Has, TicketLockRule, last_word, newcomer, stage_of, next_of, known}
+use Rattle.turn_lock.specs.Steps.{Looks, Draws, Serves, Leaves}
+
+module _ {T : Type 0} (leads : T → T → Type 0) where
+  -- the steps of the spin lock
+  pub record SpinStepsKeepRule : Type 0 where
+    -- a new lock: its word is 0, and its value at home
+    pub opens : (value : T) → spin.SpinLockRule leads (opening (0 ∷ []) (Some value ∷ []) (spin.newcomer value))
+    -- a pass in no section becomes two
+    pub splits : (id : ℕ) (v : SpinView T) → v.holds ≡ false → Splits (spin.SpinLockRule leads) id v v v
+    -- such a pass exchanges 0 by 1
+    pub takes : (slots id : ℕ) (me : spin.SpinSeat T) → spin.IsIdle me
+        → Allows (spin.SpinLockRule leads) slots id me 0 (λ word. either (eqb word 0) 1 word) (spin.Takes leads (step slots 0 0 1 none) me)
+    -- a pass that holds, and has put a value into its slot, stores 0
+    pub frees : (slots id : ℕ) (me : spin.SpinSeat T) (value : T) → me.0.holds ≡ true → me.1 ≡ (0, Some value) ∷ [] → leads me.0.seen value
+        → Allows (spin.SpinLockRule leads) slots id me 0 (λ _. 0) (λ _. spin.Frees leads (step slots 0 0 0 none) me 0)
+
+  -- what the rule says of any two passes of the ticket lock, whatever steps were taken
+  pub record TicketRuleSays (first : ℕ) : Type 0 where
+    -- one pass holds at a time
+    pub one_holds : (s : TicketState T) → TicketLockRule leads first s → (i j : ℕ) (k l : Known T) (t u : ℕ) → Has s i k → Has s j l → k.stage ≡ Holding t → l.stage ≡ Holding u → i ≡ j
+    -- no ticket is drawn twice
+    pub one_ticket : (s : TicketState T) → TicketLockRule leads first s → (i j : ℕ) (k l : Known T) (t : ℕ) → Has s i k → Has s j l → HasTicket t k.stage → HasTicket t l.stage → i ≡ j
+    -- all that was seen leads to one value
+    pub one_value : (s : TicketState T) → TicketLockRule leads first s → (current : T) × ((i : ℕ) (k : Known T) → Has s i k → leads k.seen current)
+    -- once a pass has seen the last word, the next word is the last
+    pub worn_for_good : (s : TicketState T) → TicketLockRule leads first s → (i : ℕ) (k : Known T) → Has s i k → k.next ≡ last_word → slice_index s.words 0 ≡ last_word
+
+  -- the pass still has what it had seen: the value leads to the one that it has seen now, and the next word is no less
+  abbrev pub Remembers : TicketSeat T → TicketSeat T → Type 0
+  Remembers me me' = (k l : Known T) → me.0 ≡ Live k → me'.0 ≡ Live l → leads k.seen l.seen × (k.next ≤ l.next)
+
+  -- no step of the ticket lock forgets what was seen
+  pub record TicketStepsForgetNothing : Type 0 where
+    pub looks : (st : Step (Option T)) (me me' : TicketSeat T) (word : ℕ) → Looks st me word me' → Remembers me me'
+    pub draws : (st : Step (Option T)) (me me' : TicketSeat T) (word : ℕ) → Draws st me word me' → Remembers me me'
+    pub serves : (st : Step (Option T)) (me me' : TicketSeat T) (word : ℕ) → Serves leads st me word me' → Remembers me me'
+    -- the pass is in its section, where it has seen no next word beyond its ticket's
+    pub leaves : (st : Step (Option T)) (me me' : TicketSeat T) (word : ℕ) → next_of me.0 ≡ word + 1 → Leaves leads st me word me' → Remembers me me'
+
+  -- the steps of the ticket lock
+  pub record TicketStepsKeepRule (first : ℕ) : Type 0 where
+    -- a new lock: both words are the first ticket, and its value is at home
+    pub opens : (value : T) → TicketLockRule leads first (opening (first ∷ first ∷ []) (Some value ∷ []) (newcomer first value))
+    -- an idle pass becomes two
+    pub splits : (id : ℕ) (v : TicketView T) → stage_of v ≡ Some Idle → Splits (TicketLockRule leads first) id v v v
+    -- an idle pass loads the next word
+    pub looks : (slots id : ℕ) (me : TicketSeat T) → stage_of me.0 ≡ Some Idle → Allows (TicketLockRule leads first) slots id me 0 (λ word. word) (Looks (step slots 0 0 0 none) me)
+    -- a pass that has looked exchanges the word that it saw by one more
+    pub draws : (slots id : ℕ) (me : TicketSeat T) (n : ℕ) → stage_of me.0 ≡ Some Looked → next_of me.0 ≡ n → n < last_word
+        → Allows (TicketLockRule leads first) slots id me 0 (λ word. either (eqb word n) (n + 1) word) (Draws (step slots 0 n (n + 1) none) me)
+    -- a waiting pass loads the word that is served
+    pub serves : (slots id : ℕ) (me : TicketSeat T) (ticket : ℕ) → me.1 ≡ [] → stage_of me.0 ≡ Some (Waiting ticket)
+        → Allows (TicketLockRule leads first) slots id me 1 (λ word. word) (Serves leads (step slots 1 0 0 none) me)
+    -- a pass that holds, and has put a value into its slot, raises the word that is served by one
+    pub leaves : (slots id : ℕ) (me : TicketSeat T) (ticket : ℕ) (value : T) (is : stage_of me.0 ≡ Some (Holding ticket)) → me.1 ≡ (0, Some value) ∷ []
+        → leads (known me.0 (Holding ticket) is).seen value → Allows (TicketLockRule leads first) slots id me 1 (λ word. (word + 1) % 2 ^ 64) (Leaves leads (step slots 1 1 0 none) me)

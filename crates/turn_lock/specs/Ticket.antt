@@ -1,0 +1,130 @@
+-- The ticket lock of Mellor-Crummey and Scott (1991): its views, and the rule that holds between any two atomic steps.
+-- Word 0 is the next ticket, word 1 the ticket that is served. The one slot is at home with the value, or out with the pass that holds.
+use Rattle.std.specs.Prelude.{◌≡◌, ◌⊎◌, ℕ, ◌+◌, ◌<◌, ◌≤◌, [], ◌∷◌, Option, Some, None}
+use Rattle.std.proofs.Common.{subst}
+use mathlib.Core.Option.{some, none}
+use lib.ListN.{get_elem?}
+use Rattle.atomic_table.specs.Table.{State, Me}
+use Rattle.turn_lock.specs.declared.ticket.view.Stage.{Stage}
+use Rattle.turn_lock.specs.declared.ticket.view.Stage.TheVariants.{Idle, Looked, Waiting, Holding}
+use Rattle.turn_lock.specs.declared.ticket.view.Known.{Known}
+use Rattle.turn_lock.specs.declared.ticket.view.TicketView.{TicketView}
+use Rattle.turn_lock.specs.declared.ticket.view.TicketView.TheVariants.{Spent, Live}
+
+-- 2^64 - 1: the next word when no ticket is left, which is never drawn
+abbrev pub last_word : ℕ
+last_word = 18446744073709551615
+
+-- the words, the slot and the views of a ticket lock over values of T
+abbrev pub TicketState : Type 0 → Type 0
+TicketState T = State (Option T) (TicketView T)
+
+-- a pass as the table has it: its view, and the slot while it holds
+abbrev pub TicketSeat : Type 0 → Type 0
+TicketSeat T = Me (Option T) (TicketView T)
+
+-- the stage has this ticket
+abbrev pub HasTicket : ℕ → Stage → Type 0
+HasTicket ticket Idle = ⊥
+HasTicket ticket Looked = ⊥
+HasTicket ticket (Waiting t) = t ≡ ticket
+HasTicket ticket (Holding t) = t ≡ ticket
+
+abbrev IsNothing : Option Stage → Type 0
+IsNothing None = Unit {0}
+IsNothing (Some _) = ⊥
+
+module _ {T : Type 0} where
+  -- what a pass of a new lock knows, whose first ticket this is
+  abbrev pub opened : ℕ → T → Known T
+  opened first value = record { stage = Idle; seen = value; also = value; next = first; ended = 0; last = value }
+
+  abbrev pub newcomer : ℕ → T → TicketView T
+  newcomer first value = Live (opened first value)
+
+  -- the pass has seen this next word, and has no ticket
+  abbrev pub idle_at : Known T → ℕ → Known T
+  idle_at k n = record { stage = Idle; seen = k.seen; also = k.also; next = n; ended = k.ended; last = k.last }
+
+  -- the pass has looked at this next word
+  abbrev pub looked_at : Known T → ℕ → Known T
+  looked_at k n = record { stage = Looked; seen = k.seen; also = k.also; next = n; ended = k.ended; last = k.last }
+
+  -- the pass has drawn this ticket
+  abbrev pub waiting_for : Known T → ℕ → Known T
+  waiting_for k ticket = record { stage = Waiting ticket; seen = k.seen; also = k.also; next = ticket + 1; ended = k.ended; last = k.last }
+
+  -- the pass has found this value in the section of its ticket
+  abbrev pub in_section : Known T → ℕ → T → Known T
+  in_section k ticket value = record { stage = Holding ticket; seen = value; also = k.also; next = k.next; ended = k.ended; last = k.last }
+
+  -- the pass has left this value: one more section is ended
+  abbrev pub after_section : Known T → ℕ → T → Known T
+  after_section k ticket value = record { stage = Idle; seen = value; also = value; next = ticket + 1; ended = k.ended + 1; last = k.seen }
+
+  -- where the pass is; a spent view has no stage
+  abbrev pub stage_of : TicketView T → Option Stage
+  stage_of Spent = None
+  stage_of (Live k) = Some k.stage
+
+  -- the next word that it has seen
+  abbrev pub next_of : TicketView T → ℕ
+  next_of Spent = 0
+  next_of (Live k) = k.next
+
+  -- what a view knows that has a stage
+  abbrev pub known : (v : TicketView T) (stage : Stage) → stage_of v ≡ Some stage → Known T
+  known Spent stage is = absurd (subst IsNothing is tt)
+  known (Live k) stage is = k
+
+  abbrev pub IsIdle : TicketSeat T → Type 0
+  IsIdle me = (me.1 ≡ []) × (stage_of me.0 ≡ Some Idle)
+
+  abbrev pub HasLooked : TicketSeat T → ℕ → Type 0
+  HasLooked me n = (me.1 ≡ []) × (stage_of me.0 ≡ Some Looked) × (next_of me.0 ≡ n)
+
+  abbrev pub IsWaiting : TicketSeat T → ℕ → Type 0
+  IsWaiting me ticket = (me.1 ≡ []) × (stage_of me.0 ≡ Some (Waiting ticket)) × (next_of me.0 ≡ ticket + 1)
+
+  -- the pass is in the section of this ticket, and has taken the value out of the slot
+  abbrev pub IsHolding : TicketSeat T → ℕ → Type 0
+  IsHolding me ticket = (me.1 ≡ (0, None) ∷ []) × (stage_of me.0 ≡ Some (Holding ticket)) × (next_of me.0 ≡ ticket + 1)
+
+  -- the pass i is there, and knows k
+  abbrev pub Has : TicketState T → ℕ → Known T → Type 0
+  Has s i k = get_elem? s.views i ≡ some (Live k)
+
+  -- the value is at home, and no pass holds
+  pub record IsHome (s : TicketState T) (current : T) : Type 0 where
+    pub home : s.homes ≡ some (Some current) ∷ []
+    pub nobody : (i : ℕ) (k : Known T) (ticket : ℕ) → Has s i k → k.stage ≡ Holding ticket → ⊥
+
+  -- the slot is out with the pass that holds, which has found the current value
+  pub record IsOut (s : TicketState T) (serving : ℕ) (current : T) : Type 0 where
+    pub away : s.homes ≡ none ∷ []
+    pub holder : ℕ
+    pub knows : Known T
+    pub is_there : Has s holder knows
+    pub holds : knows.stage ≡ Holding serving
+    pub value : knows.seen ≡ current
+
+  -- The lock rule. Of a spent view it says nothing
+  pub record TicketLockRule (leads : T → T → Type 0) (first : ℕ) (s : TicketState T) : Type 0 where
+    pub next : ℕ
+    pub serving : ℕ
+    pub current : T
+    pub words : s.words ≡ next ∷ serving ∷ []
+    -- the words are in order, and nothing wraps
+    pub from_first : first ≤ serving
+    pub served_are_drawn : serving ≤ next
+    pub never_wraps : next ≤ last_word
+    -- each ticket that a pass has was drawn and is not yet past, and is no other's
+    pub tickets_in_turn : (i : ℕ) (k : Known T) (ticket : ℕ) → Has s i k → HasTicket ticket k.stage → (serving ≤ ticket) × (ticket < next)
+    pub tickets_apart : (i j : ℕ) (k l : Known T) (ticket : ℕ) → Has s i k → Has s j l → HasTicket ticket k.stage → HasTicket ticket l.stage → i ≡ j
+    -- who holds is served, and the slot is at home where none holds
+    pub holder_is_served : (i : ℕ) (k : Known T) (ticket : ℕ) → Has s i k → k.stage ≡ Holding ticket → ticket ≡ serving
+    pub slot : IsHome s current ⊎ IsOut s serving current
+    -- each value that was seen leads to the current one
+    pub values_seen : (i : ℕ) (k : Known T) → Has s i k → leads k.seen current × leads k.also current
+    -- each next word that was seen is at most the next
+    pub words_seen : (i : ℕ) (k : Known T) → Has s i k → k.next ≤ next

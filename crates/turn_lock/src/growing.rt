@@ -1,0 +1,11 @@
+//! What a value behind a lock has to be.
+
+/// A value that grows: each holder of the lock leaves one to which the value found leads.
+pub trait Growing {
+    // The second may come after the first.
+    ghost leads: { Self → Self → Type 0 };
+
+    ghost reflexive: { (x : Self) → leads x x };
+
+    ghost transitive: { (x y z : Self) → leads x y → leads y z → leads x z };
+}

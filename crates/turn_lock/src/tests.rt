@@ -1,0 +1,319 @@
+//! The locks' worked values, and threads that append through each lock.
+
+ghost use Rattle.std.specs.Prelude.{IfOk};
+ghost use Rattle.turn_lock.specs.Toy.{GoesOn, same_list, longer_list};
+ghost use Rattle.turn_lock.specs.TicketShown.{IsPassOf};
+
+use crate::{DrawFault, Growing, Pass, Raced, Section, SpinLock, TicketLock, Worn};
+use std::alloc::{AllocError, Global};
+use std::process::Abort;
+use std::sync::Wait;
+use std::test::Fail;
+use std::thread;
+use std::thread::Threads;
+
+#[derive(Clone, Copy, PartialEq, Debug)]
+struct Entry {
+    thread: u64,
+    number: u64,
+}
+
+/// A list that grows at its end.
+#[derive(Drop)]
+struct Entries {
+    items: Vec<Entry>,
+}
+
+impl Growing for Entries {
+    ghost leads = { λ old new. GoesOn old.items.items new.items.items };
+
+    ghost reflexive = { λ x. same_list x.items.items };
+
+    ghost transitive = { λ x y z. longer_list x.items.items y.items.items z.items.items };
+}
+
+impl Entries {
+    fn new(alloc: Global) -> Entries {
+        Entries {
+            items: Vec::new(alloc),
+        }
+    }
+}
+
+trait Book: Growing {
+    // False where there is no memory.
+    fn append(&mut self, entry: Entry) -> bool
+        ensures { Self.leads self.old self.new };
+
+    fn entries(&self) -> &[Entry];
+}
+
+impl Book for Entries {
+    fn append(&mut self, entry: Entry) -> bool {
+        self.items.push(entry).is_ok()
+    }
+
+    fn entries(&self) -> &[Entry] {
+        self.items.as_slice()
+    }
+}
+
+fn line(number: u64) -> Entry {
+    Entry { thread: 0, number }
+}
+
+#[test]
+fn tickets_are_served_in_their_order(rt: HostRuntime) -> Result<(), Fail> {
+    let (lock, pass) = TicketLock::new(rt.alloc(), Entries::new(rt.alloc()))?;
+    let (a, b) = lock.split(pass);
+    let Ok(a) = lock.look(a) else {
+        return Err(Fail::new("the first look is worn"));
+    };
+    assert_eq!(rt; a.next(), 0);
+    let Ok(b) = lock.try_draw(b) else {
+        return Err(Fail::new("no ticket for b"));
+    };
+    assert_eq!(rt; b.ticket(), 0);
+    let Err((Raced { next }, a)) = lock.draw(a) else {
+        return Err(Fail::new("a has drawn the ticket of b"));
+    };
+    assert_eq!(rt; next, 1);
+    let Ok(a) = lock.try_draw(a) else {
+        return Err(Fail::new("no ticket for a"));
+    };
+    assert_eq!(rt; a.ticket(), 1);
+    let (mut value, b) = lock.enter(&rt, b);
+    assert_eq!(rt; b.ticket(), 0);
+    assert_eq!(rt; value.entries().len(), 0);
+    assert!(rt; value.append(line(7)));
+    let _ = lock.leave(b, value);
+    let (value, a) = lock.enter(&rt, a);
+    assert_eq!(rt; a.ticket(), 1);
+    let value = lock.retire(a, value);
+    assert_eq!(rt; value.entries(), [line(7)].as_slice());
+    Ok(())
+}
+
+#[test]
+fn spin_lock_gives_the_value_left(rt: HostRuntime) -> Result<(), Fail> {
+    let (lock, pass) = SpinLock::new(rt.alloc(), Entries::new(rt.alloc()))?;
+    let Ok((mut value, holder)) = lock.lock(&rt, pass) else {
+        return Err(Fail::new("a spin lock is worn"));
+    };
+    assert!(rt; value.append(line(7)));
+    let pass = lock.leave(holder, value);
+    let Ok((value, holder)) = lock.lock(&rt, pass) else {
+        return Err(Fail::new("a spin lock is worn"));
+    };
+    let value = lock.retire(holder, value);
+    assert_eq!(rt; value.entries(), [line(7)].as_slice());
+    Ok(())
+}
+
+// Each call that would draw a ticket answers `Worn`, and the pass comes back.
+fn refused<R: Wait>(
+    rt: &R,
+    lock: &TicketLock<Entries>,
+    pass: Pass<Entries>,
+) -> Result<Pass<Entries>, Fail>
+    requires { IsPassOf lock.now pass }
+    ensures { IfOk result (λ p. IsPassOf lock.now p) }
+{
+    let Err((Worn, pass)) = lock.look(pass) else {
+        return Err(Fail::new("a look of a worn pass"));
+    };
+    let Err((DrawFault::Worn, pass)) = lock.try_draw(pass) else {
+        return Err(Fail::new("a draw of a worn pass"));
+    };
+    match lock.lock(rt, pass) {
+        Ok((value, holder)) => {
+            drop(lock.retire(holder, value));
+            Err(Fail::new("a section of a worn pass"))
+        }
+        Err((Worn, pass)) => Ok(pass),
+    }
+}
+
+#[test]
+fn the_last_ticket_wears_the_lock(rt: HostRuntime) -> Result<(), Fail> {
+    let first = u64::MAX - 1;
+    let (lock, pass) = TicketLock::new_at(rt.alloc(), Entries::new(rt.alloc()), first)?;
+    let Ok((mut value, holder)) = lock.lock(&rt, pass) else {
+        return Err(Fail::new("the last ticket is refused"));
+    };
+    assert_eq!(rt; holder.ticket(), first);
+    value.append(line(7));
+    let pass = lock.leave(holder, value);
+    let pass = refused(&rt, &lock, pass)?;
+    refused(&rt, &lock, pass)?;
+    let (lock, pass) = TicketLock::new_at(rt.alloc(), Entries::new(rt.alloc()), u64::MAX)?;
+    refused(&rt, &lock, pass)?;
+    Ok(())
+}
+
+#[test]
+fn tickets_go_on_behind_a_retired_holder(rt: HostRuntime) -> Result<(), Fail> {
+    let (lock, pass) = TicketLock::new(rt.alloc(), Entries::new(rt.alloc()))?;
+    let (a, b) = lock.split(pass);
+    let Ok((value, a)) = lock.lock(&rt, a) else {
+        return Err(Fail::new("the first ticket is refused"));
+    };
+    assert_eq!(rt; a.ticket(), 0);
+    let value = lock.retire(a, value);
+    assert_eq!(rt; value.entries().len(), 0);
+    let Ok(b) = lock.look(b) else {
+        return Err(Fail::new("no look behind a retired holder"));
+    };
+    assert_eq!(rt; b.next(), 1);
+    let Ok(b) = lock.draw(b) else {
+        return Err(Fail::new("no ticket behind a retired holder"));
+    };
+    assert_eq!(rt; b.ticket(), 1);
+    Ok(())
+}
+
+// With `rt try --test --fail-alloc N` the first call of each kind is refused for N up to 3, and the second is not.
+#[test]
+fn a_refused_lock_can_be_made_again(rt: HostRuntime) -> Result<(), Fail> {
+    let made = match SpinLock::new(rt.alloc(), Entries::new(rt.alloc())) {
+        Ok(made) => made,
+        Err(AllocError) => SpinLock::new(rt.alloc(), Entries::new(rt.alloc()))?,
+    };
+    drop(made);
+    let made = match TicketLock::new(rt.alloc(), Entries::new(rt.alloc())) {
+        Ok(made) => made,
+        Err(AllocError) => TicketLock::new(rt.alloc(), Entries::new(rt.alloc()))?,
+    };
+    drop(made);
+    Ok(())
+}
+
+// One section for each entry of a thread.
+fn append_all<S: Section, R: Wait>(
+    rt: &R,
+    lock: &S,
+    mut pass: S::Pass,
+    thread: u64,
+    count: u64,
+) -> Result<S::Pass, (Worn, S::Pass)>
+where
+    S::Value: Book,
+    requires { S.has_pass lock.now pass }
+    ensures { IfOk result (λ p. S.has_pass lock.now p) }
+{
+    for number in 0..count {
+        let (mut value, holder) = match lock.lock(rt, pass) {
+            Ok(found) => found,
+            Err(worn) => return Err(worn),
+        };
+        value.append(Entry { thread, number });
+        pass = lock.leave(holder, value);
+    }
+    Ok(pass)
+}
+
+// The caller is the first of the threads. Its pass comes back.
+fn append_by_threads<S: Section + Sync, R: Threads + Wait + Sync>(
+    rt: &R,
+    lock: &S,
+    pass: S::Pass,
+    threads: u64,
+    count: u64,
+) -> Result<S::Pass, (Worn, S::Pass)>
+where
+    S::Value: Book + Send + Sync,
+    S::Pass: Send + Drop,
+    requires { S.has_pass lock.now pass }
+    ensures { IfOk result (λ p. S.has_pass lock.now p) }
+{
+    thread::scope(
+        thread::scope_env(),
+        rt,
+        |scope| -> Result<S::Pass, (Worn, S::Pass)>
+            requires { S.has_pass lock.now pass }
+            ensures { IfOk result (λ p. S.has_pass lock.entry.now p) }
+        {
+            let mut mine = pass;
+            'start: for thread in 1..threads {
+                let (left, theirs) = lock.split(mine);
+                mine = left;
+                let job = move || -> Result<S::Pass, (Worn, S::Pass)>
+                    requires { S.has_pass lock.now theirs }
+                { append_all(rt, lock, theirs, thread, count) };
+                let _ = scope.spawn(job);
+            }
+            append_all(rt, lock, mine, 0, count)
+        },
+    )
+}
+
+// What the threads have left, once all have returned.
+fn left_by_threads<S: Section + Sync, R: Threads + Wait + Sync>(
+    rt: &R,
+    lock: &S,
+    pass: S::Pass,
+    threads: u64,
+    count: u64,
+) -> Result<S::Value, (Worn, S::Pass)>
+where
+    S::Value: Book + Send + Sync,
+    S::Pass: Send + Drop,
+    requires { S.has_pass lock.now pass }
+{
+    let pass = match append_by_threads(rt, lock, pass, threads, count) {
+        Ok(pass) => pass,
+        Err(worn) => return Err(worn),
+    };
+    match lock.lock(rt, pass) {
+        Ok((value, holder)) => Ok(lock.retire(holder, value)),
+        Err(worn) => Err(worn),
+    }
+}
+
+// Each thread's entries stand in its order, once each.
+fn assert_each_in_order<A: Abort>(rt: &A, entries: &[Entry], threads: u64, count: u64) {
+    for thread in 0..threads {
+        let mut number = 0;
+        for entry in entries {
+            if entry.thread == thread {
+                assert!(rt; number < count && entry.number == number);
+                number += 1;
+            }
+        }
+        assert!(rt; number == count);
+    }
+}
+
+#[test]
+fn threads_append_through_a_spin_lock(rt: HostRuntime) -> Result<(), Fail> {
+    for (threads, count) in [(2, 5000), (8, 1250)] {
+        let (lock, pass) = SpinLock::new(rt.alloc(), Entries::new(rt.alloc()))?;
+        let Ok(value) = left_by_threads(&rt, &lock, pass, threads, count) else {
+            return Err(Fail::new("a spin lock is worn"));
+        };
+        assert_eq!(rt; value.entries().len(), 10_000);
+        assert_each_in_order(&rt, value.entries(), threads, count);
+    }
+    Ok(())
+}
+
+#[test]
+fn threads_append_through_a_ticket_lock(rt: HostRuntime) -> Result<(), Fail> {
+    for (threads, count) in [(2, 5000), (8, 1250)] {
+        let (lock, pass) = TicketLock::new(rt.alloc(), Entries::new(rt.alloc()))?;
+        let Ok(value) = left_by_threads(&rt, &lock, pass, threads, count) else {
+            return Err(Fail::new("a new ticket lock is worn"));
+        };
+        assert_eq!(rt; value.entries().len(), 10_000);
+        assert_each_in_order(&rt, value.entries(), threads, count);
+    }
+    Ok(())
+}
+
+#[test]
+fn each_law_is_called(_rt: HostRuntime) {
+    crate::spin_steps_keep_the_rule::<Entries>();
+    crate::ticket_steps_keep_the_rule::<Entries>(0);
+    crate::ticket_rule_says::<Entries>(0);
+    crate::ticket_steps_forget_nothing::<Entries>();
+}
