@@ -560,10 +560,10 @@ fn a_larger_profile_is_refused_as_a_whole(rt: HostRuntime) -> Result<(), Fail> {
 #[test]
 fn each_prefix_is_answered(rt: HostRuntime) -> Result<(), Fail> {
     let bytes = PLAN.as_bytes();
-    let mut read = 0;
+    let mut read = 0usize;
     for length in 0..=bytes.len() {
         match read_plan(rt.alloc(), &bytes[..length]) {
-            Ok(_) => read += 1,
+            Ok(_) => read = read.saturating_add(1),
             Err(fault) => assert!(rt;
                 fault.cause != PlanCause::OutOfMemory,
                 "a prefix of {length} bytes"

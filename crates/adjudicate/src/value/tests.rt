@@ -154,23 +154,18 @@ impl Narrow {
 
 impl Write for Narrow {
     fn write(&mut self, piece: &[u8]) -> io::Result<usize> {
-        let mut count = 0;
-        for (place, byte) in self
-            .taken
-            .iter_mut()
-            .take(self.limit)
-            .skip(self.length)
-            .take(self.width)
-            .zip(piece)
-        {
+        let room = self.limit.saturating_sub(self.length).min(self.width);
+        let count = piece.len().min(room);
+        match self.when_full {
+            WhenFull::Fails if count == 0 => return Err(io::Error::from(ErrorKind::Other)),
+            _ => {}
+        }
+        let places = self.taken.iter_mut().skip(self.length);
+        for (place, byte) in places.zip(&piece[..count]) {
             *place = *byte;
-            count += 1;
         }
         self.length = self.length.saturating_add(count);
-        match self.when_full {
-            WhenFull::Fails if count == 0 => Err(io::Error::from(ErrorKind::Other)),
-            _ => Ok(count),
-        }
+        Ok(count)
     }
 
     fn flush(&mut self) -> io::Result<()> {
