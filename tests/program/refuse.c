@@ -1,0 +1,40 @@
+// A library to preload: it counts the program's allocations, refuses the one whose number REFUSED_ALLOCATION gives
+// (from 1), and writes the count to the file that ALLOCATION_COUNT names when the program ends.
+#define _GNU_SOURCE
+#include <dlfcn.h>
+#include <errno.h>
+#include <fcntl.h>
+#include <stdio.h>
+#include <stdlib.h>
+#include <unistd.h>
+
+static long count;
+
+static int is_refused(void) {
+  const char *number = getenv("REFUSED_ALLOCATION");
+  count++;
+  if (number == NULL || atol(number) != count) return 0;
+  errno = ENOMEM;
+  return 1;
+}
+
+void *malloc(size_t size) {
+  static void *(*next)(size_t);
+  if (next == NULL) next = (void *(*)(size_t))dlsym(RTLD_NEXT, "malloc");
+  return is_refused() ? NULL : next(size);
+}
+
+void *realloc(void *old, size_t size) {
+  static void *(*next)(void *, size_t);
+  if (next == NULL) next = (void *(*)(void *, size_t))dlsym(RTLD_NEXT, "realloc");
+  return is_refused() ? NULL : next(old, size);
+}
+
+__attribute__((destructor)) static void tell(void) {
+  const char *path = getenv("ALLOCATION_COUNT");
+  if (path == NULL) return;
+  int file = open(path, O_WRONLY | O_CREAT | O_TRUNC, 0600);
+  if (file < 0) return;
+  dprintf(file, "%ld\n", count);
+  close(file);
+}
