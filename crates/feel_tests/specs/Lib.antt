@@ -10,4 +10,3 @@ pub mod Cell
 pub mod Symbols
 pub mod Fronts
 pub mod Parts
-pub mod Plain

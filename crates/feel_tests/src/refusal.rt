@@ -1,12 +1,8 @@
 //! Why a part of a text could not be read, while it is read.
-ghost use Rattle.std.specs.Prelude.{◌≡◌, ℕ, List, IfOk, OnErr};
-ghost use Rattle.feel_tests.specs.Words.{Sign, Begins};
-ghost use Rattle.feel_tests.specs.declared.fault.CellCause.TheVariants.{OutOfMemory};
+ghost use Rattle.std.specs.Prelude.{◌≡◌};
 
 use crate::fault::{CellCause, CellFault};
-use crate::symbol::Symbol;
-use crate::word::{after_symbol, skip_white};
-use std::alloc::{AllocError, AllocFailed};
+use crate::word::skip_white;
 
 /// A fault, placed by how much of the text is left there.
 #[derive(Clone, Copy, Drop)]
@@ -34,38 +30,5 @@ impl Refusal {
             at: whole.len().saturating_sub(self.left),
             cause: self.cause,
         }
-    }
-}
-
-impl From<AllocError> for Refusal {
-    ghost from_gives = { λ _ refusal. refusal.cause ≡ OutOfMemory };
-
-    fn from(_fault: AllocError) -> Refusal {
-        Refusal {
-            left: 0,
-            cause: CellCause::OutOfMemory,
-        }
-    }
-}
-
-impl<T: Drop> From<AllocFailed<T>> for Refusal {
-    ghost from_gives = { λ _ refusal. refusal.cause ≡ OutOfMemory };
-
-    fn from(_fault: AllocFailed<T>) -> Refusal {
-        Refusal {
-            left: 0,
-            cause: CellCause::OutOfMemory,
-        }
-    }
-}
-
-/// What follows the symbol, which has to stand here.
-pub fn symbol_at(text: &[u8], symbol: Symbol) -> Result<&[u8], Refusal>
-    ensures ok { IfOk result (λ rest. Begins text.now (Sign symbol) rest.now) }
-    ensures refused { OnErr result ((rest : List ℕ) → ¬ Begins text.now (Sign symbol) rest) }
-{
-    match after_symbol(text, symbol) {
-        Some(rest) => Ok(rest),
-        None => Err(Refusal::at(text, CellCause::Token)),
     }
 }
