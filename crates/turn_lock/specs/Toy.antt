@@ -1,5 +1,5 @@
--- The small worlds of the tests: lists that only grow at their end.
-use Rattle.std.specs.Prelude.{◌≡◌, ℕ, Bool, List, [], ◌∷◌, ◌++◌, MatchBool}
+-- The small world of the tests: lists that only grow at their end.
+use Rattle.std.specs.Prelude.{◌≡◌, List, [], ◌++◌}
 use Rattle.std.proofs.Common.{sym, ap, ◌∙◌, append-nil, append_assoc}
 
 module _ {A : Type 0} where
@@ -12,7 +12,3 @@ module _ {A : Type 0} where
 
   pub longer_list : (xs ys zs : List A) → GoesOn xs ys → GoesOn ys zs → GoesOn xs zs
   longer_list xs ys zs a b = (a.0 ++ b.0, b.1 ∙ (ap (λ l. l ++ b.0) a.1 ∙ append_assoc xs a.0 b.0))
-
--- one term more, or all as before
-abbrev pub Noted : List ℕ → Bool → List ℕ → Type 0
-Noted before noted after = MatchBool noted ((term : ℕ) × (after ≡ before ++ term ∷ [])) (after ≡ before)

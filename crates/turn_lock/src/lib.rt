@@ -16,8 +16,6 @@ mod spin;
 #[cfg(test)]
 mod tests;
 mod ticket;
-#[cfg(test)]
-mod toy;
 
 pub use growing::Growing;
 pub use law::{

@@ -2,17 +2,18 @@
 //! `Section`, called by two threads and retired at the end. What the gate replies is proved from `Section`'s clauses alone.
 
 ghost use Rattle.std.specs.Prelude.{◌≡◌, ◌+◌, IfOk, IfErr};
-ghost use Rattle.turn_lock.specs.Toy.{GoesOn, Noted, same_list, longer_list};
+ghost use Rattle.turn_lock.specs.Toy.{GoesOn, same_list, longer_list};
+ghost use Rattle.lock_examples.specs.Notes.{Noted};
 
-use crate::{Growing, Section, SpinLock, Worn};
 use std::alloc::{AllocError, Global};
 use std::sync::Wait;
-use std::test::Fail;
 use std::thread;
 use std::thread::Threads;
+use turn_lock::{Growing, Section, SpinLock, Worn};
 
+/// The terms, and those that were noted so far.
 #[derive(Drop)]
-struct Notes<'t> {
+pub struct Notes<'t> {
     terms: &'t [u64],
     taken: Vec<u64>,
 }
@@ -25,11 +26,13 @@ impl<'t> Growing for Notes<'t> {
     ghost transitive = { λ x y z. longer_list x.taken.items y.taken.items z.taken.items };
 }
 
-trait Ledger: Growing {
+/// What can be noted by the place of its term.
+pub trait Ledger: Growing {
     ghost use Rattle.std.specs.Prelude.{List, ℕ};
 
     ghost shown: { Self → List ℕ };
 
+    /// Notes the term at the place, from 0: whether there is one, and memory for it.
     fn note(&mut self, place: usize) -> bool
         ensures grown { Self.leads self.old self.new }
         ensures noted { Noted (shown self.old) result (shown self.new) };
@@ -46,8 +49,9 @@ impl<'t> Ledger for Notes<'t> {
     }
 }
 
+/// A gate over a lock.
 #[derive(Drop)]
-struct Desk<S: Section> {
+pub struct Desk<S: Section> {
     lock: S,
 }
 
@@ -55,7 +59,8 @@ impl<S: Section> Desk<S>
 where
     S::Value: Ledger,
 {
-    fn note<R: Wait>(
+    /// Notes a term in one section, and says whether it was noted.
+    pub fn note<R: Wait>(
         &self,
         rt: &R,
         pass: S::Pass,
@@ -151,7 +156,8 @@ where
     }
 }
 
-fn noted_by_two<R: Threads + Wait + Sync>(
+/// How many terms two threads note that note the first three terms each.
+pub fn noted_by_two<R: Threads + Wait + Sync>(
     rt: &R,
     alloc: Global,
     terms: &[u64],
@@ -165,10 +171,4 @@ fn noted_by_two<R: Threads + Wait + Sync>(
         Ok(notes) => Ok(notes.taken.len()),
         Err(_) => Ok(0),
     }
-}
-
-#[test]
-fn two_threads_note_each_term(rt: HostRuntime) -> Result<(), Fail> {
-    assert_eq!(rt; noted_by_two(&rt, rt.alloc(), &[5, 6, 7])?, 6);
-    Ok(())
 }
