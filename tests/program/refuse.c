@@ -6,6 +6,7 @@
 #include <fcntl.h>
 #include <stdio.h>
 #include <stdlib.h>
+#include <sys/syscall.h>
 #include <unistd.h>
 
 static long count;
@@ -37,4 +38,11 @@ __attribute__((destructor)) static void tell(void) {
   if (file < 0) return;
   dprintf(file, "%ld\n", count);
   close(file);
+}
+
+// A program that ends by `_exit` runs no destructor.
+void _exit(int status) {
+  tell();
+  syscall(SYS_exit_group, status);
+  __builtin_unreachable();
 }
