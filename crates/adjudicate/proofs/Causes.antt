@@ -1,15 +1,32 @@
 -- The numbers of causes have at most two digits.
-use Rattle.std.proofs.Common.{ℕ, ◌<◌, lit<}
+use Rattle.std.proofs.Common.{◌<◌, lit<}
 use Rattle.feel_tests.specs.declared.fault.CellCause.{CellCause}
-use Rattle.feel_tests.specs.declared.fault.CellCause.TheVariants.{Token, Literal, WrongKind, BadEscape, BadDate, TooMany, Trailing, OutOfMemory}
-use Rattle.feel_tests.specs.Fault.{number_of}
+use Rattle.feel_tests.specs.declared.fault.CellCause.TheVariants as cell
+use Rattle.feel_tests.specs.Fault.{number_of as cell_cause_number}
+use Rattle.dtable.specs.declared.plan_fault.PlanCause.{PlanCause}
+use Rattle.dtable.specs.declared.plan_fault.PlanCause.TheVariants as cause
+use Rattle.dtable.specs.CauseNumber.{number_of as plan_cause_number}
 
-pub number_of_small : (cause : CellCause) → number_of cause < 100
-number_of_small Token = lit< tt
-number_of_small Literal = lit< tt
-number_of_small WrongKind = lit< tt
-number_of_small BadEscape = lit< tt
-number_of_small BadDate = lit< tt
-number_of_small TooMany = lit< tt
-number_of_small Trailing = lit< tt
-number_of_small OutOfMemory = lit< tt
+pub cell_cause_small : (c : CellCause) → cell_cause_number c < 100
+cell_cause_small cell.Token = lit< tt
+cell_cause_small cell.Literal = lit< tt
+cell_cause_small cell.WrongKind = lit< tt
+cell_cause_small cell.BadEscape = lit< tt
+cell_cause_small cell.BadDate = lit< tt
+cell_cause_small cell.TooMany = lit< tt
+cell_cause_small cell.Trailing = lit< tt
+cell_cause_small cell.OutOfMemory = lit< tt
+
+pub plan_cause_small : (c : PlanCause) → plan_cause_number c < 100
+plan_cause_small cause.Toml = lit< tt
+plan_cause_small cause.Missing = lit< tt
+plan_cause_small cause.Unknown = lit< tt
+plan_cause_small cause.Duplicate = lit< tt
+plan_cause_small cause.Kind = lit< tt
+plan_cause_small cause.Hit = lit< tt
+plan_cause_small cause.Priority = lit< tt
+plan_cause_small cause.Role = lit< tt
+plan_cause_small cause.Money = lit< tt
+plan_cause_small cause.Limit = lit< tt
+plan_cause_small (cause.Cell fault) = lit< tt
+plan_cause_small cause.OutOfMemory = lit< tt

@@ -1,15 +1,8 @@
+pub mod Answered
 pub mod Causes
-pub mod DocumentItems
 pub mod Givens
-pub mod Lines
-pub mod Matching
 pub mod Names
-pub mod PlanColumns
-pub mod PlanNames
-pub mod PlanOnce
-pub mod PlanTables
 pub mod Puts
-pub mod ReadFields
+pub mod ReadNames
 pub mod Refusals
 pub mod Splits
-pub mod Values

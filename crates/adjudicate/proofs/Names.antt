@@ -1,26 +1,26 @@
--- The place of a field by its name.
+-- The place of input data by its name.
 use Rattle.std.proofs.Common.{◌≡◌, ◌≢◌, ℕ, ◌+◌, ◌<◌, ◌≤◌, List, length, get_or, Some, ap, sym, refl, ◌∙◌, below_more, Contains, slice_get, arith}
 use Rattle.std.proofs.lemmas.List.{length-map}
 use Rattle.std.specs.Option.{option_map}
 use Rattle.std.proofs.lemmas.Option.{slice_get-map, slice_get_read, slice_get-get_or, same_Some}
-use Rattle.adjudicate.specs.declared.plan.table.Field.{Field}
-use Rattle.adjudicate.specs.Plan.{field_names}
+use Rattle.dtable.specs.declared.table.InputData.{InputData}
+use Rattle.dtable.specs.Scope.{data_names}
 
--- the name at a field's place
-pub field_names-at : (fields : List Field) (place : ℕ) (field : Field) → place < length fields → field ≡ get_or fields place field → slice_get (field_names fields) place ≡ Some field.name
-field_names-at fields place field within standing =
-    slice_get-map (λ (f : Field). f.name) fields place ∙ ap (λ o. option_map (λ (f : Field). f.name) o) (slice_get_read fields (length fields) place field refl within standing)
+-- the name at a place
+pub data_names-at : (names : List InputData) (place : ℕ) (input : InputData) → place < length names → input ≡ get_or names place input → slice_get (data_names names) place ≡ Some input.name
+data_names-at names place input within standing =
+    slice_get-map (λ (d : InputData). d.name) names place ∙ ap (λ o. option_map (λ (d : InputData). d.name) o) (slice_get_read names (length names) place input refl within standing)
 
--- where no field before a place has the name, nor the one there, none has it up to there
-pub unnamed_more : (fields : List Field) (name : List ℕ) (place : ℕ) (field : Field) → place < length fields → field ≡ get_or fields place field → field.name ≢ name
-    → ((k : ℕ) → k < place → slice_get (field_names fields) k ≢ Some name) → (k : ℕ) → k < place + 1 → slice_get (field_names fields) k ≢ Some name
-unnamed_more fields name place field within standing other below =
-    below_more (λ k. slice_get (field_names fields) k ≢ Some name) place below
-    (λ e. other (same_Some _ _ (sym (field_names-at fields place field within standing) ∙ e)))
+-- where no data before a place has the name, nor the one there, none has it up to there
+pub unnamed_more : (names : List InputData) (name : List ℕ) (place : ℕ) (input : InputData) → place < length names → input ≡ get_or names place input → input.name ≢ name
+    → ((k : ℕ) → k < place → slice_get (data_names names) k ≢ Some name) → (k : ℕ) → k < place + 1 → slice_get (data_names names) k ≢ Some name
+unnamed_more names name place input within standing other below =
+    below_more (λ k. slice_get (data_names names) k ≢ Some name) place below
+    (λ e. other (same_Some _ _ (sym (data_names-at names place input within standing) ∙ e)))
 
 -- a name that stands at no place is not among the names
-pub unknown_name : (fields : List Field) (name : List ℕ) (place : ℕ) → length fields ≤ place
-    → ((k : ℕ) → k < place → slice_get (field_names fields) k ≢ Some name) → ¬ Contains (field_names fields) name
-unknown_name fields name place all below there =
-    below there.0 (omega (arith, there.1, length-map fields (λ (f : Field). f.name)))
-    (slice_get-get_or (field_names fields) there.0 name there.1 ∙ ap Some there.2)
+pub unknown_name : (names : List InputData) (name : List ℕ) (place : ℕ) → length names ≤ place
+    → ((k : ℕ) → k < place → slice_get (data_names names) k ≢ Some name) → ¬ Contains (data_names names) name
+unknown_name names name place all below there =
+    below there.0 (omega (arith, there.1, length-map names (λ (d : InputData). d.name)))
+    (slice_get-get_or (data_names names) there.0 name there.1 ∙ ap Some there.2)

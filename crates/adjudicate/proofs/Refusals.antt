@@ -1,32 +1,37 @@
 -- What becomes of a refusal on its way to the caller.
-use Rattle.std.proofs.Common.{◌≡◌, ◌≢◌, ℕ, ◌+◌, ◌<◌, List, length, take, slice_get, Option, Some, sym, subst, refl}
-use Rattle.adjudicate.specs.declared.plan.fault.PlanCause.TheVariants as cause
-use Rattle.adjudicate.specs.declared.plan.fault.PlanFault.{PlanFault}
-use Rattle.adjudicate.specs.declared.plan.table.Field.{Field}
-use Rattle.adjudicate.specs.declared.plan.table.Plan.{Plan}
+use Rattle.std.proofs.Common.{◌≡◌, ◌≢◌, ℕ, ◌+◌, List, take, slice_get, Option, Some, Err, sym, subst}
+use Rattle.dtable.specs.declared.fault.Fault.{Fault}
+use Rattle.dtable.specs.declared.fault.Fault.TheVariants as faults
+use Rattle.dtable.specs.declared.inputs.Slot.{Slot}
+use Rattle.dtable.specs.declared.plan_fault.PlanCause.TheVariants as cause
+use Rattle.dtable.specs.declared.plan_fault.PlanFault.{PlanFault}
+use Rattle.dtable.specs.declared.table.InputData.{InputData}
+use Rattle.dtable.specs.Environment.{env}
+use Rattle.dtable.specs.HitPolicy.{IsFaultOf}
+use Rattle.dtable.specs.Inputs.{IsReady}
+use Rattle.dtable.specs.Plan.{PlanParts}
+use Rattle.dtable.specs.PlanFile.{IsPlanText}
 use Rattle.adjudicate.specs.declared.stop.ArgumentFault.{ArgumentFault}
 use Rattle.adjudicate.specs.declared.stop.Stop.{Stop}
 use Rattle.adjudicate.specs.declared.stop.Stop.TheVariants as stop
-use Rattle.adjudicate.specs.Plan.{IsPlanText}
-use Rattle.adjudicate.specs.Evaluation.{Given}
-use Rattle.adjudicate.specs.Arguments.{Gives, IsReady}
+use Rattle.adjudicate.specs.Arguments.{Gives}
 use Rattle.adjudicate.specs.ValueText.{IsValueText}
-use Rattle.adjudicate.specs.Stop.{IsArgumentFault, IsMemoryFault, IsFirstBadArgument, IsStopOfArgument, IsStopOfPlan, RefusesArguments, RefusesValues, RefusesText, PutsUntil, WritesUntil}
+use Rattle.adjudicate.specs.Stop.{IsArgumentFault, IsMemoryFault, IsStopOfArgument, IsStopOfPlan, IsStopOfTables, RefusesArguments, RefusesValue, RefusesText, PutsUntil, WritesUntil}
 
 -- the first argument that gives no value is the refusal
-pub refuses_argument : (fields : List Field) (arguments : List (List ℕ)) (given : Given) (place : ℕ) (text : List ℕ) (fault : ArgumentFault) (s : Stop) → Gives fields (take place arguments) given
-    → slice_get arguments place ≡ Some text → (¬ IsMemoryFault fault → IsArgumentFault fields given text fault) → IsStopOfArgument (place + 1) fault s → RefusesArguments fields arguments s
-refuses_argument fields arguments given place text fault (stop.Argument number same) gives standing is_fault made =
-    let P : ArgumentFault → Type 0 = λ f. IsArgumentFault fields given text f in
+pub refuses_argument : (names : List InputData) (arguments : List (List ℕ)) (given : List Slot) (place : ℕ) (text : List ℕ) (fault : ArgumentFault) (s : Stop) → Gives names (take place arguments) given
+    → slice_get arguments place ≡ Some text → (¬ IsMemoryFault fault → IsArgumentFault names given text fault) → IsStopOfArgument (place + 1) fault s → RefusesArguments names arguments s
+refuses_argument names arguments given place text fault (stop.Argument number same) gives standing is_fault made =
+    let P : ArgumentFault → Type 0 = λ f. IsArgumentFault names given text f in
     record { place = place; counted = made.0; text = text; standing = standing; given = given; gives = gives; fault_is = subst P (sym made.1) (is_fault made.2) }
-refuses_argument fields arguments given place text fault stop.NoMemory gives standing is_fault made = tt
-refuses_argument fields arguments given place text fault (stop.Plan other) gives standing is_fault made = absurd made
-refuses_argument fields arguments given place text fault (stop.Missing name) gives standing is_fault made = absurd made
-refuses_argument fields arguments given place text fault (stop.Tables other) gives standing is_fault made = absurd made
-refuses_argument fields arguments given place text fault (stop.Write written) gives standing is_fault made = absurd made
+refuses_argument names arguments given place text fault stop.NoMemory gives standing is_fault made = tt
+refuses_argument names arguments given place text fault (stop.Plan other) gives standing is_fault made = absurd made
+refuses_argument names arguments given place text fault (stop.Missing name) gives standing is_fault made = absurd made
+refuses_argument names arguments given place text fault (stop.Tables other) gives standing is_fault made = absurd made
+refuses_argument names arguments given place text fault (stop.Write written) gives standing is_fault made = absurd made
 
 -- a plan's fault is the refusal of the texts
-pub refuses_plan : (text : List ℕ) (arguments : List (List ℕ)) (fault : PlanFault) (s : Stop) → (fault.cause ≢ cause.OutOfMemory → (plan : Plan) → ¬ IsPlanText text plan)
+pub refuses_plan : (text : List ℕ) (arguments : List (List ℕ)) (fault : PlanFault) (s : Stop) → (fault.cause ≢ cause.OutOfMemory → (plan : PlanParts) → ¬ IsPlanText text plan)
     → IsStopOfPlan fault s → RefusesText text arguments s
 refuses_plan text arguments fault (stop.Plan same) none made =
     let P : PlanFault → Type 0 = λ f. f.cause ≢ cause.OutOfMemory in
@@ -37,24 +42,38 @@ refuses_plan text arguments fault (stop.Missing name) none made = absurd made
 refuses_plan text arguments fault (stop.Tables other) none made = absurd made
 refuses_plan text arguments fault (stop.Write written) none made = absurd made
 
--- so is a refusal of the arguments of a plan
-pub refuses_arguments : (text : List ℕ) (arguments : List (List ℕ)) (plan : Plan) (s : Stop) → IsPlanText text plan → RefusesArguments plan.fields arguments s → RefusesText text arguments s
-refuses_arguments text arguments plan (stop.Argument number fault) spelled refused = (plan, spelled, refused)
-refuses_arguments text arguments plan stop.NoMemory spelled refused = tt
-refuses_arguments text arguments plan (stop.Plan fault) spelled refused = absurd refused
-refuses_arguments text arguments plan (stop.Missing name) spelled refused = absurd refused
-refuses_arguments text arguments plan (stop.Tables fault) spelled refused = absurd refused
-refuses_arguments text arguments plan (stop.Write written) spelled refused = absurd refused
+-- so is what the arguments give for the plan
+pub refuses_spelled : (text : List ℕ) (arguments : List (List ℕ)) (plan : PlanParts) (s : Stop) → IsPlanText text plan → RefusesValue plan arguments s → RefusesText text arguments s
+refuses_spelled text arguments plan (stop.Plan fault) spelled refused = absurd refused
+refuses_spelled text arguments plan (stop.Argument number fault) spelled refused = (plan, spelled, refused)
+refuses_spelled text arguments plan (stop.Missing name) spelled refused = (plan, spelled, refused)
+refuses_spelled text arguments plan (stop.Tables fault) spelled refused = (plan, spelled, refused)
+refuses_spelled text arguments plan (stop.Write written) spelled refused = absurd refused
+refuses_spelled text arguments plan stop.NoMemory spelled refused = tt
 
--- and a refusal of the tables
-pub refuses_values : (text : List ℕ) (arguments : List (List ℕ)) (plan : Plan) (given : Given) (s : Stop) → IsPlanText text plan → Gives plan.fields arguments given → IsReady plan.tables given
-    → RefusesValues plan.tables given s → RefusesText text arguments s
-refuses_values text arguments plan given (stop.Tables fault) spelled gives ready refused = (plan, given, spelled, gives, ready, refused)
-refuses_values text arguments plan given stop.NoMemory spelled gives ready refused = tt
-refuses_values text arguments plan given (stop.Plan fault) spelled gives ready refused = absurd refused
-refuses_values text arguments plan given (stop.Argument number fault) spelled gives ready refused = absurd refused
-refuses_values text arguments plan given (stop.Missing name) spelled gives ready refused = absurd refused
-refuses_values text arguments plan given (stop.Write written) spelled gives ready refused = absurd refused
+-- a refusal of the arguments is one for the plan
+pub refuses_arguments : (arguments : List (List ℕ)) (plan : PlanParts) (s : Stop) → RefusesArguments plan.names arguments s → RefusesValue plan arguments s
+refuses_arguments arguments plan (stop.Argument number fault) refused = refused
+refuses_arguments arguments plan stop.NoMemory refused = tt
+refuses_arguments arguments plan (stop.Plan fault) refused = absurd refused
+refuses_arguments arguments plan (stop.Missing name) refused = absurd refused
+refuses_arguments arguments plan (stop.Tables fault) refused = absurd refused
+refuses_arguments arguments plan (stop.Write written) refused = absurd refused
+
+-- and so is a fault of the tables
+pub refuses_tables : (arguments : List (List ℕ)) (plan : PlanParts) (given : List Slot) (fault : Fault) (s : Stop) → Gives plan.names arguments given → IsReady plan.tables given
+    → IsFaultOf (env plan given) fault → IsStopOfTables fault s → RefusesValue plan arguments s
+refuses_tables arguments plan given fault (stop.Tables same) gives ready is_fault made =
+    let equal : fault ≡ same = sym made.0 in
+    let sound : fault ≢ faults.OutOfMemory = made.1 in
+    let P : Fault → Type 0 = λ f. f ≢ faults.OutOfMemory in
+    let Q : Fault → Type 0 = λ f. env plan given ≡ Err f in
+    (given, gives, ready, subst P equal sound, subst Q equal (is_fault sound))
+refuses_tables arguments plan given fault stop.NoMemory gives ready is_fault made = tt
+refuses_tables arguments plan given fault (stop.Plan other) gives ready is_fault made = absurd made
+refuses_tables arguments plan given fault (stop.Argument number other) gives ready is_fault made = absurd made
+refuses_tables arguments plan given fault (stop.Missing name) gives ready is_fault made = absurd made
+refuses_tables arguments plan given fault (stop.Write written) gives ready is_fault made = absurd made
 
 -- what was put until a write fault is the front of the text
 pub writes_until : (plan_text : List ℕ) (arguments : List (List ℕ)) (text : List ℕ) (old new : Option (List ℕ)) (s : Stop) → IsValueText plan_text arguments text → PutsUntil text old new s

@@ -1,12 +1,14 @@
 -- The arguments `NAME=LITERAL` of the command `value`, and what they give.
-use Rattle.std.specs.Prelude.{◌≡◌, ℕ, ◌<◌, ◌++◌, Bool, ◌==◌, cond, List, [], ◌∷◌, length, map, Option, Some, None, Contains, slice_get, IsTrue}
+use Rattle.std.specs.Prelude.{◌≡◌, ℕ, ◌<◌, ◌≤◌, ◌++◌, ◌==◌, cond, List, [], ◌∷◌, length, map, Option, Some, None, option_map, Contains, slice_get, IsTrue, IsSome}
 use Rattle.std.specs.Borrow.{Bor}
-use Rattle.std.specs.List.{list_any}
 use Rattle.feel_tests.specs.declared.value.Value.{Value}
 use Rattle.feel_tests.specs.Cell.{SpellsValue}
-use Rattle.adjudicate.specs.declared.plan.table.Field.{Field}
-use Rattle.adjudicate.specs.declared.plan.table.Table.{Table}
-use Rattle.adjudicate.specs.Evaluation.{Given, value_at}
+use Rattle.feel_tests.specs.Value.{kind_of}
+use Rattle.dtable.specs.declared.inputs.Slot.{Slot}
+use Rattle.dtable.specs.declared.name.TheConstants.{NAME_LIMIT_BYTES}
+use Rattle.dtable.specs.declared.table.InputData.{InputData}
+use Rattle.dtable.specs.declared.table.Table.{Table}
+use Rattle.dtable.specs.Inputs.{needs, value_at, kind_at}
 
 -- the byte `=`
 abbrev pub equals_sign : ℕ
@@ -21,28 +23,29 @@ pub record IsSplit (text name literal : List ℕ) : Type 0 where
   pub joined : text ≡ name ++ (equals_sign ∷ literal)
   pub first : ¬ Contains name equals_sign
 
--- the argument's name is that of the field at a place, and the literal stands behind it
-pub record NamesField (fields : List Field) (text : List ℕ) (place : ℕ) (field : Field) (literal : List ℕ) : Type 0 where
-  pub split : IsSplit text field.name literal
-  pub standing : slice_get fields place ≡ Some field
+-- the argument's name is that of the input data at a place, and the literal stands behind it
+pub record NamesData (names : List InputData) (text : List ℕ) (place : ℕ) (input : InputData) (literal : List ℕ) : Type 0 where
+  pub split : IsSplit text input.name literal
+  pub standing : slice_get names place ≡ Some input
 
--- a field's place, and the value that is given for it
+-- a name's place, and the value that is given for it
 pub record Assignment : Type 0 where
   pub place : ℕ
   pub value : Value
 
--- an argument: the name of the field at the place, `=`, and a literal of the field's kind that spells the value
-pub record IsArgument (fields : List Field) (text : List ℕ) (assignment : Assignment) : Type 0 where
-  pub field : Field
+-- an argument: the name at the place, `=`, and a literal of its kind that spells the value
+pub record IsArgument (names : List InputData) (text : List ℕ) (assignment : Assignment) : Type 0 where
+  pub input : InputData
   pub literal : List ℕ
-  pub named : NamesField fields text assignment.place field literal
-  pub spelled : SpellsValue field.kind literal assignment.value
+  pub named : NamesData names text assignment.place input literal
+  pub spelled : SpellsValue input.kind literal assignment.value
+  pub of_kind : kind_of assignment.value ≡ input.kind
 
 -- each argument makes the assignment at its place, and there are as many of both
-abbrev pub EachArgument : List Field → List (List ℕ) → List Assignment → Type 0
-EachArgument fields [] [] = Unit {0}
-EachArgument fields (argument ∷ arguments) (a ∷ more) = IsArgument fields argument a × EachArgument fields arguments more
-EachArgument fields _ _ = ⊥
+abbrev pub EachArgument : List InputData → List (List ℕ) → List Assignment → Type 0
+EachArgument names [] [] = Unit {0}
+EachArgument names (argument ∷ arguments) (a ∷ more) = IsArgument names argument a × EachArgument names arguments more
+EachArgument names _ _ = ⊥
 
 -- the value that is assigned to a place
 abbrev pub assigned : List Assignment → ℕ → Option Value
@@ -54,32 +57,28 @@ abbrev pub AreApart : List Assignment → Type 0
 AreApart [] = Unit {0}
 AreApart (a ∷ more) = (assigned more a.place ≡ None) × AreApart more
 
--- the arguments give these values to these fields, each field once at most
-pub record Gives (fields : List Field) (arguments : List (List ℕ)) (given : Given) : Type 0 where
+-- the arguments give these values, each name once at most: a place for each name, with its kind and what is assigned to it
+pub record Gives (names : List InputData) (arguments : List (List ℕ)) (given : List Slot) : Type 0 where
   pub assignments : List Assignment
-  pub each : EachArgument fields arguments assignments
+  pub each : EachArgument names arguments assignments
   pub once : AreApart assignments
-  pub whole : length given ≡ length fields
+  pub kinds : (place : ℕ) → kind_at given place ≡ option_map (λ d. d.kind) (slice_get names place)
   pub found : (place : ℕ) → value_at given place ≡ assigned assignments place
 
--- some table reads the field at the place
-abbrev pub is_read : List Table → ℕ → Bool
-is_read tables place = list_any (λ t. list_any (λ i. i.place == place) t.inputs) tables
+-- every name in front of a place that a table reads has a value
+abbrev pub IsReadyBelow : ℕ → List Table → List Slot → Type 0
+IsReadyBelow end tables given = (place : ℕ) → place < end → IsTrue (needs tables place) → IsSome (value_at given place)
 
--- every field that a table reads has a value
-abbrev pub IsReady : List Table → Given → Type 0
-IsReady tables given = (place : ℕ) → IsTrue (is_read tables place) → (value : Value) × (value_at given place ≡ Some value)
-
--- every field in front of a place that a table reads has a value
-abbrev pub IsReadyBelow : ℕ → List Table → Given → Type 0
-IsReadyBelow end tables given = (place : ℕ) → place < end → IsTrue (is_read tables place) → (value : Value) × (value_at given place ≡ Some value)
-
--- the name is that of the first field that a table reads and that has no value
-pub record IsFirstMissing (fields : List Field) (tables : List Table) (given : Given) (name : List ℕ) : Type 0 where
+-- the name is the first that a table reads and that has no value
+pub record IsFirstMissing (names : List InputData) (tables : List Table) (given : List Slot) (name : List ℕ) : Type 0 where
   pub place : ℕ
-  pub field : Field
-  pub standing : slice_get fields place ≡ Some field
-  pub named : field.name ≡ name
-  pub read : IsTrue (is_read tables place)
+  pub input : InputData
+  pub standing : slice_get names place ≡ Some input
+  pub named : input.name ≡ name
+  pub read : IsTrue (needs tables place)
   pub missing : value_at given place ≡ None
   pub first : IsReadyBelow place tables given
+
+-- each name has at most as many bytes as the names of plans may have
+abbrev pub AreShort : List InputData → Type 0
+AreShort names = (place : ℕ) (input : InputData) → slice_get names place ≡ Some input → length input.name ≤ NAME_LIMIT_BYTES

@@ -1,9 +1,3 @@
-pub mod Document
-pub mod Name
-pub mod Profile
-pub mod Plan
-pub mod Reading
-pub mod Evaluation
 pub mod Arguments
 pub mod ValueText
 pub mod Stop

@@ -2,42 +2,33 @@
 use Rattle.std.specs.Prelude.{◌≡◌, ◌≢◌, ℕ, ◌+◌, ◌<◌, ◌++◌, Bool, true, List, [], ◌∷◌, length, codes, decimal, Option, Some, None, Err, Contains, slice_get, take}
 use Rattle.std.specs.Io.KnownBytes.{Appends, Keeps}
 use Rattle.feel_tests.specs.declared.fault.CellFault.{CellFault}
-use Rattle.feel_tests.specs.declared.fault.CellCause.{CellCause}
 use Rattle.feel_tests.specs.declared.fault.CellCause.TheVariants as cell
-use Rattle.feel_tests.specs.Fault.{number_of}
+use Rattle.feel_tests.specs.Fault.{number_of as cell_cause_number}
 use Rattle.feel_tests.specs.declared.value.Value.{Value}
 use Rattle.feel_tests.specs.Cell.{SpellsValue}
-use Rattle.adjudicate.specs.declared.evaluation.Fault.{Fault}
-use Rattle.adjudicate.specs.declared.evaluation.Fault.TheVariants.{NoRule, Clash}
-use Rattle.adjudicate.specs.declared.plan.fault.PlanCause.{PlanCause}
-use Rattle.adjudicate.specs.declared.plan.fault.PlanCause.TheVariants as cause
-use Rattle.adjudicate.specs.declared.plan.fault.PlanFault.{PlanFault}
-use Rattle.adjudicate.specs.declared.plan.table.Field.{Field}
-use Rattle.adjudicate.specs.declared.plan.table.Plan.{Plan}
-use Rattle.adjudicate.specs.declared.plan.table.Table.{Table}
+use Rattle.dtable.specs.declared.fault.Fault.{Fault}
+use Rattle.dtable.specs.declared.fault.Fault.TheVariants as faults
+use Rattle.dtable.specs.declared.inputs.Slot.{Slot}
+use Rattle.dtable.specs.declared.plan_fault.PlanCause.{PlanCause}
+use Rattle.dtable.specs.declared.plan_fault.PlanCause.TheVariants as cause
+use Rattle.dtable.specs.declared.plan_fault.PlanFault.{PlanFault}
+use Rattle.dtable.specs.declared.table.InputData.{InputData}
+use Rattle.dtable.specs.CauseNumber.{number_of as plan_cause_number}
+use Rattle.dtable.specs.Environment.{env}
+use Rattle.dtable.specs.Inputs.{IsReady, value_at}
+use Rattle.dtable.specs.Plan.{PlanParts}
+use Rattle.dtable.specs.PlanFile.{IsPlanText}
+use Rattle.dtable.specs.Scope.{data_names}
 use Rattle.adjudicate.specs.declared.stop.ArgumentFault.{ArgumentFault}
 use Rattle.adjudicate.specs.declared.stop.ArgumentFault.TheVariants as argument
 use Rattle.adjudicate.specs.declared.stop.Stop.{Stop}
 use Rattle.adjudicate.specs.declared.stop.Stop.TheVariants as stop
-use Rattle.adjudicate.specs.Plan.{IsPlanText, field_names}
-use Rattle.adjudicate.specs.Evaluation.{Given, value_at, values_from}
-use Rattle.adjudicate.specs.Arguments.{equals_sign, IsSplit, NamesField, Gives, IsReady, IsFirstMissing}
+use Rattle.adjudicate.specs.Arguments.{equals_sign, IsSplit, NamesData, Gives, IsFirstMissing}
 use Rattle.adjudicate.specs.ValueText.{line_end, IsValueText}
-
--- the number of the cause of a plan's fault
-abbrev pub plan_cause_number : PlanCause → ℕ
-plan_cause_number cause.Toml = 1
-plan_cause_number cause.Missing = 2
-plan_cause_number cause.Unknown = 3
-plan_cause_number cause.Duplicate = 4
-plan_cause_number cause.Kind = 5
-plan_cause_number cause.Limit = 10
-plan_cause_number (cause.Cell fault) = 11
-plan_cause_number cause.OutOfMemory = 12
 
 -- ` cell K at B`
 abbrev pub cell_fault_text : CellFault → List ℕ
-cell_fault_text fault = codes " cell " ++ (decimal (number_of fault.cause) ++ (codes " at " ++ decimal fault.at))
+cell_fault_text fault = codes " cell " ++ (decimal (cell_cause_number fault.cause) ++ (codes " at " ++ decimal fault.at))
 
 -- the same where a plan's fault is a cell's
 abbrev pub plan_cause_text : PlanCause → List ℕ
@@ -69,8 +60,11 @@ argument_fault_text number fault =
 
 -- the reason of a fault of the tables
 abbrev pub fault_text : Fault → List ℕ
-fault_text (NoRule table) = codes "norule:" ++ decimal table
-fault_text (Clash table) = codes "clash:" ++ decimal table
+fault_text (faults.Outside table column) = codes "outside:" ++ (decimal table ++ (codes ":" ++ decimal column))
+fault_text (faults.NoRule table) = codes "norule:" ++ decimal table
+fault_text (faults.Clash table) = codes "clash:" ++ decimal table
+fault_text (faults.Range table) = codes "range:" ++ decimal table
+fault_text faults.OutOfMemory = codes "memory"
 
 -- the words of a refusal
 abbrev pub stop_text : Stop → List ℕ
@@ -95,33 +89,45 @@ status_of (stop.Write written) = 3
 status_of stop.NoMemory = 3
 
 -- why an argument gives no value, beside what the arguments in front of it gave: the faults are tried in this order
-abbrev pub IsArgumentFault : List Field → Given → List ℕ → ArgumentFault → Type 0
-IsArgumentFault fields given text argument.NoEquals = ¬ Contains text equals_sign
-IsArgumentFault fields given text argument.UnknownName = (name : List ℕ) × (literal : List ℕ) × IsSplit text name literal × ¬ Contains (field_names fields) name
-IsArgumentFault fields given text argument.RepeatedName =
-    (place : ℕ) × (field : Field) × (literal : List ℕ) × (value : Value) × NamesField fields text place field literal × (value_at given place ≡ Some value)
-IsArgumentFault fields given text (argument.Literal fault) =
-    (place : ℕ) × (field : Field) × (literal : List ℕ) × NamesField fields text place field literal × (value_at given place ≡ None)
-    × (fault.cause ≢ cell.OutOfMemory) × ((value : Value) → ¬ SpellsValue field.kind literal value)
+abbrev pub IsArgumentFault : List InputData → List Slot → List ℕ → ArgumentFault → Type 0
+IsArgumentFault names given text argument.NoEquals = ¬ Contains text equals_sign
+IsArgumentFault names given text argument.UnknownName = (name : List ℕ) × (literal : List ℕ) × IsSplit text name literal × ¬ Contains (data_names names) name
+IsArgumentFault names given text argument.RepeatedName =
+    (place : ℕ) × (input : InputData) × (literal : List ℕ) × (value : Value) × NamesData names text place input literal × (value_at given place ≡ Some value)
+IsArgumentFault names given text (argument.Literal fault) =
+    (place : ℕ) × (input : InputData) × (literal : List ℕ) × NamesData names text place input literal × (value_at given place ≡ None)
+    × (fault.cause ≢ cell.OutOfMemory) × ((value : Value) → ¬ SpellsValue input.kind literal value)
 
 -- the argument with this number is the first that gives no value, for this reason
-pub record IsFirstBadArgument (fields : List Field) (arguments : List (List ℕ)) (number : ℕ) (fault : ArgumentFault) : Type 0 where
+pub record IsFirstBadArgument (names : List InputData) (arguments : List (List ℕ)) (number : ℕ) (fault : ArgumentFault) : Type 0 where
   pub place : ℕ
   pub counted : number ≡ place + 1
   pub text : List ℕ
   pub standing : slice_get arguments place ≡ Some text
-  pub given : Given
-  pub gives : Gives fields (take place arguments) given
-  pub fault_is : IsArgumentFault fields given text fault
+  pub given : List Slot
+  pub gives : Gives names (take place arguments) given
+  pub fault_is : IsArgumentFault names given text fault
+
+-- the arguments give this refusal for a plan; want of memory can come with any
+abbrev pub RefusesValue : PlanParts → List (List ℕ) → Stop → Type 0
+RefusesValue plan arguments (stop.Plan fault) = ⊥
+RefusesValue plan arguments (stop.Argument number fault) = IsFirstBadArgument plan.names arguments number fault
+RefusesValue plan arguments (stop.Missing name) = (given : List Slot) × Gives plan.names arguments given × IsFirstMissing plan.names plan.tables given name
+RefusesValue plan arguments (stop.Tables fault) =
+    (given : List Slot) × Gives plan.names arguments given × IsReady plan.tables given × (fault ≢ faults.OutOfMemory) × (env plan given ≡ Err fault)
+RefusesValue plan arguments (stop.Write written) = ⊥
+RefusesValue plan arguments stop.NoMemory = Unit {0}
+
+-- the arguments give this refusal for the plan that the plan's text spells
+abbrev pub RefusesSpelled : List ℕ → List (List ℕ) → Stop → Type 0
+RefusesSpelled plan_text arguments s = (plan : PlanParts) × IsPlanText plan_text plan × RefusesValue plan arguments s
 
 -- the texts give this refusal: for a refusal of the texts, what is wrong with them; the others can come with any texts
 abbrev pub IsReason : List ℕ → List (List ℕ) → Stop → Type 0
-IsReason plan_text arguments (stop.Plan fault) = (fault.cause ≢ cause.OutOfMemory) × ((plan : Plan) → ¬ IsPlanText plan_text plan)
-IsReason plan_text arguments (stop.Argument number fault) = (plan : Plan) × IsPlanText plan_text plan × IsFirstBadArgument plan.fields arguments number fault
-IsReason plan_text arguments (stop.Missing name) =
-    (plan : Plan) × (given : Given) × IsPlanText plan_text plan × Gives plan.fields arguments given × IsFirstMissing plan.fields plan.tables given name
-IsReason plan_text arguments (stop.Tables fault) =
-    (plan : Plan) × (given : Given) × IsPlanText plan_text plan × Gives plan.fields arguments given × IsReady plan.tables given × (values_from 1 given plan.tables ≡ Err fault)
+IsReason plan_text arguments (stop.Plan fault) = (fault.cause ≢ cause.OutOfMemory) × ((plan : PlanParts) → ¬ IsPlanText plan_text plan)
+IsReason plan_text arguments (stop.Argument number fault) = RefusesSpelled plan_text arguments (stop.Argument number fault)
+IsReason plan_text arguments (stop.Missing name) = RefusesSpelled plan_text arguments (stop.Missing name)
+IsReason plan_text arguments (stop.Tables fault) = RefusesSpelled plan_text arguments (stop.Tables fault)
 IsReason plan_text arguments (stop.Write written) = Unit {0}
 IsReason plan_text arguments stop.NoMemory = Unit {0}
 
@@ -162,6 +168,12 @@ IsStopOfPlan fault (stop.Plan same) = (same ≡ fault) × (fault.cause ≢ cause
 IsStopOfPlan fault stop.NoMemory = fault.cause ≡ cause.OutOfMemory
 IsStopOfPlan fault _ = ⊥
 
+-- the refusal that a fault of the tables becomes: want of memory is no fault of the tables
+abbrev pub IsStopOfTables : Fault → Stop → Type 0
+IsStopOfTables fault (stop.Tables same) = (same ≡ fault) × (fault ≢ faults.OutOfMemory)
+IsStopOfTables fault stop.NoMemory = fault ≡ faults.OutOfMemory
+IsStopOfTables fault _ = ⊥
+
 -- the argument's fault is want of memory while its literal was read
 abbrev pub IsMemoryFault : ArgumentFault → Type 0
 IsMemoryFault argument.NoEquals = ⊥
@@ -176,16 +188,10 @@ IsStopOfArgument number fault stop.NoMemory = IsMemoryFault fault
 IsStopOfArgument number fault _ = ⊥
 
 -- a refusal of the arguments, before the tables are looked at
-abbrev pub RefusesArguments : List Field → List (List ℕ) → Stop → Type 0
-RefusesArguments fields arguments (stop.Argument number fault) = IsFirstBadArgument fields arguments number fault
-RefusesArguments fields arguments stop.NoMemory = Unit {0}
-RefusesArguments fields arguments _ = ⊥
-
--- a refusal of the tables
-abbrev pub RefusesValues : List Table → Given → Stop → Type 0
-RefusesValues tables given (stop.Tables fault) = values_from 1 given tables ≡ Err fault
-RefusesValues tables given stop.NoMemory = Unit {0}
-RefusesValues tables given _ = ⊥
+abbrev pub RefusesArguments : List InputData → List (List ℕ) → Stop → Type 0
+RefusesArguments names arguments (stop.Argument number fault) = IsFirstBadArgument names arguments number fault
+RefusesArguments names arguments stop.NoMemory = Unit {0}
+RefusesArguments names arguments _ = ⊥
 
 -- a refusal of the texts, or want of memory: what `value` answers before it writes
 abbrev pub RefusesText : List ℕ → List (List ℕ) → Stop → Type 0

@@ -1,26 +1,32 @@
 //! Why a command stopped: each refusal has one line on standard error and one exit status.
 
 ghost use Rattle.std.specs.Prelude.{◌≡◌, ◌<◌, ◌≤◌, take};
-ghost use Rattle.adjudicate.specs.Stop.{IsStopOfArgument, argument_fault_number, plan_cause_number, status_of, stop_line};
+ghost use Rattle.adjudicate.specs.Stop.{IsStopOfArgument, argument_fault_number, status_of, stop_line};
 
 pub mod line;
+pub mod missing;
 
-use crate::evaluation::Fault;
-use crate::plan::{Name, PlanCause, PlanFault};
+use dtable::{Fault, PlanCause, PlanFault};
 use feel_tests::{CellCause, CellFault};
-use line::{LINE_LIMIT_BYTES, Line};
+pub use line::LINE_LIMIT_BYTES;
+use line::Line;
+pub use missing::MissingName;
 use std::alloc::{AllocError, AllocFailed};
 use thiserror::Error;
 
 /// Why an argument gives no value.
 #[derive(Clone, Copy, Debug, PartialEq, Eq, Error)]
 pub enum ArgumentFault {
+    /// There is no `=`.
     #[error("there is no `=`")]
     NoEquals,
-    #[error("no field has this name")]
+    /// The name in front of the `=` is none that the plan's tables may read.
+    #[error("the plan has no such name")]
     UnknownName,
+    /// An argument before gave this name.
     #[error("the name was given before")]
     RepeatedName,
+    /// What stands behind the `=` is no literal of the name's kind.
     #[error("the literal can't be read: {0}")]
     Literal(CellFault),
 }
@@ -40,38 +46,25 @@ impl ArgumentFault {
     }
 }
 
-impl PlanCause {
-    /// The cause's number in the program's lines.
-    pub fn number(&self) -> u8
-        ensures number { result ≡ plan_cause_number self.now }
-        ensures small { result < 100 }
-    {
-        match self {
-            PlanCause::Toml => 1,
-            PlanCause::Missing => 2,
-            PlanCause::Unknown => 3,
-            PlanCause::Duplicate => 4,
-            PlanCause::Kind => 5,
-            PlanCause::Limit => 10,
-            PlanCause::Cell(_) => 11,
-            PlanCause::OutOfMemory => 12,
-        }
-    }
-}
-
 /// Why a command stopped. Arguments count from 1.
 #[derive(Debug, Drop, Error)]
 pub enum Stop {
+    /// The text is no plan.
     #[error("plan: {0}")]
     Plan(PlanFault),
+    /// The argument with this number gives no value.
     #[error("argument {number}: {fault}")]
     Argument { number: usize, fault: ArgumentFault },
+    /// A table reads this name, and no argument gives it.
     #[error("a value is missing")]
-    Missing(Name),
+    Missing(MissingName),
+    /// The tables have no value at what is given.
     #[error("tables: {0}")]
     Tables(Fault),
+    /// The writer took so many bytes of the text, and then failed.
     #[error("the writer failed after {written} bytes")]
     Write { written: usize },
+    /// Memory was refused.
     #[error("out of memory")]
     NoMemory,
 }
@@ -141,13 +134,15 @@ impl From<PlanFault> for Stop {
 }
 
 impl From<Fault> for Stop {
-    ghost use Rattle.std.specs.Prelude.{◌≡◌};
-    ghost use Rattle.adjudicate.specs.declared.stop.Stop.TheVariants.{Tables};
+    ghost use Rattle.adjudicate.specs.Stop.{IsStopOfTables};
 
-    ghost from_gives = { λ fault stop. stop ≡ Tables fault };
+    ghost from_gives = { λ fault stop. IsStopOfTables fault stop };
 
     fn from(fault: Fault) -> Stop {
-        Stop::Tables(fault)
+        match fault {
+            Fault::OutOfMemory => Stop::NoMemory,
+            fault => Stop::Tables(fault),
+        }
     }
 }
 

@@ -3,20 +3,23 @@
 ghost use Rattle.std.specs.Prelude.{◌≡◌, true, IfOk, IfErr, OnOk, OnErr};
 ghost use Rattle.std.specs.Io.KnownBytes.{Appends};
 ghost use Rattle.fixpoint.specs.Out.{writer_of, has_failed};
-ghost use Rattle.adjudicate.specs.Arguments.{texts_of};
-ghost use Rattle.adjudicate.specs.ValueText.{IsValueText};
-ghost use Rattle.adjudicate.specs.Stop.{IsReason, WritesText, WritesUntil, PutsUntil, failed_after, RefusesText};
+ghost use Rattle.adjudicate.specs.Arguments.{texts_of, AreShort};
+ghost use Rattle.adjudicate.specs.ValueText.{IsTextOf, IsValueText};
+ghost use Rattle.adjudicate.specs.Stop.{IsReason, WritesText, WritesUntil, PutsUntil, failed_after, RefusesText, RefusesValue};
 
 pub mod arguments;
 pub mod text;
 
-use crate::plan::read_plan;
-use crate::stop::Stop;
+use crate::stop::{MissingName, Stop};
 use arguments::{first_missing, read_arguments};
+use dtable::{Plan, Valuer, read_plan};
 use fixpoint::Out;
 use std::alloc::Global;
 use std::io::Write;
-use text::{table_rules, tables_text};
+use text::value_lines;
+
+/// How many bytes a plan's text has at most.
+pub const PLAN_LIMIT_BYTES: usize = 1_048_576;
 
 /// Evaluates the plan's tables at the arguments, each `NAME=LITERAL`, and writes the value of each output.
 /// The whole text is made before its first byte is written.
@@ -46,14 +49,21 @@ fn value_text(alloc: Global, plan: &[u8], arguments: &[&str]) -> Result<Vec<u8>,
     ensures refused { IfErr result (RefusesText plan.now (texts_of arguments.now)) }
 {
     let plan = read_plan(alloc, plan)?;
-    let fields = plan.fields.as_slice();
-    let tables = plan.tables.as_slice();
-    let inputs = read_arguments(alloc, fields, arguments)?;
-    if let Some(field) = first_missing(fields, tables, &inputs) {
-        return Err(Stop::Missing(field.name.duplicate(alloc)?));
+    plan_text(alloc, &plan, arguments)
+}
+
+// The text that the command prints for a plan.
+fn plan_text(alloc: Global, plan: &Plan, arguments: &[&str]) -> Result<Vec<u8>, Stop>
+    requires short { AreShort plan.now.names }
+    ensures text { IfOk result (λ text. IsTextOf plan.now (texts_of arguments.now) text.items) }
+    ensures refused { IfErr result (RefusesValue plan.now (texts_of arguments.now)) }
+{
+    let inputs = read_arguments(alloc, plan, arguments)?;
+    if let Some(input) = first_missing(plan, &inputs) {
+        return Err(Stop::Missing(MissingName::new(alloc, input.name.as_str())?));
     }
-    let rules = table_rules(alloc, tables, &inputs)?;
-    Ok(tables_text(alloc, tables, rules.as_slice())?)
+    let values = plan.value(alloc, &inputs)?;
+    Ok(value_lines(alloc, plan.tables(), &values)?)
 }
 
 // Hands the text to the writer, as many bytes at a time as it takes.

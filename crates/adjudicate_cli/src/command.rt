@@ -13,7 +13,7 @@ pub const ASSIGNMENT: &str = "NAME=LITERAL";
 const VALUE_EXAMPLE: &str = "Example:
   adjudicate value examples/first.toml x=10
 
-Arguments are a field's name, `=`, and an S-FEEL literal: 12.5, \"A\", true or
+Arguments are a name, `=`, and an S-FEEL literal: 12.5, \"A\", true or
 date(\"2024-02-29\"), quoted for the shell as it wants it. Behind `--` a word
 that begins with `-` is an argument too.";
 
@@ -26,7 +26,7 @@ pub fn command_line<'a>(alloc: Global) -> Result<Command<'a>, Error> {
         .help("The plan file, in TOML")
         .required(true);
     let assignments = Arg::new(alloc, ASSIGNMENT)
-        .help("The value of a field that the tables read")
+        .help("The value of a name that the tables read")
         .action(ArgAction::Append)
         .num_args(0..);
     let value = Command::new(alloc, VALUE)

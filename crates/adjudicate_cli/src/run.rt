@@ -5,7 +5,7 @@ ghost use Rattle.adjudicate.specs.Stop.{status_of};
 
 use crate::command::{ASSIGNMENT, PLAN, VALUE, command_line};
 use crate::files::{ReadFault, read_file};
-use adjudicate::{PLAN_LIMIT_BYTES, Stop, do_value};
+use adjudicate::{LINE_LIMIT_BYTES, PLAN_LIMIT_BYTES, Stop, do_value};
 use clap::ArgMatches;
 use clap::error::ErrorKind;
 use fixpoint::Out;
@@ -77,7 +77,7 @@ fn value_of<R: Files + Print + Eprint + AllocGlobal>(rt: &R, matches: &ArgMatche
 fn stopped<R: Eprint>(rt: &R, stop: &Stop) -> u8
     ensures { result ≡ status_of stop.now }
 {
-    let mut line = [0u8; 128];
+    let mut line = [0u8; LINE_LIMIT_BYTES];
     let length = stop.write_line(&mut line);
     if let Ok(text) = str::from_utf8(&line[..length]) {
         let _ = rt.eprint(text);

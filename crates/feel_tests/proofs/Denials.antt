@@ -1,25 +1,29 @@
--- Where a part can't be read, nothing is spelled.
-use Rattle.std.proofs.Common.{◌≡◌, ℕ, ℤ, Bool, List, [], ◌∷◌, Some, None, refl, sym, ap, subst, ◌∙◌, ◌⊎◌, inl, inr}
-use Rattle.fixpoint.specs.NumberText.{Denotes, DenotesAtMostOne}
-use Rattle.feel_tests.specs.Words.{Word, Sign, Digits, Begins, IsBlank}
-use Rattle.feel_tests.specs.Grammar.{op_symbol, start_in, end_in, HasOrder, IsLiteral, IsSpan, IsTest}
+-- Where a part of a test can't be read, no test stands there.
+use Rattle.std.proofs.Common.{◌≡◌, ℕ, ◌<◌, ℤ, Bool, true, false, List, ◌∷◌, length, Some, None, refl, sym, ap, subst, ◌∙◌, arith}
+use Rattle.std.specs.Prelude.{codes}
+use Rattle.fixpoint.specs.NumberText.{Denotes}
+use Rattle.feel_tests.specs.Words.{Word, Sign, Digits, Quoted, Name, Begins, IsBlank, skip_white}
+use Rattle.feel_tests.specs.TextBytes.{IsText}
+use Rattle.feel_tests.specs.Calendar.{IsDateText}
+use Rattle.feel_tests.specs.Value.{flag_text}
+use Rattle.feel_tests.specs.Grammar.{date_word, op_symbol, start_in, end_in, HasOrder, IsDate, IsLiteral, IsSpan, IsTest}
 use Rattle.feel_tests.specs.Symbols.{op_of}
 use Rattle.feel_tests.specs.Parts.{Denies, DeniesPart, IsStart, IsEnd, IsSpanTest}
-use Rattle.feel_tests.specs.Cell.{SpellsCell, SpellsValue}
+use Rattle.feel_tests.specs.Cell.{SpellsValue}
 use Rattle.feel_tests.specs.declared.symbol.Symbol.{Symbol}
 use Rattle.feel_tests.specs.declared.symbol.Symbol.TheVariants as symbols
 use Rattle.feel_tests.specs.declared.refusal.Refusal.{Refusal}
 use Rattle.feel_tests.specs.declared.kind.Kind.{Kind}
+use Rattle.feel_tests.specs.declared.kind.Kind.TheVariants as kinds
 use Rattle.feel_tests.specs.declared.value.Value.{Value}
 use Rattle.feel_tests.specs.declared.value.Value.TheVariants.{Number, Text, Flag, Day}
 use Rattle.feel_tests.specs.declared.cell.Op.{Op}
 use Rattle.feel_tests.specs.declared.cell.Op.TheVariants.{Less, AtMost, More, AtLeast}
 use Rattle.feel_tests.specs.declared.cell.Test.{Test}
 use Rattle.feel_tests.specs.declared.cell.Test.TheVariants.{Equal, Compare, Between}
-use Rattle.feel_tests.specs.declared.cell.Cell.{Cell}
-use Rattle.feel_tests.specs.declared.cell.Cell.TheVariants.{Dash, OneOf, NoneOf}
-use Rattle.feel_tests.proofs.Literals.{one_sign, one_number, literal_no_sign, literal_rest, no_bracket, test_rest, test_value}
-use Rattle.feel_tests.proofs.FirstWord.{blank_no_front}
+use Rattle.feel_tests.proofs.FirstWord.{word_no_quote}
+use Rattle.feel_tests.proofs.OneWord.{one_sign, one_number, one_string, one_name, number_name, string_name}
+use Rattle.feel_tests.proofs.OneTest.{word_tag, kind_with, literal_first, literal_tag, literal_kind, literal_no_sign, literal_rest, no_bracket}
 
 some_is : {X : Type 0} (x y : X) → Some x ≡ Some y → x ≡ y
 some_is x y e = cc
@@ -29,15 +33,72 @@ some_is x y e = cc
 pub number_denied : (kind : Kind) (text digits after : List ℕ) → Begins text (Digits digits) after → ((units : ℤ) → ¬ Denotes digits units) → (value : Value) (rest : List ℕ) → IsLiteral kind text value rest → ⊥
 number_denied kind text digits after b none (Number units) rest h =
     none units (subst (λ (d : List ℕ). Denotes d units) (one_number text h.1 rest digits after h.2 b).0 h.3)
-number_denied kind text digits after b none (Text bytes) rest h = h
-number_denied kind text digits after b none (Flag flag) rest h = h
-number_denied kind text digits after b none (Day day) rest h = h
+number_denied kind text digits after b none value rest h = omega (arith, literal_tag kind text value rest (Digits digits) after b h)
+
+-- a literal of another kind
+pub kind_denied : (kind : Kind) (text : List ℕ) (word : Word) (after : List ℕ) → Begins text word after → (kind ≡ kind_with (word_tag word) → ⊥) → (value : Value) (rest : List ℕ) → IsLiteral kind text value rest → ⊥
+kind_denied kind text word after b wrong value rest h = wrong (literal_kind kind text value rest word after b h)
+
+flag_kind : (flag : Bool) → kind_with (word_tag (Name (flag_text flag))) ≡ kinds.Flag
+flag_kind true = refl
+flag_kind false = refl
+
+pub flag_denied : (kind : Kind) (text : List ℕ) (flag : Bool) (after : List ℕ) → Begins text (Name (flag_text flag)) after → (kind ≡ kinds.Flag → ⊥) → (value : Value) (rest : List ℕ) → IsLiteral kind text value rest → ⊥
+flag_denied kind text flag after b wrong = kind_denied kind text (Name (flag_text flag)) after b (λ e. wrong (e ∙ flag_kind flag))
 
 pub literal_nothing : (kind : Kind) (text : List ℕ) → ((word : Word) (after : List ℕ) → ¬ Begins text word after) → (value : Value) (rest : List ℕ) → IsLiteral kind text value rest → ⊥
-literal_nothing kind text none (Number units) rest h = none (Digits h.1) rest h.2
-literal_nothing kind text none (Text bytes) rest h = h
-literal_nothing kind text none (Flag flag) rest h = h
-literal_nothing kind text none (Day day) rest h = h
+literal_nothing kind text none value rest h = let first = literal_first kind text value rest h in none first.word first.after first.begins
+
+pub text_denied : (kind : Kind) (text bytes after : List ℕ) → Begins text (Quoted bytes) after → ¬ IsText bytes → (value : Value) (rest : List ℕ) → IsLiteral kind text value rest → ⊥
+text_denied kind text bytes after b none (Text others) rest h = none (subst (λ (t : List ℕ). IsText t) (one_string text others rest bytes after h.1 b).0 h.2)
+text_denied kind text bytes after b none value rest h = omega (arith, literal_tag kind text value rest (Quoted bytes) after b h)
+
+pub string_denied : (kind : Kind) (text inside : List ℕ) (f : Refusal) → skip_white text ≡ 34 ∷ inside → DeniesPart (λ bytes. Begins text (Quoted bytes)) f → DeniesPart (IsLiteral kind text) f
+string_denied kind text inside f skipped d memory (Text bytes) rest h = d memory bytes rest h.1
+string_denied kind text inside f skipped d memory (Number units) rest h = word_no_quote text (Digits h.1) rest inside (λ e. omega (arith, e)) h.2 skipped
+string_denied kind text inside f skipped d memory (Flag flag) rest h = word_no_quote text (Name (flag_text flag)) rest inside (λ e. omega (arith, e)) h.1 skipped
+string_denied kind text inside f skipped d memory (Day day) rest h = word_no_quote text (Name date_word) h.1.behind_word inside (λ e. omega (arith, e)) h.1.word skipped
+
+pub name_denied : (kind : Kind) (text letters after : List ℕ) → Begins text (Name letters) after → (letters ≡ codes "true" → ⊥) → (letters ≡ codes "false" → ⊥) → (letters ≡ date_word → ⊥) → (value : Value) (rest : List ℕ) → IsLiteral kind text value rest → ⊥
+name_denied kind text letters after b no_true no_false no_date (Number units) rest h = number_name text h.1 rest letters after h.2 b
+name_denied kind text letters after b no_true no_false no_date (Text bytes) rest h = string_name text bytes rest letters after h.1 b
+name_denied kind text letters after b no_true no_false no_date (Flag true) rest h = no_true (one_name text letters after (flag_text true) rest b h.1).0
+name_denied kind text letters after b no_true no_false no_date (Flag false) rest h = no_false (one_name text letters after (flag_text false) rest b h.1).0
+name_denied kind text letters after b no_true no_false no_date (Day day) rest h = no_date (one_name text letters after date_word h.1.behind_word b h.1.word).0
+
+-- ---- dates
+
+pub date_denied : (kind : Kind) (text behind_word : List ℕ) → Begins text (Name date_word) behind_word → ((day : ℤ) (rest : List ℕ) → ¬ IsDate text day rest) → (value : Value) (rest : List ℕ) → IsLiteral kind text value rest → ⊥
+date_denied kind text behind_word b none (Day day) rest h = none day rest h.1
+date_denied kind text behind_word b none value rest h = omega (arith, literal_tag kind text value rest (Name date_word) behind_word b h)
+
+pub date_no_open : (text behind_word : List ℕ) → Begins text (Name date_word) behind_word → ((rest : List ℕ) → ¬ Begins behind_word (Sign symbols.OpenRound) rest) → (day : ℤ) (rest : List ℕ) → ¬ IsDate text day rest
+date_no_open text behind_word b none day rest h =
+    let words = one_name text date_word h.behind_word date_word behind_word h.word b in
+    none h.behind_open (subst (λ (t : List ℕ). Begins t (Sign symbols.OpenRound) h.behind_open) words.1 h.opens)
+
+-- the string of a date, where the word and the bracket are read
+date_string : (text behind_word behind_open : List ℕ) → Begins text (Name date_word) behind_word → Begins behind_word (Sign symbols.OpenRound) behind_open → (day : ℤ) (rest : List ℕ) (h : IsDate text day rest) → Begins behind_open (Quoted h.date) h.behind_string
+date_string text behind_word behind_open b o day rest h =
+    let words = one_name text date_word h.behind_word date_word behind_word h.word b in
+    let opens = one_sign behind_word symbols.OpenRound h.behind_open symbols.OpenRound behind_open (subst (λ (t : List ℕ). Begins t (Sign symbols.OpenRound) h.behind_open) words.1 h.opens) o in
+    subst (λ (t : List ℕ). Begins t (Quoted h.date) h.behind_string) opens.1 h.string
+
+pub date_no_string : (text behind_word behind_open : List ℕ) → Begins text (Name date_word) behind_word → Begins behind_word (Sign symbols.OpenRound) behind_open → ((bytes rest : List ℕ) → ¬ Begins behind_open (Quoted bytes) rest) → (day : ℤ) (rest : List ℕ) → ¬ IsDate text day rest
+date_no_string text behind_word behind_open b o none day rest h = none h.date h.behind_string (date_string text behind_word behind_open b o day rest h)
+
+pub date_no_close : (text behind_word behind_open date behind_string : List ℕ) → Begins text (Name date_word) behind_word → Begins behind_word (Sign symbols.OpenRound) behind_open → Begins behind_open (Quoted date) behind_string → ((rest : List ℕ) → ¬ Begins behind_string (Sign symbols.CloseRound) rest) → (day : ℤ) (rest : List ℕ) → ¬ IsDate text day rest
+date_no_close text behind_word behind_open date behind_string b o q none day rest h =
+    let strings = one_string behind_open h.date h.behind_string date behind_string (date_string text behind_word behind_open b o day rest h) q in
+    none rest (subst (λ (t : List ℕ). Begins t (Sign symbols.CloseRound) rest) strings.1 h.closes)
+
+pub date_bad : (text behind_word behind_open date behind_string : List ℕ) → Begins text (Name date_word) behind_word → Begins behind_word (Sign symbols.OpenRound) behind_open → Begins behind_open (Quoted date) behind_string → ((day : ℤ) → ¬ IsDateText date day) → (day : ℤ) (rest : List ℕ) → ¬ IsDate text day rest
+date_bad text behind_word behind_open date behind_string b o q none day rest h =
+    let strings = one_string behind_open h.date h.behind_string date behind_string (date_string text behind_word behind_open b o day rest h) q in
+    none day (subst (λ (t : List ℕ). IsDateText t day) strings.0 h.is_date)
+
+pub date_long : (date : List ℕ) → 256 < length date → (day : ℤ) → ¬ IsDateText date day
+date_long date long day h = let l : length date ≡ 10 = ap length h.spelled in omega (arith, l, long)
 
 -- ---- tests
 
@@ -128,70 +189,8 @@ end_denied text s after b none high_in rest h =
     let there : end_in h.0 ≡ end_in s = ap end_in one.0 in
     cc
 
--- ---- whole texts
+-- ---- whole literals
 
 pub value_trailing : (kind : Kind) (text : List ℕ) (value : Value) (rest : List ℕ) (f : Refusal) → IsLiteral kind text value rest → ¬ IsBlank rest → Denies (SpellsValue kind text) f
 value_trailing kind text value rest f l more memory other h =
     more (subst (λ (t : List ℕ). IsBlank t) (literal_rest kind text other h.0 value rest h.1 l) h.2)
-
-test_no_dash : (kind : Kind) (text : List ℕ) (after : List ℕ) → Begins text (Sign symbols.Dash) after → (test : Test) (rest : List ℕ) → IsTest kind text test rest → ⊥
-test_no_dash kind text after b = sign_denied kind text symbols.Dash after b refl refl
-
-pub dash_trailing : (kind : Kind) (text after : List ℕ) (f : Refusal) → ¬ IsBlank text → Begins text (Sign symbols.Dash) after → ¬ IsBlank after → Denies (SpellsCell kind text) f
-dash_trailing kind text after f some b more memory Dash (inl blank) = some blank
-dash_trailing kind text after f some b more memory Dash (inr dash) =
-    more (subst (λ (t : List ℕ). IsBlank t) (one_sign text symbols.Dash dash.0 symbols.Dash after dash.1 b).1 dash.2)
-dash_trailing kind text after f some b more memory (OneOf []) h = h.1
-dash_trailing kind text after f some b more memory (OneOf (test ∷ [])) h = test_no_dash kind text after b test h.0 h.1
-dash_trailing kind text after f some b more memory (OneOf (test ∷ next ∷ others)) h = h.1
-dash_trailing kind text after f some b more memory (NoneOf tests) h = h
-
-pub list_denied : (kind : Kind) (text : List ℕ) (f : Refusal) → ¬ IsBlank text → ((after : List ℕ) → ¬ Begins text (Sign symbols.Dash) after) → DeniesPart (IsTest kind text) f → Denies (SpellsCell kind text) f
-list_denied kind text f some dash d memory Dash (inl blank) = some blank
-list_denied kind text f some dash d memory Dash (inr is) = dash is.0 is.1
-list_denied kind text f some dash d memory (OneOf []) h = h.1
-list_denied kind text f some dash d memory (OneOf (test ∷ [])) h = d memory test h.0 h.1
-list_denied kind text f some dash d memory (OneOf (test ∷ next ∷ others)) h = h.1
-list_denied kind text f some dash d memory (NoneOf tests) h = h
-
-pub list_trailing : (kind : Kind) (text : List ℕ) (test : Test) (rest : List ℕ) (f : Refusal) → ¬ IsBlank text → ((after : List ℕ) → ¬ Begins text (Sign symbols.Dash) after) → IsTest kind text test rest → ¬ IsBlank rest → Denies (SpellsCell kind text) f
-list_trailing kind text test rest f some dash t more memory Dash (inl blank) = some blank
-list_trailing kind text test rest f some dash t more memory Dash (inr is) = dash is.0 is.1
-list_trailing kind text test rest f some dash t more memory (OneOf []) h = h.1
-list_trailing kind text test rest f some dash t more memory (OneOf (other ∷ [])) h =
-    more (subst (λ (r : List ℕ). IsBlank r) (test_rest kind text other h.0 test rest h.1 t) h.2)
-list_trailing kind text test rest f some dash t more memory (OneOf (other ∷ next ∷ others)) h = h.1
-list_trailing kind text test rest f some dash t more memory (NoneOf tests) h = h
-
--- ---- one cell
-
--- no word begins a blank text
-blank_no_word : (text : List ℕ) (word : Word) (rest : List ℕ) → IsBlank text → Begins text word rest → ⊥
-blank_no_word text word rest blank b = blank_no_front b.front rest word (sym b.joined ∙ blank) b.spelled
-
-blank_no_test : (kind : Kind) (text : List ℕ) (test : Test) (rest : List ℕ) → IsBlank text → IsTest kind text test rest → ⊥
-blank_no_test kind text (Equal (Number units)) rest blank h = blank_no_word text (Digits h.1) rest blank h.2
-blank_no_test kind text (Equal (Text bytes)) rest blank h = h
-blank_no_test kind text (Equal (Flag flag)) rest blank h = h
-blank_no_test kind text (Equal (Day day)) rest blank h = h
-blank_no_test kind text (Compare op value) rest blank h = blank_no_word text (Sign (op_symbol op)) h.literal blank h.operator
-blank_no_test kind text (Between low low_in high high_in) rest blank h = blank_no_word text (Sign h.bracket) h.span blank h.opens
-
-dash_no_test : (kind : Kind) (text : List ℕ) (test : Test) (rest : List ℕ) → (IsBlank text ⊎ ((after : List ℕ) × Begins text (Sign symbols.Dash) after × IsBlank after)) → IsTest kind text test rest → ⊥
-dash_no_test kind text test rest (inl blank) h = blank_no_test kind text test rest blank h
-dash_no_test kind text test rest (inr is) h = test_no_dash kind text is.0 is.1 test rest h
-
-pub cell_one : DenotesAtMostOne → (kind : Kind) (text : List ℕ) (one other : Cell) → SpellsCell kind text one → SpellsCell kind text other → one ≡ other
-cell_one law kind text Dash Dash h k = refl
-cell_one law kind text Dash (OneOf []) h k = absurd k.1
-cell_one law kind text Dash (OneOf (test ∷ [])) h k = absurd (dash_no_test kind text test k.0 h k.1)
-cell_one law kind text Dash (OneOf (test ∷ next ∷ others)) h k = absurd k.1
-cell_one law kind text Dash (NoneOf tests) h k = absurd k
-cell_one law kind text (OneOf []) other h k = absurd h.1
-cell_one law kind text (OneOf (test ∷ [])) Dash h k = absurd (dash_no_test kind text test h.0 k h.1)
-cell_one law kind text (OneOf (test ∷ [])) (OneOf []) h k = absurd k.1
-cell_one law kind text (OneOf (test ∷ [])) (OneOf (other ∷ [])) h k = ap (λ (t : Test). OneOf (t ∷ [])) (test_value law kind text test h.0 other k.0 h.1 k.1)
-cell_one law kind text (OneOf (test ∷ [])) (OneOf (other ∷ next ∷ others)) h k = absurd k.1
-cell_one law kind text (OneOf (test ∷ [])) (NoneOf tests) h k = absurd k
-cell_one law kind text (OneOf (test ∷ next ∷ others)) other h k = absurd h.1
-cell_one law kind text (NoneOf tests) other h k = absurd h

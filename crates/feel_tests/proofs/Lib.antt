@@ -1,5 +1,14 @@
 pub mod NumberFront
+pub mod NameFront
+pub mod QuoteFront
 pub mod SymbolFront
 pub mod FirstWord
-pub mod Literals
+pub mod OneWord
+pub mod OneDate
+pub mod OneTest
 pub mod Denials
+pub mod OneCell
+pub mod SameBytes
+pub mod DayText
+pub mod PlainValues
+pub mod ReadBack

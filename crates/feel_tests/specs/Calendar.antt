@@ -1,11 +1,16 @@
 -- The date of a day number, in the Gregorian calendar of `jiff`.
-use Rattle.std.specs.Prelude.{ℕ, ◌+◌, ◌/◌, ◌%◌, ℤ, pos, ◌-ℤ◌, int_le, unsigned_abs, List, [], ◌∷◌, ◌++◌, count_by}
+use Rattle.std.specs.Prelude.{◌≡◌, ℕ, ◌+◌, ◌/◌, ◌%◌, ℤ, pos, ◌-ℤ◌, int_le, unsigned_abs, List, [], ◌∷◌, ◌++◌, count_by}
 use Rattle.std.specs.List.{range_with_len}
-use Rattle.jiff_core.specs.Calendar.{days_from_civil}
+use Rattle.std.specs.Int.{IsInRange}
+use Rattle.jiff_core.specs.Calendar.{days_from_civil, IsCivilDate}
 
--- how many of the years 1 to 9999 have begun by the day: its year
+-- how many of the years from 1 to the last have begun by the day
+unfoldable pub years_begun : ℕ → ℤ → ℕ
+years_begun last day = count_by (λ year. int_le (days_from_civil (pos year) 1 1) day) (range_with_len 1 last)
+
+-- the day's year: how many of the years 1 to 9999 have begun
 unfoldable pub year_of : ℤ → ℕ
-year_of day = count_by (λ year. int_le (days_from_civil (pos year) 1 1) day) (range_with_len 1 9999)
+year_of day = years_begun 9999 day
 
 -- how many months of its year have begun by the day: its month
 unfoldable pub month_of : ℤ → ℕ
@@ -27,3 +32,13 @@ ymd_text year month day =
 -- the text of a day, as `YYYY-MM-DD`
 abbrev pub day_text : ℤ → List ℕ
 day_text day = ymd_text (year_of day) (month_of day) (day_of day)
+
+-- ten bytes `YYYY-MM-DD` that are the day of this number: a date of the calendar in the years 1 to 9999
+pub record IsDateText (text : List ℕ) (day : ℤ) : Type 0 where
+  pub year : ℕ
+  pub month : ℕ
+  pub place : ℕ
+  pub spelled : text ≡ ymd_text year month place
+  pub year_in : IsInRange 1 9999 year
+  pub in_calendar : IsCivilDate (pos year) month place
+  pub number : days_from_civil (pos year) month place ≡ day

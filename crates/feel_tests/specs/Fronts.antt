@@ -1,10 +1,17 @@
 -- What the private functions that split a word off a text compute.
-use Rattle.std.specs.Prelude.{ℕ, ◌+◌, ◌==◌, ◌&&◌, nat_lt, if◌then◌else◌, List, [], ◌∷◌, drop}
+use Rattle.std.specs.Prelude.{ℕ, ◌+◌, ◌==◌, ◌&&◌, nat_lt, if◌then◌else◌, List, [], ◌∷◌, drop, ◌≡◌, ◌++◌}
 use Rattle.std.specs.List.{prefix_len}
 use Rattle.std.specs.Char.{is_ascii_digit}
-use Rattle.feel_tests.specs.Words.{Word, Sign, Digits, Begins}
+use Rattle.feel_tests.specs.Words.{Word, Sign, Digits, Name, Begins, skip_white, escaped_byte, is_name_start, is_name_byte}
+use Rattle.feel_tests.specs.declared.strings.Piece.{Piece}
+use Rattle.feel_tests.specs.declared.strings.Piece.TheVariants as pieces
 use Rattle.feel_tests.specs.declared.word.Token.{Token}
 use Rattle.feel_tests.specs.declared.word.Token.TheVariants as tokens
+
+-- the text begins with neither a byte of a string nor its closing quote
+pub record IsNoPiece (text : List ℕ) : Type 0 where
+  pub no_byte : (byte : ℕ) (rest : List ℕ) → ¬ (text ≡ escaped_byte byte ++ rest)
+  pub no_quote : (rest : List ℕ) → ¬ (text ≡ 34 ∷ rest)
 
 -- how many bytes from the front on are digits
 abbrev pub digits_len : List ℕ → ℕ
@@ -24,8 +31,22 @@ abbrev pub number_len : List ℕ → ℕ
 number_len [] = 0
 number_len (b ∷ bs) = if b == 45 then (if nat_lt 0 (unsigned_len bs) then 1 + unsigned_len bs else 0) else unsigned_len (b ∷ bs)
 
--- the token is the word that the text begins with, behind white space
+-- how many are a name; none where they begin none
+abbrev pub name_len : List ℕ → ℕ
+name_len [] = 0
+name_len (b ∷ bs) = if is_name_start b then 1 + prefix_len is_name_byte bs else 0
+
+-- the token is the word that the text begins with, behind white space; of a string its opening quote
 abbrev pub IsToken : List ℕ → Token → Type 0
 IsToken text (tokens.Sign symbol rest) = Begins text (Sign symbol) rest.now
 IsToken text (tokens.Number digits rest) = Begins text (Digits digits.now) rest.now
+IsToken text (tokens.Name letters rest) = Begins text (Name letters.now) rest.now
+IsToken text (tokens.Quote inside) = skip_white text ≡ 34 ∷ inside.now
 IsToken text tokens.Nothing = (word : Word) (rest : List ℕ) → ¬ Begins text word rest
+
+-- the piece is what a text between quotes begins with, unescaped; or nothing is
+abbrev pub IsPiece : List ℕ → Piece → Type 0
+IsPiece text (pieces.Close rest) = text ≡ 34 ∷ rest.now
+IsPiece text (pieces.Byte byte rest) = text ≡ escaped_byte byte ++ rest.now
+IsPiece text pieces.BadEscape = IsNoPiece text
+IsPiece text pieces.End = IsNoPiece text

@@ -1,8 +1,11 @@
 -- The grammar of cells over words (DMN 1.4, S-FEEL, unary tests): which text begins with a literal, a
 -- test or a list of tests, and what rest follows it.
-use Rattle.std.specs.Prelude.{◌≡◌, ℕ, Bool, true, false, List, [], ◌∷◌, Option, Some, None}
+use Rattle.std.specs.Prelude.{◌≡◌, ℕ, ℤ, Bool, true, false, List, [], ◌∷◌, Option, Some, None, codes}
 use Rattle.fixpoint.specs.NumberText.{Denotes}
-use Rattle.feel_tests.specs.Words.{Sign, Digits, Begins}
+use Rattle.feel_tests.specs.TextBytes.{IsText}
+use Rattle.feel_tests.specs.Calendar.{IsDateText}
+use Rattle.feel_tests.specs.Value.{flag_text}
+use Rattle.feel_tests.specs.Words.{Sign, Digits, Quoted, Name, Begins}
 use Rattle.feel_tests.specs.declared.symbol.Symbol.{Symbol}
 use Rattle.feel_tests.specs.declared.symbol.Symbol.TheVariants as symbols
 use Rattle.feel_tests.specs.declared.kind.Kind.{Kind}
@@ -13,6 +16,13 @@ use Rattle.feel_tests.specs.declared.cell.Op.{Op}
 use Rattle.feel_tests.specs.declared.cell.Op.TheVariants.{Less, AtMost, More, AtLeast}
 use Rattle.feel_tests.specs.declared.cell.Test.{Test}
 use Rattle.feel_tests.specs.declared.cell.Test.TheVariants.{Equal, Compare, Between}
+
+-- the names that begin a date and a negated list
+abbrev pub date_word : List ℕ
+date_word = codes "date"
+
+abbrev pub not_word : List ℕ
+not_word = codes "not"
 
 -- the values of the kind have an order: numbers and days
 abbrev pub HasOrder : Kind → Type 0
@@ -42,12 +52,24 @@ end_in symbols.CloseRound = Some false
 end_in symbols.OpenSquare = Some false
 end_in _ = None
 
+-- the text begins with `date`, a date in a string between round brackets
+pub record IsDate (text : List ℕ) (day : ℤ) (rest : List ℕ) : Type 0 where
+  pub behind_word : List ℕ
+  pub behind_open : List ℕ
+  pub behind_string : List ℕ
+  pub date : List ℕ
+  pub word : Begins text (Name date_word) behind_word
+  pub opens : Begins behind_word (Sign symbols.OpenRound) behind_open
+  pub string : Begins behind_open (Quoted date) behind_string
+  pub closes : Begins behind_string (Sign symbols.CloseRound) rest
+  pub is_date : IsDateText date day
+
 -- the text begins with a literal of the kind that denotes the value
 abbrev pub IsLiteral : Kind → List ℕ → Value → List ℕ → Type 0
 IsLiteral kind text (Number units) rest = (kind ≡ kinds.Number) × (digits : List ℕ) × Begins text (Digits digits) rest × Denotes digits units
-IsLiteral kind text (Text bytes) rest = ⊥
-IsLiteral kind text (Flag flag) rest = ⊥
-IsLiteral kind text (Day day) rest = ⊥
+IsLiteral kind text (Text bytes) rest = (kind ≡ kinds.Text) × Begins text (Quoted bytes) rest × IsText bytes
+IsLiteral kind text (Flag flag) rest = (kind ≡ kinds.Flag) × Begins text (Name (flag_text flag)) rest
+IsLiteral kind text (Day day) rest = (kind ≡ kinds.Day) × IsDate text day rest
 
 -- the text begins with a literal, `..`, a literal and a bracket that ends an interval; the ends are so in or out
 pub record IsSpan (kind : Kind) (text : List ℕ) (low : Value) (high : Value) (high_in : Bool) (rest : List ℕ) : Type 0 where
@@ -83,8 +105,8 @@ IsTest kind text (Equal value) rest = IsLiteral kind text value rest
 IsTest kind text (Compare op value) rest = IsComparison kind text op value rest
 IsTest kind text (Between low low_in high high_in) rest = IsInterval kind text low low_in high high_in rest
 
--- the text begins with this list of tests: one so far
+-- the text begins with this list of tests, with commas between them
 abbrev pub IsList : Kind → List ℕ → List Test → List ℕ → Type 0
 IsList kind text [] rest = ⊥
 IsList kind text (test ∷ []) rest = IsTest kind text test rest
-IsList kind text (test ∷ next ∷ more) rest = ⊥
+IsList kind text (test ∷ next ∷ more) rest = (behind_test : List ℕ) × (behind_comma : List ℕ) × IsTest kind text test behind_test × Begins behind_test (Sign symbols.Comma) behind_comma × IsList kind behind_comma (next ∷ more) rest

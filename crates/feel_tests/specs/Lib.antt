@@ -10,3 +10,4 @@ pub mod Cell
 pub mod Symbols
 pub mod Fronts
 pub mod Parts
+pub mod Plain

@@ -1,8 +1,10 @@
 -- What the private readers say of a part that they could not read, and the parts of an interval.
-use Rattle.std.specs.Prelude.{◌≡◌, ◌≢◌, ℕ, Bool, List, Some}
-use Rattle.feel_tests.specs.Words.{Sign, Begins}
-use Rattle.feel_tests.specs.Grammar.{start_in, end_in, IsSpan}
+use Rattle.std.specs.Prelude.{◌≡◌, ◌≢◌, ℕ, ◌≤◌, Bool, List, ◌∷◌, Some, length}
+use Rattle.feel_tests.specs.Words.{skip_white, Sign, Begins}
+use Rattle.feel_tests.specs.Grammar.{start_in, end_in, IsSpan, IsList}
 use Rattle.feel_tests.specs.declared.kind.Kind.{Kind}
+use Rattle.feel_tests.specs.declared.cell.TheConstants.{TEST_LIMIT}
+use Rattle.feel_tests.specs.declared.symbol.Symbol.TheVariants as symbols
 use Rattle.feel_tests.specs.declared.cell.Test.{Test}
 use Rattle.feel_tests.specs.declared.cell.Test.TheVariants.{Equal, Compare, Between}
 use Rattle.feel_tests.specs.declared.symbol.Symbol.{Symbol}
@@ -30,3 +32,11 @@ abbrev pub IsSpanTest : Kind → Bool → List ℕ → Test → List ℕ → Typ
 IsSpanTest kind low_in text (Equal value) rest = ⊥
 IsSpanTest kind low_in text (Compare op value) rest = ⊥
 IsSpanTest kind low_in text (Between low in_low high high_in) rest = (in_low ≡ low_in) × IsSpan kind text low high high_in rest
+
+-- the text begins with a list within the limit that no comma follows
+abbrev pub IsWholeList : Kind → List ℕ → List Test → List ℕ → Type 0
+IsWholeList kind text tests rest = IsList kind text tests rest × (length tests ≤ TEST_LIMIT) × ((after : List ℕ) → ¬ Begins rest (Sign symbols.Comma) after)
+
+-- behind white space the text begins with a quote
+abbrev pub IsQuoteFirst : List ℕ → Type 0
+IsQuoteFirst text = (inside : List ℕ) × (skip_white text ≡ 34 ∷ inside)

@@ -1,6 +1,7 @@
 -- Values: their kinds, and the literals that write them (DMN 1.4, S-FEEL).
-use Rattle.std.specs.Prelude.{ℕ, Bool, true, false, List, [], ◌∷◌, ◌++◌, codes, if◌then◌else◌, ◌==◌, ◌||◌, flat_map}
+use Rattle.std.specs.Prelude.{ℕ, ℤ, Bool, true, false, List, [], ◌∷◌, ◌++◌, codes, if◌then◌else◌, ◌==◌, ◌||◌, flat_map}
 use Rattle.fixpoint.specs.NumberText.{shortest_text}
+use Rattle.feel_tests.specs.Words.{quoted}
 use Rattle.feel_tests.specs.Calendar.{day_text}
 use Rattle.feel_tests.specs.declared.kind.Kind.{Kind}
 use Rattle.feel_tests.specs.declared.kind.Kind.TheVariants as kind
@@ -14,22 +15,18 @@ kind_of (Text t) = kind.Text
 kind_of (Flag b) = kind.Flag
 kind_of (Day d) = kind.Day
 
--- a byte between quotes: a quote and a backslash have a backslash before them
-abbrev pub escaped_byte : ℕ → List ℕ
-escaped_byte b = if (b == 34) || (b == 92) then 92 ∷ b ∷ [] else b ∷ []
-
--- a text between quotes
-abbrev pub quoted : List ℕ → List ℕ
-quoted bytes = 34 ∷ (flat_map escaped_byte bytes ++ 34 ∷ [])
-
 -- `true` or `false`
 abbrev pub flag_text : Bool → List ℕ
 flag_text true = codes "true"
 flag_text false = codes "false"
+
+-- `date("YYYY-MM-DD")`
+abbrev pub date_literal : ℤ → List ℕ
+date_literal day = codes "date(\"" ++ day_text day ++ codes "\")"
 
 -- the literal of a value: a number in its shortest text, a text in double quotes, `true` or `false`, or `date("YYYY-MM-DD")`
 abbrev pub literal_text : Value → List ℕ
 literal_text (Number n) = shortest_text n
 literal_text (Text t) = quoted t
 literal_text (Flag b) = flag_text b
-literal_text (Day d) = codes "date(\"" ++ day_text d ++ codes "\")"
+literal_text (Day d) = date_literal d

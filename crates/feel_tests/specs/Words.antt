@@ -1,6 +1,8 @@
 -- The words of a cell's text (DMN 1.4, S-FEEL, the grammar's terminals): white space stands between
 -- them, and each is the longest that can stand at its place.
-use Rattle.std.specs.Prelude.{◌≡◌, ℕ, ◌≤◌, Bool, ◌==◌, ◌||◌, if◌then◌else◌, List, [], ◌∷◌, ◌++◌, length, codes}
+use Rattle.std.specs.Prelude.{◌≡◌, ℕ, ◌≤◌, Bool, ◌==◌, ◌||◌, if◌then◌else◌, List, [], ◌∷◌, ◌++◌, length, codes, flat_map, IsTrue}
+use Rattle.std.specs.List.{list_all}
+use Rattle.std.specs.Char.{is_ascii_alphabetic, is_ascii_alphanumeric}
 use Rattle.fixpoint.specs.NumberText.{IsNumberText}
 use Rattle.feel_tests.specs.declared.symbol.Symbol.{Symbol}
 use Rattle.feel_tests.specs.declared.symbol.Symbol.TheVariants.{Less, AtMost, More, AtLeast, OpenRound, CloseRound, OpenSquare, CloseSquare, Dots, Comma, Dash}
@@ -32,15 +34,44 @@ symbol_text Dots = codes ".."
 symbol_text Comma = codes ","
 symbol_text Dash = codes "-"
 
--- a word: a symbol, or a number by its bytes
+-- an ASCII letter or `_`
+abbrev pub is_name_start : ℕ → Bool
+is_name_start b = is_ascii_alphabetic b || (b == 95)
+
+-- an ASCII letter, a digit or `_`
+abbrev pub is_name_byte : ℕ → Bool
+is_name_byte b = is_ascii_alphanumeric b || (b == 95)
+
+-- a name: a letter or `_`, and then letters, digits and `_`
+abbrev pub IsName : List ℕ → Type 0
+IsName [] = ⊥
+IsName (b ∷ bs) = IsTrue (is_name_start b) × IsTrue (list_all is_name_byte bs)
+
+-- a byte between quotes: a quote and a backslash have a backslash before them
+abbrev pub escaped_byte : ℕ → List ℕ
+escaped_byte b = if (b == 34) || (b == 92) then 92 ∷ b ∷ [] else b ∷ []
+
+-- bytes between quotes
+abbrev pub escaped : List ℕ → List ℕ
+escaped bytes = flat_map escaped_byte bytes
+
+-- a string: a text in double quotes
+abbrev pub quoted : List ℕ → List ℕ
+quoted bytes = 34 ∷ (escaped bytes ++ 34 ∷ [])
+
+-- a word: a symbol, a number by its bytes, a string by the text that it stands for, or a name
 pub data Word : Type 0 where
   Sign : Symbol → Word
   Digits : List ℕ → Word
+  Quoted : List ℕ → Word
+  Name : List ℕ → Word
 
 -- these bytes are the word
 abbrev pub Spells : List ℕ → Word → Type 0
 Spells bytes (Sign symbol) = bytes ≡ symbol_text symbol
 Spells bytes (Digits digits) = (bytes ≡ digits) × IsNumberText bytes
+Spells bytes (Quoted text) = bytes ≡ quoted text
+Spells bytes (Name letters) = (bytes ≡ letters) × IsName bytes
 
 -- behind white space the text begins with the word, then comes the rest; no longer word can stand there
 pub record Begins (text : List ℕ) (word : Word) (rest : List ℕ) : Type 0 where

@@ -1,11 +1,14 @@
 //! Cells: the unary tests that one entry of a decision table asks of a value.
-ghost use Rattle.std.specs.Prelude.{◌≡◌, [], ◌∷◌};
+ghost use Rattle.std.specs.Prelude.{◌≡◌, [], ◌∷◌, ◌++◌, OnOk};
 ghost use Rattle.feel_tests.specs.Holds.{holds, passes, is_less, is_at_most, is_below, one_passes};
 
 use crate::value::Value;
 use smallvec::SmallVec;
-use std::alloc::Global;
+use std::alloc::{AllocError, Global};
 use std::marker::Model;
+
+/// The most tests that a cell has.
+pub const TEST_LIMIT: usize = 64;
 
 /// How a value is compared with a literal.
 #[derive(Clone, Copy, Debug, PartialEq, Eq, Hash)]
@@ -46,7 +49,7 @@ impl Default for Test {
 /// The tests of a cell, in the order of its text.
 #[derive(Debug, Drop)]
 pub struct Tests {
-    items: SmallVec<Test, 1>,
+    items: SmallVec<Test, 2>,
 }
 
 impl Model for Tests {
@@ -66,6 +69,14 @@ impl Tests {
         let mut items = SmallVec::new(alloc);
         items.push_reserved(test);
         Tests { items }
+    }
+
+    // Appends a test.
+    pub(crate) fn push(&mut self, test: Test) -> Result<(), AllocError>
+        ensures ok { OnOk result (self.new ≡ self.old ++ test ∷ []) }
+    {
+        self.items.push(test)?;
+        Ok(())
     }
 
     /// The tests.

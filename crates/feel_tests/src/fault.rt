@@ -7,7 +7,7 @@ use thiserror::Error;
 /// What is wrong with the text of a cell or a literal.
 #[derive(Clone, Copy, Debug, PartialEq, Eq, Hash, Drop, Error)]
 pub enum CellCause {
-    /// No token, one that can't stand here, or the end too early.
+    /// No token, one that can't stand here, or the end too early: also a string without its end.
     #[error("unexpected token")]
     Token,
     /// A number out of range or too fine, or a text that is too long.
@@ -55,7 +55,7 @@ impl CellCause {
 #[derive(Clone, Copy, Debug, PartialEq, Eq, Hash, Drop, Error)]
 #[error("{cause} at byte {at}")]
 pub struct CellFault {
-    /// The offset of the byte, from 0.
+    /// The offset of the byte, from 0; for want of memory it tells nothing.
     pub at: usize,
     /// What is wrong there.
     pub cause: CellCause,

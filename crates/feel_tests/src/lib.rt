@@ -10,25 +10,33 @@
 #![tactic(auto)]
 
 mod cell;
+mod dates;
 mod day;
 mod fault;
 mod kind;
+mod law;
 mod literal;
+mod literals;
+mod plain;
 mod reading;
 mod refusal;
+mod strings;
 mod symbol;
 #[cfg(test)]
 mod tests;
 mod text;
+mod unary;
 mod value;
 mod word;
 
-pub use cell::{Cell, Op, Test, Tests};
+pub use cell::{Cell, Op, TEST_LIMIT, Test, Tests};
 pub use day::Day;
 pub use fault::{CellCause, CellFault};
 pub use kind::Kind;
-pub use reading::{
-    read_cell, read_value, text_spells_at_most_one_cell, text_spells_at_most_one_value,
+pub use law::{
+    literal_spells_its_value, text_spells_at_most_one_cell, text_spells_at_most_one_value,
 };
+pub use plain::{PlainFault, read_plain};
+pub use reading::{read_cell, read_value};
 pub use text::{TEXT_LIMIT_BYTES, Text};
 pub use value::Value;

@@ -1,14 +1,18 @@
 //! Writing a value as the literal that a cell would have for it.
 ghost use Rattle.std.specs.Prelude.{◌≡◌, ◌++◌, IfOk, OnOk, OnErr};
-ghost use Rattle.feel_tests.specs.Value.{literal_text, quoted};
+ghost use Rattle.feel_tests.specs.Value.{date_literal, literal_text};
+ghost use Rattle.feel_tests.specs.Words.{quoted};
 ghost use Rattle.fixpoint.specs.NumberText.{shortest_text};
 
+use crate::dates::text_of;
+use crate::day::Day;
 use crate::value::Value;
 use fixpoint::Fixed;
 use std::alloc::{AllocError, Global};
 
 impl Value {
-    /// Appends the literal that writes the value.
+    /// Appends the literal that writes the value (DMN 1.4, S-FEEL). Where memory is refused, the
+    /// vector is as it was.
     pub fn write_text(&self, out: &mut Vec<u8>) -> Result<(), AllocError>
         ensures ok { OnOk result (out.new.items ≡ out.old.items ++ literal_text self.now) }
         ensures err { OnErr result (out.new.items ≡ out.old.items) }
@@ -18,7 +22,7 @@ impl Value {
             Value::Text(text) => write_quoted(text.as_bytes(), out),
             Value::Flag(true) => out.extend_from_slice(b"true"),
             Value::Flag(false) => out.extend_from_slice(b"false"),
-            Value::Day(_) => Err(AllocError),
+            Value::Day(day) => write_day(*day, out),
         }
     }
 }
@@ -53,5 +57,23 @@ fn quoted(alloc: Global, bytes: &[u8]) -> Result<Vec<u8>, AllocError>
         literal.push(*byte)?;
     }
     literal.push(b'"')?;
+    Ok(literal)
+}
+
+fn write_day(day: Day, out: &mut Vec<u8>) -> Result<(), AllocError>
+    ensures ok { OnOk result (out.new.items ≡ out.old.items ++ date_literal day) }
+    ensures err { OnErr result (out.new.items ≡ out.old.items) }
+{
+    let literal = date_literal(*out.allocator(), day)?;
+    out.extend_from_slice(&literal)
+}
+
+fn date_literal(alloc: Global, day: Day) -> Result<Vec<u8>, AllocError>
+    ensures { IfOk result (λ literal. literal.items ≡ date_literal day) }
+{
+    let mut literal = Vec::from_slice(alloc, b"date(\"")?;
+    let text = text_of(alloc, day)?;
+    literal.extend_from_slice(text.as_bytes())?;
+    literal.extend_from_slice(b"\")")?;
     Ok(literal)
 }

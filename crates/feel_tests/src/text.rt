@@ -1,5 +1,6 @@
 //! Texts as values: UTF-8 of a limited length, equal where their bytes are.
-ghost use Rattle.std.specs.Prelude.{◌≡◌, ◌≤◌, length, IfOk};
+ghost use Rattle.std.specs.Prelude.{◌≡◌, ◌≤◌, length, IfOk, IfSome, IfNone, OnSome};
+ghost use Rattle.feel_tests.specs.TextBytes.{IsText};
 ghost use Rattle.feel_tests.specs.declared.text.TheConstants.{TEXT_LIMIT_BYTES};
 
 use std::alloc::{AllocError, Global};
@@ -34,6 +35,21 @@ impl Text {
         Ok(Text {
             text: String::from_str(alloc, text)?,
         })
+    }
+
+    /// The text of these bytes, where they are one.
+    pub(crate) fn from_bytes(bytes: Vec<u8>) -> Option<Text>
+        ensures value { IfSome result (λ made. made ≡ bytes.items) }
+        ensures some { OnSome result (IsText bytes.items) }
+        ensures none { IfNone result (¬ IsText bytes.items) }
+    {
+        if bytes.len() > TEXT_LIMIT_BYTES {
+            return None;
+        }
+        match String::from_utf8(bytes) {
+            Ok(text) => Some(Text { text }),
+            Err(_) => None,
+        }
     }
 
     /// The text as a slice.

@@ -1,8 +1,9 @@
 //! The words of a cell's text: one is split off the front at a time.
-ghost use Rattle.std.specs.Prelude.{◌≡◌, ℕ, ◌≤◌, List, length, IsTrue, IfSome, IfNone, ◌↔◌};
-ghost use Rattle.feel_tests.specs.Words.{is_white, skip_white, IsBlank, Sign, Begins};
+ghost use Rattle.std.specs.Prelude.{◌≡◌, ℕ, ◌≤◌, List, ◌∷◌, length, IsTrue, IfSome, IfNone, ◌↔◌};
+ghost use Rattle.feel_tests.specs.Words.{is_white, skip_white, is_name_start, is_name_byte, IsBlank, Sign, Begins};
+ghost use Rattle.std.specs.List.{prefix_len};
 ghost use Rattle.feel_tests.specs.declared.symbol.Symbol.{Symbol};
-ghost use Rattle.feel_tests.specs.Fronts.{digits_len, fraction_len, unsigned_len, number_len, IsToken};
+ghost use Rattle.feel_tests.specs.Fronts.{digits_len, fraction_len, unsigned_len, number_len, name_len, IsToken};
 
 use crate::symbol::Symbol;
 
@@ -11,6 +12,9 @@ use crate::symbol::Symbol;
 pub enum Token<'a> {
     Sign(Symbol, &'a [u8]),
     Number(&'a [u8], &'a [u8]),
+    Name(&'a [u8], &'a [u8]),
+    /// The opening quote of a string, whose end wasn't looked for.
+    Quote(&'a [u8]),
     /// No word can stand here, or the text ends.
     Nothing,
 }
@@ -20,6 +24,14 @@ pub fn first_token(text: &[u8]) -> Token<'_>
     ensures { IsToken text.now result }
 {
     let bytes = skip_white(text);
+    if let Some(inside) = behind_quote(bytes) {
+        return Token::Quote(inside);
+    }
+    let len = name_len(bytes);
+    if len > 0 {
+        let (letters, rest) = bytes.split_at(len);
+        return Token::Name(letters, rest);
+    }
     let len = number_len(bytes);
     if len > 0 {
         let (digits, rest) = bytes.split_at(len);
@@ -31,6 +43,17 @@ pub fn first_token(text: &[u8]) -> Token<'_>
     }
 }
 
+fn behind_quote(bytes: &[u8]) -> Option<&[u8]>
+    ensures some { IfSome result (λ inside. bytes.now ≡ 34 ∷ inside.now) }
+    ensures none { IfNone result ((inside : List ℕ) → ¬ (bytes.now ≡ 34 ∷ inside)) }
+{
+    if bytes.is_empty() || bytes[0] != b'"' {
+        None
+    } else {
+        Some(&bytes[1..])
+    }
+}
+
 /// The symbol that the text begins with, with what follows it.
 pub fn first_symbol(text: &[u8]) -> Option<(Symbol, &[u8])>
     ensures some { IfSome result (λ found. Begins text.now (Sign found.0) found.1.now) }
@@ -39,6 +62,8 @@ pub fn first_symbol(text: &[u8]) -> Option<(Symbol, &[u8])>
     match first_token(text) {
         Token::Sign(symbol, rest) => Some((symbol, rest)),
         Token::Number(_, _) => None,
+        Token::Name(_, _) => None,
+        Token::Quote(_) => None,
         Token::Nothing => None,
     }
 }
@@ -122,4 +147,37 @@ fn number_len(bytes: &[u8]) -> usize
         }
         _ => unsigned_len(bytes),
     }
+}
+
+fn name_len(bytes: &[u8]) -> usize
+    ensures value { result ≡ name_len bytes.now }
+    ensures within { result ≤ length bytes.now }
+{
+    match bytes {
+        [first, more @ ..] if is_name_start(*first) => 1 + name_bytes_len(more),
+        _ => 0,
+    }
+}
+
+fn name_bytes_len(bytes: &[u8]) -> usize
+    ensures value { result ≡ prefix_len is_name_byte bytes.now }
+    ensures within { result ≤ length bytes.now }
+{
+    let mut len = 0;
+    while len < bytes.len() && is_name_byte(bytes[len]) {
+        len += 1;
+    }
+    len
+}
+
+fn is_name_start(byte: u8) -> bool
+    ensures { result ≡ is_name_start byte }
+{
+    byte.is_ascii_alphabetic() || byte == b'_'
+}
+
+fn is_name_byte(byte: u8) -> bool
+    ensures { result ≡ is_name_byte byte }
+{
+    byte.is_ascii_alphanumeric() || byte == b'_'
 }

@@ -4,8 +4,7 @@ ghost use Rattle.std.specs.Prelude.{◌≡◌, ℕ, ◌+◌, ◌<◌, ◌≤◌,
 ghost use Rattle.adjudicate.specs.Stop.{plan_fault_text, argument_fault_text, cell_fault_text, fault_text};
 
 use super::ArgumentFault;
-use crate::evaluation::Fault;
-use crate::plan::{PlanCause, PlanFault};
+use dtable::{Fault, PlanCause, PlanFault};
 use feel_tests::CellFault;
 use itoa::Buffer;
 use std::marker::Model;
@@ -121,15 +120,27 @@ impl Line {
     {
         self.put("fault ");
         match fault {
-            Fault::NoRule(table) => {
-                self.put("norule:");
+            Fault::Outside { table, column } => {
+                self.put("outside:");
                 self.put_number(*table);
+                self.put(":");
+                self.put_number(*column);
             }
-            Fault::Clash(table) => {
-                self.put("clash:");
-                self.put_number(*table);
-            }
+            Fault::NoRule { table } => self.put_reason("norule:", *table),
+            Fault::Clash { table } => self.put_reason("clash:", *table),
+            Fault::Range { table } => self.put_reason("range:", *table),
+            Fault::OutOfMemory => self.put("memory"),
         }
+    }
+
+    // Puts a reason and the table's number behind the line.
+    fn put_reason(&mut self, reason: &str, table: usize)
+        requires { length self.old + (length reason.now + 20) ≤ LINE_LIMIT_BYTES }
+        ensures text { self.new ≡ self.old ++ (reason.now ++ decimal table) }
+        ensures short { length self.new ≤ length self.old + (length reason.now + 20) }
+    {
+        self.put(reason);
+        self.put_number(table);
     }
 
     // Puts the words of a cell's fault behind the line.

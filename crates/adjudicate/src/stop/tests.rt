@@ -40,6 +40,13 @@ fn refusals_of_the_plan_say_where(rt: HostRuntime) {
             "plan fault 4 table 0 rule 0 column 0\n",
         ),
         (PlanCause::Kind, "plan fault 5 table 0 rule 0 column 0\n"),
+        (PlanCause::Hit, "plan fault 6 table 0 rule 0 column 0\n"),
+        (
+            PlanCause::Priority,
+            "plan fault 7 table 0 rule 0 column 0\n",
+        ),
+        (PlanCause::Role, "plan fault 8 table 0 rule 0 column 0\n"),
+        (PlanCause::Money, "plan fault 9 table 0 rule 0 column 0\n"),
     ] {
         says(&rt, &plan_fault((0, 0, 0), cause), line, 1);
     }
@@ -62,7 +69,11 @@ fn other_refusals_have_their_lines(rt: HostRuntime) -> Result<(), Fail> {
         at: 2,
         cause: CellCause::Trailing,
     });
-    let missing = Stop::Missing(Name::new(rt.alloc(), "x")?);
+    let outside = Stop::from(Fault::Outside {
+        table: 32,
+        column: 16,
+    });
+    let missing = Stop::Missing(MissingName::new(rt.alloc(), "x")?);
     for (stop, line, status) in [
         (
             Stop::from_argument(1, ArgumentFault::NoEquals),
@@ -84,8 +95,15 @@ fn other_refusals_have_their_lines(rt: HostRuntime) -> Result<(), Fail> {
             "argument 3 fault 4 cell 7 at 2\n",
             1,
         ),
-        (Stop::from(Fault::NoRule(1)), "fault norule:1\n", 1),
-        (Stop::from(Fault::Clash(1)), "fault clash:1\n", 1),
+        (outside, "fault outside:32:16\n", 1),
+        (
+            Stop::from(Fault::NoRule { table: 1 }),
+            "fault norule:1\n",
+            1,
+        ),
+        (Stop::from(Fault::Clash { table: 2 }), "fault clash:2\n", 1),
+        (Stop::from(Fault::Range { table: 3 }), "fault range:3\n", 1),
+        (Stop::from(Fault::OutOfMemory), "no memory\n", 3),
         (Stop::Write { written: 37 }, "write fault at 37\n", 3),
         (Stop::from(AllocError), "no memory\n", 3),
         (missing, "missing x\n", 1),

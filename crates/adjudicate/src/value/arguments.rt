@@ -1,26 +1,24 @@
 //! The arguments `NAME=LITERAL`: what they give, and what is missing.
 
-ghost use Rattle.std.specs.Prelude.{◌≡◌, ℕ, Some, None, ◌==◌, IfOk, IfErr, IfSome, IfNone, MatchOption, slice_get, Contains, length, ◌<◌};
-ghost use Rattle.std.specs.List.{list_any};
-ghost use Rattle.adjudicate.specs.Plan.{field_names};
-ghost use Rattle.adjudicate.specs.Arguments.{equals_sign, texts_of, IsSplit, Gives, IsArgument, is_read, IsReadyBelow, IsFirstMissing};
-ghost use Rattle.adjudicate.specs.Evaluation.{value_at};
+ghost use Rattle.std.specs.Prelude.{◌≡◌, Some, None, IfOk, IfErr, IfSome, IfNone, slice_get, Contains};
+ghost use Rattle.dtable.specs.Inputs.{IsReady, value_at};
+ghost use Rattle.dtable.specs.Scope.{data_names};
+ghost use Rattle.adjudicate.specs.Arguments.{equals_sign, texts_of, IsSplit, Gives, IsArgument, IsFirstMissing};
 ghost use Rattle.adjudicate.specs.Stop.{IsArgumentFault, IsMemoryFault, RefusesArguments};
 
-use crate::evaluation::Inputs;
-use crate::plan::{Field, Input, Table};
 use crate::stop::{ArgumentFault, Stop};
+use dtable::{InputData, Inputs, Plan};
 use feel_tests::{Value, read_value};
 use std::alloc::Global;
 
 /// What the arguments give, in order. The first that gives no value is the refusal.
-pub fn read_arguments(alloc: Global, fields: &[Field], arguments: &[&str]) -> Result<Inputs, Stop>
-    ensures given { IfOk result (Gives fields.now (texts_of arguments.now)) }
-    ensures refused { IfErr result (RefusesArguments fields.now (texts_of arguments.now)) }
+pub fn read_arguments(alloc: Global, plan: &Plan, arguments: &[&str]) -> Result<Inputs, Stop>
+    ensures given { IfOk result (Gives plan.now.names (texts_of arguments.now)) }
+    ensures refused { IfErr result (RefusesArguments plan.now.names (texts_of arguments.now)) }
 {
-    let mut inputs = Inputs::new(alloc, fields.len())?;
+    let mut inputs = Inputs::new(alloc, plan)?;
     for (index, argument) in arguments.iter().enumerate() {
-        match read_argument(alloc, fields, &inputs, argument) {
+        match read_argument(alloc, plan.names(), &inputs, argument) {
             Ok(assignment) => inputs.set(assignment.place, assignment.value),
             Err(fault) => return Err(Stop::from_argument(index + 1, fault)),
         }
@@ -28,7 +26,7 @@ pub fn read_arguments(alloc: Global, fields: &[Field], arguments: &[&str]) -> Re
     Ok(inputs)
 }
 
-/// What one argument gives: a value for the field at a place.
+/// What one argument gives: a value for the name at a place, from 0.
 #[derive(Debug, Drop)]
 pub struct Assignment {
     pub place: usize,
@@ -38,24 +36,24 @@ pub struct Assignment {
 // What an argument gives, beside what is given before it.
 fn read_argument(
     alloc: Global,
-    fields: &[Field],
+    names: &[InputData],
     inputs: &Inputs,
     argument: &str,
 ) -> Result<Assignment, ArgumentFault>
-    ensures assigned { IfOk result (λ a. IsArgument fields.now argument.now (record { place = a.place; value = a.value })) }
+    ensures assigned { IfOk result (λ a. IsArgument names.now argument.now (record { place = a.place; value = a.value })) }
     ensures fresh { IfOk result (λ a. value_at inputs.now a.place ≡ None) }
-    ensures refused { IfErr result (λ fault. ¬ IsMemoryFault fault → IsArgumentFault fields.now inputs.now argument.now fault) }
+    ensures refused { IfErr result (λ fault. ¬ IsMemoryFault fault → IsArgumentFault names.now inputs.now argument.now fault) }
 {
     let Some((name, literal)) = split_argument(argument) else {
         return Err(ArgumentFault::NoEquals);
     };
-    let Some((place, field)) = field_named(fields, name) else {
+    let Some((place, input)) = data_named(names, name) else {
         return Err(ArgumentFault::UnknownName);
     };
     if inputs.get(place).is_some() {
         return Err(ArgumentFault::RepeatedName);
     }
-    match read_value(alloc, field.kind, literal) {
+    match read_value(alloc, input.kind, literal) {
         Ok(value) => Ok(Assignment { place, value }),
         Err(fault) => Err(ArgumentFault::Literal(fault)),
     }
@@ -69,49 +67,29 @@ fn split_argument(argument: &str) -> Option<(&str, &str)>
     argument.split_once('=')
 }
 
-// The field with this name, and its place.
-fn field_named<'a>(fields: &'a [Field], name: &str) -> Option<(usize, &'a Field)>
-    ensures standing { IfSome result (λ found. slice_get fields.now found.0 ≡ Some found.1.now) }
+// The input data with this name, and its place.
+fn data_named<'a>(names: &'a [InputData], name: &str) -> Option<(usize, &'a InputData)>
+    ensures standing { IfSome result (λ found. slice_get names.now found.0 ≡ Some found.1.now) }
     ensures named { IfSome result (λ found. found.1.now.name ≡ name.now) }
-    ensures unknown { IfNone result (¬ Contains (field_names fields.now) name.now) }
+    ensures unknown { IfNone result (¬ Contains (data_names names.now) name.now) }
 {
-    for (place, field) in fields.iter().enumerate() {
-        if field.name.as_str() == name {
-            return Some((place, field));
+    for (place, input) in names.iter().enumerate() {
+        if input.name.as_str() == name {
+            return Some((place, input));
         }
     }
     None
 }
 
-/// The first field that a table reads and for which nothing is given.
-pub fn first_missing<'a>(
-    fields: &'a [Field],
-    tables: &[Table],
-    inputs: &Inputs,
-) -> Option<&'a Field>
-    ensures missing { IfSome result (λ field. IsFirstMissing fields.now tables.now inputs.now field.now.name) }
-    ensures ready { IfNone result (IsReadyBelow (length fields.now) tables.now inputs.now) }
+/// The first name that a table reads and for which nothing is given.
+pub fn first_missing<'a>(plan: &'a Plan, inputs: &Inputs) -> Option<&'a InputData>
+    ensures missing { IfSome result (λ input. IsFirstMissing plan.now.names plan.now.tables inputs.now input.now.name) }
+    ensures ready { IfNone result (IsReady plan.now.tables inputs.now) }
 {
-    for (place, field) in fields.iter().enumerate() {
-        if is_read(tables, place) && inputs.get(place).is_none() {
-            return Some(field);
+    for (place, input) in plan.names().iter().enumerate() {
+        if plan.needs(place) && inputs.get(place).is_none() {
+            return Some(input);
         }
     }
     None
-}
-
-// Whether some table reads the field at the place.
-fn is_read(tables: &[Table], place: usize) -> bool
-    ensures { result ≡ is_read tables.now place }
-{
-    tables
-        .iter()
-        .any(|table| reads(table.inputs.as_slice(), place))
-}
-
-// Whether one of the inputs reads the field at the place.
-fn reads(inputs: &[Input], place: usize) -> bool
-    ensures { result ≡ list_any (λ i. i.place == place) inputs.now }
-{
-    inputs.iter().any(|input| input.place == place)
 }

@@ -4,7 +4,10 @@ use crate::stop::line::LINE_LIMIT_BYTES;
 use std::io;
 use std::io::ErrorKind;
 use std::process::Abort;
-use std::test::Fail;
+
+mod hit_policies;
+mod plan_faults;
+mod values;
 
 /// One table over one number.
 const PLAN: &str = "version = 1
@@ -13,15 +16,6 @@ fields = [{name = \"x\", kind = \"number\"}]
 inputs = [{name = \"x\"}]
 outputs = [{name = \"y\", kind = \"number\"}]
 rules = [{when = ['[0..10['], then = ['1']}, {when = ['>=10'], then = ['2.5']}]
-";
-
-/// Two rules that both match at 2.
-const CLASHING: &str = "version = 1
-fields = [{name = \"x\", kind = \"number\"}]
-[[tables]]
-inputs = [{name = \"x\"}]
-outputs = [{name = \"y\", kind = \"number\"}]
-rules = [{when = ['>0'], then = ['1']}, {when = ['>1'], then = ['1']}]
 ";
 
 /// Two inputs, in another order than their fields, and two outputs.
@@ -79,7 +73,6 @@ fn prints_the_one_match(rt: HostRuntime) {
 fn refuses_what_has_no_value(rt: HostRuntime) {
     let alloc = rt.alloc();
     refuses(&rt, alloc, PLAN, &["x=-1"], "fault norule:1\n");
-    refuses(&rt, alloc, CLASHING, &["x=2"], "fault clash:1\n");
     refuses(&rt, alloc, PLAN, &[], "missing x\n");
     refuses(&rt, alloc, CROSSED, &["b=1"], "missing a\n");
     refuses(&rt, alloc, CROSSED, &[], "missing a\n");

@@ -1,60 +1,82 @@
-//! The printed text: the entries of each table's one match, a line for each output.
+//! The printed text: a line for each output of each table, with the output's value.
 
-ghost use Rattle.std.specs.Prelude.{◌≡◌, ◌+◌, ◌++◌, map, List, Ok, IfOk, IfErr, OnOk};
-ghost use Rattle.adjudicate.specs.ValueText.{output_line, table_lines, tables_lines};
-ghost use Rattle.adjudicate.specs.Evaluation.{values_from};
-ghost use Rattle.adjudicate.specs.Stop.{RefusesValues};
+ghost use Rattle.std.specs.Prelude.{◌≡◌, ◌++◌, codes, IfOk, OnOk, flat_map};
+ghost use Rattle.feel_tests.specs.Value.{literal_text};
+ghost use Rattle.adjudicate.specs.ValueText.{answer_text, list_text, output_line, table_lines, value_lines};
 
-use crate::evaluation::{Inputs, unique_match};
-use crate::plan::{Output, Rule, Table};
-use crate::stop::Stop;
+use dtable::{Answer, Env, Output, Table};
 use feel_tests::Value;
 use std::alloc::{AllocError, Global};
 
-/// The one match of each table, in order.
-pub fn table_rules<'a>(
-    alloc: Global,
-    tables: &'a [Table],
-    inputs: &Inputs,
-) -> Result<Vec<&'a Rule>, Stop>
-    ensures values { IfOk result (λ rules. values_from 1 inputs.now tables.now ≡ Ok (map (λ r. r.now.entries) rules.items)) }
-    ensures refused { IfErr result (RefusesValues tables.now inputs.now) }
-{
-    let mut rules = Vec::with_capacity(alloc, tables.len())?;
-    for (index, table) in tables.iter().enumerate() {
-        rules.push(unique_match(index + 1, table, inputs)?)?;
-    }
-    Ok(rules)
-}
-
-/// The lines of all tables, in order.
-pub fn tables_text(alloc: Global, tables: &[Table], rules: &[&Rule]) -> Result<Vec<u8>, AllocError>
-    ensures { IfOk result (λ text. text.items ≡ tables_lines tables.now (map (λ r. r.now.entries) rules.now)) }
+/// The lines of these tables, in order.
+pub fn value_lines(alloc: Global, tables: &[Table], values: &Env) -> Result<Vec<u8>, AllocError>
+    ensures { IfOk result (λ text. text.items ≡ value_lines values.now tables.now) }
 {
     let mut text = Vec::new(alloc);
-    for (table, rule) in tables.iter().zip(rules) {
-        append_lines(&mut text, table.outputs.as_slice(), rule.entries.as_slice())?;
+    for table in tables {
+        append_table(&mut text, table.outputs.as_slice(), values)?;
     }
     Ok(text)
 }
 
-// The lines of one table.
-fn append_lines(text: &mut Vec<u8>, outputs: &[Output], entries: &[Value]) -> Result<(), AllocError>
-    ensures { OnOk result (text.new.items ≡ text.old.items ++ table_lines outputs.now entries.now) }
+// The lines of one table's outputs, in order.
+fn append_table(text: &mut Vec<u8>, outputs: &[Output], values: &Env) -> Result<(), AllocError>
+    ensures { OnOk result (text.new.items ≡ text.old.items ++ table_lines values.now outputs.now) }
 {
-    for (output, value) in outputs.iter().zip(entries) {
-        append_line(text, output, value)?;
+    for output in outputs {
+        append_output(text, output, values)?;
     }
     Ok(())
 }
 
-// `NAME = LITERAL`, and the end of the line.
-fn append_line(text: &mut Vec<u8>, output: &Output, value: &Value) -> Result<(), AllocError>
-    ensures { OnOk result (text.new.items ≡ text.old.items ++ output_line output.now value.now) }
+// `NAME = VALUE`, and the end of the line.
+fn append_output(text: &mut Vec<u8>, output: &Output, values: &Env) -> Result<(), AllocError>
+    ensures { OnOk result (text.new.items ≡ text.old.items ++ output_line values.now output.now) }
 {
-    text.extend_from_slice(output.name.as_str().as_bytes())?;
-    text.extend_from_slice(b" = ")?;
-    value.write_text(text)?;
-    text.push(b'\n')?;
+    if let Some(answer) = values.get(output.name.as_str()) {
+        text.extend_from_slice(output.name.as_str().as_bytes())?;
+        text.extend_from_slice(b" = ")?;
+        append_answer(text, answer)?;
+        text.push(b'\n')?;
+    }
+    Ok(())
+}
+
+// A literal, or a list of them in square brackets.
+fn append_answer(text: &mut Vec<u8>, answer: &Answer) -> Result<(), AllocError>
+    ensures { OnOk result (text.new.items ≡ text.old.items ++ answer_text answer.now) }
+{
+    match answer {
+        Answer::One(value) => value.write_text(text)?,
+        Answer::Many(values) => {
+            text.push(b'[')?;
+            append_list(text, values.as_slice())?;
+            text.push(b']')?;
+        }
+    }
+    Ok(())
+}
+
+// The literals, with a comma and a space between two of them.
+fn append_list(text: &mut Vec<u8>, values: &[Value]) -> Result<(), AllocError>
+    ensures { OnOk result (text.new.items ≡ text.old.items ++ list_text values.now) }
+{
+    match values {
+        [] => Ok(()),
+        [first, others @ ..] => {
+            first.write_text(text)?;
+            append_others(text, others)
+        }
+    }
+}
+
+// The literals, with a comma and a space in front of each.
+fn append_others(text: &mut Vec<u8>, values: &[Value]) -> Result<(), AllocError>
+    ensures { OnOk result (text.new.items ≡ text.old.items ++ flat_map (λ value. codes ", " ++ literal_text value) values.now) }
+{
+    for value in values {
+        text.extend_from_slice(b", ")?;
+        value.write_text(text)?;
+    }
     Ok(())
 }

@@ -1,4 +1,3 @@
-use Rattle.std.proofs.Common.{◌≡◌}
 use Rattle.std.proofs.lemmas.Result.{on_ok_weaker, IfErr-weaker}
 use Rattle.adjudicate.proofs.Refusals.{writes_until}
 use Rattle.adjudicate.proofs.value.do_value.Goals as goal

@@ -1,4 +1,4 @@
-use Rattle.std.proofs.Common.{◌≡◌, false, arith, ◌-◌, length, length-drop, length-take, ℕ}
+use Rattle.std.proofs.Common.{◌≡◌, false, arith, length-drop, length-take, ℕ}
 use Rattle.fixpoint.specs.Out.{has_failed}
 use Rattle.adjudicate.proofs.Puts.{Appends-front}
 use Rattle.adjudicate.proofs.value.put_all.Goals as goal

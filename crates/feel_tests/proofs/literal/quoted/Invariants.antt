@@ -1,6 +1,6 @@
 use Rattle.std.proofs.Common.{◌≡◌, ◌∷◌, take}
 use Rattle.std.specs.Prelude.{flat_map}
-use Rattle.feel_tests.specs.Value.{escaped_byte}
+use Rattle.feel_tests.specs.Words.{escaped_byte}
 use Rattle.feel_tests.proofs.literal.quoted.Given as goal
 
 abbrev pub invariant-loop-byte : goal.invariant-loop-byte

@@ -3,4 +3,4 @@ use Rattle.feel_tests.proofs.reading.read_value.Goals as goal
 
 pub returns-in-Err-clause-refused : goal.returns-in-Err-clause-refused
 returns-in-Err-clause-refused c memory value h =
-    c.in-Err.ensures.refused (λ e. memory (c.fault_in.ensures ∙ e)) value (rw c.as_bytes.ensures.value h)
+    c.in-Err.ensures.refused (λ e. memory (c.fault_in.ensures.cause ∙ e)) value (rw c.as_bytes.ensures.value h)

@@ -1,7 +1,7 @@
 use Rattle.std.proofs.Common.{sym, ◌∙◌}
 use denote.Enum.Bare.{same_false}
 use Rattle.feel_tests.specs.contracts.symbol.Symbol.{the_type}
-use Rattle.feel_tests.proofs.Literals.{one_sign}
+use Rattle.feel_tests.proofs.OneWord.{one_sign}
 use Rattle.feel_tests.proofs.word.after_symbol.Goals as goal
 
 pub returns-in_err-found-clause-none : goal.returns-in_err-found-clause-none

@@ -1,13 +1,8 @@
-use Rattle.std.proofs.Common.{below_more, ◌∙◌}
-use Rattle.std.proofs.lemmas.Bool.{false≢true}
-use Rattle.adjudicate.proofs.Givens.{some_value}
+use Rattle.std.proofs.Common.{◌≤◌, length, subst}
+use Rattle.adjudicate.proofs.ReadNames.{IsReady-from_below}
 use Rattle.adjudicate.proofs.value.arguments.first_missing.Goals as goal
-use Rattle.adjudicate.proofs.value.arguments.first_missing.Goals.{else-is_read-via-then-is_read+else-is_none, else-is_read-via-else-is_read}
 
-pub loop-place-preserved : goal.loop-place-preserved
-loop-place-preserved c =
-    below_more _ _ c.loop-place.invariant
-    (elim c.else-is_read.branch [
-      | else-is_read-via-then-is_read+else-is_none w ↦ λ _. some_value _ _ w.if-is_none.ensures w.get.ensures
-      | else-is_read-via-else-is_read w ↦ λ read. absurd (false≢true (w.if-is_read.ensures ∙ read))
-    ])
+pub returns-clause-ready : goal.returns-clause-ready
+returns-clause-ready c =
+    IsReady-from_below c.args.plan.now c.args.inputs.now c.loop-place.place c.names-input-items.ensures.sound
+    (subst (λ names. length names ≤ c.loop-place.place) c.names-input-items.ensures.names c.loop-place-test.false) c.loop-place.invariant

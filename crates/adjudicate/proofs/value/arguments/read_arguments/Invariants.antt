@@ -4,4 +4,4 @@ use Rattle.adjudicate.proofs.value.arguments.read_arguments.Given as goal
 
 -- the arguments so far give what is in the inputs
 abbrev pub invariant-loop-index : goal.invariant-loop-index
-invariant-loop-index l = Gives l.fields (take l.index (texts_of l.arguments)) l.inputs
+invariant-loop-index l = Gives l.plan.names (take l.index (texts_of l.arguments)) l.inputs

@@ -1,0 +1,14 @@
+pub mod Entries
+pub mod Matches
+pub mod Named
+pub mod OnlyOrder
+pub mod PriorityOrder
+pub mod ReadNames
+pub mod ReadOnce
+pub mod ReadParts
+pub mod ReadPlan
+pub mod ReadRoles
+pub mod ReadTables
+pub mod Ready
+pub mod Sound
+pub mod Steps

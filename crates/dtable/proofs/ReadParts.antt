@@ -1,0 +1,235 @@
+-- The parts of a plan's document: each entry spells one thing at most, and what leaves none.
+use Rattle.std.proofs.Common.{◌≡◌, ℕ, ◌+◌, ◌<◌, Bool, true, false, if◌then◌else◌, List, [], ◌∷◌, ◌++◌, length, map, codes, Option, Some, None, Result, Ok, Err, IsTrue, take, get_or, refl, sym, ap, ◌∙◌, arith}
+use Rattle.std.specs.Str.{bytes_eq}
+use Rattle.std.proofs.lemmas.Bool.{false≢true}
+use Rattle.std.proofs.lemmas.Option.{same_Some}
+use Rattle.toml.specs.Data.{Data, Items, string, get, as_str, as_array}
+use Rattle.toml.specs.View.{view, items_view}
+use Rattle.toml.specs.declared.value.Value.{Value as Entry}
+use Rattle.feel_tests.specs.declared.kind.Kind.{Kind}
+use Rattle.feel_tests.specs.declared.kind.Kind.TheVariants as kinds
+use Rattle.feel_tests.specs.declared.cell.Cell.{Cell}
+use Rattle.feel_tests.specs.declared.value.Value.{Value}
+use Rattle.feel_tests.specs.Cell.{SpellsValue, SpellsOneCell, SpellsOneValue}
+use Rattle.dtable.specs.declared.hit.Hit.{Hit}
+use Rattle.dtable.specs.declared.hit.Hit.TheVariants as hits
+use Rattle.dtable.specs.declared.table.InputData.{InputData}
+use Rattle.dtable.specs.declared.table.Input.{Input}
+use Rattle.dtable.specs.declared.table.Origin.{Origin}
+use Rattle.dtable.specs.declared.table.Output.{Output}
+use Rattle.dtable.specs.declared.table.Rule.{Rule}
+use Rattle.dtable.specs.declared.table.Table.{Table}
+use Rattle.dtable.specs.Document.{Optionally, Each, EachBehind}
+use Rattle.dtable.specs.NameForm.{is_among, reserved_names}
+use Rattle.dtable.specs.Names.{names_of}
+use Rattle.dtable.specs.declared.plan_fault.PlanFault.{PlanFault}
+use Rattle.dtable.specs.Plan.{is_ranked}
+use Rattle.dtable.specs.Reading.{Reads}
+use Rattle.dtable.specs.PlanFile.{IsEntry, is_listed, kind_word, hit_word, IsNamed, IsNewlyNamed, IsOfKind, IsLiteral, IsCellOf, IsCell, IsField, AreFields, IsInput, IsPriority, ArePriorityEntries, ArePriorities, IsOutput, IsHit, AreInputs, AreOutputs, AreRules, IsTable, AreTables, AreNames, AreTablesOf}
+use Rattle.dtable.specs.Scope.{SeenOutput, seen_as, seen_of, seen_output, origin_of, kind_at, taken_names}
+use Rattle.dtable.proofs.Entries.{Optionally-same, Each-same, EachBehind-same, EachBehind-seen}
+
+-- words stand for one kind, and for one hit policy
+kind_of_word : List ℕ → Kind
+kind_of_word word = if bytes_eq word (codes "number") then kinds.Number else if bytes_eq word (codes "text") then kinds.Text else if bytes_eq word (codes "flag") then kinds.Flag else kinds.Day
+
+kind_of_word-word : (k : Kind) → kind_of_word (kind_word k) ≡ k
+unfolding kind_of_word
+kind_of_word-word kinds.Number = refl
+kind_of_word-word kinds.Text = refl
+kind_of_word-word kinds.Flag = refl
+kind_of_word-word kinds.Day = refl
+
+pub kind_word-same : (k l : Kind) → kind_word k ≡ kind_word l → k ≡ l
+kind_word-same k l e = sym (kind_of_word-word k) ∙ ap kind_of_word e ∙ kind_of_word-word l
+
+hit_of_word : List ℕ → Hit
+hit_of_word word =
+    if bytes_eq word (codes "U") then hits.U else if bytes_eq word (codes "A") then hits.A else if bytes_eq word (codes "P") then hits.P
+    else if bytes_eq word (codes "F") then hits.F else if bytes_eq word (codes "O") then hits.O else if bytes_eq word (codes "R") then hits.R
+    else if bytes_eq word (codes "C") then hits.C else if bytes_eq word (codes "C+") then hits.Sum else if bytes_eq word (codes "C<") then hits.Min
+    else if bytes_eq word (codes "C>") then hits.Max else hits.Count
+
+hit_of_word-word : (h : Hit) → hit_of_word (hit_word h) ≡ h
+unfolding hit_of_word
+hit_of_word-word hits.U = refl
+hit_of_word-word hits.A = refl
+hit_of_word-word hits.P = refl
+hit_of_word-word hits.F = refl
+hit_of_word-word hits.O = refl
+hit_of_word-word hits.R = refl
+hit_of_word-word hits.C = refl
+hit_of_word-word hits.Sum = refl
+hit_of_word-word hits.Min = refl
+hit_of_word-word hits.Max = refl
+hit_of_word-word hits.Count = refl
+
+pub hit_word-same : (g h : Hit) → hit_word g ≡ hit_word h → g ≡ h
+hit_word-same g h e = sym (hit_of_word-word g) ∙ ap hit_of_word e ∙ hit_of_word-word h
+
+same_string : (a b : List ℕ) (d : Data) → d ≡ string a → d ≡ string b → a ≡ b
+same_string a b d h k = cc
+
+pub IsHit-same : (o : Option Data) (g h : Hit) → IsHit o g → IsHit o h → g ≡ h
+IsHit-same None g h a b = a ∙ sym b
+IsHit-same (Some d) g h a b = hit_word-same g h (same_string (hit_word g) (hit_word h) d a b)
+
+-- an entry has one name and one kind at most
+pub IsNamed-same : (entry : Data) (a b : List ℕ) → IsNamed entry a → IsNamed entry b → a ≡ b
+IsNamed-same entry a b h k = same_Some a b (sym h.written ∙ k.written)
+
+pub IsOfKind-same : (entry : Data) (k l : Kind) → IsOfKind entry k → IsOfKind entry l → k ≡ l
+IsOfKind-same entry k l a b = kind_word-same k l (same_Some (kind_word k) (kind_word l) (sym a ∙ b))
+
+-- a taken name is no new one
+pub IsNewlyNamed-taken : (taken : List (List ℕ)) (entry : Data) (name : List ℕ) → IsNamed entry name → is_among name taken ≡ true → (other : List ℕ) → ¬ IsNewlyNamed taken entry other
+IsNewlyNamed-taken taken entry name named among other h =
+    let same : other ≡ name = IsNamed-same entry other name h.named named in
+    false≢true (sym (rw same at h.new) ∙ among)
+
+-- an entry is one field at most
+pub IsField-name : (taken : List (List ℕ)) (d : Data) (f g : InputData) → IsField taken d f → IsField taken d g → f.name ≡ g.name
+IsField-name taken d f g h k = IsNamed-same d f.name g.name h.name.named k.name.named
+
+pub IsField-same : (taken : List (List ℕ)) (d : Data) (f g : InputData) → IsField taken d f → IsField taken d g → f ≡ g
+IsField-same taken d f g h k =
+    let made : List ℕ → Kind → InputData = λ n j. record { name = n; kind = j } in
+    ap (λ n. made n f.kind) (IsField-name taken d f g h k) ∙ ap (made g.name) (IsOfKind-same d f.kind g.kind h.kind k.kind)
+
+pub AreFields-same : (ds : Items) (fs gs : List InputData) → AreFields ds fs → AreFields ds gs → fs ≡ gs
+AreFields-same ds fs gs h k = EachBehind-same (λ f. f.name) IsField IsField-same reserved_names ds fs gs h.each k.each
+
+pub AreNames-same : (document : Data) (ms ns : List InputData) → AreNames document ms → AreNames document ns → ms ≡ ns
+AreNames-same document ms ns h k =
+    let entries : k.entries ≡ h.entries = same_Some k.entries h.entries (sym k.written ∙ h.written) in
+    h.named ∙ ap names_of (AreFields-same h.entries h.fields k.fields h.spelled (rw entries at k.spelled)) ∙ sym k.named
+
+-- literals and cells, where a text spells one at most
+module _ (once : SpellsOneValue) where
+  pub IsLiteral-same : (kind : Kind) (d : Data) (a b : Value) → IsLiteral kind d a → IsLiteral kind d b → a ≡ b
+  IsLiteral-same kind d a b h k =
+      let same : k.text ≡ h.text = same_string k.text h.text d k.written h.written in
+      once kind h.text a b h.spelled (rw same at k.spelled)
+
+  pub IsPriority-same : (kind : Kind) (front : List Value) (d : Data) (a b : Value) → IsPriority kind front d a → IsPriority kind front d b → a ≡ b
+  IsPriority-same kind front d a b h k = IsLiteral-same kind d a b h.literal k.literal
+
+  pub ArePriorities-same : (kind : Kind) (d : Data) (vs ws : List Value) → ArePriorities kind d vs → ArePriorities kind d ws → vs ≡ ws
+  ArePriorities-same kind d vs ws h k =
+      let entries : k.entries ≡ h.entries = same_Some k.entries h.entries (sym k.written ∙ h.written) in
+      let other = rw entries at k.spelled in
+      EachBehind-same (λ v. v) (IsPriority kind) (IsPriority-same kind) [] h.entries vs ws h.spelled.each other.each
+
+  -- an entry is one output at most
+  pub IsOutput-same : (hit : Hit) (taken : List (List ℕ)) (d : Data) (o p : Output) → IsOutput hit taken d o → IsOutput hit taken d p → o ≡ p
+  IsOutput-same hit taken d o p h k =
+      let names : o.name ≡ p.name = IsNamed-same d o.name p.name h.name.named k.name.named in
+      let kinds : o.kind ≡ p.kind = IsOfKind-same d o.kind p.kind h.kind k.kind in
+      let lists : o.priority ≡ p.priority = Optionally-same (ArePriorities p.kind) (ArePriorities-same p.kind) (get (codes "priority") d) o.priority p.priority (rw kinds at h.priority) k.priority in
+      let defaults : o.fallback ≡ p.fallback = Optionally-same (IsLiteral (seen_as hit p.kind)) (IsLiteral-same (seen_as hit p.kind)) (get (codes "default") d) o.fallback p.fallback (rw kinds at h.fallback) k.fallback in
+      let made : List ℕ → Kind → Option (List Value) → Option Value → Output = λ n j l f. record { name = n; kind = j; priority = l; fallback = f } in
+      ap (λ n. made n o.kind o.priority o.fallback) names ∙ ap (λ j. made p.name j o.priority o.fallback) kinds
+      ∙ ap (λ l. made p.name p.kind l o.fallback) lists ∙ ap (made p.name p.kind p.priority) defaults
+
+  pub AreOutputs-same : (hit : Hit) (taken : List (List ℕ)) (d : Data) (os ps : List Output) → AreOutputs hit taken d os → AreOutputs hit taken d ps → os ≡ ps
+  AreOutputs-same hit taken d os ps h k =
+      let entries : k.entries ≡ h.entries = same_Some k.entries h.entries (sym k.written ∙ h.written) in
+      EachBehind-same (λ o. o.name) (IsOutput hit) (IsOutput-same hit) taken h.entries os ps h.each (rw entries at k.each)
+
+  -- it is the same that is seen of the tables that an entry spells
+  pub IsTable-seen : (names : List InputData) (earlier : List (List SeenOutput)) (d : Data) (t u : Table) → IsTable names earlier d t → IsTable names earlier d u → seen_of t ≡ seen_of u
+  IsTable-seen names earlier d t u h k =
+      let same_hits : t.hit ≡ u.hit = IsHit-same (get (codes "hit") d) t.hit u.hit h.hit k.hit in
+      let outputs : t.outputs ≡ u.outputs = AreOutputs-same u.hit (taken_names names earlier) d t.outputs u.outputs (rw same_hits at h.outputs) k.outputs in
+      ap (λ g. map (seen_output g) t.outputs) same_hits ∙ ap (map (seen_output u.hit)) outputs
+
+  pub AreTables-seen : (names : List InputData) (ds : Items) (ts us : List Table) → AreTables names ds ts → AreTables names ds us → map seen_of ts ≡ map seen_of us
+  AreTables-seen names ds ts us h k = EachBehind-seen seen_of (IsTable names) (IsTable-seen names) [] ds ts us h.each k.each
+
+  pub AreTablesOf-seen : (names : List InputData) (document : Data) (ts us : List Table) → AreTablesOf names document ts → AreTablesOf names document us → map seen_of ts ≡ map seen_of us
+  AreTablesOf-seen names document ts us h k =
+      let entries : k.entries ≡ h.entries = same_Some k.entries h.entries (sym k.written ∙ h.written) in
+      AreTables-seen names h.entries ts us h.spelled (rw entries at k.spelled)
+
+module _ (once : SpellsOneCell) where
+  pub IsCellOf-same : (kind : Kind) (d : Data) (a b : Cell) → IsCellOf kind d a → IsCellOf kind d b → a ≡ b
+  IsCellOf-same kind d a b h k =
+      let same : k.text ≡ h.text = same_string k.text h.text d k.written h.written in
+      once kind h.text a b h.spelled (rw same at k.spelled)
+
+  pub IsCell-same : (names : List InputData) (earlier : List (List SeenOutput)) (origin : Origin) (d : Data) (a b : Cell) → IsCell names earlier origin d a → IsCell names earlier origin d b → a ≡ b
+  IsCell-same names earlier origin d a b h k =
+      let same : k.kind ≡ h.kind = same_Some k.kind h.kind (sym k.known ∙ h.known) in
+      IsCellOf-same h.kind d a b h.spelled (rw same at k.spelled)
+
+  -- an entry is one input at most
+  pub IsInput-same : (names : List InputData) (earlier : List (List SeenOutput)) (d : Data) (i j : Input) → IsInput names earlier d i → IsInput names earlier d j → i ≡ j
+  IsInput-same names earlier d i j h k =
+      let same_names : i.name ≡ j.name = IsNamed-same d i.name j.name h.name k.name in
+      let origins : i.origin ≡ j.origin = same_Some i.origin j.origin (sym h.known ∙ ap (origin_of names earlier) same_names ∙ k.known) in
+      let cells : i.values ≡ j.values = Optionally-same (IsCell names earlier j.origin) (IsCell-same names earlier j.origin) (get (codes "values") d) i.values j.values (rw origins at h.values) k.values in
+      let made : List ℕ → Origin → Option Cell → Input = λ n o v. record { name = n; origin = o; values = v } in
+      ap (λ n. made n i.origin i.values) same_names ∙ ap (λ o. made j.name o i.values) origins ∙ ap (made j.name j.origin) cells
+
+  pub AreInputs-same : (names : List InputData) (earlier : List (List SeenOutput)) (d : Data) (is js : List Input) → AreInputs names earlier d is → AreInputs names earlier d js → is ≡ js
+  AreInputs-same names earlier d is js h k =
+      let entries : k.entries ≡ h.entries = same_Some k.entries h.entries (sym k.written ∙ h.written) in
+      Each-same (IsInput names earlier) (IsInput-same names earlier) h.entries is js h.each (rw entries at k.each)
+
+-- an answer about one thing, as an answer about another that it makes
+pub Reads-as : {A : Type 0} (P Q : A → Type 0) (r : Result A PlanFault) → ((x : A) → P x → Q x) → ((x : A) → Q x → P x) → Reads P r → Reads Q r
+Reads-as P Q (Ok x) to from h = to x h
+Reads-as P Q (Err fault) to from h = λ memory x q. h memory x (from x q)
+
+-- a string that spells no literal
+pub IsLiteral-refused : (kind : Kind) (d : Data) (text : List ℕ) → as_str d ≡ Some text → ((v : Value) → ¬ SpellsValue kind text v) → (v : Value) → ¬ IsLiteral kind d v
+IsLiteral-refused kind d text read none v h =
+    let same : h.text ≡ text = same_Some h.text text (sym (ap as_str h.written) ∙ read) in
+    none v (rw same at h.spelled)
+
+-- a cell of the kind that comes from there
+pub IsCell-made : (names : List InputData) (earlier : List (List SeenOutput)) (origin : Origin) (kind : Kind) → kind_at names earlier origin ≡ Some kind → (d : Data) (cell : Cell) → IsCellOf kind d cell → IsCell names earlier origin d cell
+IsCell-made names earlier origin kind known d cell h = record { kind = kind; known = known; spelled = h }
+
+pub IsCell-kind : (names : List InputData) (earlier : List (List SeenOutput)) (origin : Origin) (kind : Kind) → kind_at names earlier origin ≡ Some kind → (d : Data) (cell : Cell) → IsCell names earlier origin d cell → IsCellOf kind d cell
+IsCell-kind names earlier origin kind known d cell h =
+    let same : h.kind ≡ kind = same_Some h.kind kind (sym h.known ∙ known) in
+    rw same at h.spelled
+
+-- an entry whose name is unknown, or whose allowed values are none
+pub IsInput-unknown : (names : List InputData) (earlier : List (List SeenOutput)) (d : Data) (name : List ℕ) → IsNamed d name → origin_of names earlier name ≡ None → (i : Input) → ¬ IsInput names earlier d i
+IsInput-unknown names earlier d name named unknown i h =
+    let same : i.name ≡ name = IsNamed-same d i.name name h.name named in
+    let known = rw same at h.known in
+    let clash : None ≡ Some i.origin = sym unknown ∙ known in
+    cc
+
+pub IsInput-no_values : (names : List InputData) (earlier : List (List SeenOutput)) (d : Data) (name : List ℕ) (origin : Origin) → IsNamed d name → origin_of names earlier name ≡ Some origin
+    → ((v : Option Cell) → ¬ Optionally (IsCell names earlier origin) (get (codes "values") d) v) → (i : Input) → ¬ IsInput names earlier d i
+IsInput-no_values names earlier d name origin named known none i h =
+    let same : i.name ≡ name = IsNamed-same d i.name name h.name named in
+    let origins : i.origin ≡ origin = same_Some i.origin origin (sym (rw same at h.known) ∙ known) in
+    none i.values (rw origins at h.values)
+
+-- an entry whose priority list or default is none
+pub IsOutput-no_priority : (hit : Hit) (taken : List (List ℕ)) (d : Data) (kind : Kind) → IsOfKind d kind → ((l : Option (List Value)) → ¬ Optionally (ArePriorities kind) (get (codes "priority") d) l) → (o : Output) → ¬ IsOutput hit taken d o
+IsOutput-no_priority hit taken d kind known none o h =
+    let same : o.kind ≡ kind = IsOfKind-same d o.kind kind h.kind known in
+    none o.priority (rw same at h.priority)
+
+pub IsOutput-no_fallback : (hit : Hit) (taken : List (List ℕ)) (d : Data) (kind : Kind) → IsOfKind d kind → ((f : Option Value) → ¬ Optionally (IsLiteral (seen_as hit kind)) (get (codes "default") d) f) → (o : Output) → ¬ IsOutput hit taken d o
+IsOutput-no_fallback hit taken d kind known none o h =
+    let same : o.kind ≡ kind = IsOfKind-same d o.kind kind h.kind known in
+    none o.fallback (rw same at h.fallback)
+
+-- a value that stands in the list already, and one that the list lacks
+pub IsPriority-listed : SpellsOneValue → (kind : Kind) (front : List Value) (d : Data) (v : Value) → IsLiteral kind d v → is_listed front v ≡ true → (w : Value) → ¬ IsPriority kind front d w
+IsPriority-listed once kind front d v literal listed w h =
+    let same : w ≡ v = IsLiteral-same once kind d w v h.literal literal in
+    false≢true (sym (rw same at h.new) ∙ listed)
+
+pub IsEntry-unlisted : SpellsOneValue → (o : Output) (d : Data) (v : Value) → IsLiteral o.kind d v → is_ranked o.priority v ≡ false → (w : Value) → ¬ IsEntry o d w
+IsEntry-unlisted once o d v literal unlisted w h =
+    let same : w ≡ v = IsLiteral-same once o.kind d w v h.literal literal in
+    let listed : is_ranked o.priority v ≡ true = rw same at h.listed in
+    false≢true (sym unlisted ∙ listed)

@@ -1,0 +1,102 @@
+-- What a role's string spells, and what leaves no source.
+use Rattle.std.proofs.Common.{◌≡◌, ◌≢◌, ℕ, ℤ, pos, ◌≤ℤ◌, ◌*◌, ◌/◌, ◌%◌, eqb, ◌≤◌, Bool, true, false, List, length, codes, Option, Some, None, Result, Ok, Err, IfOk, OnOk, OnErr, is_some, subst, refl, sym, ap, ◌∙◌, arith}
+use Rattle.std.proofs.lemmas.Bool.{false≢true, eqb-true, eq-eqb}
+use Rattle.std.proofs.lemmas.Int.{ints}
+use Rattle.std.specs.Int.RustNames.{unsigned_abs}
+use Rattle.std.proofs.lemmas.Option.{same_Some}
+use Rattle.toml.specs.Data.{Data, string, integer, float, boolean, datetime, array, table, get, as_table}
+use Rattle.feel_tests.specs.declared.kind.Kind.{Kind}
+use Rattle.feel_tests.specs.declared.value.Value.{Value}
+use Rattle.feel_tests.specs.Cell.{SpellsValue, SpellsOneValue}
+use Rattle.feel_tests.specs.Value.{kind_of}
+use Rattle.dtable.specs.declared.name.TheConstants.{NAME_LIMIT_BYTES}
+use Rattle.dtable.specs.declared.plan_fault.PlanFault.{PlanFault}
+use Rattle.dtable.specs.declared.roles.Roles.{Roles}
+use Rattle.dtable.specs.declared.roles.Source.{Source}
+use Rattle.dtable.specs.declared.roles.Source.TheVariants.{Literal, Input, Output}
+use Rattle.dtable.specs.declared.reading.roles.Asked.{Asked}
+use Rattle.dtable.specs.declared.table.InputData.{InputData}
+use Rattle.dtable.specs.declared.table.Origin.{Origin}
+use Rattle.dtable.specs.declared.table.Origin.TheVariants.{Given, Earlier}
+use Rattle.dtable.specs.Document.{string_at}
+use Rattle.dtable.specs.Reading.{Reads}
+use Rattle.dtable.specs.RoleFile.{IsSource, IsNamedSource, SpellsNone, IsRole, AreRoles, IsMoney, Meets, asked_kind}
+use Rattle.dtable.specs.Scope.{SeenOutput, origin_of, kind_at}
+
+module _ (names : List InputData) (earlier : List (List SeenOutput)) where
+  -- a name that stands for nothing, for a value of another kind, or that is longer than names are
+  pub named_none : (kind : Kind) (text : List ℕ) → origin_of names earlier text ≡ None → (s : Source) → ¬ IsNamedSource names earlier kind text s
+  named_none kind text none (Literal value) h = h
+  named_none kind text none (Input place) h = let clash : None ≡ Some (Given place) = sym none ∙ h.known in cc
+  named_none kind text none (Output name) h = let clash : None ≡ Some (Earlier h.table h.column) = sym none ∙ h.known in cc
+
+  pub named_other_kind : (kind : Kind) (text : List ℕ) (origin : Origin) → origin_of names earlier text ≡ Some origin → ¬ (kind_at names earlier origin ≡ Some kind) → (s : Source) → ¬ IsNamedSource names earlier kind text s
+  named_other_kind kind text origin known other (Literal value) h = h
+  named_other_kind kind text origin known other (Input place) h =
+      let same : Given place ≡ origin = same_Some (Given place) origin (sym h.known ∙ known) in
+      other (subst (λ o. kind_at names earlier o ≡ Some kind) same h.of_kind)
+  named_other_kind kind text origin known other (Output name) h =
+      let same : Earlier h.table h.column ≡ origin = same_Some (Earlier h.table h.column) origin (sym h.known ∙ known) in
+      other (subst (λ o. kind_at names earlier o ≡ Some kind) same h.of_kind)
+
+  pub named_long : (kind : Kind) (text : List ℕ) (t c : ℕ) → origin_of names earlier text ≡ Some (Earlier t c) → ¬ (length text ≤ NAME_LIMIT_BYTES) → (s : Source) → ¬ IsNamedSource names earlier kind text s
+  named_long kind text t c known long (Literal value) h = h
+  named_long kind text t c known long (Input place) h =
+      let clash : Given place ≡ Earlier t c = same_Some (Given place) (Earlier t c) (sym h.known ∙ known) in cc
+  named_long kind text t c known long (Output name) h = long h.short
+
+  -- a string that is no literal
+  pub source_named : (asked : Asked) (text : List ℕ) → SpellsNone (asked_kind asked) text → (s : Source) → IsNamedSource names earlier (asked_kind asked) text s → IsSource names earlier asked text s
+  source_named asked text none (Literal value) h = absurd h
+  source_named asked text none (Input place) h = (none, h)
+  source_named asked text none (Output name) h = (none, h)
+
+  pub named_source : (asked : Asked) (text : List ℕ) → SpellsNone (asked_kind asked) text → (s : Source) → IsSource names earlier asked text s → IsNamedSource names earlier (asked_kind asked) text s
+  named_source asked text none (Literal value) h = none value h.spelled
+  named_source asked text none (Input place) h = h.1
+  named_source asked text none (Output name) h = h.1
+
+  -- a string that is a literal
+  literal_unmet : SpellsOneValue → (asked : Asked) (text : List ℕ) (value : Value) → SpellsValue (asked_kind asked) text value → ¬ Meets asked value → (s : Source) → ¬ IsSource names earlier asked text s
+  literal_unmet once asked text value spelled unmet (Literal other) h =
+      let same : other ≡ value = once (asked_kind asked) text other value h.spelled spelled in
+      unmet (rw same at h.meets)
+  literal_unmet once asked text value spelled unmet (Input place) h = h.0 value spelled
+  literal_unmet once asked text value spelled unmet (Output name) h = h.0 value spelled
+
+  pub source_literal : SpellsOneValue → (asked : Asked) (text : List ℕ) (value : Value) → SpellsValue (asked_kind asked) text value → kind_of value ≡ asked_kind asked → (r : Result Source PlanFault)
+      → IfOk r (λ s. s ≡ Literal value) → OnOk r (Meets asked value) → OnErr r (¬ Meets asked value) → Reads (IsSource names earlier asked text) r
+  source_literal once asked text value spelled kind (Ok s) same meets unmet = rw same (record { spelled = spelled; of_kind = kind; meets = meets })
+  source_literal once asked text value spelled kind (Err fault) same meets unmet = λ memory. literal_unmet once asked text value spelled unmet
+
+  -- the string at a role's key
+  pub role_made : (asked : Asked) (key : List ℕ) (d : Data) (text : List ℕ) → string_at key d ≡ Some text → (s : Source) → IsSource names earlier asked text s → IsRole names earlier asked key d s
+  role_made asked key d text read s h = record { text = text; written = read; spelled = h }
+
+  pub role_source : (asked : Asked) (key : List ℕ) (d : Data) (text : List ℕ) → string_at key d ≡ Some text → (s : Source) → IsRole names earlier asked key d s → IsSource names earlier asked text s
+  role_source asked key d text read s h =
+      let same : h.text ≡ text = same_Some h.text text (sym h.written ∙ read) in
+      rw same at h.spelled
+
+  -- what is no table has no roles
+  pub no_table : (d : Data) → is_some (as_table d) ≡ false → (r : Roles) → ¬ AreRoles names earlier d r
+  no_table (string s) none r h = let clash = h.cover.written in cc
+  no_table (integer z) none r h = let clash = h.cover.written in cc
+  no_table (float x) none r h = let clash = h.cover.written in cc
+  no_table (boolean b) none r h = let clash = h.cover.written in cc
+  no_table (datetime t) none r h = let clash = h.cover.written in cc
+  no_table (array ds) none r h = let clash = h.cover.written in cc
+  no_table (table ms) none r h = false≢true (sym none)
+
+-- whole cents that are not negative are those whose count is a multiple of 100
+multiple : (n m cents : ℕ) → n ≡ m → m ≡ cents * 100 → n % 100 ≡ 0
+multiple n m cents e f = omega arith
+
+pub money_iff : (u : ℤ) (n : ℕ) → pos 0 ≤ℤ u → n ≡ unsigned_abs u → (eqb (n % 100) 0 ≡ true → IsMoney u) × (IsMoney u → eqb (n % 100) 0 ≡ true)
+money_iff (ℤ.pos m) n above same = (
+  λ e. let none : n % 100 ≡ 0 = eqb-true (n % 100) 0 e in
+      let whole : m ≡ (n / 100) * 100 = omega (arith, none) in
+      (n / 100, ap pos whole),
+  λ money. let whole : m ≡ money.0 * 100 = let e = money.1 in cc in eq-eqb (n % 100) 0 (multiple n m money.0 same whole),
+)
+money_iff (ℤ.negsuc m) n above same = absurd (omega (arith, ints))

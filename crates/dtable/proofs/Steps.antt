@@ -1,0 +1,72 @@
+-- Steps of the loops: a list's function, one item on.
+use Rattle.std.proofs.Common.{◌≡◌, ℕ, ◌+◌, ◌*◌, ◌<◌, ◌≤◌, ℤ, pos, neg_ℤ, ◌+ℤ◌, ◌≤ℤ◌, arith, List, [], ◌∷◌, ◌++◌, length, get_or, take, fold, append-nil, Option, Some, None, refl, ap, ◌∙◌}
+use Rattle.std.specs.List.{filter_map, reduce, cons_option}
+use Rattle.std.specs.Option.{option_to_list, IfSome}
+use Rattle.std.specs.Int.RustNames.{unsigned_abs}
+use Rattle.std.proofs.lemmas.Int.{ints}
+use Rattle.fixpoint.specs.Number.{IsInRange, greatest_units}
+use Rattle.std.proofs.lemmas.List.{take_more, map-append}
+use Rattle.std.proofs.lemmas.List.Elements.{filter_map-append}
+use Rattle.std.proofs.lemmas.List.Sums.{fold-append}
+use Rattle.feel_tests.specs.declared.value.Value.{Value}
+use Rattle.dtable.specs.declared.environment.Answer.TheVariants.{One}
+use Rattle.dtable.specs.HitPolicy.{joined, ones}
+
+-- what `filter_map` keeps of one item
+filter_map-one : {X Y : Type 0} (h : X → Option Y) (x : X) → filter_map h (x ∷ []) ≡ option_to_list (h x)
+filter_map-one h x = elim (h x) as (λ o. cons_option o [] ≡ option_to_list o) [ None ↦ refl | Some y ↦ refl ]
+
+pub filter_map_more : {X Y : Type 0} (h : X → Option Y) (xs : List X) (i : ℕ) (d : X) → i < length xs
+    → filter_map h (take (i + 1) xs) ≡ filter_map h (take i xs) ++ option_to_list (h (get_or xs i d))
+filter_map_more h xs i d below =
+    ap (filter_map h) (take_more xs i d below) ∙ filter_map-append h (take i xs) (get_or xs i d ∷ []) ∙ ap (λ ys. filter_map h (take i xs) ++ ys) (filter_map-one h (get_or xs i d))
+
+-- the aggregate of numbers and what comes behind them
+reduce-more : (join : ℤ → ℤ → ℤ) (xs : List ℤ) (o : Option ℤ) → reduce join (xs ++ option_to_list o) ≡ joined join (reduce join xs) o
+reduce-more join [] None = refl
+reduce-more join [] (Some x) = refl
+reduce-more join (x ∷ xs) None = ap (λ ys. Some (fold join x ys)) (append-nil xs)
+reduce-more join (x ∷ xs) (Some y) = ap Some (fold-append join x xs (y ∷ []))
+
+pub numbers_more : (join : ℤ → ℤ → ℤ) (h : ℕ → Option ℤ) (xs : List ℕ) (i : ℕ) (d : ℕ) → i < length xs
+    → reduce join (filter_map h (take (i + 1) xs)) ≡ joined join (reduce join (filter_map h (take i xs))) (h (get_or xs i d))
+numbers_more join h xs i d below =
+    ap (reduce join) (filter_map_more h xs i d below) ∙ reduce-more join (filter_map h (take i xs)) (h (get_or xs i d))
+
+pub filter_map_some : {X Y : Type 0} (h : X → Option Y) (xs : List X) (i : ℕ) (d : X) (y : Y) → i < length xs → h (get_or xs i d) ≡ Some y
+    → filter_map h (take (i + 1) xs) ≡ filter_map h (take i xs) ++ y ∷ []
+filter_map_some h xs i d y below here = filter_map_more h xs i d below ∙ ap (λ o. filter_map h (take i xs) ++ option_to_list o) here
+
+pub filter_map_none : {X Y : Type 0} (h : X → Option Y) (xs : List X) (i : ℕ) (d : X) → i < length xs → h (get_or xs i d) ≡ None
+    → filter_map h (take (i + 1) xs) ≡ filter_map h (take i xs)
+filter_map_none h xs i d below here =
+    filter_map_more h xs i d below ∙ ap (λ o. filter_map h (take i xs) ++ option_to_list o) here ∙ append-nil (filter_map h (take i xs))
+
+-- one value more for the outputs
+pub ones_some : {X : Type 0} (h : X → Option Value) (xs : List X) (i : ℕ) (d : X) (y : Value) → i < length xs → h (get_or xs i d) ≡ Some y
+    → ones (filter_map h (take (i + 1) xs)) ≡ ones (filter_map h (take i xs)) ++ One y ∷ []
+ones_some h xs i d y below here = ap ones (filter_map_some h xs i d y below here) ∙ map-append (λ v. One v) (filter_map h (take i xs)) (y ∷ [])
+
+-- a number's units lie between the bounds of the number range
+above_least : (m : ℕ) (units : ℤ) → unsigned_abs units ≤ m → neg_ℤ (pos m) ≤ℤ units
+above_least m (ℤ.pos n) e = omega (arith, ints)
+above_least m (ℤ.negsuc n) e = omega (arith, ints)
+
+below_greatest : (m : ℕ) (units : ℤ) → unsigned_abs units ≤ m → units ≤ℤ pos m
+below_greatest m (ℤ.pos n) e = omega (arith, ints)
+below_greatest m (ℤ.negsuc n) e = omega (arith, ints)
+
+-- a sum of so many numbers is no farther from zero than they can be
+pub low_more : (n : ℕ) (sum units : Option ℤ) → IfSome sum (λ s. neg_ℤ (pos (greatest_units * n)) ≤ℤ s) → IfSome units IsInRange
+    → IfSome (joined ◌+ℤ◌ sum units) (λ s. neg_ℤ (pos (greatest_units * (n + 1))) ≤ℤ s)
+low_more n None None low range = tt
+low_more n None (Some u) low range = let here = above_least greatest_units u range in omega (arith, ints)
+low_more n (Some s) None low range = omega (arith, ints)
+low_more n (Some s) (Some u) low range = let here = above_least greatest_units u range in omega (arith, ints)
+
+pub high_more : (n : ℕ) (sum units : Option ℤ) → IfSome sum (λ s. s ≤ℤ pos (greatest_units * n)) → IfSome units IsInRange
+    → IfSome (joined ◌+ℤ◌ sum units) (λ s. s ≤ℤ pos (greatest_units * (n + 1)))
+high_more n None None high range = tt
+high_more n None (Some u) high range = let here = below_greatest greatest_units u range in omega (arith, ints)
+high_more n (Some s) None high range = omega (arith, ints)
+high_more n (Some s) (Some u) high range = let here = below_greatest greatest_units u range in omega (arith, ints)

@@ -1,0 +1,12 @@
+use Rattle.std.proofs.Common.{◌≡◌, ap, sym, ◌∙◌}
+use Rattle.toml.specs.View.{items_view}
+use Rattle.dtable.specs.Document.{item_count}
+use Rattle.dtable.proofs.Entries.{item_count-view}
+use Rattle.dtable.proofs.reading.rules.required_row.Goals as goal
+
+pub returns-then-items-columns-clause-refused : goal.returns-then-items-columns-clause-refused
+returns-then-items-columns-clause-refused c items read same =
+    let found = c.in_ok-items.items.now in
+    let known = c.in_ok-items.ensures.ok in
+    let here : items ≡ items_view found = cc in
+    c.if-items-columns.true (sym (item_count-view found) ∙ ap item_count (sym here) ∙ same)

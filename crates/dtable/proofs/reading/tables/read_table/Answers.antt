@@ -1,0 +1,38 @@
+use Rattle.std.proofs.Common.{◌≡◌, false, map, sym, ◌∙◌}
+use Rattle.std.proofs.lemmas.Result.{err_from_is_err_and}
+use Rattle.toml.specs.View.{view}
+use Rattle.dtable.specs.Plan.{meets_demands}
+use Rattle.dtable.specs.Scope.{seen_of}
+use Rattle.dtable.proofs.ReadTables.{IsTable-no_outputs, IsTable-unmet, IsTable-no_rules, HasColumns}
+use Rattle.dtable.proofs.reading.tables.read_table.Goals as goal
+
+pub returns-in_err-hit : goal.returns-in_err-hit
+returns-in_err-hit c =
+    let p = err_from_is_err_and c.from_residual.result c.from_residual.ensures.1 in
+    rw (p.1, p.2) (λ memory t h. c.in_err-hit.ensures memory t.hit h.hit)
+
+pub returns-in_err-inputs : goal.returns-in_err-inputs
+returns-in_err-inputs c =
+    let p = err_from_is_err_and c.from_residual-in_err-inputs.result c.from_residual-in_err-inputs.ensures.1 in
+    rw (p.1, p.2) (λ memory t h. c.in_err-inputs.ensures memory t.inputs h.inputs)
+
+pub returns-in_err-outputs : goal.returns-in_err-outputs
+returns-in_err-outputs c =
+    let p = err_from_is_err_and c.from_residual-in_err-outputs.result c.from_residual-in_err-outputs.ensures.1 in
+    rw (p.1, p.2) (λ memory. IsTable-no_outputs c.args.names.now (map seen_of c.args.front.now) (view c.args.entry.now) c.in_ok-hit.hit c.in_ok-hit.ensures (c.in_err-outputs.ensures memory))
+
+pub returns-then-not-meets_demands : goal.returns-then-not-meets_demands
+returns-then-not-meets_demands c _ =
+    let columns : HasColumns c.args.names.now (map seen_of c.args.front.now) (view c.args.entry.now) c.in_ok-hit.hit c.in_ok-inputs.inputs c.in_ok-outputs.outputs =
+    record { word = c.in_ok-hit.ensures; inputs = c.in_ok-inputs.ensures; outputs = c.in_ok-outputs.ensures } in
+    let met = rw c.as_slice-2.ensures at c.meets_demands.ensures in
+    let unmet : meets_demands c.in_ok-hit.hit c.in_ok-outputs.outputs ≡ false = cc in
+    IsTable-unmet c.text_spells_at_most_one_value.ensures c.args.names.now (map seen_of c.args.front.now) (view c.args.entry.now) c.in_ok-hit.hit c.in_ok-inputs.inputs c.in_ok-outputs.outputs columns unmet
+
+pub returns-in_err-rules : goal.returns-in_err-rules
+returns-in_err-rules c =
+    let p = err_from_is_err_and c.from_residual-in_err-rules.result c.from_residual-in_err-rules.ensures.1 in
+    let none = rw (c.as_slice-3.ensures, c.as_slice-4.ensures) at c.in_err-rules.ensures in
+    let columns : HasColumns c.args.names.now (map seen_of c.args.front.now) (view c.args.entry.now) c.in_ok-hit.hit c.in_ok-inputs.inputs c.in_ok-outputs.outputs =
+    record { word = c.in_ok-hit.ensures; inputs = c.in_ok-inputs.ensures; outputs = c.in_ok-outputs.ensures } in
+    rw (p.1, p.2) (λ memory. IsTable-no_rules c.text_spells_at_most_one_value.ensures c.text_spells_at_most_one_cell.ensures c.args.names.now (map seen_of c.args.front.now) (view c.args.entry.now) c.in_ok-hit.hit c.in_ok-inputs.inputs c.in_ok-outputs.outputs columns (none memory))

@@ -1,0 +1,63 @@
+-- The value of a plan's tables, one after another.
+use Rattle.std.specs.Prelude.{ℕ, ◌+◌, List, [], ◌∷◌, ◌++◌, length, position, Option, Some, None, slice_get, Result, Ok, Err}
+use Rattle.std.specs.Option.{option_and_then}
+use Rattle.std.specs.Str.{bytes_eq}
+use Rattle.dtable.specs.declared.environment.Answer.{Answer}
+use Rattle.dtable.specs.declared.fault.Fault.{Fault}
+use Rattle.dtable.specs.declared.fault.Fault.TheVariants.{Outside}
+use Rattle.dtable.specs.declared.inputs.Slot.{Slot}
+use Rattle.dtable.specs.declared.table.Output.{Output}
+use Rattle.dtable.specs.declared.table.Table.{Table}
+use Rattle.dtable.specs.Plan.{PlanParts}
+use Rattle.dtable.specs.Matching.{matching, first_outside}
+use Rattle.dtable.specs.HitPolicy.{Outcome, by_hit}
+
+-- the number of a table that stands behind these
+abbrev pub number_behind : List (List Answer) → ℕ
+number_behind earlier = length earlier + 1
+
+-- the value of a table where this is the first column outside its allowed values: that comes before all else
+abbrev pub inside : Option ℕ → ℕ → Outcome → Outcome
+inside None number value = value
+inside (Some column) number value = Err (Outside number (column + 1))
+
+-- the value of a table, with the answers of those before it
+abbrev pub table_value : List Slot → List (List Answer) → Table → Outcome
+table_value given earlier t =
+    inside (first_outside given earlier t) (number_behind earlier) (by_hit t.hit (number_behind earlier) t (matching given earlier t))
+
+-- what a table's answers lead to; its fault is the result
+abbrev pub and_then : {X : Type 0} → Outcome → (List Answer → Result X Fault) → Result X Fault
+and_then (Ok answers) next = next answers
+and_then (Err fault) next = Err fault
+
+-- the answers of tables in order, each at what is given and the answers before it; the first fault is the result
+abbrev pub answers_of : List Slot → List (List Answer) → List Table → Result (List (List Answer)) Fault
+answers_of given earlier [] = Ok earlier
+answers_of given earlier (t ∷ ts) = and_then (table_value given earlier t) (λ answers. answers_of given (earlier ++ answers ∷ []) ts)
+
+-- tables with their answers, one for each output
+pub record Environment : Type 0 where
+  pub tables : List Table
+  pub answers : List (List Answer)
+
+-- the answers of a plan's tables, or their first fault
+abbrev pub env : PlanParts → List Slot → Result Environment Fault
+env plan given = with_tables plan.tables (answers_of given [] plan.tables) where
+  with_tables : List Table → Result (List (List Answer)) Fault → Result Environment Fault
+  with_tables tables (Ok answers) = Ok (record { tables = tables; answers = answers })
+  with_tables tables (Err fault) = Err fault
+
+-- the answer of the table's first output of this name
+abbrev pub answer_in : List Output → List Answer → List ℕ → Option Answer
+answer_in outputs answers name = option_and_then (slice_get answers) (position (λ o. bytes_eq o.name name) outputs)
+
+-- the first, or else the second
+abbrev pub or_else : {X : Type 0} → Option X → Option X → Option X
+or_else (Some x) other = Some x
+or_else None other = other
+
+-- the answer of the first output of this name
+abbrev pub answer_of : List Table → List (List Answer) → List ℕ → Option Answer
+answer_of (t ∷ ts) (answers ∷ more) name = or_else (answer_in t.outputs answers name) (answer_of ts more name)
+answer_of _ _ name = None

@@ -1,0 +1,127 @@
+-- The value of a table by its hit policy, from the rules that match (DMN 1.4, hit policies). Rules count from 0, tables from 1.
+use Rattle.std.specs.Prelude.{◌≡◌, ◌≢◌, MatchResult, ℕ, nat_le, ℤ, pos, neg_ℤ, ◌≤ℤ◌, ◌^◌, ◌+ℤ◌, ◌*◌, Bool, List, [], ◌∷◌, length, map, Option, Some, None, is_some, slice_get, Result, Ok, Err, if◌then◌else◌}
+use Rattle.std.specs.List.{list_all, filter_map, range_with_len, reduce}
+use Rattle.std.specs.Option.{option_and_then}
+use Rattle.std.specs.Int.{int_min, int_max}
+use Rattle.std.specs.Int.RustNames.{unsigned_abs}
+use Rattle.std.specs.Cmp.Lexicographic.{pointwise}
+use Rattle.fixpoint.specs.Number.{greatest_units}
+use Rattle.feel_tests.specs.declared.value.Value.{Value}
+use Rattle.feel_tests.specs.declared.value.Value.TheVariants.{Number}
+use Rattle.feel_tests.specs.Holds.{is_equal}
+use Rattle.dtable.specs.declared.environment.Answer.{Answer}
+use Rattle.dtable.specs.declared.environment.Answer.TheVariants.{One, Many}
+use Rattle.dtable.specs.declared.fault.Fault.{Fault}
+use Rattle.dtable.specs.declared.fault.Fault.TheVariants.{NoRule, Clash, Range, OutOfMemory}
+use Rattle.dtable.specs.declared.hit.Hit.{Hit}
+use Rattle.dtable.specs.declared.hit.Hit.TheVariants as hits
+use Rattle.dtable.specs.declared.table.Table.{Table}
+use Rattle.dtable.specs.Priority.{entries_of, highest, in_priority_order}
+
+-- a fault other than want of memory is the one of this result
+abbrev pub IsFaultOf : {X : Type 0} → Result X Fault → Fault → Type 0
+IsFaultOf expected fault = fault ≢ OutOfMemory → expected ≡ Err fault
+
+-- an answer for each output of a table, or why there is none
+abbrev pub Outcome : Type 0
+Outcome = Result (List Answer) Fault
+
+-- these values, one for each output
+abbrev pub ones : List Value → List Answer
+ones values = map (λ value. One value) values
+
+-- the entries of these rules in one column of outputs
+abbrev pub column_of : Table → List ℕ → ℕ → List Value
+column_of t rules column = filter_map (λ rule. slice_get (entries_of t rule) column) rules
+
+-- for each output the list of the entries of these rules
+abbrev pub lists : Table → List ℕ → List Answer
+lists t rules = map (λ column. Many (column_of t rules column)) (range_with_len 0 (length t.outputs))
+
+-- no rule matches: the defaults where every output has one, and no value where not
+abbrev pub unmatched : ℕ → Table → Outcome
+unmatched number t =
+    if list_all (λ o. is_some o.fallback) t.outputs then Ok (ones (filter_map (λ o. o.fallback) t.outputs)) else Err (NoRule number)
+
+-- Unique: the entries of the one match; two or more clash
+abbrev pub unique : ℕ → Table → List ℕ → Outcome
+unique number t [] = unmatched number t
+unique number t (rule ∷ []) = Ok (ones (entries_of t rule))
+unique number t (rule ∷ other ∷ others) = Err (Clash number)
+
+-- two rules have the same entries
+abbrev pub agree : Table → ℕ → ℕ → Bool
+agree t rule other = pointwise is_equal (entries_of t rule) (entries_of t other)
+
+-- Any: the entries of the matches where all agree; matches that disagree clash
+abbrev pub any : ℕ → Table → List ℕ → Outcome
+any number t [] = unmatched number t
+any number t (rule ∷ others) = if list_all (agree t rule) others then Ok (ones (entries_of t rule)) else Err (Clash number)
+
+-- the entries of one rule, if there is one
+abbrev pub of_rule : ℕ → Table → Option ℕ → Outcome
+of_rule number t None = unmatched number t
+of_rule number t (Some rule) = Ok (ones (entries_of t rule))
+
+-- First: the entries of the first match
+abbrev pub first : ℕ → Table → List ℕ → Outcome
+first number t rules = of_rule number t (slice_get rules 0)
+
+-- the units of a number
+abbrev pub units_of : Value → Option ℤ
+units_of (Number units) = Some units
+units_of _ = None
+
+-- the units of a rule's entry in the first output
+abbrev pub number_in : Table → ℕ → Option ℤ
+number_in t rule = option_and_then units_of (slice_get (entries_of t rule) 0)
+
+-- the units of these rules' entries in the first output
+abbrev pub numbers_of : Table → List ℕ → List ℤ
+numbers_of t rules = filter_map (number_in t) rules
+
+-- a number as the one answer, if it is in the number range
+abbrev pub number_answer : ℕ → ℤ → Outcome
+number_answer number units = if nat_le (unsigned_abs units) greatest_units then Ok (One (Number units) ∷ []) else Err (Range number)
+
+-- what an aggregator makes of what it has so far and one number more, where there is one
+abbrev pub joined : (ℤ → ℤ → ℤ) → Option ℤ → Option ℤ → Option ℤ
+joined join so_far None = so_far
+joined join None (Some units) = Some units
+joined join (Some so_far) (Some units) = Some (join so_far units)
+
+-- a sum to which a number can be added in 128 bits
+abbrev pub IsFarFromOverflow : ℤ → Type 0
+IsFarFromOverflow sum = (neg_ℤ (pos (2 ^ 126)) ≤ℤ sum) × (sum ≤ℤ pos (2 ^ 126))
+
+-- what an aggregator makes of the the matches' numbers, if there are any
+abbrev pub aggregated : ℕ → Table → Option ℤ → Outcome
+aggregated number t None = unmatched number t
+aggregated number t (Some units) = number_answer number units
+
+-- how many units a count has
+abbrev pub count_units : ℕ → ℤ
+count_units count = pos (count * 10000)
+
+-- `C#`: how many rules match
+abbrev pub counted : ℕ → Table → List ℕ → Outcome
+counted number t [] = unmatched number t
+counted number t (rule ∷ others) = number_answer number (count_units (length (rule ∷ others)))
+
+-- the value of a table by its hit policy, from the rules that match
+abbrev pub by_hit : Hit → ℕ → Table → List ℕ → Outcome
+by_hit hits.U number t rules = unique number t rules
+by_hit hits.A number t rules = any number t rules
+by_hit hits.P number t rules = of_rule number t (highest t rules)
+by_hit hits.F number t rules = first number t rules
+by_hit hits.O number t rules = Ok (lists t (in_priority_order t rules))
+by_hit hits.R number t rules = Ok (lists t rules)
+by_hit hits.C number t rules = Ok (lists t rules)
+by_hit hits.Sum number t rules = aggregated number t (reduce ◌+ℤ◌ (numbers_of t rules))
+by_hit hits.Min number t rules = aggregated number t (reduce int_min (numbers_of t rules))
+by_hit hits.Max number t rules = aggregated number t (reduce int_max (numbers_of t rules))
+by_hit hits.Count number t rules = counted number t rules
+
+-- a result is this one, want of memory aside
+abbrev pub Gives : {X : Type 0} → Result X Fault → Result X Fault → Type 0
+Gives expected result = MatchResult result (λ x. expected ≡ Ok x) (IsFaultOf expected)

@@ -1,0 +1,14 @@
+pub mod Inputs
+pub mod Names
+pub mod Plan
+pub mod Matching
+pub mod Priority
+pub mod HitPolicy
+pub mod Environment
+pub mod CauseNumber
+pub mod Document
+pub mod NameForm
+pub mod Scope
+pub mod RoleFile
+pub mod PlanFile
+pub mod Reading

@@ -1,0 +1,27 @@
+-- The names of fields and outputs, as a plan may write them.
+use Rattle.std.specs.Prelude.{ℕ, Bool, false, ◌&&◌, ◌||◌, ◌==◌, nat_le, List, [], ◌∷◌, codes}
+use Rattle.std.specs.List.{list_all, list_any}
+use Rattle.std.specs.Str.{bytes_eq}
+
+-- an ASCII letter or `_`
+abbrev pub is_name_start : ℕ → Bool
+is_name_start byte = (nat_le 65 byte && nat_le byte 90) || (nat_le 97 byte && nat_le byte 122) || (byte == 95)
+
+-- a letter, a digit or `_`
+abbrev pub is_name_byte : ℕ → Bool
+is_name_byte byte = is_name_start byte || (nat_le 48 byte && nat_le byte 57)
+
+-- a letter or `_`, then letters, digits or `_`
+abbrev pub has_name_form : List ℕ → Bool
+has_name_form [] = false
+has_name_form (byte ∷ bytes) = is_name_start byte && list_all is_name_byte bytes
+
+-- the names that are taken from the start: a claim's own columns, a member's accumulators, and the words of cells
+unfoldable pub reserved_names : List (List ℕ)
+reserved_names =
+    codes "claim" ∷ codes "member" ∷ codes "service" ∷ codes "billed" ∷ codes "met" ∷ codes "oop" ∷ codes "paid"
+    ∷ codes "true" ∷ codes "false" ∷ codes "not" ∷ codes "date" ∷ []
+
+-- the name stands among the names
+abbrev pub is_among : List ℕ → List (List ℕ) → Bool
+is_among name names = list_any (λ other. bytes_eq other name) names

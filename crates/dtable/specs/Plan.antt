@@ -1,0 +1,135 @@
+-- What contracts see of a plan, and what holds of every plan.
+use Rattle.std.specs.Prelude.{◌≡◌, ℕ, Bool, true, false, not, ◌&&◌, ◌==◌, nat_lt, List, [], ◌∷◌, ◌++◌, length, Option, Some, None, is_some, slice_get, IsTrue}
+use Rattle.std.specs.List.{list_all, list_any, zip}
+use Rattle.std.specs.Option.{option_map_or}
+use Rattle.std.specs.Str.{bytes_eq}
+use Rattle.feel_tests.specs.declared.kind.Kind.{Kind}
+use Rattle.feel_tests.specs.declared.kind.Kind.TheVariants as kinds
+use Rattle.feel_tests.specs.declared.value.Value.{Value}
+use Rattle.feel_tests.specs.Value.{kind_of}
+use Rattle.feel_tests.specs.Holds.{is_equal}
+use Rattle.dtable.specs.declared.hit.Hit.{Hit}
+use Rattle.dtable.specs.declared.hit.Hit.TheVariants.{P, O, R, C, Sum, Min, Max, Count}
+use Rattle.dtable.specs.declared.table.InputData.{InputData}
+use Rattle.dtable.specs.declared.table.Origin.{Origin}
+use Rattle.dtable.specs.declared.table.Origin.TheVariants.{Given, Earlier}
+use Rattle.dtable.specs.declared.table.Output.{Output as TableOutput}
+use Rattle.dtable.specs.declared.table.Rule.{Rule}
+use Rattle.dtable.specs.declared.table.Table.{Table}
+use Rattle.dtable.specs.declared.roles.Source.{Source}
+use Rattle.dtable.specs.declared.roles.Source.TheVariants.{Literal, Input, Output}
+use Rattle.dtable.specs.declared.roles.Roles.{Roles}
+use Rattle.dtable.specs.Names.{names_of}
+
+-- what contracts see of a plan: the names that tables may read from outside, the tables in order, and the roles
+pub record PlanParts : Type 0 where
+  pub names : List InputData
+  pub tables : List Table
+  pub roles : Option Roles
+
+-- the kinds are the same
+abbrev pub same_kind : Kind → Kind → Bool
+same_kind kinds.Number kinds.Number = true
+same_kind kinds.Text kinds.Text = true
+same_kind kinds.Flag kinds.Flag = true
+same_kind kinds.Day kinds.Day = true
+same_kind _ _ = false
+
+-- a value of the kind
+abbrev pub has_kind : Kind → Value → Bool
+has_kind kind value = same_kind kind (kind_of value)
+
+-- the outputs of a table with this policy have one value each, and no list
+abbrev pub gives_one : Hit → Bool
+gives_one O = false
+gives_one R = false
+gives_one C = false
+gives_one _ = true
+
+-- the kind of the values that later tables and roles see in an output: a number where rules are counted
+abbrev pub seen_kind : Hit → TableOutput → Kind
+seen_kind Count output = kinds.Number
+seen_kind _ output = output.kind
+
+-- the origin is one of the names, or an output of an earlier table with one value
+abbrev pub is_known : List InputData → List Table → Origin → Bool
+is_known names earlier (Given place) = nat_lt place (length names)
+is_known names earlier (Earlier table column) =
+    option_map_or (λ t. gives_one t.hit && nat_lt column (length t.outputs)) (slice_get earlier table) false
+
+-- each input of each table has a known origin, where these tables come before
+abbrev pub are_known : List InputData → List Table → List Table → Bool
+are_known names earlier [] = true
+are_known names earlier (t ∷ ts) = list_all (λ i. is_known names earlier i.origin) t.inputs && are_known names (earlier ++ t ∷ []) ts
+
+-- the value is in the priority list, if there is one
+abbrev pub is_ranked : Option (List Value) → Value → Bool
+is_ranked None value = true
+is_ranked (Some list) value = list_any (λ listed. is_equal listed value) list
+
+-- the entry has its output's kind, and is in its priority list
+abbrev pub entry_fits : TableOutput → Value → Bool
+entry_fits output entry = has_kind output.kind entry && is_ranked output.priority entry
+
+-- a cell for each input, and a fitting entry for each output
+abbrev pub rule_fits : Table → Rule → Bool
+rule_fits t r =
+    (length r.cells == length t.inputs) && ((length r.entries == length t.outputs) && list_all (λ p. entry_fits p.0 p.1) (zip t.outputs r.entries))
+
+-- what a policy asks of the outputs: `P` and `O` a priority list, the aggregators one output, and all but `C#` of numbers
+abbrev pub meets_demands : Hit → List TableOutput → Bool
+meets_demands P outputs = list_any (λ o. is_some o.priority) outputs
+meets_demands O outputs = list_any (λ o. is_some o.priority) outputs
+meets_demands Sum outputs = (length outputs == 1) && list_all (λ o. same_kind o.kind kinds.Number) outputs
+meets_demands Min outputs = (length outputs == 1) && list_all (λ o. same_kind o.kind kinds.Number) outputs
+meets_demands Max outputs = (length outputs == 1) && list_all (λ o. same_kind o.kind kinds.Number) outputs
+meets_demands Count outputs = length outputs == 1
+meets_demands _ outputs = true
+
+-- the default, if there is one, has the kind that is seen of its output
+abbrev pub default_fits : Hit → TableOutput → Bool
+default_fits hit output = option_map_or (has_kind (seen_kind hit output)) output.fallback true
+
+-- some output of some table has the name, and passes the test
+abbrev pub some_output : (Hit → TableOutput → Bool) → List Table → List ℕ → Bool
+some_output test tables name = list_any (λ t. list_any (λ o. bytes_eq o.name name && test t.hit o) t.outputs) tables
+
+-- the source gives a value of the kind: a literal, one of the names, or an output with one value
+abbrev pub source_fits : List InputData → List Table → Kind → Source → Bool
+source_fits names tables kind (Literal value) = has_kind kind value
+source_fits names tables kind (Input place) = option_map_or (λ d. same_kind kind d.kind) (slice_get names place) false
+source_fits names tables kind (Output name) = some_output (λ hit o. gives_one hit && same_kind kind (seen_kind hit o)) tables name
+
+-- an output that lists texts has the name, if there is one
+abbrev pub remarks_fit : List Table → Option (List ℕ) → Bool
+remarks_fit tables None = true
+remarks_fit tables (Some name) = some_output (λ hit o. not (gives_one hit) && same_kind kinds.Text o.kind) tables name
+
+-- each role has a source of its kind
+abbrev pub roles_fit : PlanParts → Roles → Bool
+roles_fit p roles =
+    source_fits p.names p.tables kinds.Flag roles.cover && source_fits p.names p.tables kinds.Number roles.fee
+    && source_fits p.names p.tables kinds.Number roles.deductible && source_fits p.names p.tables kinds.Number roles.copay
+    && source_fits p.names p.tables kinds.Number roles.rate && source_fits p.names p.tables kinds.Number roles.oop_max
+    && remarks_fit p.tables roles.remarks
+
+-- what holds of every plan
+pub record IsPlan (p : PlanParts) : Type 0 where
+  pub fields : List InputData
+  pub names : p.names ≡ names_of fields
+  pub origins : IsTrue (are_known p.names [] p.tables)
+  pub rules : IsTrue (list_all (λ t. list_all (rule_fits t) t.rules) p.tables)
+  pub demands : IsTrue (list_all (λ t. meets_demands t.hit t.outputs) p.tables)
+  pub defaults : IsTrue (list_all (λ t. list_all (default_fits t.hit) t.outputs) p.tables)
+  pub roles : IsTrue (option_map_or (roles_fit p) p.roles true)
+
+-- the tests of all that holds of a plan beside its names
+abbrev pub is_sound : PlanParts → Bool
+is_sound p =
+    are_known p.names [] p.tables && list_all (λ t. list_all (rule_fits t) t.rules) p.tables && list_all (λ t. meets_demands t.hit t.outputs) p.tables
+    && list_all (λ t. list_all (default_fits t.hit) t.outputs) p.tables && option_map_or (roles_fit p) p.roles true
+
+-- the plan that these parts make up, if they do
+abbrev pub MakesUp : PlanParts → Option PlanParts → Type 0
+MakesUp parts None = ¬ IsPlan parts
+MakesUp parts (Some plan) = plan ≡ parts

@@ -1,0 +1,105 @@
+-- The roles that the key `roles` of a plan's document spells.
+use Rattle.std.specs.Prelude.{◌≡◌, ℕ, ◌*◌, ◌≤◌, ℤ, pos, Bool, not, ◌&&◌, List, length, codes, Option, Some, IsTrue}
+use Rattle.std.specs.List.{list_any}
+use Rattle.std.specs.Str.{bytes_eq}
+use Rattle.toml.specs.Data.{Data, string, get}
+use Rattle.feel_tests.specs.declared.kind.Kind.{Kind}
+use Rattle.feel_tests.specs.declared.kind.Kind.TheVariants as kinds
+use Rattle.feel_tests.specs.declared.value.Value.{Value}
+use Rattle.feel_tests.specs.declared.value.Value.TheVariants as values
+use Rattle.feel_tests.specs.Cell.{SpellsValue}
+use Rattle.feel_tests.specs.Value.{kind_of}
+use Rattle.dtable.specs.declared.name.TheConstants.{NAME_LIMIT_BYTES}
+use Rattle.dtable.specs.declared.roles.Roles.{Roles}
+use Rattle.dtable.specs.declared.roles.Source.{Source}
+use Rattle.dtable.specs.declared.roles.Source.TheVariants.{Literal, Input, Output}
+use Rattle.dtable.specs.declared.reading.roles.Asked.{Asked}
+use Rattle.dtable.specs.declared.reading.roles.Asked.TheVariants.{Flag, Money, Rate}
+use Rattle.dtable.specs.declared.table.InputData.{InputData}
+use Rattle.dtable.specs.declared.table.Origin.TheVariants.{Given, Earlier}
+use Rattle.dtable.specs.Document.{string_at, Optionally}
+use Rattle.dtable.specs.Plan.{same_kind}
+use Rattle.dtable.specs.Scope.{SeenOutput, origin_of, kind_at}
+
+-- the units of an amount of money: whole cents, and not negative
+abbrev pub IsMoney : ℤ → Type 0
+IsMoney units = (cents : ℕ) × (units ≡ pos (cents * 100))
+
+-- the units of a rate: a number from 0 to 1
+abbrev pub IsRate : ℤ → Type 0
+IsRate units = (part : ℕ) × (units ≡ pos part) × (part ≤ 10000)
+
+-- the kind of what is asked
+abbrev pub asked_kind : Asked → Kind
+asked_kind Flag = kinds.Flag
+asked_kind Money = kinds.Number
+asked_kind Rate = kinds.Number
+
+-- a value is what is asked: any flag, an amount of money, or a rate
+abbrev pub Meets : Asked → Value → Type 0
+Meets Flag value = Unit {0}
+Meets Money (values.Number units) = IsMoney units
+Meets Rate (values.Number units) = IsRate units
+Meets _ _ = ⊥
+
+-- a literal of what is asked
+pub record IsLiteralSource (asked : Asked) (text : List ℕ) (value : Value) : Type 0 where
+  pub spelled : SpellsValue (asked_kind asked) text value
+  pub of_kind : kind_of value ≡ asked_kind asked
+  pub meets : Meets asked value
+
+-- the name of input data of the kind
+pub record IsInputSource (names : List InputData) (earlier : List (List SeenOutput)) (kind : Kind) (text : List ℕ) (place : ℕ) : Type 0 where
+  pub known : origin_of names earlier text ≡ Some (Given place)
+  pub of_kind : kind_at names earlier (Given place) ≡ Some kind
+
+-- the name of an output of the kind with one value
+pub record IsOutputSource (names : List InputData) (earlier : List (List SeenOutput)) (kind : Kind) (text name : List ℕ) : Type 0 where
+  pub same : name ≡ text
+  pub short : length text ≤ NAME_LIMIT_BYTES
+  pub table : ℕ
+  pub column : ℕ
+  pub known : origin_of names earlier text ≡ Some (Earlier table column)
+  pub of_kind : kind_at names earlier (Earlier table column) ≡ Some kind
+
+-- the name of a single value of the kind
+abbrev pub IsNamedSource : List InputData → List (List SeenOutput) → Kind → List ℕ → Source → Type 0
+IsNamedSource names earlier kind text (Literal value) = ⊥
+IsNamedSource names earlier kind text (Input place) = IsInputSource names earlier kind text place
+IsNamedSource names earlier kind text (Output name) = IsOutputSource names earlier kind text name
+
+-- no literal of the kind
+abbrev pub SpellsNone : Kind → List ℕ → Type 0
+SpellsNone kind text = (value : Value) → ¬ SpellsValue kind text value
+
+-- a role's string: a literal of what is asked, or else the name of a single value of that kind
+abbrev pub IsSource : List InputData → List (List SeenOutput) → Asked → List ℕ → Source → Type 0
+IsSource names earlier asked text (Literal value) = IsLiteralSource asked text value
+IsSource names earlier asked text (Input place) = SpellsNone (asked_kind asked) text × IsNamedSource names earlier (asked_kind asked) text (Input place)
+IsSource names earlier asked text (Output name) = SpellsNone (asked_kind asked) text × IsNamedSource names earlier (asked_kind asked) text (Output name)
+
+-- the string at a role's key spells this source
+pub record IsRole (names : List InputData) (earlier : List (List SeenOutput)) (asked : Asked) (key : List ℕ) (roles : Data) (source : Source) : Type 0 where
+  pub text : List ℕ
+  pub written : string_at key roles ≡ Some text
+  pub spelled : IsSource names earlier asked text source
+
+-- some output that lists texts has the name
+abbrev pub lists_texts : List (List SeenOutput) → List ℕ → Bool
+lists_texts earlier name = list_any (λ os. list_any (λ o. bytes_eq o.name name && (not o.is_single && same_kind kinds.Text o.kind)) os) earlier
+
+-- the string of `remarks`: the name of an output that lists texts
+pub record AreRemarks (earlier : List (List SeenOutput)) (entry : Data) (name : List ℕ) : Type 0 where
+  pub written : entry ≡ string name
+  pub short : length name ≤ NAME_LIMIT_BYTES
+  pub lists : IsTrue (lists_texts earlier name)
+
+-- the table `roles`: a flag, amounts of money and a rate, and the output of the remarks, if there is one
+pub record AreRoles (names : List InputData) (earlier : List (List SeenOutput)) (entry : Data) (roles : Roles) : Type 0 where
+  pub cover : IsRole names earlier Flag (codes "cover") entry roles.cover
+  pub fee : IsRole names earlier Money (codes "fee") entry roles.fee
+  pub deductible : IsRole names earlier Money (codes "deductible") entry roles.deductible
+  pub copay : IsRole names earlier Money (codes "copay") entry roles.copay
+  pub rate : IsRole names earlier Rate (codes "rate") entry roles.rate
+  pub oop_max : IsRole names earlier Money (codes "oop_max") entry roles.oop_max
+  pub remarks : Optionally (AreRemarks earlier) (get (codes "remarks") entry) roles.remarks

@@ -1,0 +1,69 @@
+-- What a table and the roles see of the names and of the tables in front of them.
+use Rattle.std.specs.Prelude.{ℕ, zero, suc, Bool, ◌&&◌, List, [], ◌∷◌, ◌++◌, map, position, Option, Some, None, option_map, slice_get, if◌then◌else◌}
+use Rattle.std.specs.Option.{option_and_then}
+use Rattle.std.specs.Str.{bytes_eq}
+use Rattle.feel_tests.specs.declared.kind.Kind.{Kind}
+use Rattle.feel_tests.specs.declared.kind.Kind.TheVariants.{Number}
+use Rattle.dtable.specs.declared.hit.Hit.{Hit}
+use Rattle.dtable.specs.declared.hit.Hit.TheVariants.{Count}
+use Rattle.dtable.specs.declared.table.InputData.{InputData}
+use Rattle.dtable.specs.declared.table.Origin.{Origin}
+use Rattle.dtable.specs.declared.table.Origin.TheVariants.{Given, Earlier}
+use Rattle.dtable.specs.declared.table.Output.{Output}
+use Rattle.dtable.specs.declared.table.Table.{Table}
+use Rattle.dtable.specs.Environment.{or_else}
+use Rattle.dtable.specs.NameForm.{reserved_names}
+use Rattle.dtable.specs.Plan.{gives_one}
+
+-- the kind that is seen of an output's written one: a number where rules are counted
+abbrev pub seen_as : Hit → Kind → Kind
+seen_as Count kind = Number
+seen_as _ kind = kind
+
+-- what is seen of an output: its name, the kind of its values, and whether it has one value, and no list
+pub record SeenOutput : Type 0 where
+  pub name : List ℕ
+  pub kind : Kind
+  pub is_single : Bool
+
+-- what is seen of an output of a table with this hit policy
+abbrev pub seen_output : Hit → Output → SeenOutput
+seen_output hit output = record { name = output.name; kind = seen_as hit output.kind; is_single = gives_one hit }
+
+-- what is seen of a table: its outputs
+abbrev pub seen_of : Table → List SeenOutput
+seen_of t = map (seen_output t.hit) t.outputs
+
+-- the names of input data, of outputs and of what is seen, in order
+abbrev pub data_names : List InputData → List (List ℕ)
+data_names names = map (λ d. d.name) names
+
+abbrev pub output_names : List Output → List (List ℕ)
+output_names outputs = map (λ o. o.name) outputs
+
+abbrev pub seen_names : List (List SeenOutput) → List (List ℕ)
+seen_names [] = []
+seen_names (os ∷ earlier) = map (λ o. o.name) os ++ seen_names earlier
+
+-- the names that are taken behind these names and the outputs of these tables
+abbrev pub taken_names : List InputData → List (List SeenOutput) → List (List ℕ)
+taken_names names earlier = reserved_names ++ (data_names names ++ seen_names earlier)
+
+-- the output has the name, and one value
+abbrev pub is_single_of : List ℕ → SeenOutput → Bool
+is_single_of name o = o.is_single && bytes_eq o.name name
+
+-- the single value of the name among the outputs of tables, of which the first has this number
+abbrev pub earlier_origin : ℕ → List (List SeenOutput) → List ℕ → Option Origin
+earlier_origin number [] name = None
+earlier_origin number (os ∷ earlier) name =
+    or_else (option_map (Earlier number) (position (is_single_of name) os)) (earlier_origin (suc number) earlier name)
+
+-- where the value of the name comes from: from the input data, or else from an output of an earlier table with one value
+abbrev pub origin_of : List InputData → List (List SeenOutput) → List ℕ → Option Origin
+origin_of names earlier name = or_else (option_map Given (position (λ d. bytes_eq d.name name) names)) (earlier_origin zero earlier name)
+
+-- the kind of the value that comes from there
+abbrev pub kind_at : List InputData → List (List SeenOutput) → Origin → Option Kind
+kind_at names earlier (Given place) = option_map (λ d. d.kind) (slice_get names place)
+kind_at names earlier (Earlier table column) = option_map (λ o. o.kind) (option_and_then (λ os. slice_get os column) (slice_get earlier table))

@@ -1,0 +1,101 @@
+//! The values of tables.
+ghost use Rattle.std.specs.Prelude.{◌≡◌, position, slice_get};
+ghost use Rattle.std.specs.Str.{bytes_eq};
+ghost use Rattle.std.specs.Option.{option_copied, option_and_then};
+ghost use Rattle.dtable.specs.Environment.{answer_of, answer_in};
+
+use crate::sequence::Sequence;
+use crate::table::{Output, Table};
+use feel_tests::Value;
+use std::marker::Model;
+
+/// What a table answers for one output.
+#[derive(Debug, Drop)]
+pub enum Answer {
+    /// Its one value.
+    One(Value),
+    /// The list of its values, under a policy that lists all matches.
+    Many(Sequence<Value>),
+}
+
+/// The tables of a plan with their answers.
+#[derive(Debug, Drop)]
+pub struct Env<'a> {
+    tables: &'a [Table],
+    answers: Sequence<Sequence<Answer>>,
+}
+
+impl<'a> Model for Env<'a> {
+    ghost use Rattle.dtable.specs.Environment.{Environment};
+
+    ghost Value = { Environment };
+
+    ghost view = { λ e. record { tables = e.tables.now; answers = e.answers } };
+}
+
+impl<'a> Env<'a> {
+    /// These answers, table by table and output by output.
+    pub fn new(tables: &'a [Table], answers: Sequence<Sequence<Answer>>) -> Env<'a>
+        ensures { result ≡ record { tables = tables.now; answers = answers } }
+    {
+        Env { tables, answers }
+    }
+
+    /// The answer of the output with this name.
+    pub fn get(&self, name: &str) -> Option<&Answer>
+        ensures { option_copied result ≡ answer_of self.now.tables self.now.answers name.now }
+    {
+        find_answer(self.tables, self.answers.as_slice(), name)
+    }
+}
+
+// The answer of the first output with this name.
+fn find_answer<'a>(
+    tables: &[Table],
+    answers: &'a [Sequence<Answer>],
+    name: &str,
+) -> Option<&'a Answer>
+    ensures { option_copied result ≡ answer_of tables.now answers.now name.now }
+{
+    for (place, answers) in answers.iter().enumerate() {
+        let found = answer_at(tables, place, answers.as_slice(), name);
+        if found.is_some() {
+            return found;
+        }
+    }
+    None
+}
+
+// The answer of the output with this name, where it is one of the table at the place.
+fn answer_at<'a>(
+    tables: &[Table],
+    place: usize,
+    answers: &'a [Answer],
+    name: &str,
+) -> Option<&'a Answer>
+    ensures { option_copied result ≡ option_and_then (λ t. answer_in t.outputs answers.now name.now) (slice_get tables.now place) }
+{
+    match tables.get(place) {
+        Some(table) => answer_in(table.outputs.as_slice(), answers, name),
+        None => None,
+    }
+}
+
+// The answer of the first of these outputs that has the name.
+fn answer_in<'a>(outputs: &[Output], answers: &'a [Answer], name: &str) -> Option<&'a Answer>
+    ensures { option_copied result ≡ answer_in outputs.now answers.now name.now }
+{
+    match place_of(outputs, name) {
+        Some(place) => answers.get(place),
+        None => None,
+    }
+}
+
+// The place of the first output that has the name.
+fn place_of(outputs: &[Output], name: &str) -> Option<usize>
+    ensures { result ≡ position (λ o. bytes_eq o.name name.now) outputs.now }
+{
+    outputs
+        .iter()
+        .position(|output| output.name.as_str() == name)
+}

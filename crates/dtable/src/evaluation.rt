@@ -1,0 +1,93 @@
+//! The evaluation of a plan's tables (DMN 1.4, decision tables).
+ghost use Rattle.std.specs.Prelude.{◌≡◌, ◌≤◌, ◌<◌, ◌^◌, [], length};
+ghost use Rattle.dtable.specs.Environment.{answers_of, table_value, number_behind};
+ghost use Rattle.dtable.specs.HitPolicy.{Gives, by_hit};
+
+mod lists;
+mod matching;
+mod numbers;
+mod priority;
+mod single;
+
+use crate::environment::{Answer, Env};
+use crate::fault::Fault;
+use crate::hit::Hit;
+use crate::inputs::Inputs;
+use crate::plan::Plan;
+use crate::sequence::Sequence;
+use crate::table::Table;
+use crate::valuer::Valuer;
+pub use priority::rules_have_one_priority_order;
+use std::alloc::Global;
+
+impl Valuer for Plan {
+    ghost plan_of = { λ plan. plan };
+
+    fn plan(&self) -> &Plan {
+        self
+    }
+
+    fn value<'a>(&'a self, alloc: Global, inputs: &Inputs) -> Result<Env<'a>, Fault> {
+        let answers = answers_of(alloc, inputs, self.tables())?;
+        Ok(Env::new(self.tables(), answers))
+    }
+}
+
+// The answers of tables in order, or the first fault.
+fn answers_of(
+    alloc: Global,
+    given: &Inputs,
+    tables: &[Table],
+) -> Result<Sequence<Sequence<Answer>>, Fault>
+    ensures { Gives (answers_of given.now [] tables.now) result }
+{
+    let mut answers = Sequence::new(alloc);
+    for table in tables {
+        let next = table_value(alloc, given, answers.as_slice(), table)?;
+        answers.push(next)?;
+    }
+    Ok(answers)
+}
+
+// The answers of a table that stands behind these.
+fn table_value(
+    alloc: Global,
+    given: &Inputs,
+    earlier: &[Sequence<Answer>],
+    table: &Table,
+) -> Result<Sequence<Answer>, Fault>
+    ensures { Gives (table_value given.now earlier.now table.now) result }
+{
+    let number = earlier.len() + 1;
+    if let Some(column) = matching::first_outside(given, earlier, table) {
+        return Err(Fault::Outside {
+            table: number,
+            column: column + 1,
+        });
+    }
+    let rules = matching::matching(alloc, given, earlier, table)?;
+    by_hit(alloc, number, table, rules.as_slice())
+}
+
+// The answers of a table, of which these rules match, by its hit policy.
+fn by_hit(
+    alloc: Global,
+    number: usize,
+    table: &Table,
+    rules: &[usize],
+) -> Result<Sequence<Answer>, Fault>
+    ensures { Gives (by_hit table.now.hit number table.now rules.now) result }
+{
+    match table.hit {
+        Hit::U => single::unique(alloc, number, table, rules),
+        Hit::A => single::any(alloc, number, table, rules),
+        Hit::P => single::of_rule(alloc, number, table, priority::highest(table, rules)),
+        Hit::F => single::of_rule(alloc, number, table, rules.first().copied()),
+        Hit::O => lists::in_output_order(alloc, table, rules),
+        Hit::R | Hit::C => lists::in_rule_order(alloc, table, rules),
+        Hit::Sum => numbers::sum(alloc, number, table, rules),
+        Hit::Min => numbers::least(alloc, number, table, rules),
+        Hit::Max => numbers::greatest(alloc, number, table, rules),
+        Hit::Count => numbers::counted(alloc, number, table, rules),
+    }
+}

@@ -1,0 +1,63 @@
+//! Policies that list all matches (DMN 1.4, hit policies Rule order, Output order and Collect).
+ghost use Rattle.std.specs.Prelude.{◌≡◌, Ok, IfOk};
+ghost use Rattle.dtable.specs.HitPolicy.{Gives, lists, column_of};
+ghost use Rattle.dtable.specs.Priority.{in_priority_order};
+
+use super::priority;
+use crate::environment::Answer;
+use crate::fault::Fault;
+use crate::sequence::Sequence;
+use crate::table::Table;
+use feel_tests::Value;
+use std::alloc::{AllocError, Global};
+
+/// Rule order, and Collect in this profile: for each output its entries, in rule order.
+pub fn in_rule_order(
+    alloc: Global,
+    table: &Table,
+    rules: &[usize],
+) -> Result<Sequence<Answer>, Fault>
+    ensures { Gives (Ok (lists table.now rules.now)) result }
+{
+    Ok(lists(alloc, table, rules)?)
+}
+
+/// Output order: for each output its entries, in falling priority.
+pub fn in_output_order(
+    alloc: Global,
+    table: &Table,
+    rules: &[usize],
+) -> Result<Sequence<Answer>, Fault>
+    ensures { Gives (Ok (lists table.now (in_priority_order table.now rules.now))) result }
+{
+    let ordered = priority::in_priority_order(alloc, table, rules)?;
+    Ok(lists(alloc, table, ordered.as_slice())?)
+}
+
+fn lists(alloc: Global, table: &Table, rules: &[usize]) -> Result<Sequence<Answer>, AllocError>
+    ensures { IfOk result (λ answers. answers ≡ lists table.now rules.now) }
+{
+    let mut answers = Sequence::new(alloc);
+    for column in 0..table.outputs.len() {
+        answers.push(Answer::Many(column_of(alloc, table, rules, column)?))?;
+    }
+    Ok(answers)
+}
+
+// The entries of the rules in one column of outputs.
+fn column_of(
+    alloc: Global,
+    table: &Table,
+    rules: &[usize],
+    column: usize,
+) -> Result<Sequence<Value>, AllocError>
+    ensures { IfOk result (λ values. values ≡ column_of table.now rules.now column) }
+{
+    let mut values = Sequence::new(alloc);
+    for rule in rules {
+        if let Some(value) = table.entry(*rule, column) {
+            values.push(value.duplicate(alloc)?)?;
+        }
+    }
+    Ok(values)
+}

@@ -1,0 +1,192 @@
+//! Policies that make one number of all matches (DMN 1.4, hit policy Collect with an aggregator).
+ghost use Rattle.std.specs.Prelude.{◌≡◌, ◌+ℤ◌, IfSome};
+ghost use Rattle.std.specs.List.{reduce};
+ghost use Rattle.std.specs.Option.{SomeIff, ForSome};
+ghost use Rattle.fixpoint.specs.Number.{IsInRange};
+ghost use Rattle.std.specs.Int.{int_min, int_max};
+ghost use Rattle.dtable.specs.HitPolicy.{Gives, joined, IsFarFromOverflow, aggregated, number_answer, number_in, numbers_of, counted, units_of};
+
+use super::single;
+use crate::environment::Answer;
+use crate::fault::Fault;
+use crate::sequence::Sequence;
+use crate::table::Table;
+use feel_tests::Value;
+use fixpoint::Fixed;
+use std::alloc::Global;
+
+/// How many units the number 1 has.
+const ONE_UNITS: i128 = 10_000;
+
+/// `C+`: the sum. It is formed whole before its range is looked at.
+pub fn sum(
+    alloc: Global,
+    number: usize,
+    table: &Table,
+    rules: &[usize],
+) -> Result<Sequence<Answer>, Fault>
+    ensures { Gives (aggregated number table.now (reduce ◌+ℤ◌ (numbers_of table.now rules.now))) result }
+{
+    aggregated(alloc, number, table, sum_of(table, rules))
+}
+
+/// `C<`: the least number.
+pub fn least(
+    alloc: Global,
+    number: usize,
+    table: &Table,
+    rules: &[usize],
+) -> Result<Sequence<Answer>, Fault>
+    ensures { Gives (aggregated number table.now (reduce int_min (numbers_of table.now rules.now))) result }
+{
+    aggregated(alloc, number, table, least_of(table, rules).map(i128::from))
+}
+
+/// `C>`: the greatest number.
+pub fn greatest(
+    alloc: Global,
+    number: usize,
+    table: &Table,
+    rules: &[usize],
+) -> Result<Sequence<Answer>, Fault>
+    ensures { Gives (aggregated number table.now (reduce int_max (numbers_of table.now rules.now))) result }
+{
+    aggregated(
+        alloc,
+        number,
+        table,
+        greatest_of(table, rules).map(i128::from),
+    )
+}
+
+/// `C#`: how many rules match.
+pub fn counted(
+    alloc: Global,
+    number: usize,
+    table: &Table,
+    rules: &[usize],
+) -> Result<Sequence<Answer>, Fault>
+    ensures { Gives (counted number table.now rules.now) result }
+{
+    if rules.is_empty() {
+        return single::unmatched(alloc, number, table);
+    }
+    number_answer(alloc, number, rules.len() as i128 * ONE_UNITS)
+}
+
+fn aggregated(
+    alloc: Global,
+    number: usize,
+    table: &Table,
+    units: Option<i128>,
+) -> Result<Sequence<Answer>, Fault>
+    ensures { Gives (aggregated number table.now units) result }
+{
+    match units {
+        Some(units) => number_answer(alloc, number, units),
+        None => single::unmatched(alloc, number, table),
+    }
+}
+
+// The number of so many units as the one answer.
+fn number_answer(alloc: Global, number: usize, units: i128) -> Result<Sequence<Answer>, Fault>
+    ensures { Gives (number_answer number units) result }
+{
+    match fixed(units) {
+        Some(value) => {
+            let mut answers = Sequence::new(alloc);
+            answers.push(Answer::One(Value::Number(value)))?;
+            Ok(answers)
+        }
+        None => Err(Fault::Range { table: number }),
+    }
+}
+
+// The number of so many units, if it is in the number range.
+fn fixed(units: i128) -> Option<Fixed>
+    ensures { SomeIff result (IsInRange units) units }
+{
+    match i64::try_from(units) {
+        Ok(units) => Fixed::from_units(units),
+        Err(_) => None,
+    }
+}
+
+fn sum_of(table: &Table, rules: &[usize]) -> Option<i128>
+    ensures { result ≡ reduce ◌+ℤ◌ (numbers_of table.now rules.now) }
+{
+    let mut sum = None;
+    for rule in rules {
+        sum = plus(sum, number_in(table, *rule));
+    }
+    sum
+}
+
+fn least_of(table: &Table, rules: &[usize]) -> Option<i64>
+    ensures { result ≡ reduce int_min (numbers_of table.now rules.now) }
+{
+    let mut least = None;
+    for rule in rules {
+        least = lesser(least, number_in(table, *rule));
+    }
+    least
+}
+
+fn greatest_of(table: &Table, rules: &[usize]) -> Option<i64>
+    ensures { result ≡ reduce int_max (numbers_of table.now rules.now) }
+{
+    let mut greatest = None;
+    for rule in rules {
+        greatest = greater(greatest, number_in(table, *rule));
+    }
+    greatest
+}
+
+fn plus(sum: Option<i128>, units: Option<i64>) -> Option<i128>
+    requires { ForSome sum IsFarFromOverflow }
+    ensures { result ≡ joined ◌+ℤ◌ sum units }
+{
+    match (sum, units) {
+        (Some(sum), Some(units)) => Some(add(sum, units)),
+        (None, Some(units)) => Some(i128::from(units)),
+        (sum, None) => sum,
+    }
+}
+
+fn add(sum: i128, units: i64) -> i128
+    requires { IsFarFromOverflow sum }
+    ensures { result ≡ sum +ℤ units }
+{
+    sum + i128::from(units)
+}
+
+fn lesser(least: Option<i64>, units: Option<i64>) -> Option<i64>
+    ensures { result ≡ joined int_min least units }
+{
+    match (least, units) {
+        (Some(least), Some(units)) => Some(least.min(units)),
+        (None, units) => units,
+        (least, None) => least,
+    }
+}
+
+fn greater(greatest: Option<i64>, units: Option<i64>) -> Option<i64>
+    ensures { result ≡ joined int_max greatest units }
+{
+    match (greatest, units) {
+        (Some(greatest), Some(units)) => Some(greatest.max(units)),
+        (None, units) => units,
+        (greatest, None) => greatest,
+    }
+}
+
+// The units of the rule's entry in the first output.
+fn number_in(table: &Table, rule: usize) -> Option<i64>
+    ensures value { result ≡ number_in table.now rule }
+    ensures in_range { IfSome result IsInRange }
+{
+    match table.entry(rule, 0)? {
+        Value::Number(number) => Some(number.units()),
+        _ => None,
+    }
+}

@@ -1,0 +1,81 @@
+//! What is given for the names that tables read.
+ghost use Rattle.std.specs.Prelude.{◌≡◌, IfOk};
+ghost use Rattle.std.specs.Option.{option_copied};
+ghost use Rattle.feel_tests.specs.Value.{kind_of};
+ghost use Rattle.dtable.specs.Inputs.{empty_slots, filled, kind_at, value_at, Takes};
+
+use crate::plan::Plan;
+use feel_tests::{Kind, Value};
+use std::alloc::{AllocError, Global};
+use std::marker::Model;
+
+/// The place of one name: the kind of its value, and the value, once it is given.
+#[derive(Debug, Drop)]
+pub struct Slot {
+    pub kind: Kind,
+    pub value: Option<Value>,
+}
+
+/// A place for each name of a plan, in order.
+#[derive(Debug, Drop)]
+pub struct Inputs {
+    slots: Vec<Slot>,
+}
+
+impl Model for Inputs {
+    ghost use Rattle.std.specs.Prelude.{List};
+    ghost use Rattle.dtable.specs.declared.inputs.Slot.{Slot};
+
+    ghost Value = { List Slot };
+
+    ghost view = { λ i. i.slots.items };
+}
+
+impl Inputs {
+    /// No name of the plan has a value yet.
+    pub fn new(alloc: Global, plan: &Plan) -> Result<Inputs, AllocError>
+        ensures { IfOk result (λ inputs. inputs ≡ empty_slots plan.now.names) }
+    {
+        let names = plan.names();
+        let mut slots = Vec::with_capacity(alloc, names.len())?;
+        for data in names {
+            slots.push(Slot {
+                kind: data.kind,
+                value: None,
+            })?;
+        }
+        Ok(Inputs { slots })
+    }
+
+    /// The kind of the name at the place, from 0, if there is one.
+    pub fn kind_at(&self, place: usize) -> Option<Kind>
+        ensures { result ≡ kind_at self.now place }
+    {
+        match self.slots.get(place) {
+            Some(slot) => Some(slot.kind),
+            None => None,
+        }
+    }
+
+    /// Gives the name at the place its value, in place of an earlier one. Places count from 0.
+    pub fn set(&mut self, place: usize, value: Value)
+        requires { Takes self.old place (kind_of value) }
+        ensures { self.new ≡ filled self.old place value }
+    {
+        let kind = value.kind();
+        self.slots[place] = Slot {
+            kind,
+            value: Some(value),
+        };
+    }
+
+    /// The value of the name at the place, if it is given.
+    pub fn get(&self, place: usize) -> Option<&Value>
+        ensures { option_copied result ≡ value_at self.now place }
+    {
+        match self.slots.get(place) {
+            Some(slot) => slot.value.as_ref(),
+            None => None,
+        }
+    }
+}

@@ -1,0 +1,44 @@
+//! Decision tables of DMN 1.4: plans, the eleven hit policies, and chains of tables.
+//!
+//! A `Plan` names the input data of a claim and holds `Table`s in order of evaluation. `Inputs` takes a value for
+//! each name that a table reads. `Plan::value` evaluates the tables: it gives an `Env`, which has the answer of each
+//! output by its name, or the first `Fault`. `Valuer` is what any other evaluator of a plan promises as well.
+//! Cells and values come from `feel_tests`, numbers from `fixpoint`.
+//!
+//! Begin with `specs/Plan.antt`, which says what holds of every plan, and go on with `specs/Matching.antt`,
+//! `specs/HitPolicy.antt` and `specs/Environment.antt`, which say what the tables' value is; then read
+//! `valuer.rt`, whose `value` carries the promise, and the files of `evaluation/`, one for each group of policies.
+#![tactic(auto)]
+
+#[cfg(test)]
+mod chain_tests;
+mod environment;
+mod evaluation;
+mod fault;
+mod hit;
+mod inputs;
+mod name;
+mod plan;
+mod plan_fault;
+mod reading;
+mod roles;
+mod sequence;
+mod soundness;
+mod table;
+#[cfg(test)]
+mod tests;
+mod valuer;
+
+pub use environment::{Answer, Env};
+pub use evaluation::rules_have_one_priority_order;
+pub use fault::Fault;
+pub use hit::Hit;
+pub use inputs::{Inputs, Slot};
+pub use name::{NAME_LIMIT_BYTES, Name};
+pub use plan::{Plan, all_names};
+pub use plan_fault::{PlanCause, PlanFault};
+pub use reading::{read_plan, text_spells_at_most_one_plan};
+pub use roles::{Roles, Source};
+pub use sequence::Sequence;
+pub use table::{Input, InputData, Origin, Output, Rule, Table};
+pub use valuer::Valuer;

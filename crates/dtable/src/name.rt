@@ -1,0 +1,42 @@
+//! The names of input data and outputs.
+ghost use Rattle.std.specs.Prelude.{◌≡◌, ◌≤◌, length, IfOk};
+ghost use Rattle.dtable.specs.declared.name.TheConstants.{NAME_LIMIT_BYTES};
+
+use std::alloc::{AllocError, Global};
+use std::marker::Model;
+
+/// How many bytes a name has at most.
+pub const NAME_LIMIT_BYTES: usize = 64;
+
+/// The name of input data or of an output, which contracts see as its bytes.
+#[derive(Debug, Drop)]
+pub struct Name {
+    text: String,
+}
+
+impl Model for Name {
+    ghost use Rattle.std.specs.Prelude.{List, ℕ, string_bytes};
+
+    ghost Value = { List ℕ };
+
+    ghost view = { λ n. string_bytes n.text };
+}
+
+impl Name {
+    /// The name of these bytes.
+    pub fn new(alloc: Global, text: &str) -> Result<Name, AllocError>
+        requires { length text.now ≤ NAME_LIMIT_BYTES }
+        ensures { IfOk result (λ name. name ≡ text.now) }
+    {
+        Ok(Name {
+            text: String::from_str(alloc, text)?,
+        })
+    }
+
+    /// The name as text.
+    pub fn as_str(&self) -> &str
+        ensures { result.now ≡ self.now }
+    {
+        self.text.as_str()
+    }
+}

@@ -1,0 +1,158 @@
+//! Plans: names, decision tables in order of evaluation, and roles.
+ghost use Rattle.std.specs.Prelude.{◌≡◌, ◌≤◌, ◌++◌, ◌↔◌, length, IsTrue, IfOk, OnOk};
+ghost use Rattle.std.specs.List.{list_all};
+ghost use Rattle.std.specs.Option.{option_copied};
+ghost use Rattle.dtable.specs.Inputs.{needs, is_served, IsReady};
+ghost use Rattle.dtable.specs.Names.{named, claim_names, accumulator_names, names_of};
+ghost use Rattle.dtable.specs.Plan.{IsPlan, MakesUp};
+ghost use Rattle.dtable.specs.declared.name.TheConstants.{NAME_LIMIT_BYTES};
+
+use crate::inputs::Inputs;
+use crate::name::{NAME_LIMIT_BYTES, Name};
+use crate::roles::Roles;
+use crate::sequence::Sequence;
+use crate::soundness::is_sound;
+use crate::table::{InputData, Table};
+use feel_tests::Kind;
+use std::alloc::{AllocError, Global};
+use std::marker::Model;
+
+/// A plan. Contracts see its names, its tables and its roles; `IsPlan` holds of every one.
+#[derive(Debug, Drop)]
+pub struct Plan {
+    names: Sequence<InputData>,
+    tables: Sequence<Table>,
+    roles: Option<Roles>,
+}
+
+impl Model for Plan {
+    ghost use Rattle.dtable.specs.Plan.{PlanParts, IsPlan};
+
+    ghost Value = { PlanParts };
+
+    ghost view = { λ p. record { names = p.names; tables = p.tables; roles = p.roles } };
+
+    ghost invariant = { λ p. IsPlan (record { names = p.names; tables = p.tables; roles = p.roles }) };
+}
+
+impl Plan {
+    /// The plan of these parts.
+    pub fn new(names: Sequence<InputData>, tables: Sequence<Table>, roles: Option<Roles>) -> Plan
+        requires { IsPlan (record { names = names; tables = tables; roles = roles }) }
+        ensures { result ≡ record { names = names; tables = tables; roles = roles } }
+    {
+        Plan {
+            names,
+            tables,
+            roles,
+        }
+    }
+
+    /// The plan of these fields, tables and roles, or none where they make up no plan.
+    pub fn checked(
+        alloc: Global,
+        fields: Sequence<InputData>,
+        tables: Sequence<Table>,
+        roles: Option<Roles>,
+    ) -> Result<Option<Plan>, AllocError>
+        ensures { IfOk result (MakesUp (record { names = names_of fields; tables = tables; roles = roles })) }
+    {
+        let names = all_names(alloc, fields)?;
+        if is_sound(names.as_slice(), tables.as_slice(), &roles) {
+            Ok(Some(Plan::new(names, tables, roles)))
+        } else {
+            Ok(None)
+        }
+    }
+
+    /// The names that tables may read from outside: claim, member, service, billed, the fields in order, and the
+    /// accumulators met, oop and paid.
+    pub fn names(&self) -> &[InputData]
+        ensures names { result.now ≡ self.now.names }
+        ensures sound { IsPlan self.now }
+    {
+        self.names.as_slice()
+    }
+
+    /// The tables, in order of evaluation.
+    pub fn tables(&self) -> &[Table]
+        ensures tables { result.now ≡ self.now.tables }
+        ensures sound { IsPlan self.now }
+    {
+        self.tables.as_slice()
+    }
+
+    /// The roles, if the plan settles claims.
+    pub fn roles(&self) -> Option<&Roles>
+        ensures roles { option_copied result ≡ self.now.roles }
+        ensures sound { IsPlan self.now }
+    {
+        self.roles.as_ref()
+    }
+
+    /// Whether some table reads the name at the place, from 0.
+    pub fn needs(&self, place: usize) -> bool
+        ensures { result ≡ needs self.now.tables place }
+    {
+        self.tables
+            .as_slice()
+            .iter()
+            .any(|table| table.reads(place))
+    }
+
+    /// Whether every name that a table reads has a value.
+    pub fn ready(&self, inputs: &Inputs) -> bool
+        ensures { IsTrue result ↔ IsReady self.now.tables inputs.now }
+    {
+        are_served(self.tables.as_slice(), inputs)
+    }
+}
+
+/// All names of a plan with these fields: claim, member, service and billed, the fields, then met, oop and paid.
+pub fn all_names(
+    alloc: Global,
+    fields: Sequence<InputData>,
+) -> Result<Sequence<InputData>, AllocError>
+    ensures { IfOk result (λ names. names ≡ names_of fields) }
+{
+    let mut names = fields;
+    for_member(alloc, &mut names)?;
+    for_claim(alloc, &mut names)?;
+    Ok(names)
+}
+
+fn for_member(alloc: Global, names: &mut Sequence<InputData>) -> Result<(), AllocError>
+    ensures { OnOk result (names.new ≡ names.old ++ accumulator_names) }
+{
+    names.push(named(alloc, "met", Kind::Number)?)?;
+    names.push(named(alloc, "oop", Kind::Number)?)?;
+    names.push(named(alloc, "paid", Kind::Number)?)?;
+    Ok(())
+}
+
+fn for_claim(alloc: Global, names: &mut Sequence<InputData>) -> Result<(), AllocError>
+    ensures { OnOk result (names.new ≡ claim_names ++ names.old) }
+{
+    names.insert(0, named(alloc, "billed", Kind::Number)?)?;
+    names.insert(0, named(alloc, "service", Kind::Day)?)?;
+    names.insert(0, named(alloc, "member", Kind::Text)?)?;
+    names.insert(0, named(alloc, "claim", Kind::Text)?)?;
+    Ok(())
+}
+
+fn named(alloc: Global, name: &str, kind: Kind) -> Result<InputData, AllocError>
+    requires { length name.now ≤ NAME_LIMIT_BYTES }
+    ensures { IfOk result (λ made. made ≡ named name.now kind) }
+{
+    Ok(InputData {
+        name: Name::new(alloc, name)?,
+        kind,
+    })
+}
+
+// Whether each name that one of these tables reads has a value.
+fn are_served(tables: &[Table], inputs: &Inputs) -> bool
+    ensures { result ≡ list_all (is_served inputs.now) tables.now }
+{
+    tables.iter().all(|table| table.is_served(inputs))
+}

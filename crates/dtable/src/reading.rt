@@ -1,0 +1,86 @@
+//! The reader of a plan's text. Faults are sought in one order, and the first is answered: the length of the text, its
+//! document, `version`, `fields`, then each table with its hit policy, inputs, outputs and rules, then `roles`.
+//!
+//! `document` finds what the TOML holds at a key, `place` says where a fault stands, `limits` has the limits of a plan,
+//! and `scope` finds what a name stands for. The keys are read by `names`, `inputs`, `outputs`, `rules`, `tables` and
+//! `roles`, each with `literals` where a string is a cell or a literal.
+ghost use Rattle.std.specs.Prelude.{◌≡◌, ◌≢◌, ◌≤◌, pos, codes, length, Some, OnOk, OnErr, IfOk, IfErr};
+ghost use Rattle.toml.specs.Data.{integer, get};
+ghost use Rattle.toml.specs.View.{view};
+ghost use Rattle.dtable.specs.Plan.{PlanParts};
+ghost use Rattle.dtable.specs.PlanFile.{IsPlanText, IsPlanDocument, SpellsOnePlan};
+ghost use Rattle.dtable.specs.Reading.{Reads};
+
+mod document;
+mod inputs;
+#[cfg(test)]
+mod limit_tests;
+mod limits;
+mod literals;
+mod names;
+mod outputs;
+mod place;
+mod roles;
+mod rules;
+mod scope;
+mod tables;
+#[cfg(test)]
+mod tests;
+
+use crate::plan::Plan;
+use crate::plan_fault::{PlanCause, PlanFault};
+use document::{read_document, required};
+use feel_tests::{text_spells_at_most_one_cell, text_spells_at_most_one_value};
+use limits::PLAN_LIMIT_BYTES;
+use names::read_names;
+use place::Place;
+use roles::read_roles;
+use std::alloc::Global;
+use tables::read_tables;
+#[cfg(test)]
+pub use tests::{CHAIN, HEALTH};
+use toml::Value;
+
+/// Reads a plan's text.
+pub fn read_plan(alloc: Global, text: &[u8]) -> Result<Plan, PlanFault>
+    ensures plan { IfOk result (λ plan. IsPlanText text.now plan) }
+    ensures refused { IfErr result (λ fault. fault.cause ≢ PlanCause.OutOfMemory → (plan : PlanParts) → ¬ IsPlanText text.now plan) }
+{
+    if text.len() > PLAN_LIMIT_BYTES {
+        return Err(Place::TEXT.fault(PlanCause::Limit));
+    }
+    let document = read_document(alloc, text)?;
+    plan_of(alloc, &document)
+}
+
+/// A text spells at most one plan.
+pub fn text_spells_at_most_one_plan()
+    ensures { SpellsOnePlan }
+{
+    text_spells_at_most_one_cell();
+    text_spells_at_most_one_value();
+}
+
+/// Reads the plan that a document spells.
+fn plan_of(alloc: Global, document: &Value) -> Result<Plan, PlanFault>
+    ensures { Reads (IsPlanDocument (view document.now)) result }
+{
+    check_version(document)?;
+    text_spells_at_most_one_value();
+    let names = read_names(alloc, document)?;
+    let tables = read_tables(alloc, document, names.as_slice())?;
+    let roles = read_roles(alloc, document, names.as_slice(), tables.as_slice())?;
+    Ok(Plan::new(names, tables, roles))
+}
+
+fn check_version(document: &Value) -> Result<(), PlanFault>
+    ensures ok { OnOk result (get (codes "version") (view document.now) ≡ Some (integer (pos 1))) }
+    ensures refused { OnErr result (get (codes "version") (view document.now) ≢ Some (integer (pos 1))) }
+{
+    let version = required(document, "version", Place::TEXT)?;
+    match version.as_integer() {
+        Some(1) => Ok(()),
+        Some(_) => Err(Place::TEXT.fault(PlanCause::Unknown)),
+        None => Err(Place::TEXT.fault(PlanCause::Kind)),
+    }
+}

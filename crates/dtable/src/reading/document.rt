@@ -1,0 +1,89 @@
+//! What a plan's document holds at a key, or the fault where that isn't there or is of another type.
+ghost use Rattle.std.specs.Prelude.{◌≡◌, ◌≢◌, ◌≤◌, Some, None, length, option_map, IsUtf8, IfOk, IfErr, OnOk, OnErr};
+ghost use Rattle.toml.specs.Data.{table, get};
+ghost use Rattle.toml.specs.Parse.{parse_document};
+ghost use Rattle.toml.specs.View.{view, items_view};
+ghost use Rattle.dtable.specs.Document.{string_at, array_at, optional_array_at, item_count};
+
+use super::place::Place;
+use crate::plan_fault::{PlanCause, PlanFault};
+use std::alloc::Global;
+use toml::Value;
+
+/// Reads the document of a text, which has to be UTF-8.
+pub fn read_document(alloc: Global, text: &[u8]) -> Result<Value, PlanFault>
+    ensures utf8 { IfOk result (λ _. IsUtf8 text.now) }
+    ensures document { IfOk result (λ document. option_map table (parse_document text.now) ≡ Some (view document)) }
+    ensures refused { IfErr result (λ fault. fault.cause ≢ PlanCause.OutOfMemory → IsUtf8 text.now → parse_document text.now ≡ None) }
+{
+    match toml::table_from_slice(alloc, text) {
+        Ok(members) => Ok(Value::Table(members)),
+        Err(fault) if fault.is_memory() => Err(Place::TEXT.fault(PlanCause::OutOfMemory)),
+        Err(_) => Err(Place::TEXT.fault(PlanCause::Toml)),
+    }
+}
+
+/// The value at a key that has to be there. An entry that is no table is of another type.
+pub fn required<'a>(entry: &'a Value, key: &str, place: Place) -> Result<&'a Value, PlanFault>
+    ensures ok { IfOk result (λ value. get key.now (view entry.now) ≡ Some (view value.now)) }
+    ensures refused { OnErr result (get key.now (view entry.now) ≡ None) }
+{
+    match entry.get(key) {
+        Some(value) => Ok(value),
+        None if entry.is_table() => Err(place.fault(PlanCause::Missing)),
+        None => Err(place.fault(PlanCause::Kind)),
+    }
+}
+
+/// The string at a key that has to be there.
+pub fn required_text<'a>(entry: &'a Value, key: &str, place: Place) -> Result<&'a str, PlanFault>
+    ensures ok { IfOk result (λ text. string_at key.now (view entry.now) ≡ Some text.now) }
+    ensures refused { OnErr result (string_at key.now (view entry.now) ≡ None) }
+{
+    let value = required(entry, key, place)?;
+    match value.as_str() {
+        Some(text) => Ok(text),
+        None => Err(place.fault(PlanCause::Kind)),
+    }
+}
+
+/// The items of the array at a key that has to be there.
+pub fn required_array<'a>(
+    entry: &'a Value,
+    key: &str,
+    place: Place,
+) -> Result<&'a [Value], PlanFault>
+    ensures ok { IfOk result (λ items. array_at key.now (view entry.now) ≡ Some (items_view items.now)) }
+    ensures refused { OnErr result (array_at key.now (view entry.now) ≡ None) }
+{
+    let value = required(entry, key, place)?;
+    match value.as_array() {
+        Some(items) => Ok(items.as_slice()),
+        None => Err(place.fault(PlanCause::Kind)),
+    }
+}
+
+/// The items of an array of the document that may be left out.
+pub fn optional_array<'a>(document: &'a Value, key: &str) -> Result<&'a [Value], PlanFault>
+    ensures ok { IfOk result (λ items. optional_array_at key.now (view document.now) ≡ Some (items_view items.now)) }
+    ensures refused { OnErr result (optional_array_at key.now (view document.now) ≡ None) }
+{
+    match document.get(key) {
+        None => Ok(&[]),
+        Some(value) => match value.as_array() {
+            Some(items) => Ok(items.as_slice()),
+            None => Err(Place::TEXT.fault(PlanCause::Kind)),
+        },
+    }
+}
+
+/// There are no more items than the limit; the place is that of the first item too many.
+pub fn check_count(items: &[Value], limit: usize, place: Place) -> Result<(), PlanFault>
+    ensures ok { OnOk result (item_count (items_view items.now) ≤ limit) }
+    ensures refused { OnErr result (¬ (item_count (items_view items.now) ≤ limit)) }
+{
+    if items.len() > limit {
+        return Err(place.fault(PlanCause::Limit));
+    }
+    Ok(())
+}

@@ -1,0 +1,141 @@
+//! Reads the names and kinds of a plan's columns, and its fields.
+ghost use Rattle.std.specs.Prelude.{◌≡◌, ◌++◌};
+ghost use Rattle.toml.specs.View.{view, items_view};
+ghost use Rattle.dtable.specs.NameForm.{has_name_form, is_name_start, is_name_byte, is_among, reserved_names};
+ghost use Rattle.dtable.specs.PlanFile.{IsNamed, IsNewlyNamed, IsOfKind, IsField, AreFields, AreNames};
+ghost use Rattle.dtable.specs.Reading.{Reads};
+ghost use Rattle.dtable.specs.Scope.{data_names};
+
+use super::document::{check_count, optional_array, required_text};
+use super::limits::FIELDS_LIMIT;
+use super::place::Place;
+use super::scope::is_taken_field;
+use crate::name::{NAME_LIMIT_BYTES, Name};
+use crate::plan::all_names;
+use crate::plan_fault::{PlanCause, PlanFault};
+use crate::sequence::Sequence;
+use crate::table::InputData;
+use feel_tests::Kind;
+use std::alloc::Global;
+use toml::Value;
+
+/// The names that are taken from the start: a claim's own columns, a member's accumulators, and the words of cells.
+const RESERVED_NAMES: [&str; 11] = [
+    "claim", "member", "service", "billed", "met", "oop", "paid", "true", "false", "not", "date",
+];
+
+/// Reads the fields of a document, and puts them among the names that every plan has.
+pub fn read_names(alloc: Global, document: &Value) -> Result<Sequence<InputData>, PlanFault>
+    ensures { Reads (AreNames (view document.now)) result }
+{
+    let entries = optional_array(document, "fields")?;
+    let fields = read_fields(alloc, entries)?;
+    let names = all_names(alloc, fields)?;
+    Ok(names)
+}
+
+/// Reads the entries of `fields`.
+fn read_fields(alloc: Global, entries: &[Value]) -> Result<Sequence<InputData>, PlanFault>
+    ensures { Reads (AreFields (items_view entries.now)) result }
+{
+    check_count(
+        entries,
+        FIELDS_LIMIT,
+        Place::TEXT.in_column(FIELDS_LIMIT + 1),
+    )?;
+    let mut fields = Sequence::new(alloc);
+    for (index, entry) in entries.iter().enumerate() {
+        let field = read_field(
+            alloc,
+            entry,
+            fields.as_slice(),
+            Place::TEXT.in_column(index + 1),
+        )?;
+        fields.push(field)?;
+    }
+    Ok(fields)
+}
+
+fn read_field(
+    alloc: Global,
+    entry: &Value,
+    front: &[InputData],
+    place: Place,
+) -> Result<InputData, PlanFault>
+    ensures { Reads (IsField (reserved_names ++ data_names front.now) (view entry.now)) result }
+{
+    let name = read_field_name(alloc, entry, front, place)?;
+    let kind = read_kind(entry, place)?;
+    Ok(InputData { name, kind })
+}
+
+fn read_field_name(
+    alloc: Global,
+    entry: &Value,
+    front: &[InputData],
+    place: Place,
+) -> Result<Name, PlanFault>
+    ensures { Reads (IsNewlyNamed (reserved_names ++ data_names front.now) (view entry.now)) result }
+{
+    let name = read_name(alloc, entry, place)?;
+    if is_taken_field(front, name.as_str()) {
+        return Err(place.fault(PlanCause::Duplicate));
+    }
+    Ok(name)
+}
+
+/// Reads the name of an entry.
+pub fn read_name(alloc: Global, entry: &Value, place: Place) -> Result<Name, PlanFault>
+    ensures { Reads (IsNamed (view entry.now)) result }
+{
+    let text = required_text(entry, "name", place)?;
+    if !has_name_form(text) {
+        return Err(place.fault(PlanCause::Kind));
+    }
+    if text.len() > NAME_LIMIT_BYTES {
+        return Err(place.fault(PlanCause::Limit));
+    }
+    Ok(Name::new(alloc, text)?)
+}
+
+/// Reads the kind of an entry.
+pub fn read_kind(entry: &Value, place: Place) -> Result<Kind, PlanFault>
+    ensures { Reads (IsOfKind (view entry.now)) result }
+{
+    match required_text(entry, "kind", place)? {
+        "number" => Ok(Kind::Number),
+        "text" => Ok(Kind::Text),
+        "flag" => Ok(Kind::Flag),
+        "day" => Ok(Kind::Day),
+        _ => Err(place.fault(PlanCause::Kind)),
+    }
+}
+
+/// Whether a text has the form of a name, however long it is: an ASCII letter or `_`, then letters, digits or `_`.
+fn has_name_form(text: &str) -> bool
+    ensures { result ≡ has_name_form text.now }
+{
+    match text.as_bytes() {
+        [] => false,
+        [first, rest @ ..] => is_start(*first) && rest.iter().all(|byte| is_part(*byte)),
+    }
+}
+
+fn is_start(byte: u8) -> bool
+    ensures { result ≡ is_name_start byte }
+{
+    byte.is_ascii_alphabetic() || byte == b'_'
+}
+
+fn is_part(byte: u8) -> bool
+    ensures { result ≡ is_name_byte byte }
+{
+    is_start(byte) || byte.is_ascii_digit()
+}
+
+/// Whether a name is taken from the start.
+pub fn is_reserved(name: &str) -> bool
+    ensures { result ≡ is_among name.now reserved_names }
+{
+    RESERVED_NAMES.iter().any(|reserved| *reserved == name)
+}

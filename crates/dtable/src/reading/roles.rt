@@ -1,0 +1,325 @@
+//! Reads the roles of a plan.
+ghost use Rattle.std.specs.Prelude.{◌≡◌, ◌↔◌, ◌≢◌, codes, map, length, not, ◌&&◌, Some, option_map, IsTrue, IfOk, OnOk, OnErr};
+ghost use Rattle.std.specs.List.{list_any};
+ghost use Rattle.std.specs.Str.{bytes_eq};
+ghost use Rattle.toml.specs.Data.{get};
+ghost use Rattle.toml.specs.View.{view};
+ghost use Rattle.feel_tests.specs.declared.kind.Kind.TheVariants as kinds;
+ghost use Rattle.dtable.specs.Document.{string_at, Optionally};
+ghost use Rattle.dtable.specs.Plan.{same_kind};
+ghost use Rattle.dtable.specs.Reading.{Reads};
+ghost use Rattle.dtable.specs.RoleFile.{AreRoles, AreRemarks, IsRole, IsSource, IsNamedSource, IsLiteralSource, IsMoney, IsRate, Meets, asked_kind, lists_texts};
+ghost use Rattle.dtable.specs.Scope.{seen_of};
+
+use super::place::Place;
+use super::scope::{kind_at, origin_of};
+use crate::name::{NAME_LIMIT_BYTES, Name};
+use crate::plan_fault::{PlanCause, PlanFault};
+use crate::roles::{Roles, Source};
+use crate::table::{InputData, Origin, Output, Table};
+use feel_tests::{CellCause, Kind, Value as Literal, read_value, text_spells_at_most_one_value};
+use fixpoint::Fixed;
+use std::alloc::{AllocError, Global};
+use toml::Value;
+
+/// What is asked of a role's value.
+#[derive(Clone, Copy, Debug, PartialEq, Eq)]
+pub enum Asked {
+    /// A flag.
+    Flag,
+    /// An amount of money, which isn't negative.
+    Money,
+    /// A number from 0 to 1.
+    Rate,
+}
+
+/// How many ten-thousandths a cent has.
+const UNITS_PER_CENT: u64 = 100;
+
+/// How many ten-thousandths 1 has.
+const UNITS_PER_ONE: i64 = 10_000;
+
+/// Reads the roles of a document, if it has any.
+pub fn read_roles(
+    alloc: Global,
+    document: &Value,
+    names: &[InputData],
+    tables: &[Table],
+) -> Result<Option<Roles>, PlanFault>
+    ensures { Reads (Optionally (AreRoles names.now (map seen_of tables.now)) (get (codes "roles") (view document.now))) result }
+{
+    match document.get("roles") {
+        None => Ok(None),
+        Some(roles) => {
+            let roles = read_role_table(alloc, roles, names, tables)?;
+            Ok(Some(roles))
+        }
+    }
+}
+
+fn read_role_table(
+    alloc: Global,
+    roles: &Value,
+    names: &[InputData],
+    tables: &[Table],
+) -> Result<Roles, PlanFault>
+    ensures { Reads (AreRoles names.now (map seen_of tables.now) (view roles.now)) result }
+{
+    if !roles.is_table() {
+        return Err(Place::TEXT.fault(PlanCause::Kind));
+    }
+    let cover = read_role(
+        alloc,
+        roles,
+        "cover",
+        Asked::Flag,
+        names,
+        tables,
+        Place::TEXT.in_column(1),
+    )?;
+    let fee = read_role(
+        alloc,
+        roles,
+        "fee",
+        Asked::Money,
+        names,
+        tables,
+        Place::TEXT.in_column(2),
+    )?;
+    let deductible = read_role(
+        alloc,
+        roles,
+        "deductible",
+        Asked::Money,
+        names,
+        tables,
+        Place::TEXT.in_column(3),
+    )?;
+    let copay = read_role(
+        alloc,
+        roles,
+        "copay",
+        Asked::Money,
+        names,
+        tables,
+        Place::TEXT.in_column(4),
+    )?;
+    let rate = read_role(
+        alloc,
+        roles,
+        "rate",
+        Asked::Rate,
+        names,
+        tables,
+        Place::TEXT.in_column(5),
+    )?;
+    let oop_max = read_role(
+        alloc,
+        roles,
+        "oop_max",
+        Asked::Money,
+        names,
+        tables,
+        Place::TEXT.in_column(6),
+    )?;
+    let remarks = read_remarks(alloc, roles, tables, Place::TEXT.in_column(7))?;
+    Ok(Roles {
+        cover,
+        fee,
+        deductible,
+        copay,
+        rate,
+        oop_max,
+        remarks,
+    })
+}
+
+fn read_role(
+    alloc: Global,
+    roles: &Value,
+    key: &str,
+    asked: Asked,
+    names: &[InputData],
+    tables: &[Table],
+    place: Place,
+) -> Result<Source, PlanFault>
+    ensures { Reads (IsRole names.now (map seen_of tables.now) asked key.now (view roles.now)) result }
+{
+    match text_at(roles, key) {
+        Some(text) => read_source(alloc, text, asked, names, tables, place),
+        None => Err(place.fault(PlanCause::Role)),
+    }
+}
+
+/// The string at a key, if there is one.
+fn text_at<'a>(entry: &'a Value, key: &str) -> Option<&'a str>
+    ensures { option_map (λ text. text.now) result ≡ string_at key.now (view entry.now) }
+{
+    match entry.get(key) {
+        None => None,
+        Some(value) => value.as_str(),
+    }
+}
+
+/// Reads a role's string: a literal, or else a name.
+fn read_source(
+    alloc: Global,
+    text: &str,
+    asked: Asked,
+    names: &[InputData],
+    tables: &[Table],
+    place: Place,
+) -> Result<Source, PlanFault>
+    ensures { Reads (IsSource names.now (map seen_of tables.now) asked text.now) result }
+{
+    text_spells_at_most_one_value();
+    match read_value(alloc, asked.kind(), text) {
+        Ok(value) => literal_source(value, asked, place),
+        Err(fault) => match fault.cause {
+            CellCause::OutOfMemory => Err(PlanFault::from(AllocError)),
+            _ => read_named(alloc, text, asked.kind(), names, tables, place),
+        },
+    }
+}
+
+/// The literal as a source, where it is what is asked.
+fn literal_source(value: Literal, asked: Asked, place: Place) -> Result<Source, PlanFault>
+    ensures ok { IfOk result (λ source. source ≡ Source.Literal value) }
+    ensures meets { OnOk result (Meets asked value) }
+    ensures refused { OnErr result (¬ Meets asked value) }
+{
+    if asked.meets(&value) {
+        Ok(Source::Literal(value))
+    } else {
+        Err(place.fault(PlanCause::Money))
+    }
+}
+
+/// Reads a role's string as the name of a single value of the kind.
+fn read_named(
+    alloc: Global,
+    text: &str,
+    kind: Kind,
+    names: &[InputData],
+    tables: &[Table],
+    place: Place,
+) -> Result<Source, PlanFault>
+    ensures { Reads (IsNamedSource names.now (map seen_of tables.now) kind text.now) result }
+{
+    let Some(origin) = origin_of(names, tables, text) else {
+        return Err(place.fault(PlanCause::Role));
+    };
+    if !is_of_kind(kind_at(names, tables, origin), kind) {
+        return Err(place.fault(PlanCause::Role));
+    }
+    match origin {
+        Origin::Given(input) => Ok(Source::Input(input)),
+        Origin::Earlier { .. } if text.len() > NAME_LIMIT_BYTES => Err(place.fault(
+            PlanCause::Role,
+        )),
+        Origin::Earlier { .. } => Ok(Source::Output(Name::new(alloc, text)?)),
+    }
+}
+
+fn is_of_kind(found: Option<Kind>, kind: Kind) -> bool
+    ensures { IsTrue result ↔ (found ≡ Some kind) }
+{
+    found == Some(kind)
+}
+
+/// Reads the name of the output that lists remarks, if there is one.
+fn read_remarks(
+    alloc: Global,
+    roles: &Value,
+    tables: &[Table],
+    place: Place,
+) -> Result<Option<Name>, PlanFault>
+    ensures { Reads (Optionally (AreRemarks (map seen_of tables.now)) (get (codes "remarks") (view roles.now))) result }
+{
+    match roles.get("remarks") {
+        None => Ok(None),
+        Some(entry) => {
+            let name = read_remarks_name(alloc, entry, tables, place)?;
+            Ok(Some(name))
+        }
+    }
+}
+
+fn read_remarks_name(
+    alloc: Global,
+    entry: &Value,
+    tables: &[Table],
+    place: Place,
+) -> Result<Name, PlanFault>
+    ensures { Reads (AreRemarks (map seen_of tables.now) (view entry.now)) result }
+{
+    let Some(text) = entry.as_str() else {
+        return Err(place.fault(PlanCause::Role));
+    };
+    if text.len() > NAME_LIMIT_BYTES || !lists_texts(tables, text) {
+        return Err(place.fault(PlanCause::Role));
+    }
+    Ok(Name::new(alloc, text)?)
+}
+
+/// Whether some output that lists texts has the name.
+fn lists_texts(tables: &[Table], name: &str) -> bool
+    ensures { result ≡ lists_texts (map seen_of tables.now) name.now }
+{
+    tables.iter().any(|table| table_lists_texts(table, name))
+}
+
+fn table_lists_texts(table: &Table, name: &str) -> bool
+    ensures { result ≡ list_any (λ o. bytes_eq o.name name.now && (not o.is_single && same_kind kinds.Text o.kind)) (seen_of table.now) }
+{
+    !table.hit.gives_one() && some_text(table.outputs.as_slice(), name)
+}
+
+fn some_text(outputs: &[Output], name: &str) -> bool
+    ensures { result ≡ list_any (λ o. bytes_eq o.name name.now && same_kind kinds.Text o.kind) outputs.now }
+{
+    outputs.iter().any(|output| output.name.as_str() == name && is_text(output.kind))
+}
+
+fn is_text(kind: Kind) -> bool
+    ensures { result ≡ same_kind kinds.Text kind }
+{
+    matches!(kind, Kind::Text)
+}
+
+impl Asked {
+    fn kind(self) -> Kind
+        ensures { result ≡ asked_kind self }
+    {
+        match self {
+            Asked::Flag => Kind::Flag,
+            Asked::Money => Kind::Number,
+            Asked::Rate => Kind::Number,
+        }
+    }
+
+    fn meets(self, value: &Literal) -> bool
+        ensures { IsTrue result ↔ Meets self value.now }
+    {
+        match (self, value) {
+            (Asked::Flag, _) => true,
+            (Asked::Money, Literal::Number(number)) => is_money(*number),
+            (Asked::Rate, Literal::Number(number)) => is_rate(*number),
+            _ => false,
+        }
+    }
+}
+
+fn is_money(number: Fixed) -> bool
+    ensures { IsTrue result ↔ IsMoney number }
+{
+    let units = number.units();
+    units >= 0 && units.unsigned_abs() % UNITS_PER_CENT == 0
+}
+
+fn is_rate(number: Fixed) -> bool
+    ensures { IsTrue result ↔ IsRate number }
+{
+    let units = number.units();
+    units >= 0 && units <= UNITS_PER_ONE
+}

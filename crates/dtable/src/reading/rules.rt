@@ -1,0 +1,149 @@
+//! Reads the rules of a table: a cell for each input, and a literal for each output.
+ghost use Rattle.std.specs.Prelude.{◌≡◌, ◌≢◌, Some, length, codes, map, IfOk, OnErr};
+ghost use Rattle.toml.specs.Data.{Items};
+ghost use Rattle.toml.specs.View.{view, items_view};
+ghost use Rattle.dtable.specs.Document.{array_at, item_count};
+ghost use Rattle.dtable.specs.PlanFile.{IsCellUnder, IsEntry, IsRow, IsRule, AreRules};
+ghost use Rattle.dtable.specs.Reading.{Reads};
+ghost use Rattle.dtable.specs.Scope.{seen_of};
+
+use super::document::{check_count, required_array};
+use super::inputs::read_input_cell;
+use super::limits::RULES_LIMIT;
+use super::literals::read_literal_entry;
+use super::place::Place;
+use crate::plan_fault::{PlanCause, PlanFault};
+use crate::sequence::Sequence;
+use crate::soundness::is_ranked;
+use crate::table::{Input, InputData, Output, Rule, Table};
+use feel_tests::{Cell, Value as Literal, text_spells_at_most_one_value};
+use std::alloc::Global;
+use toml::Value;
+
+/// Reads the rules of a table.
+pub fn read_rules(
+    alloc: Global,
+    table: &Value,
+    names: &[InputData],
+    tables: &[Table],
+    inputs: &[Input],
+    outputs: &[Output],
+    place: Place,
+) -> Result<Sequence<Rule>, PlanFault>
+    ensures { Reads (AreRules names.now (map seen_of tables.now) inputs.now outputs.now (view table.now)) result }
+{
+    let entries = required_array(table, "rules", place)?;
+    check_count(entries, RULES_LIMIT, place.in_rule(RULES_LIMIT + 1))?;
+    let mut rules = Sequence::new(alloc);
+    for (index, entry) in entries.iter().enumerate() {
+        let rule = read_rule(
+            alloc,
+            entry,
+            names,
+            tables,
+            inputs,
+            outputs,
+            place.in_rule(index + 1),
+        )?;
+        rules.push(rule)?;
+    }
+    Ok(rules)
+}
+
+fn read_rule(
+    alloc: Global,
+    entry: &Value,
+    names: &[InputData],
+    tables: &[Table],
+    inputs: &[Input],
+    outputs: &[Output],
+    place: Place,
+) -> Result<Rule, PlanFault>
+    ensures { Reads (IsRule names.now (map seen_of tables.now) inputs.now outputs.now (view entry.now)) result }
+{
+    let cells = read_when(alloc, entry, names, tables, inputs, place)?;
+    let entries = read_then(alloc, entry, inputs, outputs, place)?;
+    Ok(Rule { cells, entries })
+}
+
+/// Reads the cells of a rule, one for each input.
+fn read_when(
+    alloc: Global,
+    rule: &Value,
+    names: &[InputData],
+    tables: &[Table],
+    inputs: &[Input],
+    place: Place,
+) -> Result<Sequence<Cell>, PlanFault>
+    ensures { Reads (IsRow (IsCellUnder names.now (map seen_of tables.now)) inputs.now (codes "when") (view rule.now)) result }
+{
+    let entries = required_row(rule, "when", inputs.len(), place)?;
+    let mut cells = Sequence::new(alloc);
+    for (index, entry) in entries.iter().enumerate() {
+        let input = &inputs[index];
+        let cell = read_input_cell(
+            alloc,
+            entry,
+            names,
+            tables,
+            input.origin,
+            place.in_column(index + 1),
+        )?;
+        cells.push(cell)?;
+    }
+    Ok(cells)
+}
+
+/// Reads the literals of a rule, one for each output; their columns stand behind those of the inputs.
+fn read_then(
+    alloc: Global,
+    rule: &Value,
+    inputs: &[Input],
+    outputs: &[Output],
+    place: Place,
+) -> Result<Sequence<Literal>, PlanFault>
+    ensures { Reads (IsRow IsEntry outputs.now (codes "then") (view rule.now)) result }
+{
+    let entries = required_row(rule, "then", outputs.len(), place)?;
+    let mut literals = Sequence::new(alloc);
+    for (index, entry) in entries.iter().enumerate() {
+        let column = place.in_column(inputs.len() + index + 1);
+        let literal = read_then_entry(alloc, entry, &outputs[index], column)?;
+        literals.push(literal)?;
+    }
+    Ok(literals)
+}
+
+/// The items of the array at a key that has as many as there are columns.
+fn required_row<'a>(
+    rule: &'a Value,
+    key: &str,
+    columns: usize,
+    place: Place,
+) -> Result<&'a [Value], PlanFault>
+    ensures ok { IfOk result (λ items. array_at key.now (view rule.now) ≡ Some (items_view items.now)) }
+    ensures columns { IfOk result (λ items. length items.now ≡ columns) }
+    ensures refused { OnErr result ((items : Items) → array_at key.now (view rule.now) ≡ Some items → item_count items ≢ columns) }
+{
+    let items = required_array(rule, key, place)?;
+    if items.len() != columns {
+        return Err(place.fault(PlanCause::Kind));
+    }
+    Ok(items)
+}
+
+fn read_then_entry(
+    alloc: Global,
+    entry: &Value,
+    output: &Output,
+    place: Place,
+) -> Result<Literal, PlanFault>
+    ensures { Reads (IsEntry output.now (view entry.now)) result }
+{
+    text_spells_at_most_one_value();
+    let value = read_literal_entry(alloc, entry, output.kind, place)?;
+    if !is_ranked(&output.priority, &value) {
+        return Err(place.fault(PlanCause::Priority));
+    }
+    Ok(value)
+}

@@ -1,0 +1,126 @@
+//! What a name stands for behind some names and tables.
+ghost use Rattle.std.specs.Prelude.{◌≡◌, ◌++◌, map, position, slice_get, option_map};
+ghost use Rattle.std.specs.Str.{bytes_eq};
+ghost use Rattle.dtable.specs.NameForm.{is_among, reserved_names};
+ghost use Rattle.dtable.specs.Scope.{data_names, output_names, seen_names, taken_names, seen_of, seen_as, is_single_of, origin_of, earlier_origin, kind_at};
+
+use super::names::is_reserved;
+use crate::hit::Hit;
+use crate::table::{InputData, Origin, Output, Table};
+use feel_tests::Kind;
+
+/// Where the value of a name comes from: from the input data, or else from an output of an earlier table with one value.
+pub fn origin_of(names: &[InputData], tables: &[Table], name: &str) -> Option<Origin>
+    ensures { result ≡ origin_of names.now (map seen_of tables.now) name.now }
+{
+    match names.iter().position(|data| data.name.as_str() == name) {
+        Some(place) => Some(Origin::Given(place)),
+        None => earlier_origin(tables, name),
+    }
+}
+
+fn earlier_origin(tables: &[Table], name: &str) -> Option<Origin>
+    ensures { result ≡ earlier_origin 0 (map seen_of tables.now) name.now }
+{
+    for (table, earlier) in tables.iter().enumerate() {
+        if let Some(column) = single_column(earlier, name) {
+            return Some(Origin::Earlier { table, column });
+        }
+    }
+    None
+}
+
+/// The column of the output with this name and one value, from 0.
+fn single_column(table: &Table, name: &str) -> Option<usize>
+    ensures { result ≡ position (is_single_of name.now) (seen_of table.now) }
+{
+    if !table.hit.gives_one() {
+        return None;
+    }
+    table
+        .outputs
+        .as_slice()
+        .iter()
+        .position(|output| output.name.as_str() == name)
+}
+
+/// The kind of the value that comes from there.
+pub fn kind_at(names: &[InputData], tables: &[Table], origin: Origin) -> Option<Kind>
+    ensures { result ≡ kind_at names.now (map seen_of tables.now) origin }
+{
+    match origin {
+        Origin::Given(place) => match names.get(place) {
+            Some(data) => Some(data.kind),
+            None => None,
+        },
+        Origin::Earlier { table, column } => match tables.get(table) {
+            Some(table) => column_kind(table, column),
+            None => None,
+        },
+    }
+}
+
+fn column_kind(table: &Table, column: usize) -> Option<Kind>
+    ensures { result ≡ option_map (λ o. o.kind) (slice_get (seen_of table.now) column) }
+{
+    match table.outputs.as_slice().get(column) {
+        Some(output) => Some(seen_kind(table.hit, output.kind)),
+        None => None,
+    }
+}
+
+/// The kind of the values that are seen of an output of this written kind.
+pub fn seen_kind(hit: Hit, written: Kind) -> Kind
+    ensures { result ≡ seen_as hit written }
+{
+    match hit {
+        Hit::Count => Kind::Number,
+        _ => written,
+    }
+}
+
+/// Whether a name is taken behind these names and the outputs of these tables.
+#[tactic(auto, using(crate::proofs::ReadNames::is_among_taken))]
+fn is_taken(names: &[InputData], tables: &[Table], name: &str) -> bool
+    ensures { result ≡ is_among name.now (taken_names names.now (map seen_of tables.now)) }
+{
+    is_reserved(name) || (is_data(names, name) || is_output_of(tables, name))
+}
+
+/// Whether a name is taken behind these names, these tables and these outputs.
+#[tactic(auto, using(crate::proofs::ReadNames::is_among_outputs))]
+pub fn is_taken_output(names: &[InputData], tables: &[Table], front: &[Output], name: &str) -> bool
+    ensures { result ≡ is_among name.now (taken_names names.now (map seen_of tables.now) ++ output_names front.now) }
+{
+    is_taken(names, tables, name) || is_output(front, name)
+}
+
+/// Whether a name is taken behind these fields.
+#[tactic(auto, using(crate::proofs::ReadNames::is_among_fields))]
+pub fn is_taken_field(front: &[InputData], name: &str) -> bool
+    ensures { result ≡ is_among name.now (reserved_names ++ data_names front.now) }
+{
+    is_reserved(name) || is_data(front, name)
+}
+
+/// Whether input data has the name.
+fn is_data(names: &[InputData], name: &str) -> bool
+    ensures { result ≡ is_among name.now (data_names names.now) }
+{
+    names.iter().any(|data| data.name.as_str() == name)
+}
+
+/// Whether one of the outputs has the name.
+fn is_output(outputs: &[Output], name: &str) -> bool
+    ensures { result ≡ is_among name.now (output_names outputs.now) }
+{
+    outputs.iter().any(|output| output.name.as_str() == name)
+}
+
+fn is_output_of(tables: &[Table], name: &str) -> bool
+    ensures { result ≡ is_among name.now (seen_names (map seen_of tables.now)) }
+{
+    tables
+        .iter()
+        .any(|table| is_output(table.outputs.as_slice(), name))
+}

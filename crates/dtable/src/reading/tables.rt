@@ -1,0 +1,135 @@
+//! Reads the tables of a plan.
+ghost use Rattle.std.specs.Prelude.{◌≡◌, codes, map};
+ghost use Rattle.toml.specs.Data.{get};
+ghost use Rattle.toml.specs.View.{view, items_view};
+ghost use Rattle.dtable.specs.PlanFile.{IsHit, IsHitWord, IsTable, AreTables, AreTablesOf};
+ghost use Rattle.dtable.specs.Reading.{Reads};
+ghost use Rattle.dtable.specs.Scope.{seen_of};
+
+use super::document::{check_count, optional_array};
+use super::inputs::read_inputs;
+use super::limits::TABLES_LIMIT;
+use super::outputs::read_outputs;
+use super::place::Place;
+use super::rules::read_rules;
+use crate::hit::Hit;
+use crate::plan_fault::{PlanCause, PlanFault};
+use crate::sequence::Sequence;
+use crate::soundness::meets_demands;
+use crate::table::{InputData, Table};
+use feel_tests::{text_spells_at_most_one_cell, text_spells_at_most_one_value};
+use std::alloc::Global;
+use toml::Value;
+
+/// Reads the tables of a document.
+pub fn read_tables(
+    alloc: Global,
+    document: &Value,
+    names: &[InputData],
+) -> Result<Sequence<Table>, PlanFault>
+    ensures { Reads (AreTablesOf names.now (view document.now)) result }
+{
+    let entries = optional_array(document, "tables")?;
+    read_table_entries(alloc, entries, names)
+}
+
+/// Reads the entries of `tables`, in order.
+fn read_table_entries(
+    alloc: Global,
+    entries: &[Value],
+    names: &[InputData],
+) -> Result<Sequence<Table>, PlanFault>
+    ensures { Reads (AreTables names.now (items_view entries.now)) result }
+{
+    check_count(
+        entries,
+        TABLES_LIMIT,
+        Place::TEXT.in_table(TABLES_LIMIT + 1),
+    )?;
+    text_spells_at_most_one_value();
+    let mut tables = Sequence::new(alloc);
+    for (index, entry) in entries.iter().enumerate() {
+        let table = read_table(
+            alloc,
+            entry,
+            names,
+            tables.as_slice(),
+            Place::TEXT.in_table(index + 1),
+        )?;
+        tables.push(table)?;
+    }
+    Ok(tables)
+}
+
+fn read_table(
+    alloc: Global,
+    entry: &Value,
+    names: &[InputData],
+    front: &[Table],
+    place: Place,
+) -> Result<Table, PlanFault>
+    ensures { Reads (IsTable names.now (map seen_of front.now) (view entry.now)) result }
+{
+    text_spells_at_most_one_cell();
+    text_spells_at_most_one_value();
+    let hit = read_hit(entry, place)?;
+    let inputs = read_inputs(alloc, entry, names, front, place)?;
+    let outputs = read_outputs(alloc, entry, hit, names, front, inputs.as_slice(), place)?;
+    if !meets_demands(hit, outputs.as_slice()) {
+        return Err(place.fault(unmet(hit)));
+    }
+    let rules = read_rules(
+        alloc,
+        entry,
+        names,
+        front,
+        inputs.as_slice(),
+        outputs.as_slice(),
+        place,
+    )?;
+    Ok(Table {
+        hit,
+        inputs,
+        outputs,
+        rules,
+    })
+}
+
+fn read_hit(table: &Value, place: Place) -> Result<Hit, PlanFault>
+    ensures { Reads (IsHit (get (codes "hit") (view table.now))) result }
+{
+    match table.get("hit") {
+        None => Ok(Hit::U),
+        Some(word) => read_hit_word(word, place),
+    }
+}
+
+fn read_hit_word(word: &Value, place: Place) -> Result<Hit, PlanFault>
+    ensures { Reads (IsHitWord (view word.now)) result }
+{
+    let Some(word) = word.as_str() else {
+        return Err(place.fault(PlanCause::Kind));
+    };
+    match word {
+        "U" => Ok(Hit::U),
+        "A" => Ok(Hit::A),
+        "P" => Ok(Hit::P),
+        "F" => Ok(Hit::F),
+        "O" => Ok(Hit::O),
+        "R" => Ok(Hit::R),
+        "C" => Ok(Hit::C),
+        "C+" => Ok(Hit::Sum),
+        "C<" => Ok(Hit::Min),
+        "C>" => Ok(Hit::Max),
+        "C#" => Ok(Hit::Count),
+        _ => Err(place.fault(PlanCause::Hit)),
+    }
+}
+
+/// What is wrong where the outputs are not what the policy asks for.
+fn unmet(hit: Hit) -> PlanCause {
+    match hit {
+        Hit::P | Hit::O => PlanCause::Priority,
+        _ => PlanCause::Hit,
+    }
+}

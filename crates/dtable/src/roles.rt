@@ -1,0 +1,34 @@
+//! The roles by which a claim is settled.
+
+use crate::name::Name;
+use feel_tests::Value;
+
+/// Where a role's value comes from.
+#[derive(Debug, Drop)]
+pub enum Source {
+    /// This value.
+    Literal(Value),
+    /// The input data at this place in the plan's names, from 0.
+    Input(usize),
+    /// The single value of the output with this name.
+    Output(Name),
+}
+
+/// What settles a claim: whether it is covered, the amounts and the rate, and the output that lists remarks.
+#[derive(Debug, Drop)]
+pub struct Roles {
+    /// A flag: whether the service is covered.
+    pub cover: Source,
+    /// A number: the most that is allowed for the service.
+    pub fee: Source,
+    /// A number: what the member pays before the plan does.
+    pub deductible: Source,
+    /// A number: what the member pays for each claim.
+    pub copay: Source,
+    /// A number: the member's part of the rest, from 0 to 1.
+    pub rate: Source,
+    /// A number: the most that the member pays in all.
+    pub oop_max: Source,
+    /// The name of an output of kind text that lists its values.
+    pub remarks: Option<Name>,
+}

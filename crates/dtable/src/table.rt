@@ -1,0 +1,121 @@
+//! The parts of a decision table with rules as rows (DMN 1.4, decision tables).
+
+ghost use Rattle.std.specs.Prelude.{◌≡◌, slice_get};
+ghost use Rattle.std.specs.List.{list_any};
+ghost use Rattle.std.specs.Option.{option_copied};
+ghost use Rattle.dtable.specs.Inputs.{reads, has_value, is_served};
+ghost use Rattle.dtable.specs.Priority.{entries_of};
+
+use crate::hit::Hit;
+use crate::inputs::Inputs;
+use crate::name::Name;
+use crate::sequence::Sequence;
+use feel_tests::{Cell, Kind, Value};
+
+/// Input data (DMN 1.4): a name that tables may read from outside, and the kind of its value.
+#[derive(Debug, Drop)]
+pub struct InputData {
+    pub name: Name,
+    pub kind: Kind,
+}
+
+/// Where an input's value comes from. Places count from 0.
+#[derive(Clone, Copy, Debug, PartialEq, Eq)]
+pub enum Origin {
+    /// The input data at this place in the plan's names.
+    Given(usize),
+    /// An output of an earlier table with a single value: the table's place in the plan, the output's in the table.
+    Earlier { table: usize, column: usize },
+}
+
+/// An input of a table (input clause), with its allowed values, if they are restricted.
+#[derive(Debug, Drop)]
+pub struct Input {
+    pub name: Name,
+    pub origin: Origin,
+    pub values: Option<Cell>,
+}
+
+/// An output of a table (output clause), with its priority list, highest first, and its default, if it has them.
+#[derive(Debug, Drop)]
+pub struct Output {
+    pub name: Name,
+    pub kind: Kind,
+    pub priority: Option<Sequence<Value>>,
+    pub fallback: Option<Value>,
+}
+
+/// A rule of a table (decision rule): a cell for each input, and an entry for each output.
+#[derive(Debug, Drop)]
+pub struct Rule {
+    pub cells: Sequence<Cell>,
+    pub entries: Sequence<Value>,
+}
+
+/// A decision table.
+#[derive(Debug, Drop)]
+pub struct Table {
+    pub hit: Hit,
+    pub inputs: Sequence<Input>,
+    pub outputs: Sequence<Output>,
+    pub rules: Sequence<Rule>,
+}
+
+impl Table {
+    /// Whether an input reads the input data at the place.
+    pub fn reads(&self, place: usize) -> bool
+        ensures { result ≡ list_any (λ i. reads place i.origin) self.now.inputs }
+    {
+        self.inputs
+            .as_slice()
+            .iter()
+            .any(|input| input.origin.reads(place))
+    }
+
+    /// Whether each input that reads input data finds a value there.
+    pub fn is_served(&self, inputs: &Inputs) -> bool
+        ensures { result ≡ is_served inputs.now self.now }
+    {
+        self.inputs
+            .as_slice()
+            .iter()
+            .all(|input| input.origin.is_served(inputs))
+    }
+
+    /// The entries of the rule at the place, from 0; none where there is no such rule.
+    pub fn entries(&self, rule: usize) -> &[Value]
+        ensures { result.now ≡ entries_of self.now rule }
+    {
+        match self.rules.as_slice().get(rule) {
+            Some(rule) => rule.entries.as_slice(),
+            None => &[],
+        }
+    }
+
+    /// The rule's entry in a column of outputs, if there is one. Both count from 0.
+    pub fn entry(&self, rule: usize, column: usize) -> Option<&Value>
+        ensures { option_copied result ≡ slice_get (entries_of self.now rule) column }
+    {
+        self.entries(rule).get(column)
+    }
+}
+
+impl Origin {
+    fn reads(self, place: usize) -> bool
+        ensures { result ≡ reads place self }
+    {
+        match self {
+            Origin::Given(given) => given == place,
+            Origin::Earlier { .. } => false,
+        }
+    }
+
+    fn is_served(self, inputs: &Inputs) -> bool
+        ensures { result ≡ has_value inputs.now self }
+    {
+        match self {
+            Origin::Given(place) => inputs.get(place).is_some(),
+            Origin::Earlier { .. } => true,
+        }
+    }
+}

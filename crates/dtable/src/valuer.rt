@@ -1,0 +1,28 @@
+//! What every evaluator of a plan promises.
+ghost use Rattle.std.specs.Prelude.{◌≡◌, Ok, IfOk, IfErr};
+ghost use Rattle.dtable.specs.Environment.{env};
+ghost use Rattle.dtable.specs.HitPolicy.{IsFaultOf};
+ghost use Rattle.dtable.specs.Inputs.{IsReady};
+ghost use Rattle.dtable.specs.Plan.{PlanParts};
+
+use crate::environment::Env;
+use crate::fault::Fault;
+use crate::inputs::Inputs;
+use crate::plan::Plan;
+use std::alloc::Global;
+
+/// An evaluator of a plan's tables.
+pub trait Valuer {
+    /// The plan.
+    ghost plan_of: { Self → PlanParts };
+
+    /// The plan.
+    fn plan(&self) -> &Plan
+        ensures { result.now ≡ plan_of self.now };
+
+    /// The value of the plan's tables at these inputs, or their first fault.
+    fn value<'a>(&'a self, alloc: Global, inputs: &Inputs) -> Result<Env<'a>, Fault>
+        requires { IsReady (plan_of self.now).tables inputs.now }
+        ensures value { IfOk result (λ environment. env (plan_of self.now) inputs.now ≡ Ok environment) }
+        ensures fault { IfErr result (IsFaultOf (env (plan_of self.now) inputs.now)) };
+}

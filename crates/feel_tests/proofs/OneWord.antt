@@ -1,0 +1,57 @@
+-- Words of a kind at one place are the same, and so is what follows them.
+use Rattle.std.proofs.Common.{◌≡◌, ℕ, List}
+use Rattle.feel_tests.specs.Words.{Sign, Digits, Quoted, Name, Begins}
+use Rattle.feel_tests.specs.declared.symbol.Symbol.{Symbol}
+use Rattle.feel_tests.proofs.FirstWord.{begins_one}
+
+sign_is : (s t : Symbol) → Sign s ≡ Sign t → s ≡ t
+sign_is s t e = cc
+
+digits_is : (s t : List ℕ) → Digits s ≡ Digits t → s ≡ t
+digits_is s t e = cc
+
+quoted_is : (s t : List ℕ) → Quoted s ≡ Quoted t → s ≡ t
+quoted_is s t e = cc
+
+name_is : (s t : List ℕ) → Name s ≡ Name t → s ≡ t
+name_is s t e = cc
+
+-- the symbol in front, and what follows it
+pub one_sign : (text : List ℕ) (s : Symbol) (after : List ℕ) (t : Symbol) (behind : List ℕ) → Begins text (Sign s) after → Begins text (Sign t) behind → (s ≡ t) × (after ≡ behind)
+one_sign text s after t behind b c = let one = begins_one text (Sign s) after (Sign t) behind b c in (sign_is s t one.0, one.1)
+
+-- the number in front
+pub one_number : (text digits after others behind : List ℕ) → Begins text (Digits digits) after → Begins text (Digits others) behind → (digits ≡ others) × (after ≡ behind)
+one_number text digits after others behind b c = let one = begins_one text (Digits digits) after (Digits others) behind b c in (digits_is digits others one.0, one.1)
+
+-- the string in front
+pub one_string : (text bytes after others behind : List ℕ) → Begins text (Quoted bytes) after → Begins text (Quoted others) behind → (bytes ≡ others) × (after ≡ behind)
+one_string text bytes after others behind b c = let one = begins_one text (Quoted bytes) after (Quoted others) behind b c in (quoted_is bytes others one.0, one.1)
+
+-- the name in front
+pub one_name : (text letters after others behind : List ℕ) → Begins text (Name letters) after → Begins text (Name others) behind → (letters ≡ others) × (after ≡ behind)
+one_name text letters after others behind b c = let one = begins_one text (Name letters) after (Name others) behind b c in (name_is letters others one.0, one.1)
+
+-- no symbol is a number
+pub sign_number : (text : List ℕ) (s : Symbol) (after digits behind : List ℕ) → Begins text (Sign s) after → Begins text (Digits digits) behind → ⊥
+sign_number text s after digits behind b c = let one : Sign s ≡ Digits digits = (begins_one text (Sign s) after (Digits digits) behind b c).0 in cc
+
+-- no symbol is a string
+pub sign_string : (text : List ℕ) (s : Symbol) (after bytes behind : List ℕ) → Begins text (Sign s) after → Begins text (Quoted bytes) behind → ⊥
+sign_string text s after bytes behind b c = let one : Sign s ≡ Quoted bytes = (begins_one text (Sign s) after (Quoted bytes) behind b c).0 in cc
+
+-- no symbol is a name
+pub sign_name : (text : List ℕ) (s : Symbol) (after letters behind : List ℕ) → Begins text (Sign s) after → Begins text (Name letters) behind → ⊥
+sign_name text s after letters behind b c = let one : Sign s ≡ Name letters = (begins_one text (Sign s) after (Name letters) behind b c).0 in cc
+
+-- no number is a string
+pub number_string : (text digits after bytes behind : List ℕ) → Begins text (Digits digits) after → Begins text (Quoted bytes) behind → ⊥
+number_string text digits after bytes behind b c = let one : Digits digits ≡ Quoted bytes = (begins_one text (Digits digits) after (Quoted bytes) behind b c).0 in cc
+
+-- no number is a name
+pub number_name : (text digits after letters behind : List ℕ) → Begins text (Digits digits) after → Begins text (Name letters) behind → ⊥
+number_name text digits after letters behind b c = let one : Digits digits ≡ Name letters = (begins_one text (Digits digits) after (Name letters) behind b c).0 in cc
+
+-- no string is a name
+pub string_name : (text bytes after letters behind : List ℕ) → Begins text (Quoted bytes) after → Begins text (Name letters) behind → ⊥
+string_name text bytes after letters behind b c = let one : Quoted bytes ≡ Name letters = (begins_one text (Quoted bytes) after (Name letters) behind b c).0 in cc

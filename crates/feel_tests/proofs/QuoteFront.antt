@@ -1,0 +1,152 @@
+-- Strings: the bytes between quotes stand for one text, and what follows the string is one.
+use Rattle.std.proofs.Common.{◌≡◌, ℕ, Bool, true, false, cond, ◌||◌, eqb, List, [], ◌∷◌, ◌++◌, refl, sym, ap, subst, ◌∙◌, append_assoc, ◌⊎◌, inl, inr, arith, suc, ◌<◌, ◌≢◌, length, drop, get_or}
+use Rattle.std.proofs.lemmas.Bool.{or_cases, or_from, or_left, or_right, eqb-true, eq-eqb, ne_eqb, cases_Bool, false≢true}
+use Rattle.std.proofs.lemmas.List.{append-nil}
+use Rattle.feel_tests.specs.Words.{escaped_byte, escaped, quoted}
+
+heads : (a b : ℕ) (xs ys : List ℕ) → a ∷ xs ≡ b ∷ ys → (a ≡ b) × (xs ≡ ys)
+heads a b xs ys e = (cc, cc)
+
+-- a byte that is written as it is, or behind a backslash
+pub data Written (b : ℕ) : Type 0 where
+  bare : (eqb b 34 || eqb b 92) ≡ false → Written b
+  slashed : (eqb b 34 || eqb b 92) ≡ true → Written b
+
+pub written : (b : ℕ) → Written b
+written b = elim (cases_Bool (eqb b 34 || eqb b 92)) [ inl t ↦ slashed t | inr f ↦ bare f ]
+
+pub byte_bare : (b : ℕ) → (eqb b 34 || eqb b 92) ≡ false → escaped_byte b ≡ b ∷ []
+byte_bare b e = rw e refl
+
+pub byte_behind : (b : ℕ) → (eqb b 34 || eqb b 92) ≡ true → escaped_byte b ≡ 92 ∷ b ∷ []
+byte_behind b e = rw e refl
+
+bare_no_quote : (b : ℕ) → (eqb b 34 || eqb b 92) ≡ false → b ≡ 34 → ⊥
+bare_no_quote b e is = let x : (eqb 34 34 || eqb 34 92) ≡ false = subst (λ (z : ℕ). (eqb z 34 || eqb z 92) ≡ false) is e in false≢true (sym x)
+
+bare_no_backslash : (b : ℕ) → (eqb b 34 || eqb b 92) ≡ false → b ≡ 92 → ⊥
+bare_no_backslash b e is = let x : (eqb 92 34 || eqb 92 92) ≡ false = subst (λ (z : ℕ). (eqb z 34 || eqb z 92) ≡ false) is e in false≢true (sym x)
+
+-- the first byte of two texts is the same, and what is behind it
+byte_one : (x y : ℕ) (xs ys : List ℕ) → Written x → Written y → escaped_byte x ++ xs ≡ escaped_byte y ++ ys → (x ≡ y) × (xs ≡ ys)
+byte_one x y xs ys (bare p) (bare q) e =
+    let f : x ∷ xs ≡ y ∷ ys = sym (ap (λ (t : List ℕ). t ++ xs) (byte_bare x p)) ∙ e ∙ ap (λ (t : List ℕ). t ++ ys) (byte_bare y q) in
+    heads x y xs ys f
+byte_one x y xs ys (bare p) (slashed q) e =
+    let f : x ∷ xs ≡ 92 ∷ y ∷ ys = sym (ap (λ (t : List ℕ). t ++ xs) (byte_bare x p)) ∙ e ∙ ap (λ (t : List ℕ). t ++ ys) (byte_behind y q) in
+    absurd (bare_no_backslash x p (heads x 92 xs (y ∷ ys) f).0)
+byte_one x y xs ys (slashed p) (bare q) e =
+    let f : 92 ∷ x ∷ xs ≡ y ∷ ys = sym (ap (λ (t : List ℕ). t ++ xs) (byte_behind x p)) ∙ e ∙ ap (λ (t : List ℕ). t ++ ys) (byte_bare y q) in
+    absurd (bare_no_backslash y q (sym (heads 92 y (x ∷ xs) ys f).0))
+byte_one x y xs ys (slashed p) (slashed q) e =
+    let f : 92 ∷ x ∷ xs ≡ 92 ∷ y ∷ ys = sym (ap (λ (t : List ℕ). t ++ xs) (byte_behind x p)) ∙ e ∙ ap (λ (t : List ℕ). t ++ ys) (byte_behind y q) in
+    heads x y xs ys (heads 92 92 (x ∷ xs) (y ∷ ys) f).1
+
+two_marks : (a : ℕ) → a ≡ 92 → a ≡ 34 → ⊥
+two_marks a e f = omega arith
+
+-- no byte begins with the closing quote
+pub byte_no_quote : (x : ℕ) (xs rest : List ℕ) → Written x → escaped_byte x ++ xs ≡ 34 ∷ rest → ⊥
+byte_no_quote x xs rest (bare p) e =
+    let f : x ∷ xs ≡ 34 ∷ rest = sym (ap (λ (t : List ℕ). t ++ xs) (byte_bare x p)) ∙ e in
+    bare_no_quote x p (heads x 34 xs rest f).0
+byte_no_quote x xs rest (slashed p) e =
+    let f : 92 ∷ x ∷ xs ≡ 34 ∷ rest = sym (ap (λ (t : List ℕ). t ++ xs) (byte_behind x p)) ∙ e in
+    two_marks 92 refl (heads 92 34 (x ∷ xs) rest f).0
+
+-- one text stands between the quotes
+pub escaped_one : (xs ys after behind : List ℕ) → escaped xs ++ 34 ∷ after ≡ escaped ys ++ 34 ∷ behind → (xs ≡ ys) × (after ≡ behind)
+escaped_one [] [] after behind e = (refl, (heads 34 34 after behind e).1)
+escaped_one [] (y ∷ ys) after behind e =
+    absurd (byte_no_quote y (escaped ys ++ 34 ∷ behind) after (written y) (sym (append_assoc (escaped_byte y) (escaped ys) (34 ∷ behind)) ∙ sym e))
+escaped_one (x ∷ xs) [] after behind e =
+    absurd (byte_no_quote x (escaped xs ++ 34 ∷ after) behind (written x) (sym (append_assoc (escaped_byte x) (escaped xs) (34 ∷ after)) ∙ e))
+escaped_one (x ∷ xs) (y ∷ ys) after behind e =
+    let f = sym (append_assoc (escaped_byte x) (escaped xs) (34 ∷ after)) ∙ e ∙ append_assoc (escaped_byte y) (escaped ys) (34 ∷ behind) in
+    let one = byte_one x y (escaped xs ++ 34 ∷ after) (escaped ys ++ 34 ∷ behind) (written x) (written y) f in
+    let more = escaped_one xs ys after behind one.1 in
+    (ap2 one.0 more.0, more.1)
+  where
+    ap2 : {a b : ℕ} {s t : List ℕ} → a ≡ b → s ≡ t → a ∷ s ≡ b ∷ t
+    ap2 p q = cc
+
+-- what was read so far is the front of what stands there
+pub escaped_front : (xs ys rest behind : List ℕ) → escaped xs ++ rest ≡ escaped ys ++ 34 ∷ behind → (zs : List ℕ) × (rest ≡ escaped zs ++ 34 ∷ behind)
+escaped_front [] ys rest behind e = (ys, e)
+escaped_front (x ∷ xs) [] rest behind e =
+    absurd (byte_no_quote x (escaped xs ++ rest) behind (written x) (sym (append_assoc (escaped_byte x) (escaped xs) rest) ∙ e))
+escaped_front (x ∷ xs) (y ∷ ys) rest behind e =
+    let f = sym (append_assoc (escaped_byte x) (escaped xs) rest) ∙ e ∙ append_assoc (escaped_byte y) (escaped ys) (34 ∷ behind) in
+    let one = byte_one x y (escaped xs ++ rest) (escaped ys ++ 34 ∷ behind) (written x) (written y) f in
+    escaped_front xs ys rest behind one.1
+
+-- the next byte of a text between quotes is none that stands there
+pub front_no_piece : (bytes ys rest behind : List ℕ) → ((b : ℕ) (after : List ℕ) → ¬ (rest ≡ escaped_byte b ++ after)) → ((after : List ℕ) → ¬ (rest ≡ 34 ∷ after)) → escaped bytes ++ rest ≡ escaped ys ++ 34 ∷ behind → ⊥
+front_no_piece bytes ys rest behind no_byte no_quote e =
+    let front = escaped_front bytes ys rest behind e in
+    no_piece rest front.0 behind no_byte no_quote front.1
+  where
+    no_piece : (rest zs behind : List ℕ) → ((b : ℕ) (after : List ℕ) → ¬ (rest ≡ escaped_byte b ++ after)) → ((after : List ℕ) → ¬ (rest ≡ 34 ∷ after)) → rest ≡ escaped zs ++ 34 ∷ behind → ⊥
+    no_piece rest [] behind no_byte no_quote e = no_quote behind e
+    no_piece rest (z ∷ zs) behind no_byte no_quote e = no_byte z (escaped zs ++ 34 ∷ behind) (e ∙ append_assoc (escaped_byte z) (escaped zs) (34 ∷ behind))
+
+-- one more byte was read
+pub escaped_more : (bytes : List ℕ) (b : ℕ) (behind rest inside : List ℕ) → inside ≡ escaped bytes ++ rest → rest ≡ escaped_byte b ++ behind → inside ≡ escaped (bytes ++ b ∷ []) ++ behind
+escaped_more bytes b behind rest inside e f =
+    e ∙ ap (λ (t : List ℕ). escaped bytes ++ t) f ∙ sym (append_assoc (escaped bytes) (escaped_byte b) behind) ∙ ap (λ (t : List ℕ). t ++ behind) (escaped_push bytes b)
+  where
+    escaped_push : (bytes : List ℕ) (b : ℕ) → escaped bytes ++ escaped_byte b ≡ escaped (bytes ++ b ∷ [])
+    escaped_push [] b = sym (append-nil (escaped_byte b))
+    escaped_push (x ∷ xs) b = append_assoc (escaped_byte x) (escaped xs) (escaped_byte b) ∙ ap (λ (t : List ℕ). escaped_byte x ++ t) (escaped_push xs b)
+
+pub piece_shorter : (b : ℕ) (behind rest : List ℕ) → rest ≡ escaped_byte b ++ behind → length behind < length rest
+piece_shorter b behind rest e = rw e (shorter b behind (written b))
+  where
+    shorter : (b : ℕ) (behind : List ℕ) → Written b → length behind < length (escaped_byte b ++ behind)
+    shorter b behind (bare p) = rw (byte_bare b p) (omega arith)
+    shorter b behind (slashed p) = rw (byte_behind b p) (omega arith)
+
+-- ---- the pieces, by the first two bytes
+
+pub is_bare : (rest : List ℕ) → 0 < length rest → get_or rest 0 0 ≢ 34 → get_or rest 0 0 ≢ 92 → rest ≡ escaped_byte (get_or rest 0 0) ++ drop 1 rest
+is_bare [] some q s = absurd (omega arith)
+is_bare (b ∷ bs) some q s =
+    let p : (eqb b 34 || eqb b 92) ≡ false = or_from (eqb b 34) (eqb b 92) (ne_eqb b 34 q) (ne_eqb b 92 s) in
+    sym (ap (λ (t : List ℕ). t ++ bs) (byte_bare b p))
+
+pub is_slashed : (rest : List ℕ) → 1 < length rest → get_or rest 0 0 ≡ 92 → (get_or rest 1 0 ≡ 34) ⊎ (get_or rest 1 0 ≡ 92) → rest ≡ escaped_byte (get_or rest 1 0) ++ drop 2 rest
+is_slashed [] some s w = absurd (omega arith)
+is_slashed (b ∷ []) some s w = absurd (omega arith)
+is_slashed (b ∷ e ∷ bs) some s w =
+    let p : (eqb e 34 || eqb e 92) ≡ true = mark e w in
+    ap (λ (t : ℕ). t ∷ e ∷ bs) s ∙ sym (ap (λ (t : List ℕ). t ++ bs) (byte_behind e p))
+  where
+    mark : (e : ℕ) → (e ≡ 34) ⊎ (e ≡ 92) → (eqb e 34 || eqb e 92) ≡ true
+    mark e (inl q) = or_left (eqb e 34) (eqb e 92) (eq-eqb e 34 q)
+    mark e (inr q) = or_right (eqb e 34) (eqb e 92) (eq-eqb e 92 q)
+
+pub is_quote : (rest : List ℕ) → 0 < length rest → get_or rest 0 0 ≡ 34 → rest ≡ 34 ∷ drop 1 rest
+is_quote [] some q = absurd (omega arith)
+is_quote (b ∷ bs) some q = ap (λ (t : ℕ). t ∷ bs) q
+
+pub empty_no_byte : (rest : List ℕ) → length rest ≡ 0 → (b : ℕ) (after : List ℕ) → ¬ (rest ≡ escaped_byte b ++ after)
+empty_no_byte rest none b after e = let s = piece_shorter b after rest e in omega (arith, s, none)
+
+pub empty_no_quote : (rest : List ℕ) → length rest ≡ 0 → (after : List ℕ) → ¬ (rest ≡ 34 ∷ after)
+empty_no_quote rest none after e = let l : length rest ≡ suc (length after) = ap length e in omega (arith, l, none)
+
+pub slash_no_quote : (rest : List ℕ) → get_or rest 0 0 ≡ 92 → (after : List ℕ) → ¬ (rest ≡ 34 ∷ after)
+slash_no_quote rest s after e = two_marks (get_or rest 0 0) s (ap (λ (t : List ℕ). get_or t 0 0) e)
+
+-- a backslash that no quote and no backslash follows
+pub slash_no_byte : (rest : List ℕ) → get_or rest 0 0 ≡ 92 → get_or rest 1 0 ≢ 34 → get_or rest 1 0 ≢ 92 → (b : ℕ) (after : List ℕ) → ¬ (rest ≡ escaped_byte b ++ after)
+slash_no_byte rest s q t b after e = at_byte rest s q t b after e (written b)
+  where
+    at_byte : (rest : List ℕ) → get_or rest 0 0 ≡ 92 → get_or rest 1 0 ≢ 34 → get_or rest 1 0 ≢ 92 → (b : ℕ) (after : List ℕ) → rest ≡ escaped_byte b ++ after → Written b → ⊥
+    at_byte rest s q t b after e (bare p) =
+        let f : rest ≡ b ∷ after = e ∙ ap (λ (l : List ℕ). l ++ after) (byte_bare b p) in
+        bare_no_backslash b p (sym (ap (λ (l : List ℕ). get_or l 0 0) f) ∙ s)
+    at_byte rest s q t b after e (slashed p) =
+        let f : rest ≡ 92 ∷ b ∷ after = e ∙ ap (λ (l : List ℕ). l ++ after) (byte_behind b p) in
+        let g : get_or rest 1 0 ≡ b = ap (λ (l : List ℕ). get_or l 1 0) f in
+        elim (or_cases (eqb b 34) (eqb b 92) p) [ inl w ↦ q (g ∙ eqb-true b 34 w) | inr w ↦ t (g ∙ eqb-true b 92 w) ]

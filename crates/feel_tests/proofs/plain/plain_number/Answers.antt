@@ -1,0 +1,5 @@
+use Rattle.feel_tests.proofs.PlainValues.{no_number}
+use Rattle.feel_tests.proofs.plain.plain_number.Goals as goal
+
+pub returns-in-Err-clause-refused : goal.returns-in-Err-clause-refused
+returns-in-Err-clause-refused c memory = no_number c.args.text.now c.in-Err.ensures.refused

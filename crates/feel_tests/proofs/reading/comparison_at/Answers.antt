@@ -1,8 +1,0 @@
-use Rattle.std.proofs.lemmas.Result.{err_from_is_err_and}
-use Rattle.feel_tests.proofs.Denials.{comparison_denied}
-use Rattle.feel_tests.proofs.reading.comparison_at.Goals as goal
-
-pub returns-in_err-value-clause-refused : goal.returns-in_err-value-clause-refused
-returns-in_err-value-clause-refused c =
-    let p = err_from_is_err_and c.from_residual.result c.from_residual.ensures.1 in
-    rw (p.1, p.2) (comparison_denied c.args.kind c.args.text.now c.args.op c.args.literal.now c.in_err-value.field-0.0 c.requires c.in_err-value.ensures.refused)

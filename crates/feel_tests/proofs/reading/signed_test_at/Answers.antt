@@ -1,7 +1,0 @@
-use Rattle.std.proofs.Common.{◌∙◌, sym}
-use Rattle.feel_tests.proofs.Denials.{sign_denied}
-use Rattle.feel_tests.proofs.reading.signed_test_at.Goals as goal
-
-pub returns-clause-refused : goal.returns-clause-refused
-returns-clause-refused c memory =
-    sign_denied c.args.kind c.args.text.now c.args.symbol c.args.rest.now c.requires (sym c.op.ensures ∙ c.in_default.is) (sym c.start_in.ensures ∙ c.in_default-start_in.is)

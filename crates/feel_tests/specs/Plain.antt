@@ -1,0 +1,28 @@
+-- Plain values: what the whole field of a CSV record spells.
+use Rattle.std.specs.Prelude.{◌≡◌, ◌≢◌, ℕ, List}
+use Rattle.fixpoint.specs.NumberText.{Denotes}
+use Rattle.feel_tests.specs.TextBytes.{IsShort}
+use Rattle.feel_tests.specs.Calendar.{IsDateText}
+use Rattle.feel_tests.specs.Value.{flag_text}
+use Rattle.feel_tests.specs.declared.kind.Kind.{Kind}
+use Rattle.feel_tests.specs.declared.kind.Kind.TheVariants as kinds
+use Rattle.feel_tests.specs.declared.value.Value.{Value}
+use Rattle.feel_tests.specs.declared.value.Value.TheVariants.{Number, Text, Flag, Day}
+use Rattle.feel_tests.specs.declared.plain.PlainFault.{PlainFault}
+use Rattle.feel_tests.specs.declared.plain.PlainFault.TheVariants.{Bad, OutOfMemory}
+
+-- the whole text is a number text, a text within the limit as it is, `true` or `false`, or a date
+abbrev pub SpellsPlain : Kind → List ℕ → Value → Type 0
+SpellsPlain kind text (Number units) = (kind ≡ kinds.Number) × Denotes text units
+SpellsPlain kind text (Text bytes) = (kind ≡ kinds.Text) × (bytes ≡ text) × IsShort text
+SpellsPlain kind text (Flag flag) = (kind ≡ kinds.Flag) × (text ≡ flag_text flag)
+SpellsPlain kind text (Day day) = (kind ≡ kinds.Day) × IsDateText text day
+
+-- a fault other than want of memory comes only where nothing is spelled
+abbrev pub RefusesPlain : (Value → Type 0) → PlainFault → Type 0
+RefusesPlain P fault = fault ≢ OutOfMemory → (value : Value) → ¬ P value
+
+-- the fault's number in a program's messages
+abbrev pub plain_number_of : PlainFault → ℕ
+plain_number_of Bad = 1
+plain_number_of OutOfMemory = 2

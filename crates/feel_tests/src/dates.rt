@@ -1,0 +1,73 @@
+//! Dates as text: `YYYY-MM-DD` on the Gregorian calendar of `jiff`.
+ghost use Rattle.std.specs.Prelude.{◌≡◌, ℕ, ℤ, pos, ◌+◌, ◌/◌, ◌%◌, ◌<◌, IfOk, IfSome, IfNone, string_bytes};
+ghost use Rattle.jiff_core.specs.Date.{epoch_day};
+ghost use Rattle.feel_tests.specs.DayNumber.{IsDayNumber};
+ghost use Rattle.feel_tests.specs.Calendar.{ymd_text, day_text, IsDateText};
+
+use crate::day::Day;
+use jiff::civil::Date;
+use jiff_core::civil;
+use std::alloc::{AllocError, Global};
+
+/// The day that a text of ten bytes, `YYYY-MM-DD`, is.
+pub fn day_of(text: &[u8]) -> Option<Day>
+    ensures some { IfSome result (IsDateText text.now) }
+    ensures none { IfNone result ((day : ℤ) → ¬ IsDateText text.now day) }
+{
+    let (year, month, place) = ymd_of(text)?;
+    if year == 0 {
+        return None;
+    }
+    match Date::new(year as i16, month as i8, place as i8) {
+        Ok(date) => Day::from_epoch_day(date.to_plain().to_unix_epoch_day()),
+        Err(_) => None,
+    }
+}
+
+/// The text of a day, `YYYY-MM-DD`.
+pub fn text_of(alloc: Global, day: Day) -> Result<String, AllocError>
+    ensures { IfOk result (λ text. string_bytes text ≡ day_text day) }
+{
+    let date = date_of(day);
+    date.to_string(alloc)
+}
+
+/// The date of a day.
+pub fn date_of(day: Day) -> Date
+    ensures date { epoch_day result ≡ day }
+    ensures in_range { IsDayNumber day }
+{
+    match civil::Date::from_unix_epoch_day(i64::from(day.epoch_day())) {
+        Ok(date) => Date::from_plain(date),
+        Err(_) => unreachable!(),
+    }
+}
+
+// The three numbers of a text of this form, on the calendar or not.
+fn ymd_of(text: &[u8]) -> Option<(u16, u8, u8)>
+    ensures some { IfSome result (λ ymd. (text.now ≡ ymd_text ymd.0 ymd.1 ymd.2) × (ymd.0 < 10000) × (ymd.1 < 100) × (ymd.2 < 100)) }
+    ensures none { IfNone result ((year month place : ℕ) → year < 10000 → month < 100 → place < 100 → ¬ (text.now ≡ ymd_text year month place)) }
+{
+    let [y3, y2, y1, y0, dash, m1, m0, hyphen, d1, d0] = text else {
+        return None;
+    };
+    if *dash != b'-' || *hyphen != b'-' {
+        return None;
+    }
+    let century = two_digits(*y3, *y2)?;
+    let year = two_digits(*y1, *y0)?;
+    let month = two_digits(*m1, *m0)?;
+    let place = two_digits(*d1, *d0)?;
+    Some((century as u16 * 100 + year as u16, month, place))
+}
+
+// The number below 100 that two digits write.
+fn two_digits(tens: u8, ones: u8) -> Option<u8>
+    ensures some { IfSome result (λ n. (n < 100) × (tens ≡ 48 + n / 10) × (ones ≡ 48 + n % 10)) }
+    ensures none { IfNone result ((n : ℕ) → n < 100 → ¬ ((tens ≡ 48 + n / 10) × (ones ≡ 48 + n % 10))) }
+{
+    if !tens.is_ascii_digit() || !ones.is_ascii_digit() {
+        return None;
+    }
+    Some((tens - b'0') * 10 + (ones - b'0'))
+}

@@ -1,0 +1,66 @@
+//! Laws of literals and cells, for proofs that stand on them. Each call does nothing.
+ghost use Rattle.std.specs.Prelude.{◌≤◌, length};
+ghost use Rattle.fixpoint.specs.NumberText.{shortest_text};
+ghost use Rattle.feel_tests.specs.Words.{quoted};
+ghost use Rattle.feel_tests.specs.Value.{kind_of, literal_text, flag_text, date_literal};
+ghost use Rattle.feel_tests.specs.Cell.{SpellsValue, SpellsOneCell, SpellsOneValue};
+ghost use Rattle.feel_tests.specs.declared.kind.Kind.TheVariants as kinds;
+ghost use Rattle.feel_tests.specs.declared.value.Value.TheVariants as values;
+ghost use Rattle.feel_tests.specs.declared.text.TheConstants.{TEXT_LIMIT_BYTES};
+
+use crate::dates::date_of;
+use crate::day::Day;
+use crate::value::Value;
+use fixpoint::Fixed;
+
+/// A text spells at most one cell of a kind.
+pub fn text_spells_at_most_one_cell()
+    ensures { SpellsOneCell }
+{
+    fixpoint::text_denotes_at_most_one();
+}
+
+/// A text spells at most one value of a kind.
+pub fn text_spells_at_most_one_value()
+    ensures { SpellsOneValue }
+{
+    fixpoint::text_denotes_at_most_one();
+}
+
+/// The literal of a value spells that value: what `write_text` writes, `read_value` reads back.
+pub fn literal_spells_its_value(value: &Value)
+    ensures { SpellsValue (kind_of value.now) (literal_text value.now) value.now }
+{
+    match value {
+        Value::Number(number) => number_spells(*number),
+        Value::Text(text) => text_spells(text.as_str()),
+        Value::Flag(flag) => flag_spells(*flag),
+        Value::Day(day) => day_spells(*day),
+    }
+}
+
+fn number_spells(number: Fixed)
+    ensures { SpellsValue kinds.Number (shortest_text number) (values.Number number) }
+{
+    fixpoint::shortest_text_denotes();
+    let _units = number.units();
+}
+
+fn text_spells(text: &str)
+    requires { length text.now ≤ TEXT_LIMIT_BYTES }
+    ensures { SpellsValue kinds.Text (quoted text.now) (values.Text text.now) }
+{
+    let _bytes = text.as_bytes();
+}
+
+fn flag_spells(flag: bool)
+    ensures { SpellsValue kinds.Flag (flag_text flag) (values.Flag flag) }
+{
+    let _flag = flag;
+}
+
+fn day_spells(day: Day)
+    ensures { SpellsValue kinds.Day (date_literal day) (values.Day day) }
+{
+    let _date = date_of(day);
+}

@@ -1,0 +1,85 @@
+//! Strings: the text between double quotes, with a backslash before each quote and backslash in it.
+ghost use Rattle.std.specs.Prelude.{◌≡◌, ◌∷◌, IfOk, IfErr};
+ghost use Rattle.feel_tests.specs.Words.{skip_white, Quoted, Begins};
+ghost use Rattle.feel_tests.specs.Parts.{DeniesPart};
+ghost use Rattle.feel_tests.specs.Fronts.{IsPiece};
+
+use crate::fault::CellCause;
+use crate::refusal::Refusal;
+use crate::word::{Token, first_token};
+use std::alloc::Global;
+
+/// Reads a string, of any length: the bytes that it stands for.
+pub fn quoted_at(alloc: Global, text: &[u8]) -> Result<(Vec<u8>, &[u8]), Refusal>
+    ensures ok { IfOk result (λ found. Begins text.now (Quoted found.0.items) found.1.now) }
+    ensures refused { IfErr result (DeniesPart (λ bytes. Begins text.now (Quoted bytes))) }
+{
+    match first_token(text) {
+        Token::Quote(inside) => inside_at(alloc, text, inside),
+        Token::Sign(_, _) => Err(Refusal::at(text, CellCause::Token)),
+        Token::Number(_, _) => Err(Refusal::at(text, CellCause::Token)),
+        Token::Name(_, _) => Err(Refusal::at(text, CellCause::Token)),
+        Token::Nothing => Err(Refusal::at(text, CellCause::Token)),
+    }
+}
+
+// A string of a text that begins with a quote, by what stands behind it.
+fn inside_at<'a>(
+    alloc: Global,
+    text: &[u8],
+    inside: &'a [u8],
+) -> Result<(Vec<u8>, &'a [u8]), Refusal>
+    requires { skip_white text.now ≡ 34 ∷ inside.now }
+    ensures ok { IfOk result (λ found. Begins text.now (Quoted found.0.items) found.1.now) }
+    ensures refused { IfErr result (DeniesPart (λ bytes. Begins text.now (Quoted bytes))) }
+{
+    let mut bytes = Vec::new(alloc);
+    let mut rest = inside;
+    'pieces: loop {
+        match first_piece(rest) {
+            Piece::Close(behind) => return Ok((bytes, behind)),
+            Piece::Byte(byte, behind) => {
+                bytes.push(byte)?;
+                rest = behind;
+            }
+            Piece::BadEscape => return Err(Refusal::at(rest, CellCause::BadEscape)),
+            Piece::End => return Err(Refusal::at(text, CellCause::Token)),
+        }
+    }
+}
+
+/// What stands next in a string, with what follows it.
+#[derive(Clone, Copy, Debug)]
+pub enum Piece<'a> {
+    /// The closing quote.
+    Close(&'a [u8]),
+    /// A byte of the text, as it is or behind a backslash.
+    Byte(u8, &'a [u8]),
+    /// A backslash that begins no escape.
+    BadEscape,
+    /// The end, also behind a backslash.
+    End,
+}
+
+fn first_piece(rest: &[u8]) -> Piece<'_>
+    ensures { IsPiece rest.now result }
+{
+    if rest.is_empty() {
+        return Piece::End;
+    }
+    let first = rest[0];
+    if first == b'"' {
+        return Piece::Close(&rest[1..]);
+    }
+    if first != b'\\' {
+        return Piece::Byte(first, &rest[1..]);
+    }
+    if rest.len() == 1 {
+        return Piece::End;
+    }
+    let second = rest[1];
+    if second == b'"' || second == b'\\' {
+        return Piece::Byte(second, &rest[2..]);
+    }
+    Piece::BadEscape
+}
