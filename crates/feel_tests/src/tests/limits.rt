@@ -1,4 +1,5 @@
-//! The longest cell: `not(`, 64 strings of 256 bytes with commas between them, and `)`.
+//! The longest cell: `not(`, 64 strings of 256 bytes with commas between them, and `)`. Each of its fronts is read
+//! too: those shorter than `not(` stand in the table of cells.
 use super::repeated;
 use crate::{CellCause, CellFault, Kind, TEST_LIMIT, TEXT_LIMIT_BYTES, read_cell, read_plain};
 use std::alloc::{AllocError, Global};

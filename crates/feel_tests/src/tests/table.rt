@@ -136,13 +136,15 @@ const TEXT_CELLS: [&str; 15] = [
     "\"\n\t\x01\"",
 ];
 
-const TEXT_FAULTS: [(&str, CellCause, usize); 38] = [
+const TEXT_FAULTS: [(&str, CellCause, usize); 40] = [
     ("- -", CellCause::Trailing, 2),
     ("-,1", CellCause::Trailing, 1),
     ("=", CellCause::Token, 0),
     (")", CellCause::Token, 0),
     ("..", CellCause::Token, 0),
     ("truex", CellCause::Token, 0),
+    ("n", CellCause::Token, 0),
+    ("no", CellCause::Token, 0),
     ("not", CellCause::Token, 3),
     ("not ", CellCause::Token, 4),
     ("not(", CellCause::Token, 4),
