@@ -12,6 +12,8 @@ ghost use Rattle.dtable.specs.PlanFile.{IsPlanText, IsPlanDocument, SpellsOnePla
 ghost use Rattle.dtable.specs.Reading.{Reads};
 
 mod document;
+#[cfg(test)]
+mod fault_rows;
 mod inputs;
 #[cfg(test)]
 mod limit_tests;

@@ -1,8 +1,12 @@
 //! Tests of the plan reader: plans that read, and broken ones with the fault of each.
+use super::fault_rows::{
+    DOCUMENT_FAULTS, HIT_AND_INPUT_FAULTS, OUTPUT_FAULTS, ROLE_FAULTS, RULE_FAULTS,
+};
 use super::*;
 use crate::{Hit, Origin, Output, Source};
 use feel_tests::Kind;
 use std::alloc::Global;
+use std::process::Abort;
 use std::test::Fail;
 
 /// A plan with every key: a priority table, a sum over it, a list, and roles.
@@ -40,21 +44,21 @@ outputs = [{name = \"note\", kind = \"text\"}]
 rules = [{when = ['>100', '-'], then = ['\"OVER\"']}]
 ";
 
-const FIELDS: &str =
+pub const FIELDS: &str =
     "fields = [{name = \"age\", kind = \"number\"}, {name = \"code\", kind = \"text\"}]\n";
 
-const AGE: &str = "{name = \"age\", kind = \"number\"}";
+pub const AGE: &str = "{name = \"age\", kind = \"number\"}";
 
-const PRIORITY: &str = "priority = ['\"high\"', '\"low\"']";
+pub const PRIORITY: &str = "priority = ['\"high\"', '\"low\"']";
 
-const SUM: &str =
+pub const SUM: &str =
     "hit = \"C+\"\ninputs = [{name = \"risk\"}]\noutputs = [{name = \"fee\", kind = \"number\"}]";
 
-const SUM_INPUTS: &str = "inputs = [{name = \"risk\"}]";
+pub const SUM_INPUTS: &str = "inputs = [{name = \"risk\"}]";
 
-const SUM_OUTPUTS: &str = "outputs = [{name = \"fee\", kind = \"number\"}]";
+pub const SUM_OUTPUTS: &str = "outputs = [{name = \"fee\", kind = \"number\"}]";
 
-const SUM_RULES: &str = "rules = [{when = ['\"high\"'], then = ['2.5']}]\n";
+pub const SUM_RULES: &str = "rules = [{when = ['\"high\"'], then = ['2.5']}]\n";
 
 /// The plan of the formats page with one table over one field.
 pub const SCORE: &str = "version = 1
@@ -165,6 +169,19 @@ pub fn fault_of(alloc: Global, text: &str) -> Option<(u8, (usize, usize, usize))
     }
 }
 
+/// Each edit spoils the plan, with its fault.
+fn are_refused(rt: &impl Abort, alloc: Global, plan: &str, edits: &[Edit]) -> Result<(), Fail> {
+    for (old, new, number, place) in edits {
+        let text = edited(alloc, plan, old, new)?;
+        assert_eq!(rt;
+            fault_of(alloc, text.as_str()),
+            Some((*number, *place)),
+            "{text}"
+        );
+    }
+    Ok(())
+}
+
 #[test]
 fn a_plan_with_every_key_reads(rt: HostRuntime) -> Result<(), Fail> {
     let plan = read_plan(rt.alloc(), PLAN.as_bytes())?;
@@ -266,79 +283,7 @@ fn what_may_be_left_out(rt: HostRuntime) -> Result<(), Fail> {
 
 #[test]
 fn faults_of_the_document_and_its_fields(rt: HostRuntime) -> Result<(), Fail> {
-    let edits: [Edit; 38] = [
-        ("version = 1", "version = ", 1, (0, 0, 0)),
-        ("version = 1\n", "version = 1\nversion = 1\n", 1, (0, 0, 0)),
-        ("[roles]", "[roles", 1, (0, 0, 0)),
-        ("version = 1\n", "", 2, (0, 0, 0)),
-        ("version = 1", "version = 4", 3, (0, 0, 0)),
-        ("version = 1", "version = 0", 3, (0, 0, 0)),
-        ("version = 1", "version = -1", 3, (0, 0, 0)),
-        ("version = 1", "version = \"1\"", 5, (0, 0, 0)),
-        ("version = 1", "version = 1.0", 5, (0, 0, 0)),
-        ("version = 1", "version = true", 5, (0, 0, 0)),
-        ("version = 1", "version = [1]", 5, (0, 0, 0)),
-        (FIELDS, "fields = 3\n", 5, (0, 0, 0)),
-        (FIELDS, "fields = {}\n", 5, (0, 0, 0)),
-        (FIELDS, "", 3, (1, 0, 1)),
-        ("fields = [", "fields = [3, ", 5, (0, 0, 1)),
-        (AGE, "{kind = \"number\"}", 2, (0, 0, 1)),
-        (AGE, "{name = 5, kind = \"number\"}", 5, (0, 0, 1)),
-        (AGE, "{name = 2024-01-01, kind = \"number\"}", 5, (0, 0, 1)),
-        (AGE, "{name = \"\", kind = \"number\"}", 5, (0, 0, 1)),
-        (AGE, "{name = \"1a\", kind = \"number\"}", 5, (0, 0, 1)),
-        (AGE, "{name = \"a-b\", kind = \"number\"}", 5, (0, 0, 1)),
-        (AGE, "{name = \" a\", kind = \"number\"}", 5, (0, 0, 1)),
-        (AGE, "{name = \"é\", kind = \"number\"}", 5, (0, 0, 1)),
-        (
-            AGE,
-            "{name = \"abcdefghijklmnopqrstuvwxyzabcdefghijklmnopqrstuvwxyzabcdefghijk-m\"}",
-            5,
-            (0, 0, 1),
-        ),
-        (
-            AGE,
-            "{name = \"abcdefghijklmnopqrstuvwxyzabcdefghijklmnopqrstuvwxyzabcdefghijklm\"}",
-            10,
-            (0, 0, 1),
-        ),
-        (AGE, "{name = \"claim\"}", 4, (0, 0, 1)),
-        (AGE, "{name = \"service\", kind = 5}", 4, (0, 0, 1)),
-        (AGE, "{name = \"oop\", kind = \"number\"}", 4, (0, 0, 1)),
-        (AGE, "{name = \"false\", kind = \"number\"}", 4, (0, 0, 1)),
-        (AGE, "{name = \"not\", kind = \"number\"}", 4, (0, 0, 1)),
-        (AGE, "{name = \"date\", kind = \"number\"}", 4, (0, 0, 1)),
-        (
-            "{name = \"code\", kind",
-            "{name = \"age\", kind",
-            4,
-            (0, 0, 2),
-        ),
-        (AGE, "{name = \"age\"}", 2, (0, 0, 1)),
-        (AGE, "{name = \"age\", kind = 5}", 5, (0, 0, 1)),
-        (AGE, "{name = \"age\", kind = \"Number\"}", 5, (0, 0, 1)),
-        (AGE, "{name = \"age\", kind = \"date\"}", 5, (0, 0, 1)),
-        (
-            "fields = [",
-            "fields = [{name = \"note\", kind = \"text\"}, ",
-            4,
-            (3, 0, 3),
-        ),
-        (
-            "fields = [",
-            "fields = [{name = \"a\", kind = \"day\"}, {name = \"a\"}, ",
-            4,
-            (0, 0, 2),
-        ),
-    ];
-    for (old, new, number, place) in edits {
-        let text = edited(rt.alloc(), PLAN, old, new)?;
-        assert_eq!(rt;
-            fault_of(rt.alloc(), text.as_str()),
-            Some((number, place)),
-            "{text}"
-        );
-    }
+    are_refused(&rt, rt.alloc(), PLAN, &DOCUMENT_FAULTS)?;
     assert!(rt;
         matches!(
             read_plan(rt.alloc(), b"version = 1\n# \xff\n"),
@@ -355,79 +300,7 @@ fn faults_of_the_document_and_its_fields(rt: HostRuntime) -> Result<(), Fail> {
 
 #[test]
 fn faults_of_hits_and_inputs(rt: HostRuntime) -> Result<(), Fail> {
-    let edits: [Edit; 33] = [
-        ("hit = \"P\"", "hit = 5", 5, (1, 0, 0)),
-        ("hit = \"P\"", "hit = [\"P\"]", 5, (1, 0, 0)),
-        ("hit = \"P\"", "hit = \"Q\"", 6, (1, 0, 0)),
-        ("hit = \"P\"", "hit = \"p\"", 6, (1, 0, 0)),
-        ("hit = \"P\"", "hit = \"\"", 6, (1, 0, 0)),
-        ("hit = \"C+\"", "hit = \"C*\"", 6, (2, 0, 0)),
-        ("hit = \"C+\"", "hit = \"C+ \"", 6, (2, 0, 0)),
-        (SUM_INPUTS, "", 2, (2, 0, 0)),
-        (SUM_INPUTS, "inputs = \"risk\"", 5, (2, 0, 0)),
-        (SUM_INPUTS, "inputs = {name = \"risk\"}", 5, (2, 0, 0)),
-        (SUM_INPUTS, "inputs = []", 5, (2, 0, 0)),
-        (SUM_INPUTS, "inputs = [\"risk\"]", 5, (2, 0, 1)),
-        (SUM_INPUTS, "inputs = [{}]", 2, (2, 0, 1)),
-        (SUM_INPUTS, "inputs = [{name = true}]", 5, (2, 0, 1)),
-        (SUM_INPUTS, "inputs = [{name = \"ri sk\"}]", 5, (2, 0, 1)),
-        (
-            SUM_INPUTS,
-            "inputs = [{name = \"abcdefghijklmnopqrstuvwxyzabcdefghijklmnopqrstuvwxyzabcdefghijklm\"}]",
-            10,
-            (2, 0, 1),
-        ),
-        (SUM_INPUTS, "inputs = [{name = \"nobody\"}]", 3, (2, 0, 1)),
-        (SUM_INPUTS, "inputs = [{name = \"Risk\"}]", 3, (2, 0, 1)),
-        (SUM_INPUTS, "inputs = [{name = \"note\"}]", 3, (2, 0, 1)),
-        (SUM_INPUTS, "inputs = [{name = \"fee\"}]", 3, (2, 0, 1)),
-        (SUM_INPUTS, "inputs = [{name = \"true\"}]", 3, (2, 0, 1)),
-        (
-            SUM_INPUTS,
-            "inputs = [{name = \"risk\"}, {name = \"nobody\"}]",
-            3,
-            (2, 0, 2),
-        ),
-        (
-            "name = \"age\", values",
-            "name = \"risk\", values",
-            3,
-            (1, 0, 1),
-        ),
-        ("hit = \"P\"", "hit = \"O\"", 3, (2, 0, 1)),
-        ("values = \"[0..120]\"", "values = 5", 5, (1, 0, 1)),
-        ("values = \"[0..120]\"", "values = [\"1\"]", 5, (1, 0, 1)),
-        ("values = \"[0..120]\"", "values = \"[0..\"", 11, (1, 0, 1)),
-        ("values = \"[0..120]\"", "values = '\"a\"'", 11, (1, 0, 1)),
-        (
-            "{name = \"code\"}]",
-            "{name = \"code\", values = '<\"A\"'}]",
-            11,
-            (1, 0, 2),
-        ),
-        (
-            "inputs = [{name = \"billed\"}",
-            "inputs = [{name = \"nobody\", values = 5}",
-            3,
-            (3, 0, 1),
-        ),
-        ("{name = \"fee\"}]", "{name = \"note\"}]", 3, (3, 0, 2)),
-        (
-            "{name = \"fee\"}]",
-            "{name = \"fee\", values = 'true'}]",
-            11,
-            (3, 0, 2),
-        ),
-        ("{name = \"fee\"}]", "{name = \"fee\"}, {}]", 2, (3, 0, 3)),
-    ];
-    for (old, new, number, place) in edits {
-        let text = edited(rt.alloc(), PLAN, old, new)?;
-        assert_eq!(rt;
-            fault_of(rt.alloc(), text.as_str()),
-            Some((number, place)),
-            "{text}"
-        );
-    }
+    are_refused(&rt, rt.alloc(), PLAN, &HIT_AND_INPUT_FAULTS)?;
     for (text, table) in [
         ("version = 1\ntables = 3\n", 0),
         ("version = 1\ntables = {}\n", 0),
@@ -444,270 +317,19 @@ fn faults_of_hits_and_inputs(rt: HostRuntime) -> Result<(), Fail> {
 
 #[test]
 fn faults_of_outputs_and_demands(rt: HostRuntime) -> Result<(), Fail> {
-    let edits: [Edit; 42] = [
-        (SUM_OUTPUTS, "", 2, (2, 0, 0)),
-        (SUM_OUTPUTS, "outputs = 1.5", 5, (2, 0, 0)),
-        (SUM_OUTPUTS, "outputs = []", 5, (2, 0, 0)),
-        (SUM_OUTPUTS, "outputs = [5]", 5, (2, 0, 2)),
-        (SUM_OUTPUTS, "outputs = [{kind = \"number\"}]", 2, (2, 0, 2)),
-        (
-            SUM_OUTPUTS,
-            "outputs = [{name = 3, kind = \"number\"}]",
-            5,
-            (2, 0, 2),
-        ),
-        (
-            SUM_OUTPUTS,
-            "outputs = [{name = \"-y\", kind = \"number\"}]",
-            5,
-            (2, 0, 2),
-        ),
-        (
-            SUM_OUTPUTS,
-            "outputs = [{name = \"abcdefghijklmnopqrstuvwxyzabcdefghijklmnopqrstuvwxyzabcdefghijklm\"}]",
-            10,
-            (2, 0, 2),
-        ),
-        (
-            SUM_OUTPUTS,
-            "outputs = [{name = \"age\", kind = \"number\"}]",
-            4,
-            (2, 0, 2),
-        ),
-        (SUM_OUTPUTS, "outputs = [{name = \"risk\"}]", 4, (2, 0, 2)),
-        (SUM_OUTPUTS, "outputs = [{name = \"met\"}]", 4, (2, 0, 2)),
-        (SUM_OUTPUTS, "outputs = [{name = \"not\"}]", 4, (2, 0, 2)),
-        (SUM_OUTPUTS, "outputs = [{name = \"fee\"}]", 2, (2, 0, 2)),
-        (
-            SUM_OUTPUTS,
-            "outputs = [{name = \"fee\", kind = true}]",
-            5,
-            (2, 0, 2),
-        ),
-        (
-            SUM_OUTPUTS,
-            "outputs = [{name = \"fee\", kind = \"money\"}]",
-            5,
-            (2, 0, 2),
-        ),
-        (
-            SUM_OUTPUTS,
-            "outputs = [{name = \"fee\", kind = \"number\"}, {name = \"fee\"}]",
-            4,
-            (2, 0, 3),
-        ),
-        (
-            "{name = \"covered\", kind",
-            "{name = \"risk\", kind",
-            4,
-            (1, 0, 4),
-        ),
-        (PRIORITY, "priority = 5", 5, (1, 0, 3)),
-        (PRIORITY, "priority = '\"high\"'", 5, (1, 0, 3)),
-        (PRIORITY, "priority = [5]", 5, (1, 0, 3)),
-        (PRIORITY, "priority = ['high']", 11, (1, 0, 3)),
-        (PRIORITY, "priority = ['1']", 11, (1, 0, 3)),
-        (
-            PRIORITY,
-            "priority = ['\"high\"', '\"low\"', ' \"high\"']",
-            7,
-            (1, 0, 3),
-        ),
-        (
-            PRIORITY,
-            "priority = ['\"high\"', '\"high\"', 5]",
-            7,
-            (1, 0, 3),
-        ),
-        (
-            PRIORITY,
-            "priority = ['\"high\"', 5, '\"high\"']",
-            5,
-            (1, 0, 3),
-        ),
-        (PRIORITY, "priority = []", 7, (1, 1, 3)),
-        (PRIORITY, "priority = ['\"high\"']", 7, (1, 2, 3)),
-        ("default = '\"low\"'", "default = 5", 5, (1, 0, 3)),
-        ("default = '\"low\"'", "default = ['\"low\"']", 5, (1, 0, 3)),
-        ("default = '\"low\"'", "default = '1'", 11, (1, 0, 3)),
-        ("default = '\"low\"'", "default = '-'", 11, (1, 0, 3)),
-        ("default = 'true'", "default = ''", 11, (1, 0, 4)),
-        (
-            SUM,
-            "hit = \"C#\"\ninputs = [{name = \"risk\"}]\noutputs = [{name = \"fee\", kind = \"text\", default = '\"x\"'}]",
-            11,
-            (2, 0, 2),
-        ),
-        (
-            SUM,
-            "hit = \"C#\"\ninputs = [{name = \"risk\"}]\noutputs = [{name = \"fee\", kind = \"text\"}]",
-            11,
-            (2, 1, 2),
-        ),
-        (
-            SUM_OUTPUTS,
-            "outputs = [{name = \"fee\", kind = \"number\"}, {name = \"more\", kind = \"text\"}]",
-            6,
-            (2, 0, 0),
-        ),
-        (
-            SUM_OUTPUTS,
-            "outputs = [{name = \"fee\", kind = \"text\"}]",
-            6,
-            (2, 0, 0),
-        ),
-        (
-            SUM_OUTPUTS,
-            "outputs = [{name = \"fee\", kind = \"day\"}]",
-            6,
-            (2, 0, 0),
-        ),
-        ("hit = \"P\"", "hit = \"C#\"", 11, (1, 0, 3)),
-        ("hit = \"P\"", "hit = \"C<\"", 6, (1, 0, 0)),
-        ("hit = \"C+\"", "hit = \"P\"", 7, (2, 0, 0)),
-        ("hit = \"R\"", "hit = \"O\"", 7, (3, 0, 0)),
-        ("hit = \"R\"", "hit = \"C>\"", 6, (3, 0, 0)),
-    ];
-    for (old, new, number, place) in edits {
-        let text = edited(rt.alloc(), PLAN, old, new)?;
-        assert_eq!(rt;
-            fault_of(rt.alloc(), text.as_str()),
-            Some((number, place)),
-            "{text}"
-        );
-    }
+    are_refused(&rt, rt.alloc(), PLAN, &OUTPUT_FAULTS)?;
     Ok(())
 }
 
 #[test]
 fn faults_of_rules(rt: HostRuntime) -> Result<(), Fail> {
-    let edits: [Edit; 27] = [
-        (SUM_RULES, "", 2, (2, 0, 0)),
-        (SUM_RULES, "rules = \"-\"\n", 5, (2, 0, 0)),
-        (SUM_RULES, "rules = {}\n", 5, (2, 0, 0)),
-        (SUM_RULES, "rules = [5]\n", 5, (2, 1, 0)),
-        (SUM_RULES, "rules = [{}]\n", 2, (2, 1, 0)),
-        (SUM_RULES, "rules = [{then = ['2.5']}]\n", 2, (2, 1, 0)),
-        ("when = ['\"high\"']", "when = '\"high\"'", 5, (2, 1, 0)),
-        ("when = ['\"high\"']", "when = []", 5, (2, 1, 0)),
-        ("when = ['\"high\"']", "when = ['-', '-']", 5, (2, 1, 0)),
-        ("when = ['\"high\"']", "when = [5]", 5, (2, 1, 1)),
-        ("when = ['\"high\"']", "when = [['-']]", 5, (2, 1, 1)),
-        ("when = ['\"high\"']", "when = ['>\"high\"']", 11, (2, 1, 1)),
-        ("when = ['\"high\"']", "when = ['1']", 11, (2, 1, 1)),
-        ("when = ['>=18', '-']", "when = ['>=18', 5]", 5, (1, 1, 2)),
-        (
-            "when = ['-', '\"A\"']",
-            "when = ['-', '\"A']",
-            11,
-            (1, 2, 2),
-        ),
-        ("when = ['-', '\"A\"'], ", "", 2, (1, 2, 0)),
-        (
-            "when = ['>=18', '-'], then = ['\"high\"', 'true']",
-            "when = ['x', '-']",
-            11,
-            (1, 1, 1),
-        ),
-        ("], then = ['2.5']", "]", 2, (2, 1, 0)),
-        ("then = ['2.5']", "then = '2.5'", 5, (2, 1, 0)),
-        ("then = ['2.5']", "then = []", 5, (2, 1, 0)),
-        ("then = ['2.5']", "then = ['1', '2']", 5, (2, 1, 0)),
-        ("then = ['2.5']", "then = [2.5]", 5, (2, 1, 2)),
-        ("then = ['2.5']", "then = ['2.50001']", 11, (2, 1, 2)),
-        ("then = ['2.5']", "then = ['']", 11, (2, 1, 2)),
-        (
-            "then = ['\"high\"', 'true']",
-            "then = ['\"mid\"', 'true']",
-            7,
-            (1, 1, 3),
-        ),
-        (
-            "then = ['\"low\"', 'false']",
-            "then = ['\"low\"', '0']",
-            11,
-            (1, 2, 4),
-        ),
-        (
-            "then = ['\"low\"', 'false']",
-            "then = ['\"Low\"', '0']",
-            7,
-            (1, 2, 3),
-        ),
-    ];
-    for (old, new, number, place) in edits {
-        let text = edited(rt.alloc(), PLAN, old, new)?;
-        assert_eq!(rt;
-            fault_of(rt.alloc(), text.as_str()),
-            Some((number, place)),
-            "{text}"
-        );
-    }
+    are_refused(&rt, rt.alloc(), PLAN, &RULE_FAULTS)?;
     Ok(())
 }
 
 #[test]
 fn faults_of_roles(rt: HostRuntime) -> Result<(), Fail> {
-    let edits: [Edit; 35] = [
-        ("cover = \"covered\"\n", "", 8, (0, 0, 1)),
-        ("fee = \"fee\"\n", "", 8, (0, 0, 2)),
-        ("deductible = \"50\"\n", "", 8, (0, 0, 3)),
-        ("copay = \"10\"\n", "", 8, (0, 0, 4)),
-        ("rate = \"0.2\"\n", "", 8, (0, 0, 5)),
-        ("oop_max = \"60\"\n", "", 8, (0, 0, 6)),
-        ("cover = \"covered\"", "cover = true", 8, (0, 0, 1)),
-        ("cover = \"covered\"", "cover = \"fee\"", 8, (0, 0, 1)),
-        ("cover = \"covered\"", "cover = \"1\"", 8, (0, 0, 1)),
-        ("cover = \"covered\"", "cover = \"nobody\"", 8, (0, 0, 1)),
-        ("cover = \"covered\"", "cover = \" covered\"", 8, (0, 0, 1)),
-        ("cover = \"covered\"", "cover = \"\"", 8, (0, 0, 1)),
-        ("fee = \"fee\"", "fee = 5", 8, (0, 0, 2)),
-        ("fee = \"fee\"", "fee = \"covered\"", 8, (0, 0, 2)),
-        ("fee = \"fee\"", "fee = \"risk\"", 8, (0, 0, 2)),
-        ("fee = \"fee\"", "fee = \"note\"", 8, (0, 0, 2)),
-        ("fee = \"fee\"", "fee = \"code\"", 8, (0, 0, 2)),
-        ("fee = \"fee\"", "fee = \"1.23451\"", 8, (0, 0, 2)),
-        ("fee = \"fee\"", "fee = \"-1\"", 9, (0, 0, 2)),
-        ("fee = \"fee\"", "fee = \"0.001\"", 9, (0, 0, 2)),
-        (
-            "fee = \"fee\"\ndeductible = \"50\"\n",
-            "fee = \"-1\"\n",
-            9,
-            (0, 0, 2),
-        ),
-        (
-            "deductible = \"50\"",
-            "deductible = \"50.005\"",
-            9,
-            (0, 0, 3),
-        ),
-        ("copay = \"10\"", "copay = \"-0.01\"", 9, (0, 0, 4)),
-        ("rate = \"0.2\"", "rate = \"2\"", 9, (0, 0, 5)),
-        ("rate = \"0.2\"", "rate = \"1.0001\"", 9, (0, 0, 5)),
-        ("rate = \"0.2\"", "rate = \"-0.1\"", 9, (0, 0, 5)),
-        ("rate = \"0.2\"", "rate = \"covered\"", 8, (0, 0, 5)),
-        ("oop_max = \"60\"", "oop_max = \"0.0001\"", 9, (0, 0, 6)),
-        ("oop_max = \"60\"", "oop_max = \"true\"", 8, (0, 0, 6)),
-        ("remarks = \"note\"", "remarks = 5", 8, (0, 0, 7)),
-        ("remarks = \"note\"", "remarks = \"fee\"", 8, (0, 0, 7)),
-        ("remarks = \"note\"", "remarks = \"risk\"", 8, (0, 0, 7)),
-        ("remarks = \"note\"", "remarks = \"nobody\"", 8, (0, 0, 7)),
-        ("hit = \"R\"", "hit = \"F\"", 8, (0, 0, 7)),
-        (
-            "cover = \"covered\"\nfee = \"fee\"",
-            "fee = 5",
-            8,
-            (0, 0, 1),
-        ),
-    ];
-    for (old, new, number, place) in edits {
-        let text = edited(rt.alloc(), PLAN, old, new)?;
-        assert_eq!(rt;
-            fault_of(rt.alloc(), text.as_str()),
-            Some((number, place)),
-            "{text}"
-        );
-    }
+    are_refused(&rt, rt.alloc(), PLAN, &ROLE_FAULTS)?;
     assert_eq!(rt;
         fault_of(rt.alloc(), "version = 1\nroles = 3\n"),
         Some((5, (0, 0, 0)))
