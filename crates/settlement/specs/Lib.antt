@@ -1,0 +1,7 @@
+pub mod Amount
+pub mod Claim
+pub mod Fields
+pub mod Given
+pub mod Roles
+pub mod Accumulators
+pub mod Settlement
