@@ -11,7 +11,7 @@ use Rattle.intake_csv.specs.declared.column.Content.TheVariants.{Money}
 use Rattle.intake_csv.specs.declared.fault.RowCause.TheVariants.{FieldCount, Utf8, TooLong, EmptyId, Value as NoValue, NotCents, Negative, Repeated}
 
 -- a number below zero isn't one that is not
-pub not_below : (units : ℤ) → pos 0 ≤ℤ units → ¬ (is_negative units ≡ true)
+not_below : (units : ℤ) → pos 0 ≤ℤ units → ¬ (is_negative units ≡ true)
 not_below (ℤ.pos n) h e = cc e
 not_below (ℤ.negsuc n) h e = omega (arith, ints)
 

@@ -6,5 +6,3 @@ pub mod Shapes
 pub mod Handing
 pub mod Entries
 pub mod ClaimFields
-pub mod OneFile
-pub mod OneList

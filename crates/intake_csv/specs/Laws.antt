@@ -1,6 +1,5 @@
 -- Laws of files of claims.
 use Rattle.std.specs.Prelude.{◌≡◌, ℕ, List}
-use Rattle.std.specs.List.{AllPairs}
 use Rattle.dtable.specs.declared.table.InputData.{InputData}
 use Rattle.dtable.specs.Names.{names_of}
 use Rattle.dtable.specs.Plan.{PlanParts}
@@ -8,21 +7,10 @@ use Rattle.settlement.specs.declared.claim.Claim.{Claim}
 use Rattle.settlement.specs.Claim.{IsClaimOf}
 use Rattle.intake_csv.specs.Records.{Fields}
 use Rattle.intake_csv.specs.Columns.{IsSheet, claim_columns}
-use Rattle.intake_csv.specs.Rows.{AreRowsOf, HasValues, claim_values}
+use Rattle.intake_csv.specs.Rows.{HasValues, claim_values}
 use Rattle.intake_csv.specs.declared.column.Layout.{Layout}
-use Rattle.intake_csv.specs.declared.column.Needed.{Needed}
-use Rattle.intake_csv.specs.declared.rows.Row.{Row}
 
 -- a claim that a record of a file of claims holds has the fields of the plan that the file was read under
 abbrev pub ClaimsHaveFields : Type 0
 ClaimsHaveFields = (plan : PlanParts) (fields : List InputData) (text : List ℕ) (layout : Layout) (records : List Fields) (row : Fields) (claim : Claim)
     → plan.names ≡ names_of fields → IsSheet (claim_columns plan.names) text layout records → HasValues layout row (claim_values claim) → IsClaimOf plan claim
-
--- no two of the needed columns have the same name
-abbrev pub AreDistinct : List Needed → Type 0
-AreDistinct needed = AllPairs (λ a b. ¬ (a.name ≡ b.name)) needed
-
--- a text has at most one list of rows under the names of a plan, where no two needed columns have the same name
-abbrev pub RowsAreOne : Type 0
-RowsAreOne = (names : List InputData) (text : List ℕ) (one other : List Row) → AreDistinct (claim_columns names)
-    → AreRowsOf names text one → AreRowsOf names text other → one ≡ other

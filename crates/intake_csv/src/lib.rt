@@ -25,6 +25,6 @@ mod values;
 
 pub use balances::{Balances, read_balances};
 pub use fault::{BalanceFault, FileFault, RowCause, RowFault};
-pub use laws::{claims_have_the_plan_s_fields, text_has_at_most_one_list_of_rows};
+pub use laws::claims_have_the_plan_s_fields;
 pub use rows::{Row, Rows};
 pub use sheet::FILE_LIMIT_BYTES;

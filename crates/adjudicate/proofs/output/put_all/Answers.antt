@@ -1,7 +1,7 @@
 use Rattle.std.proofs.Common.{◌≡◌, false, arith, length-drop, length-take, ℕ}
 use Rattle.fixpoint.specs.Out.{has_failed}
 use Rattle.adjudicate.proofs.Puts.{Appends-front}
-use Rattle.adjudicate.proofs.value.put_all.Goals as goal
+use Rattle.adjudicate.proofs.output.put_all.Goals as goal
 
 pub loop-written-preserved : goal.loop-written-preserved
 loop-written-preserved g c =
