@@ -6,4 +6,3 @@ pub mod Puts
 pub mod ReadNames
 pub mod Refusals
 pub mod Splits
-pub mod TableLines

@@ -15,7 +15,8 @@ use Rattle.adjudicate.specs.declared.stop.ArgumentFault.{ArgumentFault}
 use Rattle.adjudicate.specs.declared.stop.Stop.{Stop}
 use Rattle.adjudicate.specs.declared.stop.Stop.TheVariants as stop
 use Rattle.adjudicate.specs.Arguments.{Gives}
-use Rattle.adjudicate.specs.Stop.{IsArgumentFault, IsMemoryFault, IsStopOfArgument, IsStopOfPlan, IsStopOfTables, RefusesArguments, RefusesValue, RefusesText, RefusesPlan, PutsUntil, WritesUntil}
+use Rattle.adjudicate.specs.ValueText.{IsValueText}
+use Rattle.adjudicate.specs.Stop.{IsArgumentFault, IsMemoryFault, IsStopOfArgument, IsStopOfPlan, IsStopOfTables, RefusesArguments, RefusesValue, RefusesText, PutsUntil, WritesUntil}
 
 -- the first argument that gives no value is the refusal
 pub refuses_argument : (names : List InputData) (arguments : List (List ℕ)) (given : List Slot) (place : ℕ) (text : List ℕ) (fault : ArgumentFault) (s : Stop) → Gives names (take place arguments) given
@@ -29,29 +30,17 @@ refuses_argument names arguments given place text fault (stop.Missing name) give
 refuses_argument names arguments given place text fault (stop.Tables other) gives standing is_fault made = absurd made
 refuses_argument names arguments given place text fault (stop.Write written) gives standing is_fault made = absurd made
 
--- a plan's fault is the refusal of a command that takes a plan alone
-pub refuses_spelling : (text : List ℕ) (fault : PlanFault) (s : Stop) → (fault.cause ≢ cause.OutOfMemory → (plan : PlanParts) → ¬ IsPlanText text plan) → IsStopOfPlan fault s → RefusesPlan text s
-refuses_spelling text fault (stop.Plan same) none made =
-    let P : PlanFault → Type 0 = λ f. f.cause ≢ cause.OutOfMemory in
-    (subst P (sym made.0) made.1, none made.1)
-refuses_spelling text fault stop.NoMemory none made = tt
-refuses_spelling text fault (stop.Argument number other) none made = absurd made
-refuses_spelling text fault (stop.Missing name) none made = absurd made
-refuses_spelling text fault (stop.Tables other) none made = absurd made
-refuses_spelling text fault (stop.Write written) none made = absurd made
-
--- and of one that takes arguments too
-refuses_alike : (text : List ℕ) (arguments : List (List ℕ)) (s : Stop) → RefusesPlan text s → RefusesText text arguments s
-refuses_alike text arguments (stop.Plan fault) refused = refused
-refuses_alike text arguments stop.NoMemory refused = tt
-refuses_alike text arguments (stop.Argument number fault) refused = absurd refused
-refuses_alike text arguments (stop.Missing name) refused = absurd refused
-refuses_alike text arguments (stop.Tables fault) refused = absurd refused
-refuses_alike text arguments (stop.Write written) refused = absurd refused
-
+-- a plan's fault is the refusal of the texts
 pub refuses_plan : (text : List ℕ) (arguments : List (List ℕ)) (fault : PlanFault) (s : Stop) → (fault.cause ≢ cause.OutOfMemory → (plan : PlanParts) → ¬ IsPlanText text plan)
     → IsStopOfPlan fault s → RefusesText text arguments s
-refuses_plan text arguments fault s none made = refuses_alike text arguments s (refuses_spelling text fault s none made)
+refuses_plan text arguments fault (stop.Plan same) none made =
+    let P : PlanFault → Type 0 = λ f. f.cause ≢ cause.OutOfMemory in
+    (subst P (sym made.0) made.1, none made.1)
+refuses_plan text arguments fault stop.NoMemory none made = tt
+refuses_plan text arguments fault (stop.Argument number other) none made = absurd made
+refuses_plan text arguments fault (stop.Missing name) none made = absurd made
+refuses_plan text arguments fault (stop.Tables other) none made = absurd made
+refuses_plan text arguments fault (stop.Write written) none made = absurd made
 
 -- so is what the arguments give for the plan
 pub refuses_spelled : (text : List ℕ) (arguments : List (List ℕ)) (plan : PlanParts) (s : Stop) → IsPlanText text plan → RefusesValue plan arguments s → RefusesText text arguments s
@@ -87,10 +76,11 @@ refuses_tables arguments plan given fault (stop.Missing name) gives ready is_fau
 refuses_tables arguments plan given fault (stop.Write written) gives ready is_fault made = absurd made
 
 -- what was put until a write fault is the front of the text
-pub writes_until : (IsText : List ℕ → Type 0) (text : List ℕ) (old new : Option (List ℕ)) (s : Stop) → IsText text → PutsUntil text old new s → WritesUntil IsText old new s
-writes_until IsText text old new (stop.Write written) is_text put = record { text = text; is_text = is_text; cut = put.0; appended = put.1 }
-writes_until IsText text old new (stop.Plan fault) is_text put = absurd put
-writes_until IsText text old new (stop.Argument number fault) is_text put = absurd put
-writes_until IsText text old new (stop.Missing name) is_text put = absurd put
-writes_until IsText text old new (stop.Tables fault) is_text put = absurd put
-writes_until IsText text old new stop.NoMemory is_text put = absurd put
+pub writes_until : (plan_text : List ℕ) (arguments : List (List ℕ)) (text : List ℕ) (old new : Option (List ℕ)) (s : Stop) → IsValueText plan_text arguments text → PutsUntil text old new s
+    → WritesUntil plan_text arguments old new s
+writes_until plan_text arguments text old new (stop.Write written) is_text put = record { text = text; is_text = is_text; cut = put.0; appended = put.1 }
+writes_until plan_text arguments text old new (stop.Plan fault) is_text put = absurd put
+writes_until plan_text arguments text old new (stop.Argument number fault) is_text put = absurd put
+writes_until plan_text arguments text old new (stop.Missing name) is_text put = absurd put
+writes_until plan_text arguments text old new (stop.Tables fault) is_text put = absurd put
+writes_until plan_text arguments text old new stop.NoMemory is_text put = absurd put

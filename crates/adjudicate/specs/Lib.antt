@@ -1,4 +1,3 @@
 pub mod Arguments
 pub mod ValueText
-pub mod CheckText
 pub mod Stop

@@ -10,4 +10,4 @@ returns-clause-written g c =
 pub returns-clause-stopped : goal.returns-clause-stopped
 returns-clause-stopped g c =
     IfErr-weaker c.put_all.result _ _
-    (λ s put. writes_until _ _ _ _ s (rw c.as_slice.ensures.value c.in_ok-text.ensures.text) put) c.put_all.ensures.err
+    (λ s put. writes_until _ _ _ _ _ s (rw c.as_slice.ensures.value c.in_ok-text.ensures.text) put) c.put_all.ensures.err

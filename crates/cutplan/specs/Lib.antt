@@ -1,6 +1,0 @@
-pub mod Values
-pub mod Regions
-pub mod Check
-pub mod Numbered
-pub mod Parts
-pub mod Laws

@@ -1,7 +1,0 @@
-pub mod Amount
-pub mod Claim
-pub mod Fields
-pub mod Given
-pub mod Roles
-pub mod Accumulators
-pub mod Settlement
