@@ -6,3 +6,4 @@ pub mod Puts
 pub mod ReadNames
 pub mod Refusals
 pub mod Splits
+pub mod TableLines

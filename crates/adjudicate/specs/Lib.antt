@@ -1,3 +1,4 @@
 pub mod Arguments
 pub mod ValueText
+pub mod CheckText
 pub mod Stop

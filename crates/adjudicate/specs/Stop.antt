@@ -24,7 +24,7 @@ use Rattle.adjudicate.specs.declared.stop.ArgumentFault.TheVariants as argument
 use Rattle.adjudicate.specs.declared.stop.Stop.{Stop}
 use Rattle.adjudicate.specs.declared.stop.Stop.TheVariants as stop
 use Rattle.adjudicate.specs.Arguments.{equals_sign, IsSplit, NamesData, Gives, IsFirstMissing}
-use Rattle.adjudicate.specs.ValueText.{line_end, IsValueText}
+use Rattle.adjudicate.specs.ValueText.{line_end}
 
 -- ` cell K at B`
 abbrev pub cell_fault_text : CellFault → List ℕ
@@ -110,57 +110,57 @@ pub record IsFirstBadArgument (names : List InputData) (arguments : List (List �
 
 -- the arguments give this refusal for a plan; want of memory can come with any
 abbrev pub RefusesValue : PlanParts → List (List ℕ) → Stop → Type 0
-RefusesValue plan arguments (stop.Plan fault) = ⊥
 RefusesValue plan arguments (stop.Argument number fault) = IsFirstBadArgument plan.names arguments number fault
 RefusesValue plan arguments (stop.Missing name) = (given : List Slot) × Gives plan.names arguments given × IsFirstMissing plan.names plan.tables given name
 RefusesValue plan arguments (stop.Tables fault) =
     (given : List Slot) × Gives plan.names arguments given × IsReady plan.tables given × (fault ≢ faults.OutOfMemory) × (env plan given ≡ Err fault)
-RefusesValue plan arguments (stop.Write written) = ⊥
 RefusesValue plan arguments stop.NoMemory = Unit {0}
+RefusesValue plan arguments _ = ⊥
 
 -- the arguments give this refusal for the plan that the plan's text spells
 abbrev pub RefusesSpelled : List ℕ → List (List ℕ) → Stop → Type 0
 RefusesSpelled plan_text arguments s = (plan : PlanParts) × IsPlanText plan_text plan × RefusesValue plan arguments s
 
+-- the plan's text spells no plan; want of memory while it is read is another thing
+abbrev pub SpellsNoPlan : List ℕ → PlanFault → Type 0
+SpellsNoPlan plan_text fault = (fault.cause ≢ cause.OutOfMemory) × ((plan : PlanParts) → ¬ IsPlanText plan_text plan)
+
 -- the texts give this refusal: for a refusal of the texts, what is wrong with them; the others can come with any texts
 abbrev pub IsReason : List ℕ → List (List ℕ) → Stop → Type 0
-IsReason plan_text arguments (stop.Plan fault) = (fault.cause ≢ cause.OutOfMemory) × ((plan : PlanParts) → ¬ IsPlanText plan_text plan)
-IsReason plan_text arguments (stop.Argument number fault) = RefusesSpelled plan_text arguments (stop.Argument number fault)
-IsReason plan_text arguments (stop.Missing name) = RefusesSpelled plan_text arguments (stop.Missing name)
-IsReason plan_text arguments (stop.Tables fault) = RefusesSpelled plan_text arguments (stop.Tables fault)
+IsReason plan_text arguments (stop.Plan fault) = SpellsNoPlan plan_text fault
 IsReason plan_text arguments (stop.Write written) = Unit {0}
 IsReason plan_text arguments stop.NoMemory = Unit {0}
+IsReason plan_text arguments s = RefusesSpelled plan_text arguments s
 
--- what a writer has got, once a command is done: the text that `value` prints
-pub record WritesText (plan_text : List ℕ) (arguments : List (List ℕ)) (old new : Option (List ℕ)) : Type 0 where
+-- the plan's text gives this refusal of a command that takes nothing else
+abbrev pub IsPlanReason : List ℕ → Stop → Type 0
+IsPlanReason plan_text (stop.Plan fault) = SpellsNoPlan plan_text fault
+IsPlanReason plan_text (stop.Write written) = Unit {0}
+IsPlanReason plan_text stop.NoMemory = Unit {0}
+IsPlanReason plan_text _ = ⊥
+
+-- what a writer has got, once a command is done: a text of those that the command may print
+pub record WritesText (IsText : List ℕ → Type 0) (old new : Option (List ℕ)) : Type 0 where
   pub text : List ℕ
-  pub is_text : IsValueText plan_text arguments text
+  pub is_text : IsText text
   pub appended : Appends old new text
 
--- the writer has got exactly the first bytes of that text, as many as `written` says, and not all of them
-pub record WritesFront (plan_text : List ℕ) (arguments : List (List ℕ)) (old new : Option (List ℕ)) (written : ℕ) : Type 0 where
+-- the writer has got exactly the first bytes of such a text, as many as `written` says, and not all of them
+pub record WritesFront (IsText : List ℕ → Type 0) (old new : Option (List ℕ)) (written : ℕ) : Type 0 where
   pub text : List ℕ
-  pub is_text : IsValueText plan_text arguments text
+  pub is_text : IsText text
   pub cut : written < length text
   pub appended : Appends old new (take written text)
 
 -- what a writer has got at a refusal: the first bytes of the text where the writer failed, and otherwise nothing
-abbrev pub WritesUntil : List ℕ → List (List ℕ) → Option (List ℕ) → Option (List ℕ) → Stop → Type 0
-WritesUntil plan_text arguments old new (stop.Plan fault) = Keeps old new
-WritesUntil plan_text arguments old new (stop.Argument number fault) = Keeps old new
-WritesUntil plan_text arguments old new (stop.Missing name) = Keeps old new
-WritesUntil plan_text arguments old new (stop.Tables fault) = Keeps old new
-WritesUntil plan_text arguments old new (stop.Write written) = WritesFront plan_text arguments old new written
-WritesUntil plan_text arguments old new stop.NoMemory = Keeps old new
+abbrev pub WritesUntil : (List ℕ → Type 0) → Option (List ℕ) → Option (List ℕ) → Stop → Type 0
+WritesUntil IsText old new (stop.Write written) = WritesFront IsText old new written
+WritesUntil IsText old new _ = Keeps old new
 
 -- whether the writer has failed after a refusal: at a write fault it has, and no other refusal changes that
 abbrev pub failed_after : Bool → Stop → Bool
-failed_after before (stop.Plan fault) = before
-failed_after before (stop.Argument number fault) = before
-failed_after before (stop.Missing name) = before
-failed_after before (stop.Tables fault) = before
 failed_after before (stop.Write written) = true
-failed_after before stop.NoMemory = before
+failed_after before _ = before
 
 -- the refusal that a fault of the plan's text becomes: want of memory is no fault of the text
 abbrev pub IsStopOfPlan : PlanFault → Stop → Type 0
@@ -197,6 +197,11 @@ RefusesArguments names arguments _ = ⊥
 abbrev pub RefusesText : List ℕ → List (List ℕ) → Stop → Type 0
 RefusesText plan_text arguments (stop.Write written) = ⊥
 RefusesText plan_text arguments s = IsReason plan_text arguments s
+
+-- the same of a command that takes a plan alone
+abbrev pub RefusesPlan : List ℕ → Stop → Type 0
+RefusesPlan plan_text (stop.Write written) = ⊥
+RefusesPlan plan_text s = IsPlanReason plan_text s
 
 -- a write fault in the midst of a text, which the writer has got up to there
 abbrev pub PutsUntil : List ℕ → Option (List ℕ) → Option (List ℕ) → Stop → Type 0

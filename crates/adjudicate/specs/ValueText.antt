@@ -1,7 +1,7 @@
 -- What the command `value` prints for a plan's text and its arguments.
 use Rattle.std.specs.Prelude.{◌≡◌, ℕ, ◌++◌, List, [], ◌∷◌, codes, Ok, flat_map, Some, IsSome, slice_get}
+use Rattle.std.specs.List.{join_by}
 use Rattle.std.specs.Option.{option_map_or}
-use Rattle.feel_tests.specs.declared.value.Value.{Value}
 use Rattle.feel_tests.specs.Value.{literal_text}
 use Rattle.dtable.specs.declared.environment.Answer.{Answer}
 use Rattle.dtable.specs.declared.environment.Answer.TheVariants.{One, Many}
@@ -18,15 +18,10 @@ use Rattle.adjudicate.specs.Arguments.{Gives}
 abbrev pub line_end : ℕ
 line_end = 10
 
--- the literals of some values, with `, ` between two of them
-abbrev pub list_text : List Value → List ℕ
-list_text [] = []
-list_text (value ∷ others) = literal_text value ++ flat_map (λ other. codes ", " ++ literal_text other) others
-
 -- the literal of one value, or the literals of a list in square brackets
 abbrev pub answer_text : Answer → List ℕ
 answer_text (One value) = literal_text value
-answer_text (Many values) = codes "[" ++ (list_text values ++ codes "]")
+answer_text (Many values) = codes "[" ++ (join_by literal_text (codes ", ") values ++ codes "]")
 
 -- `NAME = VALUE`, and the end of the line
 abbrev pub named_line : List ℕ → Answer → List ℕ

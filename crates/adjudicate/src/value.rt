@@ -1,15 +1,15 @@
 //! The command `value`: what a plan's tables give at the values of some arguments, a line for each output.
 
-ghost use Rattle.std.specs.Prelude.{◌≡◌, true, IfOk, IfErr, OnOk, OnErr};
-ghost use Rattle.std.specs.Io.KnownBytes.{Appends};
+ghost use Rattle.std.specs.Prelude.{◌≡◌, IfOk, IfErr, OnOk};
 ghost use Rattle.fixpoint.specs.Out.{writer_of, has_failed};
 ghost use Rattle.adjudicate.specs.Arguments.{texts_of, AreShort};
 ghost use Rattle.adjudicate.specs.ValueText.{IsTextOf, IsValueText};
-ghost use Rattle.adjudicate.specs.Stop.{IsReason, WritesText, WritesUntil, PutsUntil, failed_after, RefusesText, RefusesValue};
+ghost use Rattle.adjudicate.specs.Stop.{WritesText, WritesUntil, IsReason, failed_after, RefusesText, RefusesValue};
 
 pub mod arguments;
 pub mod text;
 
+use crate::output::put_all;
 use crate::stop::{MissingName, Stop};
 use arguments::{first_missing, read_arguments};
 use dtable::{Plan, Valuer, read_plan};
@@ -23,16 +23,17 @@ pub const PLAN_LIMIT_BYTES: usize = 1_048_576;
 
 /// Evaluates the plan's tables at the arguments, each `NAME=LITERAL`, and writes the value of each output.
 /// The whole text is made before its first byte is written.
+#[tactic(auto, using(crate::proofs::Refusals::writes_whole, crate::proofs::Refusals::writes_front))]
 pub fn do_value<W: Write>(
     alloc: Global,
     plan: &[u8],
     arguments: &[&str],
     out: &mut Out<W>,
 ) -> Result<(), Stop>
-    ensures written { OnOk result (WritesText plan.now (texts_of arguments.now)
+    ensures written { OnOk result (WritesText (IsValueText plan.now (texts_of arguments.now))
         (W.contents (writer_of out.old)) (W.contents (writer_of out.new))) }
     ensures reason { IfErr result (IsReason plan.now (texts_of arguments.now)) }
-    ensures stopped { IfErr result (WritesUntil plan.now (texts_of arguments.now)
+    ensures stopped { IfErr result (WritesUntil (IsValueText plan.now (texts_of arguments.now))
         (W.contents (writer_of out.old)) (W.contents (writer_of out.new))) }
 
     // The writer has failed after a write fault, and otherwise only where it had failed before.
@@ -64,23 +65,6 @@ fn plan_text(alloc: Global, plan: &Plan, arguments: &[&str]) -> Result<Vec<u8>, 
     }
     let values = plan.value(alloc, &inputs)?;
     Ok(value_lines(alloc, plan.tables(), &values)?)
-}
-
-// Hands the text to the writer, as many bytes at a time as it takes.
-fn put_all<W: Write>(text: &[u8], out: &mut Out<W>) -> Result<(), Stop>
-    ensures ok { OnOk result (Appends (W.contents (writer_of out.old)) (W.contents (writer_of out.new)) text.now) }
-    ensures ok_failed { OnOk result (has_failed out.new ≡ has_failed out.old) }
-    ensures err { IfErr result (PutsUntil text.now (W.contents (writer_of out.old)) (W.contents (writer_of out.new))) }
-    ensures failed { OnErr result (has_failed out.new ≡ true) }
-{
-    let mut written = 0;
-    while written < text.len() {
-        match out.put(&text[written..]) {
-            Ok(count) => written += count,
-            Err(_) => return Err(Stop::Write { written }),
-        }
-    }
-    Ok(())
 }
 
 #[cfg(test)]

@@ -1,11 +1,11 @@
 //! One command, from the words of the command line to the exit status.
 
-ghost use Rattle.std.specs.Prelude.{◌≡◌, ◌≤◌};
+ghost use Rattle.std.specs.Prelude.{◌≡◌, ◌≤◌, IfErr};
 ghost use Rattle.adjudicate.specs.Stop.{status_of};
 
-use crate::command::{ASSIGNMENT, PLAN, VALUE, command_line};
+use crate::command::{ASSIGNMENT, CHECK, PLAN, VALUE, command_line};
 use crate::files::{ReadFault, read_file};
-use adjudicate::{LINE_LIMIT_BYTES, PLAN_LIMIT_BYTES, Stop, do_value};
+use adjudicate::{LINE_LIMIT_BYTES, PLAN_LIMIT_BYTES, Stop, do_check, do_value};
 use clap::ArgMatches;
 use clap::error::ErrorKind;
 use fixpoint::Out;
@@ -46,8 +46,11 @@ pub fn status<R: Env + Files + Print + Eprint + AllocGlobal>(rt: &R) -> u8
 fn command<R: Files + Print + Eprint + AllocGlobal>(rt: &R, matches: &ArgMatches<'_>) -> u8
     ensures known { result ≤ RESOURCE }
 {
-    match matches.subcommand_matches(VALUE) {
-        Some(value) => value_of(rt, value),
+    if let Some(value) = matches.subcommand_matches(VALUE) {
+        return value_of(rt, value);
+    }
+    match matches.subcommand_matches(CHECK) {
+        Some(check) => check_of(rt, check),
         None => USAGE,
     }
 }
@@ -56,20 +59,45 @@ fn command<R: Files + Print + Eprint + AllocGlobal>(rt: &R, matches: &ArgMatches
 fn value_of<R: Files + Print + Eprint + AllocGlobal>(rt: &R, matches: &ArgMatches<'_>) -> u8
     ensures known { result ≤ RESOURCE }
 {
-    let path = match matches.get_str(PLAN) {
-        Some(path) => path,
-        None => return USAGE,
-    };
-    let plan = match read_file(rt, path, PLAN_LIMIT_BYTES) {
+    let plan = match plan_of(rt, matches) {
         Ok(plan) => plan,
-        Err(ReadFault::Unreadable) => return told(rt, "cannot read plan", RESOURCE),
-        Err(ReadFault::OutOfMemory) => return no_memory(rt),
+        Err(status) => return status,
     };
     let assignments = matches.get_strs(ASSIGNMENT).unwrap_or(&[]);
     let mut out = Out::new(io::writer(rt));
     match do_value(rt.alloc(), plan.as_slice(), assignments, &mut out) {
         Ok(()) => DONE,
         Err(stop) => stopped(rt, &stop),
+    }
+}
+
+/// The command `check`.
+fn check_of<R: Files + Print + Eprint + AllocGlobal>(rt: &R, matches: &ArgMatches<'_>) -> u8
+    ensures known { result ≤ RESOURCE }
+{
+    let plan = match plan_of(rt, matches) {
+        Ok(plan) => plan,
+        Err(status) => return status,
+    };
+    let mut out = Out::new(io::writer(rt));
+    match do_check(rt.alloc(), plan.as_slice(), &mut out) {
+        Ok(()) => DONE,
+        Err(stop) => stopped(rt, &stop),
+    }
+}
+
+/// The text of the plan file that the command line names; where it can't be read, that is told, and its status answered.
+fn plan_of<R: Files + Eprint + AllocGlobal>(rt: &R, matches: &ArgMatches<'_>) -> Result<Vec<u8>, u8>
+    ensures known { IfErr result (λ status. status ≤ RESOURCE) }
+{
+    let path = match matches.get_str(PLAN) {
+        Some(path) => path,
+        None => return Err(USAGE),
+    };
+    match read_file(rt, path, PLAN_LIMIT_BYTES) {
+        Ok(plan) => Ok(plan),
+        Err(ReadFault::Unreadable) => Err(told(rt, "cannot read plan", RESOURCE)),
+        Err(ReadFault::OutOfMemory) => Err(no_memory(rt)),
     }
 }
 

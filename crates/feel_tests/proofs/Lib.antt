@@ -5,6 +5,7 @@ pub mod SymbolFront
 pub mod FirstWord
 pub mod OneWord
 pub mod OneDate
+pub mod OnePlain
 pub mod OneTest
 pub mod Denials
 pub mod OneCell

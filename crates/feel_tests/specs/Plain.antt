@@ -18,6 +18,10 @@ SpellsPlain kind text (Text bytes) = (kind ≡ kinds.Text) × (bytes ≡ text) �
 SpellsPlain kind text (Flag flag) = (kind ≡ kinds.Flag) × (text ≡ flag_text flag)
 SpellsPlain kind text (Day day) = (kind ≡ kinds.Day) × IsDateText text day
 
+-- a text spells at most one plain value of a kind
+abbrev pub SpellsOnePlain : Type 0
+SpellsOnePlain = (kind : Kind) (text : List ℕ) (one other : Value) → SpellsPlain kind text one → SpellsPlain kind text other → one ≡ other
+
 -- a fault other than want of memory comes only where nothing is spelled
 abbrev pub RefusesPlain : (Value → Type 0) → PlainFault → Type 0
 RefusesPlain P fault = fault ≢ OutOfMemory → (value : Value) → ¬ P value

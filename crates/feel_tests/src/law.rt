@@ -4,6 +4,7 @@ ghost use Rattle.fixpoint.specs.NumberText.{shortest_text};
 ghost use Rattle.feel_tests.specs.Words.{quoted};
 ghost use Rattle.feel_tests.specs.Value.{kind_of, literal_text, flag_text, date_literal};
 ghost use Rattle.feel_tests.specs.Cell.{SpellsValue, SpellsOneCell, SpellsOneValue};
+ghost use Rattle.feel_tests.specs.Plain.{SpellsOnePlain};
 ghost use Rattle.feel_tests.specs.declared.kind.Kind.TheVariants as kinds;
 ghost use Rattle.feel_tests.specs.declared.value.Value.TheVariants as values;
 ghost use Rattle.feel_tests.specs.declared.text.TheConstants.{TEXT_LIMIT_BYTES};
@@ -23,6 +24,13 @@ pub fn text_spells_at_most_one_cell()
 /// A text spells at most one value of a kind.
 pub fn text_spells_at_most_one_value()
     ensures { SpellsOneValue }
+{
+    fixpoint::text_denotes_at_most_one();
+}
+
+/// A field, as a whole, spells at most one value of a kind.
+pub fn field_spells_at_most_one_value()
+    ensures { SpellsOnePlain }
 {
     fixpoint::text_denotes_at_most_one();
 }

@@ -34,7 +34,8 @@ pub use day::Day;
 pub use fault::{CellCause, CellFault};
 pub use kind::Kind;
 pub use law::{
-    literal_spells_its_value, text_spells_at_most_one_cell, text_spells_at_most_one_value,
+    field_spells_at_most_one_value, literal_spells_its_value, text_spells_at_most_one_cell,
+    text_spells_at_most_one_value,
 };
 pub use plain::{PlainFault, read_plain};
 pub use reading::{read_cell, read_value};

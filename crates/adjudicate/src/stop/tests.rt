@@ -1,5 +1,6 @@
 //! The lines of refusals, as the formats give them.
 use super::*;
+use crate::testing::says;
 use std::process::Abort;
 use std::test::Fail;
 
@@ -12,13 +13,6 @@ fn plan_fault(place: (usize, usize, usize), cause: PlanCause) -> Stop {
         column,
         cause,
     })
-}
-
-fn says(rt: &impl Abort, stop: &Stop, line: &str, status: u8) {
-    let mut buffer = [0; LINE_LIMIT_BYTES];
-    let length = stop.write_line(&mut buffer);
-    assert_eq!(rt; &buffer[..length], line.as_bytes(), "{line}");
-    assert_eq!(rt; stop.status(), status, "{line}");
 }
 
 #[test]

@@ -1,8 +1,6 @@
 //! Worked values of the command, and what no clause says: that it succeeds where memory and the writer allow.
 use super::*;
-use crate::stop::line::LINE_LIMIT_BYTES;
-use std::io;
-use std::io::ErrorKind;
+use crate::testing::{Narrow, WhenFull, says};
 use std::process::Abort;
 
 mod hit_policies;
@@ -33,13 +31,6 @@ fn gives(rt: &impl Abort, alloc: Global, plan: &str, arguments: &[&str], text: &
     assert!(rt; result.is_ok(), "{text}");
     assert!(rt; !out.failed(), "{text}");
     assert_eq!(rt; out.into_inner().as_slice(), text.as_bytes());
-}
-
-fn says(rt: &impl Abort, stop: &Stop, line: &str, status: u8) {
-    let mut buffer = [0; LINE_LIMIT_BYTES];
-    let length = stop.write_line(&mut buffer);
-    assert_eq!(rt; &buffer[..length], line.as_bytes(), "{line}");
-    assert_eq!(rt; stop.status(), status, "{line}");
 }
 
 fn refuses(rt: &impl Abort, alloc: Global, plan: &str, arguments: &[&str], line: &str) {
@@ -116,56 +107,6 @@ fn refuses_arguments(rt: HostRuntime) {
     refuses(&rt, alloc, PLAN, &["=1"], "argument 1 fault 2\n");
 }
 
-/// What a writer of the tests does once it is full.
-#[derive(Clone, Copy)]
-enum WhenFull {
-    Fails,
-    TakesNothing,
-}
-
-/// A writer that takes a few bytes a write, and so many in all. It takes no memory.
-#[derive(Drop)]
-struct Narrow {
-    taken: [u8; 32],
-    length: usize,
-    limit: usize,
-    width: usize,
-    when_full: WhenFull,
-}
-
-impl Narrow {
-    fn new(limit: usize, width: usize, when_full: WhenFull) -> Narrow {
-        Narrow {
-            taken: [0; 32],
-            length: 0,
-            limit,
-            width,
-            when_full,
-        }
-    }
-}
-
-impl Write for Narrow {
-    fn write(&mut self, piece: &[u8]) -> io::Result<usize> {
-        let room = self.limit.saturating_sub(self.length).min(self.width);
-        let count = piece.len().min(room);
-        match self.when_full {
-            WhenFull::Fails if count == 0 => return Err(io::Error::from(ErrorKind::Other)),
-            _ => {}
-        }
-        let places = self.taken.iter_mut().skip(self.length);
-        for (place, byte) in places.zip(&piece[..count]) {
-            *place = *byte;
-        }
-        self.length = self.length.saturating_add(count);
-        Ok(count)
-    }
-
-    fn flush(&mut self) -> io::Result<()> {
-        Ok(())
-    }
-}
-
 #[test]
 fn a_full_writer_has_the_first_bytes(rt: HostRuntime) {
     let text = b"z = 3\ny = 0.5\n";
@@ -179,16 +120,13 @@ fn a_full_writer_has_the_first_bytes(rt: HostRuntime) {
                     _ => panic!(rt; "no write fault at {limit}"),
                 }
                 assert!(rt; out.failed(), "{limit}");
-                let writer = out.into_inner();
-                assert_eq!(rt; writer.length, limit);
-                assert_eq!(rt; &writer.taken[..limit], &text[..limit]);
+                assert_eq!(rt; out.into_inner().taken(), &text[..limit]);
             }
             let mut out = Out::new(Narrow::new(14, width, when_full));
             let plan = CROSSED.as_bytes();
             let result = do_value(rt.alloc(), plan, &["a=6", "b=1"], &mut out);
             assert!(rt; result.is_ok(), "{width}");
-            let writer = out.into_inner();
-            assert_eq!(rt; &writer.taken[..14], text.as_slice());
+            assert_eq!(rt; out.into_inner().taken(), text.as_slice());
         }
     }
 }
@@ -198,15 +136,11 @@ fn a_full_writer_has_the_first_bytes(rt: HostRuntime) {
 fn want_of_memory_writes_nothing(rt: HostRuntime) {
     let mut out = Out::new(Narrow::new(32, 32, WhenFull::Fails));
     match do_value(rt.alloc(), PLAN.as_bytes(), &["x=10"], &mut out) {
-        Ok(()) => {
-            let writer = out.into_inner();
-            assert_eq!(rt; writer.length, 8);
-            assert_eq!(rt; &writer.taken[..8], b"y = 2.5\n".as_slice());
-        }
+        Ok(()) => assert_eq!(rt; out.into_inner().taken(), b"y = 2.5\n".as_slice()),
         Err(stop) => {
             says(&rt, &stop, "no memory\n", 3);
             assert!(rt; !out.failed());
-            assert_eq!(rt; out.into_inner().length, 0);
+            assert!(rt; out.into_inner().taken().is_empty());
         }
     }
 }

@@ -1,11 +1,10 @@
 //! The printed text: a line for each output of each table, with the output's value.
 
-ghost use Rattle.std.specs.Prelude.{◌≡◌, ◌++◌, codes, IfOk, OnOk, flat_map};
-ghost use Rattle.feel_tests.specs.Value.{literal_text};
-ghost use Rattle.adjudicate.specs.ValueText.{answer_text, list_text, output_line, table_lines, value_lines};
+ghost use Rattle.std.specs.Prelude.{◌≡◌, ◌++◌, IfOk, OnOk};
+ghost use Rattle.adjudicate.specs.ValueText.{answer_text, output_line, table_lines, value_lines};
 
+use crate::literals::append_literals;
 use dtable::{Answer, Env, Output, Table};
-use feel_tests::Value;
 use std::alloc::{AllocError, Global};
 
 /// The lines of these tables, in order.
@@ -50,33 +49,9 @@ fn append_answer(text: &mut Vec<u8>, answer: &Answer) -> Result<(), AllocError>
         Answer::One(value) => value.write_text(text)?,
         Answer::Many(values) => {
             text.push(b'[')?;
-            append_list(text, values.as_slice())?;
+            append_literals(text, ", ", values.as_slice())?;
             text.push(b']')?;
         }
-    }
-    Ok(())
-}
-
-// The literals, with a comma and a space between two of them.
-fn append_list(text: &mut Vec<u8>, values: &[Value]) -> Result<(), AllocError>
-    ensures { OnOk result (text.new.items ≡ text.old.items ++ list_text values.now) }
-{
-    match values {
-        [] => Ok(()),
-        [first, others @ ..] => {
-            first.write_text(text)?;
-            append_others(text, others)
-        }
-    }
-}
-
-// The literals, with a comma and a space in front of each.
-fn append_others(text: &mut Vec<u8>, values: &[Value]) -> Result<(), AllocError>
-    ensures { OnOk result (text.new.items ≡ text.old.items ++ flat_map (λ value. codes ", " ++ literal_text value) values.now) }
-{
-    for value in values {
-        text.extend_from_slice(b", ")?;
-        value.write_text(text)?;
     }
     Ok(())
 }

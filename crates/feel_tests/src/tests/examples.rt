@@ -2,8 +2,8 @@
 use super::{are_refused, hold, number, repeated};
 use crate::{
     Cell, CellCause, CellFault, Day, Kind, PlainFault, TEXT_LIMIT_BYTES, Text, Value,
-    literal_spells_its_value, read_cell, read_plain, read_value, text_spells_at_most_one_cell,
-    text_spells_at_most_one_value,
+    field_spells_at_most_one_value, literal_spells_its_value, read_cell, read_plain, read_value,
+    text_spells_at_most_one_cell, text_spells_at_most_one_value,
 };
 use fixpoint::Fixed;
 use std::alloc::Global;
@@ -300,6 +300,7 @@ fn tests_are_kept_in_order(rt: HostRuntime) -> Result<(), Fail> {
     }
     text_spells_at_most_one_cell();
     text_spells_at_most_one_value();
+    field_spells_at_most_one_value();
     Ok(())
 }
 

@@ -1,0 +1,48 @@
+//! The command `check`: which inputs no rule of a table covers, and which pairs of its rules can match together.
+
+ghost use Rattle.std.specs.Prelude.{◌≡◌, IfOk, IfErr, OnOk};
+ghost use Rattle.fixpoint.specs.Out.{writer_of, has_failed};
+ghost use Rattle.adjudicate.specs.CheckText.{IsCheckText};
+ghost use Rattle.adjudicate.specs.Stop.{WritesText, WritesUntil, IsPlanReason, failed_after, RefusesPlan};
+
+pub mod text;
+
+use crate::output::put_all;
+use crate::stop::Stop;
+use dtable::read_plan;
+use fixpoint::Out;
+use std::alloc::Global;
+use std::io::Write;
+use text::check_text;
+
+/// Checks the plan's tables, and writes a line for each pair of rules that can match together (`overlap`) and each
+/// region of inputs that no rule covers (`gap`), a line for each table with too many regions (`wide`), and the counts.
+/// The whole text is made before its first byte is written.
+#[tactic(auto, using(crate::proofs::Refusals::writes_whole, crate::proofs::Refusals::writes_front))]
+pub fn do_check<W: Write>(alloc: Global, plan: &[u8], out: &mut Out<W>) -> Result<(), Stop>
+    ensures written { OnOk result (WritesText (IsCheckText plan.now)
+        (W.contents (writer_of out.old)) (W.contents (writer_of out.new))) }
+    ensures reason { IfErr result (IsPlanReason plan.now) }
+    ensures stopped { IfErr result (WritesUntil (IsCheckText plan.now)
+        (W.contents (writer_of out.old)) (W.contents (writer_of out.new))) }
+
+    // The writer has failed after a write fault, and otherwise only where it had failed before.
+    ensures ok_failed { OnOk result (has_failed out.new ≡ has_failed out.old) }
+    ensures failed { IfErr result (λ stop. has_failed out.new ≡ failed_after (has_failed out.old) stop) }
+{
+    let text = spelled_text(alloc, plan)?;
+    put_all(text.as_slice(), out)
+}
+
+// The text that the command prints.
+#[tactic(auto, using(crate::proofs::Refusals::refuses_spelling))]
+fn spelled_text(alloc: Global, plan: &[u8]) -> Result<Vec<u8>, Stop>
+    ensures text { IfOk result (λ text. IsCheckText plan.now text.items) }
+    ensures refused { IfErr result (RefusesPlan plan.now) }
+{
+    let plan = read_plan(alloc, plan)?;
+    Ok(check_text(alloc, &plan)?)
+}
+
+#[cfg(test)]
+mod tests;

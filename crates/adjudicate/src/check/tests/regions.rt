@@ -1,0 +1,80 @@
+//! Each form of a region, and the order of the lines.
+use super::gives;
+
+/// Two tables: days and a flag, then a number without a cut beside a text. In the first both rules have the days from
+/// 1 July to 31 December, where the flag is true.
+const TWO_TABLES: &str = "version = 1
+fields = [{name = \"network\", kind = \"flag\"}, {name = \"x\", kind = \"number\"}, {name = \"code\", kind = \"text\"}]
+[[tables]]
+hit = \"F\"
+inputs = [{name = \"service\", values = '[date(\"2024-01-01\")..date(\"2024-12-31\")]'}, {name = \"network\"}]
+outputs = [{name = \"a\", kind = \"number\"}]
+rules = [
+  {when = ['>=date(\"2024-07-01\")', 'true'], then = ['1']},
+  {when = ['-', 'true'], then = ['2']},
+]
+[[tables]]
+inputs = [{name = \"x\"}, {name = \"code\"}]
+outputs = [{name = \"b\", kind = \"number\"}]
+rules = [{when = ['-', '\"say \\\"B\\\"\",\"A\"'], then = ['1']}]
+";
+
+const TOLD_OF_TWO_TABLES: &str = "overlap table 1: rules 1 2
+gap table 1: date(\"2024-01-01\") ; false
+gap table 1: ]date(\"2024-01-01\")..date(\"2024-07-01\")[ ; false
+gap table 1: date(\"2024-07-01\") ; false
+gap table 1: ]date(\"2024-07-01\")..date(\"2024-12-31\")[ ; false
+gap table 1: date(\"2024-12-31\") ; false
+gap table 2: - ; not(\"A\",\"say \\\"B\\\"\")
+gaps 6 overlaps 1
+";
+
+/// A wide table with an overlap, in front of one with a gap on both sides of 0.
+const WIDE_AND_OVERLAPPING: &str = "version = 1
+fields = [{name = \"x\", kind = \"number\"}]
+[[tables]]
+hit = \"F\"
+inputs = [{name = \"x\"}, {name = \"x\"}, {name = \"x\"}, {name = \"x\"}]
+outputs = [{name = \"y\", kind = \"number\"}]
+rules = [
+  {when = ['1,2,3,4,5,6,7,8', '1,2,3,4,5,6,7,8', '1,2,3,4,5,6,7,8', '1,2,3,4,5,6,7,8'], then = ['1']},
+  {when = ['9', '8', '8', '8'], then = ['2']},
+  {when = ['8', '8', '8', '8'], then = ['3']},
+]
+[[tables]]
+inputs = [{name = \"x\"}]
+outputs = [{name = \"z\", kind = \"number\"}]
+rules = [{when = ['0'], then = ['1']}]
+";
+
+#[test]
+fn each_form_of_a_region(rt: HostRuntime) {
+    gives(&rt, rt.alloc(), TWO_TABLES, TOLD_OF_TWO_TABLES);
+}
+
+#[test]
+fn a_wide_table_has_its_overlaps_first(rt: HostRuntime) {
+    gives(
+        &rt,
+        rt.alloc(),
+        WIDE_AND_OVERLAPPING,
+        "overlap table 1: rules 1 3\nwide table 1\ngap table 2: <0\ngap table 2: >0\ngaps 2 overlaps 1\n",
+    );
+}
+
+#[test]
+fn a_table_without_rules_is_one_gap(rt: HostRuntime) {
+    let plan = "version = 1
+[[tables]]
+inputs = [{name = \"billed\"}, {name = \"claim\"}]
+outputs = [{name = \"y\", kind = \"number\"}]
+rules = []
+";
+    gives(
+        &rt,
+        rt.alloc(),
+        plan,
+        "gap table 1: - ; -\ngaps 1 overlaps 0\n",
+    );
+    gives(&rt, rt.alloc(), "version = 1\n", "gaps 0 overlaps 0\n");
+}

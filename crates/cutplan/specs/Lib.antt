@@ -1,0 +1,6 @@
+pub mod Values
+pub mod Regions
+pub mod Check
+pub mod Numbered
+pub mod Parts
+pub mod Laws

@@ -1,0 +1,30 @@
+-- The check of a table by its number in the plan, from 1.
+use Rattle.std.specs.Prelude.{◌≡◌, ℕ, ◌-◌, ◌≤◌, ◌<◌, List, [], length, slice_get}
+use Rattle.std.specs.Option.{option_map_or}
+use Rattle.dtable.specs.Plan.{PlanParts}
+use Rattle.cutplan.specs.declared.fault.CheckFault.{CheckFault}
+use Rattle.cutplan.specs.declared.fault.CheckFault.TheVariants.{TooWide}
+use Rattle.cutplan.specs.declared.gap.TheConstants.{CELL_LIMIT}
+use Rattle.cutplan.specs.declared.region.Region.{Region}
+use Rattle.cutplan.specs.Regions.{table_regions}
+use Rattle.cutplan.specs.Check.{cells, gaps, overlaps}
+
+-- the plan has a table of this number
+abbrev pub IsTableNumber : PlanParts → ℕ → Type 0
+IsTableNumber p number = (1 ≤ number) × (number ≤ length p.tables)
+
+-- the cells of the table's check
+abbrev pub cells_of : PlanParts → ℕ → List (List Region)
+cells_of p number = option_map_or (λ t. cells (table_regions p t)) (slice_get p.tables (number - 1)) []
+
+-- those that no rule covers
+abbrev pub gaps_of : PlanParts → ℕ → List (List Region)
+gaps_of p number = option_map_or (gaps p) (slice_get p.tables (number - 1)) []
+
+-- the pairs of the table's rules that share an allowed tuple
+abbrev pub overlaps_of : PlanParts → ℕ → List (ℕ × ℕ)
+overlaps_of p number = option_map_or (overlaps p) (slice_get p.tables (number - 1)) []
+
+-- a refusal for width comes only above the limit
+abbrev pub IsWide : ℕ → CheckFault → Type 0
+IsWide count fault = fault ≡ TooWide → CELL_LIMIT < count

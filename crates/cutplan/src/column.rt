@@ -1,0 +1,85 @@
+//! The columns of a table, each as the list of its regions.
+ghost use Rattle.std.specs.Prelude.{◌≡◌, IfOk, map, slice_get};
+ghost use Rattle.cutplan.specs.Values.{kind_read, kind_of_output};
+ghost use Rattle.cutplan.specs.Regions.{column_of, regions, table_regions};
+ghost use Rattle.dtable.specs.Plan.{seen_kind};
+ghost use Rattle.feel_tests.specs.declared.kind.Kind.TheVariants as kinds;
+ghost use Rattle.std.specs.Option.{option_map_or};
+
+use crate::cuts::cuts_of;
+use crate::region::Region;
+use crate::stretch::{listed, stretches};
+use dtable::{Hit, Input, Origin, Output, Plan, Sequence, Table};
+use feel_tests::Kind;
+use std::alloc::{AllocError, Global};
+
+/// The regions of each column of a table.
+pub fn table_regions(
+    alloc: Global,
+    plan: &Plan,
+    table: &Table,
+) -> Result<Vec<Sequence<Region>>, AllocError>
+    ensures { IfOk result (λ columns. columns.items ≡ table_regions plan.now table.now) }
+{
+    let mut columns = Vec::new(alloc);
+    for (place, input) in table.inputs.as_slice().iter().enumerate() {
+        columns.push(column_regions(alloc, plan, table, place, input)?)?;
+    }
+    Ok(columns)
+}
+
+// The regions of the column at a place, whose input this is.
+fn column_regions(
+    alloc: Global,
+    plan: &Plan,
+    table: &Table,
+    place: usize,
+    input: &Input,
+) -> Result<Sequence<Region>, AllocError>
+    ensures { IfOk result (λ found. found ≡ regions (column_of plan.now table.now place input.now)) }
+{
+    let kind = kind_read(plan, input.origin);
+    let cuts = cuts_of(alloc, kind, table, place, &input.values)?;
+    let all = stretches(alloc, kind, cuts)?;
+    listed(alloc, &input.values, all)
+}
+
+// The kind of the values that an input reads. Each input of a plan reads a name or an output that there is.
+fn kind_read(plan: &Plan, origin: Origin) -> Kind
+    ensures { result ≡ kind_read plan.now origin }
+{
+    match origin {
+        Origin::Given(place) => match plan.names().get(place) {
+            Some(data) => data.kind,
+            None => Kind::Number,
+        },
+        Origin::Earlier { table, column } => kind_of_output(plan.tables(), table, column),
+    }
+}
+
+fn kind_of_output(tables: &[Table], table: usize, column: usize) -> Kind
+    ensures { result ≡ kind_of_output tables.now table column }
+{
+    match tables.get(table) {
+        Some(table) => kind_in(table, column),
+        None => Kind::Number,
+    }
+}
+
+fn kind_in(table: &Table, column: usize) -> Kind
+    ensures { result ≡ option_map_or (seen_kind table.now.hit) (slice_get table.now.outputs column) kinds.Number }
+{
+    match table.outputs.as_slice().get(column) {
+        Some(output) => seen_kind(table.hit, output),
+        None => Kind::Number,
+    }
+}
+
+fn seen_kind(hit: Hit, output: &Output) -> Kind
+    ensures { result ≡ seen_kind hit output.now }
+{
+    match hit {
+        Hit::Count => Kind::Number,
+        _ => output.kind,
+    }
+}

@@ -1,0 +1,30 @@
+//! The check of decision tables (DMN 1.4): which inputs no rule covers, and which pairs of rules can match together.
+//!
+//! `compile` makes a `CutPlan`, which borrows its plan and values it as the plan does. The literals of a column cut its
+//! values into `Region`s, within which each cell holds of all values or of none; so `gaps` tries one value of each.
+//! `overlaps` lists the pairs of rules that share an allowed input. Tables come from `dtable`, cells and values from
+//! `feel_tests`.
+//!
+//! Begin with `specs/Regions.antt`, which says what the regions of a column are, and `specs/Check.antt`, which says what
+//! gaps and overlaps are; then read `cut_plan.rt`, whose calls carry the promises, and `law.rt`.
+#![tactic(auto)]
+
+mod column;
+mod cut_plan;
+mod cuts;
+mod fault;
+mod gap;
+mod law;
+mod overlap;
+mod region;
+mod stretch;
+#[cfg(test)]
+mod tests;
+
+pub use cut_plan::{CutPlan, compile};
+pub use fault::CheckFault;
+pub use gap::CELL_LIMIT;
+pub use law::{
+    cells_hold_alike, gaps_are_told, overlaps_are_told, regions_hold_values, regions_part_values,
+};
+pub use region::Region;

@@ -1,0 +1,161 @@
+//! Regions: the stretches into which the literals of a column cut its values.
+ghost use Rattle.std.specs.Prelude.{◌≡◌, IfOk};
+ghost use Rattle.feel_tests.specs.Value.{kind_of};
+ghost use Rattle.feel_tests.specs.declared.kind.Kind.TheVariants as kinds;
+ghost use Rattle.feel_tests.specs.declared.value.Value.TheVariants as values;
+ghost use Rattle.cutplan.specs.Values.{is_value};
+ghost use Rattle.cutplan.specs.Regions.{holds_in, holds_of, is_open, least_like, next};
+
+use dtable::Sequence;
+use feel_tests::{Cell, Day, Value};
+use fixpoint::{Fixed, MAX_UNITS};
+use std::alloc::{AllocError, Global};
+
+/// Some of a column's values, of which each of its cells holds alike.
+#[derive(Debug, Drop)]
+pub enum Region {
+    /// The numbers or days below the first cut.
+    Below(Value),
+    /// The value of a cut, a text that is named, or a flag.
+    At(Value),
+    /// The numbers or days between a cut and the next.
+    Between(Value, Value),
+    /// The numbers or days above the last cut.
+    Above(Value),
+    /// Any other text than these, which are all that the column names, in byte order.
+    Other(Sequence<Value>),
+    /// All values of a column of numbers, days or texts without a cut.
+    Every,
+}
+
+impl Region {
+    /// A copy, whose texts are in memory of their own.
+    pub fn duplicate(&self, alloc: Global) -> Result<Region, AllocError>
+        ensures { IfOk result (λ copy. copy ≡ self.now) }
+    {
+        match self {
+            Region::Below(cut) => Ok(Region::Below(cut.duplicate(alloc)?)),
+            Region::At(value) => Ok(Region::At(value.duplicate(alloc)?)),
+            Region::Between(low, high) => {
+                let low = low.duplicate(alloc)?;
+                Ok(Region::Between(low, high.duplicate(alloc)?))
+            }
+            Region::Above(cut) => Ok(Region::Above(cut.duplicate(alloc)?)),
+            Region::Other(names) => Ok(Region::Other(duplicates(alloc, names.as_slice())?)),
+            Region::Every => Ok(Region::Every),
+        }
+    }
+}
+
+// Copies of values, in order.
+pub fn duplicates(alloc: Global, values: &[Value]) -> Result<Sequence<Value>, AllocError>
+    ensures { IfOk result (λ copies. copies ≡ values.now) }
+{
+    let mut copies = Sequence::new(alloc);
+    for value in values {
+        copies.push(value.duplicate(alloc)?)?;
+    }
+    Ok(copies)
+}
+
+// Whether the cell holds of the values of a region that has one.
+pub fn holds_in(cell: &Cell, region: &Region) -> bool
+    ensures { result ≡ holds_in cell.now region.now }
+{
+    match region {
+        Region::At(value) => cell.holds(value),
+        Region::Below(cut) => holds_of(cell, &least_like(cut)),
+        Region::Between(low, _) => holds_of(cell, &next(low)),
+        Region::Above(cut) => holds_of(cell, &next(cut)),
+        Region::Other(_) | Region::Every => is_open(cell),
+    }
+}
+
+fn holds_of(cell: &Cell, value: &Option<Value>) -> bool
+    ensures { result ≡ holds_of cell.now value.now }
+{
+    match value {
+        Some(value) => cell.holds(value),
+        None => false,
+    }
+}
+
+// Whether the cell holds of a value that none of its tests names.
+pub fn is_open(cell: &Cell) -> bool
+    ensures { result ≡ is_open cell.now }
+{
+    match cell {
+        Cell::OneOf(_) => false,
+        Cell::Dash | Cell::NoneOf(_) => true,
+    }
+}
+
+// The least number or day.
+pub fn least_like(value: &Value) -> Option<Value>
+    ensures { result ≡ least_like value.now }
+{
+    match value {
+        Value::Number(_) => Some(Value::Number(Fixed::from_units(-MAX_UNITS)?)),
+        Value::Day(_) => Some(Value::Day(Day::from_epoch_day(FIRST_DAY)?)),
+        Value::Text(_) | Value::Flag(_) => None,
+    }
+}
+
+/// The number of 1 January of the year 1, counted from 1 January 1970.
+const FIRST_DAY: i32 = -719_162;
+
+// The number or day right behind, if there is one.
+pub fn next(value: &Value) -> Option<Value>
+    ensures { result ≡ next value.now }
+{
+    match value {
+        Value::Number(number) => next_number(*number),
+        Value::Day(day) => next_day(*day),
+        Value::Text(_) | Value::Flag(_) => None,
+    }
+}
+
+#[tactic(auto, using(crate::proofs::Ranges::number_behind, crate::proofs::Ranges::no_number_behind))]
+fn next_number(number: Fixed) -> Option<Value>
+    ensures { result ≡ next (values.Number number) }
+{
+    match Fixed::from_units(number.units() + 1) {
+        Some(next) => Some(Value::Number(next)),
+        None => None,
+    }
+}
+
+#[tactic(auto, using(crate::proofs::Ranges::day_behind, crate::proofs::Ranges::no_day_behind))]
+fn next_day(day: Day) -> Option<Value>
+    ensures { result ≡ next (values.Day day) }
+{
+    match Day::from_epoch_day(day.epoch_day() + 1) {
+        Some(next) => Some(Value::Day(next)),
+        None => None,
+    }
+}
+
+// Whether the value is in the range of its kind: each is.
+pub fn is_in_range(value: &Value) -> bool
+    ensures { result ≡ is_value (kind_of value.now) value.now }
+{
+    match value {
+        Value::Number(number) => is_number(*number),
+        Value::Day(day) => is_day(*day),
+        Value::Text(_) | Value::Flag(_) => true,
+    }
+}
+
+fn is_number(number: Fixed) -> bool
+    ensures { result ≡ is_value kinds.Number (values.Number number) }
+{
+    let _units = number.units();
+    true
+}
+
+fn is_day(day: Day) -> bool
+    ensures { result ≡ is_value kinds.Day (values.Day day) }
+{
+    let _number = day.epoch_day();
+    true
+}

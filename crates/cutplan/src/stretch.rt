@@ -1,0 +1,144 @@
+//! The regions that cuts make, and which of them are listed.
+ghost use Rattle.std.specs.Prelude.{◌≡◌, ◌++◌, [], ◌∷◌, IfOk, OnOk, take, map, filter};
+ghost use Rattle.cutplan.specs.Regions.{stretches, ordered, named, from_cut, has_value, is_listed};
+ghost use Rattle.cutplan.specs.declared.region.Region.TheVariants.{At, Other};
+ghost use Rattle.std.specs.Prelude.{false, true};
+ghost use Rattle.std.specs.Option.{option_map_or};
+ghost use Rattle.feel_tests.specs.Holds.{is_less};
+ghost use Rattle.feel_tests.specs.declared.value.Value.TheVariants.{Flag};
+ghost use Rattle.cutplan.specs.Regions.{holds_in};
+
+use crate::region::{Region, duplicates, holds_in, is_in_range, least_like, next};
+use dtable::Sequence;
+use feel_tests::{Cell, Kind, Value};
+use std::alloc::{AllocError, Global};
+
+/// All regions of a kind by the cuts, also those that hold no value.
+pub fn stretches(
+    alloc: Global,
+    kind: Kind,
+    cuts: Sequence<Value>,
+) -> Result<Vec<Region>, AllocError>
+    ensures { IfOk result (λ found. found.items ≡ stretches kind cuts) }
+{
+    match kind {
+        Kind::Number | Kind::Day => ordered(alloc, cuts.as_slice()),
+        Kind::Text => named(alloc, cuts.as_slice()),
+        Kind::Flag => flags(alloc),
+    }
+}
+
+fn flags(alloc: Global) -> Result<Vec<Region>, AllocError>
+    ensures { IfOk result (λ found. found.items ≡ At (Flag false) ∷ At (Flag true) ∷ []) }
+{
+    let mut found = Vec::new(alloc);
+    found.push(Region::At(Value::Flag(false)))?;
+    found.push(Region::At(Value::Flag(true)))?;
+    Ok(found)
+}
+
+// Below the first cut, the first cut, the stretch to the next, and so on; above the last.
+fn ordered(alloc: Global, cuts: &[Value]) -> Result<Vec<Region>, AllocError>
+    ensures { IfOk result (λ found. found.items ≡ ordered cuts.now) }
+{
+    let mut found = Vec::new(alloc);
+    match cuts.split_first() {
+        Some((first, more)) => {
+            found.push(Region::Below(first.duplicate(alloc)?))?;
+            from_cut(alloc, first, more, &mut found)?;
+        }
+        None => found.push(Region::Every)?,
+    }
+    Ok(found)
+}
+
+// The lowest of these cuts, the stretch to the next, and so on; above the last.
+fn from_cut(
+    alloc: Global,
+    first: &Value,
+    more: &[Value],
+    found: &mut Vec<Region>,
+) -> Result<(), AllocError>
+    ensures { OnOk result (found.new.items ≡ found.old.items ++ from_cut first.now more.now) }
+{
+    let mut low = first;
+    for high in more {
+        found.push(Region::At(low.duplicate(alloc)?))?;
+        found.push(Region::Between(low.duplicate(alloc)?, high.duplicate(alloc)?))?;
+        low = high;
+    }
+    found.push(Region::At(low.duplicate(alloc)?))?;
+    found.push(Region::Above(low.duplicate(alloc)?))?;
+    Ok(())
+}
+
+// One by one the texts that are named, then any other.
+fn named(alloc: Global, names: &[Value]) -> Result<Vec<Region>, AllocError>
+    ensures { IfOk result (λ found. found.items ≡ named names.now) }
+{
+    let mut found = Vec::new(alloc);
+    if names.is_empty() {
+        found.push(Region::Every)?;
+        return Ok(found);
+    }
+    for name in names {
+        found.push(Region::At(name.duplicate(alloc)?))?;
+    }
+    found.push(Region::Other(duplicates(alloc, names)?))?;
+    Ok(found)
+}
+
+/// Those regions that hold an allowed value.
+pub fn listed(
+    alloc: Global,
+    values: &Option<Cell>,
+    all: Vec<Region>,
+) -> Result<Sequence<Region>, AllocError>
+    ensures { IfOk result (λ found. found ≡ filter (is_listed values.now) all.items) }
+{
+    let mut found = Sequence::new(alloc);
+    for region in all.as_slice() {
+        if is_listed(values, region) {
+            found.push(region.duplicate(alloc)?)?;
+        }
+    }
+    Ok(found)
+}
+
+fn is_listed(values: &Option<Cell>, region: &Region) -> bool
+    ensures { result ≡ is_listed values.now region.now }
+{
+    has_value(region) && is_allowed(values, region)
+}
+
+fn is_allowed(values: &Option<Cell>, region: &Region) -> bool
+    ensures { result ≡ option_map_or (λ cell. holds_in cell region.now) values.now true }
+{
+    match values {
+        Some(cell) => holds_in(cell, region),
+        None => true,
+    }
+}
+
+fn has_value(region: &Region) -> bool
+    ensures { result ≡ has_value region.now }
+{
+    match region {
+        Region::Below(cut) => is_less(&least_like(cut), cut),
+        Region::Between(low, high) => is_less(&next(low), high),
+        Region::Above(cut) => next(cut).is_some(),
+        Region::At(value) => is_in_range(value),
+        Region::Other(_) | Region::Every => true,
+    }
+}
+
+// Whether there is a number or day, and it is less than the other.
+fn is_less(one: &Option<Value>, other: &Value) -> bool
+    ensures { result ≡ option_map_or (λ v. is_less v other.now) one.now false }
+{
+    match (one, other) {
+        (Some(Value::Number(one)), Value::Number(other)) => one < other,
+        (Some(Value::Day(one)), Value::Day(other)) => one < other,
+        _ => false,
+    }
+}

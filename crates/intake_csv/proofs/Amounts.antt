@@ -1,0 +1,31 @@
+-- A field of money that was read.
+use Rattle.std.proofs.Common.{◌≡◌, ℕ, ℤ, pos, ◌≤ℤ◌, true, List, refl, arith}
+use Rattle.std.proofs.lemmas.Int.{ints}
+use Rattle.fixpoint.specs.Money.{IsCents}
+use Rattle.fixpoint.specs.Number.{is_negative}
+use Rattle.fixpoint.specs.NumberText.{Denotes, DenotesAtMostOne}
+use Rattle.feel_tests.specs.TextBytes.{IsText}
+use Rattle.feel_tests.specs.declared.value.Value.TheVariants.{Number}
+use Rattle.intake_csv.specs.Fields.{Holds, IsFaultless}
+use Rattle.intake_csv.specs.declared.column.Content.TheVariants.{Money}
+use Rattle.intake_csv.specs.declared.fault.RowCause.TheVariants.{FieldCount, Utf8, TooLong, EmptyId, Value as NoValue, NotCents, Negative, Repeated}
+
+-- a number below zero isn't one that is not
+pub not_below : (units : ℤ) → pos 0 ≤ℤ units → ¬ (is_negative units ≡ true)
+not_below (ℤ.pos n) h e = cc e
+not_below (ℤ.negsuc n) h e = omega (arith, ints)
+
+pub money_read : DenotesAtMostOne → (bytes : List ℕ) (units : ℤ) → IsText bytes → Denotes bytes units → IsCents units → pos 0 ≤ℤ units
+    → Holds Money bytes (Number units) × IsFaultless Money bytes
+money_read one bytes units text denotes cents above =
+    (record { text = text; spells = (refl, denotes); allowed = (units, refl, (cents, above)) }, faultless)
+  where
+    faultless : IsFaultless Money bytes
+    faultless Utf8 h = h text.0
+    faultless TooLong h = omega (arith, h.1, text.1)
+    faultless EmptyId h = cc h.0
+    faultless NoValue h = h.1 (Number units) (refl, denotes)
+    faultless NotCents h = let same = one bytes units h.1.units denotes h.1.denotes in h.1.finer (rw same at cents)
+    faultless Negative h = let same = one bytes units h.1.units denotes h.1.denotes in not_below units above (rw same h.1.below)
+    faultless FieldCount h = h
+    faultless Repeated h = h

@@ -1,0 +1,68 @@
+-- Rows that are handed out one after another.
+use Rattle.std.proofs.Common.{◌≡◌, ◌<◌, ◌≤◌, ◌+◌, ℕ, suc, Bool, false, List, [], ◌∷◌, ◌++◌, length, map, drop, get_or, Some, cond, refl, sym, ap, ◌∙◌, arith}
+use Rattle.std.specs.List.{count_by, slice_get}
+use Rattle.std.proofs.lemmas.List.{drop_more, drop_all}
+use Rattle.std.proofs.lemmas.List.Sums.{sum_by-cons}
+use Rattle.csv.specs.Records.{Row as CsvRow, fields_of}
+use Rattle.intake_csv.specs.Records.{Fields}
+use Rattle.intake_csv.specs.Rows.{AreRows, AreRowsLeft, GivesRow, IsRow, RowsLeft, claims_in, is_claim}
+use Rattle.intake_csv.specs.declared.column.Layout.{Layout}
+use Rattle.intake_csv.specs.declared.rows.Row.{Row}
+use Rattle.intake_csv.specs.declared.rows.Row.TheVariants.{Good, Bad}
+
+-- one more claim, or none, in the count of claims
+count-row : (row : Row) (rows : List Row) → count_by is_claim (row ∷ rows) ≡ claims_in row + count_by is_claim rows
+count-row (Good number place claim) rows = sum_by-cons (λ x. cond (is_claim x) 1 0) (Good number place claim) rows
+count-row (Bad number fault) rows = sum_by-cons (λ x. cond (is_claim x) 1 0) (Bad number fault) rows
+
+-- the claims in front of the rows behind a row
+pub count-more : (row : Row) (rows : List Row) (old new : ℕ) → new ≡ old + claims_in row → new + count_by is_claim rows ≡ old + count_by is_claim (row ∷ rows)
+count-more row rows old new e = let counted = count-row row rows in omega (arith, e, counted)
+
+-- no rows of no records
+pub no-rows : (layout : Layout) (number place : ℕ) → AreRows layout number place [] []
+no-rows layout number place = record { as_many = refl; each = λ before after row fields e at. absurd (cc at) }
+
+-- the row that is given stands in front of those that are left
+pub rows-head : (old new : RowsLeft) (row : Row) → GivesRow old new row → (rest : List Row) → AreRowsLeft new rest → AreRowsLeft old (row ∷ rest)
+rows-head old new row g rest h = record { as_many = ap suc h.as_many ∙ sym (ap length g.next); each = each }
+  where
+    each : (before after : List Row) (r : Row) (fields : Fields) → row ∷ rest ≡ before ++ r ∷ after → slice_get old.records (length before) ≡ Some fields
+        → IsRow old.layout (old.number + length before) (old.place + count_by is_claim before) fields r
+    each [] after r fields e at =
+        let is : row ≡ r = cc e in
+        let found : Some g.fields ≡ Some fields = rw g.next at at in
+        let same : g.fields ≡ fields = cc found in
+        let numbered : old.number + length {A = Row} [] ≡ old.number = omega arith in
+        let placed : old.place + count_by is_claim [] ≡ old.place = omega arith in
+        rw (numbered, placed, ← same, ← is) g.is_row
+    each (b ∷ bs) after r fields e at =
+        let is : row ≡ b = cc e in
+        let others : rest ≡ bs ++ r ∷ after = cc e in
+        let found = rw g.next at at in
+        let step = h.each bs after r fields others found in
+        let more : new.number + length bs ≡ old.number + suc (length bs) = omega (arith, g.number) in
+        let counted : new.place + count_by is_claim bs ≡ old.place + count_by is_claim (b ∷ bs) = rw (← is) (count-more row bs old.place new.place g.place) in
+        rw (g.layout, more, counted) at step
+
+-- a reader over these records of a file
+abbrev pub left_of : Layout → ℕ → ℕ → List CsvRow → Bool → RowsLeft
+left_of layout number place items failed = record { layout = layout; number = number; place = place; records = map fields_of (drop number items); failed = failed }
+
+-- it gives the row of its next record
+pub gives-row : (layout : Layout) (number place after : ℕ) (items : List CsvRow) (failed : Bool) (r : CsvRow) (row : Row) → number < length items → r ≡ get_or items number r
+    → IsRow layout number place (fields_of r) row → after ≡ place + claims_in row → failed ≡ false
+    → GivesRow (left_of layout number place items failed) (left_of layout (number + 1) after items failed) row
+gives-row layout number place after items failed r row within is h counted well = record {
+  fields = fields_of r;
+  next = ap (map fields_of) (drop_more items number r within ∙ ap (λ x. x ∷ drop (number + 1) items) (sym is));
+  is_row = h;
+  layout = refl;
+  number = refl;
+  place = counted;
+  failed = well;
+}
+
+-- no record is left behind the last
+pub none-left : (number : ℕ) (items : List CsvRow) → length items ≤ number → map fields_of (drop number items) ≡ []
+none-left number items past = ap (map fields_of) (drop_all number items past)

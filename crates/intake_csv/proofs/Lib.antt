@@ -1,0 +1,12 @@
+pub mod Amounts
+pub mod Lists
+pub mod Headers
+pub mod RecordSteps
+pub mod Shapes
+pub mod Handing
+pub mod Entries
+pub mod ClaimFields
+pub mod OneFile
+pub mod PlanColumns
+pub mod OneField
+pub mod OneRow

@@ -1,0 +1,66 @@
+-- Lists beside lists, and the fields of a record by their places.
+use Rattle.std.proofs.Common.{◌≡◌, ◌<◌, ◌+◌, ℕ, suc, zero, List, [], ◌∷◌, ◌++◌, length, get_or, take, drop, Some, None, refl, ap, ◌∙◌, arith}
+use Rattle.std.specs.List.{All, AllZip, Any, slice_get}
+use Rattle.std.proofs.lemmas.List.{get_or_append_left, length_push, take_more}
+use Rattle.std.proofs.lemmas.List.Elements.{All-cons, All-nil}
+use Rattle.csv.specs.Records.{field_at}
+
+-- one more of each
+pub AllZip-grow : {A B : Type 0} (R : A → B → Type 0) (xs : List A) (ys : List B) (x : A) (y : B) → AllZip R xs ys → R x y → AllZip R (xs ++ x ∷ []) (ys ++ y ∷ [])
+AllZip-grow R [] [] x y h r = (r, tt)
+AllZip-grow R [] (z ∷ zs) x y h r = absurd h
+AllZip-grow R (w ∷ ws) [] x y h r = absurd h
+AllZip-grow R (w ∷ ws) (z ∷ zs) x y h r = (h.0, AllZip-grow R ws zs x y h.1 r)
+
+-- what follows for each item on the right
+pub All-from_zip : {A B : Type 0} (R : A → B → Type 0) (P : B → Type 0) → ((x : A) (y : B) → R x y → P y) → (xs : List A) (ys : List B) → AllZip R xs ys → All P ys
+All-from_zip R P gives [] [] h = All-nil P
+All-from_zip R P gives [] (y ∷ ys) h = absurd h
+All-from_zip R P gives (x ∷ xs) [] h = absurd h
+All-from_zip R P gives (x ∷ xs) (y ∷ ys) h = All-cons P y ys (gives x y h.0) (All-from_zip R P gives xs ys h.1)
+
+-- a field at a place is the item there
+pub field_at-get_or : (fields : List (List ℕ)) (k : ℕ) (bytes : List ℕ) → field_at fields k ≡ Some bytes → (k < length fields) × (get_or fields k [] ≡ bytes)
+unfolding field_at
+field_at-get_or [] k bytes e = absurd (cc e)
+field_at-get_or (f ∷ fs) zero bytes e = let same : f ≡ bytes = cc e in (omega arith, same)
+field_at-get_or (f ∷ fs) (suc k) bytes e = let h = field_at-get_or fs k bytes e in (omega (arith, h.0), h.1)
+
+-- each place within has its field
+pub field_at-within : (fields : List (List ℕ)) (k : ℕ) → k < length fields → field_at fields k ≡ Some (get_or fields k [])
+unfolding field_at
+field_at-within [] k h = absurd (omega (arith, h))
+field_at-within (f ∷ fs) zero h = refl
+field_at-within (f ∷ fs) (suc k) h = field_at-within fs k (omega (arith, h))
+
+-- more fields behind change none in front
+pub field_at-append : (fields more : List (List ℕ)) (k : ℕ) (bytes : List ℕ) → field_at fields k ≡ Some bytes → field_at (fields ++ more) k ≡ Some bytes
+unfolding field_at
+field_at-append [] more k bytes e = absurd (cc e)
+field_at-append (f ∷ fs) more zero bytes e = e
+field_at-append (f ∷ fs) more (suc k) bytes e = field_at-append fs more k bytes e
+
+-- the field behind others
+pub field_at-last : (fields : List (List ℕ)) (bytes : List ℕ) → field_at (fields ++ bytes ∷ []) (length fields) ≡ Some bytes
+unfolding field_at
+field_at-last [] bytes = refl
+field_at-last (f ∷ fs) bytes = field_at-last fs bytes
+
+-- the first of some items, and the others
+pub first-and-rest : {A : Type 0} (xs : List A) (x : A) → slice_get xs 0 ≡ Some x → xs ≡ x ∷ drop 1 xs
+first-and-rest [] x e = absurd (cc e)
+first-and-rest (y ∷ ys) x e = let same : y ≡ x = cc e in ap (λ z. z ∷ ys) same
+
+pub none-first : {A : Type 0} (xs : List A) → slice_get xs 0 ≡ None → xs ≡ []
+none-first [] e = refl
+none-first (y ∷ ys) e = absurd (cc e)
+
+-- what some item has it has among more
+pub any-more : {A : Type 0} (P : A → Type 0) (xs : List A) (y : A) → Any P xs → Any P (xs ++ y ∷ [])
+any-more P xs y (k, x, within, is, has) =
+    let longer : k < length (xs ++ y ∷ []) = omega (arith, within, length_push xs y) in
+    (k, x, longer, get_or_append_left xs (y ∷ []) x k within ∙ is, has)
+
+-- what is so of the front of a list with its next item
+pub grown : {A : Type 0} (P : List A → Type 0) (xs : List A) (k : ℕ) (d : A) → k < length xs → P (take k xs ++ get_or xs k d ∷ []) → P (take (k + 1) xs)
+grown P xs k d within h = rw (take_more xs k d within) h

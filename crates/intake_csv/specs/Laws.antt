@@ -1,0 +1,58 @@
+-- Laws of files of claims.
+use Rattle.std.specs.Prelude.{◌≡◌, ◌≢◌, ℕ, List, [], ◌∷◌}
+use Rattle.std.specs.List.{AllPairs}
+use Rattle.dtable.specs.declared.table.InputData.{InputData}
+use Rattle.dtable.specs.Names.{names_of}
+use Rattle.dtable.specs.Plan.{PlanParts}
+use Rattle.dtable.specs.PlanFile.{IsPlanText}
+use Rattle.settlement.specs.declared.claim.Claim.{Claim}
+use Rattle.settlement.specs.Claim.{IsClaimOf}
+use Rattle.intake_csv.specs.Records.{Fields}
+use Rattle.intake_csv.specs.Columns.{IsSheet, claim_columns}
+use Rattle.intake_csv.specs.Rows.{AreRowsLeft, AreRowsOf, GivesRow, HasValues, IsAtStart, RowsLeft, claim_values}
+use Rattle.intake_csv.specs.declared.column.Column.{Column}
+use Rattle.intake_csv.specs.declared.column.Layout.{Layout}
+use Rattle.intake_csv.specs.declared.column.Needed.{Needed}
+use Rattle.intake_csv.specs.declared.rows.Row.{Row}
+
+-- a claim that a record of a file of claims holds has the fields of the plan that the file was read under
+abbrev pub ClaimsHaveFields : Type 0
+ClaimsHaveFields = (plan : PlanParts) (fields : List InputData) (text : List ℕ) (layout : Layout) (records : List Fields) (row : Fields) (claim : Claim)
+    → plan.names ≡ names_of fields → IsSheet (claim_columns plan.names) text layout records → HasValues layout row (claim_values claim) → IsClaimOf plan claim
+
+-- no two needed columns have the same name
+abbrev pub HaveDistinctNames : List Needed → Type 0
+HaveDistinctNames needed = AllPairs (λ a b. a.name ≢ b.name) needed
+
+-- no two columns stand at the same place of the header
+abbrev pub StandApart : List Column → Type 0
+StandApart columns = AllPairs (λ a b. a.place ≢ b.place) columns
+
+-- the columns that the fields of a plan need have distinct names, and none is one of a claim's own
+abbrev pub PlansNeedDistinctNames : Type 0
+PlansNeedDistinctNames = (text : List ℕ) (plan : PlanParts) → IsPlanText text plan → HaveDistinctNames (claim_columns plan.names)
+
+-- needed columns of distinct names stand apart in each file that has them
+abbrev pub ColumnsStandApart : Type 0
+ColumnsStandApart = (needed : List Needed) (text : List ℕ) (layout : Layout) (records : List Fields) → HaveDistinctNames needed
+    → IsSheet needed text layout records → StandApart layout.columns
+
+-- the rows of a text are those that a reader at its start has left
+abbrev pub StartHasTheRows : Type 0
+StartHasTheRows = (names : List InputData) (text : List ℕ) (left : RowsLeft) (rows : List Row) → IsAtStart names text left → AreRowsOf names text rows
+    → AreRowsLeft left rows
+
+-- the rows are this one and those that a reader has left behind it
+pub record BeginWith (row : Row) (left : RowsLeft) (rows : List Row) : Type 0 where
+  pub rest : List Row
+  pub rows_are : rows ≡ row ∷ rest
+  pub rest_left : AreRowsLeft left rest
+
+-- the row that a reader gives is the first of those that it had left, where the columns stand apart
+abbrev pub GivenRowIsTheFirst : Type 0
+GivenRowIsTheFirst = (old new : RowsLeft) (row : Row) (rows : List Row) → StandApart old.layout.columns → GivesRow old new row → AreRowsLeft old rows
+    → BeginWith row new rows
+
+-- a reader without records has no rows left
+abbrev pub NoRecordsNoRows : Type 0
+NoRecordsNoRows = (left : RowsLeft) (rows : List Row) → left.records ≡ [] → AreRowsLeft left rows → rows ≡ []

@@ -1,0 +1,11 @@
+pub mod Records
+pub mod FaultNumber
+pub mod Columns
+pub mod Header
+pub mod Sheet
+pub mod Fields
+pub mod Rows
+pub mod Record
+pub mod Values
+pub mod Balances
+pub mod Laws

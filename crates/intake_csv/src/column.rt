@@ -1,0 +1,95 @@
+//! The columns that a file needs, and where its header has them.
+ghost use Rattle.std.specs.Prelude.{◌≡◌, IfOk};
+ghost use Rattle.intake_csv.specs.Columns.{kind_under, needed};
+
+use dtable::Sequence;
+use feel_tests::Kind;
+use std::alloc::{AllocError, Global};
+use std::marker::Model;
+
+/// What the fields under a column hold.
+#[derive(Clone, Copy, Debug, PartialEq, Eq)]
+pub enum Content {
+    /// A text that isn't empty: a claim's number or a member.
+    Identifier,
+    /// Whole cents, not below zero.
+    Money,
+    /// Any value of the kind.
+    Plain(Kind),
+}
+
+impl Content {
+    /// The kind of the values.
+    pub fn kind(self) -> Kind
+        ensures { result ≡ kind_under self }
+    {
+        match self {
+            Content::Identifier => Kind::Text,
+            Content::Money => Kind::Number,
+            Content::Plain(kind) => kind,
+        }
+    }
+}
+
+/// A column that a file needs.
+#[derive(Debug, Drop)]
+pub struct Needed {
+    pub name: Title,
+    pub content: Content,
+}
+
+/// The name of a column, which contracts see as its bytes.
+#[derive(Debug, Drop)]
+pub struct Title {
+    text: String,
+}
+
+impl Model for Title {
+    ghost use Rattle.std.specs.Prelude.{List, ℕ, string_bytes};
+
+    ghost Value = { List ℕ };
+
+    ghost view = { λ t. string_bytes t.text };
+}
+
+impl Title {
+    /// The name of these bytes.
+    pub fn new(alloc: Global, text: &str) -> Result<Title, AllocError>
+        ensures { IfOk result (λ title. title ≡ text.now) }
+    {
+        Ok(Title {
+            text: String::from_str(alloc, text)?,
+        })
+    }
+
+    /// Its bytes.
+    pub fn as_bytes(&self) -> &[u8]
+        ensures { result.now ≡ self.now }
+    {
+        self.text.as_bytes()
+    }
+}
+
+/// The column of this name.
+pub fn needed_column(alloc: Global, name: &str, content: Content) -> Result<Needed, AllocError>
+    ensures { IfOk result (λ made. made ≡ needed name.now content) }
+{
+    Ok(Needed {
+        name: Title::new(alloc, name)?,
+        content,
+    })
+}
+
+/// A needed column, where the header has it: its place counts from 0.
+#[derive(Clone, Copy, Debug, PartialEq, Eq)]
+pub struct Column {
+    pub place: usize,
+    pub content: Content,
+}
+
+/// How many fields the header has, and where among them the needed columns are.
+#[derive(Debug, Drop)]
+pub struct Layout {
+    pub width: usize,
+    pub columns: Sequence<Column>,
+}

@@ -1,0 +1,81 @@
+//! The field of a record under a needed column.
+ghost use Rattle.std.specs.Prelude.{◌≤◌, ◌≢◌, length, [], IfOk};
+ghost use Rattle.feel_tests.specs.TextBytes.{IsText};
+ghost use Rattle.feel_tests.specs.declared.kind.Kind.TheVariants as kinds;
+ghost use Rattle.feel_tests.specs.declared.text.TheConstants.{TEXT_LIMIT_BYTES};
+ghost use Rattle.intake_csv.specs.Fields.{IsFieldRead};
+ghost use Rattle.intake_csv.specs.declared.column.Content.TheVariants as contents;
+
+use crate::column::Content;
+use crate::fault::RowCause;
+use feel_tests::{Kind, PlainFault, TEXT_LIMIT_BYTES, Value, read_plain};
+use fixpoint::{Fixed, text_denotes_at_most_one};
+use std::alloc::{AllocError, Global};
+use std::str;
+
+/// Reads a field: its value, or the first of its faults.
+pub fn read_field(
+    alloc: Global,
+    content: Content,
+    bytes: &[u8],
+) -> Result<Result<Value, RowCause>, AllocError>
+    ensures { IfOk result (IsFieldRead content bytes.now) }
+{
+    let Ok(text) = str::from_utf8(bytes) else {
+        return Ok(Err(RowCause::Utf8));
+    };
+    if text.len() > TEXT_LIMIT_BYTES {
+        return Ok(Err(RowCause::TooLong));
+    }
+    match content {
+        Content::Identifier => read_identifier(alloc, text),
+        Content::Money => Ok(read_money(text)),
+        Content::Plain(kind) => read_of_kind(alloc, kind, text),
+    }
+}
+
+fn read_identifier(alloc: Global, text: &str) -> Result<Result<Value, RowCause>, AllocError>
+    requires { IsText text.now }
+    ensures { IfOk result (IsFieldRead contents.Identifier text.now) }
+{
+    if text.is_empty() {
+        return Ok(Err(RowCause::EmptyId));
+    }
+    match read_plain(alloc, Kind::Text, text) {
+        Ok(value) => Ok(Ok(value)),
+        Err(PlainFault::Bad) => Ok(Err(RowCause::Value)),
+        Err(PlainFault::OutOfMemory) => Err(AllocError),
+    }
+}
+
+fn read_money(text: &str) -> Result<Value, RowCause>
+    requires { IsText text.now }
+    ensures { IsFieldRead contents.Money text.now result }
+{
+    text_denotes_at_most_one();
+    let Ok(amount) = Fixed::parse(text.as_bytes()) else {
+        return Err(RowCause::Value);
+    };
+    if !amount.is_cents() {
+        return Err(RowCause::NotCents);
+    }
+    if amount.units() < 0 {
+        return Err(RowCause::Negative);
+    }
+    Ok(Value::Number(amount))
+}
+
+fn read_of_kind(
+    alloc: Global,
+    kind: Kind,
+    text: &str,
+) -> Result<Result<Value, RowCause>, AllocError>
+    requires { IsText text.now }
+    ensures { IfOk result (IsFieldRead (contents.Plain kind) text.now) }
+{
+    match read_plain(alloc, kind, text) {
+        Ok(value) => Ok(Ok(value)),
+        Err(PlainFault::Bad) => Ok(Err(RowCause::Value)),
+        Err(PlainFault::OutOfMemory) => Err(AllocError),
+    }
+}

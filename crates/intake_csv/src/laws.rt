@@ -1,0 +1,35 @@
+//! Laws of files of claims, for proofs that stand on them. Each call does nothing.
+ghost use Rattle.intake_csv.specs.Laws.{ClaimsHaveFields, ColumnsStandApart, GivenRowIsTheFirst, NoRecordsNoRows, PlansNeedDistinctNames, StartHasTheRows};
+
+/// A claim that a record of a file of claims holds has the plan's fields.
+pub fn claims_have_the_plan_s_fields()
+    ensures { ClaimsHaveFields }
+{}
+
+/// The columns that a file of claims needs under a plan have distinct names.
+pub fn plans_need_distinct_names()
+    ensures { PlansNeedDistinctNames }
+{}
+
+/// Needed columns of distinct names stand at distinct places of a header.
+pub fn columns_stand_apart()
+    ensures { ColumnsStandApart }
+{}
+
+/// A reader at the start of a text has all rows of the text left.
+pub fn reader_begins_with_all_rows()
+    ensures { StartHasTheRows }
+{}
+
+/// The row that a reader gives is the first of those that it had left.
+pub fn given_row_is_the_first()
+    ensures { GivenRowIsTheFirst }
+{
+    fixpoint::text_denotes_at_most_one();
+    feel_tests::field_spells_at_most_one_value();
+}
+
+/// A reader that has no records left has no rows left.
+pub fn no_records_give_no_rows()
+    ensures { NoRecordsNoRows }
+{}

@@ -1,0 +1,33 @@
+//! Claims and opening balances from CSV files (RFC 4180, as `csv` reads it).
+//!
+//! `Rows` reads a provider's file: it gives its records one after another, each as a claim or as the first fault
+//! that refuses it. `read_balances` reads the file of opening balances, and `Balances::of` finds a member's.
+//! The records come from `csv`, values from `feel_tests`, claims and accumulators from `settlement`.
+//!
+//! Begin with `specs/Records.antt` and `specs/Columns.antt`, which say what a file is, go on with `specs/Fields.antt`,
+//! `specs/Rows.antt` and `specs/Balances.antt`, which say what its records are; then read `rows.rt` and `balances.rt`.
+#![tactic(auto)]
+
+mod balances;
+mod claim;
+mod column;
+mod fault;
+mod field;
+mod header;
+mod laws;
+mod record;
+mod records;
+mod rows;
+mod sheet;
+#[cfg(test)]
+mod tests;
+mod values;
+
+pub use balances::{Balances, read_balances};
+pub use fault::{BalanceFault, FileFault, RowCause, RowFault};
+pub use laws::{
+    claims_have_the_plan_s_fields, columns_stand_apart, given_row_is_the_first,
+    no_records_give_no_rows, plans_need_distinct_names, reader_begins_with_all_rows,
+};
+pub use rows::{Row, Rows};
+pub use sheet::FILE_LIMIT_BYTES;

@@ -1,0 +1,110 @@
+//! A record behind the header: its values, or its first fault.
+ghost use Rattle.std.specs.Prelude.{◌≡◌, ◌<◌, ◌+◌, ◌++◌, ◌∷◌, [], List, length, IfOk, IfErr, OnOk};
+ghost use Rattle.std.specs.List.{All};
+ghost use Rattle.csv.specs.Records.{fields_of};
+ghost use Rattle.intake_csv.specs.Rows.{AreValues, HasValues, HasFault, HoldsUnder, IsFirstFault, IsFaultyUnder, IsFaultlessUnder};
+ghost use Rattle.intake_csv.specs.Sheet.{IsWithin};
+ghost use Rattle.intake_csv.specs.Record.{IsLeftmost, IsReadSoFar};
+ghost use Rattle.intake_csv.specs.declared.column.Column.{Column as AnyColumn};
+
+use crate::column::{Column, Layout};
+use crate::fault::{RowCause, RowFault};
+use crate::field::read_field;
+use csv::ByteRecord;
+use feel_tests::Value;
+use std::alloc::{AllocError, Global};
+
+/// Reads a record: its values under the needed columns, in their order, or its first fault.
+pub fn read_record(
+    alloc: Global,
+    layout: &Layout,
+    row: &ByteRecord,
+) -> Result<Result<Vec<Value>, RowFault>, AllocError>
+    requires { IsWithin layout.now }
+    ensures values { IfOk result (λ read. IfOk read (λ values. HasValues layout.now (fields_of row.now) values.items)) }
+    ensures fault { IfOk result (λ read. IfErr read (HasFault layout.now (fields_of row.now))) }
+{
+    if row.len() != layout.width {
+        return Ok(Err(RowFault {
+            column: 0,
+            cause: RowCause::FieldCount,
+        }));
+    }
+    read_values(alloc, layout.columns.as_slice(), row)
+}
+
+/// What was read so far: the values, or the fault that stands furthest left.
+#[derive(Drop)]
+struct Reading {
+    values: Vec<Value>,
+    first: Option<RowFault>,
+}
+
+impl Reading {
+    fn read(&mut self, alloc: Global, column: Column, row: &ByteRecord) -> Result<(), AllocError>
+        requires { column.place < length (fields_of row.now) }
+        ensures { OnOk result ((front : List AnyColumn) → IsReadSoFar (fields_of row.now) front self.old → IsReadSoFar (fields_of row.now) (front ++ column ∷ []) self.new) }
+    {
+        match read_under(alloc, column, row)? {
+            Ok(value) => self.values.push(value)?,
+            Err(fault) => self.first = Some(leftmost(self.first, fault)),
+        }
+        Ok(())
+    }
+}
+
+// Reads the fields under the columns, all of them, since the columns are not in the header's order.
+fn read_values(
+    alloc: Global,
+    columns: &[Column],
+    row: &ByteRecord,
+) -> Result<Result<Vec<Value>, RowFault>, AllocError>
+    requires { All (λ c. c.place < length (fields_of row.now)) columns.now }
+    ensures values { IfOk result (λ read. IfOk read (λ values. AreValues (fields_of row.now) columns.now values.items)) }
+    ensures fault { IfOk result (λ read. IfErr read (IsFirstFault (fields_of row.now) columns.now)) }
+{
+    let mut reading = Reading {
+        values: Vec::with_capacity(alloc, columns.len())?,
+        first: None,
+    };
+    for column in columns {
+        reading.read(alloc, *column, row)?;
+    }
+    match reading.first {
+        None => Ok(Ok(reading.values)),
+        Some(fault) => Ok(Err(fault)),
+    }
+}
+
+fn read_under(
+    alloc: Global,
+    column: Column,
+    row: &ByteRecord,
+) -> Result<Result<Value, RowFault>, AllocError>
+    requires { column.place < length (fields_of row.now) }
+    ensures value { IfOk result (λ read. IfOk read (HoldsUnder (fields_of row.now) column)) }
+    ensures faultless { IfOk result (λ read. IfOk read (λ _. IsFaultlessUnder (fields_of row.now) column)) }
+    ensures faulty { IfOk result (λ read. IfErr read (λ fault. IsFaultyUnder (fields_of row.now) fault.cause column)) }
+    ensures column { IfOk result (λ read. IfErr read (λ fault. fault.column ≡ column.place + 1)) }
+{
+    let Some(field) = row.get(column.place) else {
+        unreachable!();
+    };
+    match read_field(alloc, column.content, field)? {
+        Ok(value) => Ok(Ok(value)),
+        Err(cause) => Ok(Err(RowFault {
+            column: column.place + 1,
+            cause,
+        })),
+    }
+}
+
+// The fault further left in the header.
+fn leftmost(first: Option<RowFault>, fault: RowFault) -> RowFault
+    ensures { IsLeftmost first fault result }
+{
+    match first {
+        Some(other) if other.column <= fault.column => other,
+        _ => fault,
+    }
+}

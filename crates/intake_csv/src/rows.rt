@@ -1,0 +1,114 @@
+//! The rows of a provider's file of claims.
+ghost use Rattle.std.specs.Prelude.{◌≡◌, true, List, IfOk, IfErr, OnErr, is_err};
+ghost use Rattle.csv.specs.Records.{fields_of};
+ghost use Rattle.dtable.specs.declared.table.InputData.{InputData};
+ghost use Rattle.intake_csv.specs.Columns.{HasFileFault, claim_columns};
+ghost use Rattle.intake_csv.specs.Rows.{AreRowsLeft, AreRowsOf, Gives, IsAtStart, IsHead, RowsLeft};
+ghost use Rattle.intake_csv.specs.declared.rows.Row.{Row as AnyRow};
+
+use crate::claim::{claim_columns, read_claim};
+use crate::column::Layout;
+use crate::fault::{FileFault, RowFault};
+use crate::sheet::read_sheet;
+use csv::ByteRecord;
+use dtable::Plan;
+use settlement::Claim;
+use std::alloc::{AllocError, Global};
+use std::marker::Model;
+
+/// A record of a file of claims.
+#[derive(Debug, Drop)]
+pub enum Row {
+    /// A claim: its number counts the records behind the header, from 1, and its place the claims, from 0.
+    Good {
+        number: usize,
+        place: usize,
+        claim: Claim,
+    },
+    /// A record that is refused, with its number and its first fault.
+    Bad {
+        number: usize,
+        fault: RowFault,
+    },
+}
+
+/// The rows of a file of claims, one after another.
+#[derive(Debug, Drop)]
+pub struct Rows {
+    alloc: Global,
+    layout: Layout,
+    records: Vec<ByteRecord>,
+    next: usize,
+    claims: usize,
+    failed: bool,
+}
+
+impl Model for Rows {
+    ghost use Rattle.std.specs.Prelude.{◌<◌, ◌≤◌, map, drop, length};
+    ghost use Rattle.csv.specs.Records.{fields_of};
+    ghost use Rattle.intake_csv.specs.Rows.{RowsLeft};
+    ghost use Rattle.intake_csv.specs.Sheet.{IsWithin};
+    ghost use Rattle.intake_csv.specs.Record.{IsClaimLayout};
+
+    ghost Value = { RowsLeft };
+
+    ghost view = { λ r. record { layout = r.layout; number = r.next; place = r.claims; records = map fields_of (drop r.next r.records.items); failed = r.failed } };
+
+    ghost invariant = { λ r. IsWithin r.layout × IsClaimLayout r.layout × (r.claims < r.next) × (r.next ≤ length r.records.items) };
+}
+
+impl Rows {
+    /// Reads a file of claims under a plan.
+    pub fn new(alloc: Global, plan: &Plan, text: &[u8]) -> Result<Rows, FileFault>
+        ensures ok { IfOk result (IsAtStart plan.now.names text.now) }
+        ensures rows { IfOk result (λ rows. (all : List AnyRow) → AreRowsLeft rows all → AreRowsOf plan.now.names text.now all) }
+        ensures fault { IfErr result (HasFileFault (claim_columns plan.now.names) text.now) }
+    {
+        let needed = claim_columns(alloc, plan)?;
+        let sheet = read_sheet(alloc, needed.as_slice(), text)?;
+        Ok(Rows {
+            alloc,
+            layout: sheet.layout,
+            records: sheet.records,
+            next: 1,
+            claims: 0,
+            failed: false,
+        })
+    }
+
+    /// The next row, or none behind the last. After want of memory each later call answers it again.
+    pub fn next(&mut self) -> Result<Option<Row>, AllocError>
+        ensures gives { IfOk result (Gives self.old self.new) }
+        ensures head { IfOk result (IsHead self.old self.new) }
+        ensures refused { OnErr result (self.new ≡ record self.old { failed = true }) }
+        ensures failed { (self.old.failed ≡ true) → is_err result ≡ true }
+    {
+        if self.failed {
+            return Err(AllocError);
+        }
+        let number = self.next;
+        if number >= self.records.len() {
+            return Ok(None);
+        }
+        match read_claim(self.alloc, &self.layout, &self.records[number]) {
+            Ok(Ok(claim)) => {
+                let place = self.claims;
+                self.next += 1;
+                self.claims += 1;
+                Ok(Some(Row::Good {
+                    number,
+                    place,
+                    claim,
+                }))
+            }
+            Ok(Err(fault)) => {
+                self.next += 1;
+                Ok(Some(Row::Bad { number, fault }))
+            }
+            Err(AllocError) => {
+                self.failed = true;
+                Err(AllocError)
+            }
+        }
+    }
+}

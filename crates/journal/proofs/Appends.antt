@@ -1,0 +1,90 @@
+-- What the parts of a journal are after one more event, or many.
+use Rattle.std.proofs.Common.{◌≡◌, ℕ, ◌<◌, ◌≤◌, ◌+◌, ◌==◌, Bool, true, false, List, [], ◌∷◌, ◌++◌, map, take, drop, length, get_or, Some, None, fold, option_map, refl, sym, ap, ◌∙◌, subst, inl, inr, arith, length-append, append-nil, take-append-drop, eqb-true}
+use Rattle.std.proofs.lemmas.Bool.{cond-true, cond-false, cases_lt}
+use Rattle.std.proofs.lemmas.List.{flat_map_more, map-append, length-map, get_or_append_left, take-append-le, get_or_past}
+use Rattle.std.proofs.lemmas.Option.{none-some}
+use Rattle.settlement.specs.declared.outcome.Outcome.{Outcome}
+use Rattle.journal.specs.Terms.{Terms, opening}
+use Rattle.journal.specs.Settled.{outcome_of}
+use Rattle.journal.specs.Events.{accept_in, accepts, accepted, place_in, places, claim_filed, claims, claim_at, member_at, left_by, before, IsSettled}
+use Rattle.journal.specs.declared.event.Event.{Event}
+use Rattle.journal.specs.declared.event.Event.TheVariants.{Accept, End, Close, Take, Decide}
+use Rattle.journal.proofs.Grown.{flat_map-append}
+
+pub accepted-append : (J K : List Event) → accepted (J ++ K) ≡ accepted J + accepted K
+accepted-append J K = ap length (flat_map-append accept_in J K) ∙ length-append (accepts J) (accepts K)
+
+-- a front accepts no more than the whole
+pub accepted-take : (i : ℕ) (J : List Event) → accepted (take i J) ≤ accepted J
+accepted-take i J =
+    let split : accepted (take i J ++ drop i J) ≡ accepted (take i J) + accepted (drop i J) = accepted-append (take i J) (drop i J) in
+    let whole : accepted (take i J ++ drop i J) ≡ accepted J = ap accepted (take-append-drop i J) in
+    omega arith
+
+pub places-more : (J : List Event) (event : Event) (provider : ℕ) → places (J ++ event ∷ []) provider ≡ places J provider ++ place_in provider event
+places-more J event provider = sym (flat_map_more (place_in provider) [] J event)
+
+-- one more event is the next accept of a provider, or leaves its places as they are
+pub data Placed (J : List Event) (event : Event) (provider : ℕ) : Type 0 where
+  same : places (J ++ event ∷ []) provider ≡ places J provider → Placed J event provider
+  next : (place : ℕ) → event ≡ Accept provider place → places (J ++ event ∷ []) provider ≡ places J provider ++ place ∷ [] → Placed J event provider
+
+unplaced : (J : List Event) (event : Event) (provider : ℕ) → place_in provider event ≡ [] → Placed J event provider
+unplaced J event provider none =
+    same (places-more J event provider ∙ ap (λ w. places J provider ++ w) none ∙ append-nil (places J provider))
+
+accept_placed : (J : List Event) (p place provider : ℕ) (b : Bool) → (p == provider) ≡ b → Placed J (Accept p place) provider
+accept_placed J p place provider true is =
+    next place (ap (λ w. Accept w place) (eqb-true p provider is))
+    (places-more J (Accept p place) provider ∙ ap (λ w. places J provider ++ w) (cond-true (p == provider) (place ∷ []) [] is))
+accept_placed J p place provider false is = unplaced J (Accept p place) provider (cond-false (p == provider) (place ∷ []) [] is)
+
+pub placed : (J : List Event) (event : Event) (provider : ℕ) → Placed J event provider
+placed J (Accept p place) provider = accept_placed J p place provider (p == provider) refl
+placed J (End p) provider = unplaced J (End p) provider refl
+placed J Close provider = unplaced J Close provider refl
+placed J (Take k) provider = unplaced J (Take k) provider refl
+placed J (Decide k o) provider = unplaced J (Decide k o) provider refl
+
+pub claims-append : (T : Terms) (J K : List Event) → claims T (J ++ K) ≡ claims T J ++ claims T K
+claims-append T J K = ap (map (claim_filed T)) (flat_map-append accept_in J K) ∙ map-append (claim_filed T) (accepts J) (accepts K)
+
+pub length-claims : (T : Terms) (J : List Event) → length (claims T J) ≡ accepted J
+length-claims T J = length-map (accepts J) (claim_filed T)
+
+-- a claim keeps its position
+pub claim_at-append : (T : Terms) (J K : List Event) (k : ℕ) → k < accepted J → claim_at T (J ++ K) k ≡ claim_at T J k
+claim_at-append T J K k below =
+    ap (λ w. get_or w k None) (claims-append T J K)
+    ∙ get_or_append_left (claims T J) (claims T K) None k (subst (λ w. k < w) (sym (length-claims T J)) below)
+
+pub member_at-append : (T : Terms) (J K : List Event) (k : ℕ) → k < accepted J → member_at T (J ++ K) k ≡ member_at T J k
+member_at-append T J K k below = ap (option_map (λ c. c.member)) (claim_at-append T J K k below)
+
+-- a position with a claim is an accepted one
+pub claim_at_within : (T : Terms) (J : List Event) (k : ℕ) (c : _) → claim_at T J k ≡ Some c → k < accepted J
+claim_at_within T J k c h =
+    elim (cases_lt k (accepted J)) [
+      | inl below ↦ below
+      | inr past ↦
+          let none : claim_at T J k ≡ None = get_or_past (claims T J) k None (subst (λ w. w ≤ k) (sym (length-claims T J)) past) in
+          absurd (none-some c (sym none ∙ h))
+    ]
+
+pub before-append : (T : Terms) (J K : List Event) (k : ℕ) (member : List ℕ) → k ≤ accepted J → before T (J ++ K) k member ≡ before T J k member
+before-append T J K k member within =
+    let cut : take k (claims T J ++ claims T K) ≡ take k (claims T J) =
+    take-append-le k (claims T J) (claims T K) (subst (λ w. k ≤ w) (sym (length-claims T J)) within) in
+    ap (λ w. fold (left_by T.plan member) (opening T.balances member) (take k w)) (claims-append T J K)
+    ∙ ap (fold (left_by T.plan member) (opening T.balances member)) cut
+
+-- a settlement stays one
+pub IsSettled-append : (T : Terms) (J K : List Event) (k : ℕ) (decision : Outcome) → IsSettled T J k decision → IsSettled T (J ++ K) k decision
+IsSettled-append T J K k decision s =
+    let below : k < accepted J = claim_at_within T J k s.claim s.stands in
+    let within : k ≤ accepted J = omega arith in
+    record {
+      claim = s.claim;
+      stands = claim_at-append T J K k below ∙ s.stands;
+      value = s.value ∙ ap (outcome_of T.plan s.claim) (sym (before-append T J K k s.claim.member within));
+    }

@@ -1,0 +1,37 @@
+-- Lists by their fronts and rests.
+use Rattle.std.proofs.Common.{◌≡◌, ℕ, zero, suc, ◌+◌, List, [], ◌∷◌, ◌++◌, drop, length, get_or, slice_get, Some, refl, sym, ap, ◌∙◌, subst, arith, zero-add}
+use Rattle.std.proofs.lemmas.Option.{none-some}
+
+-- what a rest has at an index, the whole has behind the front
+pub slice_get-drop : {A : Type 0} (i : ℕ) (xs : List A) (j : ℕ) (x : A) → slice_get (drop i xs) j ≡ Some x → slice_get xs (i + j) ≡ Some x
+slice_get-drop zero xs j x h = subst (λ w. slice_get xs w ≡ Some x) (sym (zero-add j)) h
+slice_get-drop (suc i) [] j x h = absurd (none-some x h)
+slice_get-drop (suc i) (z ∷ xs) j x h =
+    let sum : suc (i + j) ≡ suc i + j = omega arith in
+    subst (λ w. slice_get (z ∷ xs) w ≡ Some x) sum (slice_get-drop i xs j x h)
+
+-- what stands behind a front
+pub slice_get_at : {A : Type 0} (xs : List A) (x : A) (ys : List A) → slice_get (xs ++ x ∷ ys) (length xs) ≡ Some x
+slice_get_at [] x ys = refl
+slice_get_at (z ∷ xs) x ys = slice_get_at xs x ys
+
+pub same_head : {A : Type 0} (x y : A) (xs ys : List A) → x ∷ xs ≡ y ∷ ys → x ≡ y
+same_head x y xs ys h = ap (λ l. get_or l 0 x) h
+
+pub same_tail : {A : Type 0} (x y : A) (xs ys : List A) → x ∷ xs ≡ y ∷ ys → xs ≡ ys
+same_tail x y xs ys h = ap (drop 1) h
+
+-- of two fronts of a list one is a front of the other
+pub data Compared {A : Type 0} (xs ys : List A) : Type 0 where
+  shorter : (rest : List A) → ys ≡ xs ++ rest → Compared xs ys
+  longer : (rest : List A) → xs ≡ ys ++ rest → Compared xs ys
+
+pub compared : {A : Type 0} (xs r ys s : List A) → xs ++ r ≡ ys ++ s → Compared xs ys
+compared [] r ys s h = shorter ys refl
+compared (x ∷ xs) r [] s h = longer (x ∷ xs) refl
+compared (x ∷ xs) r (y ∷ ys) s h =
+    let first : x ≡ y = same_head x y (xs ++ r) (ys ++ s) h in
+    elim (compared xs r ys s (same_tail x y (xs ++ r) (ys ++ s) h)) [
+      | shorter rest is ↦ shorter rest (ap (λ w. y ∷ w) is ∙ ap (λ w. w ∷ (xs ++ rest)) (sym first))
+      | longer rest is ↦ longer rest (ap (λ w. x ∷ w) is ∙ ap (λ w. w ∷ (ys ++ rest)) first)
+    ]

@@ -1,0 +1,12 @@
+pub mod Grown
+pub mod Appends
+pub mod SoundMore
+pub mod LawfulMore
+pub mod Fronts
+pub mod Counts
+pub mod Marks
+pub mod Finish
+pub mod Leading
+pub mod GateMoves
+pub mod Worked
+pub mod Turns

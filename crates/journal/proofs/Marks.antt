@@ -1,0 +1,73 @@
+-- Where the events stand that a journal's tests find.
+use Rattle.std.proofs.Common.{◌≡◌, ℕ, true, false, List, refl, ap, subst, eqb-true}
+use Rattle.std.proofs.lemmas.Bool.{both_ways}
+use Rattle.settlement.specs.declared.outcome.Outcome.{Outcome}
+use Rattle.journal.specs.Events.{At, is_end, ended, is_close, closed, is_take, taken, is_decide, decided}
+use Rattle.journal.specs.declared.event.Event.{Event}
+use Rattle.journal.specs.declared.event.Event.TheVariants.{Accept, End, Close, Take, Decide}
+use Rattle.journal.proofs.Grown.{found}
+
+close_is : (event : Event) → is_close event ≡ true → event ≡ Close
+close_is Close h = refl
+close_is (Accept p place) h = absurd (both_ways false refl h)
+close_is (End p) h = absurd (both_ways false refl h)
+close_is (Take k) h = absurd (both_ways false refl h)
+close_is (Decide k o) h = absurd (both_ways false refl h)
+
+end_is : (p : ℕ) (event : Event) → is_end p event ≡ true → event ≡ End p
+end_is p (End q) h = ap (λ w. End w) (eqb-true q p h)
+end_is p Close h = absurd (both_ways false refl h)
+end_is p (Accept q place) h = absurd (both_ways false refl h)
+end_is p (Take k) h = absurd (both_ways false refl h)
+end_is p (Decide k o) h = absurd (both_ways false refl h)
+
+take_is : (k : ℕ) (event : Event) → is_take k event ≡ true → event ≡ Take k
+take_is k (Take j) h = ap (λ w. Take w) (eqb-true j k h)
+take_is k Close h = absurd (both_ways false refl h)
+take_is k (Accept q place) h = absurd (both_ways false refl h)
+take_is k (End p) h = absurd (both_ways false refl h)
+take_is k (Decide j o) h = absurd (both_ways false refl h)
+
+-- a decision of the position, with some outcome
+record IsDecision (k : ℕ) (event : Event) : Type 0 where
+  pub decision : Outcome
+  pub is : event ≡ Decide k decision
+
+decide_is : (k : ℕ) (event : Event) → is_decide k event ≡ true → IsDecision k event
+decide_is k (Decide j o) h = record { decision = o; is = ap (λ w. Decide w o) (eqb-true j k h) }
+decide_is k Close h = absurd (both_ways false refl h)
+decide_is k (Accept q place) h = absurd (both_ways false refl h)
+decide_is k (End p) h = absurd (both_ways false refl h)
+decide_is k (Take j) h = absurd (both_ways false refl h)
+
+-- the event stands somewhere
+pub record Stands (J : List Event) (event : Event) : Type 0 where
+  pub index : ℕ
+  pub at : At J index event
+
+pub close_stands : (J : List Event) → closed J ≡ true → Stands J Close
+close_stands J h =
+    let f = found is_close J h in
+    record { index = f.index; at = subst (λ w. At J f.index w) (close_is f.element f.passes) f.stands }
+
+pub end_stands : (J : List Event) (p : ℕ) → ended J p ≡ true → Stands J (End p)
+end_stands J p h =
+    let f = found (is_end p) J h in
+    record { index = f.index; at = subst (λ w. At J f.index w) (end_is p f.element f.passes) f.stands }
+
+pub take_stands : (J : List Event) (k : ℕ) → taken J k ≡ true → Stands J (Take k)
+take_stands J k h =
+    let f = found (is_take k) J h in
+    record { index = f.index; at = subst (λ w. At J f.index w) (take_is k f.element f.passes) f.stands }
+
+-- the decision of the position stands somewhere
+pub record DecisionStands (J : List Event) (k : ℕ) : Type 0 where
+  pub index : ℕ
+  pub decision : Outcome
+  pub at : At J index (Decide k decision)
+
+pub decision_stands : (J : List Event) (k : ℕ) → decided J k ≡ true → DecisionStands J k
+decision_stands J k h =
+    let f = found (is_decide k) J h in
+    let d = decide_is k f.element f.passes in
+    record { index = f.index; decision = d.decision; at = subst (λ w. At J f.index w) d.is f.stands }

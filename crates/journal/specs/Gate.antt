@@ -1,0 +1,149 @@
+-- The gate of one thread, and when one of its states leads to another.
+use Rattle.std.specs.Prelude.{◌≡◌, ◌≢◌, ◌<◌, ◌≤◌, ℕ, Bool, true, false, List, [], ◌∷◌, ◌++◌, length, count_by}
+use Rattle.settlement.specs.declared.acc.Acc.{Acc}
+use Rattle.settlement.specs.declared.claim.Claim.{Claim}
+use Rattle.settlement.specs.declared.outcome.Outcome.{Outcome}
+use Rattle.journal.specs.Terms.{Terms}
+use Rattle.journal.specs.Settled.{outcome_of}
+use Rattle.journal.specs.Events.{accepted, places, ended, closed, taken, decided, IsJob}
+use Rattle.journal.specs.Lawful.{Finished, IsReady, closing}
+use Rattle.journal.specs.declared.event.Event.{Event}
+use Rattle.journal.specs.declared.event.Event.TheVariants.{Accept, End, Take, Decide}
+
+-- what a gate is at: its terms, its journal, and whether it is stopped
+pub record GateAt : Type 0 where
+  pub terms : Terms
+  pub journal : List Event
+  pub stopped : Bool
+
+-- the later journal begins with the earlier one
+pub record Continues (earlier later : List Event) : Type 0 where
+  pub rest : List Event
+  pub whole : later ≡ earlier ++ rest
+
+-- nothing happens after a stop
+pub record StaysStopped (old new : GateAt) : Type 0 where
+  pub stays : new.stopped ≡ true
+  pub journal : new.journal ≡ old.journal
+
+-- the old state leads to the new one: the same terms, a journal that goes on, and nothing after a stop
+pub record Leads (old new : GateAt) : Type 0 where
+  pub terms : old.terms ≡ new.terms
+  pub journal : Continues old.journal new.journal
+  pub stop : old.stopped ≡ true → StaysStopped old new
+
+-- what the calls of a gate are answered
+pub data OfferReply : Type 0 where
+  Accepted : ℕ → OfferReply
+  Stopped : OfferReply
+  Closed : OfferReply
+  OutOfTurn : ℕ → OfferReply
+  NoMemory : OfferReply
+
+pub data EndReply : Type 0 where
+  Ended : EndReply
+  Stopped : EndReply
+  Closed : EndReply
+  OutOfTurn : ℕ → EndReply
+  AlreadyEnded : EndReply
+  NoMemory : EndReply
+
+pub data TakeReply : Type 0 where
+  Stopped : TakeReply
+  Over : TakeReply
+  NothingReady : TakeReply
+  Work : ℕ → Claim → Acc → TakeReply
+  NoMemory : TakeReply
+
+pub data FinishReply : Type 0 where
+  Recorded : FinishReply
+  Stopped : FinishReply
+  AlreadyDecided : FinishReply
+  NoMemory : FinishReply
+
+-- the gate is not stopped
+abbrev pub IsRunning : GateAt → Type 0
+IsRunning old = old.stopped ≡ false
+
+-- it is not stopped, and its journal is not closed
+abbrev pub IsOpen : GateAt → Type 0
+IsOpen old = IsRunning old × (closed old.journal ≡ false)
+
+-- the event is put behind the journal
+abbrev pub Adds : GateAt → Event → GateAt → Type 0
+Adds old event new = new ≡ record old { journal = old.journal ++ event ∷ [] }
+
+-- the event is put behind the journal, and the close behind it where it is due then
+abbrev pub AddsAndCloses : GateAt → Event → GateAt → Type 0
+AddsAndCloses old event new = new ≡ record old { journal = closing old.terms (old.journal ++ event ∷ []) }
+
+-- `offer` of a provider's claim at a place: it is accepted where it is the provider's next
+abbrev pub Offers : GateAt → ℕ → ℕ → OfferReply → GateAt → Type 0
+Offers old provider place Stopped new = (old.stopped ≡ true) × (new ≡ old)
+Offers old provider place Closed new = IsRunning old × (closed old.journal ≡ true) × (new ≡ old)
+Offers old provider place (OutOfTurn expected) new =
+    IsOpen old × (expected ≡ length (places old.journal provider)) × (place ≢ expected) × (new ≡ old)
+Offers old provider place (Accepted position) new =
+    IsOpen old × (place ≡ length (places old.journal provider)) × (position ≡ accepted old.journal) × AddsAndCloses old (Accept provider place) new
+Offers old provider place NoMemory new = new ≡ old
+
+-- `end` of a provider with so many claims: it ends where all of them are accepted
+abbrev pub Ends : GateAt → ℕ → ℕ → EndReply → GateAt → Type 0
+Ends old provider count Stopped new = (old.stopped ≡ true) × (new ≡ old)
+Ends old provider count Closed new = IsRunning old × (closed old.journal ≡ true) × (new ≡ old)
+Ends old provider count (OutOfTurn expected) new =
+    IsOpen old × (expected ≡ length (places old.journal provider)) × (expected < count) × (new ≡ old)
+Ends old provider count AlreadyEnded new =
+    IsOpen old × (count ≤ length (places old.journal provider)) × (ended old.journal provider ≡ true) × (new ≡ old)
+Ends old provider count Ended new =
+    IsOpen old × (count ≤ length (places old.journal provider)) × (ended old.journal provider ≡ false) × AddsAndCloses old (End provider) new
+Ends old provider count NoMemory new = new ≡ old
+
+-- the job at a ready position
+pub record IsWork (old : GateAt) (position : ℕ) (claim : Claim) (acc : Acc) : Type 0 where
+  pub ready : IsReady old.terms old.journal position
+  pub job : IsJob old.terms old.journal position claim acc
+
+-- `take`: any position that is ready
+abbrev pub Takes : GateAt → TakeReply → GateAt → Type 0
+Takes old Stopped new = (old.stopped ≡ true) × (new ≡ old)
+Takes old Over new = IsRunning old × Finished old.terms old.journal × (new ≡ old)
+Takes old NothingReady new =
+    IsRunning old × (¬ Finished old.terms old.journal) × ((position : ℕ) → ¬ IsReady old.terms old.journal position) × (new ≡ old)
+Takes old (Work position claim acc) new =
+    IsRunning old × (¬ Finished old.terms old.journal) × IsWork old position claim acc × Adds old (Take position) new
+Takes old NoMemory new = new ≡ old
+
+-- `finish` of the job at a position with its outcome
+abbrev pub Finishes : GateAt → ℕ → Outcome → FinishReply → GateAt → Type 0
+Finishes old position decision Stopped new = (old.stopped ≡ true) × (new ≡ old)
+Finishes old position decision AlreadyDecided new = IsRunning old × (decided old.journal position ≡ true) × (new ≡ old)
+Finishes old position decision Recorded new =
+    IsRunning old × (decided old.journal position ≡ false) × Adds old (Decide position decision) new
+Finishes old position decision NoMemory new = new ≡ old
+
+-- what the caller of `finish` knows: the position is taken, the job is the one that is taken, and the outcome is its settlement
+pub record MayFinish (old : GateAt) (position : ℕ) (claim : Claim) (acc : Acc) (decision : Outcome) : Type 0 where
+  pub in_work : taken old.journal position ≡ true
+  pub job : IsJob old.terms old.journal position claim acc
+  pub settled : decision ≡ outcome_of old.terms.plan claim acc
+
+-- `stop`
+abbrev pub Stops : GateAt → GateAt → Type 0
+Stops old new = new ≡ record old { stopped = true }
+
+abbrev pub is_any_end : Event → Bool
+is_any_end (End provider) = true
+is_any_end _ = false
+
+abbrev pub is_any_decision : Event → Bool
+is_any_decision (Decide position decision) = true
+is_any_decision _ = false
+
+-- `counts`
+pub record Counts (g : GateAt) (accepts ends decisions : ℕ) (is_closed is_stopped : Bool) : Type 0 where
+  pub accepts_is : accepts ≡ accepted g.journal
+  pub ends_is : ends ≡ count_by is_any_end g.journal
+  pub decisions_is : decisions ≡ count_by is_any_decision g.journal
+  pub closed_is : is_closed ≡ closed g.journal
+  pub stopped_is : is_stopped ≡ g.stopped

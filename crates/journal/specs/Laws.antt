@@ -1,0 +1,66 @@
+-- The laws of journals and of the states of a gate.
+use Rattle.std.specs.Prelude.{◌≡◌, ◌<◌, ◌⊎◌, ℕ, List, [], ◌∷◌, ◌++◌, length}
+use Rattle.settlement.specs.declared.acc.Acc.{Acc}
+use Rattle.settlement.specs.declared.claim.Claim.{Claim}
+use Rattle.settlement.specs.declared.outcome.Outcome.{Outcome}
+use Rattle.journal.specs.Terms.{Terms, IsProvider, claims_of, all_claims, at_most}
+use Rattle.journal.specs.Events.{accepted, IsJob}
+use Rattle.journal.specs.Lawful.{Lawful, Finished, Fits, closing}
+use Rattle.journal.specs.Gate.{GateAt, Leads, OfferReply, EndReply, TakeReply, FinishReply, Offers, Ends, Takes, MayFinish, Finishes, Stops}
+use Rattle.journal.specs.declared.event.Event.{Event}
+
+-- the journal of no event is lawful, with the close where that is due at once
+abbrev pub StartsLawful : Type 0
+StartsLawful = (T : Terms) → Lawful T (closing T [])
+
+-- an event that fits keeps a journal lawful, with the close behind it where that is due then
+abbrev pub StaysLawful : Type 0
+StaysLawful = (T : Terms) (J : List Event) (event : Event) → Lawful T J → Fits T J event → Lawful T (closing T (J ++ event ∷ []))
+
+-- a finished journal has accepted the lesser of the cutoff and all claims
+abbrev pub FinishedTakesAll : Type 0
+FinishedTakesAll = (T : Terms) (J : List Event) → Finished T J → accepted J ≡ at_most T.cutoff (all_claims T)
+
+-- a lawful journal that extends a finished one is that one
+abbrev pub FinishedIsFinal : Type 0
+FinishedIsFinal = (T : Terms) (J rest : List Event) → Finished T J → Lawful T (J ++ rest) → rest ≡ []
+
+-- each state leads to itself, and on
+abbrev pub LeadsToItself : Type 0
+LeadsToItself = (g : GateAt) → Leads g g
+
+abbrev pub LeadsOn : Type 0
+LeadsOn = (a b c : GateAt) → Leads a b → Leads b c → Leads a c
+
+-- of two states that lead to a third one, one leads to the other
+abbrev pub LeadsEither : Type 0
+LeadsEither = (a b c : GateAt) → Leads a c → Leads b c → Leads a b ⊎ Leads b a
+
+-- the new state is lawful, and the old one leads to it
+pub record Goes (old new : GateAt) : Type 0 where
+  pub lawful : Lawful new.terms new.journal
+  pub leads : Leads old new
+
+-- from a lawful state each call of the gate of one thread goes to a lawful one, where its condition is met
+abbrev pub OfferGoes : Type 0
+OfferGoes = (old new : GateAt) (provider place : ℕ) (reply : OfferReply)
+    → Lawful old.terms old.journal → place < length (claims_of old.terms provider) → Offers old provider place reply new → Goes old new
+
+abbrev pub EndGoes : Type 0
+EndGoes = (old new : GateAt) (provider : ℕ) (reply : EndReply)
+    → Lawful old.terms old.journal → IsProvider old.terms provider → Ends old provider (length (claims_of old.terms provider)) reply new → Goes old new
+
+abbrev pub TakeGoes : Type 0
+TakeGoes = (old new : GateAt) (reply : TakeReply) → Lawful old.terms old.journal → Takes old reply new → Goes old new
+
+abbrev pub FinishGoes : Type 0
+FinishGoes = (old new : GateAt) (position : ℕ) (claim : Claim) (acc : Acc) (decision : Outcome) (reply : FinishReply)
+    → Lawful old.terms old.journal → MayFinish old position claim acc decision → Finishes old position decision reply new → Goes old new
+
+abbrev pub StopGoes : Type 0
+StopGoes = (old new : GateAt) → Lawful old.terms old.journal → Stops old new → Goes old new
+
+-- where a state leads to another one, a job of the first, once taken, is one of the second
+abbrev pub JobsStay : Type 0
+JobsStay = (old new : GateAt) (position : ℕ) (claim : Claim) (acc : Acc)
+    → Leads old new → IsJob old.terms old.journal position claim acc → IsJob new.terms new.journal position claim acc

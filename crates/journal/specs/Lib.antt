@@ -1,0 +1,8 @@
+pub mod Terms
+pub mod Settled
+pub mod Events
+pub mod Lawful
+pub mod Gate
+pub mod Laws
+pub mod Worked
+pub mod Turns

@@ -1,0 +1,15 @@
+-- The settlement, as journals see it: what it is inside is nothing to them. `unfolding` opens both.
+use Rattle.dtable.specs.Plan.{PlanParts}
+use Rattle.settlement.specs.Accumulators.{after}
+use Rattle.settlement.specs.Settlement.{outcome}
+use Rattle.settlement.specs.declared.acc.Acc.{Acc}
+use Rattle.settlement.specs.declared.claim.Claim.{Claim}
+use Rattle.settlement.specs.declared.outcome.Outcome.{Outcome}
+
+-- the outcome of a claim by a plan, at its member's accumulators
+unfoldable pub outcome_of : PlanParts → Claim → Acc → Outcome
+outcome_of plan claim acc = outcome plan claim acc
+
+-- a member's accumulators after a claim with this outcome
+unfoldable pub accumulated : Acc → Outcome → Acc
+accumulated acc decision = after acc decision

@@ -1,0 +1,37 @@
+-- A member's claims take turns.
+use Rattle.std.specs.Prelude.{◌≡◌, ℕ, cond, List, [], ◌∷◌, ◌++◌, get_or, flat_map, Option, None}
+use Rattle.settlement.specs.declared.claim.Claim.{Claim}
+use Rattle.journal.specs.Terms.{Terms}
+use Rattle.journal.specs.Events.{claims, is_of, positions}
+use Rattle.journal.specs.Lawful.{Lawful}
+use Rattle.journal.specs.declared.event.Event.{Event}
+use Rattle.journal.specs.declared.event.Event.TheVariants.{Take, Decide}
+
+-- a step of the claim at a position: it is taken, and then it is decided
+pub data Step : Type 0 where
+  TakeOf : ℕ → Step
+  DecisionOf : ℕ → Step
+
+abbrev pub steps_in : List (Option Claim) → List ℕ → Event → List Step
+steps_in cs member (Take k) = cond (is_of member (get_or cs k None)) (TakeOf k ∷ []) []
+steps_in cs member (Decide k decision) = cond (is_of member (get_or cs k None)) (DecisionOf k ∷ []) []
+steps_in cs member _ = []
+
+-- the steps of a member's claims, in order
+abbrev pub steps : Terms → List Event → List ℕ → List Step
+steps T J member = flat_map (steps_in (claims T J) member) J
+
+-- each of these positions is taken and decided before the next one is taken
+abbrev pub one_by_one : List ℕ → List Step
+one_by_one [] = []
+one_by_one (k ∷ ks) = TakeOf k ∷ DecisionOf k ∷ one_by_one ks
+
+-- the whole begins with this front
+pub record BeginsWith (front whole : List Step) : Type 0 where
+  pub rest : List Step
+  pub is : whole ≡ front ++ rest
+
+-- in a lawful journal the takes and decisions of a member's claims are: the first taken, the first decided, the second taken,
+-- and so on, as far as the journal goes
+abbrev pub TakeTurns : Type 0
+TakeTurns = (T : Terms) (J : List Event) (member : List ℕ) → Lawful T J → BeginsWith (steps T J member) (one_by_one (positions T J member))

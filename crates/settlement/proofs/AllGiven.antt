@@ -1,0 +1,137 @@
+-- A claim of a plan gives each name that the plan's tables read a value.
+use Rattle.std.proofs.Common.{◌≡◌, ℕ, ◌<◌, ◌≤◌, zero, suc, true, false, nat_lt, inl, inr, List, [], ◌∷◌, ◌++◌, map, length, slice_get, Option, None, is_some, ◌⊎◌, refl, sym, ap, subst, ◌∙◌, arith}
+use Rattle.std.specs.List.{list_all, list_any, range_with_len, All}
+use Rattle.std.specs.Option.{option_and_then, option_map_or}
+use Rattle.std.proofs.lemmas.Bool.{ltb-true, false≢true, eqb-true, and_parts, or_cases, or_left}
+use Rattle.std.proofs.lemmas.List.{length-map, map-append}
+use Rattle.std.proofs.lemmas.List.Elements.{All-same, All-filter}
+use Rattle.std.proofs.lemmas.List.FromFn.{length-range_with_len, get_or-range_with_len}
+use Rattle.std.proofs.lemmas.Option.{slice_get_past}
+use Rattle.feel_tests.specs.declared.kind.Kind.{Kind}
+use Rattle.feel_tests.specs.declared.kind.Kind.TheVariants.{Number, Text, Day}
+use Rattle.feel_tests.specs.declared.value.Value.{Value}
+use Rattle.feel_tests.specs.Value.{kind_of}
+use Rattle.dtable.specs.declared.table.Input.{Input}
+use Rattle.dtable.specs.declared.table.InputData.{InputData}
+use Rattle.dtable.specs.declared.table.Origin.{Origin}
+use Rattle.dtable.specs.declared.table.Origin.TheVariants.{Given, Earlier}
+use Rattle.dtable.specs.declared.table.Table.{Table}
+use Rattle.dtable.specs.declared.inputs.Slot.{Slot}
+use Rattle.dtable.specs.Inputs.{value_at, reads, needs, empty_slots, IsReady}
+use Rattle.dtable.specs.Names.{accumulator_names}
+use Rattle.dtable.specs.Plan.{PlanParts, IsPlan, is_known, are_known}
+use Rattle.settlement.specs.declared.acc.Acc.{Acc}
+use Rattle.settlement.specs.declared.claim.Claim.{Claim}
+use Rattle.settlement.specs.Claim.{IsClaimOf}
+use Rattle.settlement.proofs.Giving.{at_each}
+use Rattle.settlement.specs.Given.{accumulator_values, values_behind, values_given, slot_kinds, slot_of, given_by}
+use Rattle.settlement.specs.Reads.{is_read, places_read, roles_read, HasItsValue, IsLaidOut, Serves}
+
+-- the kinds of a plan's names are those of the values that its claim gives
+pub kinds_given : (plan : PlanParts) (claim : Claim) (acc : Acc) → IsClaimOf plan claim → map (λ (d : InputData). d.kind) plan.names ≡ map kind_of (values_given claim acc)
+kinds_given plan claim acc is =
+    let kind = λ (d : InputData). d.kind in
+    let left : map kind (is.fields ++ accumulator_names) ≡ map kind is.fields ++ map kind accumulator_names = map-append kind is.fields accumulator_names in
+    let right : map kind_of (values_behind claim acc) ≡ map kind_of claim.fields ++ map kind_of (accumulator_values acc) =
+    map-append kind_of claim.fields (accumulator_values acc) in
+    let same : map kind (is.fields ++ accumulator_names) ≡ map kind_of (values_behind claim acc) =
+    left ∙ ap (λ (l : List Kind). l ++ Number ∷ Number ∷ Number ∷ []) (sym is.kinds) ∙ sym right in
+    ap (map kind) is.names ∙ ap (λ (l : List Kind). Text ∷ Text ∷ Day ∷ Number ∷ l) same
+
+read_below : (names : List InputData) (earlier : List Table) (place : ℕ) (o : Origin) → is_known names earlier o ≡ true → reads place o ≡ true → nat_lt place (length names) ≡ true
+read_below names earlier place (Given p) known e = subst (λ n. nat_lt n (length names) ≡ true) (eqb-true p place e) known
+read_below names earlier place (Earlier table column) known e = absurd (false≢true e)
+
+input_below : (names : List InputData) (earlier : List Table) (place : ℕ) (is : List Input) → list_all (λ i. is_known names earlier i.origin) is ≡ true → list_any (λ i. reads place i.origin) is ≡ true → nat_lt place (length names) ≡ true
+input_below names earlier place [] known e = absurd (false≢true e)
+input_below names earlier place (i ∷ is) known e =
+    let both = and_parts (is_known names earlier i.origin) (list_all (λ i. is_known names earlier i.origin) is) known in
+    elim (or_cases (reads place i.origin) (list_any (λ i. reads place i.origin) is) e) [
+      | inl here ↦ read_below names earlier place i.origin both.0 here
+      | inr there ↦ input_below names earlier place is both.1 there
+    ]
+
+needed_below : (names : List InputData) (earlier tables : List Table) (place : ℕ) → are_known names earlier tables ≡ true → needs tables place ≡ true → nat_lt place (length names) ≡ true
+needed_below names earlier [] place known e = absurd (false≢true e)
+needed_below names earlier (t ∷ ts) place known e =
+    let both = and_parts (list_all (λ i. is_known names earlier i.origin) t.inputs) (are_known names (earlier ++ t ∷ []) ts) known in
+    elim (or_cases (list_any (λ i. reads place i.origin) t.inputs) (needs ts place) e) [
+      | inl here ↦ input_below names earlier place t.inputs both.0 here
+      | inr there ↦ needed_below names (earlier ++ t ∷ []) ts place both.1 there
+    ]
+
+given_below : (values : List Value) (place : ℕ) → place < length values → is_some (value_at (map slot_of values) place) ≡ true
+given_below [] place below = absurd (omega arith)
+given_below (v ∷ vs) zero below = refl
+given_below (v ∷ vs) (suc place) below = given_below vs place (omega arith)
+
+same_length : (plan : PlanParts) (claim : Claim) (acc : Acc) → IsClaimOf plan claim → length plan.names ≡ length (values_given claim acc)
+same_length plan claim acc is =
+    sym (length-map plan.names (λ (d : InputData). d.kind)) ∙ ap length (kinds_given plan claim acc is) ∙ length-map (values_given claim acc) kind_of
+
+-- a plan is ready for what its claim gives
+ready_for_claim : (plan : PlanParts) (claim : Claim) (acc : Acc) → IsPlan plan → IsClaimOf plan claim → IsReady plan.tables (given_by claim acc)
+ready_for_claim plan claim acc sound is place needed =
+    let below : place < length plan.names = ltb-true place (length plan.names) (needed_below plan.names [] plan.tables place sound.origins needed) in
+    given_below (values_given claim acc) place (subst (λ (n : ℕ). place < n) (same_length plan claim acc is) below)
+
+-- a value stands in the place of each that is given
+pub value_given : (values : List Value) (place : ℕ) → value_at (map slot_of values) place ≡ slice_get values place
+value_given [] place = refl
+value_given (v ∷ vs) zero = refl
+value_given (v ∷ vs) (suc place) = value_given vs place
+
+below_or_past : (place n : ℕ) → (place < n) ⊎ (n ≤ place)
+below_or_past place n = grind arith
+
+-- places that have their values, where they are all that are read, serve the plan
+pub served :
+    (plan : PlanParts) (claim : Claim) (acc : Acc) (places : List ℕ) (given : List Slot) → IsLaidOut plan places given → IsClaimOf plan claim
+    → All (HasItsValue claim acc given) places → Serves plan claim acc given
+served plan claim acc places given laid is all place read =
+    let values = values_given claim acc in
+    let names = length plan.names in
+    let slots : length given ≡ names =
+    sym (length-map given (λ (s : Slot). s.kind)) ∙ ap length laid.kinds ∙ length-map plan.names (λ (d : InputData). d.kind) in
+    elim (below_or_past place names) [
+      | inl below ↦
+          let each : All (HasItsValue claim acc given) (places_read plan) = subst (All (HasItsValue claim acc given)) laid.read all in
+          at_each (is_read plan) (HasItsValue claim acc given) 0 names place each (omega arith) (omega (arith, below)) read
+      | inr past ↦
+          let none : slice_get given place ≡ None = slice_get_past given place (omega (arith, past, slots)) in
+          let nothing : slice_get values place ≡ None = slice_get_past values place (omega (arith, past, same_length plan claim acc is)) in
+          ap (option_and_then (λ (s : Slot). s.value)) none ∙ sym nothing
+    ]
+
+-- each place that is read has a value to be given
+pub places_within :
+    (plan : PlanParts) (claim : Claim) (acc : Acc) (places : List ℕ) (given : List Slot) → IsLaidOut plan places given → IsClaimOf plan claim
+    → All (λ place. place < length (values_given claim acc)) places
+places_within plan claim acc places given laid is =
+    let P : ℕ → Type 0 = λ place. place < length (values_given claim acc) in
+    let names = length plan.names in
+    let numbers = range_with_len 0 names in
+    let each : All P numbers =
+    λ k d below.
+    let under : k < names = omega (arith, below, length-range_with_len 0 names) in
+    omega (arith, under, get_or-range_with_len 0 names k d under, same_length plan claim acc is) in
+    All-same P places (places_read plan) laid.read (All-filter (is_read plan) P numbers each)
+
+-- tables are ready for what serves their plan
+pub ready_where_served :
+    (plan : PlanParts) (claim : Claim) (acc : Acc) (given : List Slot) → IsPlan plan → IsClaimOf plan claim → Serves plan claim acc given
+    → IsReady plan.tables given
+ready_where_served plan claim acc given sound is serves place needed =
+    let same = serves place (or_left (needs plan.tables place) (option_map_or (roles_read place) plan.roles false) needed) in
+    subst (λ (value : Option Value). is_some value ≡ true) (value_given (values_given claim acc) place ∙ sym same)
+    (ready_for_claim plan claim acc sound is place needed)
+
+-- a claim of a plan is one of what is seen as that plan
+pub claim_of_seen : (plan seen : PlanParts) (claim : Claim) → plan ≡ seen → IsClaimOf seen claim → IsClaimOf plan claim
+claim_of_seen plan seen claim same is = subst (λ (p : PlanParts). IsClaimOf p claim) (sym same) is
+
+-- what is laid out stays so while the kinds stay
+pub kept_laid_out :
+    (plan : PlanParts) (places shown : List ℕ) (before given : List Slot) → IsLaidOut plan places before → shown ≡ places
+    → slot_kinds given ≡ slot_kinds before → IsLaidOut plan shown given
+kept_laid_out plan places shown before given laid same kinds = record { sound = laid.sound; read = same ∙ laid.read; kinds = kinds ∙ laid.kinds }

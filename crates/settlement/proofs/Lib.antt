@@ -1,0 +1,7 @@
+pub mod MoneyLaws
+pub mod Giving
+pub mod ReadAlike
+pub mod AllGiven
+pub mod Fields
+pub mod Outcomes
+pub mod Texts

@@ -1,0 +1,38 @@
+-- Sums, differences and a rate's parts of amounts of money are amounts of money.
+use Rattle.std.proofs.Common.{◌≡◌, ℕ, ℤ, pos, negsuc, ◌*◌, ◌/◌, ◌≤◌, ◌+ℤ◌, ◌-ℤ◌, ◌≤ℤ◌, arith}
+use Rattle.std.specs.Int.{int_min}
+use Rattle.std.proofs.Math.Nat.{mul-le-mul_left}
+use Rattle.std.proofs.lemmas.Int.{ints, clamps}
+use Rattle.std.proofs.lemmas.Bool.Decides.{nat_tests}
+use Rattle.fixpoint.specs.Money.{half_even, cents_of_product}
+use Rattle.fixpoint.specs.Number.{IsInRange}
+use Rattle.settlement.specs.Amount.{IsAmount, IsRate}
+
+pub sum_is_amount : (one other : ℤ) → IsAmount one → IsAmount other → IsInRange (one +ℤ other) → IsAmount (one +ℤ other)
+sum_is_amount one other a b fits = record { money = (omega (arith, ints), omega (arith, ints)); in_range = fits }
+
+pub difference_is_amount : (whole part : ℤ) → IsAmount whole → IsAmount part → part ≤ℤ whole → IsAmount (whole -ℤ part)
+difference_is_amount whole part a b within = record { money = (omega (arith, ints), omega (arith, ints)); in_range = omega (arith, ints) }
+
+pub smaller_within : (one other : ℤ) → int_min one other ≤ℤ one
+smaller_within one other = omega (arith, ints, clamps)
+
+-- rounding does not pass a whole number
+half_even_within : (n c : ℕ) → n ≤ 1000000 * c → half_even n ≤ c
+half_even_within n c below = grind (arith, nat_tests)
+
+-- a rate's part of an amount
+pub record IsPart (amount part : ℤ) : Type 0 where
+  pub is_amount : IsAmount part
+  pub within : part ≤ℤ amount
+
+pub part_is_amount : (amount rate : ℤ) → IsAmount amount → IsRate rate → IsPart amount (cents_of_product amount rate)
+part_is_amount (pos a) (pos r) is rated =
+    let whole : a ≡ 100 * (a / 100) = omega (arith, is.money.0) in
+    let part : r ≤ 10000 = grind (arith, ints, nat_tests, rated) in
+    let product : a * r ≤ a * 10000 = mul-le-mul_left a part in
+    let bound : a * r ≤ 1000000 * (a / 100) = omega (arith, product, whole) in
+    let rounded = half_even_within (a * r) (a / 100) bound in
+    record { is_amount = record { money = (omega (arith, ints), omega (arith, ints)); in_range = omega (arith, is.in_range) }; within = omega (arith, ints) }
+part_is_amount (pos a) (negsuc r) is rated = absurd (grind (arith, ints, nat_tests, rated))
+part_is_amount (negsuc a) rate is rated = absurd (omega (arith, ints, is.money.1))

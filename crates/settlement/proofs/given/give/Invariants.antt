@@ -1,0 +1,12 @@
+use Rattle.std.proofs.Common.{◌≡◌, take}
+use Rattle.std.specs.List.{All}
+use Rattle.settlement.specs.Given.{slot_kinds}
+use Rattle.settlement.specs.Reads.{HasItsValue}
+use Rattle.settlement.proofs.given.give.Given as goal
+
+-- the kinds are as they were, and each place in front has its value
+abbrev pub invariant-loop-place : goal.invariant-loop-place
+invariant-loop-place l = record {
+  kinds : slot_kinds l.inputs ≡ slot_kinds l.fn.inputs;
+  given : All (HasItsValue l.claim l.acc l.inputs) (take l.place-index l.places);
+}

@@ -1,0 +1,77 @@
+-- What a plan's roles say of a claim, over what is given for the plan's names and what its tables answer.
+use Rattle.std.specs.Prelude.{ℕ, ℤ, Bool, false, if◌then◌else◌, List, [], Option, Some, None, Result, Ok, Err}
+use Rattle.std.specs.List.{filter_map}
+use Rattle.std.specs.Option.{option_and_then}
+use Rattle.feel_tests.specs.declared.value.Value.{Value}
+use Rattle.feel_tests.specs.declared.value.Value.TheVariants.{Number, Text, Flag}
+use Rattle.dtable.specs.declared.environment.Answer.{Answer}
+use Rattle.dtable.specs.declared.environment.Answer.TheVariants.{Many}
+use Rattle.dtable.specs.declared.inputs.Slot.{Slot}
+use Rattle.dtable.specs.declared.roles.Roles.{Roles}
+use Rattle.dtable.specs.declared.roles.Source.{Source}
+use Rattle.dtable.specs.declared.roles.Source.TheVariants.{Literal, Input, Output}
+use Rattle.dtable.specs.Environment.{Environment, answer_of}
+use Rattle.dtable.specs.Inputs.{value_at}
+use Rattle.dtable.specs.Matching.{single}
+use Rattle.settlement.specs.declared.role.Role.{Role}
+use Rattle.settlement.specs.declared.role.Role.TheVariants.{Fee, Deductible, Copay, Rate, OopMax}
+use Rattle.settlement.specs.declared.terms.Terms.{Terms}
+use Rattle.settlement.specs.Amount.{is_money, is_rate}
+
+-- the number of a role in a program's messages
+abbrev pub number_of : Role → ℕ
+number_of Fee = 2
+number_of Deductible = 3
+number_of Copay = 4
+number_of Rate = 5
+number_of OopMax = 6
+
+-- the answer of the output with this name
+abbrev pub answer_named : Environment → List ℕ → Option Answer
+answer_named env name = answer_of env.tables env.answers name
+
+-- the value of a role: its literal, what is given for a name, or the single value of an output
+abbrev pub value_of : List Slot → Environment → Source → Option Value
+value_of given env (Literal value) = Some value
+value_of given env (Input place) = value_at given place
+value_of given env (Output name) = option_and_then single (answer_named env name)
+
+-- the value is the flag `true`
+abbrev pub is_true_flag : Option Value → Bool
+is_true_flag (Some (Flag flag)) = flag
+is_true_flag _ = false
+
+-- the units of a value, where it is a number that passes the test
+abbrev pub units_where : (ℤ → Bool) → Option Value → Option ℤ
+units_where test (Some (Number units)) = if test units then Some units else None
+units_where test _ = None
+
+-- what follows from a role's units; a role without them is the answer
+abbrev pub with_role : {X : Type 0} → Role → Option ℤ → (ℤ → Result X Role) → Result X Role
+with_role role None next = Err role
+with_role role (Some units) next = next units
+
+-- the number roles, in order: amounts of money and a rate, or the first role that isn't what it must be
+abbrev pub terms : List Slot → Environment → Roles → Result Terms Role
+terms given env roles =
+    with_role Fee (units_where is_money (value_of given env roles.fee)) (λ fee.
+    with_role Deductible (units_where is_money (value_of given env roles.deductible)) (λ deductible.
+    with_role Copay (units_where is_money (value_of given env roles.copay)) (λ copay.
+    with_role Rate (units_where is_rate (value_of given env roles.rate)) (λ rate.
+    with_role OopMax (units_where is_money (value_of given env roles.oop_max)) (λ oop_max.
+    Ok (record { fee = fee; deductible = deductible; copay = copay; rate = rate; oop_max = oop_max }))))))
+
+-- the bytes of a text
+abbrev pub text_of : Value → Option (List ℕ)
+text_of (Text bytes) = Some bytes
+text_of _ = None
+
+-- the texts that an answer lists
+abbrev pub texts_of : Option Answer → List (List ℕ)
+texts_of (Some (Many values)) = filter_map text_of values
+texts_of _ = []
+
+-- the remarks: the texts that the output of that role lists, if the plan has the role
+abbrev pub remarks_of : Environment → Option (List ℕ) → List (List ℕ)
+remarks_of env None = []
+remarks_of env (Some name) = texts_of (answer_named env name)

@@ -1,0 +1,176 @@
+//! What a claim and its member's accumulators give the names that a plan reads.
+ghost use Rattle.std.specs.Prelude.{◌≡◌, ◌<◌, ℕ, length, map, slice_get, Some, IsTrue, IfOk, IfSome, OnOk};
+ghost use Rattle.std.specs.List.{All};
+ghost use Rattle.dtable.specs.Plan.{IsPlan};
+ghost use Rattle.feel_tests.specs.Value.{kind_of};
+ghost use Rattle.feel_tests.specs.declared.value.Value.TheVariants as values;
+ghost use Rattle.settlement.specs.declared.acc.Acc.{Acc};
+ghost use Rattle.settlement.specs.Given.{accumulator_values, slot_kinds, values_behind, values_given};
+ghost use Rattle.settlement.specs.Reads.{is_read, places_read, roles_read, source_reads, HasItsValue};
+
+use crate::acc::Acc;
+use crate::claim::Claim;
+use dtable::{Inputs, Plan, Roles, Sequence, Source};
+use feel_tests::{Text, Value};
+use fixpoint::Fixed;
+use std::alloc::{AllocError, Global};
+
+/// The places of a claim's own values among a plan's names, and of its first field.
+const ID: usize = 0;
+
+const MEMBER: usize = 1;
+
+const SERVICE: usize = 2;
+
+const BILLED: usize = 3;
+
+const FIRST_FIELD: usize = 4;
+
+/// The places of the names that some table or role of the plan reads, in order.
+pub fn places_read(alloc: Global, plan: &Plan) -> Result<Sequence<usize>, AllocError>
+    ensures places { IfOk result (λ places. places ≡ places_read plan.now) }
+    ensures sound { IsPlan plan.now }
+{
+    let mut places = Sequence::new(alloc);
+    for place in 0..plan.names().len() {
+        if is_read(plan, place) {
+            places.push(place)?;
+        }
+    }
+    Ok(places)
+}
+
+fn is_read(plan: &Plan, place: usize) -> bool
+    ensures { result ≡ is_read plan.now place }
+{
+    match plan.roles() {
+        Some(roles) => plan.needs(place) || roles_read(place, roles),
+        None => plan.needs(place),
+    }
+}
+
+fn roles_read(place: usize, roles: &Roles) -> bool
+    ensures { result ≡ roles_read place roles.now }
+{
+    source_reads(place, &roles.cover)
+        || source_reads(place, &roles.fee)
+        || source_reads(place, &roles.deductible)
+        || source_reads(place, &roles.copay)
+        || source_reads(place, &roles.rate)
+        || source_reads(place, &roles.oop_max)
+}
+
+fn source_reads(place: usize, source: &Source) -> bool
+    ensures { result ≡ source_reads place source.now }
+{
+    match source {
+        Source::Input(given) => *given == place,
+        _ => false,
+    }
+}
+
+/// Gives each of these places its value of the claim and the accumulators, in place of an earlier one.
+pub fn give(
+    alloc: Global,
+    inputs: &mut Inputs,
+    places: &[usize],
+    claim: &Claim,
+    acc: &Acc,
+) -> Result<(), AllocError>
+    requires kinds { slot_kinds inputs.old ≡ map kind_of (values_given claim.now acc.now) }
+    requires within { All (λ place. place < length (values_given claim.now acc.now)) places.now }
+    ensures kinds { slot_kinds inputs.new ≡ slot_kinds inputs.old }
+    ensures given { OnOk result (All (HasItsValue claim.now acc.now inputs.new) places.now) }
+{
+    for place in places {
+        give_at(alloc, inputs, *place, claim, acc)?;
+    }
+    Ok(())
+}
+
+// Gives one place its value. A text that stands there already stays, and takes no memory.
+fn give_at(
+    alloc: Global,
+    inputs: &mut Inputs,
+    place: usize,
+    claim: &Claim,
+    acc: &Acc,
+) -> Result<(), AllocError>
+    requires kinds { slot_kinds inputs.old ≡ map kind_of (values_given claim.now acc.now) }
+    requires within { place < length (values_given claim.now acc.now) }
+    ensures kinds { slot_kinds inputs.new ≡ slot_kinds inputs.old }
+    ensures given { OnOk result (HasItsValue claim.now acc.now inputs.new place) }
+    ensures others { OnOk result ((other : ℕ) → HasItsValue claim.now acc.now inputs.old other → HasItsValue claim.now acc.now inputs.new other) }
+{
+    if !has_text(inputs, place, claim) {
+        inputs.set(place, value_given(alloc, claim, acc, place)?);
+    }
+    Ok(())
+}
+
+// Whether the claim gives the place a text that stands there already.
+fn has_text(inputs: &Inputs, place: usize, claim: &Claim) -> bool
+    ensures { IsTrue result → (acc : Acc) → HasItsValue claim.now acc inputs.now place }
+{
+    match (text_given(claim, place), inputs.get(place)) {
+        (Some(text), Some(Value::Text(standing))) => standing == text,
+        _ => false,
+    }
+}
+
+// The text that the claim gives the place, if it gives one.
+fn text_given(claim: &Claim, place: usize) -> Option<&Text>
+    ensures { (acc : Acc) → IfSome result (λ text. slice_get (values_given claim.now acc) place ≡ Some (values.Text text.now)) }
+{
+    match place {
+        ID => Some(&claim.id),
+        MEMBER => Some(&claim.member),
+        SERVICE | BILLED => None,
+        _ => match claim.fields.as_slice().get(place - FIRST_FIELD) {
+            Some(Value::Text(text)) => Some(text),
+            _ => None,
+        },
+    }
+}
+
+// The value for the name at a place, from 0.
+fn value_given(alloc: Global, claim: &Claim, acc: &Acc, place: usize) -> Result<Value, AllocError>
+    requires { place < length (values_given claim.now acc.now) }
+    ensures { IfOk result (λ value. slice_get (values_given claim.now acc.now) place ≡ Some value) }
+{
+    match place {
+        ID => text_value(alloc, &claim.id),
+        MEMBER => text_value(alloc, &claim.member),
+        SERVICE => Ok(Value::Day(claim.service)),
+        BILLED => Ok(Value::Number(claim.billed.amount())),
+        _ => behind_billed(alloc, claim, acc, place - FIRST_FIELD),
+    }
+}
+
+fn behind_billed(alloc: Global, claim: &Claim, acc: &Acc, place: usize) -> Result<Value, AllocError>
+    requires { place < length (values_behind claim.now acc.now) }
+    ensures { IfOk result (λ value. slice_get (values_behind claim.now acc.now) place ≡ Some value) }
+{
+    let fields = claim.fields.as_slice();
+    match fields.get(place) {
+        Some(value) => value.duplicate(alloc),
+        None => Ok(Value::Number(accumulator(acc, place - fields.len()))),
+    }
+}
+
+fn text_value(alloc: Global, text: &Text) -> Result<Value, AllocError>
+    ensures { IfOk result (λ value. value ≡ values.Text text.now) }
+{
+    Ok(Value::Text(Text::new(alloc, text.as_str())?))
+}
+
+fn accumulator(acc: &Acc, place: usize) -> Fixed
+    requires { place < 3 }
+    ensures { slice_get (accumulator_values acc.now) place ≡ Some (values.Number result) }
+{
+    match place {
+        0 => acc.met.amount(),
+        1 => acc.oop.amount(),
+        _ => acc.paid.amount(),
+    }
+}

@@ -1,0 +1,30 @@
+//! The settlement of a health plan's claims: what a claim's outcome is, in exact money, and what it adds to its
+//! member's accumulators.
+//!
+//! A `Claim` is what a provider files, an `Acc` what is kept of a member. `decide` has the plan's tables evaluated at
+//! both, by any `Valuer` of `dtable`, reads the plan's roles in their answers and gives the `Outcome`: paid with its
+//! amounts, denied, or pended with a `Reason`. `after` gives the accumulators that the outcome leaves.
+//! Numbers come from `fixpoint`, values from `feel_tests`.
+//!
+//! Begin with `specs/Settlement.antt`, which has the rules, one a line; then read `deciding.rt`.
+#![tactic(auto)]
+
+mod acc;
+mod amounts;
+mod claim;
+mod deciding;
+mod given;
+mod money;
+mod outcome;
+mod rate;
+mod role;
+mod terms;
+#[cfg(test)]
+mod tests;
+
+pub use acc::Acc;
+pub use claim::{Claim, fields_of};
+pub use deciding::{Adjudicator, after, decide};
+pub use money::Money;
+pub use outcome::{Outcome, Reason, Verdict};
+pub use role::Role;

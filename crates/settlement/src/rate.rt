@@ -1,0 +1,51 @@
+//! Rates.
+ghost use Rattle.std.specs.Prelude.{◌≡◌};
+ghost use Rattle.std.specs.Option.{SomeIff};
+ghost use Rattle.settlement.specs.Amount.{IsRate};
+
+use fixpoint::Fixed;
+use std::marker::Model;
+
+/// How many units the rate 1 has.
+const WHOLE_UNITS: i64 = 10_000;
+
+/// A number from 0 to 1. Contracts see its units.
+#[derive(Clone, Copy, Debug)]
+pub struct Rate {
+    number: Fixed,
+}
+
+impl Model for Rate {
+    ghost use Rattle.std.specs.Prelude.{ℤ};
+    ghost use Rattle.settlement.specs.Amount.{IsRate};
+
+    ghost Value = { ℤ };
+
+    ghost view = { λ r. r.number };
+
+    ghost invariant = { λ r. IsRate r.number };
+
+    ghost inverse = { λ units. record { number = units } };
+}
+
+impl Rate {
+    /// The rate of this number, where it is one.
+    pub fn new(number: Fixed) -> Option<Rate>
+        ensures { SomeIff result (IsRate number) number }
+    {
+        let units = number.units();
+        if 0 <= units && units <= WHOLE_UNITS {
+            Some(Rate { number })
+        } else {
+            None
+        }
+    }
+
+    /// The rate as a number.
+    pub fn number(self) -> Fixed
+        ensures value { result ≡ self }
+        ensures rate { IsRate result }
+    {
+        self.number
+    }
+}

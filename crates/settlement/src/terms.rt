@@ -1,0 +1,123 @@
+//! What a plan's roles say of a claim.
+ghost use Rattle.std.specs.Prelude.{◌≡◌, IfOk};
+ghost use Rattle.std.specs.List.{filter_map};
+ghost use Rattle.std.specs.Option.{option_copied};
+ghost use Rattle.settlement.specs.Amount.{is_money, is_rate};
+ghost use Rattle.settlement.specs.Roles.{value_of, is_true_flag, units_where, terms, remarks_of, text_of, texts_of};
+
+use crate::money::Money;
+use crate::rate::Rate;
+use crate::role::Role;
+use dtable::{Answer, Env, Inputs, Name, Roles, Sequence, Source};
+use feel_tests::{Text, Value};
+use std::alloc::{AllocError, Global};
+
+/// The number roles of a claim: amounts of money and a rate.
+#[derive(Clone, Copy, Debug)]
+pub struct Terms {
+    pub fee: Money,
+    pub deductible: Money,
+    pub copay: Money,
+    pub rate: Rate,
+    pub oop_max: Money,
+}
+
+/// Whether the claim is covered.
+pub fn is_covered(inputs: &Inputs, env: &Env, roles: &Roles) -> bool
+    ensures { result ≡ is_true_flag (value_of inputs.now env.now roles.now.cover) }
+{
+    match value_of(inputs, env, &roles.cover) {
+        Some(Value::Flag(flag)) => *flag,
+        _ => false,
+    }
+}
+
+/// The number roles, or the first that isn't what it must be.
+pub fn terms_of(inputs: &Inputs, env: &Env, roles: &Roles) -> Result<Terms, Role>
+    ensures { result ≡ terms inputs.now env.now roles.now }
+{
+    let fee = money_of(value_of(inputs, env, &roles.fee)).ok_or(Role::Fee)?;
+    let deductible = money_of(value_of(inputs, env, &roles.deductible)).ok_or(Role::Deductible)?;
+    let copay = money_of(value_of(inputs, env, &roles.copay)).ok_or(Role::Copay)?;
+    let rate = rate_of(value_of(inputs, env, &roles.rate)).ok_or(Role::Rate)?;
+    let oop_max = money_of(value_of(inputs, env, &roles.oop_max)).ok_or(Role::OopMax)?;
+    Ok(Terms {
+        fee,
+        deductible,
+        copay,
+        rate,
+        oop_max,
+    })
+}
+
+/// The remarks of the tables' output of this name, if the plan names one.
+pub fn remarks(alloc: Global, env: &Env, name: &Option<Name>) -> Result<Sequence<Text>, AllocError>
+    ensures { IfOk result (λ remarks. remarks ≡ remarks_of env.now name.now) }
+{
+    match name {
+        Some(name) => texts(alloc, env.get(name.as_str())),
+        None => Ok(Sequence::new(alloc)),
+    }
+}
+
+fn texts(alloc: Global, answer: Option<&Answer>) -> Result<Sequence<Text>, AllocError>
+    ensures { IfOk result (λ texts. texts ≡ texts_of (option_copied answer.entry)) }
+{
+    match answer {
+        Some(Answer::Many(values)) => texts_in(alloc, values.as_slice()),
+        _ => Ok(Sequence::new(alloc)),
+    }
+}
+
+fn texts_in(alloc: Global, values: &[Value]) -> Result<Sequence<Text>, AllocError>
+    ensures { IfOk result (λ texts. texts ≡ filter_map text_of values.now) }
+{
+    let mut texts = Sequence::new(alloc);
+    for value in values {
+        if let Some(text) = text_of(value) {
+            texts.push(Text::new(alloc, text.as_str())?)?;
+        }
+    }
+    Ok(texts)
+}
+
+fn text_of(value: &Value) -> Option<&Text>
+    ensures { option_copied result ≡ text_of value.now }
+{
+    match value {
+        Value::Text(text) => Some(text),
+        _ => None,
+    }
+}
+
+// The value of a role, if it has a single one.
+fn value_of<'a>(inputs: &'a Inputs, env: &'a Env, source: &'a Source) -> Option<&'a Value>
+    ensures { option_copied result ≡ value_of inputs.now env.now source.now }
+{
+    match source {
+        Source::Literal(value) => Some(value),
+        Source::Input(place) => inputs.get(*place),
+        Source::Output(name) => match env.get(name.as_str()) {
+            Some(Answer::One(value)) => Some(value),
+            _ => None,
+        },
+    }
+}
+
+fn money_of(value: Option<&Value>) -> Option<Money>
+    ensures { result ≡ units_where is_money (option_copied value.entry) }
+{
+    match value {
+        Some(Value::Number(number)) => Money::new(*number),
+        _ => None,
+    }
+}
+
+fn rate_of(value: Option<&Value>) -> Option<Rate>
+    ensures { result ≡ units_where is_rate (option_copied value.entry) }
+{
+    match value {
+        Some(Value::Number(number)) => Rate::new(*number),
+        _ => None,
+    }
+}

@@ -1,0 +1,164 @@
+//! The plans of the tests.
+
+/// No fields and no tables: the amounts of the roles are written in the plan.
+pub const FLAT: &str = r#"
+version = 1
+[roles]
+cover = "true"
+fee = "5"
+deductible = "100"
+copay = "0"
+rate = "0"
+oop_max = "1000"
+"#;
+
+/// The same, but the rate is a field of the claim.
+pub const RATE_OF_CLAIM: &str = r#"
+version = 1
+fields = [{name = "part", kind = "number"}]
+[roles]
+cover = "true"
+fee = "5"
+deductible = "100"
+copay = "0"
+rate = "part"
+oop_max = "1000"
+"#;
+
+/// Each role names a field of the claim.
+pub const OPEN: &str = r#"
+version = 1
+fields = [
+  {name = "covered", kind = "flag"},
+  {name = "most", kind = "number"},
+  {name = "first", kind = "number"},
+  {name = "each", kind = "number"},
+  {name = "part", kind = "number"},
+  {name = "limit", kind = "number"},
+]
+[roles]
+cover = "covered"
+fee = "most"
+deductible = "first"
+copay = "each"
+rate = "part"
+oop_max = "limit"
+"#;
+
+/// A table gives cover and fee by a code, another lists remarks.
+pub const HEALTH: &str = r#"
+version = 1
+fields = [{name = "code", kind = "text"}]
+
+[roles]
+cover = "covered"
+fee = "fee"
+deductible = "50"
+copay = "10"
+rate = "0.2"
+oop_max = "60"
+remarks = "note"
+
+[[tables]]
+inputs = [{name = "code"}]
+outputs = [{name = "covered", kind = "flag"}, {name = "fee", kind = "number"}]
+rules = [
+  {when = ['"A"'], then = ['true', '100']},
+  {when = ['"B"'], then = ['true', '40']},
+  {when = ['"X"'], then = ['false', '0']},
+]
+
+[[tables]]
+hit = "R"
+inputs = [{name = "billed"}, {name = "met"}]
+outputs = [{name = "note", kind = "text"}]
+rules = [
+  {when = ['>100', '-'], then = ['"OVER"']},
+  {when = ['-', '>=50'], then = ['"MET"']},
+]
+"#;
+
+/// Two tables that a score can be wrong for.
+pub const FAULTY: &str = r#"
+version = 1
+fields = [{name = "score", kind = "number"}]
+
+[roles]
+cover = "true"
+fee = "sum"
+deductible = "0"
+copay = "0"
+rate = "0"
+oop_max = "0"
+
+[[tables]]
+hit = "C+"
+inputs = [{name = "score", values = "[0..100]"}]
+outputs = [{name = "sum", kind = "number"}]
+rules = [{when = ['1'], then = ['99999999999.99']}, {when = ['-'], then = ['0.02']}]
+
+[[tables]]
+inputs = [{name = "score"}]
+outputs = [{name = "level", kind = "text"}]
+rules = [{when = ['<=5'], then = ['"low"']}, {when = ['>=5'], then = ['"high"']}]
+"#;
+
+/// The first table gives a tier, which the second reads; the third lists remarks on what the second gives.
+pub const CHAINED: &str = r#"
+version = 1
+fields = [{name = "code", kind = "text"}]
+
+[roles]
+cover = "covered"
+fee = "most"
+deductible = "50"
+copay = "10"
+rate = "0.2"
+oop_max = "60"
+remarks = "note"
+
+[[tables]]
+inputs = [{name = "code"}]
+outputs = [{name = "tier", kind = "text"}]
+rules = [{when = ['"A"'], then = ['"high"']}, {when = ['"B"'], then = ['"low"']}]
+
+[[tables]]
+inputs = [{name = "tier"}]
+outputs = [{name = "covered", kind = "flag"}, {name = "most", kind = "number"}]
+rules = [{when = ['"high"'], then = ['true', '100']}, {when = ['"low"'], then = ['true', '40']}]
+
+[[tables]]
+hit = "R"
+inputs = [{name = "most"}, {name = "met"}]
+outputs = [{name = "note", kind = "text"}]
+rules = [
+  {when = ['<50', '-'], then = ['"CAPPED"']},
+  {when = ['-', '>=50'], then = ['"MET"']},
+]
+"#;
+
+/// A table reads what each claim and each member has, and so do roles.
+pub const NAMED: &str = r#"
+version = 1
+
+[roles]
+cover = "covered"
+fee = "billed"
+deductible = "paid"
+copay = "oop"
+rate = "0"
+oop_max = "1000"
+
+[[tables]]
+inputs = [
+  {name = "claim"},
+  {name = "member"},
+  {name = "service"},
+  {name = "billed"},
+  {name = "met"},
+  {name = "oop"},
+  {name = "paid"},
+]
+outputs = [{name = "covered", kind = "flag", default = "false"}]
+rules = [{when = ['"c1"', '"M1"', 'date("2024-01-05")', '12', '1', '2', '3'], then = ['true']}]
+"#;
