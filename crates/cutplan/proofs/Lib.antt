@@ -5,6 +5,7 @@ pub mod Counting
 pub mod Pairing
 pub mod Integers
 pub mod Alike
+pub mod Marking
 pub mod Ordered
 pub mod CutLists
 pub mod Regionwise

@@ -9,6 +9,7 @@
 //! gaps and overlaps are; then read `cut_plan.rt`, whose calls carry the promises, and `law.rt`.
 #![tactic(auto)]
 
+mod candidate;
 mod column;
 mod cut_plan;
 mod cuts;

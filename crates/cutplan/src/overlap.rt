@@ -1,10 +1,14 @@
 //! Overlaps: pairs of rules that share an allowed input.
-ghost use Rattle.std.specs.Prelude.{◌≡◌, ◌+◌, ◌-◌, ◌<◌, ◌^◌, ◌++◌, [], ◌∷◌, if◌then◌else◌, IfOk, OnOk, filter, length, ◌&&◌, slice_get};
-ghost use Rattle.std.specs.List.{list_any, list_all, enumerate_from};
+//!
+//! Column by column, the pairs that hold in none of its regions drop out. Each rule's cell is asked once in each region,
+//! and not once for each pair: lists of some thousands of codes, of which each rule names a few, take seconds.
+ghost use Rattle.std.specs.Prelude.{◌≡◌, ◌+◌, ◌-◌, ◌<◌, ◌++◌, IfOk, OnOk, filter, map, length};
 ghost use Rattle.cutplan.specs.Check.{pairs, pairs_with, meet, meet_in, holds_at, rule_cells};
+ghost use Rattle.cutplan.specs.Parts.{candidate_in, rule_holds};
 
+use crate::candidate::{Candidate, kept, mark, unmet};
 use crate::region::{Region, holds_in};
-use dtable::{Sequence, Table};
+use dtable::{Rule, Sequence, Table};
 use feel_tests::Cell;
 use std::alloc::{AllocError, Global};
 
@@ -16,77 +20,90 @@ pub fn overlaps(
 ) -> Result<Vec<(usize, usize)>, AllocError>
     ensures { IfOk result (λ found. found.items ≡ filter (λ pair. meet columns.now table.now (pair.0 - 1) (pair.1 - 1)) (pairs (length table.now.rules))) }
 {
+    let mut found = pairs(alloc, table.rules.len())?;
+    for (column, regions) in columns.iter().enumerate() {
+        found = meeting(alloc, table, column, regions.as_slice(), found.as_slice())?;
+    }
+    Ok(found)
+}
+
+// The pairs of so many rules, the smaller first, in order.
+fn pairs(alloc: Global, count: usize) -> Result<Vec<(usize, usize)>, AllocError>
+    ensures { IfOk result (λ found. found.items ≡ pairs count) }
+{
     let mut found = Vec::new(alloc);
-    for first in 0..table.rules.len() {
-        push_overlaps(table, columns, first, &mut found)?;
+    for first in 0..count {
+        push_pairs(count, first, &mut found)?;
     }
     Ok(found)
 }
 
 // The pairs whose smaller rule is the one at this place.
-fn push_overlaps(
-    table: &Table,
-    columns: &[Sequence<Region>],
-    first: usize,
-    found: &mut Vec<(usize, usize)>,
-) -> Result<(), AllocError>
-    requires { first < length table.now.rules }
-    ensures { OnOk result (found.new.items ≡ found.old.items ++ filter (λ pair. meet columns.now table.now (pair.0 - 1) (pair.1 - 1)) (pairs_with (length table.now.rules) (first + 1))) }
+fn push_pairs(count: usize, first: usize, found: &mut Vec<(usize, usize)>) -> Result<(), AllocError>
+    requires { first < count }
+    ensures { OnOk result (found.new.items ≡ found.old.items ++ pairs_with count (first + 1)) }
 {
-    let count = table.rules.len();
     for second in first + 1..count {
-        let overlap = meet(table, columns, first, second);
-        push_if(overlap, first, second, found)?;
-    }
-    Ok(())
-}
-
-// Appends the pair of the rules at these places, if they overlap.
-fn push_if(
-    overlap: bool,
-    first: usize,
-    second: usize,
-    found: &mut Vec<(usize, usize)>,
-) -> Result<(), AllocError>
-    requires first_fits { first + 1 < 2 ^ 64 }
-    requires second_fits { second + 1 < 2 ^ 64 }
-    ensures { OnOk result (found.new.items ≡ found.old.items ++ (if overlap then (first + 1, second + 1) ∷ [] else [])) }
-{
-    if overlap {
         found.push((first + 1, second + 1))?;
     }
     Ok(())
 }
 
-// Whether two rules hold in a region of each column.
-fn meet(table: &Table, columns: &[Sequence<Region>], first: usize, second: usize) -> bool
-    ensures { result ≡ meet columns.now table.now first second }
-{
-    let mut meets = true;
-    for (column, regions) in columns.iter().enumerate() {
-        meets = also_meet(meets, table, first, second, column, regions.as_slice());
-    }
-    meets
-}
-
-fn also_meet(
-    meets: bool,
+// Those of the pairs that hold in a region of the column.
+fn meeting(
+    alloc: Global,
     table: &Table,
-    first: usize,
-    second: usize,
     column: usize,
     regions: &[Region],
-) -> bool
-    ensures { result ≡ (meets && meet_in table.now first second column regions.now) }
+    pairs: &[(usize, usize)],
+) -> Result<Vec<(usize, usize)>, AllocError>
+    ensures { IfOk result (λ found. found.items ≡ filter (λ pair. meet_in table.now (pair.0 - 1) (pair.1 - 1) column regions.now) pairs.now) }
 {
-    meets && meet_in(table, first, second, column, regions)
+    let candidates = candidates_in(alloc, table, column, regions, pairs)?;
+    kept(alloc, candidates.as_slice())
 }
 
-fn meet_in(table: &Table, first: usize, second: usize, column: usize, regions: &[Region]) -> bool
-    ensures { result ≡ meet_in table.now first second column regions.now }
+// The pairs, each with whether both rules hold in a region of the column.
+fn candidates_in(
+    alloc: Global,
+    table: &Table,
+    column: usize,
+    regions: &[Region],
+    pairs: &[(usize, usize)],
+) -> Result<Vec<Candidate>, AllocError>
+    ensures { IfOk result (λ found. found.items ≡ map (candidate_in table.now column regions.now) pairs.now) }
 {
-    regions.iter().any(|region| holds_at(table, first, column, region)
-        && holds_at(table, second, column, region))
+    let mut candidates = unmet(alloc, pairs)?;
+    for region in regions {
+        let holds = holding(alloc, table.rules.as_slice(), column, region)?;
+        mark(holds.as_slice(), &mut candidates);
+    }
+    Ok(candidates)
+}
+
+// Of each rule, whether its cell in the column holds in the region.
+fn holding(
+    alloc: Global,
+    rules: &[Rule],
+    column: usize,
+    region: &Region,
+) -> Result<Vec<bool>, AllocError>
+    ensures { IfOk result (λ holds. holds.items ≡ map (rule_holds column region.now) rules.now) }
+{
+    let mut holds = Vec::with_capacity(alloc, rules.len())?;
+    for rule in rules {
+        holds.push(rule_holds(column, region, rule))?;
+    }
+    Ok(holds)
+}
+
+fn rule_holds(column: usize, region: &Region, rule: &Rule) -> bool
+    ensures { result ≡ rule_holds column region.now rule.now }
+{
+    match rule.cells.as_slice().get(column) {
+        Some(cell) => holds_in(cell, region),
+        None => true,
+    }
 }
 
 /// Whether a rule's cell in a column, if it has one, holds in the region.

@@ -46,18 +46,26 @@ fn one_column(
     Ok(read_plan(alloc, text.as_bytes()).expect(rt, "a plan"))
 }
 
-// The plan of four columns with one rule, which has this cell in each.
-fn four_columns(rt: &impl Abort, alloc: Global, cell: &str) -> Result<Plan, Fail> {
+// The plan of four columns with so many rules, each of which has this cell in each.
+fn four_columns(rt: &impl Abort, alloc: Global, cell: &str, rules: usize) -> Result<Plan, Fail> {
     let mut text = String::from_str(alloc, FOUR_COLUMNS[0])?;
+    for _ in 0..rules {
+        push_rule(&mut text, cell)?;
+    }
+    text.push_str(FOUR_COLUMNS[1])?;
+    Ok(read_plan(alloc, text.as_bytes()).expect(rt, "a plan"))
+}
+
+// A rule with this cell in each of four columns.
+fn push_rule(text: &mut String, cell: &str) -> Result<(), Fail> {
     text.push_str("{when = ['")?;
     for _ in 0..3 {
         text.push_str(cell)?;
         text.push_str("', '")?;
     }
     text.push_str(cell)?;
-    text.push_str("'], then = ['1']}")?;
-    text.push_str(FOUR_COLUMNS[1])?;
-    Ok(read_plan(alloc, text.as_bytes()).expect(rt, "a plan"))
+    text.push_str("'], then = ['1']},\n")?;
+    Ok(())
 }
 
 // The gaps of a plan's first table, a line each.
@@ -260,9 +268,15 @@ fn the_last_column_changes_fastest(rt: HostRuntime) -> Result<(), Fail> {
     Ok(())
 }
 
-// How many gaps the plan of four columns with this cell in each has; none where its check is too wide.
-fn gap_count(rt: &impl Abort, alloc: Global, cell: &str) -> Result<Option<usize>, Fail> {
-    let plan = four_columns(rt, alloc, cell)?;
+// How many gaps the plan of four columns with so many rules, each with this cell in each, has; none where its check is
+// too wide.
+fn gap_count(
+    rt: &impl Abort,
+    alloc: Global,
+    cell: &str,
+    rules: usize,
+) -> Result<Option<usize>, Fail> {
+    let plan = four_columns(rt, alloc, cell, rules)?;
     let cut = compile(alloc, &plan)?;
     assert!(rt; plan.tables().len() > 0);
     match cut.gaps(alloc, 1) {
@@ -274,16 +288,29 @@ fn gap_count(rt: &impl Abort, alloc: Global, cell: &str) -> Result<Option<usize>
 
 #[test]
 fn sixteen_regions_in_each_of_four_columns(rt: HostRuntime) -> Result<(), Fail> {
-    let count = gap_count(&rt, rt.alloc(), "1,1.0001,3,4,5,6,7,8")?;
+    let count = gap_count(&rt, rt.alloc(), "1,1.0001,3,4,5,6,7,8", 1)?;
     assert_eq!(rt; count, Some(61_440));
     Ok(())
 }
 
 #[test]
 fn seventeen_regions_in_each_of_four_columns(rt: HostRuntime) -> Result<(), Fail> {
-    let count = gap_count(&rt, rt.alloc(), "1,2,3,4,5,6,7,8")?;
+    let count = gap_count(&rt, rt.alloc(), "1,2,3,4,5,6,7,8", 1)?;
     assert_eq!(rt; count, None);
     assert_eq!(rt; CELL_LIMIT, 65_536);
+    Ok(())
+}
+
+// The most rules and the most cells that a check has: natively it takes seconds, and memory by its cells alone.
+#[test]
+fn as_many_rules_and_cells_as_may_be(rt: HostRuntime) -> Result<(), Fail> {
+    let count = gap_count(&rt, rt.alloc(), "1,1.0001,3,4,5,6,7,8", 256)?;
+    assert_eq!(rt; count, Some(61_440));
+    let plan = four_columns(&rt, rt.alloc(), "1,1.0001,3,4,5,6,7,8", 256)?;
+    let cut = compile(rt.alloc(), &plan)?;
+    assert!(rt; plan.tables().len() > 0);
+    // Each two of the 256 rules: 256 * 255 / 2.
+    assert_eq!(rt; cut.overlaps(rt.alloc(), 1)?.len(), 32_640);
     Ok(())
 }
 
