@@ -1,5 +1,4 @@
 pub mod Records
-pub mod Reader
 pub mod FaultNumber
 pub mod Columns
 pub mod Header

@@ -1,5 +1,0 @@
-pub mod Intakes
-pub mod Parts
-pub mod Kept
-pub mod Replies
-pub mod FaultNumber

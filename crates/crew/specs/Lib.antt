@@ -1,2 +1,0 @@
-pub mod FaultNumber
-pub mod Reading

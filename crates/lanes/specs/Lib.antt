@@ -1,4 +1,0 @@
-pub mod Places
-pub mod Calls
-pub mod Members
-pub mod Chains
