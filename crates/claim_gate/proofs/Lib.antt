@@ -1,0 +1,10 @@
+pub mod Tallies
+pub mod Journals
+pub mod Providers
+pub mod Marks
+pub mod Claims
+pub mod Readiness
+pub mod Decisions
+pub mod Calls
+pub mod Replying
+pub mod Filing

@@ -1,0 +1,28 @@
+use Rattle.std.proofs.Common.{rules, ◌≤◌, length, arith}
+use Rattle.claim_gate.specs.Intakes.{intake_of}
+use Rattle.claim_gate.proofs.Replying.{IsAccepted, accepts, accepted_within}
+use Rattle.claim_gate.proofs.state.GateState.accept.Goals as goal
+
+pub accept-requires : goal.accept-requires
+accept-requires c =
+    let few : (intake_of c.self.inside.intakes c.args.offer.provider).accepted ≤ length c.self.inside.journal.items =
+    accepted_within c.self.inside.journal.items (length c.self.inside.terms.now.files) c.self.inside.intakes c.args.offer.provider c.self.invariant.intakes_are in
+    omega (arith, c.self.inside.journal.ok, c.self.inside.journal.small)
+
+done : (c : goal.After-self-1) → IsAccepted c.self.inside c.args.self.now c.self.view_is c.self.invariant c.args.offer c.len-position.result c.opening-opening.result c.append.new.journal.items c.close_if_due-self-inside.new.journal.items c.add.new.self c.accept.new.self c.close_if_due-self-inside.result
+done c =
+    accepts c.self.inside c.args.self.now c.self.view_is c.self.invariant c.args.offer c.len-position.result c.opening-opening.result c.append.new.journal.items c.close_if_due-self-inside.new.journal.items c.add.new.self c.accept.new.self c.close_if_due-self-inside.result
+    c.gate_stays_lawful.ensures.offer c.requires.runs c.requires.open_yet c.requires.filed c.requires.in_turn
+    (search rules) (search rules) (search rules) (search rules) (search rules) (search rules) (search rules)
+
+pub invariant_of-self-2 : goal.invariant_of-self-2
+invariant_of-self-2 c = (done c).keeps
+
+pub returns-clause-reply : goal.returns-clause-reply
+returns-clause-reply c = (done c).reply
+
+pub returns-clause-lawful : goal.returns-clause-lawful
+returns-clause-lawful c = (done c).keeps.lawful
+
+pub returns-clause-goes_on : goal.returns-clause-goes_on
+returns-clause-goes_on c = (done c).goes_on

@@ -1,0 +1,29 @@
+use Rattle.std.proofs.Common.{rules}
+use Rattle.claim_gate.proofs.Replying.{IsEnded, ends, ended_before, too_few}
+use Rattle.claim_gate.proofs.state.GateState.end.Goals as goal
+
+pub returns-then-expected-count-clause-reply : goal.returns-then-expected-count-clause-reply
+returns-then-expected-count-clause-reply c =
+    too_few c.self.inside c.args.self.now c.self.view_is c.self.invariant c.args.provider c.args.count c.accepted-expected.result c.requires (search rules) (search rules) (search rules) (search rules)
+
+pub returns-then-is_ended-clause-reply : goal.returns-then-is_ended-clause-reply
+returns-then-is_ended-clause-reply c =
+    ended_before c.self.inside c.args.self.now c.self.view_is c.self.invariant c.args.provider c.args.count c.accepted-expected.result c.requires (search rules) (search rules) (search rules) (search rules) (search rules)
+
+done : (c : goal.After-self-1) → IsEnded c.self.inside c.args.self.now c.self.view_is c.self.invariant c.args.provider c.args.count c.accepted-expected.result c.append.new.journal.items c.close_if_due-self-inside.new.journal.items c.end.new.self c.close_if_due-self-inside.result
+done c =
+    ends c.self.inside c.args.self.now c.self.view_is c.self.invariant c.args.provider c.args.count c.accepted-expected.result c.append.new.journal.items c.close_if_due-self-inside.new.journal.items c.end.new.self c.close_if_due-self-inside.result
+    c.gate_stays_lawful.ensures.end c.requires
+    (search rules) (search rules) (search rules) (search rules) (search rules) (search rules) (search rules) (search rules) (search rules)
+
+pub invariant_of-self-2 : goal.invariant_of-self-2
+invariant_of-self-2 c = (done c).keeps
+
+pub returns-clause-reply : goal.returns-clause-reply
+returns-clause-reply c = (done c).reply
+
+pub returns-clause-lawful : goal.returns-clause-lawful
+returns-clause-lawful c = (done c).keeps.lawful
+
+pub returns-clause-goes_on : goal.returns-clause-goes_on
+returns-clause-goes_on c = (done c).goes_on

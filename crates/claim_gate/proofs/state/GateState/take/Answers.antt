@@ -1,0 +1,25 @@
+use Rattle.std.proofs.Common.{rules}
+use Rattle.claim_gate.proofs.Replying.{is_over, nothing_ready, IsTaken, takes}
+use Rattle.claim_gate.proofs.state.GateState.take.Goals as goal
+
+pub returns-then-is_over-clause-reply : goal.returns-then-is_over-clause-reply
+returns-then-is_over-clause-reply c = is_over c.self.inside c.args.self.now c.self.view_is c.self.invariant (search rules) (search rules)
+
+pub returns-in_default-clause-reply : goal.returns-in_default-clause-reply
+returns-in_default-clause-reply c =
+    nothing_ready c.self.inside c.args.self.now c.self.view_is c.self.invariant c.reserve.new.self.items c.take.new.self c.in_default.ensures.in_turn c.in_default.ensures.unchanged (search rules) (search rules) (search rules) (search rules)
+
+done : (c : goal.After-append) → IsTaken c.self.inside c.args.self.now c.self.view_is c.self.invariant c.in-Some.picked.position c.in-Some.picked.claim c.in-Some.picked.acc c.append.new.journal.items c.take.new.self
+done c =
+    takes c.self.inside c.args.self.now c.self.view_is c.self.invariant c.in-Some.picked.position c.in-Some.picked.claim c.in-Some.picked.acc c.append.new.journal.items c.take.new.self
+    c.gate_stays_lawful.ensures.take c.in-Some.ensures.in_turn
+    (search rules) (search rules) (search rules) (search rules) (search rules)
+
+pub invariant_of-self-2 : goal.invariant_of-self-2
+invariant_of-self-2 c = (done c).keeps
+
+pub returns-clause-reply : goal.returns-clause-reply
+returns-clause-reply c = (done c).reply
+
+pub returns-clause-lawful : goal.returns-clause-lawful
+returns-clause-lawful c = (done c).keeps.lawful

@@ -1,0 +1,11 @@
+use Rattle.std.proofs.Common.{rules}
+use Rattle.claim_gate.proofs.Filing.{among_texts, reads}
+use Rattle.claim_gate.proofs.tests.filing.open.Goals as goal
+
+pub start-requires-clause-most : goal.start-requires-clause-most
+start-requires-clause-most g c = among_texts c.files-files.result.now c.args.terms.now.files c.args.provider c.files-files.ensures.files (search rules)
+
+pub returns-clause-reader : goal.returns-clause-reader
+returns-clause-reader g c =
+    reads c.reader_begins_with_all_rows.ensures c.plans_need_distinct_names.ensures c.columns_stand_apart.ensures c.args.terms.now c.args.provider c.in_ok-rows.rows c.requires
+    (search rules) (among_texts c.files-files.result.now c.args.terms.now.files c.args.provider c.files-files.ensures.files (search rules)) c.in_ok-rows.ensures

@@ -1,0 +1,6 @@
+pub mod Intakes
+pub mod Parts
+pub mod Kept
+pub mod Replies
+pub mod FaultNumber
+pub mod Worked

@@ -1,0 +1,37 @@
+-- Words of the tests: how far a provider's file is read, and what is in work.
+use Rattle.std.specs.Prelude.{◌≡◌, ℕ, true, List, ◌++◌, length}
+use Rattle.dtable.specs.Plan.{PlanParts}
+use Rattle.dtable.specs.PlanFile.{IsPlanText}
+use Rattle.settlement.specs.declared.claim.Claim.{Claim}
+use Rattle.intake_csv.specs.Laws.{StandApart}
+use Rattle.intake_csv.specs.Rows.{AreRowsLeft, RowsLeft}
+use Rattle.intake_csv.specs.declared.rows.Row.{Row}
+use Rattle.claim_terms.specs.Terms.{claims_among}
+use Rattle.journal.specs.Terms.{Terms, IsProvider, claims_of}
+use Rattle.journal.specs.Events.{taken, IsJob}
+use Rattle.claim_gate.specs.Parts.{GateParts, ForTerms}
+use Rattle.claim_gate.specs.declared.job.Job.{Job}
+
+-- the plan is that of a text
+pub record IsSpelled (plan : PlanParts) : Type 0 where
+  pub text : List ℕ
+  pub spells : IsPlanText text plan
+
+-- the reader has left so many of the provider's claims behind
+pub record IsReader (T : Terms) (provider : ℕ) (left : RowsLeft) : Type 0 where
+  pub known : IsProvider T provider
+  pub front : List Claim
+  pub rows : List Row
+  pub are_rows : AreRowsLeft left rows
+  pub whole : claims_of T provider ≡ front ++ claims_among rows
+  pub counted : length front ≡ left.place
+  pub apart : StandApart left.layout.columns
+
+-- the job is in work
+pub record IsAtWork (gate : GateParts) (job : Job) : Type 0 where
+  pub is_taken : taken gate.journal job.position ≡ true
+  pub its : ForTerms gate.terms (λ T. IsJob T gate.journal job.position job.claim job.acc)
+
+-- what was in work still is
+abbrev pub WorkStays : GateParts → GateParts → Type 0
+WorkStays old new = (job : Job) → IsAtWork old job → IsAtWork new job

@@ -1,0 +1,57 @@
+//! Finished runs.
+ghost use Rattle.std.specs.Prelude.{◌≡◌, IfOk, IfErr};
+ghost use Rattle.journal.specs.Lawful.{Finished};
+ghost use Rattle.claim_gate.specs.Parts.{ForTerms};
+
+use crate::state::GateState;
+use claim_terms::Terms;
+use journal::Event;
+use std::marker::Model;
+
+/// A run whose journal is finished: its terms and its journal.
+#[derive(Debug, Drop)]
+pub struct Batch<'t> {
+    terms: &'t Terms<'t>,
+    journal: Vec<Event>,
+}
+
+impl<'t> Model for Batch<'t> {
+    ghost use Rattle.claim_gate.specs.Parts.{BatchParts, ForTerms};
+    ghost use Rattle.journal.specs.Lawful.{Finished};
+
+    ghost Value = { BatchParts };
+
+    ghost view = { λ b. record { terms = b.terms.now; journal = b.journal.items } };
+
+    ghost invariant = { λ b. ForTerms b.terms.now (λ T. Finished T b.journal.items) };
+}
+
+impl<'t> Batch<'t> {
+    /// The run of a gate, where its journal is finished; the gate comes back where it isn't.
+    pub fn from_state(
+        state: GateState<'t>,
+        terms: &'t Terms<'t>,
+    ) -> Result<Batch<'t>, GateState<'t>>
+        requires { state.terms ≡ terms.now }
+        ensures batch { IfOk result (λ batch. (batch.terms ≡ terms.now) × (batch.journal ≡ state.entry.journal)) }
+        ensures finished { IfOk result (λ batch. ForTerms terms.now (λ T. Finished T batch.journal)) }
+        ensures back { IfErr result (λ back. back ≡ state.entry) }
+        ensures unfinished { IfErr result (λ _. ForTerms terms.now (λ T. ¬ Finished T state.entry.journal)) }
+    {
+        if !state.is_over() {
+            return Err(state);
+        }
+        Ok(Batch {
+            terms,
+            journal: state.into_journal(),
+        })
+    }
+
+    /// The journal, which is finished.
+    pub fn journal(&self) -> &[Event]
+        ensures journal { result.now ≡ self.now.journal }
+        ensures finished { ForTerms self.now.terms (λ T. Finished T self.now.journal) }
+    {
+        &self.journal
+    }
+}

@@ -1,0 +1,128 @@
+//! Why the calls of a gate are refused. A refused call has changed nothing.
+ghost use Rattle.std.specs.Prelude.{◌≡◌};
+ghost use Rattle.claim_gate.specs.FaultNumber.{
+  offer_number_of,
+  end_number_of,
+  take_number_of,
+  finish_number_of,
+};
+
+use thiserror::Error;
+
+/// Why a claim isn't accepted. The faults are tried in this order.
+#[derive(Clone, Copy, Debug, PartialEq, Eq, Hash, Drop, Error)]
+pub enum OfferFault {
+    /// The gate is stopped.
+    #[error("the gate is stopped")]
+    Stopped,
+    /// No more claims are accepted.
+    #[error("no more claims are accepted")]
+    Closed,
+    /// The provider's next claim is that at another place.
+    #[error("the provider's next claim is that at place {expected}")]
+    OutOfTurn {
+        /// The place of the provider's next claim, from 0.
+        expected: usize,
+    },
+    /// No memory.
+    #[error("out of memory")]
+    OutOfMemory,
+}
+
+/// Why a provider doesn't end. The faults are tried in this order.
+#[derive(Clone, Copy, Debug, PartialEq, Eq, Hash, Drop, Error)]
+pub enum EndFault {
+    /// The gate is stopped.
+    #[error("the gate is stopped")]
+    Stopped,
+    /// No more claims are accepted.
+    #[error("no more claims are accepted")]
+    Closed,
+    /// Not all claims of the provider are accepted.
+    #[error("the provider's next claim is that at place {expected}")]
+    OutOfTurn {
+        /// The place of the provider's next claim, from 0.
+        expected: usize,
+    },
+    /// The provider has ended before.
+    #[error("the provider has ended before")]
+    AlreadyEnded,
+    /// No memory.
+    #[error("out of memory")]
+    OutOfMemory,
+}
+
+/// Why no claim can be taken.
+#[derive(Clone, Copy, Debug, PartialEq, Eq, Hash, Drop, Error)]
+pub enum TakeFault {
+    /// No memory.
+    #[error("out of memory")]
+    OutOfMemory,
+}
+
+/// Why a decision isn't recorded. The faults are tried in this order.
+#[derive(Clone, Copy, Debug, PartialEq, Eq, Hash, Drop, Error)]
+pub enum FinishFault {
+    /// The gate is stopped.
+    #[error("the gate is stopped")]
+    Stopped,
+    /// The claim is decided already.
+    #[error("the claim is decided already")]
+    AlreadyDecided,
+    /// No memory.
+    #[error("out of memory")]
+    OutOfMemory,
+}
+
+impl OfferFault {
+    /// The fault's number.
+    pub fn number(self) -> u8
+        ensures { result ≡ offer_number_of self }
+    {
+        match self {
+            OfferFault::Stopped => 2,
+            OfferFault::Closed => 3,
+            OfferFault::OutOfTurn { .. } => 4,
+            OfferFault::OutOfMemory => 5,
+        }
+    }
+}
+
+impl EndFault {
+    /// The fault's number.
+    pub fn number(self) -> u8
+        ensures { result ≡ end_number_of self }
+    {
+        match self {
+            EndFault::Stopped => 2,
+            EndFault::Closed => 3,
+            EndFault::OutOfTurn { .. } => 4,
+            EndFault::AlreadyEnded => 5,
+            EndFault::OutOfMemory => 6,
+        }
+    }
+}
+
+impl TakeFault {
+    /// The fault's number.
+    pub fn number(self) -> u8
+        ensures { result ≡ take_number_of self }
+    {
+        match self {
+            TakeFault::OutOfMemory => 6,
+        }
+    }
+}
+
+impl FinishFault {
+    /// The fault's number.
+    pub fn number(self) -> u8
+        ensures { result ≡ finish_number_of self }
+    {
+        match self {
+            FinishFault::Stopped => 2,
+            FinishFault::AlreadyDecided => 3,
+            FinishFault::OutOfMemory => 4,
+        }
+    }
+}

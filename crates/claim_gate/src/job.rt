@@ -1,0 +1,29 @@
+//! Work on claims.
+ghost use Rattle.std.specs.Prelude.{◌≡◌, IfOk};
+
+use settlement::{Acc, Claim};
+use std::alloc::{AllocError, Global};
+
+/// A claim to be decided.
+#[derive(Debug, Drop)]
+pub struct Job {
+    /// The claim's position: how many claims were accepted before it.
+    pub position: usize,
+    /// The claim.
+    pub claim: Claim,
+    /// Its member's accumulators, as the earlier claims of the member left them.
+    pub acc: Acc,
+}
+
+impl Job {
+    /// A copy, in memory of its own: for a second try.
+    pub fn again(&self, alloc: Global) -> Result<Job, AllocError>
+        ensures { IfOk result (λ copy. copy ≡ self.now) }
+    {
+        Ok(Job {
+            position: self.position,
+            claim: self.claim.duplicate(alloc)?,
+            acc: self.acc,
+        })
+    }
+}

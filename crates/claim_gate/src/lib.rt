@@ -1,0 +1,31 @@
+//! The gate of a run: it accepts the providers' claims, hands each out when its member's turn comes, and keeps the journal.
+//!
+//! A `GateState` is the gate as one thread sees it. `offer` and `end` are the calls of those who read the providers' files,
+//! `take` and `finish` those of who decides claims; `stop` ends all that. Its journal is lawful, always. A `Batch` is a run
+//! whose journal is finished. Terms come from `claim_terms`, the members' turns from `lanes`, and what journals and the
+//! calls are from `journal`.
+//!
+//! Begin with `specs/Parts.antt` and `specs/Replies.antt`, which tie the calls to what `journal` says of them; then read
+//! `state.rt`. What the gate keeps so that no call walks the journal stands in `specs/Kept.antt`.
+#![tactic(auto)]
+
+mod batch;
+mod counts;
+mod fault;
+mod intakes;
+mod job;
+mod offer;
+mod reply;
+mod state;
+#[cfg(test)]
+mod tests;
+
+pub use batch::Batch;
+pub use claim_terms::{Terms, TermsFault};
+pub use counts::Counts;
+pub use fault::{EndFault, FinishFault, OfferFault, TakeFault};
+pub use job::Job;
+pub use journal::{Decision, Event};
+pub use offer::Offer;
+pub use reply::{Accepted, Ended, Recorded, Taken};
+pub use state::GateState;

@@ -1,0 +1,14 @@
+//! Claims, as they are offered.
+
+use settlement::Claim;
+
+/// A claim that is offered: that of a provider, which count from 1, at a place among the claims of its file, from 0.
+#[derive(Debug, Drop)]
+pub struct Offer {
+    /// The provider.
+    pub provider: usize,
+    /// The claim's place among the claims of the provider's file.
+    pub place: usize,
+    /// The claim.
+    pub claim: Claim,
+}

@@ -1,0 +1,343 @@
+//! The gate of one thread.
+ghost use Rattle.std.specs.Prelude.{◌≡◌, ◌+◌, ◌<◌, ◌≤◌, ◌≢◌, ◌↔◌, ◌++◌, ◌∷◌, [], true, false, cond, IsTrue, length, vec_len, vec_capacity, IfOk, IfErr, OnOk, OnErr};
+ghost use Rattle.journal.specs.Terms.{Terms as AnyTerms};
+ghost use Rattle.journal.specs.Events.{places, ended, closed, taken, decided, reached, IsJob};
+ghost use Rattle.journal.specs.Gate.{Continues, Offers, Ends, Takes, Finishes, Stops, Counts as AreCounts};
+ghost use Rattle.journal.specs.Lawful.{Lawful};
+ghost use Rattle.journal.specs.Settled.{outcome_of};
+ghost use Rattle.journal.specs.declared.event.Event.TheVariants as events;
+ghost use Rattle.claim_gate.specs.Kept.{is_due};
+ghost use Rattle.claim_gate.specs.Parts.{ForTerms, at};
+ghost use Rattle.claim_gate.specs.Replies.{offer_reply, end_reply, take_reply, finish_reply, IsFiled, HasClaims, IsOver, IsWorkOf, first_journal};
+
+use crate::counts::Counts;
+use crate::fault::{EndFault, FinishFault, OfferFault, TakeFault};
+use crate::intakes::Intakes;
+use crate::job::Job;
+use crate::offer::Offer;
+use crate::reply::{Accepted, Ended, Recorded, Taken};
+use claim_terms::Terms;
+use journal::{Decision, Event, gate_stays_lawful, starts_lawful};
+use lanes::Lanes;
+use settlement::{Outcome, after};
+use std::alloc::{AllocError, Global};
+use std::marker::Model;
+
+/// A gate of one thread: its terms, its journal, which is lawful, and whether it is stopped.
+///
+/// Each call makes all its growths before its first change, so that a refused one has changed nothing; none walks the
+/// journal, the claims or the members.
+#[derive(Debug, Drop)]
+pub struct GateState<'t> {
+    alloc: Global,
+    terms: &'t Terms<'t>,
+    journal: Vec<Event>,
+    stopped: bool,
+    closed: bool,
+    lanes: Lanes,
+    intakes: Intakes,
+    decisions: usize,
+}
+
+impl<'t> Model for GateState<'t> {
+    ghost use Rattle.claim_gate.specs.Kept.{IsKept};
+    ghost use Rattle.claim_gate.specs.Parts.{GateParts};
+
+    ghost Value = { GateParts };
+
+    ghost view = { λ g. record { terms = g.terms.now; journal = g.journal.items; stopped = g.stopped } };
+
+    ghost invariant = { λ g. IsKept g.terms.now g.journal.items g.lanes g.intakes g.closed g.decisions };
+}
+
+impl<'t> GateState<'t> {
+    /// A gate that nothing was offered yet. With cutoff 0 it is closed at once.
+    pub fn new(alloc: Global, terms: &'t Terms<'t>) -> Result<GateState<'t>, AllocError>
+        ensures { IfOk result (λ made. made ≡ record { terms = terms.now; journal = first_journal terms.now.cutoff; stopped = false }) }
+    {
+        starts_lawful();
+        let mut journal = Vec::new(alloc);
+        journal.reserve(1)?;
+        let intakes = Intakes::new(alloc, terms.files().len())?;
+        let closed = close_if_due(&mut journal, terms, 0, &intakes);
+        Ok(GateState {
+            alloc,
+            terms,
+            journal,
+            stopped: false,
+            closed,
+            lanes: Lanes::new(alloc),
+            intakes,
+            decisions: 0,
+        })
+    }
+
+    /// The journal.
+    pub fn journal(&self) -> &[Event]
+        ensures journal { result.now ≡ self.now.journal }
+        ensures lawful { ForTerms self.now.terms (λ T. Lawful T self.now.journal) }
+    {
+        &self.journal
+    }
+
+    /// The journal alone.
+    pub fn into_journal(self) -> Vec<Event>
+        ensures journal { result.items ≡ self.entry.journal }
+        ensures lawful { ForTerms self.entry.terms (λ T. Lawful T self.entry.journal) }
+    {
+        let GateState { journal, .. } = self;
+        journal
+    }
+
+    /// Offers a claim: it is accepted where it is its provider's next. The offer comes back where it is refused.
+    pub fn offer(&mut self, offer: Offer) -> Result<Accepted, (OfferFault, Offer)>
+        requires { ForTerms self.old.terms (λ T. IsFiled T offer) }
+        ensures reply { ForTerms self.old.terms (λ T. Offers (at T self.old) offer.provider offer.place (offer_reply result) (at T self.new)) }
+        ensures lawful { ForTerms self.new.terms (λ T. Lawful T self.new.journal) }
+        ensures terms { self.new.terms ≡ self.old.terms }
+        ensures goes_on { OnOk result (Continues self.old.journal self.new.journal) }
+        ensures stays_stopped { self.old.stopped ≡ true → self.new ≡ self.old }
+        ensures back { IfErr result (λ refused. refused.1 ≡ offer) }
+        ensures refused { OnErr result (self.new ≡ self.old) }
+    {
+        if self.stopped {
+            return Err((OfferFault::Stopped, offer));
+        }
+        if self.closed {
+            return Err((OfferFault::Closed, offer));
+        }
+        let expected = self.intakes.accepted(offer.provider);
+        if offer.place != expected {
+            return Err((OfferFault::OutOfTurn { expected }, offer));
+        }
+        self.accept(offer)
+    }
+
+    // Accepts the next claim of a provider.
+    fn accept(&mut self, offer: Offer) -> Result<Accepted, (OfferFault, Offer)>
+        requires runs { self.old.stopped ≡ false }
+        requires open_yet { closed self.old.journal ≡ false }
+        requires filed { ForTerms self.old.terms (λ T. IsFiled T offer) }
+        requires in_turn { ForTerms self.old.terms (λ T. offer.place ≡ length (places self.old.journal offer.provider)) }
+        ensures reply { ForTerms self.old.terms (λ T. Offers (at T self.old) offer.provider offer.place (offer_reply result) (at T self.new)) }
+        ensures lawful { ForTerms self.new.terms (λ T. Lawful T self.new.journal) }
+        ensures terms { self.new.terms ≡ self.old.terms }
+        ensures goes_on { OnOk result (Continues self.old.journal self.new.journal) }
+        ensures back { IfErr result (λ refused. refused.1 ≡ offer) }
+        ensures refused { OnErr result (self.new ≡ self.old) }
+    {
+        gate_stays_lawful();
+        if self.journal.reserve(2).is_err() {
+            return Err((OfferFault::OutOfMemory, offer));
+        }
+        let Offer {
+            provider,
+            place,
+            claim,
+        } = offer;
+        let opening = self.terms.opening(claim.member.as_str());
+        let position = self.lanes.len();
+        if let Err(failed) = self.lanes.add(claim, opening) {
+            let claim = failed.value;
+            let offer = Offer {
+                provider,
+                place,
+                claim,
+            };
+            return Err((OfferFault::OutOfMemory, offer));
+        }
+        self.intakes.accept(provider);
+        append(&mut self.journal, Event::Accept { provider, place });
+        let accepted = self.lanes.len();
+        self.closed = close_if_due(&mut self.journal, self.terms, accepted, &self.intakes);
+        Ok(Accepted { position })
+    }
+
+    /// Ends a provider whose claims, so many, are all accepted.
+    pub fn end(&mut self, provider: usize, count: usize) -> Result<Ended, EndFault>
+        requires { ForTerms self.old.terms (λ T. HasClaims T provider count) }
+        ensures reply { ForTerms self.old.terms (λ T. Ends (at T self.old) provider count (end_reply result) (at T self.new)) }
+        ensures lawful { ForTerms self.new.terms (λ T. Lawful T self.new.journal) }
+        ensures terms { self.new.terms ≡ self.old.terms }
+        ensures goes_on { OnOk result (Continues self.old.journal self.new.journal) }
+        ensures stays_stopped { self.old.stopped ≡ true → self.new ≡ self.old }
+        ensures refused { OnErr result (self.new ≡ self.old) }
+    {
+        gate_stays_lawful();
+        if self.stopped {
+            return Err(EndFault::Stopped);
+        }
+        if self.closed {
+            return Err(EndFault::Closed);
+        }
+        let expected = self.intakes.accepted(provider);
+        if expected < count {
+            return Err(EndFault::OutOfTurn { expected });
+        }
+        if self.intakes.is_ended(provider) {
+            return Err(EndFault::AlreadyEnded);
+        }
+        if self.journal.reserve(2).is_err() {
+            return Err(EndFault::OutOfMemory);
+        }
+        self.intakes.end(provider);
+        append(&mut self.journal, Event::End { provider });
+        let accepted = self.lanes.len();
+        self.closed = close_if_due(&mut self.journal, self.terms, accepted, &self.intakes);
+        Ok(Ended)
+    }
+
+    /// Takes a claim whose member's earlier claims are all decided.
+    pub fn take(&mut self) -> Result<Taken, TakeFault>
+        ensures reply { ForTerms self.old.terms (λ T. Takes (at T self.old) (take_reply result) (at T self.new)) }
+        ensures work { IfOk result (IsWorkOf self.old self.new) }
+        ensures lawful { ForTerms self.new.terms (λ T. Lawful T self.new.journal) }
+        ensures terms { self.new.terms ≡ self.old.terms }
+        ensures stays_stopped { self.old.stopped ≡ true → self.new ≡ self.old }
+        ensures refused { OnErr result (self.new ≡ self.old) }
+    {
+        gate_stays_lawful();
+        if self.stopped {
+            return Ok(Taken::Stopped);
+        }
+        if self.is_over() {
+            return Ok(Taken::Over);
+        }
+        if self.journal.reserve(1).is_err() {
+            return Err(TakeFault::OutOfMemory);
+        }
+        let Some(picked) = self.lanes.take() else {
+            return Ok(Taken::NothingReady);
+        };
+        let position = picked.position;
+        append(&mut self.journal, Event::Take { position });
+        Ok(Taken::Work(Job {
+            position,
+            claim: picked.claim,
+            acc: picked.acc,
+        }))
+    }
+
+    /// Records the outcome of a job. Both come back where it is refused.
+    pub fn finish(
+        &mut self,
+        job: Job,
+        outcome: Outcome,
+    ) -> Result<Recorded, (FinishFault, Job, Outcome)>
+        requires in_work { taken self.old.journal job.position ≡ true }
+        requires job { ForTerms self.old.terms (λ T. IsJob T self.old.journal job.position job.claim job.acc) }
+        requires settled { outcome ≡ outcome_of self.old.terms.plan job.claim job.acc }
+        ensures reply { ForTerms self.old.terms (λ T. Finishes (at T self.old) job.position outcome (finish_reply result) (at T self.new)) }
+        ensures lawful { ForTerms self.new.terms (λ T. Lawful T self.new.journal) }
+        ensures terms { self.new.terms ≡ self.old.terms }
+        ensures recorded { OnOk result (self.new ≡ record self.old { journal = self.old.journal ++ events.Decide job.position outcome ∷ [] }) }
+        ensures stays_stopped { self.old.stopped ≡ true → self.new ≡ self.old }
+        ensures back { IfErr result (λ refused. (refused.1 ≡ job) × (refused.2 ≡ outcome)) }
+        ensures refused { OnErr result (self.new ≡ self.old) }
+    {
+        if self.stopped {
+            return Err((FinishFault::Stopped, job, outcome));
+        }
+        if self.lanes.is_decided(job.position) {
+            return Err((FinishFault::AlreadyDecided, job, outcome));
+        }
+        self.record(job, outcome)
+    }
+
+    // Records the outcome of a claim in work.
+    fn record(
+        &mut self,
+        job: Job,
+        outcome: Outcome,
+    ) -> Result<Recorded, (FinishFault, Job, Outcome)>
+        requires runs { self.old.stopped ≡ false }
+        requires once { decided self.old.journal job.position ≡ false }
+        requires in_work { taken self.old.journal job.position ≡ true }
+        requires job { ForTerms self.old.terms (λ T. IsJob T self.old.journal job.position job.claim job.acc) }
+        requires settled { outcome ≡ outcome_of self.old.terms.plan job.claim job.acc }
+        ensures reply { ForTerms self.old.terms (λ T. Finishes (at T self.old) job.position outcome (finish_reply result) (at T self.new)) }
+        ensures lawful { ForTerms self.new.terms (λ T. Lawful T self.new.journal) }
+        ensures terms { self.new.terms ≡ self.old.terms }
+        ensures recorded { OnOk result (self.new ≡ record self.old { journal = self.old.journal ++ events.Decide job.position outcome ∷ [] }) }
+        ensures back { IfErr result (λ refused. (refused.1 ≡ job) × (refused.2 ≡ outcome)) }
+        ensures refused { OnErr result (self.new ≡ self.old) }
+    {
+        gate_stays_lawful();
+        let left = after(job.acc, &outcome).unwrap();
+        if self.journal.reserve(1).is_err() {
+            return Err((FinishFault::OutOfMemory, job, outcome));
+        }
+        let decision = match Decision::new(self.alloc, outcome) {
+            Ok(decision) => decision,
+            Err(failed) => return Err((FinishFault::OutOfMemory, job, failed.value)),
+        };
+        let position = job.position;
+        if self.lanes.decide(position, left).is_err() {
+            return Err((FinishFault::OutOfMemory, job, decision.into_outcome()));
+        }
+        self.decisions += 1;
+        let outcome = decision;
+        append(&mut self.journal, Event::Decide { position, outcome });
+        Ok(Recorded)
+    }
+
+    /// Stops the gate: from now on each call answers so. The journal stays as it is.
+    pub fn stop(&mut self)
+        ensures { self.new ≡ record self.old { stopped = true } }
+    {
+        self.stopped = true;
+    }
+
+    /// How far the gate is.
+    pub fn counts(&self) -> Counts
+        ensures { (T : AnyTerms) → AreCounts (at T self.now) result.accepted result.ended result.decided result.closed result.stopped }
+    {
+        Counts {
+            accepted: self.lanes.len(),
+            ended: self.intakes.ended(),
+            decided: self.decisions,
+            closed: self.closed,
+            stopped: self.stopped,
+        }
+    }
+
+    /// Whether the journal is closed, and each claim decided.
+    pub(crate) fn is_over(&self) -> bool
+        ensures { IsTrue result ↔ IsOver self.now.journal }
+    {
+        self.closed && self.decisions == self.lanes.len()
+    }
+}
+
+// Puts the close behind the journal where it is due, and says whether it is.
+fn close_if_due(journal: &mut Vec<Event>, terms: &Terms, accepted: usize, intakes: &Intakes) -> bool
+    requires { vec_len journal.old < vec_capacity journal.old }
+    ensures due { result ≡ is_due terms.now accepted intakes.now }
+    ensures journal { journal.new.items ≡ cond result (journal.old.items ++ events.Close ∷ []) journal.old.items }
+{
+    let due = is_reached(terms.cutoff(), accepted) || intakes.all_ended();
+    if due {
+        append(journal, Event::Close);
+    }
+    due
+}
+
+// Whether so many claims are as many as the cutoff admits.
+fn is_reached(cutoff: Option<u64>, accepted: usize) -> bool
+    ensures { result ≡ reached cutoff accepted }
+{
+    cutoff == Some(accepted as u64)
+}
+
+// Puts an event behind the journal, which has room for it.
+fn append(journal: &mut Vec<Event>, event: Event)
+    requires { vec_len journal.old < vec_capacity journal.old }
+    ensures items { journal.new.items ≡ journal.old.items ++ event ∷ [] }
+    ensures len { vec_len journal.new ≡ vec_len journal.old + 1 }
+    ensures capacity { vec_capacity journal.old ≤ vec_capacity journal.new }
+{
+    match journal.push(event) {
+        Ok(()) => {}
+        Err(_) => unreachable!(),
+    }
+}

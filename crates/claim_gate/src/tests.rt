@@ -1,0 +1,163 @@
+//! The gate by worked examples.
+
+mod calls;
+mod filing;
+mod worked;
+
+use crate::{
+    Batch, Counts, EndFault, Event, FinishFault, GateState, OfferFault, TakeFault, Taken, Terms,
+};
+use dtable::{Plan, read_plan};
+use std::alloc::Global;
+use std::process::Abort;
+use std::test::Fail;
+
+/// A plan with a deductible, a copay, a coinsurance and a limit.
+const PLAN: &[u8] = br#"version = 1
+fields = [{name = "code", kind = "text"}]
+
+[roles]
+cover = "covered"
+fee = "fee"
+deductible = "50"
+copay = "10"
+rate = "0.2"
+oop_max = "60"
+remarks = "note"
+
+[[tables]]
+inputs = [{name = "code"}]
+outputs = [{name = "covered", kind = "flag"}, {name = "fee", kind = "number"}]
+rules = [
+  {when = ['"A"'], then = ['true', '100']},
+  {when = ['"B"'], then = ['true', '40']},
+  {when = ['"X"'], then = ['false', '0']},
+]
+
+[[tables]]
+hit = "R"
+inputs = [{name = "billed"}, {name = "met"}]
+outputs = [{name = "note", kind = "text"}]
+rules = [
+  {when = ['>100', '-'], then = ['"OVER"']},
+  {when = ['-', '>=50'], then = ['"MET"']},
+]
+"#;
+
+const FIRST_FILE: &[u8] = b"claim,member,service,billed,code
+c1,M1,2024-01-05,120.00,A
+c2,M1,2024-02-01,40.00,B
+c3,M1,2024-02-02,40.00,Z
+c4,M1,2024-03-01,100.00,A
+";
+
+const SECOND_FILE: &[u8] = b"claim,member,service,billed,code
+d1,M2,2024-01-09,30.00,B
+d2,M2,2024-01-10,9.999,B
+d3,M2,2024-01-11,10.00,X
+";
+
+fn plan(rt: &impl Abort, alloc: Global) -> Plan {
+    read_plan(alloc, PLAN).expect(rt, "a plan")
+}
+
+// Whether the answer of `take` is that nothing is left to do.
+fn is_over(reply: &Result<Taken, TakeFault>) -> bool {
+    matches!(reply, Ok(Taken::Over))
+}
+
+fn is_nothing_ready(reply: &Result<Taken, TakeFault>) -> bool {
+    matches!(reply, Ok(Taken::NothingReady))
+}
+
+fn is_stopped(reply: &Result<Taken, TakeFault>) -> bool {
+    matches!(reply, Ok(Taken::Stopped))
+}
+
+// How far a gate is, without a stop.
+fn counts(accepted: usize, ended: usize, decided: usize, closed: bool) -> Counts {
+    Counts {
+        accepted,
+        ended,
+        decided,
+        closed,
+        stopped: false,
+    }
+}
+
+#[test]
+fn nothing_is_offered_yet(rt: HostRuntime) -> Result<(), Fail> {
+    let plan = plan(&rt, rt.alloc());
+    let files = [FIRST_FILE, SECOND_FILE];
+    let terms = Terms::new(rt.alloc(), &plan, &files, None, None).expect(&rt, "terms");
+    let mut gate = GateState::new(rt.alloc(), &terms)?;
+    assert!(rt; gate.journal().is_empty());
+    assert!(rt; gate.counts() == counts(0, 0, 0, false));
+    assert!(rt; is_nothing_ready(&gate.take()));
+    let back = Batch::from_state(gate, &terms);
+    assert!(rt; back.is_err());
+    Ok(())
+}
+
+#[test]
+fn no_claim_is_admitted(rt: HostRuntime) -> Result<(), Fail> {
+    let plan = plan(&rt, rt.alloc());
+    let files = [FIRST_FILE, SECOND_FILE];
+    let terms = Terms::new(rt.alloc(), &plan, &files, None, Some(0)).expect(&rt, "terms");
+    let mut gate = GateState::new(rt.alloc(), &terms)?;
+    assert!(rt; matches!(gate.journal(), [Event::Close]));
+    assert!(rt; gate.counts() == counts(0, 0, 0, true));
+    assert!(rt; is_over(&gate.take()));
+    let batch = match Batch::from_state(gate, &terms) {
+        Ok(batch) => batch,
+        Err(_) => return Err("a finished journal".into()),
+    };
+    assert!(rt; matches!(batch.journal(), [Event::Close]));
+    Ok(())
+}
+
+#[test]
+fn a_stopped_gate_hands_nothing_out(rt: HostRuntime) -> Result<(), Fail> {
+    let plan = plan(&rt, rt.alloc());
+    let files = [FIRST_FILE, SECOND_FILE];
+    let terms = Terms::new(rt.alloc(), &plan, &files, None, Some(0)).expect(&rt, "terms");
+    let mut gate = GateState::new(rt.alloc(), &terms)?;
+    gate.stop();
+    assert!(rt; gate.counts().stopped && gate.counts().closed);
+    assert!(rt; is_stopped(&gate.take()));
+    assert!(rt; gate.into_journal().len() == 1);
+    Ok(())
+}
+
+#[test]
+fn a_gate_is_made_or_no_memory(rt: HostRuntime) -> Result<(), Fail> {
+    let Ok(plan) = read_plan(rt.alloc(), PLAN) else {
+        return Ok(());
+    };
+    let files = [FIRST_FILE, SECOND_FILE];
+    let Ok(terms) = Terms::new(rt.alloc(), &plan, &files, None, Some(0)) else {
+        return Ok(());
+    };
+    if let Ok(mut gate) = GateState::new(rt.alloc(), &terms) {
+        assert!(rt; gate.journal().len() == 1);
+        assert!(rt; is_over(&gate.take()));
+    }
+    Ok(())
+}
+
+#[test]
+fn faults_have_numbers(rt: HostRuntime) {
+    assert!(rt; OfferFault::Stopped.number() == 2);
+    assert!(rt; OfferFault::Closed.number() == 3);
+    assert!(rt; OfferFault::OutOfTurn { expected: 1 }.number() == 4);
+    assert!(rt; OfferFault::OutOfMemory.number() == 5);
+    assert!(rt; EndFault::Stopped.number() == 2);
+    assert!(rt; EndFault::Closed.number() == 3);
+    assert!(rt; EndFault::OutOfTurn { expected: 1 }.number() == 4);
+    assert!(rt; EndFault::AlreadyEnded.number() == 5);
+    assert!(rt; EndFault::OutOfMemory.number() == 6);
+    assert!(rt; TakeFault::OutOfMemory.number() == 6);
+    assert!(rt; FinishFault::Stopped.number() == 2);
+    assert!(rt; FinishFault::AlreadyDecided.number() == 3);
+    assert!(rt; FinishFault::OutOfMemory.number() == 4);
+}

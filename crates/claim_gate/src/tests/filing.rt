@@ -1,0 +1,125 @@
+//! The claims of providers' files, one after another, as who reads the files offers them.
+ghost use Rattle.std.specs.Prelude.{◌≡◌, ◌≤◌, ◌+◌, ◌-◌, [], get_or, length, IfOk, OnOk};
+ghost use Rattle.intake_csv.specs.Rows.{IsAtStart};
+ghost use Rattle.claim_gate.specs.Parts.{ForTerms};
+ghost use Rattle.claim_gate.specs.Replies.{HasClaims, IsFiled};
+ghost use Rattle.claim_gate.specs.Worked.{IsReader, IsSpelled};
+
+use crate::{Offer, Terms};
+use dtable::{Plan, read_plan};
+use intake_csv::{
+    FileFault, Row, Rows, columns_stand_apart, given_row_is_the_first, no_records_give_no_rows,
+    plans_need_distinct_names, reader_begins_with_all_rows,
+};
+use std::alloc::{AllocError, Global};
+use std::process::Abort;
+
+// The plan of a text.
+pub fn plan_of(alloc: Global, text: &[u8]) -> Result<Plan, AllocError>
+    ensures { IfOk result IsSpelled }
+{
+    let Ok(plan) = read_plan(alloc, text) else {
+        return Err(AllocError);
+    };
+    Ok(plan)
+}
+
+// The terms of a plan and of files, without balances.
+pub fn terms_of<'a>(
+    alloc: Global,
+    plan: &'a Plan,
+    files: &'a [&'a [u8]],
+    cutoff: Option<u64>,
+) -> Result<Terms<'a>, AllocError>
+    requires { IsSpelled plan.now }
+    ensures { IfOk result (λ terms. IsSpelled terms.plan) }
+{
+    let Ok(terms) = Terms::new(alloc, plan, files, None, cutoff) else {
+        return Err(AllocError);
+    };
+    Ok(terms)
+}
+
+// The rows of a provider's file.
+fn start(rt: &impl Abort, alloc: Global, terms: &Terms, provider: usize) -> Result<Rows, AllocError>
+    requires least { 1 ≤ provider }
+    requires most { provider ≤ length terms.now.files }
+    ensures { IfOk result (IsAtStart terms.now.plan.names (get_or terms.now.files (provider - 1) [])) }
+{
+    match Rows::new(alloc, terms.plan(), terms.files()[provider - 1]) {
+        Ok(rows) => Ok(rows),
+        Err(FileFault::OutOfMemory) => Err(AllocError),
+        Err(_) => panic!(rt; "a file of claims"),
+    }
+}
+
+// A reader at the start of a provider's file.
+pub fn open(
+    rt: &impl Abort,
+    alloc: Global,
+    terms: &Terms,
+    provider: usize,
+) -> Result<Rows, AllocError>
+    requires { IsSpelled terms.now.plan }
+    ensures reader { IfOk result (λ rows. ForTerms terms.now (λ T. IsReader T provider rows)) }
+    ensures place { IfOk result (λ rows. rows.place ≡ 0) }
+{
+    reader_begins_with_all_rows();
+    plans_need_distinct_names();
+    columns_stand_apart();
+    let files = terms.files();
+    assert!(rt; 1 <= provider && provider <= files.len());
+    let rows = start(rt, alloc, terms, provider)?;
+    Ok(rows)
+}
+
+// The next record of a provider's file, a claim, as an offer.
+pub fn next_offer(
+    rt: &impl Abort,
+    terms: &Terms,
+    provider: usize,
+    rows: &mut Rows,
+) -> Result<Offer, AllocError>
+    requires { ForTerms terms.now (λ T. IsReader T provider rows.old) }
+    ensures filed { IfOk result (λ offer. ForTerms terms.now (λ T. IsFiled T offer)) }
+    ensures reader { OnOk result (ForTerms terms.now (λ T. IsReader T provider rows.new)) }
+    ensures place { OnOk result (rows.new.place ≡ rows.old.place + 1) }
+{
+    given_row_is_the_first();
+    let _plan = terms.plan();
+    match rows.next()? {
+        Some(Row::Good { place, claim, .. }) => Ok(Offer {
+            provider,
+            place,
+            claim,
+        }),
+        _ => panic!(rt; "a claim"),
+    }
+}
+
+// Reads a provider's file to its end: so many claims, and nothing else.
+pub fn read_all(
+    rt: &impl Abort,
+    alloc: Global,
+    terms: &Terms,
+    provider: usize,
+    count: usize,
+) -> Result<(), AllocError>
+    requires { IsSpelled terms.now.plan }
+    ensures { OnOk result (ForTerms terms.now (λ T. HasClaims T provider count)) }
+{
+    no_records_give_no_rows();
+    let mut rows = open(rt, alloc, terms, provider)?;
+    for _ in 0..count {
+        next_offer(rt, terms, provider, &mut rows)?;
+    }
+    match rows.next()? {
+        None => Ok(()),
+        Some(_) => panic!(rt; "the end of the file"),
+    }
+}
+
+// Whether an offer is the claim of this number, of a provider and place.
+pub fn is_offer(offer: &Offer, provider: usize, place: usize, id: &str) -> bool {
+    offer.provider == provider && offer.place == place && offer.claim.id.as_str() == id
+}

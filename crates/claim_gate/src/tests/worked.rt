@@ -1,0 +1,469 @@
+//! Calls of a gate that were worked by hand, each also with an allocation refused. Amounts are in ten-thousandths.
+ghost use Rattle.std.specs.Prelude.{◌≡◌, IfOk, OnOk};
+ghost use Rattle.claim_gate.specs.Parts.{ForTerms};
+ghost use Rattle.claim_gate.specs.Worked.{IsAtWork, IsReader, IsSpelled, WorkStays};
+
+use super::calls::{
+    accept_next, end, find_nothing, find_stopped, halt, record, refuse, refuse_end, refuse_outcome,
+    take_job,
+};
+use super::filing::{is_offer, next_offer, open, plan_of, read_all, terms_of};
+use super::{FIRST_FILE, PLAN, SECOND_FILE, counts, is_over};
+use crate::{Batch, EndFault, Event, FinishFault, GateState, Job, Offer, OfferFault, Terms};
+use intake_csv::Rows;
+use settlement::{Acc, Outcome, Verdict};
+use std::alloc::{AllocError, Global};
+use std::process::Abort;
+use std::test::Fail;
+
+const HEADER: &[u8] = b"claim,member,service,billed,code\n";
+
+const ONE_CLAIM: &[u8] = b"claim,member,service,billed,code
+c1,M1,2024-01-05,120.00,A
+";
+
+fn is_at(acc: Acc, met: i64, oop: i64, paid: i64) -> bool {
+    acc.met.amount().units() == met
+        && acc.oop.amount().units() == oop
+        && acc.paid.amount().units() == paid
+}
+
+fn is_paid_40(outcome: &Outcome) -> bool {
+    matches!(outcome.verdict, Verdict::Paid) && outcome.paid.amount().units() == 400_000
+}
+
+fn is_job(job: &Job, position: usize, id: &str) -> bool {
+    job.position == position && job.claim.id.as_str() == id
+}
+
+// A gate that has accepted the first provider's first claim, and the reader of the file behind it.
+fn begin<'t>(
+    rt: &impl Abort,
+    alloc: Global,
+    terms: &'t Terms<'t>,
+) -> Result<(GateState<'t>, Rows), AllocError>
+    requires { IsSpelled terms.now.plan }
+    ensures terms { IfOk result (λ begun. begun.0.terms ≡ terms.now) }
+    ensures reader { IfOk result (λ begun. ForTerms terms.now (λ T. IsReader T 1 begun.1)) }
+{
+    let mut rows = open(rt, alloc, terms, 1)?;
+    let mut gate = GateState::new(alloc, terms)?;
+    accept_next(rt, terms, &mut gate, 1, &mut rows, 0)?;
+    Ok((gate, rows))
+}
+
+// The first provider's first claim is refused when it is offered again.
+fn offer_again<'t>(
+    rt: &impl Abort,
+    alloc: Global,
+    terms: &'t Terms<'t>,
+    gate: &mut GateState<'t>,
+) -> Result<(), AllocError>
+    requires plan { IsSpelled terms.now.plan }
+    requires terms { gate.old.terms ≡ terms.now }
+    ensures terms { gate.new.terms ≡ terms.now }
+{
+    let mut rows = open(rt, alloc, terms, 1)?;
+    let offer = next_offer(rt, terms, 1, &mut rows)?;
+    let back = refuse(
+        rt,
+        terms,
+        gate,
+        offer,
+        OfferFault::OutOfTurn { expected: 1 },
+    );
+    assert!(rt; is_offer(&back, 1, 0, "c1"));
+    Ok(())
+}
+
+// Takes the first claim.
+fn take_first<'t>(
+    rt: &impl Abort,
+    alloc: Global,
+    terms: &'t Terms<'t>,
+    gate: &mut GateState<'t>,
+) -> Result<Job, AllocError>
+    requires plan { IsSpelled terms.now.plan }
+    requires terms { gate.old.terms ≡ terms.now }
+    ensures terms { gate.new.terms ≡ terms.now }
+    ensures at_work { IfOk result (λ job. IsAtWork gate.new job) }
+{
+    offer_again(rt, alloc, terms, gate)?;
+    let job = take_job(rt, terms, gate, 0)?;
+    assert!(rt; is_job(&job, 0, "c1"));
+    assert!(rt; is_at(job.acc, 0, 0, 0));
+    Ok(job)
+}
+
+// The member's second claim waits; the claim of another member is taken.
+fn other_calls<'t>(
+    rt: &impl Abort,
+    alloc: Global,
+    terms: &'t Terms<'t>,
+    gate: &mut GateState<'t>,
+    rows: &mut Rows,
+) -> Result<(), AllocError>
+    requires plan { IsSpelled terms.now.plan }
+    requires terms { gate.old.terms ≡ terms.now }
+    requires reader { ForTerms terms.now (λ T. IsReader T 1 rows.old) }
+    ensures terms { gate.new.terms ≡ terms.now }
+    ensures stays { OnOk result (WorkStays gate.old gate.new) }
+    ensures reader { OnOk result (ForTerms terms.now (λ T. IsReader T 1 rows.new)) }
+{
+    let mut second = open(rt, alloc, terms, 2)?;
+    find_nothing(rt, terms, gate)?;
+    accept_next(rt, terms, gate, 1, rows, 1)?;
+    find_nothing(rt, terms, gate)?;
+    accept_next(rt, terms, gate, 2, &mut second, 2)?;
+    let job = take_job(rt, terms, gate, 2)?;
+    assert!(rt; is_job(&job, 2, "d1") && is_at(job.acc, 0, 0, 0));
+    Ok(())
+}
+
+// The calls behind the first ones: the first member's first claim is decided, and its second one is taken at what that
+// left. Gives that job.
+fn later_calls<'t>(
+    rt: &impl Abort,
+    alloc: Global,
+    terms: &'t Terms<'t>,
+    gate: &mut GateState<'t>,
+    job: Job,
+    rows: &mut Rows,
+) -> Result<Job, AllocError>
+    requires plan { IsSpelled terms.now.plan }
+    requires terms { gate.old.terms ≡ terms.now }
+    requires at_work { IsAtWork gate.old job }
+    requires reader { ForTerms terms.now (λ T. IsReader T 1 rows.old) }
+    ensures terms { gate.new.terms ≡ terms.now }
+    ensures at_work { IfOk result (λ next. IsAtWork gate.new next) }
+    ensures reader { OnOk result (ForTerms terms.now (λ T. IsReader T 1 rows.new)) }
+{
+    other_calls(rt, alloc, terms, gate, rows)?;
+    record(rt, alloc, terms, gate, job)?;
+    let next = take_job(rt, terms, gate, 1)?;
+    assert!(rt; is_job(&next, 1, "c2"));
+    assert!(rt; is_at(next.acc, 500_000, 600_000, 400_000));
+    read_all(rt, alloc, terms, 1, 4)?;
+    let out_of_turn = EndFault::OutOfTurn { expected: 2 };
+    refuse_end(rt, terms, gate, 1, 4, out_of_turn);
+    assert!(rt; gate.counts() == counts(3, 0, 1, false));
+    Ok(next)
+}
+
+// Whether a journal is that of the worked calls.
+fn is_worked(journal: &[Event]) -> bool {
+    matches!(
+        journal,
+        [
+            Event::Accept {
+                provider: 1,
+                place: 0
+            },
+            Event::Take { position: 0 },
+            Event::Accept {
+                provider: 1,
+                place: 1
+            },
+            Event::Accept {
+                provider: 2,
+                place: 0
+            },
+            Event::Take { position: 2 },
+            Event::Decide { position: 0, .. },
+            Event::Take { position: 1 },
+        ]
+    )
+}
+
+// The calls in turn, and a run that isn't finished: the gate comes back.
+fn turn_calls<'t>(rt: &impl Abort, alloc: Global, terms: &'t Terms<'t>) -> Result<(), AllocError>
+    requires { IsSpelled terms.now.plan }
+{
+    let (mut gate, mut rows) = begin(rt, alloc, terms)?;
+    let job = take_first(rt, alloc, terms, &mut gate)?;
+    let _next = later_calls(rt, alloc, terms, &mut gate, job, &mut rows)?;
+    assert!(rt; is_worked(gate.journal()));
+    match Batch::from_state(gate, terms) {
+        Ok(_) => panic!(rt; "a journal that isn't finished"),
+        Err(back) => assert!(rt; is_worked(&back.into_journal())),
+    }
+    Ok(())
+}
+
+fn take_turns(rt: &impl Abort, alloc: Global) -> Result<(), AllocError> {
+    let plan = plan_of(alloc, PLAN)?;
+    let files = [FIRST_FILE, SECOND_FILE];
+    let terms = terms_of(alloc, &plan, &files, None)?;
+    turn_calls(rt, alloc, &terms)
+}
+
+#[test]
+fn a_member_s_claims_take_turns(rt: HostRuntime) -> Result<(), Fail> {
+    take_turns(&rt, rt.alloc())?;
+    Ok(())
+}
+
+#[test]
+fn claims_take_turns_or_no_memory(rt: HostRuntime) {
+    let _wanting = take_turns(&rt, rt.alloc());
+}
+
+// A job and its copy: the outcome is recorded once.
+fn decide_copy<'t>(
+    rt: &impl Abort,
+    alloc: Global,
+    terms: &'t Terms<'t>,
+    gate: &mut GateState<'t>,
+    job: Job,
+) -> Result<(), AllocError>
+    requires terms { gate.old.terms ≡ terms.now }
+    requires at_work { IsAtWork gate.old job }
+{
+    let copy = job.again(alloc)?;
+    assert!(rt; is_job(&copy, 0, "c1"));
+    assert!(rt; is_at(copy.acc, 0, 0, 0));
+    record(rt, alloc, terms, gate, job)?;
+    let decided = FinishFault::AlreadyDecided;
+    let (back, outcome) = refuse_outcome(rt, alloc, terms, gate, copy, decided)?;
+    assert!(rt; is_job(&back, 0, "c1"));
+    assert!(rt; is_paid_40(&outcome));
+    assert!(rt; gate.counts() == counts(1, 0, 1, false));
+    Ok(())
+}
+
+fn decide_twice(rt: &impl Abort, alloc: Global) -> Result<(), AllocError> {
+    let plan = plan_of(alloc, PLAN)?;
+    let files = [FIRST_FILE, SECOND_FILE];
+    let terms = terms_of(alloc, &plan, &files, None)?;
+    copy_calls(rt, alloc, &terms)
+}
+
+fn copy_calls<'t>(rt: &impl Abort, alloc: Global, terms: &'t Terms<'t>) -> Result<(), AllocError>
+    requires { IsSpelled terms.now.plan }
+{
+    let (mut gate, _) = begin(rt, alloc, terms)?;
+    let job = take_first(rt, alloc, terms, &mut gate)?;
+    decide_copy(rt, alloc, terms, &mut gate, job)
+}
+
+#[test]
+fn an_outcome_is_recorded_once(rt: HostRuntime) -> Result<(), Fail> {
+    decide_twice(&rt, rt.alloc())?;
+    Ok(())
+}
+
+#[test]
+fn an_outcome_is_recorded_once_or_no_memory(rt: HostRuntime) {
+    let _wanting = decide_twice(&rt, rt.alloc());
+}
+
+// The first provider's next claim and its end are refused; the offer comes back.
+fn refuse_intake<'t>(
+    rt: &impl Abort,
+    alloc: Global,
+    terms: &'t Terms<'t>,
+    gate: &mut GateState<'t>,
+    rows: &mut Rows,
+    faults: (OfferFault, EndFault),
+) -> Result<Offer, AllocError>
+    requires plan { IsSpelled terms.now.plan }
+    requires terms { gate.old.terms ≡ terms.now }
+    requires reader { ForTerms terms.now (λ T. IsReader T 1 rows.old) }
+    ensures terms { gate.new.terms ≡ terms.now }
+    ensures stays { OnOk result (WorkStays gate.old gate.new) }
+{
+    let offer = next_offer(rt, terms, 1, rows)?;
+    read_all(rt, alloc, terms, 1, 4)?;
+    let (offer_fault, end_fault) = faults;
+    let back = refuse(rt, terms, gate, offer, offer_fault);
+    refuse_end(rt, terms, gate, 1, 4, end_fault);
+    Ok(back)
+}
+
+// Each call behind a stop.
+fn call_stopped<'t>(
+    rt: &impl Abort,
+    alloc: Global,
+    terms: &'t Terms<'t>,
+    gate: &mut GateState<'t>,
+    job: Job,
+    rows: &mut Rows,
+) -> Result<(), AllocError>
+    requires plan { IsSpelled terms.now.plan }
+    requires terms { gate.old.terms ≡ terms.now }
+    requires at_work { IsAtWork gate.old job }
+    requires reader { ForTerms terms.now (λ T. IsReader T 1 rows.old) }
+{
+    halt(terms, gate);
+    let faults = (OfferFault::Stopped, EndFault::Stopped);
+    let offer = refuse_intake(rt, alloc, terms, gate, rows, faults)?;
+    assert!(rt; is_offer(&offer, 1, 2, "c3"));
+    find_stopped(rt, terms, gate);
+    let stopped = FinishFault::Stopped;
+    let (back, outcome) = refuse_outcome(rt, alloc, terms, gate, job, stopped)?;
+    assert!(rt; is_job(&back, 1, "c2"));
+    assert!(rt; is_paid_40(&outcome));
+    assert!(rt; gate.counts().stopped);
+    assert!(rt; is_worked(gate.journal()));
+    Ok(())
+}
+
+fn stop_calls<'t>(rt: &impl Abort, alloc: Global, terms: &'t Terms<'t>) -> Result<(), AllocError>
+    requires { IsSpelled terms.now.plan }
+{
+    let (mut gate, mut rows) = begin(rt, alloc, terms)?;
+    let job = take_first(rt, alloc, terms, &mut gate)?;
+    let next = later_calls(rt, alloc, terms, &mut gate, job, &mut rows)?;
+    call_stopped(rt, alloc, terms, &mut gate, next, &mut rows)
+}
+
+fn stop(rt: &impl Abort, alloc: Global) -> Result<(), AllocError> {
+    let plan = plan_of(alloc, PLAN)?;
+    let files = [FIRST_FILE, SECOND_FILE];
+    let terms = terms_of(alloc, &plan, &files, None)?;
+    stop_calls(rt, alloc, &terms)
+}
+
+#[test]
+fn a_stopped_gate_refuses_each_call(rt: HostRuntime) -> Result<(), Fail> {
+    stop(&rt, rt.alloc())?;
+    Ok(())
+}
+
+#[test]
+fn a_stopped_gate_or_no_memory(rt: HostRuntime) {
+    let _wanting = stop(&rt, rt.alloc());
+}
+
+// The first provider's only claim is accepted, and the provider ends.
+fn end_first<'t>(
+    rt: &impl Abort,
+    alloc: Global,
+    terms: &'t Terms<'t>,
+) -> Result<GateState<'t>, AllocError>
+    requires { IsSpelled terms.now.plan }
+    ensures { IfOk result (λ gate. gate.terms ≡ terms.now) }
+{
+    let (mut gate, _) = begin(rt, alloc, terms)?;
+    read_all(rt, alloc, terms, 1, 1)?;
+    end(rt, terms, &mut gate, 1, 1)?;
+    Ok(gate)
+}
+
+// Whether a journal is a claim's accept, the provider's end and the close.
+fn is_closed(journal: &[Event]) -> bool {
+    matches!(
+        journal,
+        [
+            Event::Accept { .. },
+            Event::End { provider: 1 },
+            Event::Close
+        ]
+    )
+}
+
+// Whether it is a claim's accept and the provider's end.
+fn is_ended(journal: &[Event]) -> bool {
+    matches!(journal, [Event::Accept { .. }, Event::End { provider: 1 }])
+}
+
+// Takes and decides the only claim.
+fn decide_only<'t>(
+    rt: &impl Abort,
+    alloc: Global,
+    terms: &'t Terms<'t>,
+    gate: &mut GateState<'t>,
+) -> Result<(), AllocError>
+    requires { gate.old.terms ≡ terms.now }
+    ensures { gate.new.terms ≡ terms.now }
+{
+    let job = take_job(rt, terms, gate, 0)?;
+    record(rt, alloc, terms, gate, job)?;
+    Ok(())
+}
+
+// A run of one claim, to its end.
+fn end_calls<'t>(rt: &impl Abort, alloc: Global, terms: &'t Terms<'t>) -> Result<(), AllocError>
+    requires { IsSpelled terms.now.plan }
+{
+    let mut gate = end_first(rt, alloc, terms)?;
+    assert!(rt; is_closed(gate.journal()));
+    assert!(rt; gate.counts() == counts(1, 1, 0, true));
+    decide_only(rt, alloc, terms, &mut gate)?;
+    assert!(rt; is_over(&gate.take()));
+    match Batch::from_state(gate, terms) {
+        Ok(batch) => assert!(rt; batch.journal().len() == 5),
+        Err(_) => panic!(rt; "a finished journal"),
+    }
+    Ok(())
+}
+
+fn finish_run(rt: &impl Abort, alloc: Global) -> Result<(), AllocError> {
+    let plan = plan_of(alloc, PLAN)?;
+    let files = [ONE_CLAIM];
+    let terms = terms_of(alloc, &plan, &files, None)?;
+    end_calls(rt, alloc, &terms)
+}
+
+#[test]
+fn the_last_end_closes(rt: HostRuntime) -> Result<(), Fail> {
+    finish_run(&rt, rt.alloc())?;
+    Ok(())
+}
+
+#[test]
+fn a_run_of_one_claim_or_no_memory(rt: HostRuntime) {
+    let _wanting = finish_run(&rt, rt.alloc());
+}
+
+// A provider ends once, also while another one is still open.
+fn end_again<'t>(rt: &impl Abort, alloc: Global, terms: &'t Terms<'t>) -> Result<(), AllocError>
+    requires { IsSpelled terms.now.plan }
+{
+    let mut gate = end_first(rt, alloc, terms)?;
+    read_all(rt, alloc, terms, 1, 1)?;
+    refuse_end(rt, terms, &mut gate, 1, 1, EndFault::AlreadyEnded);
+    assert!(rt; is_ended(gate.journal()));
+    assert!(rt; gate.counts() == counts(1, 1, 0, false));
+    Ok(())
+}
+
+fn end_twice(rt: &impl Abort, alloc: Global) -> Result<(), AllocError> {
+    let plan = plan_of(alloc, PLAN)?;
+    let files = [ONE_CLAIM, HEADER];
+    let terms = terms_of(alloc, &plan, &files, None)?;
+    end_again(rt, alloc, &terms)
+}
+
+#[test]
+fn a_provider_ends_once(rt: HostRuntime) -> Result<(), Fail> {
+    end_twice(&rt, rt.alloc())?;
+    Ok(())
+}
+
+// Each call where no claim is admitted.
+fn closed_calls<'t>(rt: &impl Abort, alloc: Global, terms: &'t Terms<'t>) -> Result<(), AllocError>
+    requires { IsSpelled terms.now.plan }
+{
+    let mut rows = open(rt, alloc, terms, 1)?;
+    let mut gate = GateState::new(alloc, terms)?;
+    let faults = (OfferFault::Closed, EndFault::Closed);
+    let back = refuse_intake(rt, alloc, terms, &mut gate, &mut rows, faults)?;
+    assert!(rt; is_offer(&back, 1, 0, "c1"));
+    assert!(rt; is_over(&gate.take()));
+    assert!(rt; gate.into_journal().len() == 1);
+    Ok(())
+}
+
+fn admit_nothing(rt: &impl Abort, alloc: Global) -> Result<(), AllocError> {
+    let plan = plan_of(alloc, PLAN)?;
+    let files = [FIRST_FILE];
+    let terms = terms_of(alloc, &plan, &files, Some(0))?;
+    closed_calls(rt, alloc, &terms)
+}
+
+#[test]
+fn a_closed_gate_accepts_nothing(rt: HostRuntime) -> Result<(), Fail> {
+    admit_nothing(&rt, rt.alloc())?;
+    Ok(())
+}

@@ -1,0 +1,72 @@
+-- Why texts make no terms.
+use Rattle.std.specs.Prelude.{◌≡◌, ◌≢◌, ◌+◌, ℕ, List, take, length, slice_get, Option, Some, None, IsSome}
+use Rattle.std.specs.List.{All}
+use Rattle.dtable.specs.Plan.{PlanParts}
+use Rattle.dtable.specs.declared.table.InputData.{InputData}
+use Rattle.intake_csv.specs.Columns.{HasFileFault, claim_columns}
+use Rattle.intake_csv.specs.Balances.{HasBalanceFault}
+use Rattle.intake_csv.specs.declared.fault.FileFault.{FileFault}
+use Rattle.intake_csv.specs.declared.fault.FileFault.TheVariants as file
+use Rattle.intake_csv.specs.declared.fault.BalanceFault.{BalanceFault}
+use Rattle.intake_csv.specs.declared.fault.BalanceFault.TheVariants as balance
+use Rattle.claim_terms.specs.Terms.{IsClaimFile, IsFileCount}
+use Rattle.claim_terms.specs.declared.fault.TermsFault.{TermsFault}
+use Rattle.claim_terms.specs.declared.fault.TermsFault.TheVariants.{NoRoles, Files, File, Balances, OutOfMemory}
+
+-- the fault's number in a program's messages
+abbrev pub number_of : TermsFault → ℕ
+number_of NoRoles = 1
+number_of Files = 2
+number_of (File provider fault) = 3
+number_of (Balances fault) = 4
+number_of OutOfMemory = 5
+
+-- the text is no file of claims, for this reason
+pub record IsRefused (names : List InputData) (text : List ℕ) (fault : FileFault) : Type 0 where
+  pub reason : HasFileFault (claim_columns names) text fault
+  pub told : fault ≢ file.OutOfMemory
+
+-- the provider's file is the first that is no file of claims, for this reason; providers count from 1
+pub record RefusesFile (names : List InputData) (files : List (List ℕ)) (provider : ℕ) (fault : FileFault) : Type 0 where
+  pub place : ℕ
+  pub numbered : provider ≡ place + 1
+  pub text : List ℕ
+  pub stands : slice_get files place ≡ Some text
+  pub refused : IsRefused names text fault
+  pub before : All (IsClaimFile names) (take place files)
+
+-- the text of the balances is refused for this reason
+pub record RefusesBalances (balances : Option (List ℕ)) (fault : BalanceFault) : Type 0 where
+  pub text : List ℕ
+  pub given : balances ≡ Some text
+  pub refused : HasBalanceFault text fault
+  pub told : fault ≢ balance.OutOfMemory
+
+-- the plan, the files and the balances make no terms, for this reason: each fault supposes that those tried before it
+-- aren't there; of want of memory nothing is said
+abbrev pub HasTermsFault : PlanParts → List (List ℕ) → Option (List ℕ) → TermsFault → Type 0
+HasTermsFault plan files balances NoRoles = plan.roles ≡ None
+HasTermsFault plan files balances Files = IsSome plan.roles × ¬ IsFileCount (length files)
+HasTermsFault plan files balances (File provider fault) =
+    IsSome plan.roles × IsFileCount (length files) × RefusesFile plan.names files provider fault
+HasTermsFault plan files balances (Balances fault) =
+    IsSome plan.roles × IsFileCount (length files) × All (IsClaimFile plan.names) files × RefusesBalances balances fault
+HasTermsFault plan files balances OutOfMemory = Unit {0}
+
+-- the provider's file makes no terms, for this reason; want of memory can come with any file
+abbrev pub IsFaultOfFile : List InputData → ℕ → List ℕ → TermsFault → Type 0
+IsFaultOfFile names number text (File provider fault) = (provider ≡ number) × IsRefused names text fault
+IsFaultOfFile names number text OutOfMemory = Unit {0}
+IsFaultOfFile names number text _ = ⊥
+
+-- the files make no terms, for this reason; want of memory can come with any files
+abbrev pub IsFaultOfFiles : List InputData → List (List ℕ) → TermsFault → Type 0
+IsFaultOfFiles names files (File provider fault) = RefusesFile names files provider fault
+IsFaultOfFiles names files OutOfMemory = Unit {0}
+IsFaultOfFiles names files _ = ⊥
+
+-- the balances make no terms, for this reason; want of memory can come with any balances
+abbrev pub IsFaultOfBalances : Option (List ℕ) → TermsFault → Type 0
+IsFaultOfBalances balances (Balances fault) = RefusesBalances balances fault
+IsFaultOfBalances balances OutOfMemory = Unit {0}
+IsFaultOfBalances balances _ = ⊥

@@ -1,0 +1,99 @@
+-- What a run is fixed over: as texts, as the code keeps it, and as journals see it.
+use Rattle.std.specs.Prelude.{◌≡◌, ◌≤◌, ℕ, List, [], ◌∷◌, flat_map, length, map, option_map, string_bytes, Option, Some, None, IsSome}
+use Rattle.std.specs.Borrow.{Bor}
+use Rattle.std.specs.List.{All, AllZip}
+use Rattle.dtable.specs.Plan.{PlanParts}
+use Rattle.dtable.specs.declared.table.InputData.{InputData}
+use Rattle.settlement.specs.declared.claim.Claim.{Claim}
+use Rattle.intake_csv.specs.Records.{Fields}
+use Rattle.intake_csv.specs.Columns.{IsSheet, claim_columns}
+use Rattle.intake_csv.specs.Rows.{AreRowsOf}
+use Rattle.intake_csv.specs.Balances.{AreBalances, Entry, balance_of}
+use Rattle.intake_csv.specs.declared.balances.Balances.{Balances}
+use Rattle.intake_csv.specs.declared.column.Layout.{Layout}
+use Rattle.intake_csv.specs.declared.rows.Row.{Row}
+use Rattle.intake_csv.specs.declared.rows.Row.TheVariants.{Good, Bad}
+use Rattle.journal.specs.Terms.{Terms, opening}
+use Rattle.claim_terms.specs.declared.terms.TheConstants.{FILES_LIMIT}
+
+-- what a run is fixed over: the plan, the text of each provider's file, the members that have balances, with these, and how
+-- many claims are accepted at most, if that is limited
+pub record TermsParts : Type 0 where
+  pub plan : PlanParts
+  pub files : List (List ℕ)
+  pub balances : List Entry
+  pub cutoff : Option ℕ
+
+-- the members that balances name, with theirs
+abbrev pub entries_of : Balances → List Entry
+entries_of balances = map (λ e. (string_bytes e.0, e.1)) balances.accounts.entries
+
+-- the same where there may be no balances
+abbrev pub entries_in : Option Balances → List Entry
+entries_in None = []
+entries_in (Some balances) = entries_of balances
+
+abbrev pub claim_in : Row → List Claim
+claim_in (Good number place claim) = claim ∷ []
+claim_in (Bad number fault) = []
+
+-- the claims among rows, in order
+abbrev pub claims_among : List Row → List Claim
+claims_among rows = flat_map claim_in rows
+
+-- the claims of a file: those among its rows
+pub record AreClaimsOf (names : List InputData) (text : List ℕ) (claims : List Claim) : Type 0 where
+  pub rows : List Row
+  pub are_rows : AreRowsOf names text rows
+  pub claims_are : claims ≡ claims_among rows
+
+-- these parts, as journals see them: of each file its claims, and of the balances what members begin with
+pub record IsTermsOf (parts : TermsParts) (T : Terms) : Type 0 where
+  pub plan : T.plan ≡ parts.plan
+  pub files : AllZip (AreClaimsOf parts.plan.names) parts.files T.files
+  pub openings : (member : List ℕ) → opening T.balances member ≡ opening parts.balances member
+  pub cutoff : T.cutoff ≡ parts.cutoff
+
+-- the texts behind references
+abbrev pub texts_of : List (Bor (List ℕ)) → List (List ℕ)
+texts_of files = map (λ f. f.now) files
+
+-- the text behind a reference, if there is one
+abbrev pub text_in : Option (Bor (List ℕ)) → Option (List ℕ)
+text_in text = option_map (λ t. t.now) text
+
+-- the text is a file with the columns that claims need under a plan with these names
+pub record IsClaimFile (names : List InputData) (text : List ℕ) : Type 0 where
+  pub layout : Layout
+  pub records : List Fields
+  pub sheet : IsSheet (claim_columns names) text layout records
+
+-- a run has one file at least
+pub record IsFileCount (count : ℕ) : Type 0 where
+  pub least : 1 ≤ count
+  pub most : count ≤ FILES_LIMIT
+
+-- what holds of all terms: the plan has roles, there are as many files as a run may have, and each is one of claims
+pub record AreTerms (parts : TermsParts) : Type 0 where
+  pub roles : IsSome parts.plan.roles
+  pub count : IsFileCount (length parts.files)
+  pub files : All (IsClaimFile parts.plan.names) parts.files
+
+-- the text is a file of balances, and a member begins with what it has of the member
+pub record HoldsBalances (text : List ℕ) (entries : List Entry) : Type 0 where
+  pub balances : Balances
+  pub read : AreBalances text balances
+  pub given : (member : List ℕ) → opening entries member ≡ balance_of balances member
+
+-- the balances of a text; without a text there are none
+abbrev pub AreBalancesOf : Option (List ℕ) → List Entry → Type 0
+AreBalancesOf None entries = entries ≡ []
+AreBalancesOf (Some text) entries = HoldsBalances text entries
+
+-- the terms of a plan, of the files' texts, of the text of the balances, if there is one, and of a cutoff
+pub record AreTermsOf (plan : PlanParts) (files : List (List ℕ)) (balances : Option (List ℕ)) (cutoff : Option ℕ) (parts : TermsParts) : Type 0 where
+  pub plan_is : parts.plan ≡ plan
+  pub files_are : parts.files ≡ files
+  pub balances_are : AreBalancesOf balances parts.balances
+  pub cutoff_is : parts.cutoff ≡ cutoff
+  pub holds : AreTerms parts

@@ -1,0 +1,136 @@
+//! Terms: what a run is fixed over.
+ghost use Rattle.std.specs.Prelude.{◌≡◌, length, IfOk, IfErr, OnOk};
+ghost use Rattle.std.specs.List.{All};
+ghost use Rattle.claim_terms.specs.Fault.{HasTermsFault, IsFaultOfBalances, IsFaultOfFile, IsFaultOfFiles};
+ghost use Rattle.journal.specs.Terms.{opening};
+ghost use Rattle.claim_terms.specs.Terms.{AreBalancesOf, AreTerms, AreTermsOf, IsClaimFile, entries_in, text_in, texts_of};
+
+use crate::fault::TermsFault;
+use dtable::Plan;
+use intake_csv::{BalanceFault, Balances, FileFault, Rows, read_balances};
+use settlement::Acc;
+use std::alloc::Global;
+use std::marker::Model;
+
+/// How many providers' files a run has at most.
+pub const FILES_LIMIT: usize = 64;
+
+/// What a run is fixed over: a plan with roles, the text of each provider's file, the members' balances, and how many
+/// claims are accepted at most. It borrows the plan and the texts.
+#[derive(Debug, Drop)]
+pub struct Terms<'a> {
+    plan: &'a Plan,
+    files: &'a [&'a [u8]],
+    balances: Option<Balances>,
+    cutoff: Option<u64>,
+}
+
+impl<'a> Model for Terms<'a> {
+    ghost use Rattle.claim_terms.specs.Terms.{AreTerms, TermsParts, entries_in, texts_of};
+
+    ghost Value = { TermsParts };
+
+    ghost view = { λ t. record { plan = t.plan.now; files = texts_of t.files.now; balances = entries_in t.balances; cutoff = t.cutoff } };
+
+    ghost invariant = { λ t. AreTerms (record { plan = t.plan.now; files = texts_of t.files.now; balances = entries_in t.balances; cutoff = t.cutoff }) };
+}
+
+impl<'a> Terms<'a> {
+    /// The terms of a plan, the providers' files in order, a file of balances, if there is one, and a cutoff, or
+    /// without one. Without balances every member begins with nothing.
+    pub fn new(
+        alloc: Global,
+        plan: &'a Plan,
+        files: &'a [&'a [u8]],
+        balances: Option<&[u8]>,
+        cutoff: Option<u64>,
+    ) -> Result<Terms<'a>, TermsFault>
+        ensures ok { IfOk result (AreTermsOf plan.now (texts_of files.now) (text_in balances.entry) cutoff) }
+        ensures fault { IfErr result (HasTermsFault plan.now (texts_of files.now) (text_in balances.entry)) }
+    {
+        if plan.roles().is_none() {
+            return Err(TermsFault::NoRoles);
+        }
+        if files.is_empty() || files.len() > FILES_LIMIT {
+            return Err(TermsFault::Files);
+        }
+        check_files(alloc, plan, files)?;
+        Ok(Terms {
+            plan,
+            files,
+            balances: balances_of(alloc, balances)?,
+            cutoff,
+        })
+    }
+
+    /// The plan.
+    pub fn plan(&self) -> &'a Plan
+        ensures plan { result.now ≡ self.now.plan }
+        ensures terms { AreTerms self.now }
+    {
+        self.plan
+    }
+
+    /// The texts of the providers' files, in order.
+    pub fn files(&self) -> &'a [&'a [u8]]
+        ensures files { texts_of result.now ≡ self.now.files }
+        ensures terms { AreTerms self.now }
+    {
+        self.files
+    }
+
+    /// How many claims are accepted at most, if that is limited.
+    pub fn cutoff(&self) -> Option<u64>
+        ensures { result ≡ self.now.cutoff }
+    {
+        self.cutoff
+    }
+
+    /// The accumulators that a member begins with: zeros where the balances don't name the member.
+    pub fn opening(&self, member: &str) -> Acc
+        ensures { result ≡ opening self.now.balances member.now }
+    {
+        match &self.balances {
+            Some(balances) => balances.of(member),
+            None => Acc::zero(),
+        }
+    }
+}
+
+// Each file has the columns that claims need under the plan; or the first that has not.
+fn check_files(alloc: Global, plan: &Plan, files: &[&[u8]]) -> Result<(), TermsFault>
+    ensures ok { OnOk result (All (IsClaimFile plan.now.names) (texts_of files.now)) }
+    ensures fault { IfErr result (IsFaultOfFiles plan.now.names (texts_of files.now)) }
+{
+    for place in 0..files.len() {
+        check_file(alloc, plan, place + 1, files[place])?;
+    }
+    Ok(())
+}
+
+// The provider's file has the columns that claims need under the plan.
+fn check_file(alloc: Global, plan: &Plan, provider: usize, text: &[u8]) -> Result<(), TermsFault>
+    ensures ok { OnOk result (IsClaimFile plan.now.names text.now) }
+    ensures fault { IfErr result (IsFaultOfFile plan.now.names provider text.now) }
+{
+    match Rows::new(alloc, plan, text) {
+        Ok(_) => Ok(()),
+        Err(FileFault::OutOfMemory) => Err(TermsFault::OutOfMemory),
+        Err(fault) => Err(TermsFault::File { provider, fault }),
+    }
+}
+
+// The balances of a text, if there is one.
+fn balances_of(alloc: Global, text: Option<&[u8]>) -> Result<Option<Balances>, TermsFault>
+    ensures ok { IfOk result (λ balances. AreBalancesOf (text_in text.entry) (entries_in balances)) }
+    ensures fault { IfErr result (IsFaultOfBalances (text_in text.entry)) }
+{
+    let Some(given) = text else {
+        return Ok(None);
+    };
+    match read_balances(alloc, given) {
+        Ok(balances) => Ok(Some(balances)),
+        Err(BalanceFault::OutOfMemory) => Err(TermsFault::OutOfMemory),
+        Err(fault) => Err(TermsFault::Balances(fault)),
+    }
+}

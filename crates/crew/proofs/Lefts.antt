@@ -1,0 +1,122 @@
+-- A provider's claims that are left, as its file is read.
+use Rattle.std.proofs.Common.{◌≡◌, ℕ, zero, suc, ◌<◌, ◌≤◌, ◌+◌, ◌-◌, List, [], ◌∷◌, ◌++◌, length, get_or, Some, refl, sym, ap, subst, ◌∙◌, arith, append_assoc, append-nil, length-append}
+use Rattle.std.specs.List.{AllZip, slice_get}
+use Rattle.fixpoint.specs.NumberText.{DenotesAtMostOne}
+use Rattle.feel_tests.specs.Plain.{SpellsOnePlain}
+use Rattle.settlement.specs.declared.claim.Claim.{Claim}
+use Rattle.dtable.specs.Plan.{PlanParts}
+use Rattle.dtable.specs.declared.table.InputData.{InputData}
+use Rattle.intake_csv.specs.Laws.{NoRecordsNoRows, StartHasTheRows}
+use Rattle.intake_csv.specs.Rows.{GivesRow, IsAtStart, RowsLeft}
+use Rattle.intake_csv.specs.declared.fault.RowFault.{RowFault}
+use Rattle.intake_csv.specs.declared.rows.Row.{Row}
+use Rattle.intake_csv.specs.declared.rows.Row.TheVariants.{Good, Bad}
+use Rattle.claim_terms.specs.Terms.{AreClaimsOf, IsTermsOf, TermsParts, claim_in, claims_among}
+use Rattle.journal.specs.Terms.{Terms, claims_of}
+use Rattle.claim_gate.specs.Parts.{ForTerms, GateParts}
+use Rattle.claim_gate.specs.Replies.{HasClaims}
+use Rattle.crew.specs.Reading.{AreLeft, IsReading}
+use Rattle.crew.proofs.OneClaim.{BeginLike, alike, begin-like}
+
+-- the claims of a file at a place
+at_place : (names : List InputData) (texts : List (List ℕ)) (files : List (List Claim)) (i : ℕ) → AllZip (AreClaimsOf names) texts files → i < length texts
+    → AreClaimsOf names (get_or texts i []) (get_or files i [])
+at_place names [] files i all within = absurd (omega (arith, within))
+at_place names (text ∷ texts) [] i all within = absurd all
+at_place names (text ∷ texts) (cs ∷ files) zero all within = all.0
+at_place names (text ∷ texts) (cs ∷ files) (suc i) all within = at_place names texts files i all.1 (omega (arith, within))
+
+-- as many lists of claims as files
+pub as_many_files : (names : List InputData) (texts : List (List ℕ)) (files : List (List Claim)) → AllZip (AreClaimsOf names) texts files → length texts ≡ length files
+as_many_files names [] [] all = refl
+as_many_files names [] (cs ∷ files) all = absurd all
+as_many_files names (text ∷ texts) [] all = absurd all
+as_many_files names (text ∷ texts) (cs ∷ files) all = ap suc (as_many_files names texts files all.1)
+
+-- at the start all claims of the provider are left
+pub left_first : StartHasTheRows → (parts : TermsParts) (T : Terms) (provider : ℕ) (left : RowsLeft) → IsTermsOf parts T → 1 ≤ provider → provider ≤ length parts.files
+    → IsAtStart parts.plan.names (get_or parts.files (provider - 1) []) left → AreLeft T provider 0 left
+left_first law parts T zero left terms least most start = absurd (omega (arith, least))
+left_first law parts T (suc i) left terms least most start =
+    let place : suc i - 1 ≡ i = omega arith in
+    let text = get_or parts.files i [] in
+    let began : IsAtStart parts.plan.names text left = rw place at start in
+    let file = at_place parts.plan.names parts.files T.files i terms.files (omega (arith, most)) in
+    record {
+      front = [];
+      rows = file.rows;
+      are_rows = law parts.plan.names text left file.rows began file.are_rows;
+      whole = file.claims_are;
+      counted = refl;
+    }
+
+-- the claims among rows of which the first has the same claims as another row
+claims_begin : (row : Row) (left : RowsLeft) (rows : List Row) (b : BeginLike row left rows) → claims_among rows ≡ claim_in row ++ claims_among b.rest
+claims_begin row left rows b = elim b.both [ alike claims as_many ↦ ap claims_among b.split ∙ ap (λ cs. cs ++ claims_among b.rest) claims ]
+
+module _ (one : DenotesAtMostOne) (plain : SpellsOnePlain) where
+  -- a record that is refused leaves the same claims
+  pub left_refused : (T : Terms) (provider count : ℕ) (old new : RowsLeft) (number : ℕ) (fault : RowFault) → AreLeft T provider count old
+      → GivesRow old new (Bad number fault) → AreLeft T provider count new
+  left_refused T provider count old new number fault h g =
+      let b = begin-like one plain old new (Bad number fault) h.rows g h.are_rows in
+      record {
+        front = h.front;
+        rows = b.rest;
+        are_rows = b.rest_left;
+        whole = h.whole ∙ ap (λ cs. h.front ++ cs) (claims_begin (Bad number fault) new h.rows b);
+        counted = h.counted;
+      }
+
+  -- a record that is a claim is the provider's next one
+  begun : (T : Terms) (provider count : ℕ) (old new : RowsLeft) (number place : ℕ) (claim : Claim) (h : AreLeft T provider count old)
+      → (b : BeginLike (Good number place claim) new h.rows) → claims_of T provider ≡ h.front ++ (claim ∷ claims_among b.rest)
+  begun T provider count old new number place claim h b = h.whole ∙ ap (λ cs. h.front ++ cs) (claims_begin (Good number place claim) new h.rows b)
+
+  stands : (front : List Claim) (claim : Claim) (rest : List Claim) → slice_get (front ++ claim ∷ rest) (length front) ≡ Some claim
+  stands [] claim rest = refl
+  stands (c ∷ front) claim rest = stands front claim rest
+
+  pub next_claim : (T : Terms) (provider count : ℕ) (old new : RowsLeft) (number place : ℕ) (claim : Claim) → AreLeft T provider count old
+      → GivesRow old new (Good number place claim) → slice_get (claims_of T provider) count ≡ Some claim
+  next_claim T provider count old new number place claim h g =
+      let b = begin-like one plain old new (Good number place claim) h.rows g h.are_rows in
+      rw (begun T provider count old new number place claim h b, ← h.counted) (stands h.front claim (claims_among b.rest))
+
+  pub left_behind : (T : Terms) (provider count : ℕ) (old new : RowsLeft) (number place : ℕ) (claim : Claim) → AreLeft T provider count old
+      → GivesRow old new (Good number place claim) → AreLeft T provider (count + 1) new
+  left_behind T provider count old new number place claim h g =
+      let b = begin-like one plain old new (Good number place claim) h.rows g h.are_rows in
+      record {
+        front = h.front ++ claim ∷ [];
+        rows = b.rest;
+        are_rows = b.rest_left;
+        whole = begun T provider count old new number place claim h b ∙ sym (append_assoc h.front (claim ∷ []) (claims_among b.rest));
+        counted = length-append h.front (claim ∷ []) ∙ ap (λ n. n + 1) h.counted;
+      }
+
+-- where no record is left, all claims of the provider are accepted
+pub left_none : NoRecordsNoRows → (parts : TermsParts) (T : Terms) (provider count : ℕ) (left : RowsLeft) → IsTermsOf parts T → 1 ≤ provider
+    → provider ≤ length parts.files → left.records ≡ [] → AreLeft T provider count left → HasClaims T provider count
+left_none law parts T provider count left terms least most none h =
+    let rows = law left h.rows none h.are_rows in
+    let all : claims_of T provider ≡ h.front = h.whole ∙ ap (λ rs. h.front ++ claims_among rs) rows ∙ append-nil h.front in
+    record {
+      known = record { least = least; most = subst (λ n. provider ≤ n) (as_many_files parts.plan.names parts.files T.files terms.files) most };
+      count_is = sym h.counted ∙ ap length (sym all);
+    }
+
+-- what holds between two records of a provider's file
+pub record IsAtRecord (terms : TermsParts) (plan : PlanParts) (provider count : ℕ) (gate : GateParts) (left : RowsLeft) : Type 0 where
+  pub of_terms : gate.terms ≡ terms
+  pub of_plan : plan ≡ terms.plan
+  pub reading : ForTerms terms (λ T. IsReading T provider count gate)
+  pub claims : ForTerms terms (λ T. AreLeft T provider count left)
+  pub place : left.place ≡ count
+  pub fewer : left.place < left.number
+
+-- what holds between two files: this provider's is the next one
+pub record IsAtFile (terms : TermsParts) (plan : PlanParts) (provider : ℕ) (gate : GateParts) : Type 0 where
+  pub of_terms : gate.terms ≡ terms
+  pub of_plan : plan ≡ terms.plan
+  pub reading : ForTerms terms (λ T. IsReading T provider 0 gate)

@@ -1,0 +1,261 @@
+-- No record is without its row: it is a claim, or it has a first fault.
+use Rattle.std.proofs.Common.{inl, inr, ◌≡◌, ◌<◌, ◌≤◌, ◌≤ℤ◌, ◌+◌, ◌⊎◌, ℕ, ℤ, pos, suc, zero, false, List, [], ◌∷◌, ◌++◌, length, Some, refl, sym, ap, ◌∙◌, arith}
+use Rattle.std.specs.List.{All, Any, count_by, slice_get}
+use Rattle.std.proofs.lemmas.Bool.{cases_Bool, cases_eq, cases_lt}
+use Rattle.std.proofs.lemmas.Int.{ints}
+use Rattle.std.proofs.lemmas.List.Elements.{All-cons, All-nil, All-weaker}
+use Rattle.csv.specs.Records.{field_at}
+use Rattle.fixpoint.specs.Number.{is_negative}
+use Rattle.feel_tests.specs.Plain.{SpellsPlain}
+use Rattle.feel_tests.specs.TextBytes.{IsText}
+use Rattle.feel_tests.specs.declared.kind.Kind.TheVariants as kinds
+use Rattle.feel_tests.specs.declared.text.TheConstants.{TEXT_LIMIT_BYTES}
+use Rattle.feel_tests.specs.declared.value.Value.{Value}
+use Rattle.feel_tests.specs.declared.value.Value.TheVariants.{Number, Text, Flag, Day}
+use Rattle.dtable.specs.declared.table.InputData.{InputData}
+use Rattle.settlement.specs.declared.claim.Claim.{Claim}
+use Rattle.intake_csv.specs.Records.{Fields}
+use Rattle.intake_csv.specs.Columns.{AreColumnsOf, claim_columns, kind_under}
+use Rattle.intake_csv.specs.Fields.{Holds, IsFaultless, IsFaulty}
+use Rattle.intake_csv.specs.Rows.{AreRows, AreValues, HoldsUnder, IsFaultlessUnder, IsFaultyUnder, IsFirstFault, IsRow, claim_values, claims_in, field_count, is_claim}
+use Rattle.intake_csv.specs.declared.column.Column.{Column}
+use Rattle.intake_csv.specs.declared.column.Content.{Content}
+use Rattle.intake_csv.specs.declared.column.Content.TheVariants.{Identifier, Money, Plain}
+use Rattle.intake_csv.specs.declared.column.Layout.{Layout}
+use Rattle.intake_csv.specs.declared.column.Needed.{Needed}
+use Rattle.intake_csv.specs.declared.fault.RowCause.{RowCause}
+use Rattle.intake_csv.specs.declared.fault.RowCause.TheVariants.{Utf8, TooLong, EmptyId, Value as NoValue, NotCents, Negative}
+use Rattle.intake_csv.specs.declared.fault.RowFault.{RowFault}
+use Rattle.intake_csv.specs.declared.rows.Row.{Row}
+use Rattle.intake_csv.specs.declared.rows.Row.TheVariants.{Good, Bad}
+use Rattle.crew.proofs.OneClaim.{count-row}
+
+not_negative : (units : ℤ) → is_negative units ≡ false → pos 0 ≤ℤ units
+not_negative (ℤ.pos n) e = omega (arith, ints)
+not_negative (ℤ.negsuc n) e = absurd (cc e)
+
+-- a number under a column of money, where nothing is wrong
+money : (bytes : List ℕ) (units : ℤ) → IsText bytes → SpellsPlain kinds.Number bytes (Number units) → IsFaultless Money bytes → ¬ ¬ Holds Money bytes (Number units)
+money bytes units text spells none k = none NotCents (
+  refl,
+  record {
+    text = text;
+    units = units;
+    denotes = spells.1;
+    finer = λ cents. elim (cases_Bool (is_negative units)) [
+      | inl below ↦ none Negative (refl, record { text = text; units = units; denotes = spells.1; cents = cents; below = below })
+      | inr above ↦ k (record { text = text; spells = spells; allowed = (units, refl, (cents, not_negative units above)) })
+    ];
+  },
+)
+
+-- a value that is spelled, where nothing is wrong
+value : (content : Content) (bytes : List ℕ) (v : Value) → IsText bytes → SpellsPlain (kind_under content) bytes v → IsFaultless content bytes → ¬ ¬ Holds content bytes v
+value Identifier bytes v text spells none k = k (record { text = text; spells = spells; allowed = λ e. none EmptyId (refl, e) })
+value (Plain kind) bytes v text spells none k = k (record { text = text; spells = spells; allowed = tt })
+value Money bytes (Number units) text spells none k = money bytes units text spells none k
+value Money bytes (Text t) text spells none k = cc spells.0
+value Money bytes (Flag f) text spells none k = cc spells.0
+value Money bytes (Day d) text spells none k = cc spells.0
+
+-- a field's value, with nothing wrong, or what is wrong
+abbrev FieldOf : Content → List ℕ → Type 0
+FieldOf content bytes = ((v : Value) × Holds content bytes v × IsFaultless content bytes) ⊎ ((cause : RowCause) × IsFaulty content bytes cause)
+
+short : (n limit : ℕ) → ¬ (limit < n) → n ≤ limit
+short n limit h = elim (cases_lt limit n) [ inl over ↦ absurd (h over) | inr within ↦ within ]
+
+field : (content : Content) (bytes : List ℕ) → ¬ ¬ FieldOf content bytes
+field content bytes k =
+    let none : IsFaultless content bytes = λ cause h. k (inr (cause, h)) in
+    none Utf8 (λ utf8.
+    let text : IsText bytes = (utf8, short (length bytes) TEXT_LIMIT_BYTES (λ over. none TooLong (utf8, over))) in
+    none NoValue (text, λ v spells. value content bytes v text spells none (λ holds. k (inl (v, holds, none)))))
+
+module _ (fields : Fields) where
+  -- the same of the field under a column
+  abbrev UnderOf : Column → Type 0
+  UnderOf c = ((v : Value) × HoldsUnder fields c v × IsFaultlessUnder fields c) ⊎ ((cause : RowCause) × IsFaultyUnder fields cause c)
+
+  under_field : (c : Column) (bytes : List ℕ) → field_at fields c.place ≡ Some bytes → FieldOf c.content bytes → UnderOf c
+  under_field c bytes e (inl (v, holds, none)) = inl (
+    v,
+    record { bytes = bytes; field = e; holds = holds },
+    λ cause h.
+        let found : Some h.bytes ≡ Some bytes = sym h.field ∙ e in
+        let same : h.bytes ≡ bytes = cc found in
+        none cause (rw same at h.faulty),
+  )
+  under_field c bytes e (inr (cause, faulty)) = inr (cause, record { bytes = bytes; field = e; faulty = faulty })
+
+  -- values under all columns, with nothing wrong, or the first fault
+  abbrev AllOf : List Column → Type 0
+  AllOf columns = ((vs : List Value) × AreValues fields columns vs × All (IsFaultlessUnder fields) columns) ⊎ ((f : RowFault) × IsFirstFault fields columns f)
+
+  abbrev IsOf : RowFault → Column → Type 0
+  IsOf f c = (c.place + 1 ≡ f.column) × IsFaultyUnder fields f.cause c
+
+  abbrev IsLeftFaultless : ℕ → Column → Type 0
+  IsLeftFaultless column c = c.place + 1 < column → IsFaultlessUnder fields c
+
+  behind : (f : RowFault) (c : Column) (cs : List Column) → Any (IsOf f) cs → Any (IsOf f) (c ∷ cs)
+  behind f c cs (k, x, within, is, has) = (suc k, x, omega (arith, within), is, has)
+
+  -- the first column's fault is the first, where no other one stands left of it
+  first_here : (c : Column) (cs : List Column) (cause : RowCause) → IsFaultyUnder fields cause c → All (IsLeftFaultless (c.place + 1)) cs
+      → IsFirstFault fields (c ∷ cs) (record { column = c.place + 1; cause = cause })
+  first_here c cs cause faulty left = record {
+    faulty = (0, c, omega arith, refl, (refl, faulty));
+    first = All-cons (IsLeftFaultless (c.place + 1)) c cs (λ before. absurd (omega (arith, before))) left;
+  }
+
+  join : (c : Column) (cs : List Column) → UnderOf c → AllOf cs → AllOf (c ∷ cs)
+  join c cs (inl (v, holds, none)) (inl (vs, values, nones)) = inl (v ∷ vs, (holds, values), All-cons (IsFaultlessUnder fields) c cs none nones)
+  join c cs (inl (v, holds, none)) (inr (f, first)) = inr (
+    f,
+    record {
+      faulty = behind f c cs first.faulty;
+      first = All-cons (IsLeftFaultless f.column) c cs (λ before. none) first.first;
+    },
+  )
+  join c cs (inr (cause, faulty)) (inl (vs, values, nones)) = inr (
+    record { column = c.place + 1; cause = cause },
+    first_here c cs cause faulty (All-weaker (IsFaultlessUnder fields) (IsLeftFaultless (c.place + 1)) (λ x none before. none) cs nones),
+  )
+  join c cs (inr (cause, faulty)) (inr (f, first)) = elim (cases_lt (c.place + 1) f.column) [
+    | inl less ↦ inr (
+      record { column = c.place + 1; cause = cause },
+      first_here c cs cause faulty (All-weaker (IsLeftFaultless f.column) (IsLeftFaultless (c.place + 1)) (λ x none before. none (omega (arith, before, less))) cs first.first),
+    )
+    | inr least ↦ inr (
+      f,
+      record {
+        faulty = behind f c cs first.faulty;
+        first = All-cons (IsLeftFaultless f.column) c cs (λ before. absurd (omega (arith, before, least))) first.first;
+      },
+    )
+  ]
+
+  there : (xs : Fields) (k : ℕ) (name : List ℕ) → field_at xs k ≡ Some name → k < length xs
+  unfolding field_at
+  there [] k name e = absurd (cc e)
+  there (x ∷ xs) zero name e = omega arith
+  there (x ∷ xs) (suc k) name e = let within = there xs k name e in omega (arith, within)
+
+  found : (xs : Fields) (k : ℕ) → k < length xs → (bytes : List ℕ) × (field_at xs k ≡ Some bytes)
+  unfolding field_at
+  found [] k within = absurd (omega (arith, within))
+  found (x ∷ xs) zero within = (x, refl)
+  found (x ∷ xs) (suc k) within = found xs k (omega (arith, within))
+
+  all_columns : (header : Fields) (needed : List Needed) (columns : List Column) → AreColumnsOf header needed columns → length fields ≡ length header → ¬ ¬ AllOf columns
+  all_columns header [] [] h same k = k (inl ([], tt, All-nil (IsFaultlessUnder fields)))
+  all_columns header [] (c ∷ cs) h same k = absurd h
+  all_columns header (n ∷ ns) [] h same k = absurd h
+  all_columns header (n ∷ ns) (c ∷ cs) h same k =
+      let within = there header c.place n.name h.0.stands in
+      let (bytes, e) = found fields c.place (omega (arith, within, same)) in
+      field c.content bytes (λ f. all_columns header ns cs h.1 same (λ all. k (join c cs (under_field c bytes e f) all)))
+
+text-value : (content : Content) (bytes : List ℕ) (v : Value) → content ≡ Identifier → Holds content bytes v → (t : List ℕ) × (v ≡ Text t)
+text-value content bytes (Text t) e h = (t, refl)
+text-value content bytes (Number u) e h = let s = rw e at h.spells in absurd (cc s.0)
+text-value content bytes (Flag b) e h = let s = rw e at h.spells in absurd (cc s.0)
+text-value content bytes (Day d) e h = let s = rw e at h.spells in absurd (cc s.0)
+
+day-value : (content : Content) (bytes : List ℕ) (v : Value) → content ≡ Plain kinds.Day → Holds content bytes v → (d : ℤ) × (v ≡ Day d)
+day-value content bytes (Day d) e h = (d, refl)
+day-value content bytes (Number u) e h = let s = rw e at h.spells in absurd (cc s.0)
+day-value content bytes (Flag b) e h = let s = rw e at h.spells in absurd (cc s.0)
+day-value content bytes (Text t) e h = let s = rw e at h.spells in absurd (cc s.0)
+
+money-value : (content : Content) (bytes : List ℕ) (v : Value) → content ≡ Money → Holds content bytes v → (u : ℤ) × (v ≡ Number u)
+money-value content bytes (Number u) e h = (u, refl)
+money-value content bytes (Text t) e h = let s = rw e at h.spells in absurd (cc s.0)
+money-value content bytes (Flag b) e h = let s = rw e at h.spells in absurd (cc s.0)
+money-value content bytes (Day d) e h = let s = rw e at h.spells in absurd (cc s.0)
+
+four : (v w x y a b c d : Value) (ys : List Value) → v ≡ a → w ≡ b → x ≡ c → y ≡ d → a ∷ b ∷ c ∷ d ∷ ys ≡ v ∷ w ∷ x ∷ y ∷ ys
+four v w x y a b c d ys e f g h = rw (e, f, g, h) refl
+
+-- values under the columns of a file of claims are those of a claim
+record ClaimOf (vs : List Value) : Type 0 where
+  pub claim : Claim
+  pub values : claim_values claim ≡ vs
+
+claim-of : (header fields : Fields) (names : List InputData) (columns : List Column) (vs : List Value) → AreColumnsOf header (claim_columns names) columns
+    → AreValues fields columns vs → ClaimOf vs
+claim-of header fields names [] vs h values = absurd h
+claim-of header fields names (a ∷ []) vs h values = absurd h.1
+claim-of header fields names (a ∷ b ∷ []) vs h values = absurd h.1.1
+claim-of header fields names (a ∷ b ∷ c ∷ []) vs h values = absurd h.1.1.1
+claim-of header fields names (a ∷ b ∷ c ∷ d ∷ ds) [] h values = absurd values
+claim-of header fields names (a ∷ b ∷ c ∷ d ∷ ds) (v ∷ []) h values = absurd values.1
+claim-of header fields names (a ∷ b ∷ c ∷ d ∷ ds) (v ∷ w ∷ []) h values = absurd values.1.1
+claim-of header fields names (a ∷ b ∷ c ∷ d ∷ ds) (v ∷ w ∷ x ∷ []) h values = absurd values.1.1.1
+claim-of header fields names (a ∷ b ∷ c ∷ d ∷ ds) (v ∷ w ∷ x ∷ y ∷ ys) h values =
+    let (id, is_id) = text-value a.content values.0.bytes v h.0.content values.0.holds in
+    let (member, is_member) = text-value b.content values.1.0.bytes w h.1.0.content values.1.0.holds in
+    let (day, is_day) = day-value c.content values.1.1.0.bytes x h.1.1.0.content values.1.1.0.holds in
+    let (units, is_units) = money-value d.content values.1.1.1.0.bytes y h.1.1.1.0.content values.1.1.1.0.holds in
+    record {
+      claim = record { id = id; member = member; service = day; billed = units; fields = ys };
+      values = four v w x y (Text id) (Text member) (Day day) (Number units) ys is_id is_member is_day is_units;
+    }
+
+-- what a file's header says of the columns that claims need
+pub record HasColumns (names : List InputData) (layout : Layout) : Type 0 where
+  pub header : Fields
+  pub width : layout.width ≡ length header
+  pub columns : AreColumnsOf header (claim_columns names) layout.columns
+
+-- the row of a record
+record RowOf (layout : Layout) (number place : ℕ) (fields : Fields) : Type 0 where
+  pub row : Row
+  pub is : IsRow layout number place fields row
+
+row_by : (names : List InputData) (layout : Layout) (number place : ℕ) (fields : Fields) → HasColumns names layout → length fields ≡ layout.width → AllOf fields layout.columns
+    → RowOf layout number place fields
+row_by names layout number place fields h same (inl (vs, values, nones)) =
+    let made = claim-of h.header fields names layout.columns vs h.columns values in
+    record { row = Good number place made.claim; is = (refl, refl, (same, rw made.values values)) }
+row_by names layout number place fields h same (inr (f, first)) = record { row = Bad number f; is = (refl, inr (same, first)) }
+
+some_row : (names : List InputData) (layout : Layout) (number place : ℕ) (fields : Fields) → HasColumns names layout → ¬ ¬ RowOf layout number place fields
+some_row names layout number place fields h k = elim (cases_eq (length fields) layout.width) [
+  | inr other ↦ k (record { row = Bad number field_count; is = (refl, inl (other, refl)) })
+  | inl same ↦ all_columns fields h.header (claim_columns names) layout.columns h.columns (same ∙ h.width) (λ all. k (row_by names layout number place fields h same all))
+]
+
+-- the rows of a record and of those behind it
+row_more : (layout : Layout) (number place : ℕ) (f : Fields) (records : List Fields) (row : Row) (rows : List Row) → IsRow layout number place f row
+    → AreRows layout (number + 1) (place + claims_in row) records rows → AreRows layout number place (f ∷ records) (row ∷ rows)
+row_more layout number place f records row rows is h = record { as_many = ap suc h.as_many; each = each }
+  where
+    each : (before after : List Row) (r : Row) (fields : Fields) → row ∷ rows ≡ before ++ r ∷ after → slice_get (f ∷ records) (length before) ≡ Some fields
+        → IsRow layout (number + length before) (place + count_by is_claim before) fields r
+    each [] after r fields e at =
+        let same : row ≡ r = cc e in
+        let found : f ≡ fields = cc at in
+        let numbered : number + length {A = Row} [] ≡ number = omega arith in
+        let placed : place + count_by is_claim [] ≡ place = omega arith in
+        rw (numbered, placed, ← found, ← same) is
+    each (b ∷ bs) after r fields e at =
+        let same : row ≡ b = cc e in
+        let others : rows ≡ bs ++ r ∷ after = cc e in
+        let step = h.each bs after r fields others at in
+        let counted = count-row row bs in
+        let more : (number + 1) + length bs ≡ number + suc (length bs) = omega arith in
+        let placed : (place + claims_in row) + count_by is_claim bs ≡ place + count_by is_claim (row ∷ bs) = omega (arith, counted) in
+        rw (← same) (rw (more, placed) at step)
+
+-- some rows of these records
+pub record RowsOf (layout : Layout) (number place : ℕ) (records : List Fields) : Type 0 where
+  pub rows : List Row
+  pub are : AreRows layout number place records rows
+
+pub some_rows : (names : List InputData) (layout : Layout) (number place : ℕ) (records : List Fields) → HasColumns names layout → ¬ ¬ RowsOf layout number place records
+some_rows names layout number place [] h k = k (record { rows = []; are = record { as_many = refl; each = λ before after row fields e at. absurd (cc at) } })
+some_rows names layout number place (f ∷ records) h k = some_row names layout number place f h (λ r.
+    some_rows names layout (number + 1) (place + claims_in r.row) records h (λ rs.
+    k (record { rows = r.row ∷ rs.rows; are = row_more layout number place f records r.row rs.rows r.is rs.are })))

@@ -1,0 +1,9 @@
+-- The numbers of faults.
+use Rattle.std.specs.Prelude.{ℕ}
+use Rattle.crew.specs.declared.fault.RunFault.{RunFault}
+use Rattle.crew.specs.declared.fault.RunFault.TheVariants.{Workers, OutOfMemory}
+
+-- the fault's number in a program's messages
+abbrev pub number_of : RunFault → ℕ
+number_of Workers = 1
+number_of OutOfMemory = 2

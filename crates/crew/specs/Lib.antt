@@ -1,0 +1,2 @@
+pub mod FaultNumber
+pub mod Reading

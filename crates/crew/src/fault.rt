@@ -1,0 +1,40 @@
+//! Why a run ends without a finished journal.
+ghost use Rattle.std.specs.Prelude.{◌≡◌};
+ghost use Rattle.crew.specs.FaultNumber.{number_of};
+
+use std::alloc::AllocError;
+use thiserror::Error;
+
+/// Why a run ends without a finished journal.
+#[derive(Clone, Copy, Debug, PartialEq, Eq, Hash, Drop, Error)]
+pub enum RunFault {
+    /// There is to be no worker, or more than a run may have.
+    #[error("no worker, or too many workers")]
+    Workers,
+    /// No memory.
+    #[error("out of memory")]
+    OutOfMemory,
+}
+
+impl RunFault {
+    /// The fault's number in a program's messages.
+    pub fn number(self) -> u8
+        ensures { result ≡ number_of self }
+    {
+        match self {
+            RunFault::Workers => 1,
+            RunFault::OutOfMemory => 2,
+        }
+    }
+}
+
+impl From<AllocError> for RunFault {
+    ghost use Rattle.std.specs.Prelude.{◌≡◌};
+    ghost use Rattle.crew.specs.declared.fault.RunFault.TheVariants.{OutOfMemory};
+
+    ghost from_gives = { λ _ fault. fault ≡ OutOfMemory };
+
+    fn from(_: AllocError) -> RunFault {
+        RunFault::OutOfMemory
+    }
+}

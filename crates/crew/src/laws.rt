@@ -1,0 +1,11 @@
+//! Laws that runs stand on. Each call does nothing.
+ghost use Rattle.claim_gate.specs.Parts.{ForTerms};
+
+use claim_terms::Terms;
+
+/// No terms are without what journals see of them: each record of a file is a claim or is refused.
+pub fn terms_are_seen(terms: &Terms)
+    ensures { ¬ ForTerms terms.now (λ _. ⊥) }
+{
+    let _plan = terms.plan();
+}

@@ -1,0 +1,9 @@
+pub mod Turns
+pub mod Neighbours
+pub mod Numbers
+pub mod Linking
+pub mod Links
+pub mod Queue
+pub mod Kept
+pub mod Moves
+pub mod Work

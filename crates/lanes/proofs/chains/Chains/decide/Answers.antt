@@ -1,0 +1,37 @@
+use Rattle.std.proofs.Common.{◌≡◌, Some, None, sym, ap, ◌∙◌, arith, rules}
+use Rattle.std.specs.List.{slice_get}
+use Rattle.std.proofs.lemmas.Option.{same_Some, slice_get_read, slice_get_within}
+use Rattle.lanes.specs.declared.slot.Slot.{Slot}
+use Rattle.lanes.proofs.Linking.{decided-next, read-behind}
+use Rattle.lanes.proofs.chains.Chains.decide.Goals as goal
+
+pub index_mut-requires-in-Some : goal.index_mut-requires-in-Some
+index_mut-requires-in-Some c =
+    let slots = c.args.self.now.slots in
+    let there = slice_get_read slots.items slots.len c.args.position c.index.result.now slots.ok.0 c.requires.within c.index.ensures in
+    let next = c.requires.next c.index.result.now c.in-Some.next there c.in-Some.is in
+    omega (arith, slots.ok.0, slice_get_within slots.items c.in-Some.next next.0 next.1)
+
+pub returns-in_ok-push_back-in-Some-clause-decided : goal.returns-in_ok-push_back-in-Some-clause-decided
+returns-in_ok-push_back-in-Some-clause-decided c = λ slot here.
+    let slots = c.args.self.now.slots in
+    let there = slice_get_read slots.items slots.len c.args.position c.index.result.now slots.ok.0 c.requires.within c.index.ensures in
+    let again = slice_get_read slots.items slots.len c.args.position c.index_mut.result.now slots.ok.0 c.requires.within c.index_mut.ensures.value in
+    let next = c.requires.next c.index.result.now c.in-Some.next there c.in-Some.is in
+    let within = slice_get_within slots.items c.in-Some.next next.0 next.1 in
+    let read : slice_get slots.items c.in-Some.next ≡ Some c.index_mut-in-Some.result.now =
+    search (rules, read-behind slots.items c.args.position c.in-Some.next c.decide.new.self c.index_mut-in-Some.result.now next.2 within) in
+    let link : slot.next ≡ Some c.in-Some.next = ap (λ (x : Slot). x.next) (same_Some _ _ (sym here ∙ there)) ∙ c.in-Some.is in
+    rw link (λ after behind.
+    let both = decided-next slots.items c.args.position c.in-Some.next c.args.left.now c.index_mut.result.now c.index_mut-in-Some.result.now c.release.new.self slot after here behind again read c.release.ensures in
+    (cc, search rules)
+    )
+
+pub returns-in-None-clause-decided : goal.returns-in-None-clause-decided
+returns-in-None-clause-decided c = λ slot here.
+    let slots = c.args.self.now.slots in
+    let there = slice_get_read slots.items slots.len c.args.position c.index.result.now slots.ok.0 c.requires.within c.index.ensures in
+    let link : slot.next ≡ None = ap (λ (x : Slot). x.next) (same_Some _ _ (sym here ∙ there)) ∙ c.in-None.is in
+    let again = slice_get_read slots.items slots.len c.args.position c.index_mut-in-None.result.now slots.ok.0 c.requires.within c.index_mut-in-None.ensures.value in
+    let same : c.index_mut-in-None.result.now ≡ slot = same_Some _ _ (sym again ∙ here) in
+    rw link (cc, search rules)

@@ -1,0 +1,11 @@
+use Rattle.std.proofs.Common.{◌∙◌}
+use Rattle.lanes.proofs.Numbers.{look-absent, look-found}
+use Rattle.lanes.proofs.members.Members.find.Goals as goal
+
+pub returns-clause-found : goal.returns-clause-found
+returns-clause-found c =
+    rw (← c.self.view_is) (look-found c.self.inside.numbers c.args.member.now c.copied.result c.self.invariant (c.copied.ensures ∙ c.get.ensures.value))
+
+pub returns-clause-absent : goal.returns-clause-absent
+returns-clause-absent c =
+    rw (← c.self.view_is) (look-absent c.self.inside.numbers c.args.member.now c.copied.result c.self.invariant (c.copied.ensures ∙ c.get.ensures.value))

@@ -1,0 +1,4 @@
+pub mod Places
+pub mod Calls
+pub mod Members
+pub mod Chains

@@ -1,0 +1,238 @@
+-- The rows of files, read one file after another, and their text.
+use Rattle.std.proofs.Common.{◌≡◌, ◌<◌, ◌≤◌, ◌+◌, ℕ, suc, Bool, Option, Result, Ok, Err, Bor, List, [], ◌∷◌, ◌++◌, length, length-take-le, map, take, drop, get_or, ap, ap₂, sym, subst, ◌∙◌, refl, append_assoc, append-nil, add-one, take-append-drop, drop-cons, arith}
+use Rattle.std.specs.List.{AllZip}
+use Rattle.std.proofs.lemmas.Grind.{flat_map-append}
+use Rattle.std.proofs.lemmas.List.{get_or-map, length-map, take_all, take_more}
+use Rattle.std.proofs.lemmas.Slice.Zip.{AllZip-long, all_zipped_more}
+use Rattle.dtable.specs.declared.table.InputData.{InputData}
+use Rattle.intake_csv.specs.Columns.{claim_columns}
+use Rattle.intake_csv.specs.Laws.{ColumnsStandApart, StartHasTheRows}
+use Rattle.intake_csv.specs.Rows.{AreRowsLeft, AreRowsOf, IsAtStart, RowsLeft}
+use Rattle.intake_csv.specs.declared.rows.Row.{Row}
+use Rattle.remit.specs.Records.{record_of, records_of}
+use Rattle.remit.specs.Report.{record_text, text_of}
+use Rattle.claim_terms.specs.Terms.{texts_of}
+use Rattle.remit.specs.Held.{At, IsNoMemory, Writes, at}
+use Rattle.remit.specs.Rows.{AreDistinct, AreRead, Begin, Deciding, GivesAll, GivesFirst, IsRead, IsReadFirst, WritesFile, WritesFiles, WritesLeft, files_text, rows_text}
+use Rattle.remit.specs.declared.fault.WriteFault.{WriteFault}
+use Rattle.remit.specs.declared.pieces.Pieces.{Pieces}
+use Rattle.remit.proofs.Holding.{no-memory, writes-none, writes-then}
+use Rattle.remit.proofs.Passing.{rows-append}
+
+-- all rows of a text, by a reader at its start
+pub read-all : StartHasTheRows → ColumnsStandApart → (names : List InputData) (text : List ℕ) (start : RowsLeft) (rows : List Row) → IsAtStart names text start
+    → ((all : List Row) → AreRowsLeft start all → AreRowsOf names text all) → GivesAll start rows → IsRead names text rows
+read-all begins apart names text start rows at_start of_text gives = record {
+  are_rows = of_text rows gives.are_rows;
+  only = λ distinct all are.
+      gives.only (apart (claim_columns names) text start.layout start.records distinct at_start.sheet) all (begins names text start all at_start are);
+}
+
+-- the first rows of a text, by a reader at its start
+pub read-first : StartHasTheRows → ColumnsStandApart → (names : List InputData) (text : List ℕ) (start : RowsLeft) (rows : List Row) → IsAtStart names text start
+    → GivesFirst start rows → IsReadFirst names text rows
+read-first begins apart names text start rows at_start gives distinct all are =
+    gives (apart (claim_columns names) text start.layout start.records distinct at_start.sheet) all (begins names text start all at_start are)
+
+-- every text's rows begin with none
+pub read-none : (names : List InputData) (text : List ℕ) → IsReadFirst names text []
+read-none names text distinct all are = record { rest = all; whole_is = refl }
+
+-- two lists beside each other, in two parts
+pub record Parted {A B : Type 0} (R : A → B → Type 0) (xs ys : List A) (all : List B) : Type 0 where
+  pub front : List B
+  pub behind : List B
+  pub all_is : all ≡ front ++ behind
+  pub in_front : AllZip R xs front
+  pub in_behind : AllZip R ys behind
+
+parted : {A B : Type 0} (R : A → B → Type 0) (xs ys : List A) (all : List B) → AllZip R (xs ++ ys) all → Parted R xs ys all
+parted R [] ys all h = record { front = []; behind = all; all_is = refl; in_front = tt; in_behind = h }
+parted R (x ∷ xs) ys [] h = absurd h
+parted R (x ∷ xs) ys (b ∷ all) h =
+    let rest = parted R xs ys all h.1 in
+    record {
+      front = b ∷ rest.front;
+      behind = rest.behind;
+      all_is = ap (λ bs. b ∷ bs) rest.all_is;
+      in_front = (h.0, rest.in_front);
+      in_behind = rest.in_behind;
+    }
+
+-- one beside the first, and the others
+pub record Headed {A B : Type 0} (R : A → B → Type 0) (x : A) (xs : List A) (all : List B) : Type 0 where
+  pub head : B
+  pub behind : List B
+  pub all_is : all ≡ head ∷ behind
+  pub beside : R x head
+  pub in_behind : AllZip R xs behind
+
+headed : {A B : Type 0} (R : A → B → Type 0) (x : A) (xs : List A) (all : List B) → AllZip R (x ∷ xs) all → Headed R x xs all
+headed R x xs [] h = absurd h
+headed R x xs (b ∷ all) h = record { head = b; behind = all; all_is = refl; beside = h.0; in_behind = h.1 }
+
+none-beside : {A B : Type 0} (R : A → B → Type 0) (all : List B) → AllZip R [] all → all ≡ []
+none-beside R [] h = refl
+none-beside R (b ∷ all) h = absurd h
+
+-- no files
+pub none-read : (names : List InputData) → AreRead names [] []
+none-read names = record { are_rows = tt; only = λ distinct all are. none-beside (AreRowsOf names) all are }
+
+-- one file more
+read-more : (names : List InputData) (texts : List (List ℕ)) (files : List (List Row)) (text : List ℕ) (rows : List Row) → AreRead names texts files
+    → IsRead names text rows → AreRead names (texts ++ text ∷ []) (files ++ rows ∷ [])
+read-more names texts files text rows before read = record {
+  are_rows = all_zipped_more (AreRowsOf names) texts files text rows before.are_rows read.are_rows;
+  only = λ distinct all are.
+      let parts = parted (AreRowsOf names) texts (text ∷ []) all are in
+      let last = headed (AreRowsOf names) text [] parts.behind parts.in_behind in
+      let end = none-beside (AreRowsOf names) last.behind last.in_behind in
+      parts.all_is
+      ∙ ap₂ (λ front behind. front ++ behind) (before.only distinct parts.front parts.in_front)
+      (last.all_is ∙ ap₂ (λ r rs. r ∷ rs) (read.only distinct last.head last.beside) end);
+}
+
+pub read-next : (names : List InputData) (texts : List (List ℕ)) (place : ℕ) (d : List ℕ) (files : List (List Row)) (rows : List Row) → place < length texts
+    → AreRead names (take place texts) files → IsRead names (get_or texts place d) rows → AreRead names (take (place + 1) texts) (files ++ rows ∷ [])
+read-next names texts place d files rows within before read =
+    subst (λ ts. AreRead names ts (files ++ rows ∷ [])) (sym (take_more texts place d within))
+    (read-more names (take place texts) files (get_or texts place d) rows before read)
+
+-- the records of files and of others behind them
+records-append : (decided : Deciding) (provider : ℕ) (front behind : List (List Row))
+    → records_of decided provider (front ++ behind) ≡ records_of decided provider front ++ records_of decided (provider + length front) behind
+records-append decided provider [] behind =
+    let here : provider + 0 ≡ provider = omega arith in
+    rw here refl
+records-append decided provider (rows ∷ front) behind =
+    let next : suc provider + length front ≡ provider + suc (length front) = omega arith in
+    let rest = rw next at (records-append decided (suc provider) front behind) in
+    ap (λ rs. map (record_of decided provider) rows ++ rs) rest ∙ sym (append_assoc (map (record_of decided provider) rows) (records_of decided (suc provider) front) _)
+
+-- the text of files and of others behind them
+pub files-append : (decided : Deciding) (provider : ℕ) (front behind : List (List Row))
+    → files_text decided provider (front ++ behind) ≡ files_text decided provider front ++ files_text decided (provider + length front) behind
+files-append decided provider front behind =
+    ap text_of (records-append decided provider front behind)
+    ∙ flat_map-append record_text (records_of decided provider front) (records_of decided (provider + length front) behind)
+
+-- the text of a file and of others behind it
+files-cons : (decided : Deciding) (provider : ℕ) (rows : List Row) (behind : List (List Row))
+    → files_text decided provider (rows ∷ behind) ≡ rows_text decided provider rows ++ files_text decided (suc provider) behind
+files-cons decided provider rows behind = flat_map-append record_text (map (record_of decided provider) rows) (records_of decided (suc provider) behind)
+
+-- the text of the files so far, and of one more
+pub files-push : (decided : Deciding) (files : List (List Row)) (rows : List Row) (place : ℕ) → length files ≡ place
+    → files_text decided 1 (files ++ rows ∷ []) ≡ files_text decided 1 files ++ rows_text decided (place + 1) rows
+files-push decided files rows place size =
+    let provider : 1 + length files ≡ place + 1 = omega (arith, size) in
+    files-append decided 1 files (rows ∷ [])
+    ∙ ap (λ text. files_text decided 1 files ++ text) (files-cons decided (1 + length files) rows [] ∙ append-nil _ ∙ ap (λ p. rows_text decided p rows) provider)
+
+-- the files so far, and the first rows of one more, begin the text of whatever rows the files have
+begin-more : (decided : Deciding) (names : List InputData) (texts : List (List ℕ)) (text : List ℕ) (behind : List (List ℕ)) (files : List (List Row)) (rows : List Row)
+    → AreRead names texts files → IsReadFirst names text rows → AreDistinct names → (all : List (List Row)) → AllZip (AreRowsOf names) (texts ++ text ∷ behind) all
+    → Begin (files_text decided 1 files ++ rows_text decided (1 + length files) rows) (files_text decided 1 all)
+begin-more decided names texts text behind files rows before first distinct all are =
+    let parts = parted (AreRowsOf names) texts (text ∷ behind) all are in
+    let next = headed (AreRowsOf names) text behind parts.behind parts.in_behind in
+    let begins = first distinct next.head next.beside in
+    let provider = 1 + length files in
+    let others = files_text decided (suc provider) next.behind in
+    record {
+      rest = rows_text decided provider begins.rest ++ others;
+      whole_is =
+          ap (files_text decided 1) (parts.all_is ∙ ap₂ (λ front rest. front ++ rest) (before.only distinct parts.front parts.in_front) next.all_is)
+          ∙ files-append decided 1 files (next.head ∷ next.behind)
+          ∙ ap (λ t. files_text decided 1 files ++ t)
+          (files-cons decided provider next.head next.behind
+          ∙ ap (λ t. t ++ others) (ap (rows_text decided provider) begins.whole_is ∙ rows-append decided provider rows begins.rest)
+          ∙ append_assoc (rows_text decided provider rows) (rows_text decided provider begins.rest) others)
+          ∙ sym (append_assoc (files_text decided 1 files) (rows_text decided provider rows) (rows_text decided provider begins.rest ++ others));
+    }
+
+pub begin-next : (decided : Deciding) (names : List InputData) (texts : List (List ℕ)) (place : ℕ) (d : List ℕ) (files : List (List Row)) (rows : List Row) → place < length texts
+    → length files ≡ place → AreRead names (take place texts) files → IsReadFirst names (get_or texts place d) rows → AreDistinct names → (all : List (List Row))
+    → AllZip (AreRowsOf names) texts all → Begin (files_text decided 1 files ++ rows_text decided (place + 1) rows) (files_text decided 1 all)
+begin-next decided names texts place d files rows within size before first distinct all are =
+    let split : texts ≡ take place texts ++ get_or texts place d ∷ drop (suc place) texts =
+    sym (take-append-drop place texts) ∙ ap (λ rest. take place texts ++ rest) (drop-cons texts place d within) in
+    let provider : 1 + length files ≡ place + 1 = omega (arith, size) in
+    rw provider at (begin-more decided names (take place texts) (get_or texts place d) (drop (suc place) texts) files rows before first distinct all
+    (subst (λ ts. AllZip (AreRowsOf names) ts all) split are))
+
+-- as many files as texts
+pub files-long : (names : List InputData) (texts : List (List ℕ)) (files : List (List Row)) → AreRead names texts files → length files ≡ length texts
+files-long names texts files read = AllZip-long (AreRowsOf names) texts files read.are_rows
+
+-- what is written of a reader at the start of a text is written of the text
+pub of-text : StartHasTheRows → ColumnsStandApart → (decided : Deciding) (provider : ℕ) (names : List InputData) (text : List ℕ) (start : RowsLeft) (old new : At)
+    (result : Result (Unit {0}) WriteFault) → IsAtStart names text start → ((all : List Row) → AreRowsLeft start all → AreRowsOf names text all)
+    → WritesLeft decided provider start old new result → WritesFile decided provider names text old new result
+of-text begins apart decided provider names text start old new (Ok done) at_start of writes =
+    (writes.0, read-all begins apart names text start writes.0 at_start of writes.1, writes.2)
+of-text begins apart decided provider names text start old new (Err fault) at_start of writes =
+    (writes.0, read-first begins apart names text start writes.0 at_start writes.1, writes.2)
+
+-- memory is wanting for a file
+pub file-no-memory : (decided : Deciding) (provider : ℕ) (names : List InputData) (text : List ℕ) (contents : Option (List ℕ)) (failed : Bool) (pieces : Pieces)
+    (fault : WriteFault) → IsNoMemory pieces fault → WritesFile decided provider names text (at contents failed pieces) (at contents failed pieces) (Err fault)
+file-no-memory decided provider names text contents failed pieces fault none =
+    ([], read-none names text, no-memory contents failed pieces pieces [] fault none)
+
+-- the rows of so many files are written
+pub record FilesSoFar (decided : Deciding) (names : List InputData) (texts : List (List ℕ)) (place : ℕ) (old new : At) : Type 0 where
+  pub files : List (List Row)
+  pub read : AreRead names (take place texts) files
+  pub writes : Writes old new (files_text decided 1 files) (Ok tt)
+
+pub files-none : (decided : Deciding) (names : List InputData) (texts : List (List ℕ)) (old : At) → FilesSoFar decided names texts 0 old old
+files-none decided names texts old = record { files = []; read = none-read names; writes = writes-none old }
+
+-- the text at a place is behind the reference at that place
+text-at : (texts : List (Bor (List ℕ))) (place : ℕ) (d : Bor (List ℕ)) → place < length texts → (get_or texts place d).now ≡ get_or (texts_of texts) place d.now
+text-at texts place d within = sym (get_or-map (λ f. f.now) texts place d d.now within)
+
+-- there are as many files as texts in front of the place
+so-long : (names : List InputData) (texts : List (List ℕ)) (place : ℕ) (files : List (List Row)) → place ≤ length texts → AreRead names (take place texts) files
+    → length files ≡ place
+so-long names texts place files within read = AllZip-long (AreRowsOf names) (take place texts) files read.are_rows ∙ length-take-le place texts within
+
+pub files-next : (decided : Deciding) (names : List InputData) (texts : List (Bor (List ℕ))) (place : ℕ) (d : Bor (List ℕ)) (old new newer : At) → place < length texts
+    → FilesSoFar decided names (texts_of texts) place old new → WritesFile decided (place + 1) names (get_or texts place d).now new newer (Ok tt)
+    → FilesSoFar decided names (texts_of texts) (place + 1) old newer
+files-next decided names texts place d old new newer within so_far writes =
+    let size = length-map texts (λ f. f.now) in
+    let inside : place < length (texts_of texts) = omega (arith, size, within) in
+    let long = so-long names (texts_of texts) place so_far.files (omega (arith, inside)) so_far.read in
+    let read = subst (λ text. IsRead names text writes.0) (text-at texts place d within) writes.1 in
+    record {
+      files = so_far.files ++ writes.0 ∷ [];
+      read = read-next names (texts_of texts) place d.now so_far.files writes.0 inside so_far.read read;
+      writes =
+          subst (λ text. Writes old newer text (Ok tt)) (sym (files-push decided so_far.files writes.0 place long))
+          (writes-then old new newer (files_text decided 1 so_far.files) (rows_text decided (place + 1) writes.0) tt (Ok tt) so_far.writes writes.2);
+    }
+
+-- the writing is refused within the next file
+pub files-refused : (decided : Deciding) (names : List InputData) (texts : List (Bor (List ℕ))) (place : ℕ) (d : Bor (List ℕ)) (old new newer : At) (fault : WriteFault)
+    → place < length texts → FilesSoFar decided names (texts_of texts) place old new
+    → WritesFile decided (place + 1) names (get_or texts place d).now new newer (Err fault) → WritesFiles decided names (texts_of texts) old newer (Err fault)
+files-refused decided names texts place d old new newer fault within so_far writes =
+    let size = length-map texts (λ f. f.now) in
+    let inside : place < length (texts_of texts) = omega (arith, size, within) in
+    let long = so-long names (texts_of texts) place so_far.files (omega (arith, inside)) so_far.read in
+    let first = subst (λ text. IsReadFirst names text writes.0) (text-at texts place d within) writes.1 in (
+      files_text decided 1 so_far.files ++ rows_text decided (place + 1) writes.0,
+      begin-next decided names (texts_of texts) place d.now so_far.files writes.0 inside long so_far.read first,
+      writes-then old new newer (files_text decided 1 so_far.files) (rows_text decided (place + 1) writes.0) tt (Err fault) so_far.writes writes.2,
+    )
+
+-- all files are written
+pub files-done : (decided : Deciding) (names : List InputData) (texts : List (Bor (List ℕ))) (place : ℕ) (old new : At) → length texts ≤ place
+    → FilesSoFar decided names (texts_of texts) place old new → WritesFiles decided names (texts_of texts) old new (Ok tt)
+files-done decided names texts place old new past so_far =
+    let size = length-map texts (λ f. f.now) in
+    let all = take_all place (texts_of texts) (omega (arith, size, past)) in
+    (so_far.files, subst (λ ts. AreRead names ts so_far.files) all so_far.read, so_far.writes)

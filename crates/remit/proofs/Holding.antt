@@ -1,0 +1,137 @@
+-- What a writer has got of a text that is written in pieces.
+use Rattle.std.proofs.Common.{◌≡◌, ◌≢◌, ℕ, ◌+◌, ◌-◌, Bool, true, false, [], ◌++◌, List, length, take, drop, Option, Result, Ok, Err, OnOk, is_err, sym, ap, subst, refl, ◌∙◌, append_assoc, append-nil, take-append-drop, length-append, length-take-le, arith}
+use Rattle.std.specs.Io.KnownBytes.{Appends}
+use Rattle.std.proofs.KnownBytes.{Appends-trans}
+use Rattle.std.proofs.Math.Seq.{take-add}
+use Rattle.std.proofs.lemmas.List.{take_rest}
+use Rattle.std.proofs.lemmas.Bool.{false≢true}
+use Rattle.csv.specs.Writing.{fields_written, has_written, row_text, writer_setup}
+use Rattle.csv.specs.declared.writer.QuoteStyle.TheVariants.{NonNumeric}
+use Rattle.remit.specs.Report.{record_text, report_style}
+use Rattle.remit.specs.Held.{At, Holds, HasFront, IsNoMemory, IsReady, PutsFront, Writes, at, gathered_of}
+use Rattle.remit.specs.declared.fault.WriteCause.TheVariants.{Device, OutOfMemory}
+use Rattle.remit.specs.declared.fault.WriteFault.{WriteFault}
+use Rattle.remit.specs.declared.pieces.Pieces.{Pieces}
+
+-- the first bytes of a text, and then the first of what is left, are the first bytes of the text
+pub Appends-front : (text : List ℕ) (written count : ℕ) (a b c : Option (List ℕ)) → Appends a b (take written text)
+    → Appends b c (take count (take (length text - written) (drop written text))) → Appends a c (take (written + count) text)
+Appends-front text written count a b c before now =
+    let joined : take (written + count) text ≡ take written text ++ take count (take (length text - written) (drop written text)) =
+    take-add written count text ∙ ap (λ rest. take written text ++ take count rest) (sym (take_rest text written)) in
+    subst (Appends a c) (sym joined) (Appends-trans a b c _ _ before now)
+
+-- want of memory, at once
+pub no-memory : (contents : Option (List ℕ)) (failed : Bool) (old new : Pieces) (more : List ℕ) (fault : WriteFault) → IsNoMemory old fault
+    → Writes (at contents failed old) (at contents failed new) more (Err fault)
+no-memory contents failed old new more fault none = (
+  λ start text h. record {
+    gone = h.gone;
+    rest = gathered_of old ++ more;
+    text_is = ap (λ t. t ++ more) h.text_is ∙ append_assoc h.gone (gathered_of old) more;
+    appended = h.appended;
+    counted = none.written ∙ h.counted;
+  },
+  (λ device. cc (none.cause, device), λ memory. refl),
+)
+
+-- the writer fails while what is gathered is handed over
+pub hand-refused : (a b : Option (List ℕ)) (failed later : Bool) (old new : Pieces) (text : List ℕ) (fault : WriteFault) → text ≡ gathered_of old
+    → PutsFront text old.written fault.written a b → later ≡ true → fault.cause ≡ Device → Writes (at a failed old) (at b later new) [] (Err fault)
+hand-refused a b failed later old new text fault is puts failing cause = (
+  λ start whole h. record {
+    gone = h.gone ++ take puts.put text;
+    rest = drop puts.put text;
+    text_is =
+        append-nil whole ∙ h.text_is ∙ ap (λ t. h.gone ++ t) (sym is ∙ sym (take-append-drop puts.put text))
+        ∙ sym (append_assoc h.gone (take puts.put text) (drop puts.put text));
+    appended = Appends-trans start a b h.gone (take puts.put text) h.appended puts.appended;
+    counted =
+        let taken : length (take puts.put text) ≡ puts.put = length-take-le puts.put text (omega (arith, puts.cut)) in
+        let joined = length-append h.gone (take puts.put text) in
+        omega (arith, puts.counted, h.counted, taken, joined);
+  },
+  (λ device. failing, λ memory. cc (cause, memory)),
+)
+
+-- what is gathered is handed over
+pub handed : (a b : Option (List ℕ)) (failed later : Bool) (old new : Pieces) (text : List ℕ) → text ≡ gathered_of old → Appends a b text
+    → new.written ≡ old.written + length text → gathered_of new ≡ [] → IsReady new → later ≡ failed
+    → Writes (at a failed old) (at b later new) [] (Ok tt)
+handed a b failed later old new text is appended counted none ready same = (
+  λ start whole h. record {
+    gone = h.gone ++ text;
+    text_is = append-nil whole ∙ h.text_is ∙ ap (λ t. h.gone ++ t) (sym is) ∙ sym (append-nil (h.gone ++ text)) ∙ ap (λ t. (h.gone ++ text) ++ t) (sym none);
+    appended = Appends-trans start a b h.gone text h.appended appended;
+    counted =
+        let joined = length-append h.gone text in
+        omega (arith, counted, h.counted, joined);
+    ready = ready;
+  },
+  same,
+)
+
+-- a record is gathered
+pub gathers : (contents : Option (List ℕ)) (failed : Bool) (old new : Pieces) (row : List ℕ) → new.written ≡ old.written
+    → (IsReady old → (gathered_of new ≡ gathered_of old ++ row) × IsReady new) → Writes (at contents failed old) (at contents failed new) row (Ok tt)
+gathers contents failed old new row same gathered = (
+  λ start text h.
+      let (grown, ready) = gathered h.ready in
+      record {
+        gone = h.gone;
+        text_is = ap (λ t. t ++ row) h.text_is ∙ append_assoc h.gone (gathered_of old) row ∙ ap (λ t. h.gone ++ t) (sym grown);
+        appended = h.appended;
+        counted = same ∙ h.counted;
+        ready = ready;
+      },
+  refl,
+)
+
+-- the writing of one text, and then of another
+pub writes-then : (a b c : At) (one other : List ℕ) (done : Unit {0}) (result : Result (Unit {0}) WriteFault) → Writes a b one (Ok done) → Writes b c other result
+    → Writes a c (one ++ other) result
+writes-then a b c one other done (Ok end) first second =
+    (λ start text h. subst (λ t. Holds start t c) (append_assoc text one other) (second.0 start (text ++ one) (first.0 start text h)), second.1 ∙ first.1)
+writes-then a b c one other done (Err fault) first second =
+    (λ start text h. subst (λ t. HasFront start t fault.written c.contents) (append_assoc text one other) (second.0 start (text ++ one) (first.0 start text h)), (second.1.0, λ memory. second.1.1 memory ∙ first.1))
+
+-- what is written within a text is written within a longer one
+pub writes-within : (a b : At) (text more : List ℕ) (fault : WriteFault) → Writes a b text (Err fault) → Writes a b (text ++ more) (Err fault)
+writes-within a b text more fault writes = (
+  λ start before h.
+      let front = writes.0 start before h in
+      record {
+        gone = front.gone;
+        rest = front.rest ++ more;
+        text_is = sym (append_assoc before text more) ∙ ap (λ t. t ++ more) front.text_is ∙ append_assoc front.gone front.rest more;
+        appended = front.appended;
+        counted = front.counted;
+      },
+  writes.1,
+)
+
+-- a record is gathered, as the writer of records says
+pub gathers-record : (contents : Option (List ℕ)) (failed : Bool) (old new : Pieces) (fields : List (List ℕ)) → new.written ≡ old.written
+    → (fields_written old.gathered ≡ 0 → has_written old.gathered ≡ false → (writer_setup old.gathered).style ≢ NonNumeric
+    → gathered_of new ≡ gathered_of old ++ row_text (writer_setup old.gathered) fields)
+    → fields_written new.gathered ≡ 0 → has_written new.gathered ≡ false → writer_setup new.gathered ≡ writer_setup old.gathered
+    → Writes (at contents failed old) (at contents failed new) (record_text fields) (Ok tt)
+unfolding record_text
+gathers-record contents failed old new fields same bytes ended clean setup =
+    gathers contents failed old new (row_text report_style fields) same
+    (λ ready.
+    let plain : (writer_setup old.gathered).style ≢ NonNumeric = λ other. cc (ap (λ s. s.style) ready.setup, other) in
+    (rw ready.setup at (bytes ready.fields ready.clean plain), record { setup = setup ∙ ready.setup; fields = ended; clean = clean }))
+
+-- a record is gathered, and what is gathered is handed over
+pub gathers-and-hands : (a b c : At) (row : List ℕ) (result : Result (Unit {0}) WriteFault) → Writes a b row (Ok tt) → Writes b c [] result → Writes a c row result
+gathers-and-hands a b c row result gathered handed = subst (λ text. Writes a c text result) (append-nil row) (writes-then a b c row [] tt result gathered handed)
+
+-- what holds of a call that isn't refused
+pub on-ok : {X Y : Type 0} (r : Result X Y) (P : Type 0) → is_err r ≡ false → OnOk r P → P
+on-ok (Ok x) P ok holds = holds
+on-ok (Err e) P ok holds = absurd (false≢true (sym ok))
+
+-- nothing is written
+pub writes-none : (a : At) → Writes a a [] (Ok tt)
+writes-none a = (λ start text h. subst (λ t. Holds start t a) (sym (append-nil text)) h, refl)

@@ -1,0 +1,183 @@
+-- What is looked up of a claim in a lawful journal is what the journal decides of it.
+use Rattle.std.proofs.Common.{inl, inr, ◌≡◌, ◌≢◌, ◌<◌, ◌≤◌, ◌+◌, ◌-◌, ◌&&◌, ◌==◌, ℕ, zero, suc, Bool, true, false, cond, List, [], ◌∷◌, ◌++◌, flat_map, length, map, get_or, Option, Some, None, option_map, option_and_then, Bor, ap, ap₂, sym, subst, ◌∙◌, refl, zero-add, arith}
+use Rattle.std.specs.Global.{Vec}
+use Rattle.std.specs.List.{AllZip, slice_get}
+use Rattle.std.proofs.lemmas.Bool.{cases_Bool, cases_lt}
+use Rattle.std.proofs.lemmas.Bool.Decides.{nat_tests}
+use Rattle.std.proofs.lemmas.List.{get_or_append_left, get_or_push, length_push}
+use Rattle.std.proofs.lemmas.List.Concat.{flat_map-cons}
+use Rattle.std.proofs.lemmas.Option.{slice_get-get_or}
+use Rattle.dtable.specs.declared.table.InputData.{InputData}
+use Rattle.settlement.specs.declared.outcome.Outcome.{Outcome}
+use Rattle.intake_csv.specs.Rows.{AreRowsOf}
+use Rattle.intake_csv.specs.declared.rows.Row.{Row}
+use Rattle.intake_csv.specs.declared.rows.Row.TheVariants.{Good, Bad}
+use Rattle.journal.specs.Events.{Filed, accept_in, accepted, accepts, place_in, places}
+use Rattle.journal.specs.Lawful.{counted}
+use Rattle.journal.specs.Terms.{Terms}
+use Rattle.journal.specs.declared.event.Event.{Event}
+use Rattle.journal.specs.declared.event.Event.TheVariants.{Accept, End, Close, Take, Decide}
+use Rattle.claim_terms.specs.Terms.{AreClaimsOf, IsTermsOf, TermsParts, claims_among}
+use Rattle.remit.specs.Decided.{decided_as, decision_at, position_from, position_of}
+use Rattle.remit.specs.Looked.{Noted, looked_up, outcome_in, positions_from, positions_of}
+use Rattle.remit.specs.Records.{line_of, record_of, records_of, told_of}
+use Rattle.remit.specs.Rows.{Deciding}
+use Rattle.remit.specs.declared.decisions.Decisions.{Decisions}
+
+-- the places of a provider among claims
+abbrev places_among : ℕ → List Filed → List ℕ
+places_among provider [] = []
+places_among provider (f ∷ fs) = cond (f.provider == provider) (f.place ∷ places_among provider fs) (places_among provider fs)
+
+-- the places accepted of a provider are those among the claims accepted
+places-of : (J : List Event) (provider : ℕ) → places J provider ≡ places_among provider (accepts J)
+places-of [] provider = refl
+places-of (Accept p i ∷ J) provider =
+    let front = flat_map-cons (place_in provider) (Accept p i) J in
+    let filed : accepts (Accept p i ∷ J) ≡ record { provider = p; place = i } ∷ accepts J = flat_map-cons accept_in (Accept p i) J in
+    let step : place_in provider (Accept p i) ++ places J provider ≡ places_among provider (record { provider = p; place = i } ∷ accepts J) =
+    elim (cases_Bool (p == provider)) [
+      | inl same ↦ rw same (ap (λ ps. i ∷ ps) (places-of J provider))
+      | inr other ↦ rw other (places-of J provider)
+    ] in
+    front ∙ step ∙ sym (ap (places_among provider) filed)
+places-of (End p ∷ J) provider =
+    flat_map-cons (place_in provider) (End p) J ∙ places-of J provider ∙ sym (ap (places_among provider) (flat_map-cons accept_in (End p) J))
+places-of (Close ∷ J) provider =
+    flat_map-cons (place_in provider) Close J ∙ places-of J provider ∙ sym (ap (places_among provider) (flat_map-cons accept_in Close J))
+places-of (Take k ∷ J) provider =
+    flat_map-cons (place_in provider) (Take k) J ∙ places-of J provider ∙ sym (ap (places_among provider) (flat_map-cons accept_in (Take k) J))
+places-of (Decide k o ∷ J) provider =
+    flat_map-cons (place_in provider) (Decide k o) J ∙ places-of J provider ∙ sym (ap (places_among provider) (flat_map-cons accept_in (Decide k o) J))
+
+-- the places of a provider stand in order from this one on
+abbrev FromOn : ℕ → List ℕ → Type 0
+FromOn first ps = (j : ℕ) (d : ℕ) → j < length ps → get_or ps j d ≡ first + j
+
+-- a number is itself
+same-number : (n : ℕ) → (n == n) ≡ true
+same-number n = grind (arith, nat_tests)
+
+other-number : (m n : ℕ) → m ≢ n → (m == n) ≡ false
+other-number m n apart = grind (arith, nat_tests)
+
+-- the claim that is looked for is this one
+here : (first : ℕ) (f : Filed) (fs : List Filed) (provider place : ℕ) → (f.provider == provider) ≡ true → f.place ≡ place
+    → position_from first (f ∷ fs) provider place ≡ Some first
+here first f fs provider place same is =
+    let found : (f.place == place) ≡ true = ap (λ n. n == place) is ∙ same-number place in
+    rw (same, found) refl
+
+-- it is another one of the provider
+behind-it : (first : ℕ) (f : Filed) (fs : List Filed) (provider place : ℕ) → (f.provider == provider) ≡ true → f.place ≢ place
+    → position_from first (f ∷ fs) provider place ≡ position_from (suc first) fs provider place
+behind-it first f fs provider place same apart = rw (same, other-number f.place place apart) refl
+
+-- it is another provider's
+not-its : (first : ℕ) (f : Filed) (fs : List Filed) (provider place : ℕ) → (f.provider == provider) ≡ false
+    → position_from first (f ∷ fs) provider place ≡ position_from (suc first) fs provider place
+not-its first f fs provider place other = rw other refl
+
+-- the positions of a provider's claims are found by their places from this one on
+abbrev AreFound : List Filed → ℕ → ℕ → ℕ → Type 0
+AreFound fs first place provider = (i : ℕ) → FromOn place (places_among provider fs) → slice_get (positions_from first fs provider) i ≡ position_from first fs provider (place + i)
+
+-- the first claim is one of the provider's
+found-first : (f : Filed) (fs : List Filed) (first place provider i : ℕ) → (f.provider == provider) ≡ true → FromOn place (f.place ∷ places_among provider fs)
+    → AreFound fs (suc first) (suc place) provider
+    → slice_get (first ∷ positions_from (suc first) fs provider) i ≡ position_from first (f ∷ fs) provider (place + i)
+found-first f fs first place provider zero same order behind =
+    let at_place : f.place ≡ place + 0 = order 0 0 (omega arith) in
+    sym (here first f fs provider (place + 0) same at_place)
+found-first f fs first place provider (suc i) same order behind =
+    let at_place : f.place ≡ place + 0 = order 0 0 (omega arith) in
+    let apart : f.place ≢ place + suc i = λ e. omega (arith, e, at_place) in
+    let others : FromOn (suc place) (places_among provider fs) =
+    λ j d within.
+    let shifted : place + suc j ≡ suc place + j = omega arith in
+    order (suc j) d (omega (arith, within)) ∙ shifted in
+    let next : suc place + i ≡ place + suc i = omega arith in
+    rw next at (behind i others) ∙ sym (behind-it first f fs provider (place + suc i) same apart)
+
+-- where a provider's claims are accepted in the order of their places, the one at a place stands there among their positions
+found-in-order : (fs : List Filed) (first place provider : ℕ) → AreFound fs first place provider
+found-in-order [] first place provider i order = refl
+found-in-order (f ∷ fs) first place provider i order = elim (cases_Bool (f.provider == provider)) [
+  | inl same ↦
+      let listed : positions_from first (f ∷ fs) provider ≡ first ∷ positions_from (suc first) fs provider = rw same refl in
+      ap (λ ps. slice_get ps i) listed
+      ∙ found-first f fs first place provider i same (rw same at order) (found-in-order fs (suc first) (suc place) provider)
+  | inr other ↦
+      let listed : positions_from first (f ∷ fs) provider ≡ positions_from (suc first) fs provider = rw other refl in
+      ap (λ ps. slice_get ps i) listed ∙ found-in-order fs (suc first) place provider i (rw other at order)
+      ∙ sym (not-its first f fs provider (place + i) other)
+]
+
+-- 0, 1 and so on stand in order from 0 on
+counted-long : (n : ℕ) → length (counted n) ≡ n
+counted-long zero = refl
+counted-long (suc n) =
+    let before = counted-long n in
+    let longer = length_push (counted n) n in
+    omega (arith, before, longer)
+
+counted-in-order : (n : ℕ) → FromOn 0 (counted n)
+counted-in-order zero j d within = absurd (omega (arith, within))
+counted-in-order (suc n) j d within =
+    let long = counted-long n in
+    let longer = length_push (counted n) n in
+    elim (cases_lt j n) [
+      | inl inside ↦ get_or_append_left (counted n) (n ∷ []) d j (omega (arith, inside, long)) ∙ counted-in-order n j d (omega (arith, inside, long))
+      | inr last ↦
+          let at_end : length (counted n) ≡ j = omega (arith, within, last, long, longer) in
+          let end : n ≡ 0 + j = omega (arith, at_end, long) in
+          get_or_push (counted n) n d j at_end ∙ end
+    ]
+
+-- in a journal whose accepts are in order, a claim's position stands at its place among those of its provider
+pub position-in-order : (J : List Event) (provider place : ℕ) → places J provider ≡ counted (length (places J provider))
+    → slice_get (positions_of J provider) place ≡ position_of J provider place
+position-in-order J provider place order =
+    let in_order : FromOn 0 (places_among provider (accepts J)) =
+    subst (FromOn 0) (sym order ∙ places-of J provider) (counted-in-order (length (places J provider))) in
+    found-in-order (accepts J) 0 0 provider place in_order ∙ ap (position_from 0 (accepts J) provider) (zero-add place)
+
+-- a position that is found is one of these
+found-within : (fs : List Filed) (first provider place k : ℕ) → position_from first fs provider place ≡ Some k → k < first + length fs
+found-within [] first provider place k found = absurd (cc found)
+found-within (f ∷ fs) first provider place k found = elim (cases_Bool ((f.provider == provider) && (f.place == place))) [
+  | inl here ↦
+      let same : first ≡ k = cc (rw here at found) in
+      omega (arith, same)
+  | inr other ↦
+      let rest = found-within fs (suc first) provider place k (rw other at found) in
+      omega (arith, rest)
+]
+
+-- what is noted of a position is what the journal decides of it
+decided-at : (providers : ℕ) (J : List Event) (decisions : Decisions) → Noted providers J J decisions → (position : Option ℕ)
+    → ((k : ℕ) → position ≡ Some k → k < accepted J)
+    → option_and_then (λ k. option_and_then outcome_in (slice_get decisions.decided.items k)) position ≡ option_and_then (decision_at J) position
+decided-at providers J decisions noted None within = refl
+decided-at providers J decisions noted (Some k) within =
+    let inside = within k refl in
+    let stands = slice_get-get_or decisions.decided.items k None (omega (arith, inside, noted.size)) in
+    ap (option_and_then outcome_in) stands ∙ noted.decided k None inside
+
+-- what is looked up of a claim is what the journal decides of it
+pub looked-right : (providers : ℕ) (J : List Event) (decisions : Decisions) → Noted providers J J decisions
+    → ((provider : ℕ) → places J provider ≡ counted (length (places J provider))) → (d : Vec ℕ) → (provider place : ℕ) → 1 ≤ provider → provider ≤ providers
+    → looked_up decisions provider place ≡ decided_as J provider place
+looked-right providers J decisions noted order d zero place least most = absurd (omega (arith, least))
+looked-right providers J decisions noted order d (suc i) place least most =
+    let known : i < providers = omega (arith, most) in
+    let index : suc i - 1 ≡ i = omega arith in
+    let stands = slice_get-get_or decisions.positions.items i d (omega (arith, known, noted.count)) in
+    let listed = ap (λ ps. slice_get ps place) (noted.positions i d known) ∙ position-in-order J (suc i) place (order (suc i)) in
+    let position : option_and_then (λ positions. slice_get positions.items place) (slice_get decisions.positions.items (suc i - 1)) ≡ position_of J (suc i) place =
+    rw index (ap (option_and_then (λ positions. slice_get positions.items place)) stands ∙ listed) in
+    ap (option_and_then (λ k. option_and_then outcome_in (slice_get decisions.decided.items k))) position
+    ∙ decided-at providers J decisions noted (position_of J (suc i) place)
+    (λ k found.
+    let within = found-within (accepts J) 0 (suc i) place k found in
+    omega (arith, within))

@@ -1,0 +1,296 @@
+-- The whole report, and what a writer has got of it.
+use Rattle.std.proofs.Common.{inl, inr, ◌≡◌, ◌<◌, ◌≤◌, ◌+◌, ℕ, zero, suc, true, List, [], ◌∷◌, ◌++◌, length, length-append, map, take, Option, Some, None, Result, Ok, Err, ap, ap₂, sym, subst, ◌∙◌, refl, append_assoc, append-nil, arith}
+use Rattle.std.specs.Global.{Vec}
+use Rattle.std.specs.Io.KnownBytes.{Appends}
+use Rattle.std.specs.List.{AllZip}
+use Rattle.std.specs.Result.{IfErr, OnOk}
+use Rattle.std.proofs.KnownBytes.{Appends-nil}
+use Rattle.std.proofs.lemmas.Grind.{flat_map-append}
+use Rattle.std.proofs.lemmas.List.{take-append-le}
+use Rattle.std.proofs.lemmas.List.Concat.{flat_map-cons}
+use Rattle.std.proofs.lemmas.Slice.Zip.{AllZip-long}
+use Rattle.dtable.specs.declared.table.InputData.{InputData}
+use Rattle.intake_csv.specs.Rows.{AreRowsOf}
+use Rattle.intake_csv.specs.declared.rows.Row.{Row}
+use Rattle.intake_csv.specs.declared.rows.Row.TheVariants.{Good, Bad}
+use Rattle.journal.specs.Terms.{Terms}
+use Rattle.journal.specs.declared.event.Event.{Event}
+use Rattle.claim_terms.specs.Terms.{AreClaimsOf, IsTermsOf, TermsParts, claims_among}
+use Rattle.remit.specs.Decided.{decided_as}
+use Rattle.remit.specs.Held.{At, HasFront, Holds, IsReady, Writes, gathered_of}
+use Rattle.remit.specs.Looked.{Noted, looked_up}
+use Rattle.remit.specs.Records.{header_fields, line_of, record_of, records_of, told_of, total_fields}
+use Rattle.remit.specs.Report.{IsReport, record_text, report_records, text_of}
+use Rattle.remit.specs.Rows.{AreDistinct, AreRead, Begin, Deciding, WritesFiles, files_text}
+use Rattle.remit.specs.Writing.{IsFinishedOver, WritesFront, WritesReport}
+use Rattle.remit.specs.declared.decisions.Decisions.{Decisions}
+use Rattle.remit.specs.declared.fault.WriteCause.TheVariants.{Device, OutOfMemory}
+use Rattle.remit.specs.declared.fault.WriteFault.{WriteFault}
+use Rattle.remit.proofs.Holding.{writes-then}
+use Rattle.remit.proofs.Looking.{looked-right}
+
+-- the claims of files beside their texts
+claims-beside : (names : List InputData) (texts : List (List ℕ)) (files : List (List Row)) → AllZip (AreRowsOf names) texts files
+    → AllZip (AreClaimsOf names) texts (map claims_among files)
+claims-beside names [] [] h = tt
+claims-beside names [] (f ∷ files) h = absurd h
+claims-beside names (t ∷ texts) [] h = absurd h
+claims-beside names (t ∷ texts) (f ∷ files) h = (record { rows = f; are_rows = h.0; claims_are = refl }, claims-beside names texts files h.1)
+
+-- these parts as journals see them, by the rows of their files
+abbrev terms-by : TermsParts → List (List Row) → Terms
+terms-by parts files = record { plan = parts.plan; files = map claims_among files; balances = parts.balances; cutoff = parts.cutoff }
+
+are-terms : (parts : TermsParts) (files : List (List Row)) → AllZip (AreRowsOf parts.plan.names) parts.files files → IsTermsOf parts (terms-by parts files)
+are-terms parts files are = record {
+  plan = refl;
+  files = claims-beside parts.plan.names parts.files files are;
+  openings = λ member. refl;
+  cutoff = refl;
+}
+
+-- what is decided alike is told alike
+record-same : (f g : Deciding) (provider : ℕ) (row : Row) → ((place : ℕ) → f provider place ≡ g provider place) → record_of f provider row ≡ record_of g provider row
+record-same f g provider (Good number place claim) same = ap (λ o. line_of provider number claim.id claim.member (told_of o)) (same place)
+record-same f g provider (Bad number fault) same = refl
+
+rows-same : (f g : Deciding) (provider : ℕ) (rows : List Row) → ((place : ℕ) → f provider place ≡ g provider place)
+    → map (record_of f provider) rows ≡ map (record_of g provider) rows
+rows-same f g provider [] same = refl
+rows-same f g provider (row ∷ rows) same = ap₂ (λ r rs. r ∷ rs) (record-same f g provider row same) (rows-same f g provider rows same)
+
+records-same : (f g : Deciding) (first : ℕ) (files : List (List Row))
+    → ((provider place : ℕ) → first ≤ provider → provider < first + length files → f provider place ≡ g provider place)
+    → records_of f first files ≡ records_of g first files
+records-same f g first [] same = refl
+records-same f g first (rows ∷ files) same =
+    ap₂ (λ front behind. front ++ behind) (rows-same f g first rows (λ place. same first place (omega arith) (omega arith)))
+    (records-same f g (suc first) files (λ provider place least most. same provider place (omega (arith, least)) (omega (arith, most))))
+
+-- one of these
+some-of : {A : Type 0} (xs : List A) → 0 < length xs → A
+some-of [] within = absurd (omega (arith, within))
+some-of (x ∷ xs) within = x
+
+-- what is looked up gives the records of the report
+pub files-alike : (parts : TermsParts) (J : List Event) (providers : ℕ) (decisions : Decisions) (files : List (List Row)) → IsFinishedOver parts J
+    → Noted providers J J decisions → providers ≡ length parts.files → AllZip (AreRowsOf parts.plan.names) parts.files files
+    → files_text (looked_up decisions) 1 files ≡ files_text (decided_as J) 1 files
+files-alike parts J providers decisions files finished noted as_many are =
+    let journal = finished (terms-by parts files) (are-terms parts files are) in
+    let long = AllZip-long (AreRowsOf parts.plan.names) parts.files files are in
+    ap text_of
+    (records-same (looked_up decisions) (decided_as J) 1 files
+    (λ provider place least most.
+    let known : provider ≤ providers = omega (arith, most, long, as_many) in
+    let d = some-of decisions.positions.items (omega (arith, least, known, noted.count)) in
+    looked-right providers J decisions noted journal.lawful.sound.in_order d provider place least known))
+
+-- the report's text, in its three parts
+abbrev pub whole_text : List Event → List (List Row) → List ℕ
+whole_text J files = record_text header_fields ++ (files_text (decided_as J) 1 files ++ record_text (total_fields J))
+
+whole-is : (J : List Event) (files : List (List Row)) → text_of (report_records J files) ≡ whole_text J files
+whole-is J files =
+    flat_map-cons record_text header_fields (records_of (decided_as J) 1 files ++ total_fields J ∷ [])
+    ∙ ap (λ t. record_text header_fields ++ t)
+    (flat_map-append record_text (records_of (decided_as J) 1 files) (total_fields J ∷ [])
+    ∙ ap (λ t. files_text (decided_as J) 1 files ++ t) (append-nil (record_text (total_fields J))))
+
+-- nothing is written yet
+pub record IsFresh (start : At) : Type 0 where
+  pub gathered : gathered_of start.pieces ≡ []
+  pub written : start.pieces.written ≡ 0
+  pub ready : IsReady start.pieces
+
+holds-none : (start : At) → IsFresh start → Holds start.contents [] start
+holds-none start fresh = record {
+  gone = [];
+  text_is = sym fresh.gathered;
+  appended = Appends-nil start.contents;
+  counted = fresh.written;
+  ready = fresh.ready;
+}
+
+-- a text that is written whole, with nothing left gathered
+pub written-whole : (start end : At) (text : List ℕ) → IsFresh start → Writes start end text (Ok tt) → gathered_of end.pieces ≡ []
+    → Appends start.contents end.contents text
+written-whole start end text fresh writes none =
+    let held = writes.0 start.contents [] (holds-none start fresh) in
+    let all = held.text_is ∙ ap (λ g. held.gone ++ g) none ∙ append-nil held.gone in
+    subst (Appends start.contents end.contents) (sym all) held.appended
+
+-- the report is written whole
+pub report-written : (parts : TermsParts) (J : List Event) (providers : ℕ) (decisions : Decisions) (a b c d e : At) → IsFinishedOver parts J → Noted providers J J decisions
+    → providers ≡ length parts.files → IsFresh a → Writes a b (record_text header_fields) (Ok tt)
+    → WritesFiles (looked_up decisions) parts.plan.names parts.files b c (Ok tt) → Writes c d (record_text (total_fields J)) (Ok tt) → Writes d e [] (Ok tt)
+    → gathered_of e.pieces ≡ [] → WritesReport parts J a.contents e.contents
+report-written parts J providers decisions a b c d e finished noted as_many fresh header files total end none =
+    let rows = files.0 in
+    let are = files.1.are_rows in
+    let alike = files-alike parts J providers decisions rows finished noted as_many are in
+    let text = record_text header_fields ++ (files_text (looked_up decisions) 1 rows ++ (record_text (total_fields J) ++ [])) in
+    let writes : Writes a e text (Ok tt) =
+    writes-then a b e _ _ tt (Ok tt) header (writes-then b c e _ _ tt (Ok tt) files.2 (writes-then c d e _ _ tt (Ok tt) total end)) in
+    let text_is : text ≡ text_of (report_records J rows) =
+    ap₂ (λ f t. record_text header_fields ++ (f ++ t)) alike (append-nil (record_text (total_fields J))) ∙ sym (whole-is J rows) in
+    record {
+      bytes = text;
+      is_report = record { files = rows; are_rows = are; bytes_are = text_is };
+      appended = written-whole a e text fresh writes none;
+    }
+
+-- so many first elements of a list that begins with as many are these
+front-of : (front behind : List ℕ) (n : ℕ) → n ≡ length front → take n (front ++ behind) ≡ front
+front-of [] behind n is = rw is refl
+front-of (x ∷ front) behind zero is = absurd (omega (arith, is))
+front-of (x ∷ front) behind (suc n) is = ap (λ xs. x ∷ xs) (front-of front behind n (omega (arith, is)))
+
+-- the writing is refused within a text that begins each report
+pub front-written : (parts : TermsParts) (J : List Event) (start end : At) (text : List ℕ) (fault : WriteFault) → IsFresh start → Writes start end text (Err fault)
+    → (AreDistinct parts.plan.names → (report : List ℕ) → IsReport parts J report → Begin text report)
+    → WritesFront parts J fault.written start.contents end.contents
+front-written parts J start end text fault fresh writes begins =
+    let has = writes.0 start.contents [] (holds-none start fresh) in
+    record {
+      bytes = has.gone;
+      counted = sym has.counted;
+      appended = has.appended;
+      front = λ distinct report is.
+          let begin = begins distinct report is in
+          let split = begin.whole_is ∙ ap (λ t. t ++ begin.rest) has.text_is ∙ append_assoc has.gone has.rest begin.rest in
+          sym (ap (take fault.written) split ∙ front-of has.gone (has.rest ++ begin.rest) fault.written has.counted);
+    }
+
+-- nothing is written
+pub none-written : (parts : TermsParts) (J : List Event) (contents : Option (List ℕ)) → WritesFront parts J 0 contents contents
+none-written parts J contents = record { bytes = []; counted = refl; appended = Appends-nil contents; front = λ distinct report is. refl }
+
+-- each report begins with the header
+pub begins-header : (parts : TermsParts) (J : List Event) (report : List ℕ) → IsReport parts J report → Begin (record_text header_fields) report
+begins-header parts J report is = record {
+  rest = files_text (decided_as J) 1 is.files ++ record_text (total_fields J);
+  whole_is = is.bytes_are ∙ whole-is J is.files;
+}
+
+-- what is written of files, by the same decisions and over the same names and texts
+pub files-same : (old new : Decisions) (names others : List InputData) (texts same : List (List ℕ)) (a b : At) (result : Result (Unit {0}) WriteFault) → new ≡ old
+    → others ≡ names → same ≡ texts → WritesFiles (looked_up new) others same a b result → WritesFiles (looked_up old) names texts a b result
+files-same old new names others texts same a b result kept named alike writes =
+    subst (λ d. WritesFiles (looked_up d) names texts a b result) kept
+    (subst (λ ns. WritesFiles (looked_up new) ns texts a b result) named (subst (λ ts. WritesFiles (looked_up new) others ts a b result) alike writes))
+
+-- refused in the header
+pub header-refused : (parts : TermsParts) (J : List Event) (a b : At) (fault : WriteFault) → IsFresh a → Writes a b (record_text header_fields) (Err fault)
+    → WritesFront parts J fault.written a.contents b.contents
+header-refused parts J a b fault fresh header =
+    front-written parts J a b (record_text header_fields) fault fresh header (λ distinct report is. begins-header parts J report is)
+
+-- refused in the files
+pub files-refused : (parts : TermsParts) (J : List Event) (providers : ℕ) (decisions : Decisions) (a b c : At) (fault : WriteFault) → IsFinishedOver parts J
+    → Noted providers J J decisions → providers ≡ length parts.files → IsFresh a → Writes a b (record_text header_fields) (Ok tt)
+    → WritesFiles (looked_up decisions) parts.plan.names parts.files b c (Err fault) → WritesFront parts J fault.written a.contents c.contents
+files-refused parts J providers decisions a b c fault finished noted as_many fresh header files =
+    let text = record_text header_fields ++ files.0 in
+    front-written parts J a c text fault fresh (writes-then a b c _ _ tt (Err fault) header files.2)
+    (λ distinct report is.
+    let alike = files-alike parts J providers decisions is.files finished noted as_many is.are_rows in
+    let begin = files.1 distinct is.files is.are_rows in
+    let total = record_text (total_fields J) in
+    record {
+      rest = begin.rest ++ total;
+      whole_is =
+          is.bytes_are ∙ whole-is J is.files
+          ∙ ap (λ t. record_text header_fields ++ (t ++ total)) (sym alike ∙ begin.whole_is)
+          ∙ ap (λ t. record_text header_fields ++ t) (append_assoc files.0 begin.rest total)
+          ∙ sym (append_assoc (record_text header_fields) files.0 (begin.rest ++ total));
+    })
+
+-- the whole text is that of each report
+whole-of-each : (parts : TermsParts) (J : List Event) (providers : ℕ) (decisions : Decisions) (files : List (List Row)) → IsFinishedOver parts J
+    → Noted providers J J decisions → providers ≡ length parts.files → AreRead parts.plan.names parts.files files → AreDistinct parts.plan.names → (report : List ℕ)
+    → IsReport parts J report → report ≡ record_text header_fields ++ (files_text (looked_up decisions) 1 files ++ record_text (total_fields J))
+whole-of-each parts J providers decisions files finished noted as_many read distinct report is =
+    let alike = files-alike parts J providers decisions is.files finished noted as_many is.are_rows in
+    let same = read.only distinct is.files is.are_rows in
+    is.bytes_are ∙ whole-is J is.files
+    ∙ ap (λ t. record_text header_fields ++ (t ++ record_text (total_fields J))) (sym alike ∙ ap (files_text (looked_up decisions) 1) same)
+
+-- refused in the totals
+pub total-refused : (parts : TermsParts) (J : List Event) (providers : ℕ) (decisions : Decisions) (a b c d : At) (fault : WriteFault) → IsFinishedOver parts J
+    → Noted providers J J decisions → providers ≡ length parts.files → IsFresh a → Writes a b (record_text header_fields) (Ok tt)
+    → WritesFiles (looked_up decisions) parts.plan.names parts.files b c (Ok tt) → Writes c d (record_text (total_fields J)) (Err fault)
+    → WritesFront parts J fault.written a.contents d.contents
+total-refused parts J providers decisions a b c d fault finished noted as_many fresh header files total =
+    let text = record_text header_fields ++ (files_text (looked_up decisions) 1 files.0 ++ record_text (total_fields J)) in
+    front-written parts J a d text fault fresh (writes-then a b d _ _ tt (Err fault) header (writes-then b c d _ _ tt (Err fault) files.2 total))
+    (λ distinct report is. record {
+      rest = [];
+      whole_is = whole-of-each parts J providers decisions files.0 finished noted as_many files.1 distinct report is ∙ sym (append-nil text);
+    })
+
+-- refused at the end
+pub end-refused : (parts : TermsParts) (J : List Event) (providers : ℕ) (decisions : Decisions) (a b c d e : At) (fault : WriteFault) → IsFinishedOver parts J
+    → Noted providers J J decisions → providers ≡ length parts.files → IsFresh a → Writes a b (record_text header_fields) (Ok tt)
+    → WritesFiles (looked_up decisions) parts.plan.names parts.files b c (Ok tt) → Writes c d (record_text (total_fields J)) (Ok tt) → Writes d e [] (Err fault)
+    → WritesFront parts J fault.written a.contents e.contents
+end-refused parts J providers decisions a b c d e fault finished noted as_many fresh header files total end =
+    let last = record_text (total_fields J) in
+    let front = files_text (looked_up decisions) 1 files.0 in
+    let text = record_text header_fields ++ (front ++ (last ++ [])) in
+    front-written parts J a e text fault fresh
+    (writes-then a b e _ _ tt (Err fault) header (writes-then b c e _ _ tt (Err fault) files.2 (writes-then c d e _ _ tt (Err fault) total end)))
+    (λ distinct report is. record {
+      rest = [];
+      whole_is =
+          whole-of-each parts J providers decisions files.0 finished noted as_many files.1 distinct report is
+          ∙ ap (λ t. record_text header_fields ++ (front ++ t)) (sym (append-nil last)) ∙ sym (append-nil text);
+    })
+
+-- the writing ends with what is gathered
+pub ends-written : (parts : TermsParts) (J : List Event) (providers : ℕ) (decisions : Decisions) (a b c d e : At) (result : Result (Unit {0}) WriteFault)
+    → Noted providers J J decisions → providers ≡ length parts.files → IsFresh a → Writes a b (record_text header_fields) (Ok tt)
+    → WritesFiles (looked_up decisions) parts.plan.names parts.files b c (Ok tt) → Writes c d (record_text (total_fields J)) (Ok tt) → Writes d e [] result
+    → OnOk result (gathered_of e.pieces ≡ []) → OnOk result (IsFinishedOver parts J → WritesReport parts J a.contents e.contents)
+ends-written parts J providers decisions a b c d e (Ok done) noted as_many fresh header files total end none =
+    λ finished. report-written parts J providers decisions a b c d e finished noted as_many fresh header files total end none
+ends-written parts J providers decisions a b c d e (Err fault) noted as_many fresh header files total end none = tt
+
+pub ends-refused : (parts : TermsParts) (J : List Event) (providers : ℕ) (decisions : Decisions) (a b c d e : At) (result : Result (Unit {0}) WriteFault)
+    → Noted providers J J decisions → providers ≡ length parts.files → IsFresh a → Writes a b (record_text header_fields) (Ok tt)
+    → WritesFiles (looked_up decisions) parts.plan.names parts.files b c (Ok tt) → Writes c d (record_text (total_fields J)) (Ok tt) → Writes d e [] result
+    → IfErr result (λ fault. IsFinishedOver parts J → WritesFront parts J fault.written a.contents e.contents)
+ends-refused parts J providers decisions a b c d e (Ok done) noted as_many fresh header files total end = tt
+ends-refused parts J providers decisions a b c d e (Err fault) noted as_many fresh header files total end =
+    λ finished. end-refused parts J providers decisions a b c d e fault finished noted as_many fresh header files total end
+
+-- where the device is the cause, the writer has failed
+pub ends-device : (d e : At) (result : Result (Unit {0}) WriteFault) → Writes d e [] result → IfErr result (λ fault. fault.cause ≡ Device → e.failed ≡ true)
+ends-device d e (Ok done) end = tt
+ends-device d e (Err fault) end = end.1.0
+
+-- want of memory leaves the writer as it was
+pub ends-memory : (a d e : At) (result : Result (Unit {0}) WriteFault) → d.failed ≡ a.failed → Writes d e [] result
+    → IfErr result (λ fault. fault.cause ≡ OutOfMemory → e.failed ≡ a.failed)
+ends-memory a d e (Ok done) before end = tt
+ends-memory a d e (Err fault) before end = λ memory. end.1.1 memory ∙ before
+
+-- where the writing isn't refused, the writer is as it was
+pub ends-ok : (a d e : At) (result : Result (Unit {0}) WriteFault) → d.failed ≡ a.failed → Writes d e [] result → OnOk result (e.failed ≡ a.failed)
+ends-ok a d e (Ok done) before end = end.1 ∙ before
+ends-ok a d e (Err fault) before end = tt
+
+-- the report of a journal that is finished over these terms
+pub finished_written : (parts other : TermsParts) (J K : List Event) (old new : Option (List ℕ)) (result : Result (Unit {0}) WriteFault) → other ≡ parts
+    → IsFinishedOver other J → K ≡ J → OnOk result (IsFinishedOver parts K → WritesReport parts K old new) → OnOk result (WritesReport parts J old new)
+finished_written parts other J K old new (Ok done) same finished alike written =
+    subst (λ L. WritesReport parts L old new) alike (written (subst (λ p. IsFinishedOver p K) same (subst (IsFinishedOver other) (sym alike) finished)))
+finished_written parts other J K old new (Err fault) same finished alike written = tt
+
+pub finished_refused : (parts other : TermsParts) (J K : List Event) (old new : Option (List ℕ)) (result : Result (Unit {0}) WriteFault) → other ≡ parts
+    → IsFinishedOver other J → K ≡ J → IfErr result (λ fault. IsFinishedOver parts K → WritesFront parts K fault.written old new)
+    → IfErr result (λ fault. WritesFront parts J fault.written old new)
+finished_refused parts other J K old new (Ok done) same finished alike refused = tt
+finished_refused parts other J K old new (Err fault) same finished alike refused =
+    subst (λ L. WritesFront parts L fault.written old new) alike
+    (refused (subst (λ p. IsFinishedOver p K) same (subst (IsFinishedOver other) (sym alike) finished)))

@@ -1,0 +1,17 @@
+use Rattle.std.proofs.Common.{◌≡◌}
+use Rattle.claim_terms.specs.Terms.{texts_of}
+use Rattle.fixpoint.specs.Out.{has_failed, writer_of}
+use Rattle.remit.specs.Held.{at}
+use Rattle.remit.specs.Looked.{looked_up}
+use Rattle.remit.proofs.Filing.{FilesSoFar}
+use Rattle.remit.proofs.report.Report.write_files.Given as goal
+
+-- the files so far are written
+abbrev pub invariant-loop-place : goal.invariant-loop-place
+invariant-loop-place g l =
+    let contents = g.W.Write.contents in
+    record {
+      so_far : FilesSoFar (looked_up l.initial.self.decisions) l.plan.names (texts_of l.files) l.place
+          (at (contents (writer_of l.initial.out)) (has_failed l.initial.out) l.initial.self.pieces) (at (contents (writer_of l.out)) (has_failed l.out) l.self.pieces);
+      decisions : l.self.decisions ≡ l.initial.self.decisions;
+    }

@@ -1,0 +1,10 @@
+use Rattle.std.proofs.Common.{◌≡◌, false, is_err, length, ◌∙◌}
+use Rattle.remit.proofs.Holding.{on-ok}
+use Rattle.remit.proofs.report.Report.write_total.Goals as goal
+
+pub returns : goal.returns
+returns g c =
+    let J = c.args.journal.now in
+    let ok : is_err c.fill_total.result ≡ false = cc (c.is_err.ensures.value, c.if-is_err.false) in
+    let filled = on-ok c.fill_total.result _ ok c.fill_total.ensures in
+    rw (filled J (length J) (c.accepted-accepted.ensures ∙ c.requires) c.over-sums.ensures) at c.write.ensures

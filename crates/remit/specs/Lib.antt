@@ -1,0 +1,9 @@
+pub mod Decided
+pub mod Texts
+pub mod Records
+pub mod Report
+pub mod Writing
+pub mod Held
+pub mod Looked
+pub mod FaultNumber
+pub mod Rows

@@ -1,0 +1,99 @@
+-- What a journal tells, laid out so that a claim's decision is found at once, and its sums.
+use Rattle.std.specs.Prelude.{◌≡◌, ◌<◌, ◌≤◌, ◌+◌, ◌-◌, ◌*◌, ◌^◌, ◌+ℤ◌, ℕ, suc, ℤ, pos, ◌==◌, cond, List, [], ◌∷◌, get_or, length, ◌++◌, slice_get, Option, Some, None, option_map}
+use Rattle.std.specs.Global.{Vec}
+use Rattle.std.specs.Borrow.{Bor}
+use Rattle.std.specs.Option.{option_and_then}
+use Rattle.fixpoint.specs.Money.{money_text}
+use Rattle.fixpoint.specs.Number.{greatest_units}
+use Rattle.settlement.specs.declared.outcome.Outcome.{Outcome}
+use Rattle.journal.specs.Events.{Filed, accepted, accepts}
+use Rattle.journal.specs.declared.event.Event.{Event}
+use Rattle.remit.specs.Decided.{decision_at, paid_outcomes, sum_of}
+use Rattle.remit.specs.declared.decisions.Decisions.{Decisions}
+use Rattle.remit.specs.declared.sums.Sums.{Sums}
+
+-- the positions of a provider's claims among these, of which the first has the position that is given
+abbrev pub positions_from : ℕ → List Filed → ℕ → List ℕ
+positions_from position [] provider = []
+positions_from position (filed ∷ rest) provider =
+    cond (filed.provider == provider) (position ∷ positions_from (suc position) rest provider) (positions_from (suc position) rest provider)
+
+-- the positions of a provider's claims, in order
+abbrev pub positions_of : List Event → ℕ → List ℕ
+positions_of J provider = positions_from 0 (accepts J) provider
+
+-- the outcome behind a reference, if there is one
+abbrev pub outcome_in : Option (Bor Outcome) → Option Outcome
+outcome_in outcome = option_map (λ o. o.now) outcome
+
+-- the positions of so many providers' claims that one journal accepts, and what another decides of these positions
+pub record Noted (providers : ℕ) (accepting deciding : List Event) (decisions : Decisions) : Type 0 where
+  pub count : length decisions.positions.items ≡ providers
+  pub positions : (i : ℕ) (d : Vec ℕ) → i < providers → (get_or decisions.positions.items i d).items ≡ positions_of accepting (suc i)
+  pub size : length decisions.decided.items ≡ accepted accepting
+  pub decided : (k : ℕ) (d : Option (Bor Outcome)) → k < accepted accepting → outcome_in (get_or decisions.decided.items k d) ≡ decision_at deciding k
+
+-- a position is put behind those of this provider
+pub record NotesPosition (old new : List (Vec ℕ)) (provider position : ℕ) : Type 0 where
+  pub count : length new ≡ length old
+  pub each : (i : ℕ) (d : Vec ℕ) → i < length old → (get_or new i d).items ≡ (get_or old i d).items ++ cond (provider == suc i) (position ∷ []) []
+
+-- the first of two, if there is one, or else the second
+abbrev pub or_else : Option Outcome → Option Outcome → Option Outcome
+or_else None second = second
+or_else (Some first) second = Some first
+
+-- the outcome is noted at this position, where none is yet
+pub record NotesOutcome (old new : List (Option (Bor Outcome))) (position : ℕ) (outcome : Outcome) : Type 0 where
+  pub count : length new ≡ length old
+  pub each : (k : ℕ) (d : Option (Bor Outcome)) → k < length old
+      → outcome_in (get_or new k d) ≡ or_else (outcome_in (get_or old k d)) (cond (position == k) (Some outcome) None)
+
+-- what is found of a provider's claim at a place
+abbrev pub looked_up : Decisions → ℕ → ℕ → Option Outcome
+looked_up decisions provider place =
+    option_and_then (λ position. option_and_then outcome_in (slice_get decisions.decided.items position))
+    (option_and_then (λ positions. slice_get positions.items place) (slice_get decisions.positions.items (provider - 1)))
+
+-- the sum of an amount over outcomes, where each is at most the greatest number, and there are no more than so many
+pub record IsSum (amount : Outcome → ℤ) (outcomes : List Outcome) (count sum : ℕ) : Type 0 where
+  pub value : pos sum ≡ sum_of amount outcomes
+  pub bound : sum ≤ count * greatest_units
+
+-- the sums of the amounts over the paid claims of a journal of no more than so many events
+pub record AreSums (J : List Event) (count : ℕ) (sums : Sums) : Type 0 where
+  pub allowed : IsSum (λ o. o.allowed) (paid_outcomes J) count sums.allowed
+  pub ded : IsSum (λ o. o.ded) (paid_outcomes J) count sums.ded
+  pub copay : IsSum (λ o. o.copay) (paid_outcomes J) count sums.copay
+  pub coins : IsSum (λ o. o.coins) (paid_outcomes J) count sums.coins
+  pub share : IsSum (λ o. o.share) (paid_outcomes J) count sums.share
+  pub paid : IsSum (λ o. o.paid) (paid_outcomes J) count sums.paid
+
+-- one amount more fits in 128 bits behind each sum
+pub record HaveRoom (sums : Sums) : Type 0 where
+  pub allowed : sums.allowed + greatest_units < 2 ^ 128
+  pub ded : sums.ded + greatest_units < 2 ^ 128
+  pub copay : sums.copay + greatest_units < 2 ^ 128
+  pub coins : sums.coins + greatest_units < 2 ^ 128
+  pub share : sums.share + greatest_units < 2 ^ 128
+  pub paid : sums.paid + greatest_units < 2 ^ 128
+
+-- the sum has grown by the amount of these outcomes, and by no more than the greatest number
+pub record IsGrown (amount : Outcome → ℤ) (outcomes : List Outcome) (old new : ℕ) : Type 0 where
+  pub value : pos new ≡ pos old +ℤ sum_of amount outcomes
+  pub bound : new ≤ old + greatest_units
+
+-- each sum has grown by its amount of these outcomes
+pub record AreGrown (outcomes : List Outcome) (old new : Sums) : Type 0 where
+  pub allowed : IsGrown (λ o. o.allowed) outcomes old.allowed new.allowed
+  pub ded : IsGrown (λ o. o.ded) outcomes old.ded new.ded
+  pub copay : IsGrown (λ o. o.copay) outcomes old.copay new.copay
+  pub coins : IsGrown (λ o. o.coins) outcomes old.coins new.coins
+  pub share : IsGrown (λ o. o.share) outcomes old.share new.share
+  pub paid : IsGrown (λ o. o.paid) outcomes old.paid new.paid
+
+-- the texts of sums
+abbrev pub sum_texts : Sums → List (List ℕ)
+sum_texts sums =
+    money_text (pos sums.allowed) ∷ money_text (pos sums.ded) ∷ money_text (pos sums.copay) ∷ money_text (pos sums.coins)
+    ∷ money_text (pos sums.share) ∷ money_text (pos sums.paid) ∷ []

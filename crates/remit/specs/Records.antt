@@ -1,0 +1,84 @@
+-- The records of the report, by their fields.
+use Rattle.std.specs.Prelude.{ℕ, suc, ℤ, List, [], ◌∷◌, ◌++◌, codes, decimal, map, replicate, Option, Some, None}
+use Rattle.fixpoint.specs.Money.{money_text}
+use Rattle.settlement.specs.declared.claim.Claim.{Claim}
+use Rattle.settlement.specs.declared.outcome.Outcome.{Outcome}
+use Rattle.settlement.specs.declared.outcome.Verdict.{Verdict}
+use Rattle.settlement.specs.declared.outcome.Verdict.TheVariants.{Paid, Denied, Pended}
+use Rattle.intake_csv.specs.declared.fault.RowFault.{RowFault}
+use Rattle.intake_csv.specs.declared.rows.Row.{Row}
+use Rattle.intake_csv.specs.declared.rows.Row.TheVariants.{Good, Bad}
+use Rattle.journal.specs.Events.{accepted}
+use Rattle.journal.specs.declared.event.Event.{Event}
+use Rattle.remit.specs.Decided.{paid_outcomes, sum_of}
+use Rattle.remit.specs.Texts.{fault_text, reason_text, remarks_text}
+
+-- the names of the fields
+abbrev pub header_fields : List (List ℕ)
+header_fields =
+    codes "provider" ∷ codes "record" ∷ codes "claim" ∷ codes "member" ∷ codes "status" ∷ codes "reason" ∷ codes "allowed" ∷ codes "ded"
+    ∷ codes "copay" ∷ codes "coins" ∷ codes "share" ∷ codes "paid" ∷ codes "remarks" ∷ []
+
+-- what the report tells of a record behind whose it is: the fields from the status on
+pub record Told : Type 0 where
+  pub status : List ℕ
+  pub reason : List ℕ
+  pub amounts : List (List ℕ)
+  pub remarks : List ℕ
+
+abbrev pub told_fields : Told → List (List ℕ)
+told_fields told = told.status ∷ told.reason ∷ (told.amounts ++ told.remarks ∷ [])
+
+-- the amounts of an outcome, as money
+abbrev pub amounts_of : Outcome → List (List ℕ)
+amounts_of decision =
+    money_text decision.allowed ∷ money_text decision.ded ∷ money_text decision.copay ∷ money_text decision.coins ∷ money_text decision.share
+    ∷ money_text decision.paid ∷ []
+
+-- the amounts of a claim that isn't paid
+abbrev pub zeros : List (List ℕ)
+zeros = replicate 6 (codes "0.00")
+
+-- no amounts
+abbrev pub no_amounts : List (List ℕ)
+no_amounts = replicate 6 []
+
+-- a claim that is decided: a pended one has its reason, and no remarks
+abbrev pub told_by : Verdict → Outcome → Told
+told_by Paid decision = record { status = codes "paid"; reason = []; amounts = amounts_of decision; remarks = remarks_text decision.remarks }
+told_by Denied decision = record { status = codes "denied"; reason = []; amounts = zeros; remarks = remarks_text decision.remarks }
+told_by (Pended reason) decision = record { status = codes "pended"; reason = reason_text reason; amounts = zeros; remarks = [] }
+
+-- a claim: what it is decided to be, or that it came too late to be accepted
+abbrev pub told_of : Option Outcome → Told
+told_of (Some decision) = told_by decision.verdict decision
+told_of None = record { status = codes "late"; reason = []; amounts = no_amounts; remarks = [] }
+
+-- a record that is no claim
+abbrev pub told_refused : RowFault → Told
+told_refused fault = record { status = codes "refused"; reason = fault_text fault; amounts = no_amounts; remarks = [] }
+
+-- a record of a provider's file: its number, the claim's and the member's numbers, and what is told of it
+abbrev pub line_of : ℕ → ℕ → List ℕ → List ℕ → Told → List (List ℕ)
+line_of provider number claim member told =
+    decimal provider ∷ decimal number ∷ claim ∷ member ∷ told_fields told
+
+-- a row of a provider's file, where this is what the provider's claims are decided to be, by their places
+abbrev pub record_of : (ℕ → ℕ → Option Outcome) → ℕ → Row → List (List ℕ)
+record_of decided provider (Good number place claim) = line_of provider number claim.id claim.member (told_of (decided provider place))
+record_of decided provider (Bad number fault) = line_of provider number [] [] (told_refused fault)
+
+-- the rows of the providers' files, the first of them of this provider: provider by provider, in file order
+abbrev pub records_of : (ℕ → ℕ → Option Outcome) → ℕ → List (List Row) → List (List (List ℕ))
+records_of decided provider [] = []
+records_of decided provider (rows ∷ rest) = map (record_of decided provider) rows ++ records_of decided (suc provider) rest
+
+-- the sum of an amount over the paid claims of a journal, as money
+abbrev pub total_text : List Event → (Outcome → ℤ) → List ℕ
+total_text J amount = money_text (sum_of amount (paid_outcomes J))
+
+-- the record at the end: how many claims are accepted, and the sums over the paid claims
+abbrev pub total_fields : List Event → List (List ℕ)
+total_fields J =
+    codes "total" ∷ decimal (accepted J) ∷ [] ∷ [] ∷ [] ∷ [] ∷ total_text J (λ o. o.allowed) ∷ total_text J (λ o. o.ded) ∷ total_text J (λ o. o.copay)
+    ∷ total_text J (λ o. o.coins) ∷ total_text J (λ o. o.share) ∷ total_text J (λ o. o.paid) ∷ [] ∷ []

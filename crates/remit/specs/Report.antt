@@ -1,0 +1,34 @@
+-- The report of a run: a CSV text (RFC 4180) over the rows of the providers' files and a journal.
+use Rattle.std.specs.Prelude.{◌≡◌, ℕ, List, [], ◌∷◌, ◌++◌, flat_map}
+use Rattle.std.specs.List.{AllZip}
+use Rattle.csv.specs.Writing.{default_writer, row_text, with_terminator}
+use Rattle.csv.specs.declared.parser.Terminator.TheVariants.{CRLF}
+use Rattle.csv.specs.declared.writer.WriterBuilder.{WriterBuilder}
+use Rattle.intake_csv.specs.Rows.{AreRowsOf}
+use Rattle.intake_csv.specs.declared.rows.Row.{Row}
+use Rattle.journal.specs.declared.event.Event.{Event}
+use Rattle.claim_terms.specs.Terms.{TermsParts}
+use Rattle.remit.specs.Decided.{decided_as}
+use Rattle.remit.specs.Records.{header_fields, records_of, total_fields}
+
+-- how the report is written: commas, quotes where a field needs them, and CRLF behind each record
+abbrev pub report_style : WriterBuilder
+report_style = with_terminator default_writer CRLF
+
+-- the text of a record, with the line end behind it
+unfoldable pub record_text : List (List ℕ) → List ℕ
+record_text fields = row_text report_style fields
+
+-- the text of records
+abbrev pub text_of : List (List (List ℕ)) → List ℕ
+text_of records = flat_map record_text records
+
+-- the records of the report: the header, each row of each provider's file, and the totals
+abbrev pub report_records : List Event → List (List Row) → List (List (List ℕ))
+report_records J files = header_fields ∷ (records_of (decided_as J) 1 files ++ total_fields J ∷ [])
+
+-- the bytes are the report of these terms and this journal
+pub record IsReport (parts : TermsParts) (J : List Event) (bytes : List ℕ) : Type 0 where
+  pub files : List (List Row)
+  pub are_rows : AllZip (AreRowsOf parts.plan.names) parts.files files
+  pub bytes_are : bytes ≡ text_of (report_records J files)

@@ -1,0 +1,76 @@
+-- The rows of a file, as far as they are given one after another, and their text.
+use Rattle.std.specs.Prelude.{◌≡◌, ℕ, List, [], ◌++◌, map, Option, Result, Ok, Err}
+use Rattle.std.specs.List.{AllZip}
+use Rattle.dtable.specs.declared.table.InputData.{InputData}
+use Rattle.settlement.specs.declared.outcome.Outcome.{Outcome}
+use Rattle.intake_csv.specs.Columns.{claim_columns}
+use Rattle.intake_csv.specs.Laws.{HaveDistinctNames, StandApart}
+use Rattle.intake_csv.specs.Rows.{AreRowsLeft, AreRowsOf, RowsLeft}
+use Rattle.intake_csv.specs.declared.rows.Row.{Row}
+use Rattle.remit.specs.Held.{At, Writes}
+use Rattle.remit.specs.Records.{record_of, records_of}
+use Rattle.remit.specs.Report.{text_of}
+use Rattle.remit.specs.declared.fault.WriteFault.{WriteFault}
+
+-- what the providers' claims are decided to be, by their places
+abbrev pub Deciding : Type 0
+Deciding = ℕ → ℕ → Option Outcome
+
+-- the text of a provider's rows
+abbrev pub rows_text : Deciding → ℕ → List Row → List ℕ
+rows_text decided provider rows = text_of (map (record_of decided provider) rows)
+
+-- the text of the rows of the providers' files, the first of them of this provider
+abbrev pub files_text : Deciding → ℕ → List (List Row) → List ℕ
+files_text decided provider files = text_of (records_of decided provider files)
+
+-- the rows begin with these
+pub record Begin {A : Type 0} (front whole : List A) : Type 0 where
+  pub rest : List A
+  pub whole_is : whole ≡ front ++ rest
+
+-- these are the rows that a reader has left, and where its columns stand apart no others are
+pub record GivesAll (left : RowsLeft) (rows : List Row) : Type 0 where
+  pub are_rows : AreRowsLeft left rows
+  pub only : StandApart left.layout.columns → (all : List Row) → AreRowsLeft left all → all ≡ rows
+
+-- where a reader's columns stand apart, the rows that it has left begin with these
+abbrev pub GivesFirst : RowsLeft → List Row → Type 0
+GivesFirst left front = StandApart left.layout.columns → (all : List Row) → AreRowsLeft left all → Begin front all
+
+-- the rows of a reader are written: all of them, or the first ones, and then the writing is refused
+abbrev pub WritesLeft : Deciding → ℕ → RowsLeft → At → At → Result (Unit {0}) WriteFault → Type 0
+WritesLeft decided provider left old new (Ok done) = (rows : List Row) × GivesAll left rows × Writes old new (rows_text decided provider rows) (Ok done)
+WritesLeft decided provider left old new (Err fault) = (rows : List Row) × GivesFirst left rows × Writes old new (rows_text decided provider rows) (Err fault)
+
+-- the columns that claims need have distinct names
+abbrev pub AreDistinct : List InputData → Type 0
+AreDistinct names = HaveDistinctNames (claim_columns names)
+
+-- these are the rows of the text, and where the columns that claims need have distinct names no others are
+pub record IsRead (names : List InputData) (text : List ℕ) (rows : List Row) : Type 0 where
+  pub are_rows : AreRowsOf names text rows
+  pub only : AreDistinct names → (all : List Row) → AreRowsOf names text all → all ≡ rows
+
+-- where the columns that claims need have distinct names, the rows of the text begin with these
+abbrev pub IsReadFirst : List InputData → List ℕ → List Row → Type 0
+IsReadFirst names text front = AreDistinct names → (all : List Row) → AreRowsOf names text all → Begin front all
+
+-- the rows of a provider's file are written: all of them, or the first ones, and then the writing is refused
+abbrev pub WritesFile : Deciding → ℕ → List InputData → List ℕ → At → At → Result (Unit {0}) WriteFault → Type 0
+WritesFile decided provider names text old new (Ok done) = (rows : List Row) × IsRead names text rows × Writes old new (rows_text decided provider rows) (Ok done)
+WritesFile decided provider names text old new (Err fault) =
+    (rows : List Row) × IsReadFirst names text rows × Writes old new (rows_text decided provider rows) (Err fault)
+
+-- these are the rows of the files, and where the columns that claims need have distinct names no others are
+pub record AreRead (names : List InputData) (texts : List (List ℕ)) (files : List (List Row)) : Type 0 where
+  pub are_rows : AllZip (AreRowsOf names) texts files
+  pub only : AreDistinct names → (all : List (List Row)) → AllZip (AreRowsOf names) texts all → all ≡ files
+
+-- the rows of the files are written: all of them; or a text that begins the text of each rows that the files have, where the
+-- columns that claims need have distinct names, and then the writing is refused
+abbrev pub WritesFiles : Deciding → List InputData → List (List ℕ) → At → At → Result (Unit {0}) WriteFault → Type 0
+WritesFiles decided names texts old new (Ok done) = (files : List (List Row)) × AreRead names texts files × Writes old new (files_text decided 1 files) (Ok done)
+WritesFiles decided names texts old new (Err fault) =
+    (front : List ℕ) × (AreDistinct names → (all : List (List Row)) → AllZip (AreRowsOf names) texts all → Begin front (files_text decided 1 all))
+    × Writes old new front (Err fault)

@@ -1,0 +1,39 @@
+-- The texts of the report's fields.
+use Rattle.std.specs.Prelude.{ℕ, ◌++◌, List, [], ◌∷◌, codes, decimal, flat_map}
+use Rattle.settlement.specs.Roles.{number_of}
+use Rattle.settlement.specs.declared.outcome.Reason.{Reason}
+use Rattle.settlement.specs.declared.outcome.Reason.TheVariants.{Outside, NoRule, Clash, Range, Term}
+use Rattle.intake_csv.specs.declared.fault.RowCause.{RowCause}
+use Rattle.intake_csv.specs.declared.fault.RowCause.TheVariants.{FieldCount, Utf8, TooLong, EmptyId, Value, NotCents, Negative, Repeated}
+use Rattle.intake_csv.specs.declared.fault.RowFault.{RowFault}
+
+-- a word, and a number behind a colon
+abbrev pub numbered : List ℕ → ℕ → List ℕ
+numbered word number = word ++ (codes ":" ++ decimal number)
+
+-- why a claim is pended
+abbrev pub reason_text : Reason → List ℕ
+reason_text (Outside table column) = numbered (numbered (codes "outside") table) column
+reason_text (NoRule table) = numbered (codes "norule") table
+reason_text (Clash table) = numbered (codes "clash") table
+reason_text (Range table) = numbered (codes "range") table
+reason_text (Term role) = numbered (codes "term") (number_of role)
+
+-- why a record is refused; a fault of the number of fields is in no column
+abbrev pub cause_text : RowCause → ℕ → List ℕ
+cause_text FieldCount column = codes "fieldcount"
+cause_text Utf8 column = numbered (codes "utf8") column
+cause_text TooLong column = numbered (codes "toolong") column
+cause_text EmptyId column = numbered (codes "emptyid") column
+cause_text Value column = numbered (codes "value") column
+cause_text NotCents column = numbered (codes "notcents") column
+cause_text Negative column = numbered (codes "negative") column
+cause_text Repeated column = numbered (codes "repeated") column
+
+abbrev pub fault_text : RowFault → List ℕ
+fault_text fault = cause_text fault.cause fault.column
+
+-- the remarks, as they stand, with a semicolon between two of them
+abbrev pub remarks_text : List (List ℕ) → List ℕ
+remarks_text [] = []
+remarks_text (remark ∷ others) = remark ++ flat_map (λ other. codes ";" ++ other) others

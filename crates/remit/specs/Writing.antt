@@ -1,0 +1,28 @@
+-- What a writer has got of a report.
+use Rattle.std.specs.Prelude.{◌≡◌, ℕ, List, length, take, Option}
+use Rattle.std.specs.Io.KnownBytes.{Appends}
+use Rattle.intake_csv.specs.Columns.{claim_columns}
+use Rattle.intake_csv.specs.Laws.{HaveDistinctNames}
+use Rattle.journal.specs.declared.event.Event.{Event}
+use Rattle.journal.specs.Lawful.{Finished}
+use Rattle.journal.specs.Terms.{Terms}
+use Rattle.claim_terms.specs.Terms.{IsTermsOf, TermsParts}
+use Rattle.remit.specs.Report.{IsReport}
+
+-- the journal is finished over these terms, as journals see them
+abbrev pub IsFinishedOver : TermsParts → List Event → Type 0
+IsFinishedOver parts J = (T : Terms) → IsTermsOf parts T → Finished T J
+
+-- the writer has got a report of these terms and this journal, whole
+pub record WritesReport (parts : TermsParts) (J : List Event) (old new : Option (List ℕ)) : Type 0 where
+  pub bytes : List ℕ
+  pub is_report : IsReport parts J bytes
+  pub appended : Appends old new bytes
+
+-- the writer has got so many bytes; and where the columns that claims need have distinct names, as under every plan that is read
+-- from a text, these are the first bytes of each report of these terms and this journal
+pub record WritesFront (parts : TermsParts) (J : List Event) (written : ℕ) (old new : Option (List ℕ)) : Type 0 where
+  pub bytes : List ℕ
+  pub counted : length bytes ≡ written
+  pub appended : Appends old new bytes
+  pub front : HaveDistinctNames (claim_columns parts.plan.names) → (report : List ℕ) → IsReport parts J report → bytes ≡ take written report

@@ -1,0 +1,118 @@
+//! What a journal decides of the claims, laid out so that a claim's decision is found at once.
+ghost use Rattle.std.specs.Prelude.{◌≡◌, ◌≤◌, ◌++◌, ◌∷◌, [], List, ℕ, length, OnOk, IfOk};
+ghost use Rattle.journal.specs.Events.{accepted};
+ghost use Rattle.journal.specs.declared.event.Event.{Event as AnyEvent};
+ghost use Rattle.remit.specs.Looked.{Noted, NotesOutcome, NotesPosition, looked_up, outcome_in};
+
+use journal::Event;
+use settlement::Outcome;
+use std::alloc::{AllocError, Global};
+
+/// The positions of each provider's claims, in order, and what the claim at each position is decided to be.
+#[derive(Drop)]
+pub struct Decisions<'j> {
+    positions: Vec<Vec<usize>>,
+    decided: Vec<Option<&'j Outcome>>,
+}
+
+impl<'j> Decisions<'j> {
+    /// The decisions of a journal about the claims of so many providers. The journal is walked twice, whatever it holds.
+    pub fn new(
+        alloc: Global,
+        providers: usize,
+        journal: &'j [Event],
+    ) -> Result<Decisions<'j>, AllocError>
+        ensures { IfOk result (Noted providers journal.now journal.now) }
+    {
+        let mut decisions = Decisions::of_none(alloc, providers)?;
+        for event in journal {
+            decisions.note_accept(event)?;
+        }
+        decisions.note_decisions(journal);
+        Ok(decisions)
+    }
+
+    /// What a provider's claim is decided to be, if it is accepted. Providers count from 1, places from 0.
+    pub fn outcome(&self, provider: usize, place: usize) -> Option<&'j Outcome>
+        requires { 1 ≤ provider }
+        ensures { outcome_in result ≡ looked_up self.now provider place }
+    {
+        let positions = self.positions.get(provider - 1)?;
+        let position = *positions.get(place)?;
+        *self.decided.get(position)?
+    }
+
+    /// How many claims are accepted.
+    pub fn accepted(&self) -> usize
+        ensures { result ≡ length self.now.decided.items }
+    {
+        self.decided.len()
+    }
+
+    fn of_none(alloc: Global, providers: usize) -> Result<Decisions<'j>, AllocError>
+        ensures { IfOk result (Noted providers [] []) }
+    {
+        let mut positions = Vec::with_capacity(alloc, providers)?;
+        for _ in 0..providers {
+            positions.push(Vec::new(alloc))?;
+        }
+        Ok(Decisions {
+            positions,
+            decided: Vec::new(alloc),
+        })
+    }
+
+    // Notes the claim that the event accepts, if it accepts one.
+    fn note_accept(&mut self, event: &Event) -> Result<(), AllocError>
+        ensures { OnOk result ((providers : ℕ) (front : List AnyEvent) → Noted providers front [] self.old → Noted providers (front ++ event.now ∷ []) [] self.new) }
+    {
+        let Event::Accept { provider, .. } = event else {
+            return Ok(());
+        };
+        let position = self.decided.len();
+        self.decided.push(None)?;
+        note_position(&mut self.positions, *provider, position)
+    }
+
+    // Notes each decision of the journal.
+    fn note_decisions(&mut self, journal: &'j [Event])
+        ensures { (providers : ℕ) (accepting : List AnyEvent) → Noted providers accepting [] self.old → Noted providers accepting journal.now self.new }
+    {
+        for event in journal {
+            self.note_decision(event);
+        }
+    }
+
+    // Notes what the event decides, if it decides a claim.
+    fn note_decision(&mut self, event: &'j Event)
+        ensures { (providers : ℕ) (accepting front : List AnyEvent) → Noted providers accepting front self.old → Noted providers accepting (front ++ event.now ∷ []) self.new }
+    {
+        let Event::Decide { position, outcome } = event else {
+            return;
+        };
+        note_outcome(&mut self.decided, *position, outcome.outcome());
+    }
+}
+
+// Puts a position behind those of a provider, if that is one of these.
+fn note_position(
+    positions: &mut Vec<Vec<usize>>,
+    provider: usize,
+    position: usize,
+) -> Result<(), AllocError>
+    ensures { OnOk result (NotesPosition positions.old.items positions.new.items provider position) }
+{
+    if 1 <= provider && provider <= positions.len() {
+        positions[provider - 1].push(position)?;
+    }
+    Ok(())
+}
+
+// Notes what a position is decided to be, if it is one of these and not decided yet.
+fn note_outcome<'j>(decided: &mut Vec<Option<&'j Outcome>>, position: usize, outcome: &'j Outcome)
+    ensures { NotesOutcome decided.old.items decided.new.items position outcome.now }
+{
+    if position < decided.len() && decided[position].is_none() {
+        decided[position] = Some(outcome);
+    }
+}

@@ -1,0 +1,21 @@
+//! The report of a run: what was decided of each record of the providers' files, as CSV (RFC 4180).
+//!
+//! `write_report` writes the report of a finished run. Rows come from `intake_csv`, the finished run and its journal from
+//! `claim_gate`, and `csv` writes the records.
+//!
+//! Begin with `specs/Records.antt` and `specs/Report.antt`, which say what the report is, and `specs/Writing.antt`, which
+//! says what a writer has got of it; then read `report.rt`.
+#![tactic(auto)]
+
+mod decisions;
+mod fault;
+mod pieces;
+mod record;
+mod report;
+mod sums;
+#[cfg(test)]
+mod tests;
+mod texts;
+
+pub use fault::{WriteCause, WriteFault};
+pub use report::write_report;

@@ -1,0 +1,127 @@
+//! Records on their way to a writer: gathered as CSV text (RFC 4180), and handed over in large pieces.
+ghost use Rattle.std.specs.Prelude.{◌≡◌, ◌<◌, ◌≤◌, ◌+◌, ◌^◌, ◌++◌, [], length, take, IfOk, IfErr, OnOk, OnErr, false, true};
+ghost use Rattle.std.specs.Io.KnownBytes.{Appends};
+ghost use Rattle.csv.specs.Records.{fields_of};
+ghost use Rattle.csv.specs.Writing.{fields_written, has_written, writer_pending, writer_setup, writer_under};
+ghost use Rattle.fixpoint.specs.Out.{has_failed, writer_of};
+ghost use Rattle.remit.specs.Held.{IsNoMemory, IsReady, PutsFront, Writes, at, gathered_of};
+ghost use Rattle.remit.specs.Report.{record_text, report_style};
+ghost use Rattle.remit.specs.declared.fault.WriteCause.TheVariants.{Device};
+
+use crate::fault::{WriteCause, WriteFault};
+use csv::{ByteRecord, Terminator, Writer, WriterBuilder};
+use fixpoint::Out;
+use std::alloc::Global;
+use std::io::Write;
+use std::mem;
+
+/// How many bytes are gathered before they are handed over.
+const PIECE_BYTES: usize = 65_536;
+
+/// Records that are gathered, and how many bytes were handed over before them.
+#[derive(Drop)]
+pub struct Pieces {
+    alloc: Global,
+    gathered: Writer<Vec<u8>>,
+    written: usize,
+}
+
+impl Pieces {
+    /// No records.
+    pub fn new(alloc: Global) -> Pieces
+        ensures gathered { gathered_of result ≡ [] }
+        ensures written { result.written ≡ 0 }
+        ensures ready { IsReady result }
+    {
+        Pieces {
+            alloc,
+            gathered: writer_into(Vec::new(alloc)),
+            written: 0,
+        }
+    }
+
+    /// Want of memory, after what was handed over.
+    pub fn no_memory(&self) -> WriteFault
+        ensures { IsNoMemory self.now result }
+    {
+        WriteFault {
+            written: self.written,
+            cause: WriteCause::OutOfMemory,
+        }
+    }
+
+    /// Writes a record.
+    pub fn write<W: Write>(&mut self, line: &ByteRecord, out: &mut Out<W>) -> Result<(), WriteFault>
+        ensures { Writes (at (W.contents (writer_of out.old)) (has_failed out.old) self.old)
+            (at (W.contents (writer_of out.new)) (has_failed out.new) self.new)
+            (record_text (fields_of line.now)) result }
+    {
+        if self.gathered.write_byte_record(line).is_err() {
+            return Err(self.no_memory());
+        }
+        if self.gathered.get_ref().len() < PIECE_BYTES {
+            return Ok(());
+        }
+        self.hand_over(out)
+    }
+
+    /// Hands over what is gathered.
+    pub fn hand_over<W: Write>(&mut self, out: &mut Out<W>) -> Result<(), WriteFault>
+        ensures writes { Writes (at (W.contents (writer_of out.old)) (has_failed out.old) self.old)
+            (at (W.contents (writer_of out.new)) (has_failed out.new) self.new) [] result }
+        ensures all { OnOk result (gathered_of self.new ≡ []) }
+    {
+        let empty = writer_into(Vec::new(self.alloc));
+        let full = mem::replace(&mut self.gathered, empty);
+        let Ok(mut text) = full.into_inner() else {
+            return Err(self.no_memory());
+        };
+        // No writer takes so many bytes that their count would overflow; it is refused here, so that the count is exact.
+        if text.len() > usize::MAX - self.written {
+            return Err(self.no_memory());
+        }
+        self.written = put_all(text.as_slice(), self.written, out)?;
+        text.clear();
+        self.gathered = writer_into(text);
+        Ok(())
+    }
+}
+
+// A writer of records in the report's style that puts them behind a text.
+fn writer_into(text: Vec<u8>) -> Writer<Vec<u8>>
+    ensures under { writer_under result ≡ text }
+    ensures pending { writer_pending result ≡ [] }
+    ensures setup { writer_setup result ≡ report_style }
+    ensures fields { fields_written result ≡ 0 }
+    ensures clean { has_written result ≡ false }
+{
+    WriterBuilder::new()
+        .terminator(Terminator::CRLF)
+        .from_writer(text)
+}
+
+// Hands the text to the writer, as many bytes at a time as it takes. So many bytes were handed over before, and with
+// these the count is given.
+fn put_all<W: Write>(text: &[u8], before: usize, out: &mut Out<W>) -> Result<usize, WriteFault>
+    requires { before + length text.now < 2 ^ 64 }
+    ensures all { IfOk result (λ written. written ≡ before + length text.now) }
+    ensures ok { OnOk result (Appends (W.contents (writer_of out.old)) (W.contents (writer_of out.new)) text.now) }
+    ensures ok_failed { OnOk result (has_failed out.new ≡ has_failed out.old) }
+    ensures front { IfErr result (λ fault. PutsFront text.now before fault.written (W.contents (writer_of out.old)) (W.contents (writer_of out.new))) }
+    ensures failed { OnErr result (has_failed out.new ≡ true) }
+    ensures cause { IfErr result (λ fault. fault.cause ≡ Device) }
+{
+    let mut put = 0;
+    while put < text.len() {
+        match out.put(&text[put..]) {
+            Ok(count) => put += count,
+            Err(_) => {
+                return Err(WriteFault {
+                    written: before + put,
+                    cause: WriteCause::Device,
+                });
+            }
+        }
+    }
+    Ok(before + put)
+}

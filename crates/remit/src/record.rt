@@ -1,0 +1,220 @@
+//! The fields of the report's records.
+ghost use Rattle.std.specs.Prelude.{◌≡◌, ◌≤◌, ℕ, pos, List, [], ◌∷◌, decimal, replicate, OnOk};
+ghost use Rattle.csv.specs.Records.{fields_of};
+ghost use Rattle.fixpoint.specs.Money.{money_text};
+ghost use Rattle.journal.specs.Events.{accepted as accepted_in};
+ghost use Rattle.journal.specs.declared.event.Event.{Event as AnyEvent};
+ghost use Rattle.claim_terms.specs.Terms.{texts_of};
+ghost use Rattle.remit.specs.Held.{Pushes};
+ghost use Rattle.remit.specs.Looked.{AreSums, looked_up, outcome_in, sum_texts};
+ghost use Rattle.remit.specs.Texts.{remarks_text};
+ghost use Rattle.remit.specs.Records.{amounts_of, header_fields, record_of, told_by, told_fields, told_of, told_refused, total_fields};
+
+use crate::decisions::Decisions;
+use crate::sums::Sums;
+use crate::texts::{fault_text, reason_text, remarks_text, sum_text};
+use csv::ByteRecord;
+use intake_csv::{Row, RowFault};
+use itoa::Buffer;
+use settlement::{Money, Outcome, Verdict};
+use std::alloc::{AllocError, Global};
+
+/// How many amounts a record has.
+const AMOUNTS: usize = 6;
+
+/// How many fields of the record with the totals are empty in front of the sums.
+const EMPTY_IN_TOTAL: usize = 4;
+
+/// Fills the record with the names of the fields.
+pub fn fill_header(line: &mut ByteRecord) -> Result<(), AllocError>
+    ensures { OnOk result (fields_of line.new ≡ header_fields) }
+{
+    line.clear();
+    push_all(
+        line,
+        &[
+            b"provider",
+            b"record",
+            b"claim",
+            b"member",
+            b"status",
+            b"reason",
+            b"allowed",
+            b"ded",
+            b"copay",
+            b"coins",
+            b"share",
+            b"paid",
+            b"remarks",
+        ],
+    )
+}
+
+/// Fills the record with a row of a provider's file.
+pub fn fill_row(
+    alloc: Global,
+    line: &mut ByteRecord,
+    decisions: &Decisions,
+    provider: usize,
+    row: &Row,
+) -> Result<(), AllocError>
+    requires { 1 ≤ provider }
+    ensures { OnOk result (fields_of line.new ≡ record_of (looked_up decisions.now) provider row.now) }
+{
+    line.clear();
+    push_number(line, provider)?;
+    match row {
+        Row::Good {
+            number,
+            place,
+            claim,
+        } => {
+            push_number(line, *number)?;
+            line.push_field(claim.id.as_str().as_bytes())?;
+            line.push_field(claim.member.as_str().as_bytes())?;
+            push_claim(alloc, line, decisions.outcome(provider, *place))
+        }
+        Row::Bad { number, fault } => {
+            push_number(line, *number)?;
+            push_repeated(line, b"", 2)?;
+            push_refused(alloc, line, *fault)
+        }
+    }
+}
+
+/// Fills the record with how many claims are accepted, and the sums over those that are paid.
+pub fn fill_total(
+    alloc: Global,
+    line: &mut ByteRecord,
+    accepted: usize,
+    sums: Sums,
+) -> Result<(), AllocError>
+    ensures { OnOk result ((J : List AnyEvent) (count : ℕ) → accepted ≡ accepted_in J → AreSums J count sums → fields_of line.new ≡ total_fields J) }
+{
+    line.clear();
+    line.push_field(b"total")?;
+    push_number(line, accepted)?;
+    push_repeated(line, b"", EMPTY_IN_TOTAL)?;
+    push_sums(alloc, line, sums)?;
+    line.push_field(b"")
+}
+
+// What is told of a claim: what it is decided to be, or that it came too late to be accepted.
+fn push_claim(
+    alloc: Global,
+    line: &mut ByteRecord,
+    decided: Option<&Outcome>,
+) -> Result<(), AllocError>
+    ensures { OnOk result (Pushes line.old line.new (told_fields (told_of (outcome_in decided.entry)))) }
+{
+    match decided {
+        Some(decision) => push_decision(alloc, line, decision),
+        None => {
+            line.push_field(b"late")?;
+            push_repeated(line, b"", 1 + AMOUNTS + 1)
+        }
+    }
+}
+
+fn push_decision(alloc: Global, line: &mut ByteRecord, decision: &Outcome) -> Result<(), AllocError>
+    ensures { OnOk result (Pushes line.old line.new (told_fields (told_by decision.now.verdict decision.now))) }
+{
+    match decision.verdict {
+        Verdict::Paid => {
+            line.push_field(b"paid")?;
+            line.push_field(b"")?;
+            push_amounts(line, decision)?;
+            push_remarks(alloc, line, decision)
+        }
+        Verdict::Denied => {
+            line.push_field(b"denied")?;
+            line.push_field(b"")?;
+            push_repeated(line, b"0.00", AMOUNTS)?;
+            push_remarks(alloc, line, decision)
+        }
+        Verdict::Pended(reason) => {
+            line.push_field(b"pended")?;
+            line.push_field(reason_text(alloc, reason)?.as_bytes())?;
+            push_repeated(line, b"0.00", AMOUNTS)?;
+            line.push_field(b"")
+        }
+    }
+}
+
+// What is told of a record that is no claim.
+fn push_refused(alloc: Global, line: &mut ByteRecord, fault: RowFault) -> Result<(), AllocError>
+    ensures { OnOk result (Pushes line.old line.new (told_fields (told_refused fault))) }
+{
+    line.push_field(b"refused")?;
+    line.push_field(fault_text(alloc, fault)?.as_bytes())?;
+    push_repeated(line, b"", AMOUNTS + 1)
+}
+
+fn push_amounts(line: &mut ByteRecord, decision: &Outcome) -> Result<(), AllocError>
+    ensures { OnOk result (Pushes line.old line.new (amounts_of decision.now)) }
+{
+    push_money(line, decision.allowed)?;
+    push_money(line, decision.ded)?;
+    push_money(line, decision.copay)?;
+    push_money(line, decision.coins)?;
+    push_money(line, decision.share)?;
+    push_money(line, decision.paid)
+}
+
+fn push_sums(alloc: Global, line: &mut ByteRecord, sums: Sums) -> Result<(), AllocError>
+    ensures { OnOk result (Pushes line.old line.new (sum_texts sums)) }
+{
+    push_sum(alloc, line, sums.allowed)?;
+    push_sum(alloc, line, sums.ded)?;
+    push_sum(alloc, line, sums.copay)?;
+    push_sum(alloc, line, sums.coins)?;
+    push_sum(alloc, line, sums.share)?;
+    push_sum(alloc, line, sums.paid)
+}
+
+fn push_remarks(alloc: Global, line: &mut ByteRecord, decision: &Outcome) -> Result<(), AllocError>
+    ensures { OnOk result (Pushes line.old line.new (remarks_text decision.now.remarks ∷ [])) }
+{
+    let text = remarks_text(alloc, decision.remarks.as_slice())?;
+    line.push_field(text.as_slice())
+}
+
+fn push_number(line: &mut ByteRecord, number: usize) -> Result<(), AllocError>
+    ensures { OnOk result (Pushes line.old line.new (decimal number ∷ [])) }
+{
+    line.push_field(Buffer::new().format(number).as_bytes())
+}
+
+fn push_money(line: &mut ByteRecord, money: Money) -> Result<(), AllocError>
+    ensures { OnOk result (Pushes line.old line.new (money_text money ∷ [])) }
+{
+    let mut buffer = [0; 24];
+    let length = money.amount().write_money(&mut buffer);
+    line.push_field(&buffer[..length])
+}
+
+fn push_sum(alloc: Global, line: &mut ByteRecord, units: u128) -> Result<(), AllocError>
+    ensures { OnOk result (Pushes line.old line.new (money_text (pos units) ∷ [])) }
+{
+    line.push_field(sum_text(alloc, units)?.as_bytes())
+}
+
+// Puts fields behind those of the record.
+fn push_all(line: &mut ByteRecord, fields: &[&[u8]]) -> Result<(), AllocError>
+    ensures { OnOk result (Pushes line.old line.new (texts_of fields.now)) }
+{
+    for field in fields {
+        line.push_field(field)?;
+    }
+    Ok(())
+}
+
+// Puts a field behind those of the record, so many times.
+fn push_repeated(line: &mut ByteRecord, field: &[u8], times: usize) -> Result<(), AllocError>
+    ensures { OnOk result (Pushes line.old line.new (replicate times field.now)) }
+{
+    for _ in 0..times {
+        line.push_field(field)?;
+    }
+    Ok(())
+}

@@ -1,0 +1,208 @@
+//! The report of a run: one record for each record of the providers' files, and one with the totals.
+ghost use Rattle.std.specs.Prelude.{◌≡◌, ◌≤◌, ℕ, [], ◌∷◌, List, length, IfErr, OnOk, true};
+ghost use Rattle.dtable.specs.Plan.{PlanParts};
+ghost use Rattle.fixpoint.specs.Out.{has_failed, writer_of};
+ghost use Rattle.journal.specs.Events.{accepted};
+ghost use Rattle.claim_terms.specs.Terms.{texts_of};
+ghost use Rattle.remit.specs.Held.{Writes, at};
+ghost use Rattle.remit.specs.Looked.{looked_up};
+ghost use Rattle.remit.specs.Records.{header_fields, record_of, total_fields};
+ghost use Rattle.remit.specs.Report.{record_text};
+ghost use Rattle.remit.specs.Rows.{WritesFile, WritesFiles, WritesLeft};
+ghost use Rattle.remit.specs.Writing.{IsFinishedOver, WritesFront, WritesReport};
+ghost use Rattle.remit.specs.declared.fault.WriteCause.TheVariants.{Device, OutOfMemory};
+
+use crate::decisions::Decisions;
+use crate::fault::{WriteCause, WriteFault};
+use crate::pieces::Pieces;
+use crate::record::{fill_header, fill_row, fill_total};
+use crate::sums::Sums;
+use claim_gate::Batch;
+use claim_terms::Terms;
+use csv::ByteRecord;
+use dtable::Plan;
+use fixpoint::Out;
+use intake_csv::{Row, Rows};
+use journal::Event;
+use std::alloc::Global;
+use std::io::Write;
+
+/// Writes the report of a finished run as CSV (RFC 4180): a header, a record for each record of the providers' files,
+/// provider by provider and in the order of the file, and a record with the totals. Commas part the fields, and CRLF ends
+/// each record. Amounts are money, with two decimals.
+///
+/// The bytes are handed to the writer in large pieces. Where the report is refused, the writer has got exactly its first
+/// bytes, as many as the fault tells. It is refused with `Device` where the writer fails, and with `OutOfMemory`.
+#[tactic(auto, using(crate::proofs::Reporting::finished_written, crate::proofs::Reporting::finished_refused))]
+pub fn write_report<W: Write>(
+    alloc: Global,
+    terms: &Terms,
+    batch: &Batch,
+    out: &mut Out<W>,
+) -> Result<(), WriteFault>
+    requires same_terms { batch.now.terms ≡ terms.now }
+    ensures written { OnOk result (WritesReport terms.now batch.now.journal (W.contents (writer_of out.old)) (W.contents (writer_of out.new))) }
+    ensures refused { IfErr result (λ fault. WritesFront terms.now batch.now.journal fault.written (W.contents (writer_of out.old)) (W.contents (writer_of out.new))) }
+    ensures device { IfErr result (λ fault. fault.cause ≡ Device → has_failed out.new ≡ true) }
+    ensures memory { IfErr result (λ fault. fault.cause ≡ OutOfMemory → has_failed out.new ≡ has_failed out.old) }
+    ensures ok_failed { OnOk result (has_failed out.new ≡ has_failed out.old) }
+{
+    write_journal(alloc, terms, batch.journal(), out)
+}
+
+// Writes the report of a journal that is finished over these terms; of any other journal nothing is said.
+pub(crate) fn write_journal<W: Write>(
+    alloc: Global,
+    terms: &Terms,
+    journal: &[Event],
+    out: &mut Out<W>,
+) -> Result<(), WriteFault>
+    ensures written { OnOk result (IsFinishedOver terms.now journal.now → WritesReport terms.now journal.now (W.contents (writer_of out.old)) (W.contents (writer_of out.new))) }
+    ensures refused { IfErr result (λ fault. IsFinishedOver terms.now journal.now → WritesFront terms.now journal.now fault.written (W.contents (writer_of out.old)) (W.contents (writer_of out.new))) }
+    ensures device { IfErr result (λ fault. fault.cause ≡ Device → has_failed out.new ≡ true) }
+    ensures memory { IfErr result (λ fault. fault.cause ≡ OutOfMemory → has_failed out.new ≡ has_failed out.old) }
+    ensures ok_failed { OnOk result (has_failed out.new ≡ has_failed out.old) }
+{
+    let files = terms.files();
+    let Ok(decisions) = Decisions::new(alloc, files.len(), journal) else {
+        return Err(WriteFault {
+            written: 0,
+            cause: WriteCause::OutOfMemory,
+        });
+    };
+    let mut report = Report {
+        alloc,
+        decisions,
+        line: ByteRecord::new(alloc),
+        pieces: Pieces::new(alloc),
+    };
+    report.write_header(out)?;
+    report.write_files(terms.plan(), files, out)?;
+    report.write_total(journal, out)?;
+    report.pieces.hand_over(out)
+}
+
+// A report that is being written.
+#[derive(Drop)]
+struct Report<'j> {
+    alloc: Global,
+    decisions: Decisions<'j>,
+    // The record that is filled last, in memory that each record uses again.
+    line: ByteRecord,
+    pieces: Pieces,
+}
+
+impl<'j> Report<'j> {
+    fn write_header<W: Write>(&mut self, out: &mut Out<W>) -> Result<(), WriteFault>
+        ensures writes { Writes (at (W.contents (writer_of out.old)) (has_failed out.old) self.old.pieces)
+            (at (W.contents (writer_of out.new)) (has_failed out.new) self.new.pieces) (record_text header_fields) result }
+        ensures decisions { self.new.decisions ≡ self.old.decisions }
+    {
+        if fill_header(&mut self.line).is_err() {
+            return Err(self.pieces.no_memory());
+        }
+        self.pieces.write(&self.line, out)
+    }
+
+    // Writes the rows of the providers' files.
+    fn write_files<W: Write>(
+        &mut self,
+        plan: &Plan,
+        files: &[&[u8]],
+        out: &mut Out<W>,
+    ) -> Result<(), WriteFault>
+        ensures writes { WritesFiles (looked_up self.old.decisions) plan.now.names (texts_of files.now)
+            (at (W.contents (writer_of out.old)) (has_failed out.old) self.old.pieces)
+            (at (W.contents (writer_of out.new)) (has_failed out.new) self.new.pieces) result }
+        ensures decisions { self.new.decisions ≡ self.old.decisions }
+    {
+        for place in 0..files.len() {
+            self.write_file(plan, place + 1, files[place], out)?;
+        }
+        Ok(())
+    }
+
+    // Writes the rows of a provider's file. It is a file of claims, as the terms say, so that only memory can be wanting.
+    fn write_file<W: Write>(
+        &mut self,
+        plan: &Plan,
+        provider: usize,
+        text: &[u8],
+        out: &mut Out<W>,
+    ) -> Result<(), WriteFault>
+        requires { 1 ≤ provider }
+        ensures writes { WritesFile (looked_up self.old.decisions) provider plan.now.names text.now
+            (at (W.contents (writer_of out.old)) (has_failed out.old) self.old.pieces)
+            (at (W.contents (writer_of out.new)) (has_failed out.new) self.new.pieces) result }
+        ensures decisions { self.new.decisions ≡ self.old.decisions }
+    {
+        intake_csv::reader_begins_with_all_rows();
+        intake_csv::columns_stand_apart();
+        match Rows::new(self.alloc, plan, text) {
+            Ok(rows) => self.write_rows(provider, rows, out),
+            Err(_) => Err(self.pieces.no_memory()),
+        }
+    }
+
+    // Writes the rows that a reader has left.
+    fn write_rows<W: Write>(
+        &mut self,
+        provider: usize,
+        rows: Rows,
+        out: &mut Out<W>,
+    ) -> Result<(), WriteFault>
+        requires { 1 ≤ provider }
+        ensures writes { WritesLeft (looked_up self.old.decisions) provider rows
+            (at (W.contents (writer_of out.old)) (has_failed out.old) self.old.pieces)
+            (at (W.contents (writer_of out.new)) (has_failed out.new) self.new.pieces) result }
+        ensures decisions { self.new.decisions ≡ self.old.decisions }
+    {
+        intake_csv::given_row_is_the_first();
+        intake_csv::no_records_give_no_rows();
+        let mut rows = rows;
+        loop {
+            let Ok(next) = rows.next() else {
+                return Err(self.pieces.no_memory());
+            };
+            let Some(row) = next else {
+                return Ok(());
+            };
+            self.write_row(provider, &row, out)?;
+        }
+    }
+
+    fn write_row<W: Write>(
+        &mut self,
+        provider: usize,
+        row: &Row,
+        out: &mut Out<W>,
+    ) -> Result<(), WriteFault>
+        requires { 1 ≤ provider }
+        ensures writes { Writes (at (W.contents (writer_of out.old)) (has_failed out.old) self.old.pieces)
+            (at (W.contents (writer_of out.new)) (has_failed out.new) self.new.pieces)
+            (record_text (record_of (looked_up self.old.decisions) provider row.now)) result }
+        ensures decisions { self.new.decisions ≡ self.old.decisions }
+    {
+        if fill_row(self.alloc, &mut self.line, &self.decisions, provider, row).is_err() {
+            return Err(self.pieces.no_memory());
+        }
+        self.pieces.write(&self.line, out)
+    }
+
+    fn write_total<W: Write>(
+        &mut self,
+        journal: &[Event],
+        out: &mut Out<W>,
+    ) -> Result<(), WriteFault>
+        requires { length self.old.decisions.decided.items ≡ accepted journal.now }
+        ensures { Writes (at (W.contents (writer_of out.old)) (has_failed out.old) self.old.pieces)
+            (at (W.contents (writer_of out.new)) (has_failed out.new) self.new.pieces) (record_text (total_fields journal.now)) result }
+    {
+        let accepted = self.decisions.accepted();
+        let sums = Sums::over(journal);
+        if fill_total(self.alloc, &mut self.line, accepted, sums).is_err() {
+            return Err(self.pieces.no_memory());
+        }
+        self.pieces.write(&self.line, out)
+    }
+}

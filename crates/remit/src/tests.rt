@@ -1,0 +1,582 @@
+//! Reports by worked examples: the journals and the reports are written by hand.
+use crate::report::write_journal;
+use crate::{WriteCause, WriteFault, write_report};
+use claim_gate::{Batch, GateState};
+use claim_terms::Terms;
+use dtable::{Plan, Sequence, read_plan};
+use feel_tests::{TEXT_LIMIT_BYTES, Text};
+use fixpoint::{Fixed, Out};
+use journal::{Decision, Event};
+use settlement::{Money, Outcome, Reason, Role, Verdict};
+use std::alloc::{AllocError, Global};
+use std::io;
+use std::io::{ErrorKind, Write};
+use std::process::Abort;
+use std::test::Fail;
+
+/// A plan with one field. The journals are given, so that its roles decide nothing here.
+const PLAN: &[u8] = br#"
+version = 1
+fields = [{name = "code", kind = "text"}]
+[roles]
+cover = "true"
+fee = "100"
+deductible = "50"
+copay = "10"
+rate = "0.2"
+oop_max = "60"
+"#;
+
+const HEADER: &[u8] = b"claim,member,service,billed,code\n";
+
+const FIRST: &[u8] = b"claim,member,service,billed,code
+c1,M1,2024-01-05,120.00,A
+c2,M1,2024-02-01,40.00,B
+c3,M1,2024-02-02,40.00,Z
+c4,M1,2024-03-01,100.00,A
+";
+
+const SECOND: &[u8] = b"claim,member,service,billed,code
+d1,M2,2024-01-09,30.00,B
+d2,M2,2024-01-10,9.999,B
+d3,M2,2024-01-11,10.00,X
+";
+
+const REPORT: &[u8] =
+    b"provider,record,claim,member,status,reason,allowed,ded,copay,coins,share,paid,remarks\r
+1,1,c1,M1,paid,,100.00,50.00,10.00,8.00,60.00,40.00,OVER\r
+1,2,c2,M1,paid,,40.00,0.00,10.00,6.00,0.00,40.00,MET\r
+1,3,c3,M1,pended,norule:1,0.00,0.00,0.00,0.00,0.00,0.00,\r
+1,4,c4,M1,paid,,100.00,0.00,10.00,18.00,0.00,100.00,MET\r
+2,1,d1,M2,paid,,30.00,30.00,0.00,0.00,30.00,0.00,\r
+2,2,,,refused,notcents:4,,,,,,,\r
+2,3,d3,M2,denied,,0.00,0.00,0.00,0.00,0.00,0.00,\r
+total,6,,,,,270.00,80.00,30.00,32.00,90.00,180.00,\r
+";
+
+const HEADER_RECORD: &str =
+    "provider,record,claim,member,status,reason,allowed,ded,copay,coins,share,paid,remarks\r\n";
+
+/// The first 37 bytes of each report.
+const FIRST_BYTES: &[u8] = b"provider,record,claim,member,status,r";
+
+const NO_CLAIMS: &[u8] =
+    b"provider,record,claim,member,status,reason,allowed,ded,copay,coins,share,paid,remarks\r
+total,0,,,,,0.00,0.00,0.00,0.00,0.00,0.00,\r
+";
+
+/// Both files where no claim is admitted.
+const LATE_REPORT: &[u8] =
+    b"provider,record,claim,member,status,reason,allowed,ded,copay,coins,share,paid,remarks\r
+1,1,c1,M1,late,,,,,,,,\r
+1,2,c2,M1,late,,,,,,,,\r
+1,3,c3,M1,late,,,,,,,,\r
+1,4,c4,M1,late,,,,,,,,\r
+2,1,d1,M2,late,,,,,,,,\r
+2,2,,,refused,notcents:4,,,,,,,\r
+2,3,d3,M2,late,,,,,,,,\r
+total,0,,,,,0.00,0.00,0.00,0.00,0.00,0.00,\r
+";
+
+const QUOTED: &[u8] =
+    b"claim,member,service,billed,code\na,\"M\"\"1\",2024-02-29,1.00,A\n\"b,2\",M2,2024-02-29,1.00,A\n";
+
+/// The first claim is accepted and denied with two remarks, the second came too late.
+const QUOTED_REPORT: &[u8] =
+    b"provider,record,claim,member,status,reason,allowed,ded,copay,coins,share,paid,remarks\r
+1,1,a,\"M\"\"1\",denied,,0.00,0.00,0.00,0.00,0.00,0.00,\"X,Y;Z\"\r
+1,2,\"b,2\",M2,late,,,,,,,,\r
+total,1,,,,,0.00,0.00,0.00,0.00,0.00,0.00,\r
+";
+
+/// A file with each fault that a record can have, apart from those of a text that is too long or no text.
+const FAULTS: &[u8] = b"claim,member,service,billed,code
+b,M2,2024-01-01
+c,,2024-01-01,1.00,A
+d,M,2024-02-30,1.00,A
+e,M,2024-01-01,-1.005,A
+f,M,2024-01-01,-1.00,A
+";
+
+const NO_TEXT: &[u8] = b"claim,member,service,billed,code\ng,\xFF,2024-01-01,1.00,A\n";
+
+const FAULTS_REPORT: &[u8] =
+    b"provider,record,claim,member,status,reason,allowed,ded,copay,coins,share,paid,remarks\r
+1,1,,,refused,fieldcount,,,,,,,\r
+1,2,,,refused,emptyid:2,,,,,,,\r
+1,3,,,refused,value:3,,,,,,,\r
+1,4,,,refused,notcents:4,,,,,,,\r
+1,5,,,refused,negative:4,,,,,,,\r
+2,1,,,refused,utf8:2,,,,,,,\r
+3,1,,,refused,toolong:2,,,,,,,\r
+total,0,,,,,0.00,0.00,0.00,0.00,0.00,0.00,\r
+";
+
+/// Five claims of one member.
+const FIVE: &[u8] = b"claim,member,service,billed,code
+a,M,2024-01-01,1.00,A
+b,M,2024-01-01,1.00,A
+c,M,2024-01-01,1.00,A
+d,M,2024-01-01,1.00,A
+e,M,2024-01-01,1.00,A
+";
+
+const REASONS_REPORT: &[u8] =
+    b"provider,record,claim,member,status,reason,allowed,ded,copay,coins,share,paid,remarks\r
+1,1,a,M,pended,outside:2:1,0.00,0.00,0.00,0.00,0.00,0.00,\r
+1,2,b,M,pended,norule:3,0.00,0.00,0.00,0.00,0.00,0.00,\r
+1,3,c,M,pended,clash:12,0.00,0.00,0.00,0.00,0.00,0.00,\r
+1,4,d,M,pended,range:0,0.00,0.00,0.00,0.00,0.00,0.00,\r
+1,5,e,M,pended,term:6,0.00,0.00,0.00,0.00,0.00,0.00,\r
+total,5,,,,,0.00,0.00,0.00,0.00,0.00,0.00,\r
+";
+
+/// Each amount is the greatest money, so that the sums leave the range of numbers; the fourth and the fifth claim are none
+/// of them.
+const GREAT_REPORT: &[u8] =
+    b"provider,record,claim,member,status,reason,allowed,ded,copay,coins,share,paid,remarks\r
+1,1,a,M,paid,,99999999999.99,99999999999.99,99999999999.99,99999999999.99,99999999999.99,99999999999.99,\r
+1,2,b,M,paid,,99999999999.99,99999999999.99,99999999999.99,99999999999.99,99999999999.99,99999999999.99,\r
+1,3,c,M,paid,,99999999999.99,99999999999.99,99999999999.99,99999999999.99,99999999999.99,99999999999.99,\r
+1,4,d,M,denied,,0.00,0.00,0.00,0.00,0.00,0.00,\r
+1,5,e,M,late,,,,,,,,\r
+total,4,,,,,299999999999.97,299999999999.97,299999999999.97,299999999999.97,299999999999.97,299999999999.97,\r
+";
+
+fn plan(rt: &impl Abort, alloc: Global) -> Plan {
+    read_plan(alloc, PLAN).expect(rt, "a plan")
+}
+
+fn cents(rt: &impl Abort, cents: i64) -> Money {
+    let amount = Fixed::from_units(cents.saturating_mul(100)).expect(rt, "a number");
+    Money::new(amount).expect(rt, "money")
+}
+
+fn texts(alloc: Global, remarks: &[&str]) -> Result<Sequence<Text>, AllocError> {
+    let mut texts = Sequence::new(alloc);
+    for remark in remarks {
+        if remark.len() <= TEXT_LIMIT_BYTES {
+            texts.push(Text::new(alloc, remark)?)?;
+        }
+    }
+    Ok(texts)
+}
+
+// The decision of a position: its verdict, its amounts in cents, and its remarks.
+fn decide(
+    rt: &impl Abort,
+    alloc: Global,
+    position: usize,
+    verdict: Verdict,
+    amounts: [i64; 6],
+    remarks: &[&str],
+) -> Result<Event, AllocError> {
+    let [allowed, ded, copay, coins, share, paid] = amounts;
+    let outcome = Outcome {
+        verdict,
+        allowed: cents(rt, allowed),
+        ded: cents(rt, ded),
+        copay: cents(rt, copay),
+        coins: cents(rt, coins),
+        share: cents(rt, share),
+        paid: cents(rt, paid),
+        remarks: texts(alloc, remarks)?,
+    };
+    match Decision::new(alloc, outcome) {
+        Ok(outcome) => Ok(Event::Decide { position, outcome }),
+        Err(_) => Err(AllocError),
+    }
+}
+
+fn push_accepts(journal: &mut Vec<Event>, accepts: &[(usize, usize)]) -> Result<(), AllocError> {
+    for (provider, place) in accepts {
+        journal.push(Event::Accept {
+            provider: *provider,
+            place: *place,
+        })?;
+    }
+    Ok(())
+}
+
+fn push_takes(journal: &mut Vec<Event>, count: usize) -> Result<(), AllocError> {
+    for position in 0..count {
+        journal.push(Event::Take { position })?;
+    }
+    Ok(())
+}
+
+// The first claims of one file, so many of them, which are all that are accepted.
+fn one_file(alloc: Global, count: usize) -> Result<Vec<Event>, AllocError> {
+    let mut journal = Vec::new(alloc);
+    for place in 0..count {
+        journal.push(Event::Accept { provider: 1, place })?;
+    }
+    journal.push(Event::Close)?;
+    push_takes(&mut journal, count)?;
+    Ok(journal)
+}
+
+// The journal of both files: the second provider's claims are accepted between those of the first.
+fn both_files(rt: &impl Abort, alloc: Global) -> Result<Vec<Event>, AllocError> {
+    let mut journal = Vec::new(alloc);
+    push_accepts(
+        &mut journal,
+        &[(1, 0), (2, 0), (1, 1), (1, 2), (2, 1), (1, 3)],
+    )?;
+    journal.push(Event::End { provider: 1 })?;
+    journal.push(Event::End { provider: 2 })?;
+    journal.push(Event::Close)?;
+    push_takes(&mut journal, 6)?;
+    let pended = Verdict::Pended(Reason::NoRule { table: 1 });
+    journal.push(decide(rt, alloc, 4, Verdict::Denied, [0; 6], &[])?)?;
+    journal.push(decide(
+        rt,
+        alloc,
+        0,
+        Verdict::Paid,
+        [10_000, 5_000, 1_000, 800, 6_000, 4_000],
+        &["OVER"],
+    )?)?;
+    journal.push(decide(
+        rt,
+        alloc,
+        1,
+        Verdict::Paid,
+        [3_000, 3_000, 0, 0, 3_000, 0],
+        &[],
+    )?)?;
+    journal.push(decide(
+        rt,
+        alloc,
+        2,
+        Verdict::Paid,
+        [4_000, 0, 1_000, 600, 0, 4_000],
+        &["MET"],
+    )?)?;
+    journal.push(decide(rt, alloc, 3, pended, [0; 6], &[])?)?;
+    journal.push(decide(
+        rt,
+        alloc,
+        5,
+        Verdict::Paid,
+        [10_000, 0, 1_000, 1_800, 0, 10_000],
+        &["MET"],
+    )?)?;
+    Ok(journal)
+}
+
+#[test]
+fn the_report_of_two_files(rt: HostRuntime) -> Result<(), Fail> {
+    let alloc = rt.alloc();
+    let plan = plan(&rt, alloc);
+    let files = [FIRST, SECOND];
+    let terms = Terms::new(alloc, &plan, &files, None, None).expect(&rt, "terms");
+    let journal = both_files(&rt, alloc)?;
+    let mut out = Out::new(Vec::new(alloc));
+    assert!(rt; write_journal(alloc, &terms, journal.as_slice(), &mut out).is_ok());
+    assert!(rt; !out.failed());
+    assert!(rt; out.into_inner().as_slice() == REPORT);
+    Ok(())
+}
+
+#[test]
+fn the_report_of_no_claims(rt: HostRuntime) -> Result<(), Fail> {
+    let alloc = rt.alloc();
+    let plan = plan(&rt, alloc);
+    let files = [HEADER];
+    let terms = Terms::new(alloc, &plan, &files, None, None).expect(&rt, "terms");
+    let journal = [Event::End { provider: 1 }, Event::Close];
+    let mut out = Out::new(Vec::new(alloc));
+    assert!(rt; write_journal(alloc, &terms, &journal, &mut out).is_ok());
+    assert!(rt; out.into_inner().as_slice() == NO_CLAIMS);
+    Ok(())
+}
+
+#[test]
+fn quotes_and_a_late_claim(rt: HostRuntime) -> Result<(), Fail> {
+    let alloc = rt.alloc();
+    let plan = plan(&rt, alloc);
+    let files = [QUOTED];
+    let terms = Terms::new(alloc, &plan, &files, None, Some(1)).expect(&rt, "terms");
+    let mut journal = one_file(alloc, 1)?;
+    journal.push(decide(&rt, alloc, 0, Verdict::Denied, [0; 6], &["X,Y", "Z"])?)?;
+    let mut out = Out::new(Vec::new(alloc));
+    assert!(rt; write_journal(alloc, &terms, journal.as_slice(), &mut out).is_ok());
+    assert!(rt; out.into_inner().as_slice() == QUOTED_REPORT);
+    Ok(())
+}
+
+#[test]
+fn each_reason_has_its_text(rt: HostRuntime) -> Result<(), Fail> {
+    let alloc = rt.alloc();
+    let plan = plan(&rt, alloc);
+    let files = [FIVE];
+    let terms = Terms::new(alloc, &plan, &files, None, Some(5)).expect(&rt, "terms");
+    let mut journal = one_file(alloc, 5)?;
+    let reasons = [
+        Reason::Outside {
+            table: 2,
+            column: 1,
+        },
+        Reason::NoRule { table: 3 },
+        Reason::Clash { table: 12 },
+        Reason::Range { table: 0 },
+        Reason::Term(Role::OopMax),
+    ];
+    let mut position: usize = 0;
+    for reason in reasons {
+        journal.push(decide(&rt, alloc, position, Verdict::Pended(reason), [0; 6], &[])?)?;
+        position = position.saturating_add(1);
+    }
+    let mut out = Out::new(Vec::new(alloc));
+    assert!(rt; write_journal(alloc, &terms, journal.as_slice(), &mut out).is_ok());
+    assert!(rt; out.into_inner().as_slice() == REASONS_REPORT);
+    Ok(())
+}
+
+#[test]
+fn totals_leave_the_range_of_numbers(rt: HostRuntime) -> Result<(), Fail> {
+    let alloc = rt.alloc();
+    let plan = plan(&rt, alloc);
+    let files = [FIVE];
+    let terms = Terms::new(alloc, &plan, &files, None, Some(4)).expect(&rt, "terms");
+    let mut journal = one_file(alloc, 4)?;
+    for position in 0..3_usize {
+        journal.push(decide(
+            &rt,
+            alloc,
+            position,
+            Verdict::Paid,
+            [9_999_999_999_999; 6],
+            &[],
+        )?)?;
+    }
+    journal.push(decide(&rt, alloc, 3, Verdict::Denied, [0; 6], &[])?)?;
+    let mut out = Out::new(Vec::new(alloc));
+    assert!(rt; write_journal(alloc, &terms, journal.as_slice(), &mut out).is_ok());
+    assert!(rt; out.into_inner().as_slice() == GREAT_REPORT);
+    Ok(())
+}
+
+#[test]
+fn the_report_of_a_run_that_admits_nothing(rt: HostRuntime) -> Result<(), Fail> {
+    let alloc = rt.alloc();
+    let plan = plan(&rt, alloc);
+    let files = [FIRST, SECOND];
+    let terms = Terms::new(alloc, &plan, &files, None, Some(0)).expect(&rt, "terms");
+    let gate = GateState::new(alloc, &terms)?;
+    let Ok(batch) = Batch::from_state(gate, &terms) else {
+        return Err("the journal is not finished".into());
+    };
+    let mut out = Out::new(Vec::new(alloc));
+    assert!(rt; write_report(alloc, &terms, &batch, &mut out).is_ok());
+    assert!(rt; !out.failed());
+    assert!(rt; out.into_inner().as_slice() == LATE_REPORT);
+    Ok(())
+}
+
+// A file with one record whose member is a text of 257 bytes.
+fn too_long(alloc: Global) -> Result<Vec<u8>, AllocError> {
+    let mut text = Vec::new(alloc);
+    text.extend_from_slice(b"claim,member,service,billed,code\nh,")?;
+    for _ in 0..257_usize {
+        text.push(b'x')?;
+    }
+    text.extend_from_slice(b",2024-01-01,1.00,A\n")?;
+    Ok(text)
+}
+
+#[test]
+fn each_fault_of_a_record_has_its_text(rt: HostRuntime) -> Result<(), Fail> {
+    let alloc = rt.alloc();
+    let plan = plan(&rt, alloc);
+    let long = too_long(alloc)?;
+    let files = [FAULTS, NO_TEXT, long.as_slice()];
+    let terms = Terms::new(alloc, &plan, &files, None, Some(0)).expect(&rt, "terms");
+    let gate = GateState::new(alloc, &terms)?;
+    let Ok(batch) = Batch::from_state(gate, &terms) else {
+        return Err("the journal is not finished".into());
+    };
+    let mut out = Out::new(Vec::new(alloc));
+    assert!(rt; write_report(alloc, &terms, &batch, &mut out).is_ok());
+    assert!(rt; out.into_inner().as_slice() == FAULTS_REPORT);
+    Ok(())
+}
+
+/// A writer that takes so many bytes, at most 1,000 at a time, and then fails.
+#[derive(Drop)]
+struct Bounded {
+    taken: Vec<u8>,
+    limit: usize,
+}
+
+impl Write for Bounded {
+    fn write(&mut self, piece: &[u8]) -> io::Result<usize> {
+        let room = self.limit.saturating_sub(self.taken.len());
+        let count = piece.len().min(room).min(1_000);
+        if count == 0 || self.taken.extend_from_slice(&piece[..count]).is_err() {
+            return Err(io::Error::from(ErrorKind::Other));
+        }
+        Ok(count)
+    }
+
+    fn flush(&mut self) -> io::Result<()> {
+        Ok(())
+    }
+}
+
+#[test]
+fn a_full_writer_has_the_first_bytes(rt: HostRuntime) -> Result<(), Fail> {
+    let alloc = rt.alloc();
+    let plan = plan(&rt, alloc);
+    let files = [FIRST, SECOND];
+    let terms = Terms::new(alloc, &plan, &files, None, None).expect(&rt, "terms");
+    let journal = both_files(&rt, alloc)?;
+    let mut out = Out::new(Bounded {
+        taken: Vec::new(alloc),
+        limit: 37,
+    });
+    let fault = WriteFault {
+        written: 37,
+        cause: WriteCause::Device,
+    };
+    assert!(rt; write_journal(alloc, &terms, journal.as_slice(), &mut out) == Err(fault));
+    assert!(rt; out.failed());
+    assert!(rt; out.into_inner().taken.as_slice() == FIRST_BYTES);
+    Ok(())
+}
+
+/// A writer that takes nothing.
+#[derive(Drop)]
+struct Closed;
+
+impl Write for Closed {
+    fn write(&mut self, _piece: &[u8]) -> io::Result<usize> {
+        Ok(0)
+    }
+
+    fn flush(&mut self) -> io::Result<()> {
+        Ok(())
+    }
+}
+
+#[test]
+fn a_writer_that_takes_nothing(rt: HostRuntime) -> Result<(), Fail> {
+    let alloc = rt.alloc();
+    let plan = plan(&rt, alloc);
+    let files = [HEADER];
+    let terms = Terms::new(alloc, &plan, &files, None, None).expect(&rt, "terms");
+    let journal = [Event::End { provider: 1 }, Event::Close];
+    let mut out = Out::new(Closed);
+    let fault = WriteFault {
+        written: 0,
+        cause: WriteCause::Device,
+    };
+    assert!(rt; write_journal(alloc, &terms, &journal, &mut out) == Err(fault));
+    assert!(rt; out.failed());
+    Ok(())
+}
+
+// The lines, each so many times.
+fn repeated(alloc: Global, first: &[u8], line: &[u8], count: usize) -> Result<Vec<u8>, AllocError> {
+    let mut text = Vec::new(alloc);
+    text.extend_from_slice(first)?;
+    for _ in 0..count {
+        text.extend_from_slice(line)?;
+    }
+    Ok(text)
+}
+
+// The report's first records over a file of records that have one field each.
+fn one_field_records(alloc: Global, count: usize) -> Result<String, AllocError> {
+    let mut text = String::from_str(alloc, HEADER_RECORD)?;
+    for number in 0..count {
+        let line = format!(in alloc;
+            "1,{},,,refused,fieldcount,,,,,,,\r\n",
+            number.saturating_add(1)
+        )?;
+        text.push_str(line.as_str())?;
+    }
+    Ok(text)
+}
+
+#[test]
+fn bytes_are_counted_over_pieces(rt: HostRuntime) -> Result<(), Fail> {
+    let alloc = rt.alloc();
+    let plan = plan(&rt, alloc);
+    let file = repeated(alloc, HEADER, b"x\n", 3_000)?;
+    let files = [file.as_slice()];
+    let terms = Terms::new(alloc, &plan, &files, None, Some(0)).expect(&rt, "terms");
+    let journal = [Event::Close];
+    let mut out = Out::new(Bounded {
+        taken: Vec::new(alloc),
+        limit: 66_000,
+    });
+    let fault = WriteFault {
+        written: 66_000,
+        cause: WriteCause::Device,
+    };
+    assert!(rt; write_journal(alloc, &terms, &journal, &mut out) == Err(fault));
+    assert!(rt; out.failed());
+    let taken = out.into_inner().taken;
+    let wanted = one_field_records(alloc, 3_000)?;
+    assert!(rt; taken.len() == 66_000);
+    assert!(rt; wanted.as_bytes().starts_with(taken.as_slice()));
+    Ok(())
+}
+
+#[test]
+fn causes_have_numbers(rt: HostRuntime) {
+    assert!(rt; WriteCause::Device.number() == 1);
+    assert!(rt; WriteCause::OutOfMemory.number() == 2);
+}
+
+// The writer has got the whole report, or its first bytes, as many as the fault tells: a `Vec` that can't grow is a writer
+// that fails.
+fn whole_or_front(answer: Result<(), WriteFault>, taken: &[u8], report: &[u8]) -> bool {
+    match answer {
+        Ok(()) => taken == report,
+        Err(fault) => taken.len() == fault.written && report.starts_with(taken),
+    }
+}
+
+#[test]
+fn a_report_or_no_memory(rt: HostRuntime) -> Result<(), Fail> {
+    let alloc = rt.alloc();
+    let Ok(plan) = read_plan(alloc, PLAN) else {
+        return Ok(());
+    };
+    let files = [FIRST, SECOND];
+    let Ok(terms) = Terms::new(alloc, &plan, &files, None, None) else {
+        return Ok(());
+    };
+    let Ok(journal) = both_files(&rt, alloc) else {
+        return Ok(());
+    };
+    let mut out = Out::new(Vec::new(alloc));
+    let result = write_journal(alloc, &terms, journal.as_slice(), &mut out);
+    assert!(rt; whole_or_front(result, out.into_inner().as_slice(), REPORT));
+    Ok(())
+}
+
+#[test]
+fn the_report_of_a_run_or_no_memory(rt: HostRuntime) -> Result<(), Fail> {
+    let alloc = rt.alloc();
+    let Ok(plan) = read_plan(alloc, PLAN) else {
+        return Ok(());
+    };
+    let files = [FIRST, SECOND];
+    let Ok(terms) = Terms::new(alloc, &plan, &files, None, Some(0)) else {
+        return Ok(());
+    };
+    let Ok(gate) = GateState::new(alloc, &terms) else {
+        return Ok(());
+    };
+    let Ok(batch) = Batch::from_state(gate, &terms) else {
+        return Err("the journal is not finished".into());
+    };
+    let mut out = Out::new(Vec::new(alloc));
+    let result = write_report(alloc, &terms, &batch, &mut out);
+    assert!(rt; whole_or_front(result, out.into_inner().as_slice(), LATE_REPORT));
+    Ok(())
+}

@@ -1,0 +1,71 @@
+//! The texts of the report's fields.
+ghost use Rattle.std.specs.Prelude.{◌≡◌, ◌++◌, codes, flat_map, pos, string_bytes, IfOk, OnOk};
+ghost use Rattle.fixpoint.specs.Money.{money_text};
+ghost use Rattle.remit.specs.Texts.{fault_text, reason_text, remarks_text};
+
+use feel_tests::Text;
+use intake_csv::{RowCause, RowFault};
+use settlement::Reason;
+use std::alloc::{AllocError, Global};
+
+/// Why a claim is pended.
+pub fn reason_text(alloc: Global, reason: Reason) -> Result<String, AllocError>
+    ensures { IfOk result (λ text. string_bytes text ≡ reason_text reason) }
+{
+    match reason {
+        Reason::Outside { table, column } => format!(in alloc; "outside:{table}:{column}"),
+        Reason::NoRule { table } => format!(in alloc; "norule:{table}"),
+        Reason::Clash { table } => format!(in alloc; "clash:{table}"),
+        Reason::Range { table } => format!(in alloc; "range:{table}"),
+        Reason::Term(role) => format!(in alloc; "term:{}", role.number()),
+    }
+}
+
+/// Why a record is refused.
+pub fn fault_text(alloc: Global, fault: RowFault) -> Result<String, AllocError>
+    ensures { IfOk result (λ text. string_bytes text ≡ fault_text fault) }
+{
+    let column = fault.column;
+    match fault.cause {
+        RowCause::FieldCount => String::from_str(alloc, "fieldcount"),
+        RowCause::Utf8 => format!(in alloc; "utf8:{column}"),
+        RowCause::TooLong => format!(in alloc; "toolong:{column}"),
+        RowCause::EmptyId => format!(in alloc; "emptyid:{column}"),
+        RowCause::Value => format!(in alloc; "value:{column}"),
+        RowCause::NotCents => format!(in alloc; "notcents:{column}"),
+        RowCause::Negative => format!(in alloc; "negative:{column}"),
+        RowCause::Repeated => format!(in alloc; "repeated:{column}"),
+    }
+}
+
+/// The remarks, as they stand, with a semicolon between two of them.
+pub fn remarks_text(alloc: Global, remarks: &[Text]) -> Result<Vec<u8>, AllocError>
+    ensures { IfOk result (λ text. text.items ≡ remarks_text remarks.now) }
+{
+    let mut text = Vec::new(alloc);
+    if let [first, others @ ..] = remarks {
+        text.extend_from_slice(first.as_str().as_bytes())?;
+        append_others(&mut text, others)?;
+    }
+    Ok(text)
+}
+
+// The remarks, with a semicolon in front of each.
+fn append_others(text: &mut Vec<u8>, remarks: &[Text]) -> Result<(), AllocError>
+    ensures { OnOk result (text.new.items ≡ text.old.items ++ flat_map (λ remark. codes ";" ++ remark) remarks.now) }
+{
+    for remark in remarks {
+        text.push(b';')?;
+        text.extend_from_slice(remark.as_str().as_bytes())?;
+    }
+    Ok(())
+}
+
+/// The text of a sum of money, which has more digits than a number can have.
+pub fn sum_text(alloc: Global, units: u128) -> Result<String, AllocError>
+    ensures { IfOk result (λ text. string_bytes text ≡ money_text (pos units)) }
+{
+    let whole = units / 10_000;
+    let cents = units % 10_000 / 100;
+    format!(in alloc; "{whole}.{}{}", cents / 10, cents % 10)
+}
