@@ -2,3 +2,5 @@ pub mod Arguments
 pub mod ValueText
 pub mod CheckText
 pub mod Stop
+pub mod RunText
+pub mod RunStop

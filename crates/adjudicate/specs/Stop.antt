@@ -19,6 +19,16 @@ use Rattle.dtable.specs.Inputs.{IsReady, value_at}
 use Rattle.dtable.specs.Plan.{PlanParts}
 use Rattle.dtable.specs.PlanFile.{IsPlanText}
 use Rattle.dtable.specs.Scope.{data_names}
+use Rattle.intake_csv.specs.declared.fault.BalanceFault.{BalanceFault}
+use Rattle.intake_csv.specs.declared.fault.BalanceFault.TheVariants as balance
+use Rattle.intake_csv.specs.declared.fault.RowFault.{RowFault}
+use Rattle.intake_csv.specs.FaultNumber.{cause_number_of as row_cause_number, file_number_of as file_number}
+use Rattle.claim_terms.specs.Fault.{number_of as terms_number}
+use Rattle.claim_terms.specs.declared.fault.TermsFault.{TermsFault}
+use Rattle.claim_terms.specs.declared.fault.TermsFault.TheVariants as terms
+use Rattle.crew.specs.FaultNumber.{number_of as run_number}
+use Rattle.crew.specs.declared.fault.RunFault.{RunFault}
+use Rattle.crew.specs.declared.fault.RunFault.TheVariants as run
 use Rattle.adjudicate.specs.declared.stop.ArgumentFault.{ArgumentFault}
 use Rattle.adjudicate.specs.declared.stop.ArgumentFault.TheVariants as argument
 use Rattle.adjudicate.specs.declared.stop.Stop.{Stop}
@@ -66,12 +76,38 @@ fault_text (faults.Clash table) = codes "clash:" ++ decimal table
 fault_text (faults.Range table) = codes "range:" ++ decimal table
 fault_text faults.OutOfMemory = codes "memory"
 
+-- ` record R cause C column K`
+abbrev pub record_fault_text : ℕ → RowFault → List ℕ
+record_fault_text number fault = codes " record " ++ (decimal number ++ (codes " cause " ++ (decimal (row_cause_number fault.cause) ++ (codes " column " ++ decimal fault.column))))
+
+-- what stands behind the number of a fault of the terms where that is the balances': ` cause F`, or the record and its fault
+abbrev pub balance_fault_text : BalanceFault → List ℕ
+balance_fault_text (balance.File fault) = codes " cause " ++ decimal (file_number fault)
+balance_fault_text (balance.Row number fault) = record_fault_text number fault
+balance_fault_text balance.OutOfMemory = []
+
+-- what stands behind the number of a fault of the terms: ` file P cause F` for a provider's file
+abbrev pub terms_cause_text : TermsFault → List ℕ
+terms_cause_text (terms.File provider fault) = codes " file " ++ (decimal provider ++ (codes " cause " ++ decimal (file_number fault)))
+terms_cause_text (terms.Balances fault) = balance_fault_text fault
+terms_cause_text _ = []
+
+-- `terms fault N`, and what stands behind it
+abbrev pub terms_fault_text : TermsFault → List ℕ
+terms_fault_text fault = codes "terms fault " ++ (decimal (terms_number fault) ++ terms_cause_text fault)
+
+-- `run fault N`
+abbrev pub run_fault_text : RunFault → List ℕ
+run_fault_text fault = codes "run fault " ++ decimal (run_number fault)
+
 -- the words of a refusal
 abbrev pub stop_text : Stop → List ℕ
 stop_text (stop.Plan fault) = plan_fault_text fault
 stop_text (stop.Argument number fault) = argument_fault_text number fault
 stop_text (stop.Missing name) = codes "missing " ++ name
 stop_text (stop.Tables fault) = codes "fault " ++ fault_text fault
+stop_text (stop.Terms fault) = terms_fault_text fault
+stop_text (stop.Run fault) = run_fault_text fault
 stop_text (stop.Write written) = codes "write fault at " ++ decimal written
 stop_text stop.NoMemory = codes "no memory"
 
@@ -79,12 +115,19 @@ stop_text stop.NoMemory = codes "no memory"
 abbrev pub stop_line : Stop → List ℕ
 stop_line s = stop_text s ++ line_end ∷ []
 
+-- the status of a fault of a run: 1 where it is the number of workers, 3 where a resource is wanting
+abbrev pub run_status : RunFault → ℕ
+run_status run.Workers = 1
+run_status run.OutOfMemory = 3
+
 -- 1 where the texts are refused, 3 where a resource is wanting
 abbrev pub status_of : Stop → ℕ
 status_of (stop.Plan fault) = 1
 status_of (stop.Argument number fault) = 1
 status_of (stop.Missing name) = 1
 status_of (stop.Tables fault) = 1
+status_of (stop.Terms fault) = 1
+status_of (stop.Run fault) = run_status fault
 status_of (stop.Write written) = 3
 status_of stop.NoMemory = 3
 

@@ -2,21 +2,29 @@
 //! a writer, so that a host can embed it and tests can call it.
 //!
 //! `value` is the command `value`: arguments, the value of a plan's tables, printed lines. `check` is the command
-//! `check`: the gaps and overlaps of a plan's tables. `stop` names every refusal, with its line and its exit status.
+//! `check`: the gaps and overlaps of a plan's tables. `run` is the command `run`: claims, and their remittance. `stop`
+//! names every refusal, with its line and its exit status.
+//!
 //! Plans and their evaluation come from `dtable`, their check from `cutplan`, cells and values from `feel_tests`,
-//! numbers and the counting writer from `fixpoint`. Begin with `value.rt` and `check.rt`, whose `do_value` and
-//! `do_check` carry the promises of the commands, and with `specs/ValueText.antt` and `specs/CheckText.antt`, which
-//! say what they print.
+//! numbers and the counting writer from `fixpoint`. A run goes from the texts to their terms (`claim_terms`), to a
+//! finished journal (`crew`) and to its report (`remit`).
+//!
+//! Begin with `value.rt`, `check.rt` and `run.rt`, whose `do_value`, `do_check` and `do_run` carry the promises of the
+//! commands, and with `specs/ValueText.antt`, `specs/CheckText.antt` and `specs/RunText.antt`, which say what they
+//! print.
 #![tactic(auto)]
 
 mod check;
 mod literals;
 mod output;
+mod run;
 mod stop;
 #[cfg(test)]
 mod testing;
 mod value;
 
 pub use check::do_check;
+pub use intake_csv::FILE_LIMIT_BYTES;
+pub use run::{RunInput, WORKERS_LIMIT, do_run};
 pub use stop::{ArgumentFault, LINE_LIMIT_BYTES, MissingName, Stop};
 pub use value::{PLAN_LIMIT_BYTES, do_value};

@@ -6,11 +6,14 @@ ghost use Rattle.adjudicate.specs.Stop.{IsStopOfArgument, argument_fault_number,
 pub mod line;
 pub mod missing;
 
+use claim_terms::TermsFault;
+use crew::RunFault;
 use dtable::{Fault, PlanCause, PlanFault};
 use feel_tests::{CellCause, CellFault};
 pub use line::LINE_LIMIT_BYTES;
 use line::Line;
 pub use missing::MissingName;
+use remit::{WriteCause, WriteFault};
 use std::alloc::{AllocError, AllocFailed};
 use thiserror::Error;
 
@@ -61,6 +64,12 @@ pub enum Stop {
     /// The tables have no value at what is given.
     #[error("tables: {0}")]
     Tables(Fault),
+    /// The texts make no terms for a run.
+    #[error("terms: {0}")]
+    Terms(TermsFault),
+    /// There is no run with so many workers.
+    #[error("run: {0}")]
+    Run(RunFault),
     /// The writer took so many bytes of the text, and then failed.
     #[error("the writer failed after {written} bytes")]
     Write { written: usize },
@@ -75,7 +84,10 @@ impl Stop {
         ensures { result ≡ status_of self.now }
     {
         match self {
-            Stop::Plan(_) | Stop::Argument { .. } | Stop::Missing(_) | Stop::Tables(_) => 1,
+            Stop::Plan(_) => 1,
+            Stop::Argument { .. } | Stop::Missing(_) | Stop::Tables(_) => 1,
+            Stop::Terms(_) | Stop::Run(RunFault::Workers) => 1,
+            Stop::Run(RunFault::OutOfMemory) => 3,
             Stop::Write { .. } | Stop::NoMemory => 3,
         }
     }
@@ -94,6 +106,8 @@ impl Stop {
                 line.put(name.as_str());
             }
             Stop::Tables(fault) => line.put_tables_fault(fault),
+            Stop::Terms(fault) => line.put_terms_fault(fault),
+            Stop::Run(fault) => line.put_run_fault(fault),
             Stop::Write { written } => {
                 line.put("write fault at ");
                 line.put_number(*written);
@@ -142,6 +156,46 @@ impl From<Fault> for Stop {
         match fault {
             Fault::OutOfMemory => Stop::NoMemory,
             fault => Stop::Tables(fault),
+        }
+    }
+}
+
+impl From<TermsFault> for Stop {
+    ghost use Rattle.adjudicate.specs.RunStop.{IsStopOfTerms};
+
+    ghost from_gives = { λ fault stop. IsStopOfTerms fault stop };
+
+    fn from(fault: TermsFault) -> Stop {
+        match fault {
+            TermsFault::OutOfMemory => Stop::NoMemory,
+            fault => Stop::Terms(fault),
+        }
+    }
+}
+
+impl From<RunFault> for Stop {
+    ghost use Rattle.adjudicate.specs.RunStop.{IsStopOfRun};
+
+    ghost from_gives = { λ fault stop. IsStopOfRun fault stop };
+
+    fn from(fault: RunFault) -> Stop {
+        match fault {
+            RunFault::OutOfMemory => Stop::NoMemory,
+            fault => Stop::Run(fault),
+        }
+    }
+}
+
+impl From<WriteFault> for Stop {
+    ghost use Rattle.adjudicate.specs.RunStop.{IsStopOfWrite};
+
+    ghost from_gives = { λ fault stop. IsStopOfWrite fault stop };
+
+    fn from(fault: WriteFault) -> Stop {
+        let written = fault.written;
+        match fault.cause {
+            WriteCause::Device => Stop::Write { written },
+            WriteCause::OutOfMemory => Stop::NoMemory,
         }
     }
 }

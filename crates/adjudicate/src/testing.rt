@@ -22,7 +22,7 @@ pub enum WhenFull {
 /// A writer that takes a few bytes a write, and so many in all. It takes no memory.
 #[derive(Drop)]
 pub struct Narrow {
-    taken: [u8; 64],
+    taken: [u8; 1_024],
     length: usize,
     limit: usize,
     width: usize,
@@ -32,7 +32,7 @@ pub struct Narrow {
 impl Narrow {
     pub fn new(limit: usize, width: usize, when_full: WhenFull) -> Narrow {
         Narrow {
-            taken: [0; 64],
+            taken: [0; 1_024],
             length: 0,
             limit,
             width,

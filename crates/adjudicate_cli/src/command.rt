@@ -1,5 +1,7 @@
 //! The command line, by `clap`.
 
+use adjudicate::WORKERS_LIMIT;
+use clap::builder::ValueParser;
 use clap::{Arg, ArgAction, Command, Error};
 use std::alloc::Global;
 
@@ -9,11 +11,29 @@ pub const VALUE: &str = "value";
 /// The name of the command `check`.
 pub const CHECK: &str = "check";
 
-/// The name of the plan file in both.
+/// The name of the command `run`.
+pub const RUN: &str = "run";
+
+/// The name of the plan file in each.
 pub const PLAN: &str = "PLAN";
 
 /// The name of the other arguments of `value`.
 pub const ASSIGNMENT: &str = "NAME=LITERAL";
+
+/// The name of the file of balances.
+pub const BALANCES: &str = "BALANCES";
+
+/// The name of the number of claims that are accepted at most.
+pub const CUTOFF: &str = "CUTOFF";
+
+/// The name of the number of workers.
+pub const WORKERS: &str = "WORKERS";
+
+/// The name of the providers' files.
+pub const FILE: &str = "FILE";
+
+/// The greatest cutoff that can be given.
+const CUTOFF_LIMIT: u64 = 1_000_000_000;
 
 const VALUE_EXAMPLE: &str = "Example:
   adjudicate value examples/first.toml x=10
@@ -29,6 +49,14 @@ Each line `gap` names inputs that no rule of the table covers, a region for
 each input: <5, 5, ]5..10[ without its ends, >10, not(\"A\") for any other
 text, - for all. Each line `overlap` names two rules that can match together.
 A table that is `wide` has too many regions to list its gaps.";
+
+const RUN_EXAMPLE: &str = "Example:
+  adjudicate run --plan examples/health_plan.toml --balances examples/balances.csv \\
+    examples/clinic.csv examples/hospital.csv examples/laboratory.csv
+
+The first file is provider 1, the second provider 2, and so on, up to 64. The
+remittance goes to standard output as CSV: a record for each record of each
+file (paid, denied, pended, refused or late), and one with the totals.";
 
 const STATUSES: &str =
     "Exit status: 0 done, 1 input refused, 2 usage, 3 a file, a stream or memory is wanting.";
@@ -50,6 +78,7 @@ pub fn command_line<'a>(alloc: Global) -> Result<Command<'a>, Error> {
         )
         .after_help(CHECK_EXAMPLE)
         .arg(plan_argument(alloc))?;
+    let run = run_command(alloc)?;
     let line = Command::new(alloc, "adjudicate")
         .bin_name("adjudicate")?
         .about("Adjudicate health-plan claims by DMN decision tables, with proved answers")
@@ -58,8 +87,41 @@ pub fn command_line<'a>(alloc: Global) -> Result<Command<'a>, Error> {
         .subcommand_required(true)
         .arg_required_else_help(true)
         .subcommand(value)?
-        .subcommand(check)?;
+        .subcommand(check)?
+        .subcommand(run)?;
     Ok(line)
+}
+
+/// The command `run`, with its options and files.
+fn run_command<'a>(alloc: Global) -> Result<Command<'a>, Error> {
+    let balances = Arg::new(alloc, BALANCES).long("balances").help(
+        "What the members have met, paid and been paid this year, as CSV",
+    );
+    let cutoff = Arg::new(alloc, CUTOFF)
+        .long("cutoff")
+        .value_name("N")
+        .value_parser(ValueParser::unsigned(0, CUTOFF_LIMIT))
+        .help("How many claims are accepted at most");
+    let workers = Arg::new(alloc, WORKERS)
+        .long("workers")
+        .value_name("N")
+        .value_parser(ValueParser::unsigned(1, WORKERS_LIMIT as u64))
+        .default_value("4")
+        .help("How many workers decide claims, from 1 to 64");
+    let files = Arg::new(alloc, FILE)
+        .help("The providers' files of claims, as CSV")
+        .required(true)
+        .action(ArgAction::Append)
+        .num_args(1..);
+    let run = Command::new(alloc, RUN)
+        .about("Settle the claims of providers' files by the plan, and write the remittance")
+        .after_help(RUN_EXAMPLE)
+        .arg(plan_argument(alloc).long("plan"))?
+        .arg(balances)?
+        .arg(cutoff)?
+        .arg(workers)?
+        .arg(files)?;
+    Ok(run)
 }
 
 /// The plan file, which each command needs.

@@ -1,18 +1,24 @@
 //! Files, read whole.
 
+ghost use Rattle.std.specs.Prelude.{◌≤◌, IfErr};
+
+use crate::command::PLAN;
+use crate::telling::{RESOURCE, USAGE, no_memory, told};
+use adjudicate::PLAN_LIMIT_BYTES;
+use clap::ArgMatches;
 use std::io::Read;
 use std::rt::Files;
 use std::{fs, io};
 
 /// Why a file gives no text.
-pub enum ReadFault {
+enum ReadFault {
     /// It can't be opened or read: it is missing, a folder, not to be read, or its device failed.
     Unreadable,
     OutOfMemory,
 }
 
 /// The bytes of a file, at most one beyond the limit: whoever reads the text sees that it is too long.
-pub fn read_file<R: Files + AllocGlobal>(
+fn read_file<R: Files + AllocGlobal>(
     rt: &R,
     path: &str,
     limit_bytes: usize,
@@ -28,6 +34,35 @@ pub fn read_file<R: Files + AllocGlobal>(
     {
         Ok(_) => Ok(bytes),
         Err(fault) => Err(read_fault(&fault)),
+    }
+}
+
+/// The text of the plan file that the command line names; where it can't be read, that is told, and its status answered.
+pub fn plan_of<R: Files + Eprint + AllocGlobal>(
+    rt: &R,
+    matches: &ArgMatches<'_>,
+) -> Result<Vec<u8>, u8>
+    ensures known { IfErr result (λ status. status ≤ RESOURCE) }
+{
+    match matches.get_str(PLAN) {
+        Some(path) => read_or_tell(rt, path, PLAN_LIMIT_BYTES, "cannot read plan"),
+        None => Err(USAGE),
+    }
+}
+
+/// The bytes of a file; where it can't be read, the line is told, and its status answered.
+pub fn read_or_tell<R: Files + Eprint + AllocGlobal>(
+    rt: &R,
+    path: &str,
+    limit_bytes: usize,
+    line: &str,
+) -> Result<Vec<u8>, u8>
+    ensures known { IfErr result (λ status. status ≤ RESOURCE) }
+{
+    match read_file(rt, path, limit_bytes) {
+        Ok(bytes) => Ok(bytes),
+        Err(ReadFault::Unreadable) => Err(told(rt, line, RESOURCE)),
+        Err(ReadFault::OutOfMemory) => Err(no_memory(rt)),
     }
 }
 

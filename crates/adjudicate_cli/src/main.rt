@@ -1,17 +1,23 @@
 //! The program `adjudicate`: it reads its command line, its files and its streams, and leaves all else to the
 //! library of that name.
 //!
-//! `command` is the command line, by `clap`. `files` reads a plan's text whole. `run` is what happens between the
-//! two: one command of the library over standard output, its line on standard error, its exit status.
+//! `command` is the command line, by `clap`. `files` reads texts whole. `run` is what happens between the two: one command of the
+//! library over standard output, its line on standard error, its exit status; `remittance` is that for the command `run`,
+//! `telling` what a person is told, and `pulse` the signs of life while a run takes long.
 #![tactic(auto)]
 
 mod command;
 mod files;
+mod pulse;
+mod remittance;
 mod run;
+mod telling;
 
 use std::io;
+use std::io::IsTerminal;
 use std::process::ExitCode;
 
 fn main(rt: HostRuntime) -> io::Result<ExitCode> {
-    Ok(ExitCode::from(run::status(&rt)))
+    let is_watched = rt.stderr().is_terminal();
+    Ok(ExitCode::from(run::status(&rt, is_watched)))
 }

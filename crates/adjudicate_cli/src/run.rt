@@ -1,26 +1,26 @@
 //! One command, from the words of the command line to the exit status.
 
 ghost use Rattle.std.specs.Prelude.{◌≡◌, ◌≤◌, IfErr};
-ghost use Rattle.adjudicate.specs.Stop.{status_of};
 
-use crate::command::{ASSIGNMENT, CHECK, PLAN, VALUE, command_line};
-use crate::files::{ReadFault, read_file};
-use adjudicate::{LINE_LIMIT_BYTES, PLAN_LIMIT_BYTES, Stop, do_check, do_value};
+use crate::command::{ASSIGNMENT, CHECK, RUN, VALUE, command_line};
+use crate::files::plan_of;
+use crate::remittance::run_of;
+use crate::telling::{DONE, RESOURCE, USAGE, no_memory, stopped, told};
+use adjudicate::{do_check, do_value};
 use clap::ArgMatches;
 use clap::error::ErrorKind;
 use fixpoint::Out;
 use std::rt::{Env, Files};
+use std::thread::Threads;
+use std::time::Clock;
 use std::{env, io};
 
-/// The exit statuses that the library's refusals leave to the program.
-const DONE: u8 = 0;
-
-const USAGE: u8 = 2;
-
-const RESOURCE: u8 = 3;
-
 /// Does what the command line says, and answers the exit status.
-pub fn status<R: Env + Files + Print + Eprint + AllocGlobal>(rt: &R) -> u8
+/// Where somebody watches standard error, a run that takes long shows signs of life there.
+pub fn status<R>(rt: &R, is_watched: bool) -> u8
+where
+    R: Env + Files + Print + Eprint + AllocGlobal,
+    R: Clock + Threads + Clone + Drop + Send + 'static,
     ensures known { result ≤ RESOURCE }
 {
     let alloc = rt.alloc();
@@ -37,20 +37,26 @@ pub fn status<R: Env + Files + Print + Eprint + AllocGlobal>(rt: &R) -> u8
         Err(fault) => return usage(rt, &fault),
     };
     match line.try_get_matches_from(words.as_slice()) {
-        Ok(matches) => command(rt, &matches),
+        Ok(matches) => command(rt, &matches, is_watched),
         Err(fault) => usage(rt, &fault),
     }
 }
 
 /// The command that the words name. `clap` lets no other through.
-fn command<R: Files + Print + Eprint + AllocGlobal>(rt: &R, matches: &ArgMatches<'_>) -> u8
+fn command<R>(rt: &R, matches: &ArgMatches<'_>, is_watched: bool) -> u8
+where
+    R: Files + Print + Eprint + AllocGlobal,
+    R: Clock + Threads + Clone + Drop + Send + 'static,
     ensures known { result ≤ RESOURCE }
 {
     if let Some(value) = matches.subcommand_matches(VALUE) {
         return value_of(rt, value);
     }
-    match matches.subcommand_matches(CHECK) {
-        Some(check) => check_of(rt, check),
+    if let Some(check) = matches.subcommand_matches(CHECK) {
+        return check_of(rt, check);
+    }
+    match matches.subcommand_matches(RUN) {
+        Some(run) => run_of(rt, run, is_watched),
         None => USAGE,
     }
 }
@@ -86,33 +92,6 @@ fn check_of<R: Files + Print + Eprint + AllocGlobal>(rt: &R, matches: &ArgMatche
     }
 }
 
-/// The text of the plan file that the command line names; where it can't be read, that is told, and its status answered.
-fn plan_of<R: Files + Eprint + AllocGlobal>(rt: &R, matches: &ArgMatches<'_>) -> Result<Vec<u8>, u8>
-    ensures known { IfErr result (λ status. status ≤ RESOURCE) }
-{
-    let path = match matches.get_str(PLAN) {
-        Some(path) => path,
-        None => return Err(USAGE),
-    };
-    match read_file(rt, path, PLAN_LIMIT_BYTES) {
-        Ok(plan) => Ok(plan),
-        Err(ReadFault::Unreadable) => Err(told(rt, "cannot read plan", RESOURCE)),
-        Err(ReadFault::OutOfMemory) => Err(no_memory(rt)),
-    }
-}
-
-/// Tells a refusal of the library by its line, and answers its status.
-fn stopped<R: Eprint>(rt: &R, stop: &Stop) -> u8
-    ensures { result ≡ status_of stop.now }
-{
-    let mut line = [0u8; LINE_LIMIT_BYTES];
-    let length = stop.write_line(&mut line);
-    if let Ok(text) = str::from_utf8(&line[..length]) {
-        let _ = rt.eprint(text);
-    }
-    stop.status()
-}
-
 /// Tells a fault of the command line, or the help or the version that was asked for.
 fn usage<R: Print + Eprint>(rt: &R, fault: &clap::Error) -> u8
     ensures known { result ≤ RESOURCE }
@@ -125,18 +104,4 @@ fn usage<R: Print + Eprint>(rt: &R, fault: &clap::Error) -> u8
         Ok(()) => DONE,
         Err(_) => RESOURCE,
     }
-}
-
-fn no_memory<R: Eprint>(rt: &R) -> u8
-    ensures { result ≡ RESOURCE }
-{
-    told(rt, "no memory", RESOURCE)
-}
-
-/// Writes a line to standard error: where even that fails, the status is all that is left to tell.
-fn told<R: Eprint>(rt: &R, line: &str, status: u8) -> u8
-    ensures { result ≡ status }
-{
-    let _ = rt.eprintln(line);
-    status
 }

@@ -1,11 +1,14 @@
 //! A line on standard error, put together in memory of fixed size.
 
 ghost use Rattle.std.specs.Prelude.{◌≡◌, ℕ, ◌+◌, ◌<◌, ◌≤◌, ◌++◌, [], List, codes, decimal, length, take};
-ghost use Rattle.adjudicate.specs.Stop.{plan_fault_text, argument_fault_text, cell_fault_text, fault_text};
+ghost use Rattle.adjudicate.specs.Stop.{plan_fault_text, argument_fault_text, balance_fault_text, cell_fault_text, fault_text, record_fault_text, run_fault_text, terms_fault_text};
 
 use super::ArgumentFault;
+use claim_terms::TermsFault;
+use crew::RunFault;
 use dtable::{Fault, PlanCause, PlanFault};
 use feel_tests::CellFault;
+use intake_csv::{BalanceFault, RowFault};
 use itoa::Buffer;
 use std::marker::Model;
 
@@ -131,6 +134,67 @@ impl Line {
             Fault::Range { table } => self.put_reason("range:", *table),
             Fault::OutOfMemory => self.put("memory"),
         }
+    }
+
+    /// Puts the words of a fault of the terms on an empty line.
+    pub fn put_terms_fault(&mut self, fault: &TermsFault)
+        requires { length self.old ≡ 0 }
+        ensures text { self.new ≡ self.old ++ terms_fault_text fault.now }
+        ensures short { length self.new ≤ 100 }
+    {
+        self.put("terms fault ");
+        self.put_cause(fault.number());
+        match fault {
+            TermsFault::File { provider, fault } => {
+                self.put(" file ");
+                self.put_number(*provider);
+                self.put(" cause ");
+                self.put_cause(fault.number());
+            }
+            TermsFault::Balances(fault) => self.put_balance_fault(fault),
+            _ => {}
+        }
+    }
+
+    /// Puts the words of a fault of a run on an empty line.
+    pub fn put_run_fault(&mut self, fault: &RunFault)
+        requires { length self.old ≡ 0 }
+        ensures text { self.new ≡ self.old ++ run_fault_text fault.now }
+        ensures short { length self.new ≤ 100 }
+    {
+        self.put("run fault ");
+        self.put_cause(fault.number());
+    }
+
+    // Puts what is wrong with the balances behind the line.
+    fn put_balance_fault(&mut self, fault: &BalanceFault)
+        requires { length self.old ≤ 14 }
+        ensures text { self.new ≡ self.old ++ balance_fault_text fault.now }
+        ensures short { length self.new ≤ 100 }
+    {
+        match fault {
+            BalanceFault::File(fault) => {
+                self.put(" cause ");
+                self.put_cause(fault.number());
+            }
+            BalanceFault::Row { number, fault } => self.put_record_fault(*number, fault),
+            BalanceFault::OutOfMemory => {}
+        }
+    }
+
+    // Puts the record with this number, and what is wrong with it, behind the line.
+    fn put_record_fault(&mut self, number: usize, fault: &RowFault)
+        requires { length self.old ≤ 14 }
+        ensures text { self.new ≡ self.old ++ record_fault_text number fault.now }
+        ensures short { length self.new ≤ 100 }
+    {
+        let RowFault { column, cause } = *fault;
+        self.put(" record ");
+        self.put_number(number);
+        self.put(" cause ");
+        self.put_cause(cause.number());
+        self.put(" column ");
+        self.put_number(column);
     }
 
     // Puts a reason and the table's number behind the line.

@@ -1,6 +1,7 @@
 //! The lines of refusals, as the formats give them.
 use super::*;
 use crate::testing::says;
+use intake_csv::{BalanceFault, FileFault, RowCause, RowFault};
 use std::process::Abort;
 use std::test::Fail;
 
@@ -105,4 +106,55 @@ fn other_refusals_have_their_lines(rt: HostRuntime) -> Result<(), Fail> {
         says(&rt, &stop, line, status);
     }
     Ok(())
+}
+
+/// A fault of the balances in a record's column.
+fn balance_fault(number: usize, column: usize, cause: RowCause) -> Stop {
+    let fault = RowFault { column, cause };
+    Stop::Terms(TermsFault::Balances(BalanceFault::Row { number, fault }))
+}
+
+#[test]
+fn refusals_of_a_run_have_their_lines(rt: HostRuntime) {
+    let too_large = BalanceFault::File(FileFault::TooLarge);
+    let no_header = TermsFault::File {
+        provider: 64,
+        fault: FileFault::NoHeader,
+    };
+    let device = WriteFault {
+        written: 37,
+        cause: WriteCause::Device,
+    };
+    let no_memory = WriteFault {
+        written: 37,
+        cause: WriteCause::OutOfMemory,
+    };
+    for (stop, line, status) in [
+        (Stop::from(TermsFault::NoRoles), "terms fault 1\n", 1),
+        (Stop::from(TermsFault::Files), "terms fault 2\n", 1),
+        (Stop::from(no_header), "terms fault 3 file 64 cause 2\n", 1),
+        (
+            Stop::from(TermsFault::Balances(too_large)),
+            "terms fault 4 cause 1\n",
+            1,
+        ),
+        (
+            balance_fault(2, 1, RowCause::Repeated),
+            "terms fault 4 record 2 cause 8 column 1\n",
+            1,
+        ),
+        (
+            balance_fault(513_479, 0, RowCause::FieldCount),
+            "terms fault 4 record 513479 cause 1 column 0\n",
+            1,
+        ),
+        (Stop::from(TermsFault::OutOfMemory), "no memory\n", 3),
+        (Stop::from(RunFault::Workers), "run fault 1\n", 1),
+        (Stop::Run(RunFault::OutOfMemory), "run fault 2\n", 3),
+        (Stop::from(RunFault::OutOfMemory), "no memory\n", 3),
+        (Stop::from(device), "write fault at 37\n", 3),
+        (Stop::from(no_memory), "no memory\n", 3),
+    ] {
+        says(&rt, &stop, line, status);
+    }
 }

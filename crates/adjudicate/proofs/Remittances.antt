@@ -1,0 +1,144 @@
+-- The remittance of a run, from the journal of its batch and the bytes of its report, and what becomes of it at a refusal.
+use Rattle.std.proofs.Common.{◌≢◌, ℕ, List, [], ◌∷◌, map, Option, Result, IfErr, OnOk, inl, inr, refl, sym, subst}
+use Rattle.std.proofs.KnownBytes.{Keeps-refl}
+use Rattle.std.proofs.lemmas.Result.{on_ok_weaker, IfErr-weaker}
+use Rattle.std.specs.List.{AllZip}
+use Rattle.dtable.specs.Plan.{PlanParts}
+use Rattle.dtable.specs.PlanFile.{IsPlanText}
+use Rattle.dtable.specs.declared.table.InputData.{InputData}
+use Rattle.dtable.specs.declared.plan_fault.PlanCause.TheVariants as cause
+use Rattle.dtable.specs.declared.plan_fault.PlanFault.{PlanFault}
+use Rattle.settlement.specs.declared.claim.Claim.{Claim}
+use Rattle.intake_csv.specs.Columns.{claim_columns}
+use Rattle.intake_csv.specs.Laws.{HaveDistinctNames, PlansNeedDistinctNames}
+use Rattle.intake_csv.specs.Rows.{AreRowsOf}
+use Rattle.intake_csv.specs.declared.rows.Row.{Row}
+use Rattle.journal.specs.declared.event.Event.{Event}
+use Rattle.journal.specs.Terms.{Terms}
+use Rattle.claim_terms.specs.Terms.{AreClaimsOf, IsTermsOf, TermsParts, claims_among}
+use Rattle.remit.specs.Report.{IsReport, report_records, text_of}
+use Rattle.remit.specs.Writing.{IsFinishedOver, WritesFront, WritesReport}
+use Rattle.remit.specs.declared.fault.WriteFault.{WriteFault}
+use Rattle.adjudicate.specs.declared.stop.Stop.{Stop}
+use Rattle.adjudicate.specs.declared.stop.Stop.TheVariants as stop
+use Rattle.adjudicate.specs.RunText.{AreTermsOfTexts, IsRemittance, IsRemittanceOf, RunTexts, WritesRemittanceFront}
+use Rattle.adjudicate.specs.RunStop.{IsRunReason, IsStopOfWrite, RefusesRun, StopsRemittance, WritesRemittanceUntil}
+use Rattle.adjudicate.specs.Stop.{IsStopOfPlan, WritesText}
+
+-- the claims of files are those among their rows
+claims_of_rows : (names : List InputData) (texts : List (List ℕ)) (files : List (List Row)) → AllZip (AreRowsOf names) texts files
+    → AllZip (AreClaimsOf names) texts (map claims_among files)
+claims_of_rows names [] [] h = tt
+claims_of_rows names [] (rows ∷ files) h = absurd h
+claims_of_rows names (text ∷ texts) [] h = absurd h
+claims_of_rows names (text ∷ texts) (rows ∷ files) h = (record { rows = rows; are_rows = h.0; claims_are = refl }, claims_of_rows names texts files h.1)
+
+-- and files of claims have rows
+record RowsOf (names : List InputData) (texts : List (List ℕ)) : Type 0 where
+  pub files : List (List Row)
+  pub are_rows : AllZip (AreRowsOf names) texts files
+
+rows_of_claims : (names : List InputData) (texts : List (List ℕ)) (files : List (List Claim)) → AllZip (AreClaimsOf names) texts files → RowsOf names texts
+rows_of_claims names [] [] h = record { files = []; are_rows = tt }
+rows_of_claims names [] (claims ∷ files) h = absurd h
+rows_of_claims names (text ∷ texts) [] h = absurd h
+rows_of_claims names (text ∷ texts) (claims ∷ files) h =
+    let rest = rows_of_claims names texts files h.1 in
+    record { files = h.0.rows ∷ rest.files; are_rows = (h.0.are_rows, rest.are_rows) }
+
+module _ (parts : TermsParts) (J : List Event) (finished : IsFinishedOver parts J) (old new : Option (List ℕ)) where
+  -- a report of a finished journal is the remittance of its terms
+  remittance_of : (bytes : List ℕ) → IsReport parts J bytes → IsRemittanceOf parts bytes
+  remittance_of bytes report =
+      let T : Terms = record { plan = parts.plan; files = map claims_among report.files; balances = parts.balances; cutoff = parts.cutoff } in
+      let are : IsTermsOf parts T = record {
+        plan = refl;
+        files = claims_of_rows parts.plan.names parts.files report.files report.are_rows;
+        openings = λ member. refl;
+        cutoff = refl;
+      } in
+      record { terms = T; are_terms = are; journal = J; finished = finished T are; report = report }
+
+  pub writes_remittance : WritesReport parts J old new → WritesText (IsRemittanceOf parts) old new
+  writes_remittance w = record { text = w.bytes; is_text = remittance_of w.bytes w.is_report; appended = w.appended }
+
+  -- terms that journals can see have a report
+  some_report : ¬ ((T : Terms) → IsTermsOf parts T → ⊥) → ¬ ((report : List ℕ) → ¬ IsReport parts J report)
+  some_report seen none = seen (λ T are.
+      let rows = rows_of_claims parts.plan.names parts.files T.files are.files in
+      none (text_of (report_records J rows.files)) (record { files = rows.files; are_rows = rows.are_rows; bytes_are = refl }))
+
+  -- the front of a report is that of the remittance
+  writes_front : (written : ℕ) → HaveDistinctNames (claim_columns parts.plan.names) → ¬ ((T : Terms) → IsTermsOf parts T → ⊥)
+      → WritesFront parts J written old new → WritesRemittanceFront parts old new written
+  writes_front written distinct seen w = record {
+    journal = J;
+    finished = finished;
+    bytes = w.bytes;
+    counted = w.counted;
+    appended = w.appended;
+    front = w.front distinct;
+    is_there = some_report seen;
+  }
+
+  -- so a report that ends early ends the remittance
+  pub stops_by_write : (fault : WriteFault) (s : Stop) → HaveDistinctNames (claim_columns parts.plan.names) → ¬ ((T : Terms) → IsTermsOf parts T → ⊥)
+      → WritesFront parts J fault.written old new → IsStopOfWrite fault s → StopsRemittance parts old new s
+  stops_by_write fault (stop.Write written) distinct seen w made = rw made.0 (writes_front fault.written distinct seen w)
+  stops_by_write fault stop.NoMemory distinct seen w made = inr (fault.written, writes_front fault.written distinct seen w)
+  stops_by_write fault _ distinct seen w made = absurd made
+
+-- why a run is refused: the plan's text spells no plan
+pub reason_of_plan : (texts : RunTexts) (workers : ℕ) (fault : PlanFault) (s : Stop)
+    → (fault.cause ≢ cause.OutOfMemory → (plan : PlanParts) → ¬ IsPlanText texts.plan plan) → IsStopOfPlan fault s → IsRunReason texts workers s
+reason_of_plan texts workers fault (stop.Plan same) none made =
+    let P : PlanFault → Type 0 = λ f. f.cause ≢ cause.OutOfMemory in
+    (subst P (sym made.0) made.1, none made.1)
+reason_of_plan texts workers fault stop.NoMemory none made = tt
+reason_of_plan texts workers fault _ none made = absurd made
+
+-- or under the plan there is no run
+pub reason_of_run : (texts : RunTexts) (workers : ℕ) (plan : PlanParts) (s : Stop) → IsPlanText texts.plan plan → RefusesRun plan texts workers s
+    → IsRunReason texts workers s
+reason_of_run texts workers plan (stop.Plan fault) spelled refused = absurd refused
+reason_of_run texts workers plan (stop.Write written) spelled refused = absurd refused
+reason_of_run texts workers plan stop.NoMemory spelled refused = tt
+reason_of_run texts workers plan _ spelled refused = (plan, spelled, refused)
+
+-- and then nothing is written
+pub kept_by_run : (texts : RunTexts) (workers : ℕ) (plan : PlanParts) (contents : Option (List ℕ)) (s : Stop) → RefusesRun plan texts workers s
+    → WritesRemittanceUntil texts contents contents s
+kept_by_run texts workers plan contents (stop.Write written) refused = absurd refused
+kept_by_run texts workers plan contents stop.NoMemory refused = inl (Keeps-refl contents)
+kept_by_run texts workers plan contents _ refused = Keeps-refl contents
+
+-- what is written for the terms of the texts is written for the texts
+module _ (texts : RunTexts) (parts : TermsParts) (over : AreTermsOfTexts texts parts) (old new : Option (List ℕ)) where
+  pub whole_over : {X E : Type 0} (r : Result X E) → OnOk r (WritesText (IsRemittanceOf parts) old new) → OnOk r (WritesText (IsRemittance texts) old new)
+  whole_over r h =
+      on_ok_weaker r (λ w. record { text = w.text; is_text = record { parts = parts; over = over; is_remittance = w.is_text }; appended = w.appended }) h
+
+  front_over : (s : Stop) → StopsRemittance parts old new s → WritesRemittanceUntil texts old new s
+  front_over (stop.Write written) h = record { parts = parts; over = over; writes = h }
+  front_over stop.NoMemory (inl kept) = inl kept
+  front_over stop.NoMemory (inr (written, h)) = inr (written, record { parts = parts; over = over; writes = h })
+  front_over _ h = absurd h
+
+  pub stopped_over : {X : Type 0} (r : Result X Stop) → IfErr r (StopsRemittance parts old new) → IfErr r (WritesRemittanceUntil texts old new)
+  stopped_over r h = IfErr-weaker r _ _ front_over h
+
+-- the columns that its claims need have distinct names
+pub distinct_over : (texts : RunTexts) (parts : TermsParts) → PlansNeedDistinctNames → AreTermsOfTexts texts parts → HaveDistinctNames (claim_columns parts.plan.names)
+distinct_over texts parts law over =
+    let P : PlanParts → Type 0 = λ plan. HaveDistinctNames (claim_columns plan.names) in
+    subst P (sym over.are_terms.plan_is) (law texts.plan over.plan over.spelled)
+
+-- and it ends for a reason that can come with any texts
+reason_over : (texts : RunTexts) (workers : ℕ) (parts : TermsParts) (old new : Option (List ℕ)) (s : Stop) → StopsRemittance parts old new s → IsRunReason texts workers s
+reason_over texts workers parts old new (stop.Write written) h = tt
+reason_over texts workers parts old new stop.NoMemory h = tt
+reason_over texts workers parts old new _ h = absurd h
+
+pub reasons_over : {X : Type 0} (texts : RunTexts) (workers : ℕ) (parts : TermsParts) (old new : Option (List ℕ)) (r : Result X Stop) → IfErr r (StopsRemittance parts old new)
+    → IfErr r (IsRunReason texts workers)
+reasons_over texts workers parts old new r h = IfErr-weaker r _ _ (reason_over texts workers parts old new) h

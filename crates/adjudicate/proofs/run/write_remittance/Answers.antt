@@ -1,0 +1,11 @@
+use Rattle.std.proofs.lemmas.Result.{err_from_is_err_and}
+use Rattle.adjudicate.proofs.Remittances.{stops_by_write, writes_remittance}
+use Rattle.adjudicate.proofs.run.write_remittance.Goals as goal
+
+pub returns-in_err-write_report-clause-stopped : goal.returns-in_err-write_report-clause-stopped
+returns-in_err-write_report-clause-stopped g c =
+    let stopped = err_from_is_err_and c.from_residual-in_err-write_report.result c.from_residual-in_err-write_report.ensures.1 in
+    rw stopped.1 (stops_by_write c.args.terms.now _ c.in_ok-batch.ensures.finished _ _ _ _ c.requires c.terms_are_seen.ensures c.in_err-write_report.ensures.refused stopped.2)
+
+pub returns-clause-written : goal.returns-clause-written
+returns-clause-written g c = writes_remittance c.args.terms.now _ c.in_ok-batch.ensures.finished _ _ c.in_ok-write_report.ensures.written

@@ -1,0 +1,75 @@
+-- Why the command `run` stops, and what its writer has got then.
+use Rattle.std.specs.Prelude.{◌≡◌, ◌≢◌, ◌⊎◌, ℕ, List, Option}
+use Rattle.std.specs.Io.KnownBytes.{Keeps}
+use Rattle.dtable.specs.Plan.{PlanParts}
+use Rattle.dtable.specs.PlanFile.{IsPlanText}
+use Rattle.claim_terms.specs.Fault.{HasTermsFault}
+use Rattle.claim_terms.specs.Terms.{TermsParts}
+use Rattle.claim_terms.specs.declared.fault.TermsFault.{TermsFault}
+use Rattle.claim_terms.specs.declared.fault.TermsFault.TheVariants as terms
+use Rattle.crew.specs.declared.fault.RunFault.{RunFault}
+use Rattle.crew.specs.declared.fault.RunFault.TheVariants as run
+use Rattle.remit.specs.declared.fault.WriteCause.TheVariants as write
+use Rattle.remit.specs.declared.fault.WriteFault.{WriteFault}
+use Rattle.adjudicate.specs.declared.stop.Stop.{Stop}
+use Rattle.adjudicate.specs.declared.stop.Stop.TheVariants as stop
+use Rattle.adjudicate.specs.RunText.{AreTermsUnder, IsWorkerCount, RunTexts, WritesFrontOver, WritesRemittanceFront}
+use Rattle.adjudicate.specs.Stop.{SpellsNoPlan}
+
+-- the texts make terms under this plan, but a run can't have so many workers
+pub record RefusesWorkers (plan : PlanParts) (texts : RunTexts) (workers : ℕ) (fault : RunFault) : Type 0 where
+  pub parts : TermsParts
+  pub are_terms : AreTermsUnder plan texts parts
+  pub fault_is : fault ≡ run.Workers
+  pub refused : ¬ IsWorkerCount workers
+
+-- the texts under this plan, and so many workers, give this refusal: the terms are tried before the workers. Want of memory can come
+-- with any
+abbrev pub RefusesRun : PlanParts → RunTexts → ℕ → Stop → Type 0
+RefusesRun plan texts workers (stop.Terms fault) = HasTermsFault plan texts.files texts.balances fault × (fault ≢ terms.OutOfMemory)
+RefusesRun plan texts workers (stop.Run fault) = RefusesWorkers plan texts workers fault
+RefusesRun plan texts workers stop.NoMemory = Unit {0}
+RefusesRun plan texts workers _ = ⊥
+
+-- the same under the plan that the plan's text spells
+abbrev pub RefusesRunSpelled : RunTexts → ℕ → Stop → Type 0
+RefusesRunSpelled texts workers s = (plan : PlanParts) × IsPlanText texts.plan plan × RefusesRun plan texts workers s
+
+-- the texts and so many workers give this refusal: the plan is tried first. A write fault and want of memory can come with any
+abbrev pub IsRunReason : RunTexts → ℕ → Stop → Type 0
+IsRunReason texts workers (stop.Plan fault) = SpellsNoPlan texts.plan fault
+IsRunReason texts workers (stop.Write written) = Unit {0}
+IsRunReason texts workers stop.NoMemory = Unit {0}
+IsRunReason texts workers s = RefusesRunSpelled texts workers s
+
+-- what ends the remittance of these terms: a write fault, where the writer has got so many first bytes, or want of memory, where
+-- it has got none or some first bytes
+abbrev pub StopsRemittance : TermsParts → Option (List ℕ) → Option (List ℕ) → Stop → Type 0
+StopsRemittance parts old new (stop.Write written) = WritesRemittanceFront parts old new written
+StopsRemittance parts old new stop.NoMemory = Keeps old new ⊎ ((written : ℕ) × WritesRemittanceFront parts old new written)
+StopsRemittance parts old new _ = ⊥
+
+-- what a writer has got at a refusal of a run: at a write fault so many first bytes of the remittance, at want of memory none or
+-- some first bytes, and otherwise nothing
+abbrev pub WritesRemittanceUntil : RunTexts → Option (List ℕ) → Option (List ℕ) → Stop → Type 0
+WritesRemittanceUntil texts old new (stop.Write written) = WritesFrontOver texts old new written
+WritesRemittanceUntil texts old new stop.NoMemory = Keeps old new ⊎ ((written : ℕ) × WritesFrontOver texts old new written)
+WritesRemittanceUntil texts old new _ = Keeps old new
+
+-- the refusal that a fault of the terms becomes: want of memory is no fault of the texts
+abbrev pub IsStopOfTerms : TermsFault → Stop → Type 0
+IsStopOfTerms fault (stop.Terms same) = (same ≡ fault) × (fault ≢ terms.OutOfMemory)
+IsStopOfTerms fault stop.NoMemory = fault ≡ terms.OutOfMemory
+IsStopOfTerms fault _ = ⊥
+
+-- the refusal that a fault of the run becomes
+abbrev pub IsStopOfRun : RunFault → Stop → Type 0
+IsStopOfRun fault (stop.Run same) = (same ≡ fault) × (fault ≢ run.OutOfMemory)
+IsStopOfRun fault stop.NoMemory = fault ≡ run.OutOfMemory
+IsStopOfRun fault _ = ⊥
+
+-- the refusal that the early end of a report becomes
+abbrev pub IsStopOfWrite : WriteFault → Stop → Type 0
+IsStopOfWrite fault (stop.Write written) = (written ≡ fault.written) × (fault.cause ≡ write.Device)
+IsStopOfWrite fault stop.NoMemory = fault.cause ≡ write.OutOfMemory
+IsStopOfWrite fault _ = ⊥

@@ -1,0 +1,76 @@
+-- What the command `run` writes: the remittance of one journal.
+use Rattle.std.specs.Prelude.{◌≡◌, ◌≤◌, ℕ, List, Option, length, take}
+use Rattle.std.specs.Io.KnownBytes.{Appends}
+use Rattle.dtable.specs.Plan.{PlanParts}
+use Rattle.dtable.specs.PlanFile.{IsPlanText}
+use Rattle.journal.specs.declared.event.Event.{Event}
+use Rattle.journal.specs.Lawful.{Finished}
+use Rattle.journal.specs.Terms.{Terms}
+use Rattle.claim_terms.specs.Terms.{AreTermsOf, IsTermsOf, TermsParts, text_in, texts_of}
+use Rattle.remit.specs.Report.{IsReport}
+use Rattle.remit.specs.Writing.{IsFinishedOver}
+use Rattle.adjudicate.specs.declared.run.RunInput.{RunInput}
+use Rattle.adjudicate.specs.declared.run.TheConstants.{WORKERS_LIMIT}
+
+-- what the remittance of a run is made from: the text of the plan, that of the balances, if there is one, those of the providers'
+-- files, and how many claims are accepted at most, if that is limited
+pub record RunTexts : Type 0 where
+  pub plan : List ℕ
+  pub balances : Option (List ℕ)
+  pub files : List (List ℕ)
+  pub cutoff : Option ℕ
+
+-- the texts behind the references of what a run is given
+abbrev pub run_texts : RunInput → RunTexts
+run_texts input = record {
+  plan = input.plan.now;
+  balances = text_in input.balances;
+  files = texts_of input.files.now;
+  cutoff = input.cutoff;
+}
+
+-- a run has one worker at least
+pub record IsWorkerCount (count : ℕ) : Type 0 where
+  pub least : 1 ≤ count
+  pub most : count ≤ WORKERS_LIMIT
+
+-- these are the terms of the texts, under this plan
+abbrev pub AreTermsUnder : PlanParts → RunTexts → TermsParts → Type 0
+AreTermsUnder plan texts parts = AreTermsOf plan texts.files texts.balances texts.cutoff parts
+
+-- these are the terms of the texts, under the plan that the plan's text spells
+pub record AreTermsOfTexts (texts : RunTexts) (parts : TermsParts) : Type 0 where
+  pub plan : PlanParts
+  pub spelled : IsPlanText texts.plan plan
+  pub are_terms : AreTermsUnder plan texts parts
+
+-- the bytes are the remittance of these terms: the report of one journal that is finished over them
+pub record IsRemittanceOf (parts : TermsParts) (bytes : List ℕ) : Type 0 where
+  pub terms : Terms
+  pub are_terms : IsTermsOf parts terms
+  pub journal : List Event
+  pub finished : Finished terms journal
+  pub report : IsReport parts journal bytes
+
+-- the bytes are the remittance of the texts
+pub record IsRemittance (texts : RunTexts) (bytes : List ℕ) : Type 0 where
+  pub parts : TermsParts
+  pub over : AreTermsOfTexts texts parts
+  pub is_remittance : IsRemittanceOf parts bytes
+
+-- the writer has got exactly the first bytes of the remittance of these terms, as many as `written` says: there is one journal,
+-- finished over them, and of each report of it these are the first bytes. That there is such a report isn't refutable
+pub record WritesRemittanceFront (parts : TermsParts) (old new : Option (List ℕ)) (written : ℕ) : Type 0 where
+  pub journal : List Event
+  pub finished : IsFinishedOver parts journal
+  pub bytes : List ℕ
+  pub counted : length bytes ≡ written
+  pub appended : Appends old new bytes
+  pub front : (report : List ℕ) → IsReport parts journal report → bytes ≡ take written report
+  pub is_there : ¬ ((report : List ℕ) → ¬ IsReport parts journal report)
+
+-- the same of the remittance of the texts
+pub record WritesFrontOver (texts : RunTexts) (old new : Option (List ℕ)) (written : ℕ) : Type 0 where
+  pub parts : TermsParts
+  pub over : AreTermsOfTexts texts parts
+  pub writes : WritesRemittanceFront parts old new written

@@ -1,0 +1,308 @@
+//! Worked runs, by hand: texts, and the remittance of each.
+use super::*;
+use crate::testing::{Narrow, WhenFull, says};
+use std::process::Abort;
+
+mod refusals;
+
+/// A plan that covers the codes A and B up to their fees, and X not at all.
+const PLAN: &[u8] = br#"version = 1
+fields = [{name = "code", kind = "text"}]
+
+[roles]
+cover = "covered"
+fee = "fee"
+deductible = "50"
+copay = "10"
+rate = "0.2"
+oop_max = "60"
+remarks = "note"
+
+[[tables]]
+inputs = [{name = "code"}]
+outputs = [{name = "covered", kind = "flag"}, {name = "fee", kind = "number"}]
+rules = [
+  {when = ['"A"'], then = ['true', '100']},
+  {when = ['"B"'], then = ['true', '40']},
+  {when = ['"X"'], then = ['false', '0']},
+]
+
+[[tables]]
+hit = "R"
+inputs = [{name = "billed"}, {name = "met"}]
+outputs = [{name = "note", kind = "text"}]
+rules = [
+  {when = ['>100', '-'], then = ['"OVER"']},
+  {when = ['-', '>=50'], then = ['"MET"']},
+]
+"#;
+
+const FIRST: &[u8] = b"claim,member,service,billed,code
+c1,M1,2024-01-05,120.00,A
+c2,M1,2024-02-01,40.00,B
+c3,M1,2024-02-02,40.00,Z
+c4,M1,2024-03-01,100.00,A
+";
+
+const SECOND: &[u8] = b"claim,member,service,billed,code
+d1,M2,2024-01-09,30.00,B
+d2,M2,2024-01-10,9.999,B
+d3,M2,2024-01-11,10.00,X
+";
+
+const BOTH: [&[u8]; 2] = [FIRST, SECOND];
+
+const REPORT: &str =
+    "provider,record,claim,member,status,reason,allowed,ded,copay,coins,share,paid,remarks\r
+1,1,c1,M1,paid,,100.00,50.00,10.00,8.00,60.00,40.00,OVER\r
+1,2,c2,M1,paid,,40.00,0.00,10.00,6.00,0.00,40.00,MET\r
+1,3,c3,M1,pended,norule:1,0.00,0.00,0.00,0.00,0.00,0.00,\r
+1,4,c4,M1,paid,,100.00,0.00,10.00,18.00,0.00,100.00,MET\r
+2,1,d1,M2,paid,,30.00,30.00,0.00,0.00,30.00,0.00,\r
+2,2,,,refused,notcents:4,,,,,,,\r
+2,3,d3,M2,denied,,0.00,0.00,0.00,0.00,0.00,0.00,\r
+total,6,,,,,270.00,80.00,30.00,32.00,90.00,180.00,\r
+";
+
+const HEADER: &[u8] = b"claim,member,service,billed,code\n";
+
+/// Both files with no claim accepted.
+const ALL_LATE: &str =
+    "provider,record,claim,member,status,reason,allowed,ded,copay,coins,share,paid,remarks\r
+1,1,c1,M1,late,,,,,,,,\r
+1,2,c2,M1,late,,,,,,,,\r
+1,3,c3,M1,late,,,,,,,,\r
+1,4,c4,M1,late,,,,,,,,\r
+2,1,d1,M2,late,,,,,,,,\r
+2,2,,,refused,notcents:4,,,,,,,\r
+2,3,d3,M2,late,,,,,,,,\r
+total,0,,,,,0.00,0.00,0.00,0.00,0.00,0.00,\r
+";
+
+const NO_CLAIMS: &str =
+    "provider,record,claim,member,status,reason,allowed,ded,copay,coins,share,paid,remarks\r
+total,0,,,,,0.00,0.00,0.00,0.00,0.00,0.00,\r
+";
+
+/// Two files of three claims each, none of them covered.
+const THREE_AND_THREE: [&[u8]; 2] = [
+    b"claim,member,service,billed,code
+a1,M1,2024-01-01,1.00,X
+a2,M1,2024-01-01,1.00,X
+a3,M1,2024-01-01,1.00,X
+",
+    b"claim,member,service,billed,code
+b1,M1,2024-01-01,1.00,X
+b2,M2,2024-01-01,1.00,X
+b3,M2,2024-01-01,1.00,X
+",
+];
+
+/// Four of their claims are accepted: three and one, two and two, or one and three.
+const SPLITS: [&str; 3] = [
+    "provider,record,claim,member,status,reason,allowed,ded,copay,coins,share,paid,remarks\r
+1,1,a1,M1,denied,,0.00,0.00,0.00,0.00,0.00,0.00,\r
+1,2,a2,M1,denied,,0.00,0.00,0.00,0.00,0.00,0.00,\r
+1,3,a3,M1,denied,,0.00,0.00,0.00,0.00,0.00,0.00,\r
+2,1,b1,M1,denied,,0.00,0.00,0.00,0.00,0.00,0.00,\r
+2,2,b2,M2,late,,,,,,,,\r
+2,3,b3,M2,late,,,,,,,,\r
+total,4,,,,,0.00,0.00,0.00,0.00,0.00,0.00,\r
+",
+    "provider,record,claim,member,status,reason,allowed,ded,copay,coins,share,paid,remarks\r
+1,1,a1,M1,denied,,0.00,0.00,0.00,0.00,0.00,0.00,\r
+1,2,a2,M1,denied,,0.00,0.00,0.00,0.00,0.00,0.00,\r
+1,3,a3,M1,late,,,,,,,,\r
+2,1,b1,M1,denied,,0.00,0.00,0.00,0.00,0.00,0.00,\r
+2,2,b2,M2,denied,,0.00,0.00,0.00,0.00,0.00,0.00,\r
+2,3,b3,M2,late,,,,,,,,\r
+total,4,,,,,0.00,0.00,0.00,0.00,0.00,0.00,\r
+",
+    "provider,record,claim,member,status,reason,allowed,ded,copay,coins,share,paid,remarks\r
+1,1,a1,M1,denied,,0.00,0.00,0.00,0.00,0.00,0.00,\r
+1,2,a2,M1,late,,,,,,,,\r
+1,3,a3,M1,late,,,,,,,,\r
+2,1,b1,M1,denied,,0.00,0.00,0.00,0.00,0.00,0.00,\r
+2,2,b2,M2,denied,,0.00,0.00,0.00,0.00,0.00,0.00,\r
+2,3,b3,M2,denied,,0.00,0.00,0.00,0.00,0.00,0.00,\r
+total,4,,,,,0.00,0.00,0.00,0.00,0.00,0.00,\r
+",
+];
+
+/// A member whose number has a quote, and records that are no claims: too few fields, no member, no such day, no whole
+/// cents, an amount below zero, and a member that is no UTF-8.
+const REFUSED: &[u8] = b"claim,member,service,billed,code
+a,\"M\"\"1\",2024-02-29,1.00,A
+b,M2,2024-01-01
+c,,2024-01-01,1.00,A
+d,M,2024-02-30,1.00,A
+e,M,2024-01-01,-1.005,A
+f,M,2024-01-01,-1.00,A
+h,\xFF,2024-01-01,1.00,A
+";
+
+/// The same behind a byte order mark, with CRLF at the line ends.
+const REFUSED_BEHIND_A_MARK: &[u8] = b"\xEF\xBB\xBFclaim,member,service,billed,code\r
+a,\"M\"\"1\",2024-02-29,1.00,A\r
+b,M2,2024-01-01\r
+c,,2024-01-01,1.00,A\r
+d,M,2024-02-30,1.00,A\r
+e,M,2024-01-01,-1.005,A\r
+f,M,2024-01-01,-1.00,A\r
+h,\xFF,2024-01-01,1.00,A\r
+";
+
+const REFUSED_REPORT: &str =
+    "provider,record,claim,member,status,reason,allowed,ded,copay,coins,share,paid,remarks\r
+1,1,a,\"M\"\"1\",paid,,1.00,1.00,0.00,0.00,1.00,0.00,\r
+1,2,,,refused,fieldcount,,,,,,,\r
+1,3,,,refused,emptyid:2,,,,,,,\r
+1,4,,,refused,value:3,,,,,,,\r
+1,5,,,refused,notcents:4,,,,,,,\r
+1,6,,,refused,negative:4,,,,,,,\r
+1,7,,,refused,utf8:2,,,,,,,\r
+total,1,,,,,1.00,1.00,0.00,0.00,1.00,0.00,\r
+";
+
+const BALANCES: &[u8] = b"member,met,oop,paid\nM1,50.00,10.00,5.00\n";
+
+/// A claim of the member with a balance, and the same of one without.
+const ONE_EACH: &[u8] = b"claim,member,service,billed,code
+c,M1,2024-01-05,40.00,B
+d,M2,2024-01-05,40.00,B
+";
+
+const ONE_EACH_REPORT: &str =
+    "provider,record,claim,member,status,reason,allowed,ded,copay,coins,share,paid,remarks\r
+1,1,c,M1,paid,,40.00,0.00,10.00,6.00,16.00,24.00,MET\r
+1,2,d,M2,paid,,40.00,40.00,0.00,0.00,40.00,0.00,\r
+total,2,,,,,80.00,40.00,10.00,6.00,56.00,24.00,\r
+";
+
+/// A run by the plan, with four workers.
+fn run_of<'a>(files: &'a [&'a [u8]]) -> RunInput<'a> {
+    RunInput {
+        plan: PLAN,
+        balances: None,
+        files,
+        cutoff: None,
+        workers: 4,
+    }
+}
+
+/// Asserts the remittance of a run.
+fn gives(rt: &impl Abort, alloc: Global, input: RunInput, report: &str) {
+    let mut out = Out::new(Vec::new(alloc));
+    let result = do_run(alloc, input, &mut out);
+    assert!(rt; result.is_ok(), "{report}");
+    assert!(rt; !out.failed(), "{report}");
+    assert_eq!(rt; out.into_inner().as_slice(), report.as_bytes());
+}
+
+#[test]
+fn two_files_in_one_remittance(rt: HostRuntime) {
+    for workers in [1, 4, WORKERS_LIMIT] {
+        let mut input = run_of(&BOTH);
+        input.workers = workers;
+        gives(&rt, rt.alloc(), input, REPORT);
+    }
+}
+
+#[test]
+fn a_cutoff_leaves_claims_over(rt: HostRuntime) {
+    let alloc = rt.alloc();
+    let mut input = run_of(&THREE_AND_THREE);
+    input.cutoff = Some(4);
+    let mut out = Out::new(Vec::new(alloc));
+    let result = do_run(alloc, input, &mut out);
+    assert!(rt; result.is_ok());
+    let report = out.into_inner();
+    assert!(rt;
+        SPLITS
+            .iter()
+            .any(|split| split.as_bytes() == report.as_slice())
+    );
+}
+
+#[test]
+fn cutoffs_at_their_ends(rt: HostRuntime) {
+    for (cutoff, report) in [(0, ALL_LATE), (6, REPORT), (7, REPORT), (u64::MAX, REPORT)] {
+        let mut input = run_of(&BOTH);
+        input.cutoff = Some(cutoff);
+        gives(&rt, rt.alloc(), input, report);
+    }
+}
+
+#[test]
+fn files_in_many_forms(rt: HostRuntime) {
+    for (file, report) in [
+        (HEADER, NO_CLAIMS),
+        (REFUSED, REFUSED_REPORT),
+        (REFUSED_BEHIND_A_MARK, REFUSED_REPORT),
+    ] {
+        let files = [file];
+        let mut input = run_of(&files);
+        input.workers = 2;
+        gives(&rt, rt.alloc(), input, report);
+    }
+}
+
+#[test]
+fn a_member_begins_with_its_balance(rt: HostRuntime) {
+    let files = [ONE_EACH];
+    let mut input = run_of(&files);
+    input.balances = Some(BALANCES);
+    gives(&rt, rt.alloc(), input, ONE_EACH_REPORT);
+}
+
+/// A writer that takes so many bytes and then fails; one that has room for all gets all.
+#[test]
+fn a_full_writer_has_the_first_bytes(rt: HostRuntime) {
+    for when_full in [WhenFull::Fails, WhenFull::TakesNothing] {
+        for width in [7, 1_024] {
+            for limit in [0, 1, 36, 37, 88, 89, 300, 499] {
+                let mut out = Out::new(Narrow::new(limit, width, when_full));
+                match do_run(rt.alloc(), run_of(&BOTH), &mut out) {
+                    Err(Stop::Write { written }) => assert_eq!(rt; written, limit),
+                    _ => panic!(rt; "no write fault at {limit}"),
+                }
+                assert!(rt; out.failed(), "{limit}");
+                let writer = out.into_inner();
+                assert_eq!(rt; writer.taken().len(), limit);
+                assert!(rt; REPORT.as_bytes().starts_with(writer.taken()), "{limit}");
+            }
+            let mut out = Out::new(Narrow::new(REPORT.len(), width, when_full));
+            let result = do_run(rt.alloc(), run_of(&BOTH), &mut out);
+            assert!(rt; result.is_ok(), "{width}");
+            assert_eq!(rt; out.into_inner().taken(), REPORT.as_bytes());
+        }
+    }
+}
+
+#[test]
+fn a_write_fault_has_its_line(rt: HostRuntime) {
+    let mut out = Out::new(Narrow::new(37, 1_024, WhenFull::Fails));
+    match do_run(rt.alloc(), run_of(&BOTH), &mut out) {
+        Ok(()) => panic!(&rt; "not refused"),
+        Err(stop) => says(&rt, &stop, "write fault at 37\n", 3),
+    }
+    let writer = out.into_inner();
+    assert_eq!(rt;
+        writer.taken(),
+        b"provider,record,claim,member,status,r".as_slice()
+    );
+}
+
+/// Run it with each allocation refused in turn: all of them are the command's.
+#[test]
+fn a_run_or_no_memory(rt: HostRuntime) {
+    let mut out = Out::new(Narrow::new(1_024, 1_024, WhenFull::Fails));
+    match do_run(rt.alloc(), run_of(&BOTH), &mut out) {
+        Ok(()) => assert_eq!(rt; out.into_inner().taken(), REPORT.as_bytes()),
+        Err(stop) => {
+            says(&rt, &stop, "no memory\n", 3);
+            assert!(rt; !out.failed());
+            assert!(rt; REPORT.as_bytes().starts_with(out.into_inner().taken()));
+        }
+    }
+}
