@@ -1,5 +1,5 @@
 -- The rows of files, read one file after another, and their text.
-use Rattle.std.proofs.Common.{◌≡◌, ◌<◌, ◌≤◌, ◌+◌, ℕ, suc, Bool, Option, Result, Ok, Err, Bor, List, [], ◌∷◌, ◌++◌, length, length-take-le, map, take, drop, get_or, ap, ap₂, sym, subst, ◌∙◌, refl, append_assoc, append-nil, add-one, take-append-drop, drop-cons, arith}
+use Rattle.std.proofs.Common.{◌≡◌, ◌<◌, ◌≤◌, ◌+◌, ℕ, suc, Bool, Option, Result, Ok, Err, Bor, List, [], ◌∷◌, ◌++◌, length, length-take-le, map, take, drop, get_or, ap, ap₂, sym, subst, ◌∙◌, refl, append_assoc, append-nil, take-append-drop, drop-cons, arith}
 use Rattle.std.specs.List.{AllZip}
 use Rattle.std.proofs.lemmas.Grind.{flat_map-append}
 use Rattle.std.proofs.lemmas.List.{get_or-map, length-map, take_all, take_more}

@@ -9,7 +9,7 @@ use Rattle.csv.specs.Writing.{fields_written, has_written, row_text, writer_setu
 use Rattle.csv.specs.declared.writer.QuoteStyle.TheVariants.{NonNumeric}
 use Rattle.remit.specs.Report.{record_text, report_style}
 use Rattle.remit.specs.Held.{At, Holds, HasFront, IsNoMemory, IsReady, PutsFront, Writes, at, gathered_of}
-use Rattle.remit.specs.declared.fault.WriteCause.TheVariants.{Device, OutOfMemory}
+use Rattle.remit.specs.declared.fault.WriteCause.TheVariants.{Device}
 use Rattle.remit.specs.declared.fault.WriteFault.{WriteFault}
 use Rattle.remit.specs.declared.pieces.Pieces.{Pieces}
 

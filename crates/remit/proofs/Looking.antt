@@ -1,27 +1,18 @@
 -- What is looked up of a claim in a lawful journal is what the journal decides of it.
-use Rattle.std.proofs.Common.{inl, inr, ◌≡◌, ◌≢◌, ◌<◌, ◌≤◌, ◌+◌, ◌-◌, ◌&&◌, ◌==◌, ℕ, zero, suc, Bool, true, false, cond, List, [], ◌∷◌, ◌++◌, flat_map, length, map, get_or, Option, Some, None, option_map, option_and_then, Bor, ap, ap₂, sym, subst, ◌∙◌, refl, zero-add, arith}
+use Rattle.std.proofs.Common.{inl, inr, ◌≡◌, ◌≢◌, ◌<◌, ◌≤◌, ◌+◌, ◌-◌, ◌&&◌, ◌==◌, ℕ, zero, suc, true, false, cond, List, [], ◌∷◌, ◌++◌, length, get_or, Option, Some, None, option_and_then, ap, sym, subst, ◌∙◌, refl, zero-add, arith}
 use Rattle.std.specs.Global.{Vec}
-use Rattle.std.specs.List.{AllZip, slice_get}
+use Rattle.std.specs.List.{slice_get}
 use Rattle.std.proofs.lemmas.Bool.{cases_Bool, cases_lt}
 use Rattle.std.proofs.lemmas.Bool.Decides.{nat_tests}
 use Rattle.std.proofs.lemmas.List.{get_or_append_left, get_or_push, length_push}
 use Rattle.std.proofs.lemmas.List.Concat.{flat_map-cons}
 use Rattle.std.proofs.lemmas.Option.{slice_get-get_or}
-use Rattle.dtable.specs.declared.table.InputData.{InputData}
-use Rattle.settlement.specs.declared.outcome.Outcome.{Outcome}
-use Rattle.intake_csv.specs.Rows.{AreRowsOf}
-use Rattle.intake_csv.specs.declared.rows.Row.{Row}
-use Rattle.intake_csv.specs.declared.rows.Row.TheVariants.{Good, Bad}
 use Rattle.journal.specs.Events.{Filed, accept_in, accepted, accepts, place_in, places}
 use Rattle.journal.specs.Lawful.{counted}
-use Rattle.journal.specs.Terms.{Terms}
 use Rattle.journal.specs.declared.event.Event.{Event}
 use Rattle.journal.specs.declared.event.Event.TheVariants.{Accept, End, Close, Take, Decide}
-use Rattle.claim_terms.specs.Terms.{AreClaimsOf, IsTermsOf, TermsParts, claims_among}
 use Rattle.remit.specs.Decided.{decided_as, decision_at, position_from, position_of}
 use Rattle.remit.specs.Looked.{Noted, looked_up, outcome_in, positions_from, positions_of}
-use Rattle.remit.specs.Records.{line_of, record_of, records_of, told_of}
-use Rattle.remit.specs.Rows.{Deciding}
 use Rattle.remit.specs.declared.decisions.Decisions.{Decisions}
 
 -- the places of a provider among claims

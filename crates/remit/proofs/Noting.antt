@@ -1,6 +1,5 @@
 -- What a journal tells of claims, one event after another.
-use Rattle.std.proofs.Common.{inl, inr, ◌≡◌, ◌≢◌, ◌<◌, ◌≤◌, ◌+◌, ℕ, zero, suc, Bool, true, false, cond, ◌==◌, List, [], ◌∷◌, ◌++◌, flat_map, get_or, length, take, Option, Some, None, option_map, Bor, ap, sym, subst, ◌∙◌, refl, append-nil, zero-add, arith}
-use Rattle.std.specs.Global.{Vec}
+use Rattle.std.proofs.Common.{inl, inr, ◌≡◌, ◌<◌, ◌+◌, ℕ, suc, cond, ◌==◌, List, [], ◌∷◌, ◌++◌, flat_map, get_or, length, take, Option, Some, None, Bor, ap, sym, subst, ◌∙◌, refl, append-nil, zero-add, arith}
 use Rattle.std.specs.List.{slice_get}
 use Rattle.std.proofs.lemmas.Bool.{cases_Bool, cases_lt}
 use Rattle.std.proofs.lemmas.Grind.{flat_map-append}
@@ -8,7 +7,7 @@ use Rattle.std.proofs.lemmas.List.{get_or_append_left, get_or_push, length_push,
 use Rattle.settlement.specs.declared.outcome.Outcome.{Outcome}
 use Rattle.journal.specs.Events.{Filed, accept_in, accepted, accepts}
 use Rattle.journal.specs.declared.event.Event.{Event}
-use Rattle.journal.specs.declared.event.Event.TheVariants.{Accept, End, Close, Take, Decide}
+use Rattle.journal.specs.declared.event.Event.TheVariants.{Accept, Decide}
 use Rattle.remit.specs.Decided.{decision_at, decision_in}
 use Rattle.remit.specs.Looked.{Noted, NotesOutcome, NotesPosition, or_else, outcome_in, positions_from, positions_of}
 use Rattle.remit.specs.declared.decisions.Decisions.{Decisions}

@@ -1,12 +1,10 @@
 -- The whole report, and what a writer has got of it.
-use Rattle.std.proofs.Common.{inl, inr, ◌≡◌, ◌<◌, ◌≤◌, ◌+◌, ℕ, zero, suc, true, List, [], ◌∷◌, ◌++◌, length, length-append, map, take, Option, Some, None, Result, Ok, Err, ap, ap₂, sym, subst, ◌∙◌, refl, append_assoc, append-nil, arith}
-use Rattle.std.specs.Global.{Vec}
+use Rattle.std.proofs.Common.{◌≡◌, ◌<◌, ◌≤◌, ◌+◌, ℕ, zero, suc, true, List, [], ◌∷◌, ◌++◌, length, map, take, Option, Result, Ok, Err, ap, ap₂, sym, subst, ◌∙◌, refl, append_assoc, append-nil, arith}
 use Rattle.std.specs.Io.KnownBytes.{Appends}
 use Rattle.std.specs.List.{AllZip}
 use Rattle.std.specs.Result.{IfErr, OnOk}
 use Rattle.std.proofs.KnownBytes.{Appends-nil}
 use Rattle.std.proofs.lemmas.Grind.{flat_map-append}
-use Rattle.std.proofs.lemmas.List.{take-append-le}
 use Rattle.std.proofs.lemmas.List.Concat.{flat_map-cons}
 use Rattle.std.proofs.lemmas.Slice.Zip.{AllZip-long}
 use Rattle.dtable.specs.declared.table.InputData.{InputData}
@@ -17,7 +15,7 @@ use Rattle.journal.specs.Terms.{Terms}
 use Rattle.journal.specs.declared.event.Event.{Event}
 use Rattle.claim_terms.specs.Terms.{AreClaimsOf, IsTermsOf, TermsParts, claims_among}
 use Rattle.remit.specs.Decided.{decided_as}
-use Rattle.remit.specs.Held.{At, HasFront, Holds, IsReady, Writes, gathered_of}
+use Rattle.remit.specs.Held.{At, Holds, IsReady, Writes, gathered_of}
 use Rattle.remit.specs.Looked.{Noted, looked_up}
 use Rattle.remit.specs.Records.{header_fields, line_of, record_of, records_of, told_of, total_fields}
 use Rattle.remit.specs.Report.{IsReport, record_text, report_records, text_of}

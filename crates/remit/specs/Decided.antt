@@ -6,7 +6,7 @@ use Rattle.settlement.specs.declared.outcome.Verdict.{Verdict}
 use Rattle.settlement.specs.declared.outcome.Verdict.TheVariants.{Paid, Denied, Pended}
 use Rattle.journal.specs.Events.{Filed, accepts}
 use Rattle.journal.specs.declared.event.Event.{Event}
-use Rattle.journal.specs.declared.event.Event.TheVariants.{Accept, End, Close, Take, Decide}
+use Rattle.journal.specs.declared.event.Event.TheVariants.{Decide}
 
 -- the position of a provider's claim at a place among these, of which the first has the position that is given
 abbrev pub position_from : ℕ → List Filed → ℕ → ℕ → Option ℕ

@@ -1,5 +1,5 @@
 -- The rows of a file, as far as they are given one after another, and their text.
-use Rattle.std.specs.Prelude.{◌≡◌, ℕ, List, [], ◌++◌, map, Option, Result, Ok, Err}
+use Rattle.std.specs.Prelude.{◌≡◌, ℕ, List, ◌++◌, map, Option, Result, Ok, Err}
 use Rattle.std.specs.List.{AllZip}
 use Rattle.dtable.specs.declared.table.InputData.{InputData}
 use Rattle.settlement.specs.declared.outcome.Outcome.{Outcome}

@@ -1,6 +1,5 @@
-use Rattle.std.proofs.Common.{[], take}
+use Rattle.std.proofs.Common.{take}
 use Rattle.std.proofs.lemmas.List.{take_all}
-use Rattle.remit.specs.Looked.{Noted}
 use Rattle.remit.proofs.Noting.{noted-next-decision}
 use Rattle.remit.proofs.decisions.Decisions.note_decisions.Goals as goal
 

@@ -1,6 +1,6 @@
 use Rattle.std.proofs.Common.{◌≡◌, [], ◌∙◌, rules}
 use Rattle.std.proofs.lemmas.Result.{err_from_is_err_and}
-use Rattle.remit.specs.Held.{gathered_of, IsReady}
+use Rattle.remit.specs.Held.{gathered_of}
 use Rattle.remit.proofs.Holding.{handed, hand-refused, no-memory}
 use Rattle.remit.proofs.pieces.Pieces.hand_over.Goals as goal
 

@@ -3,7 +3,7 @@ use Rattle.std.proofs.lemmas.Result.{err_from_is_err_and}
 use Rattle.claim_terms.specs.Terms.{texts_of}
 use Rattle.remit.specs.Held.{at}
 use Rattle.remit.specs.Looked.{looked_up}
-use Rattle.remit.proofs.Filing.{files-done, files-next, files-none, files-refused}
+use Rattle.remit.proofs.Filing.{files-next, files-none, files-refused}
 use Rattle.remit.proofs.report.Report.write_files.Goals as goal
 
 pub loop-place-init : goal.loop-place-init
