@@ -8,3 +8,4 @@ pub mod Decisions
 pub mod Calls
 pub mod Replying
 pub mod Filing
+pub mod Sharing

@@ -3,4 +3,7 @@ pub mod Parts
 pub mod Kept
 pub mod Replies
 pub mod FaultNumber
+pub mod Shared
+pub mod Leading
+pub mod Locked
 pub mod Worked

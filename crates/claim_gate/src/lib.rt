@@ -12,10 +12,13 @@
 mod batch;
 mod counts;
 mod fault;
+mod gate;
 mod intakes;
 mod job;
+mod locked;
 mod offer;
 mod reply;
+mod serial;
 mod state;
 #[cfg(test)]
 mod tests;
@@ -24,8 +27,11 @@ pub use batch::Batch;
 pub use claim_terms::{Terms, TermsFault};
 pub use counts::Counts;
 pub use fault::{EndFault, FinishFault, OfferFault, TakeFault};
+pub use gate::Gate;
 pub use job::Job;
 pub use journal::{Decision, Event};
+pub use locked::LockedGate;
 pub use offer::Offer;
 pub use reply::{Accepted, Ended, Recorded, Taken};
+pub use serial::SerialGate;
 pub use state::GateState;

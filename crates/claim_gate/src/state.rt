@@ -283,7 +283,8 @@ impl<'t> GateState<'t> {
 
     /// Stops the gate: from now on each call answers so. The journal stays as it is.
     pub fn stop(&mut self)
-        ensures { self.new ≡ record self.old { stopped = true } }
+        ensures stopped { self.new ≡ record self.old { stopped = true } }
+        ensures lawful { ForTerms self.new.terms (λ T. Lawful T self.new.journal) }
     {
         self.stopped = true;
     }

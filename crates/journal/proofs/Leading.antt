@@ -1,23 +1,30 @@
 -- When one state of a gate leads to another.
-use Rattle.std.proofs.Common.{◌≡◌, ◌⊎◌, true, false, [], ◌++◌, refl, sym, ap, ◌∙◌, inl, inr, append_assoc, append-nil}
+use Rattle.std.proofs.Common.{◌≡◌, ◌⊎◌, true, false, List, [], ◌++◌, refl, sym, ap, ◌∙◌, inl, inr, append_assoc, append-nil}
 use Rattle.std.proofs.lemmas.Bool.{both_ways, cases_Bool}
 use Rattle.journal.specs.Gate.{GateAt, Continues, Leads}
+use Rattle.journal.specs.declared.event.Event.{Event}
 use Rattle.journal.proofs.Fronts.{compared, shorter, longer}
+
+pub continues_itself : (J : List Event) → Continues J J
+continues_itself J = record { rest = []; whole = sym (append-nil J) }
+
+pub continues_on : (J K L : List Event) → Continues J K → Continues K L → Continues J L
+continues_on J K L first second = record {
+  rest = first.rest ++ second.rest;
+  whole = second.whole ∙ ap (λ w. w ++ second.rest) first.whole ∙ append_assoc J first.rest second.rest;
+}
 
 pub leads_self : (g : GateAt) → Leads g g
 leads_self g = record {
   terms = refl;
-  journal = record { rest = []; whole = sym (append-nil g.journal) };
+  journal = continues_itself g.journal;
   stop = λ s. record { stays = s; journal = refl };
 }
 
 pub leads_on : (a b c : GateAt) → Leads a b → Leads b c → Leads a c
 leads_on a b c ab bc = record {
   terms = ab.terms ∙ bc.terms;
-  journal = record {
-    rest = ab.journal.rest ++ bc.journal.rest;
-    whole = bc.journal.whole ∙ ap (λ w. w ++ bc.journal.rest) ab.journal.whole ∙ append_assoc a.journal ab.journal.rest bc.journal.rest;
-  };
+  journal = continues_on a.journal b.journal c.journal ab.journal bc.journal;
   stop = λ s.
       let first = ab.stop s in
       let second = bc.stop first.stays in

@@ -1,0 +1,51 @@
+-- Calls of a gate behind a lock, by those of the gate of one thread.
+use Rattle.std.proofs.Common.{◌≡◌, ◌+◌, ℕ, true, Bool, ◌∷◌, [], ◌++◌, Result, Ok, Err, refl, sym, ap, ◌∙◌, subst}
+use Rattle.std.specs.Result.{OnOk, OnErr}
+use Rattle.claim_terms.specs.Terms.{TermsParts, IsTermsOf}
+use Rattle.settlement.specs.declared.acc.Acc.{Acc}
+use Rattle.settlement.specs.declared.claim.Claim.{Claim}
+use Rattle.journal.specs.Terms.{Terms}
+use Rattle.journal.specs.Events.{IsJob}
+use Rattle.journal.specs.Gate.{Leads}
+use Rattle.journal.specs.Laws.{JobsStay}
+use Rattle.journal.specs.declared.event.Event.{Event}
+use Rattle.claim_gate.specs.Leading.{leads_itself}
+use Rattle.claim_gate.specs.Parts.{GateParts, ForTerms, at}
+use Rattle.claim_gate.specs.Shared.{LeadsTo, IsLawful, Known, HadSection}
+
+-- what leads to another state as contracts see the two does so as journals see them
+pub leads_at : (T : Terms) (earlier later : GateParts) → LeadsTo earlier later → Leads (at T earlier) (at T later)
+leads_at T earlier later leads = record {
+  terms = refl;
+  journal = leads.journal;
+  stop = λ stopped.
+      let same : later ≡ earlier = leads.stop stopped in
+      record { stays = ap (λ gate. gate.stopped) same ∙ stopped; journal = ap (λ gate. gate.journal) same };
+}
+
+-- a job that the caller has seen is one in the state that is found
+pub job_stays :
+    JobsStay → (seen found : GateParts) (position : ℕ) (claim : Claim) (acc : Acc) → LeadsTo seen found
+    → ForTerms seen.terms (λ T. IsJob T seen.journal position claim acc) → ForTerms found.terms (λ T. IsJob T found.journal position claim acc)
+job_stays stay seen found position claim acc leads job =
+    λ T is. stay (at T seen) (at T found) position claim acc (leads_at T seen found leads) (job T (subst (λ terms. IsTermsOf terms T) leads.terms is))
+
+-- a call that puts an event behind the journal, or changes nothing, leads on
+pub recorded_leads :
+    {X Y : Type 0} (old new : GateParts) (event : Event) (reply : Result X Y) → new.terms ≡ old.terms
+    → OnOk reply (new ≡ record old { journal = old.journal ++ event ∷ [] }) → OnErr reply (new ≡ old) → (old.stopped ≡ true → new ≡ old) → LeadsTo old new
+recorded_leads old new event (Ok x) terms recorded refused stays =
+    record { terms = terms; journal = record { rest = event ∷ []; whole = ap (λ gate. gate.journal) recorded }; stop = stays }
+recorded_leads old new event (Err y) terms recorded refused stays = subst (λ gate. LeadsTo old gate) (sym refused) (leads_itself old)
+
+-- a section, from what it found and what it left
+pub had_section :
+    (before after : Known) (found left : GateParts) → after.found ≡ found → after.seen ≡ left → LeadsTo before.seen found → IsLawful found
+    → LeadsTo found left → IsLawful left → after.tally ≡ before.tally + 1 → HadSection before after
+had_section before after found left found_is left_is fresh found_lawful grown left_lawful tally = record {
+  fresh = subst (λ gate. LeadsTo before.seen gate) (sym found_is) fresh;
+  found_lawful = subst IsLawful (sym found_is) found_lawful;
+  grown = subst (λ gate. LeadsTo gate after.seen) (sym found_is) (subst (λ gate. LeadsTo found gate) (sym left_is) grown);
+  left_lawful = subst IsLawful (sym left_is) left_lawful;
+  tally = tally;
+}

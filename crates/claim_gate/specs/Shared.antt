@@ -1,0 +1,36 @@
+-- A gate that several callers share: what one of them knows of it, and what a call tells.
+use Rattle.std.specs.Prelude.{◌≡◌, ◌+◌, ℕ, true}
+use Rattle.journal.specs.Terms.{Terms}
+use Rattle.journal.specs.Gate.{GateAt, Continues}
+use Rattle.journal.specs.Lawful.{Lawful}
+use Rattle.claim_gate.specs.Parts.{GateParts, ForTerms, at}
+
+-- the later state of a gate may come behind the earlier one: the same terms, a journal that goes on, and nothing after a stop
+pub record LeadsTo (earlier later : GateParts) : Type 0 where
+  pub terms : later.terms ≡ earlier.terms
+  pub journal : Continues earlier.journal later.journal
+  pub stop : earlier.stopped ≡ true → later ≡ earlier
+
+-- its journal is lawful
+abbrev pub IsLawful : GateParts → Type 0
+IsLawful gate = ForTerms gate.terms (λ T. Lawful T gate.journal)
+
+-- what a caller knows of the gate by its pass: the state that it has seen last, the state that its last section found,
+-- and how many sections it has ended
+pub record Known : Type 0 where
+  pub seen : GateParts
+  pub found : GateParts
+  pub tally : ℕ
+
+-- the pass has had one section: it found a lawful state, which may come behind what the pass had seen, and left a lawful one,
+-- which the pass has seen now
+pub record HadSection (before after : Known) : Type 0 where
+  pub fresh : LeadsTo before.seen after.found
+  pub found_lawful : IsLawful after.found
+  pub grown : LeadsTo after.found after.seen
+  pub left_lawful : IsLawful after.seen
+  pub tally : after.tally ≡ before.tally + 1
+
+-- the section's state, from the one found to the one left, went as a call of the gate of one thread goes
+abbrev pub Went : (GateAt → GateAt → Type 0) → Known → Type 0
+Went Goes known = ForTerms known.found.terms (λ T. Goes (at T known.found) (at T known.seen))

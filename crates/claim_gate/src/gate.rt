@@ -1,0 +1,132 @@
+//! A gate that several callers share, each with a pass of its own.
+
+use crate::counts::Counts;
+use crate::fault::{EndFault, FinishFault, OfferFault, TakeFault};
+use crate::job::Job;
+use crate::offer::Offer;
+use crate::reply::{Accepted, Ended, Recorded, Taken};
+use settlement::Outcome;
+use std::sync::Wait;
+use turn_lock::Worn;
+
+/// A gate that several callers share. Each call ends exactly one section of the caller's pass, in which it is the call of the
+/// gate of one thread; `Worn`, where the lock has no ticket left, has changed nothing, and comes before all other answers.
+///
+/// The pass comes back from each call, and knows what it had seen before. Calls may wait, and their promises hold where they
+/// return.
+pub trait Gate {
+    ghost use Rattle.std.specs.Prelude.{◌≡◌, true, IfOk, IfErr, IsErr};
+    ghost use Rattle.journal.specs.Events.{taken, IsJob};
+    ghost use Rattle.journal.specs.Gate.{Offers, Ends, Takes, Finishes, Stops, Counts as AreCounts};
+    ghost use Rattle.journal.specs.Settled.{outcome_of};
+    ghost use Rattle.claim_gate.specs.Parts.{ForTerms, at};
+    ghost use Rattle.claim_gate.specs.Replies.{offer_reply, end_reply, take_reply, finish_reply, IsFiled, HasClaims};
+    ghost use Rattle.claim_gate.specs.Shared.{Known, HadSection, Went};
+
+    type Pass: Send + Drop;
+
+    // The pass is one of this gate.
+    ghost has_pass: { Self → Self.Pass → Type 0 };
+
+    // What its caller knows.
+    ghost known: { Self.Pass → Known };
+
+    // The pass has seen that no ticket is left.
+    ghost is_worn: { Self.Pass → Type 0 };
+
+    /// A second pass that knows what the first does.
+    fn split(&self, pass: Self::Pass) -> (Self::Pass, Self::Pass)
+        requires { has_pass self.now pass }
+        ensures own { has_pass self.now result.0 × has_pass self.now result.1 }
+        ensures known { (known result.0 ≡ known pass) × (known result.1 ≡ known pass) }
+        ensures worn { is_worn pass → is_worn result.0 × is_worn result.1 };
+
+    /// Offers a claim: it is accepted where it is its provider's next. The offer comes back where it is refused.
+    fn offer<R: Wait>(
+        &self,
+        rt: &R,
+        pass: Self::Pass,
+        offer: Offer,
+    ) -> Result<(Result<Accepted, (OfferFault, Offer)>, Self::Pass), (Worn, Self::Pass, Offer)>
+        requires own { has_pass self.now pass }
+        requires filed { ForTerms (known pass).seen.terms (λ T. IsFiled T offer) }
+        ensures own { IfOk result (λ r. has_pass self.now r.1) }
+        ensures section { IfOk result (λ r. HadSection (known pass) (known r.1)) }
+        ensures reply { IfOk result (λ r. Went (λ old new. Offers old offer.provider offer.place (offer_reply r.0) new) (known r.1)) }
+        ensures back { IfOk result (λ r. IfErr r.0 (λ refused. refused.1 ≡ offer)) }
+        ensures worn { IfErr result (λ e. is_worn e.1 × has_pass self.now e.1 × (known e.1 ≡ known pass) × (e.2 ≡ offer)) }
+        ensures late { is_worn pass → IsErr result };
+
+    /// Ends a provider whose claims, so many, are all accepted.
+    fn end<R: Wait>(
+        &self,
+        rt: &R,
+        pass: Self::Pass,
+        provider: usize,
+        count: usize,
+    ) -> Result<(Result<Ended, EndFault>, Self::Pass), (Worn, Self::Pass)>
+        requires own { has_pass self.now pass }
+        requires claims { ForTerms (known pass).seen.terms (λ T. HasClaims T provider count) }
+        ensures own { IfOk result (λ r. has_pass self.now r.1) }
+        ensures section { IfOk result (λ r. HadSection (known pass) (known r.1)) }
+        ensures reply { IfOk result (λ r. Went (λ old new. Ends old provider count (end_reply r.0) new) (known r.1)) }
+        ensures worn { IfErr result (λ e. is_worn e.1 × has_pass self.now e.1 × (known e.1 ≡ known pass)) }
+        ensures late { is_worn pass → IsErr result };
+
+    /// Takes a claim whose member's earlier claims are all decided.
+    fn take<R: Wait>(
+        &self,
+        rt: &R,
+        pass: Self::Pass,
+    ) -> Result<(Result<Taken, TakeFault>, Self::Pass), (Worn, Self::Pass)>
+        requires { has_pass self.now pass }
+        ensures own { IfOk result (λ r. has_pass self.now r.1) }
+        ensures section { IfOk result (λ r. HadSection (known pass) (known r.1)) }
+        ensures reply { IfOk result (λ r. Went (λ old new. Takes old (take_reply r.0) new) (known r.1)) }
+        ensures worn { IfErr result (λ e. is_worn e.1 × has_pass self.now e.1 × (known e.1 ≡ known pass)) }
+        ensures late { is_worn pass → IsErr result };
+
+    /// Records the outcome of a job. Both come back where it is refused.
+    fn finish<R: Wait>(
+        &self,
+        rt: &R,
+        pass: Self::Pass,
+        job: Job,
+        outcome: Outcome,
+    ) -> Result<
+        (Result<Recorded, (FinishFault, Job, Outcome)>, Self::Pass),
+        (Worn, Self::Pass, Job, Outcome),
+    >
+        requires own { has_pass self.now pass }
+        requires in_work { taken (known pass).seen.journal job.position ≡ true }
+        requires job { ForTerms (known pass).seen.terms (λ T. IsJob T (known pass).seen.journal job.position job.claim job.acc) }
+        requires settled { outcome ≡ outcome_of (known pass).seen.terms.plan job.claim job.acc }
+        ensures own { IfOk result (λ r. has_pass self.now r.1) }
+        ensures section { IfOk result (λ r. HadSection (known pass) (known r.1)) }
+        ensures reply { IfOk result (λ r. Went (λ old new. Finishes old job.position outcome (finish_reply r.0) new) (known r.1)) }
+        ensures back { IfOk result (λ r. IfErr r.0 (λ refused. (refused.1 ≡ job) × (refused.2 ≡ outcome))) }
+        ensures worn { IfErr result (λ e. is_worn e.1 × has_pass self.now e.1 × (known e.1 ≡ known pass) × (e.2 ≡ job) × (e.3 ≡ outcome)) }
+        ensures late { is_worn pass → IsErr result };
+
+    /// Stops the gate: from then on each call answers so. The journal stays as it is.
+    fn stop<R: Wait>(&self, rt: &R, pass: Self::Pass) -> Result<Self::Pass, (Worn, Self::Pass)>
+        requires { has_pass self.now pass }
+        ensures own { IfOk result (λ p. has_pass self.now p) }
+        ensures section { IfOk result (λ p. HadSection (known pass) (known p)) }
+        ensures stopped { IfOk result (λ p. Went Stops (known p)) }
+        ensures worn { IfErr result (λ e. is_worn e.1 × has_pass self.now e.1 × (known e.1 ≡ known pass)) }
+        ensures late { is_worn pass → IsErr result };
+
+    /// How far the gate is.
+    fn counts<R: Wait>(
+        &self,
+        rt: &R,
+        pass: Self::Pass,
+    ) -> Result<(Counts, Self::Pass), (Worn, Self::Pass)>
+        requires { has_pass self.now pass }
+        ensures own { IfOk result (λ r. has_pass self.now r.1) }
+        ensures section { IfOk result (λ r. HadSection (known pass) (known r.1)) }
+        ensures reply { IfOk result (λ r. Went (λ old new. (new ≡ old) × AreCounts old r.0.accepted r.0.ended r.0.decided r.0.closed r.0.stopped) (known r.1)) }
+        ensures worn { IfErr result (λ e. is_worn e.1 × has_pass self.now e.1 × (known e.1 ≡ known pass)) }
+        ensures late { is_worn pass → IsErr result };
+}

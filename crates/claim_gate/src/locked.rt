@@ -1,0 +1,163 @@
+//! The gate behind a lock.
+ghost use Rattle.std.specs.Prelude.{◌≡◌, IfOk, IfErr};
+ghost use Rattle.claim_gate.specs.Shared.{IsLawful, LeadsTo};
+ghost use Rattle.claim_gate.specs.Locked.{lock_of};
+
+use crate::counts::Counts;
+use crate::fault::{EndFault, FinishFault, OfferFault, TakeFault};
+use crate::gate::Gate;
+use crate::job::Job;
+use crate::offer::Offer;
+use crate::reply::{Accepted, Ended, Recorded, Taken};
+use crate::serial::SerialGate;
+use journal::jobs_stay;
+use settlement::Outcome;
+use std::sync::Wait;
+use turn_lock::{Section, Worn};
+
+/// A gate of one thread behind a lock. Its passes are the lock's, and each call is one section.
+#[derive(Drop)]
+pub struct LockedGate<S: Section> {
+    lock: S,
+}
+
+impl<S: Section> LockedGate<S>
+where
+    S::Value: SerialGate,
+{
+    /// The gate over a lock. Its passes are the lock's.
+    pub fn over(lock: S) -> LockedGate<S>
+        ensures { lock_of result ≡ lock }
+    {
+        LockedGate { lock }
+    }
+
+    /// Takes the gate of one thread out of the lock: no later call of any pass is answered.
+    pub fn retire<R: Wait>(&self, rt: &R, pass: S::Pass) -> Result<S::Value, (Worn, S::Pass)>
+        requires { S.has_pass (lock_of self.now) pass }
+        ensures fresh { IfOk result (λ gate. LeadsTo (S.Value.shown (S.seen pass)) (S.Value.shown gate)) }
+        ensures lawful { IfOk result (λ gate. IsLawful (S.Value.shown gate)) }
+        ensures worn { IfErr result (λ e. S.is_worn e.1 × S.has_pass (lock_of self.now) e.1 × (S.seen e.1 ≡ S.seen pass)) }
+    {
+        match self.lock.lock(rt, pass) {
+            Ok((state, holder)) => {
+                let _lawful = state.journal();
+                Ok(self.lock.retire(holder, state))
+            }
+            Err(worn) => Err(worn),
+        }
+    }
+}
+
+impl<S: Section> Gate for LockedGate<S>
+where
+    S::Value: SerialGate,
+    S::Pass: Send + Drop,
+{
+    type Pass = S::Pass;
+
+    ghost has_pass = { λ gate pass. S.has_pass gate.lock pass };
+
+    ghost known = { λ pass. record { seen = S.Value.shown (S.seen pass); found = S.Value.shown (S.last_found pass); tally = S.tally pass } };
+
+    ghost is_worn = { λ pass. S.is_worn pass };
+
+    fn split(&self, pass: S::Pass) -> (S::Pass, S::Pass) {
+        self.lock.split(pass)
+    }
+
+    fn offer<R: Wait>(
+        &self,
+        rt: &R,
+        pass: S::Pass,
+        offer: Offer,
+    ) -> Result<(Result<Accepted, (OfferFault, Offer)>, S::Pass), (Worn, S::Pass, Offer)> {
+        match self.lock.lock(rt, pass) {
+            Ok((mut state, holder)) => {
+                let _lawful = state.journal();
+                let reply = state.offer(offer);
+                Ok((reply, self.lock.leave(holder, state)))
+            }
+            Err((worn, pass)) => Err((worn, pass, offer)),
+        }
+    }
+
+    fn end<R: Wait>(
+        &self,
+        rt: &R,
+        pass: S::Pass,
+        provider: usize,
+        count: usize,
+    ) -> Result<(Result<Ended, EndFault>, S::Pass), (Worn, S::Pass)> {
+        match self.lock.lock(rt, pass) {
+            Ok((mut state, holder)) => {
+                let _lawful = state.journal();
+                let reply = state.end(provider, count);
+                Ok((reply, self.lock.leave(holder, state)))
+            }
+            Err(worn) => Err(worn),
+        }
+    }
+
+    fn take<R: Wait>(
+        &self,
+        rt: &R,
+        pass: S::Pass,
+    ) -> Result<(Result<Taken, TakeFault>, S::Pass), (Worn, S::Pass)> {
+        match self.lock.lock(rt, pass) {
+            Ok((mut state, holder)) => {
+                let _lawful = state.journal();
+                let reply = state.take();
+                Ok((reply, self.lock.leave(holder, state)))
+            }
+            Err(worn) => Err(worn),
+        }
+    }
+
+    fn finish<R: Wait>(
+        &self,
+        rt: &R,
+        pass: S::Pass,
+        job: Job,
+        outcome: Outcome,
+    ) -> Result<
+        (Result<Recorded, (FinishFault, Job, Outcome)>, S::Pass),
+        (Worn, S::Pass, Job, Outcome),
+    > {
+        jobs_stay();
+        match self.lock.lock(rt, pass) {
+            Ok((mut state, holder)) => {
+                let _lawful = state.journal();
+                let reply = state.finish(job, outcome);
+                Ok((reply, self.lock.leave(holder, state)))
+            }
+            Err((worn, pass)) => Err((worn, pass, job, outcome)),
+        }
+    }
+
+    fn stop<R: Wait>(&self, rt: &R, pass: S::Pass) -> Result<S::Pass, (Worn, S::Pass)> {
+        match self.lock.lock(rt, pass) {
+            Ok((mut state, holder)) => {
+                let _lawful = state.journal();
+                state.stop();
+                Ok(self.lock.leave(holder, state))
+            }
+            Err(worn) => Err(worn),
+        }
+    }
+
+    fn counts<R: Wait>(
+        &self,
+        rt: &R,
+        pass: S::Pass,
+    ) -> Result<(Counts, S::Pass), (Worn, S::Pass)> {
+        match self.lock.lock(rt, pass) {
+            Ok((state, holder)) => {
+                let _lawful = state.journal();
+                let counts = state.counts();
+                Ok((counts, self.lock.leave(holder, state)))
+            }
+            Err(worn) => Err(worn),
+        }
+    }
+}

@@ -1,0 +1,129 @@
+//! The calls of a gate of one thread, for whoever keeps such a gate behind a lock.
+
+use crate::counts::Counts;
+use crate::fault::{EndFault, FinishFault, OfferFault, TakeFault};
+use crate::job::Job;
+use crate::offer::Offer;
+use crate::reply::{Accepted, Ended, Recorded, Taken};
+use crate::state::GateState;
+use journal::Event;
+use settlement::Outcome;
+use turn_lock::Growing;
+
+impl<'t> Growing for GateState<'t> {
+    ghost use Rattle.claim_gate.specs.Shared.{LeadsTo};
+    ghost use Rattle.claim_gate.specs.Leading.{leads_itself, leads_further};
+
+    ghost leads = { LeadsTo };
+
+    ghost reflexive = { leads_itself };
+
+    ghost transitive = { leads_further };
+}
+
+/// A gate of one thread. `GateState` is one; a lock's code names the calls alone, since a value that borrows its terms can't
+/// be named there.
+pub trait SerialGate: Growing {
+    ghost use Rattle.std.specs.Prelude.{◌≡◌, true, IfErr};
+    ghost use Rattle.journal.specs.Terms.{Terms as AnyTerms};
+    ghost use Rattle.journal.specs.Events.{taken, IsJob};
+    ghost use Rattle.journal.specs.Gate.{Offers, Ends, Takes, Finishes, Counts as AreCounts};
+    ghost use Rattle.journal.specs.Settled.{outcome_of};
+    ghost use Rattle.claim_gate.specs.Parts.{GateParts, ForTerms, at};
+    ghost use Rattle.claim_gate.specs.Replies.{offer_reply, end_reply, take_reply, finish_reply, IsFiled, HasClaims};
+    ghost use Rattle.claim_gate.specs.Shared.{IsLawful, LeadsTo};
+
+    // Its terms, its journal, and whether it is stopped.
+    ghost shown: { Self → GateParts };
+
+    /// The journal.
+    fn journal(&self) -> &[Event]
+        ensures journal { result.now ≡ (shown self.now).journal }
+        ensures lawful { IsLawful (shown self.now) };
+
+    /// `GateState::offer`.
+    fn offer(&mut self, offer: Offer) -> Result<Accepted, (OfferFault, Offer)>
+        requires { ForTerms (shown self.old).terms (λ T. IsFiled T offer) }
+        ensures grown { Self.leads self.old self.new }
+        ensures reply { ForTerms (shown self.old).terms (λ T. Offers (at T (shown self.old)) offer.provider offer.place (offer_reply result) (at T (shown self.new))) }
+        ensures lawful { IsLawful (shown self.new) }
+        ensures back { IfErr result (λ refused. refused.1 ≡ offer) };
+
+    /// `GateState::end`.
+    fn end(&mut self, provider: usize, count: usize) -> Result<Ended, EndFault>
+        requires { ForTerms (shown self.old).terms (λ T. HasClaims T provider count) }
+        ensures grown { Self.leads self.old self.new }
+        ensures reply { ForTerms (shown self.old).terms (λ T. Ends (at T (shown self.old)) provider count (end_reply result) (at T (shown self.new))) }
+        ensures lawful { IsLawful (shown self.new) };
+
+    /// `GateState::take`.
+    fn take(&mut self) -> Result<Taken, TakeFault>
+        ensures grown { Self.leads self.old self.new }
+        ensures reply { ForTerms (shown self.old).terms (λ T. Takes (at T (shown self.old)) (take_reply result) (at T (shown self.new))) }
+        ensures lawful { IsLawful (shown self.new) };
+
+    /// `GateState::finish`.
+    fn finish(
+        &mut self,
+        job: Job,
+        outcome: Outcome,
+    ) -> Result<Recorded, (FinishFault, Job, Outcome)>
+        requires in_work { taken (shown self.old).journal job.position ≡ true }
+        requires job { ForTerms (shown self.old).terms (λ T. IsJob T (shown self.old).journal job.position job.claim job.acc) }
+        requires settled { outcome ≡ outcome_of (shown self.old).terms.plan job.claim job.acc }
+        ensures grown { Self.leads self.old self.new }
+        ensures reply { ForTerms (shown self.old).terms (λ T. Finishes (at T (shown self.old)) job.position outcome (finish_reply result) (at T (shown self.new))) }
+        ensures lawful { IsLawful (shown self.new) }
+        ensures back { IfErr result (λ refused. (refused.1 ≡ job) × (refused.2 ≡ outcome)) };
+
+    /// `GateState::stop`.
+    fn stop(&mut self)
+        ensures grown { Self.leads self.old self.new }
+        ensures stopped { shown self.new ≡ record (shown self.old) { stopped = true } }
+        ensures lawful { IsLawful (shown self.new) };
+
+    /// `GateState::counts`.
+    fn counts(&self) -> Counts
+        ensures { (T : AnyTerms) → AreCounts (at T (shown self.now)) result.accepted result.ended result.decided result.closed result.stopped };
+
+    // What leads to another state does so as contracts see the two.
+    ghost shows: { (earlier later : Self) → Self.leads earlier later → LeadsTo (shown earlier) (shown later) };
+}
+
+impl<'t> SerialGate for GateState<'t> {
+    ghost shown = { λ gate. gate };
+
+    ghost shows = { λ earlier later leads. leads };
+
+    fn journal(&self) -> &[Event] {
+        self.journal()
+    }
+
+    fn offer(&mut self, offer: Offer) -> Result<Accepted, (OfferFault, Offer)> {
+        self.offer(offer)
+    }
+
+    fn end(&mut self, provider: usize, count: usize) -> Result<Ended, EndFault> {
+        self.end(provider, count)
+    }
+
+    fn take(&mut self) -> Result<Taken, TakeFault> {
+        self.take()
+    }
+
+    fn finish(
+        &mut self,
+        job: Job,
+        outcome: Outcome,
+    ) -> Result<Recorded, (FinishFault, Job, Outcome)> {
+        self.finish(job, outcome)
+    }
+
+    fn stop(&mut self) {
+        self.stop();
+    }
+
+    fn counts(&self) -> Counts {
+        self.counts()
+    }
+}
