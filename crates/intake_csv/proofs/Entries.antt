@@ -2,15 +2,14 @@
 use Rattle.std.proofs.Common.{inl, inr, ◌≡◌, ◌<◌, ◌≤◌, ◌+◌, ◌-◌, ℕ, suc, zero, true, false, List, [], ◌∷◌, ◌++◌, length, map, take, drop, get_or, Option, Some, None, cond, refl, sym, ap, ◌∙◌, arith}
 use Rattle.std.specs.List.{AllZip, Any, slice_get}
 use Rattle.std.specs.Map.{lookup}
-use Rattle.std.specs.Option.{is_some, option_map, unwrap_or}
+use Rattle.std.specs.Option.{is_some, unwrap_or}
 use Rattle.std.specs.BTreeMap.{get_by_text}
-use Rattle.std.proofs.lemmas.List.{length-drop, length-map, take_all}
+use Rattle.std.proofs.lemmas.List.{append-nil, length-map, take-append-drop}
 use Rattle.std.proofs.lemmas.List.Quantifiers.{all_pairs_push}
-use Rattle.std.proofs.lemmas.Option.{slice_get-get_or, slice_get-map}
+use Rattle.std.proofs.lemmas.Option.{slice_get-get_or}
 use Rattle.std.specs.Str.{bytes_eq}
 use Rattle.std.proofs.lemmas.Bool.{cases_Bool, false≢true}
 use Rattle.std.proofs.lemmas.Slice.Eq.{bytes_eq-Decides}
-use Rattle.csv.specs.Records.{Row as CsvRow, fields_of}
 use Rattle.settlement.specs.declared.acc.Acc.{Acc}
 use Rattle.settlement.specs.Claim.{nothing_yet}
 use Rattle.intake_csv.specs.Records.{Fields}
@@ -22,7 +21,7 @@ use Rattle.intake_csv.specs.declared.column.Column.{Column}
 use Rattle.intake_csv.specs.declared.column.Content.TheVariants.{Identifier, Money}
 use Rattle.intake_csv.specs.declared.fault.RowFault.{RowFault}
 use Rattle.intake_csv.specs.declared.fault.RowCause.TheVariants.{Repeated}
-use Rattle.intake_csv.proofs.Lists.{AllZip-grow}
+use Rattle.intake_csv.proofs.Lists.{AllZip-grow, drop-after, next-at}
 
 -- bytes that are the same compare so, either way round
 bytes-turned : (a b : List ℕ) → bytes_eq a b ≡ bytes_eq b a
@@ -70,90 +69,55 @@ lookup-more (e ∷ es) m acc q none = elim (cases_Bool (bytes_eq m e.0)) [
   ]
 ]
 
--- the records read so far, with one more
-pub take-record : (rest : List CsvRow) (k : ℕ) (d : CsvRow) → k < length rest
-    → take (k + 1) (map fields_of rest) ≡ take k (map fields_of rest) ++ fields_of (get_or rest k d) ∷ []
-take-record [] k d within = absurd (omega (arith, within))
-take-record (r ∷ rs) zero d within = refl
-take-record (r ∷ rs) (suc k) d within =
-    let after : suc k + 1 ≡ suc (k + 1) = omega arith in
-    rw after (ap (λ xs. fields_of r ∷ xs) (take-record rs k d (omega (arith, within))))
-
--- the records in front of this number hold entries, which the balances have
-pub record ReadBefore (layout : Layout) (records : List Fields) (number : ℕ) (balances : Balances) : Type 0 where
+-- these many records behind the header hold entries, which the balances have
+pub record ReadBefore (layout : Layout) (records : List Fields) (count : ℕ) (balances : Balances) : Type 0 where
   pub entries : List Entry
-  pub each : AllZip (IsEntry layout) (take (number - 1) records) entries
+  pub each : AllZip (IsEntry layout) (take count records) entries
   pub holds : HoldsEntries entries balances
 
--- none are in front of the first
-pub read-none : (layout : Layout) (records : List Fields) (balances : Balances) → balances.accounts.entries ≡ [] → ReadBefore layout records 1 balances
-read-none layout records balances empty = record {
-  entries = [];
-  each = tt;
-  holds = record { distinct = λ i j d before within. absurd (omega (arith, within)); found = λ member. rw empty refl };
-}
-
--- the record of a number
-pub numbered-record : (items : List CsvRow) (n : ℕ) (r : CsvRow) → 1 ≤ n → n < length items → r ≡ get_or items n r
-    → (take (n + 1 - 1) (map fields_of (drop 1 items)) ≡ take (n - 1) (map fields_of (drop 1 items)) ++ fields_of r ∷ [])
-    × (slice_get (map fields_of (drop 1 items)) (n - 1) ≡ Some (fields_of r))
-numbered-record [] n r above within is = absurd (omega (arith, within))
-numbered-record (h ∷ rest) zero r above within is = absurd (omega (arith, above))
-numbered-record (h ∷ rest) (suc k) r above within is =
-    let inside : k < length rest = omega (arith, within) in
-    let same : r ≡ get_or rest k r = is in
-    let after : suc k + 1 - 1 ≡ k + 1 = omega arith in
-    let before : suc k - 1 ≡ k = omega arith in
-    let taken = take-record rest k r inside in
-    let there : slice_get rest k ≡ Some (get_or rest k r) = slice_get-get_or rest k r inside in
-    rw (after, before) (rw (← same) at taken, slice_get-map fields_of rest k ∙ ap (option_map fields_of) (rw (← same) at there))
-
 -- one record more holds an entry
-pub read-next : (layout : Layout) (items : List CsvRow) (n : ℕ) (r : CsvRow) (old new : Balances) → 1 ≤ n → n < length items → r ≡ get_or items n r
-    → ReadBefore layout (map fields_of (drop 1 items)) n old
-    → ((front : List Entry) → HoldsEntries front old → (entry : Entry) × IsEntry layout (fields_of r) entry × HoldsEntries (front ++ entry ∷ []) new)
-    → ReadBefore layout (map fields_of (drop 1 items)) (n + 1) new
-read-next layout items n r old new above within is before step =
+pub read-next : (layout : Layout) (all : List Fields) (count : ℕ) (fields : Fields) (more : List Fields) (old new : Balances) → drop (count + 1) all ≡ fields ∷ more
+    → ReadBefore layout (drop 1 all) count old
+    → ((front : List Entry) → HoldsEntries front old → (entry : Entry) × IsEntry layout fields entry × HoldsEntries (front ++ entry ∷ []) new)
+    → ReadBefore layout (drop 1 all) (count + 1) new
+read-next layout all count fields more old new next before step =
     let (entry, read, holds) = step before.entries before.holds in
-    let taken = (numbered-record items n r above within is).0 in
+    let taken = (next-at all count fields more next).1 in
     record {
       entries = before.entries ++ entry ∷ [];
-      each = rw taken (AllZip-grow (IsEntry layout) (take (n - 1) (map fields_of (drop 1 items))) before.entries (fields_of r) entry before.each read);
+      each = rw taken (AllZip-grow (IsEntry layout) (take count (drop 1 all)) before.entries fields entry before.each read);
       holds = holds;
     }
 
 -- one record more is refused
-pub refused-next : (text : List ℕ) (layout : Layout) (items : List CsvRow) (n : ℕ) (r : CsvRow) (balances : Balances) (fault : RowFault)
-    → IsSheet balance_columns text layout (map fields_of (drop 1 items)) → 1 ≤ n → n < length items → r ≡ get_or items n r
-    → ReadBefore layout (map fields_of (drop 1 items)) n balances
-    → ((front : List Entry) → HoldsEntries front balances → IsRecordFault layout front (fields_of r) fault)
-    → RefusesRecord text n fault
-refused-next text layout items n r balances fault sheet above within is before reason = record {
-  layout = layout;
-  records = map fields_of (drop 1 items);
-  sheet = sheet;
-  front = before.entries;
-  read = record { each = before.each; distinct = before.holds.distinct };
-  fields = fields_of r;
-  numbered = above;
-  refused = (numbered-record items n r above within is).1;
-  reason = reason before.entries before.holds;
-}
-
--- all records hold entries
-pub read-all : (text : List ℕ) (layout : Layout) (items : List CsvRow) (n : ℕ) (balances : Balances)
-    → IsSheet balance_columns text layout (map fields_of (drop 1 items)) → length items ≤ n
-    → ReadBefore layout (map fields_of (drop 1 items)) n balances → AreBalances text balances
-read-all text layout items n balances sheet past before =
-    let size = length-map (drop 1 items) fields_of in
-    let left = length-drop 1 items in
-    let all = take_all (n - 1) (map fields_of (drop 1 items)) (omega (arith, size, left, past)) in
+pub refused-next : (text : List ℕ) (layout : Layout) (all : List Fields) (count : ℕ) (fields : Fields) (more : List Fields) (balances : Balances) (fault : RowFault)
+    → IsSheet balance_columns text layout (drop 1 all) → drop (count + 1) all ≡ fields ∷ more → ReadBefore layout (drop 1 all) count balances
+    → ((front : List Entry) → HoldsEntries front balances → IsRecordFault layout front fields fault) → RefusesRecord text (count + 1) fault
+refused-next text layout all count fields more balances fault sheet next before reason =
+    let back : count + 1 - 1 ≡ count = omega arith in
     record {
       layout = layout;
-      records = map fields_of (drop 1 items);
+      records = drop 1 all;
+      sheet = sheet;
+      front = before.entries;
+      read = record { each = rw back before.each; distinct = before.holds.distinct };
+      fields = fields;
+      numbered = omega arith;
+      refused = rw back (next-at all count fields more next).0;
+      reason = reason before.entries before.holds;
+    }
+
+-- all records hold entries
+pub read-all : (text : List ℕ) (layout : Layout) (all : List Fields) (count : ℕ) (balances : Balances) → IsSheet balance_columns text layout (drop 1 all)
+    → drop (count + 1) all ≡ [] → ReadBefore layout (drop 1 all) count balances → AreBalances text balances
+read-all text layout all count balances sheet over before =
+    let taken = rw append-nil at (sym (ap (λ rest. take count (drop 1 all) ++ rest) (sym (drop-after all count) ∙ over)) ∙ take-append-drop count (drop 1 all)) in
+    record {
+      layout = layout;
+      records = drop 1 all;
       entries = before.entries;
       sheet = sheet;
-      read = record { each = rw all at before.each; distinct = before.holds.distinct };
+      read = record { each = rw (← taken) before.each; distinct = before.holds.distinct };
       given = λ member. ap (λ found. unwrap_or found nothing_yet) (before.holds.found member);
     }
 

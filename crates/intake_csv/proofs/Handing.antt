@@ -1,10 +1,8 @@
 -- Rows that are handed out one after another.
-use Rattle.std.proofs.Common.{◌≡◌, ◌<◌, ◌≤◌, ◌+◌, ℕ, suc, Bool, false, List, [], ◌∷◌, ◌++◌, length, map, drop, get_or, Some, cond, refl, sym, ap, ◌∙◌, arith}
+use Rattle.std.proofs.Common.{◌≡◌, ◌<◌, ◌≤◌, ◌+◌, ℕ, suc, Bool, false, List, [], ◌∷◌, ◌++◌, length, drop, Some, cond, refl, sym, ap, ◌∙◌, arith}
 use Rattle.std.specs.List.{count_by, slice_get}
-use Rattle.std.proofs.lemmas.List.{drop_more, drop_all}
 use Rattle.std.proofs.lemmas.List.Sums.{sum_by-cons}
-use Rattle.csv.specs.Records.{Row as CsvRow, fields_of}
-use Rattle.intake_csv.specs.Records.{Fields}
+use Rattle.intake_csv.specs.Records.{Fields, records_of}
 use Rattle.intake_csv.specs.Rows.{AreRows, AreRowsLeft, GivesRow, IsRow, RowsLeft, claims_in, is_claim}
 use Rattle.intake_csv.specs.declared.column.Layout.{Layout}
 use Rattle.intake_csv.specs.declared.rows.Row.{Row}
@@ -18,10 +16,6 @@ count-row (Bad number fault) rows = sum_by-cons (λ x. cond (is_claim x) 1 0) (B
 -- the claims in front of the rows behind a row
 pub count-more : (row : Row) (rows : List Row) (old new : ℕ) → new ≡ old + claims_in row → new + count_by is_claim rows ≡ old + count_by is_claim (row ∷ rows)
 count-more row rows old new e = let counted = count-row row rows in omega (arith, e, counted)
-
--- no rows of no records
-pub no-rows : (layout : Layout) (number place : ℕ) → AreRows layout number place [] []
-no-rows layout number place = record { as_many = refl; each = λ before after row fields e at. absurd (cc at) }
 
 -- the row that is given stands in front of those that are left
 pub rows-head : (old new : RowsLeft) (row : Row) → GivesRow old new row → (rest : List Row) → AreRowsLeft new rest → AreRowsLeft old (row ∷ rest)
@@ -46,23 +40,19 @@ rows-head old new row g rest h = record { as_many = ap suc h.as_many ∙ sym (ap
         rw (g.layout, more, counted) at step
 
 -- a reader over these records of a file
-abbrev pub left_of : Layout → ℕ → ℕ → List CsvRow → Bool → RowsLeft
-left_of layout number place items failed = record { layout = layout; number = number; place = place; records = map fields_of (drop number items); failed = failed }
+abbrev pub left_of : Layout → ℕ → ℕ → List ℕ → Bool → RowsLeft
+left_of layout number place text failed = record { layout = layout; number = number; place = place; records = drop number (records_of text); failed = failed }
 
 -- it gives the row of its next record
-pub gives-row : (layout : Layout) (number place after : ℕ) (items : List CsvRow) (failed : Bool) (r : CsvRow) (row : Row) → number < length items → r ≡ get_or items number r
-    → IsRow layout number place (fields_of r) row → after ≡ place + claims_in row → failed ≡ false
-    → GivesRow (left_of layout number place items failed) (left_of layout (number + 1) after items failed) row
-gives-row layout number place after items failed r row within is h counted well = record {
-  fields = fields_of r;
-  next = ap (map fields_of) (drop_more items number r within ∙ ap (λ x. x ∷ drop (number + 1) items) (sym is));
+pub gives-row : (layout : Layout) (number place after : ℕ) (text : List ℕ) (failed : Bool) (fields : Fields) (row : Row) → drop number (records_of text) ≡ fields ∷ drop (number + 1) (records_of text)
+    → IsRow layout number place fields row → after ≡ place + claims_in row → failed ≡ false
+    → GivesRow (left_of layout number place text failed) (left_of layout (number + 1) after text failed) row
+gives-row layout number place after text failed fields row next h counted well = record {
+  fields = fields;
+  next = next;
   is_row = h;
   layout = refl;
   number = refl;
   place = counted;
   failed = well;
 }
-
--- no record is left behind the last
-pub none-left : (number : ℕ) (items : List CsvRow) → length items ≤ number → map fields_of (drop number items) ≡ []
-none-left number items past = ap (map fields_of) (drop_all number items past)

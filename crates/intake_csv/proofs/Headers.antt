@@ -7,7 +7,6 @@ use Rattle.std.proofs.lemmas.List.Elements.{All-push}
 use Rattle.std.proofs.lemmas.List.Quantifiers.{Any-push}
 use Rattle.std.proofs.lemmas.List.Sums.{count_by_more_yes, count_by_more_no}
 use Rattle.std.proofs.lemmas.Slice.Eq.{bytes_eq-Decides}
-use Rattle.csv.specs.Records.{Row as CsvRow, fields_of}
 use Rattle.intake_csv.specs.Records.{AreRecordsOf, Fields}
 use Rattle.intake_csv.specs.Columns.{IsColumnOf, IsThere, IsRepeated, AreColumnsOf, IsFile, HasFileFault}
 use Rattle.intake_csv.specs.Header.{StandsAs, stands_after, AreFound, HasColumnFault}
@@ -80,11 +79,3 @@ file-fault needed text header records file DuplicateColumn h = record { header =
 file-fault needed text header records file OutOfMemory h = tt
 file-fault needed text header records file TooLarge h = absurd h
 file-fault needed text header records file NoHeader h = absurd h
-
--- a text and its records, the first of which is the header
-pub is-file : (text : List ℕ) (items : List CsvRow) (h : CsvRow) → slice_get items 0 ≡ Some h → AreRecordsOf text (map fields_of items)
-    → length text ≤ FILE_LIMIT_BYTES → IsFile text (fields_of h) (map fields_of (drop 1 items))
-is-file text [] h e read small = absurd (cc e)
-is-file text (x ∷ xs) h e read small =
-    let same : x ≡ h = cc e in
-    record { small = small; read = rw (ap (λ r. fields_of r ∷ map fields_of xs) same) at read }

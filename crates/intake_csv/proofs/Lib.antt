@@ -1,5 +1,6 @@
 pub mod Amounts
 pub mod Lists
+pub mod AllRecords
 pub mod Headers
 pub mod RecordSteps
 pub mod Shapes

@@ -1,5 +1,5 @@
 -- Lists beside lists, and the fields of a record by their places.
-use Rattle.std.proofs.Common.{◌≡◌, ◌<◌, ◌+◌, ℕ, suc, zero, List, [], ◌∷◌, ◌++◌, length, get_or, take, drop, Some, None, refl, ap, ◌∙◌, arith}
+use Rattle.std.proofs.Common.{◌≡◌, ◌<◌, ◌+◌, ℕ, suc, zero, List, [], ◌∷◌, ◌++◌, length, get_or, take, drop, Some, None, refl, sym, ap, ◌∙◌, arith, add-one}
 use Rattle.std.specs.List.{All, AllZip, Any, slice_get}
 use Rattle.std.proofs.lemmas.List.{get_or_append_left, length_push, take_more}
 use Rattle.std.proofs.lemmas.List.Elements.{All-cons, All-nil}
@@ -46,15 +46,6 @@ unfolding field_at
 field_at-last [] bytes = refl
 field_at-last (f ∷ fs) bytes = field_at-last fs bytes
 
--- the first of some items, and the others
-pub first-and-rest : {A : Type 0} (xs : List A) (x : A) → slice_get xs 0 ≡ Some x → xs ≡ x ∷ drop 1 xs
-first-and-rest [] x e = absurd (cc e)
-first-and-rest (y ∷ ys) x e = let same : y ≡ x = cc e in ap (λ z. z ∷ ys) same
-
-pub none-first : {A : Type 0} (xs : List A) → slice_get xs 0 ≡ None → xs ≡ []
-none-first [] e = refl
-none-first (y ∷ ys) e = absurd (cc e)
-
 -- what some item has it has among more
 pub any-more : {A : Type 0} (P : A → Type 0) (xs : List A) (y : A) → Any P xs → Any P (xs ++ y ∷ [])
 any-more P xs y (k, x, within, is, has) =
@@ -64,3 +55,35 @@ any-more P xs y (k, x, within, is, has) =
 -- what is so of the front of a list with its next item
 pub grown : {A : Type 0} (P : List A → Type 0) (xs : List A) (k : ℕ) (d : A) → k < length xs → P (take k xs ++ get_or xs k d ∷ []) → P (take (k + 1) xs)
 grown P xs k d within h = rw (take_more xs k d within) h
+
+drop-nothing : {A : Type 0} (k : ℕ) → drop {A = A} k [] ≡ []
+drop-nothing zero = refl
+drop-nothing (suc k) = refl
+
+-- what is left behind the first and some more
+pub drop-after : {A : Type 0} (all : List A) (k : ℕ) → drop (k + 1) all ≡ drop k (drop 1 all)
+drop-after [] k = drop-nothing (k + 1) ∙ sym (drop-nothing k)
+drop-after (x ∷ xs) k = rw add-one refl
+
+-- the first item of those that are left behind some
+first-behind : {A : Type 0} (xs : List A) (k : ℕ) (x : A) (more : List A) → drop k xs ≡ x ∷ more → (slice_get xs k ≡ Some x) × (take (k + 1) xs ≡ take k xs ++ x ∷ [])
+first-behind [] k x more e = absurd (cc (sym (drop-nothing k) ∙ e))
+first-behind (y ∷ ys) zero x more e = let same : y ≡ x = cc e in (ap Some same, ap (λ z. z ∷ []) same)
+first-behind (y ∷ ys) (suc k) x more e =
+    let h = first-behind ys k x more e in
+    let after : suc k + 1 ≡ suc (k + 1) = omega arith in
+    (h.0, rw after (ap (λ zs. y ∷ zs) h.1))
+
+-- the same behind the first
+pub next-at : {A : Type 0} (all : List A) (k : ℕ) (x : A) (more : List A) → drop (k + 1) all ≡ x ∷ more
+    → (slice_get (drop 1 all) k ≡ Some x) × (take (k + 1) (drop 1 all) ≡ take k (drop 1 all) ++ x ∷ [])
+next-at all k x more e = first-behind (drop 1 all) k x more (sym (drop-after all k) ∙ e)
+
+-- what is left behind one more, and that there was one more
+pub one-more : {A : Type 0} (xs : List A) (k : ℕ) (x : A) (more : List A) → drop k xs ≡ x ∷ more → (k < length xs) × (drop (k + 1) xs ≡ more)
+one-more [] k x more e = absurd (cc (sym (drop-nothing k) ∙ e))
+one-more (y ∷ ys) zero x more e = let others : ys ≡ more = cc e in (omega arith, others)
+one-more (y ∷ ys) (suc k) x more e =
+    let h = one-more ys k x more e in
+    let after : suc k + 1 ≡ suc (k + 1) = omega arith in
+    (omega (arith, h.0), rw after h.1)

@@ -1,4 +1,5 @@
 pub mod Records
+pub mod Reader
 pub mod FaultNumber
 pub mod Columns
 pub mod Header

@@ -1,18 +1,20 @@
--- What the reading of a file gives.
-use Rattle.std.specs.Prelude.{◌<◌, ◌≤◌, ℕ, List, map, drop, length}
+-- What the reading of a file's header gives.
+use Rattle.std.specs.Prelude.{◌≡◌, ◌<◌, ◌≤◌, ℕ, false, List, drop, length}
 use Rattle.std.specs.List.{All}
-use Rattle.csv.specs.Records.{fields_of}
+use Rattle.intake_csv.specs.Records.{records_of}
 use Rattle.intake_csv.specs.Columns.{IsSheet}
 use Rattle.intake_csv.specs.declared.column.Needed.{Needed}
 use Rattle.intake_csv.specs.declared.column.Layout.{Layout}
 use Rattle.intake_csv.specs.declared.sheet.Sheet.{Sheet}
+use Rattle.intake_csv.specs.declared.sheet.TheConstants.{FILE_LIMIT_BYTES}
 
 -- the needed columns stand within the header
 abbrev pub IsWithin : Layout → Type 0
 IsWithin layout = All (λ c. c.place < layout.width) layout.columns
 
--- the text is a file with the needed columns, and the sheet has its layout and its records, the header in front
+-- the text is a file with the needed columns; the sheet has its layout, and a reader behind its header
 pub record IsSheetOf (needed : List Needed) (text : List ℕ) (sheet : Sheet) : Type 0 where
-  pub is_sheet : IsSheet needed text sheet.layout (map fields_of (drop 1 sheet.records.items))
+  pub is_sheet : IsSheet needed text sheet.layout (drop 1 (records_of text))
   pub within : IsWithin sheet.layout
-  pub has_header : 1 ≤ length sheet.records.items
+  pub small : length text ≤ FILE_LIMIT_BYTES
+  pub records : sheet.records ≡ record { text = text; given = 1; failed = false }

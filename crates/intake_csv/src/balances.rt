@@ -11,7 +11,7 @@ ghost use Rattle.intake_csv.specs.declared.column.Column.{Column as AnyColumn};
 use crate::column::{Content, Layout, Needed, needed_column};
 use crate::fault::{BalanceFault, FileFault, RowCause, RowFault};
 use crate::record::read_record;
-use crate::sheet::read_sheet;
+use crate::sheet::{Sheet, read_sheet};
 use crate::values::{take_money, take_text};
 use csv::ByteRecord;
 use dtable::Sequence;
@@ -38,11 +38,18 @@ pub fn read_balances(alloc: Global, text: &[u8]) -> Result<Balances, BalanceFaul
         Err(FileFault::OutOfMemory) => return Err(BalanceFault::OutOfMemory),
         Err(fault) => return Err(BalanceFault::File(fault)),
     };
+    let Sheet {
+        layout,
+        mut records,
+    } = sheet;
     let mut balances = Balances {
         accounts: BTreeMap::new(alloc),
     };
-    for number in 1..sheet.records.len() {
-        match balances.read(alloc, &sheet.layout, &sheet.records[number])? {
+    let mut record = ByteRecord::new(alloc);
+    let mut number: usize = 0;
+    while records.read(&mut record)? {
+        number += 1;
+        match balances.read(alloc, &layout, &record)? {
             Ok(()) => {}
             Err(fault) => return Err(BalanceFault::Row { number, fault }),
         }

@@ -1,26 +1,81 @@
-//! The records of a text (RFC 4180).
-ghost use Rattle.std.specs.Prelude.{map, IfOk};
+//! The records of a text (RFC 4180), one after another.
+ghost use Rattle.std.specs.Prelude.{◌≡◌, true, false, IfOk, OnErr, is_err};
 ghost use Rattle.csv.specs.Records.{fields_of};
-ghost use Rattle.intake_csv.specs.Records.{AreRecordsOf};
+ghost use Rattle.intake_csv.specs.Records.{Reads};
 
-use csv::{ByteRecord, ReaderBuilder};
+use csv::{ByteRecord, Reader, ReaderBuilder};
 use std::alloc::{AllocError, Global};
+use std::marker::Model;
 
-/// Reads all records of a text, less a byte order mark in front of it. A slice of bytes can't fail to be read, so that
-/// each error of the reader is want of memory.
-pub fn read_records(alloc: Global, text: &[u8]) -> Result<Vec<ByteRecord>, AllocError>
-    ensures { IfOk result (λ records. AreRecordsOf text.now (map fields_of records.items)) }
-{
-    let reader = ReaderBuilder::new()
-        .has_headers(false)
-        .flexible(true)
-        .from_reader(alloc, text);
-    let mut records = Vec::new(alloc);
-    for record in reader.into_byte_records() {
-        let Ok(record) = record else {
+/// A reader of a text's records, less a byte order mark in front of it. It holds one record at a time.
+#[derive(Drop)]
+pub struct Records<'t> {
+    text: &'t [u8],
+    reader: Reader<&'t [u8]>,
+    given: usize,
+    stage: Stage,
+}
+
+/// How far a reader has come.
+#[derive(Clone, Copy, Drop)]
+pub enum Stage {
+    /// Each record was read so far.
+    Reading,
+    /// No record is left.
+    Over,
+    /// Memory was wanting.
+    Failed,
+}
+
+impl<'t> Model for Records<'t> {
+    ghost use Rattle.std.specs.Prelude.{◌≤◌, drop, length};
+    ghost use Rattle.intake_csv.specs.Reader.{IsAtStage, is_failed};
+    ghost use Rattle.intake_csv.specs.Records.{RecordsLeft, records_of};
+
+    ghost Value = { RecordsLeft };
+
+    ghost view = { λ r. record { text = r.text.now; given = r.given; failed = is_failed r.stage } };
+
+    ghost invariant = { λ r. IsAtStage r.stage r.reader (drop r.given (records_of r.text.now)) × (r.given ≤ length (records_of r.text.now)) };
+}
+
+impl<'t> Records<'t> {
+    /// A reader at the first record of a text.
+    pub fn new(alloc: Global, text: &'t [u8]) -> Records<'t>
+        ensures { result ≡ record { text = text.now; given = 0; failed = false } }
+    {
+        Records {
+            text,
+            reader: ReaderBuilder::new()
+                .has_headers(false)
+                .flexible(true)
+                .from_reader(alloc, text),
+            given: 0,
+            stage: Stage::Reading,
+        }
+    }
+
+    /// Reads the next record into the row, if one is left. After want of memory each later call answers it again.
+    /// A slice of bytes can't fail to be read, so that each error of `csv` is want of memory.
+    pub fn read(&mut self, row: &mut ByteRecord) -> Result<bool, AllocError>
+        ensures reads { IfOk result (λ found. Reads self.old self.new found (fields_of row.new)) }
+        ensures refused { OnErr result (self.new ≡ record self.old { failed = true }) }
+        ensures failed { (self.old.failed ≡ true) → is_err result ≡ true }
+    {
+        match self.stage {
+            Stage::Failed => return Err(AllocError),
+            Stage::Over => return Ok(false),
+            Stage::Reading => {}
+        }
+        let Ok(found) = self.reader.read_byte_record(row) else {
+            self.stage = Stage::Failed;
             return Err(AllocError);
         };
-        records.push(record)?;
+        if !found {
+            self.stage = Stage::Over;
+            return Ok(false);
+        }
+        self.given += 1;
+        Ok(true)
     }
-    Ok(records)
 }

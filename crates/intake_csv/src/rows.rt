@@ -9,6 +9,7 @@ ghost use Rattle.intake_csv.specs.declared.rows.Row.{Row as AnyRow};
 use crate::claim::{claim_columns, read_claim};
 use crate::column::Layout;
 use crate::fault::{FileFault, RowFault};
+use crate::records::Records;
 use crate::sheet::read_sheet;
 use csv::ByteRecord;
 use dtable::Plan;
@@ -32,34 +33,36 @@ pub enum Row {
     },
 }
 
-/// The rows of a file of claims, one after another.
-#[derive(Debug, Drop)]
-pub struct Rows {
+/// The rows of a file of claims, one after another. It borrows the file's text, and holds one record of it at a time.
+#[derive(Drop)]
+pub struct Rows<'t> {
     alloc: Global,
     layout: Layout,
-    records: Vec<ByteRecord>,
+    records: Records<'t>,
+    current: ByteRecord,
     next: usize,
     claims: usize,
     failed: bool,
 }
 
-impl Model for Rows {
-    ghost use Rattle.std.specs.Prelude.{◌<◌, ◌≤◌, map, drop, length};
-    ghost use Rattle.csv.specs.Records.{fields_of};
+impl<'t> Model for Rows<'t> {
+    ghost use Rattle.std.specs.Prelude.{◌≡◌, ◌<◌, ◌≤◌, false, drop, length};
+    ghost use Rattle.intake_csv.specs.Records.{records_of};
     ghost use Rattle.intake_csv.specs.Rows.{RowsLeft};
     ghost use Rattle.intake_csv.specs.Sheet.{IsWithin};
     ghost use Rattle.intake_csv.specs.Record.{IsClaimLayout};
+    ghost use Rattle.intake_csv.specs.declared.sheet.TheConstants.{FILE_LIMIT_BYTES};
 
     ghost Value = { RowsLeft };
 
-    ghost view = { λ r. record { layout = r.layout; number = r.next; place = r.claims; records = map fields_of (drop r.next r.records.items); failed = r.failed } };
+    ghost view = { λ r. record { layout = r.layout; number = r.next; place = r.claims; records = drop r.next (records_of r.records.text); failed = r.failed } };
 
-    ghost invariant = { λ r. IsWithin r.layout × IsClaimLayout r.layout × (r.claims < r.next) × (r.next ≤ length r.records.items) };
+    ghost invariant = { λ r. IsWithin r.layout × IsClaimLayout r.layout × (r.claims < r.next) × (length r.records.text ≤ FILE_LIMIT_BYTES) × (r.failed ≡ false → (r.records.given ≡ r.next) × (r.records.failed ≡ false)) };
 }
 
-impl Rows {
-    /// Reads a file of claims under a plan.
-    pub fn new(alloc: Global, plan: &Plan, text: &[u8]) -> Result<Rows, FileFault>
+impl<'t> Rows<'t> {
+    /// Reads the header of a file of claims under a plan.
+    pub fn new(alloc: Global, plan: &Plan, text: &'t [u8]) -> Result<Rows<'t>, FileFault>
         ensures ok { IfOk result (IsAtStart plan.now.names text.now) }
         ensures rows { IfOk result (λ rows. (all : List AnyRow) → AreRowsLeft rows all → AreRowsOf plan.now.names text.now all) }
         ensures fault { IfErr result (HasFileFault (claim_columns plan.now.names) text.now) }
@@ -70,6 +73,7 @@ impl Rows {
             alloc,
             layout: sheet.layout,
             records: sheet.records,
+            current: ByteRecord::new(alloc),
             next: 1,
             claims: 0,
             failed: false,
@@ -86,11 +90,16 @@ impl Rows {
         if self.failed {
             return Err(AllocError);
         }
-        let number = self.next;
-        if number >= self.records.len() {
-            return Ok(None);
+        match self.records.read(&mut self.current) {
+            Ok(true) => {}
+            Ok(false) => return Ok(None),
+            Err(AllocError) => {
+                self.failed = true;
+                return Err(AllocError);
+            }
         }
-        match read_claim(self.alloc, &self.layout, &self.records[number]) {
+        let number = self.next;
+        match read_claim(self.alloc, &self.layout, &self.current) {
             Ok(Ok(claim)) => {
                 let place = self.claims;
                 self.next += 1;

@@ -1,7 +1,10 @@
-use Rattle.std.proofs.Common.{map, drop}
-use Rattle.csv.specs.Records.{fields_of}
+use Rattle.std.proofs.Common.{◌≡◌, ◌+◌, false, drop, length}
+use Rattle.intake_csv.specs.Records.{records_of, remaining}
 use Rattle.intake_csv.proofs.Entries.{ReadBefore}
 use Rattle.intake_csv.proofs.balances.read_balances.Given as goal
 
-abbrev pub invariant-loop-number : goal.invariant-loop-number
-invariant-loop-number l = ReadBefore l.sheet.layout (map fields_of (drop 1 l.sheet.records.items)) l.number l.balances
+abbrev pub invariant-loop-record : goal.invariant-loop-record
+invariant-loop-record l = (l.records ≡ record { text = l.fn.text; given = l.number + 1; failed = false }) × ReadBefore l.layout (drop 1 (records_of l.fn.text)) l.number l.balances
+
+abbrev pub decreases-loop-record : goal.decreases-loop-record
+decreases-loop-record l = length (remaining l.records)

@@ -1,4 +1,4 @@
-use Rattle.std.proofs.Common.{arith}
+use Rattle.std.proofs.Common.{arith, refl}
 use Rattle.intake_csv.proofs.Shapes.{claim-layout}
 use Rattle.intake_csv.proofs.rows.Rows.new.Goals as goal
 
@@ -6,4 +6,4 @@ pub invariant_of-result : goal.invariant_of-result
 invariant_of-result c =
     let s = rw (c.as_slice.ensures, c.in_ok-needed.ensures) at c.in_ok-sheet.ensures.ok in
     let layout = claim-layout c.args.plan.now.names s.is_sheet.header c.in_ok-sheet.sheet.layout.columns s.is_sheet.columns in
-    (s.within, record { fields = layout.0; contents = layout.1 }, omega arith, s.has_header)
+    rw s.records (s.within, record { fields = layout.0; contents = layout.1 }, omega arith, s.small, λ e. (refl, refl))

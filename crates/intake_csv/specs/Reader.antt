@@ -1,0 +1,30 @@
+-- What is known of the reader of `csv` under a reader of records.
+use Rattle.std.specs.Prelude.{◌≡◌, ℕ, Bool, true, false, List, [], Some}
+use Rattle.std.specs.Borrow.{Bor}
+use Rattle.csv.specs.Reading.{AreRecords, Ready, default_config, source_of}
+use Rattle.csv.specs.declared.reader.Reader.{Reader}
+use Rattle.csv.specs.declared.reader.Trim.TheVariants as trim
+use Rattle.intake_csv.specs.Records.{Fields}
+use Rattle.intake_csv.specs.declared.records.Stage.{Stage}
+use Rattle.intake_csv.specs.declared.records.Stage.TheVariants.{Reading, Over, Failed}
+
+-- it has these records left
+pub record HasLeft (reader : Reader (Bor (List ℕ))) (rows : List Fields) : Type 0 where
+  pub untrimmed : reader.trim ≡ trim.None
+  pub ready : Ready reader
+  pub config : reader.config ≡ default_config
+  pub bytes : List ℕ
+  pub source : source_of (λ s. Some s.now) reader ≡ Some bytes
+  pub are : AreRecords default_config reader.state bytes rows
+
+-- it has these records left, as far as it is known at this stage
+abbrev pub IsAtStage : Stage → Reader (Bor (List ℕ)) → List Fields → Type 0
+IsAtStage Reading reader rows = HasLeft reader rows
+IsAtStage Over reader rows = rows ≡ []
+IsAtStage Failed reader rows = Unit {0}
+
+-- memory was wanting
+abbrev pub is_failed : Stage → Bool
+is_failed Reading = false
+is_failed Over = false
+is_failed Failed = true
