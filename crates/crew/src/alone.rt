@@ -111,7 +111,7 @@ fn read_file<'t>(
 }
 
 // The rows of a provider's file.
-fn open(alloc: Global, terms: &Terms, provider: usize) -> Result<Rows, RunFault>
+fn open<'t>(alloc: Global, terms: &'t Terms, provider: usize) -> Result<Rows<'t>, RunFault>
     requires least { 1 ≤ provider }
     requires most { provider ≤ length terms.now.files }
     ensures rows { IfOk result (IsAtStart terms.now.plan.names (get_or terms.now.files (provider - 1) [])) }

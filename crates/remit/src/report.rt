@@ -152,7 +152,7 @@ impl<'j> Report<'j> {
         out: &mut Out<W>,
     ) -> Result<(), WriteFault>
         requires { 1 ≤ provider }
-        ensures writes { WritesLeft (looked_up self.old.decisions) provider rows
+        ensures writes { WritesLeft (looked_up self.old.decisions) provider rows.entry
             (at (W.contents (writer_of out.old)) (has_failed out.old) self.old.pieces)
             (at (W.contents (writer_of out.new)) (has_failed out.new) self.new.pieces) result }
         ensures decisions { self.new.decisions ≡ self.old.decisions }

@@ -41,7 +41,12 @@ pub fn terms_of<'a>(
 }
 
 // The rows of a provider's file.
-fn start(rt: &impl Abort, alloc: Global, terms: &Terms, provider: usize) -> Result<Rows, AllocError>
+fn start<'t>(
+    rt: &impl Abort,
+    alloc: Global,
+    terms: &'t Terms,
+    provider: usize,
+) -> Result<Rows<'t>, AllocError>
     requires least { 1 ≤ provider }
     requires most { provider ≤ length terms.now.files }
     ensures { IfOk result (IsAtStart terms.now.plan.names (get_or terms.now.files (provider - 1) [])) }
@@ -54,12 +59,12 @@ fn start(rt: &impl Abort, alloc: Global, terms: &Terms, provider: usize) -> Resu
 }
 
 // A reader at the start of a provider's file.
-pub fn open(
+pub fn open<'t>(
     rt: &impl Abort,
     alloc: Global,
-    terms: &Terms,
+    terms: &'t Terms,
     provider: usize,
-) -> Result<Rows, AllocError>
+) -> Result<Rows<'t>, AllocError>
     requires { IsSpelled terms.now.plan }
     ensures reader { IfOk result (λ rows. ForTerms terms.now (λ T. IsReader T provider rows)) }
     ensures place { IfOk result (λ rows. rows.place ≡ 0) }

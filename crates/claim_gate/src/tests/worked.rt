@@ -41,7 +41,7 @@ fn begin<'t>(
     rt: &impl Abort,
     alloc: Global,
     terms: &'t Terms<'t>,
-) -> Result<(GateState<'t>, Rows), AllocError>
+) -> Result<(GateState<'t>, Rows<'t>), AllocError>
     requires { IsSpelled terms.now.plan }
     ensures terms { IfOk result (λ begun. begun.0.terms ≡ terms.now) }
     ensures reader { IfOk result (λ begun. ForTerms terms.now (λ T. IsReader T 1 begun.1)) }
