@@ -1,6 +1,6 @@
 -- Entries of balances, with one more.
-use Rattle.std.proofs.Common.{inl, inr, ◌≡◌, ◌<◌, ◌≤◌, ◌+◌, ◌-◌, ℕ, suc, zero, true, false, List, [], ◌∷◌, ◌++◌, length, map, take, drop, get_or, Option, Some, None, cond, refl, sym, ap, ◌∙◌, arith}
-use Rattle.std.specs.List.{AllZip, Any, slice_get}
+use Rattle.std.proofs.Common.{inl, inr, ◌≡◌, ◌<◌, ◌+◌, ◌-◌, ℕ, suc, zero, true, false, List, [], ◌∷◌, ◌++◌, length, map, take, drop, get_or, Option, Some, None, cond, refl, sym, ap, ◌∙◌, arith}
+use Rattle.std.specs.List.{AllZip, Any}
 use Rattle.std.specs.Map.{lookup}
 use Rattle.std.specs.Option.{is_some, unwrap_or}
 use Rattle.std.specs.BTreeMap.{get_by_text}

@@ -1,9 +1,9 @@
 -- Rows that are handed out one after another.
-use Rattle.std.proofs.Common.{◌≡◌, ◌<◌, ◌≤◌, ◌+◌, ℕ, suc, Bool, false, List, [], ◌∷◌, ◌++◌, length, drop, Some, cond, refl, sym, ap, ◌∙◌, arith}
+use Rattle.std.proofs.Common.{◌≡◌, ◌+◌, ℕ, suc, Bool, false, List, [], ◌∷◌, ◌++◌, length, drop, Some, cond, refl, sym, ap, ◌∙◌, arith}
 use Rattle.std.specs.List.{count_by, slice_get}
 use Rattle.std.proofs.lemmas.List.Sums.{sum_by-cons}
 use Rattle.intake_csv.specs.Records.{Fields, records_of}
-use Rattle.intake_csv.specs.Rows.{AreRows, AreRowsLeft, GivesRow, IsRow, RowsLeft, claims_in, is_claim}
+use Rattle.intake_csv.specs.Rows.{AreRowsLeft, GivesRow, IsRow, RowsLeft, claims_in, is_claim}
 use Rattle.intake_csv.specs.declared.column.Layout.{Layout}
 use Rattle.intake_csv.specs.declared.rows.Row.{Row}
 use Rattle.intake_csv.specs.declared.rows.Row.TheVariants.{Good, Bad}

@@ -1,18 +1,17 @@
 -- How a name stands in the front of a header, with one place more.
-use Rattle.std.proofs.Common.{◌≡◌, ◌<◌, ◌≤◌, ◌+◌, ℕ, Bool, true, false, List, [], ◌∷◌, ◌++◌, length, map, get_or, take, drop, Some, refl, sym, ap, ◌∙◌, arith}
-use Rattle.std.specs.List.{All, Any, slice_get}
+use Rattle.std.proofs.Common.{◌≡◌, ◌<◌, ◌+◌, ℕ, Bool, true, false, List, [], ◌∷◌, ◌++◌, length, get_or, take, Some, refl, sym, ap, ◌∙◌, arith}
+use Rattle.std.specs.List.{All, Any}
 use Rattle.std.specs.Str.{bytes_eq}
 use Rattle.std.proofs.lemmas.List.{take_more, length-take-le}
 use Rattle.std.proofs.lemmas.List.Elements.{All-push}
 use Rattle.std.proofs.lemmas.List.Quantifiers.{Any-push}
 use Rattle.std.proofs.lemmas.List.Sums.{count_by_more_yes, count_by_more_no}
 use Rattle.std.proofs.lemmas.Slice.Eq.{bytes_eq-Decides}
-use Rattle.intake_csv.specs.Records.{AreRecordsOf, Fields}
+use Rattle.intake_csv.specs.Records.{Fields}
 use Rattle.intake_csv.specs.Columns.{IsColumnOf, IsThere, IsRepeated, AreColumnsOf, IsFile, HasFileFault}
 use Rattle.intake_csv.specs.Header.{StandsAs, stands_after, AreFound, HasColumnFault}
 use Rattle.intake_csv.specs.declared.fault.FileFault.{FileFault}
 use Rattle.intake_csv.specs.declared.fault.FileFault.TheVariants.{TooLarge, NoHeader, MissingColumn, DuplicateColumn, OutOfMemory}
-use Rattle.intake_csv.specs.declared.sheet.TheConstants.{FILE_LIMIT_BYTES}
 use Rattle.intake_csv.specs.declared.column.Needed.{Needed}
 use Rattle.intake_csv.specs.declared.column.Column.{Column}
 use Rattle.intake_csv.specs.declared.header.Found.{Found}

@@ -1,5 +1,5 @@
 -- Lists beside lists, and the fields of a record by their places.
-use Rattle.std.proofs.Common.{◌≡◌, ◌<◌, ◌+◌, ℕ, suc, zero, List, [], ◌∷◌, ◌++◌, length, get_or, take, drop, Some, None, refl, sym, ap, ◌∙◌, arith, add-one}
+use Rattle.std.proofs.Common.{◌≡◌, ◌<◌, ◌+◌, ℕ, suc, zero, List, [], ◌∷◌, ◌++◌, length, get_or, take, drop, Some, refl, sym, ap, ◌∙◌, arith, add-one}
 use Rattle.std.specs.List.{All, AllZip, Any, slice_get}
 use Rattle.std.proofs.lemmas.List.{get_or_append_left, length_push, take_more}
 use Rattle.std.proofs.lemmas.List.Elements.{All-cons, All-nil}

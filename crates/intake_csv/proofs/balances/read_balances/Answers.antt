@@ -15,7 +15,7 @@ loop-record-preserved c =
     let step = rw c.in-Ok-2.is at c.in_ok-read-2.ensures.entry in (
       reads.1,
       read-next c.in-Ok.sheet.layout (records_of c.args.text.now) c.loop-record.number (fields_of c.read.new.row) (remaining c.read.new.self) c.loop-record.balances c.read-in-loop-record.new.self
-      reads.0 c.loop-record.invariant.1 step,
+          reads.0 c.loop-record.invariant.1 step,
     )
 
 pub returns-in-Err-2-clause-fault : goal.returns-in-Err-2-clause-fault

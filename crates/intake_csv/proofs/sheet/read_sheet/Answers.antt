@@ -17,7 +17,7 @@ returns-in_err-columns-clause-fault c =
     let reads = rw (c.new-records.ensures, c.if-not-branch.false) at c.in_ok-read.ensures.reads in
     let header = fields_of c.read.new.row in
     let file : IsFile c.args.text.now header (drop 1 (records_of c.args.text.now)) =
-      record { small = c.if-text-gt-FILE_LIMIT_BYTES.false; read = has-header c.args.text.now c.read.new.self header reads } in
+    record { small = c.if-text-gt-FILE_LIMIT_BYTES.false; read = has-header c.args.text.now c.read.new.self header reads } in
     let p = err_from_is_err_and c.from_residual-in_err-columns.result c.from_residual-in_err-columns.ensures.1 in
     rw (p.1, p.2) (file-fault c.args.needed.now c.args.text.now header (drop 1 (records_of c.args.text.now)) file _ c.in_err-columns.ensures.fault)
 

@@ -1,4 +1,4 @@
-use Rattle.std.proofs.Common.{◌∙◌, sym, inr, arith}
+use Rattle.std.proofs.Common.{◌∙◌, inr, arith}
 use Rattle.csv.specs.Reading.{strip_bom}
 use Rattle.intake_csv.proofs.AllRecords.{are-records-of}
 use Rattle.intake_csv.proofs.records.Records.new.Goals as goal

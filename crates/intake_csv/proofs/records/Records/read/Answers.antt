@@ -1,4 +1,4 @@
-use Rattle.std.proofs.Common.{◌+◌, arith, drop, refl}
+use Rattle.std.proofs.Common.{arith, drop, refl}
 use Rattle.csv.specs.Records.{fields_of}
 use Rattle.intake_csv.specs.Reader.{HasLeft}
 use Rattle.intake_csv.specs.Records.{records_of}
