@@ -14,15 +14,17 @@ use Rattle.intake_csv.specs.declared.rows.Row.TheVariants.{Good}
 use Rattle.claim_terms.specs.Terms.{TermsParts, AreClaimsOf, IsTermsOf, claims_among, texts_of}
 use Rattle.journal.specs.Terms.{Terms, IsProvider, claims_of}
 use Rattle.journal.specs.Events.{is_take, taken, IsJob}
-use Rattle.journal.specs.Gate.{GateAt, Continues}
+use Rattle.journal.specs.Gate.{GateAt, Continues, TakeReply, Takes}
 use Rattle.journal.specs.Laws.{JobsStay}
 use Rattle.journal.specs.declared.event.Event.{Event}
 use Rattle.journal.specs.declared.event.Event.TheVariants.{Take}
 use Rattle.claim_gate.specs.Parts.{GateParts, ForTerms}
-use Rattle.claim_gate.specs.Replies.{HasClaims, IsFiled}
+use Rattle.claim_gate.specs.Replies.{HasClaims, IsFiled, IsWorkOf}
+use Rattle.claim_gate.specs.Shared.{Known, LeadsTo, Went}
 use Rattle.claim_gate.specs.Worked.{IsReader, IsSpelled, IsAtWork, WorkStays}
 use Rattle.claim_gate.specs.declared.job.Job.{Job}
 use Rattle.claim_gate.specs.declared.offer.Offer.{Offer}
+use Rattle.claim_gate.specs.declared.reply.Taken.TheVariants.{Work}
 use Rattle.claim_gate.proofs.Journals.{any_now}
 use Rattle.claim_gate.proofs.Providers.{as_many_files}
 
@@ -144,3 +146,12 @@ at_work law old new job its is =
           (record { terms = refl; journal = on; stop = λ s. absurd (both_ways false refl s) })
           (its T terms);
     })
+
+-- a job that a section has taken is in work
+pub work_found : JobsStay → (known : Known) (job : Job) → Went (λ old new. Takes old (TakeReply.Work job.position job.claim job.acc) new) known
+    → IsWorkOf known.found known.seen (Work job) → IsAtWork known.seen job
+work_found law known job went work = at_work law known.found known.seen job (λ T is. (went T is).2.job) work
+
+-- what is in work stays so where the state that was seen leads to another one
+pub stays_at_work : JobsStay → (earlier later : GateParts) (job : Job) → LeadsTo earlier later → IsAtWork earlier job → IsAtWork later job
+stays_at_work law earlier later job leads work = goes_on law earlier later leads.terms leads.journal job work

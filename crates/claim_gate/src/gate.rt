@@ -20,7 +20,7 @@ pub trait Gate {
     ghost use Rattle.journal.specs.Gate.{Offers, Ends, Takes, Finishes, Stops, Counts as AreCounts};
     ghost use Rattle.journal.specs.Settled.{outcome_of};
     ghost use Rattle.claim_gate.specs.Parts.{ForTerms, at};
-    ghost use Rattle.claim_gate.specs.Replies.{offer_reply, end_reply, take_reply, finish_reply, IsFiled, HasClaims};
+    ghost use Rattle.claim_gate.specs.Replies.{offer_reply, end_reply, take_reply, finish_reply, IsFiled, HasClaims, IsWorkOf};
     ghost use Rattle.claim_gate.specs.Shared.{Known, HadSection, Went};
 
     type Pass: Send + Drop;
@@ -83,6 +83,7 @@ pub trait Gate {
         ensures own { IfOk result (λ r. has_pass self.now r.1) }
         ensures section { IfOk result (λ r. HadSection (known pass) (known r.1)) }
         ensures reply { IfOk result (λ r. Went (λ old new. Takes old (take_reply r.0) new) (known r.1)) }
+        ensures work { IfOk result (λ r. IfOk r.0 (IsWorkOf (known r.1).found (known r.1).seen)) }
         ensures worn { IfErr result (λ e. is_worn e.1 × has_pass self.now e.1 × (known e.1 ≡ known pass)) }
         ensures late { is_worn pass → IsErr result };
 

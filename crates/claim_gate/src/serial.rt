@@ -24,13 +24,13 @@ impl<'t> Growing for GateState<'t> {
 /// A gate of one thread. `GateState` is one; a lock's code names the calls alone, since a value that borrows its terms can't
 /// be named there.
 pub trait SerialGate: Growing {
-    ghost use Rattle.std.specs.Prelude.{◌≡◌, true, IfErr};
+    ghost use Rattle.std.specs.Prelude.{◌≡◌, true, IfOk, IfErr};
     ghost use Rattle.journal.specs.Terms.{Terms as AnyTerms};
     ghost use Rattle.journal.specs.Events.{taken, IsJob};
     ghost use Rattle.journal.specs.Gate.{Offers, Ends, Takes, Finishes, Counts as AreCounts};
     ghost use Rattle.journal.specs.Settled.{outcome_of};
     ghost use Rattle.claim_gate.specs.Parts.{GateParts, ForTerms, at};
-    ghost use Rattle.claim_gate.specs.Replies.{offer_reply, end_reply, take_reply, finish_reply, IsFiled, HasClaims};
+    ghost use Rattle.claim_gate.specs.Replies.{offer_reply, end_reply, take_reply, finish_reply, IsFiled, HasClaims, IsWorkOf};
     ghost use Rattle.claim_gate.specs.Shared.{IsLawful, LeadsTo};
 
     // Its terms, its journal, and whether it is stopped.
@@ -60,6 +60,7 @@ pub trait SerialGate: Growing {
     fn take(&mut self) -> Result<Taken, TakeFault>
         ensures grown { Self.leads self.old self.new }
         ensures reply { ForTerms (shown self.old).terms (λ T. Takes (at T (shown self.old)) (take_reply result) (at T (shown self.new))) }
+        ensures work { IfOk result (IsWorkOf (shown self.old) (shown self.new)) }
         ensures lawful { IsLawful (shown self.new) };
 
     /// `GateState::finish`.

@@ -2,6 +2,8 @@
 
 mod calls;
 mod filing;
+mod in_turn;
+mod shared;
 mod worked;
 
 use crate::{

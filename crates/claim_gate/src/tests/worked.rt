@@ -22,17 +22,17 @@ const ONE_CLAIM: &[u8] = b"claim,member,service,billed,code
 c1,M1,2024-01-05,120.00,A
 ";
 
-fn is_at(acc: Acc, met: i64, oop: i64, paid: i64) -> bool {
+pub fn is_at(acc: Acc, met: i64, oop: i64, paid: i64) -> bool {
     acc.met.amount().units() == met
         && acc.oop.amount().units() == oop
         && acc.paid.amount().units() == paid
 }
 
-fn is_paid_40(outcome: &Outcome) -> bool {
+pub fn is_paid_40(outcome: &Outcome) -> bool {
     matches!(outcome.verdict, Verdict::Paid) && outcome.paid.amount().units() == 400_000
 }
 
-fn is_job(job: &Job, position: usize, id: &str) -> bool {
+pub fn is_job(job: &Job, position: usize, id: &str) -> bool {
     job.position == position && job.claim.id.as_str() == id
 }
 
@@ -151,7 +151,7 @@ fn later_calls<'t>(
 }
 
 // Whether a journal is that of the worked calls.
-fn is_worked(journal: &[Event]) -> bool {
+pub fn is_worked(journal: &[Event]) -> bool {
     matches!(
         journal,
         [
