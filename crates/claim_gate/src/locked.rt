@@ -146,11 +146,7 @@ where
         }
     }
 
-    fn counts<R: Wait>(
-        &self,
-        rt: &R,
-        pass: S::Pass,
-    ) -> Result<(Counts, S::Pass), (Worn, S::Pass)> {
+    fn counts<R: Wait>(&self, rt: &R, pass: S::Pass) -> Result<(Counts, S::Pass), (Worn, S::Pass)> {
         match self.lock.lock(rt, pass) {
             Ok((state, holder)) => {
                 let _lawful = state.journal();

@@ -3,6 +3,7 @@
 mod calls;
 mod filing;
 mod in_turn;
+mod last_ticket;
 mod shared;
 mod worked;
 
