@@ -16,6 +16,7 @@ use Rattle.journal.specs.Terms.{Terms, claims_of}
 use Rattle.claim_gate.specs.Parts.{ForTerms, GateParts}
 use Rattle.claim_gate.specs.Replies.{HasClaims}
 use Rattle.crew.specs.Reading.{AreLeft, IsReading}
+use Rattle.crew.specs.Sharing.{HasTaken}
 use Rattle.crew.proofs.OneClaim.{BeginLike, alike, begin-like}
 
 -- the claims of a file at a place
@@ -120,3 +121,50 @@ pub record IsAtFile (terms : TermsParts) (plan : PlanParts) (provider : ℕ) (ga
   pub of_terms : gate.terms ≡ terms
   pub of_plan : plan ≡ terms.plan
   pub reading : ForTerms terms (λ T. IsReading T provider 0 gate)
+
+-- what holds between two records of a provider's file, as an intake reads it: so many claims were read, and all in front of the
+-- place that is expected next are accepted
+pub record IsAtOffer (terms : TermsParts) (seen : GateParts) (provider count expected : ℕ) (left : RowsLeft) : Type 0 where
+  pub of_terms : seen.terms ≡ terms
+  pub claims : ForTerms terms (λ T. AreLeft T provider count left)
+  pub has_taken : HasTaken seen provider expected
+  pub reached : count ≤ expected
+  pub place : left.place ≡ count
+  pub fewer : left.place < left.number
+
+pub first_offer : StartHasTheRows → (parts : TermsParts) (seen : GateParts) (provider : ℕ) (left : RowsLeft) → seen.terms ≡ parts → 1 ≤ provider → provider ≤ length parts.files
+    → IsAtStart parts.plan.names (get_or parts.files (provider - 1) []) left → IsAtOffer parts seen provider 0 0 left
+first_offer law parts seen provider left of_terms least most start = record {
+  of_terms = of_terms;
+  claims = λ T is. left_first law parts T provider left is least most start;
+  has_taken = omega arith;
+  reached = omega arith;
+  place = start.place;
+  fewer = omega (arith, start.place, start.number);
+}
+
+module _ (one : DenotesAtMostOne) (plain : SpellsOnePlain) where
+  -- behind a record that is refused
+  pub refused_offer : (terms : TermsParts) (seen : GateParts) (provider count expected : ℕ) (old new : RowsLeft) (number : ℕ) (fault : RowFault)
+      → IsAtOffer terms seen provider count expected old → GivesRow old new (Bad number fault) → IsAtOffer terms seen provider count expected new
+  refused_offer terms seen provider count expected old new number fault h gives = record {
+    of_terms = h.of_terms;
+    claims = λ T is. left_refused one plain T provider count old new number fault (h.claims T is) gives;
+    has_taken = h.has_taken;
+    reached = h.reached;
+    place = omega (arith, gives.place, h.place);
+    fewer = omega (arith, gives.place, gives.number, h.fewer);
+  }
+
+  -- behind a claim, once all in front of a later place are accepted
+  pub next_offer : (terms : TermsParts) (seen later : GateParts) (provider count expected next : ℕ) (old new : RowsLeft) (number place : ℕ) (claim : Claim)
+      → IsAtOffer terms seen provider count expected old → GivesRow old new (Good number place claim) → later.terms ≡ terms → count < next
+      → HasTaken later provider next → IsAtOffer terms later provider (count + 1) next new
+  next_offer terms seen later provider count expected next old new number place claim h gives of_terms behind has_taken = record {
+    of_terms = of_terms;
+    claims = λ T is. left_behind one plain T provider count old new number place claim (h.claims T is) gives;
+    has_taken = has_taken;
+    reached = omega (arith, behind);
+    place = omega (arith, gives.place, h.place);
+    fewer = omega (arith, gives.place, gives.number, h.fewer);
+  }

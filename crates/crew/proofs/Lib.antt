@@ -1,3 +1,4 @@
+pub mod Sections
 pub mod Journals
 pub mod Claims
 pub mod Deciding

@@ -1,2 +1,4 @@
 pub mod FaultNumber
+pub mod Workers
+pub mod Sharing
 pub mod Reading

@@ -5,7 +5,7 @@ ghost use Rattle.crew.specs.FaultNumber.{number_of};
 use std::alloc::AllocError;
 use thiserror::Error;
 
-/// Why a run ends without a finished journal.
+/// Why a run ends without a finished journal. Where its threads met several faults, it is the first of them in this order.
 #[derive(Clone, Copy, Debug, PartialEq, Eq, Hash, Drop, Error)]
 pub enum RunFault {
     /// There is to be no worker, or more than a run may have.
@@ -14,6 +14,15 @@ pub enum RunFault {
     /// No memory.
     #[error("out of memory")]
     OutOfMemory,
+    /// The system starts no more threads.
+    #[error("a thread can't be started")]
+    Thread,
+    /// The gate's lock can't be taken any more.
+    #[error("the lock has no ticket left")]
+    Worn,
+    /// The gate was stopped by someone else.
+    #[error("the run was stopped")]
+    Stopped,
 }
 
 impl RunFault {
@@ -24,6 +33,9 @@ impl RunFault {
         match self {
             RunFault::Workers => 1,
             RunFault::OutOfMemory => 2,
+            RunFault::Thread => 3,
+            RunFault::Worn => 4,
+            RunFault::Stopped => 5,
         }
     }
 }

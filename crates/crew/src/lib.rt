@@ -8,10 +8,16 @@
 
 mod alone;
 mod fault;
+mod intake;
 mod laws;
+mod least;
+mod stopping;
 #[cfg(test)]
 mod tests;
+mod threads;
+mod worker;
 
 pub use alone::run_alone;
 pub use fault::RunFault;
 pub use laws::terms_are_seen;
+pub use threads::{WORKERS_LIMIT, run, run_with};

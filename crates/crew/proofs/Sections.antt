@@ -1,0 +1,203 @@
+-- What one section of a shared gate tells its caller.
+use Rattle.std.proofs.Common.{inl, inr, ◌≡◌, ◌≢◌, ◌<◌, ◌≤◌, ◌+◌, ◌||◌, ℕ, suc, Bool, true, false, List, [], ◌∷◌, ◌++◌, length, Result, Ok, Err, refl, sym, ap, subst, ◌∙◌, arith, length-append}
+use Rattle.std.proofs.lemmas.Bool.{cases_Bool, cases_lt, eq-eqb, false≢true, or_left, or_right}
+use Rattle.std.proofs.lemmas.Grind.{flat_map-append}
+use Rattle.claim_terms.specs.Terms.{TermsParts, IsTermsOf}
+use Rattle.dtable.specs.Plan.{IsPlan}
+use Rattle.settlement.specs.Claim.{IsClaimOf}
+use Rattle.settlement.specs.declared.outcome.Outcome.{Outcome}
+use Rattle.intake_csv.specs.Laws.{ClaimsHaveFields}
+use Rattle.journal.specs.Terms.{Terms}
+use Rattle.journal.specs.Events.{closed, decided, ended, is_decide, place_in, places, taken}
+use Rattle.journal.specs.Gate.{GateAt, Continues, OfferReply, Offers, EndReply, Ends, TakeReply, Takes, FinishReply, Finishes}
+use Rattle.journal.specs.Lawful.{Finished, closing}
+use Rattle.journal.specs.declared.event.Event.{Event}
+use Rattle.journal.specs.declared.event.Event.TheVariants.{Accept, End, Take, Decide}
+use Rattle.claim_gate.specs.Leading.{leads_further}
+use Rattle.claim_gate.specs.Parts.{GateParts, ForTerms, at}
+use Rattle.claim_gate.specs.Shared.{LeadsTo, Known, HadSection, Went}
+use Rattle.claim_gate.specs.Replies.{end_reply, finish_reply, offer_reply}
+use Rattle.claim_gate.specs.declared.fault.EndFault.{EndFault}
+use Rattle.claim_gate.specs.declared.fault.EndFault.TheVariants as end
+use Rattle.claim_gate.specs.declared.fault.FinishFault.{FinishFault}
+use Rattle.claim_gate.specs.declared.fault.FinishFault.TheVariants as finish
+use Rattle.claim_gate.specs.declared.fault.OfferFault.{OfferFault}
+use Rattle.claim_gate.specs.declared.fault.OfferFault.TheVariants as offer
+use Rattle.claim_gate.specs.declared.job.Job.{Job}
+use Rattle.claim_gate.specs.declared.offer.Offer.{Offer}
+use Rattle.claim_gate.specs.declared.reply.Accepted.{Accepted}
+use Rattle.claim_gate.specs.declared.reply.Ended.{Ended}
+use Rattle.claim_gate.specs.declared.reply.Recorded.{Recorded}
+use Rattle.crew.specs.Sharing.{HasTaken, IsInWork, is_past, is_shut}
+use Rattle.crew.proofs.Claims.{accepted-of, fields-decided}
+use Rattle.crew.proofs.Deciding.{job_stays, now_taken}
+use Rattle.crew.proofs.Journals.{Tell, any_now, closing_tells, ended_now, places_more}
+
+-- what was seen before leads to what is seen now
+pub led : (before after : Known) → HadSection before after → LeadsTo before.seen after.seen
+led before after h = leads_further before.seen after.found after.seen h.fresh h.grown
+
+-- where a journal goes on, a provider's accepted claims are no fewer
+pub no_fewer : (J K : List Event) (provider : ℕ) → Continues J K → length (places J provider) ≤ length (places K provider)
+no_fewer J K provider on =
+    let parts = ap (λ w. length (places w provider)) on.whole ∙ ap length (flat_map-append (place_in provider) J on.rest)
+    ∙ length-append (places J provider) (places on.rest provider) in
+    omega (arith, parts)
+
+-- refusals, as the gate of one thread has them
+end_told : (reply : Result Ended EndFault) (fault : EndFault) (expected : ℕ) → reply ≡ Err fault → fault ≡ end.OutOfTurn expected
+    → end_reply reply ≡ EndReply.OutOfTurn expected
+end_told reply fault expected err is = ap end_reply err ∙ ap (λ f. end_reply (Err f)) is
+
+offer_told : (reply : Result Accepted (OfferFault × Offer)) (fault : OfferFault) (back : Offer) (expected : ℕ) → reply ≡ Err (fault, back)
+    → fault ≡ offer.OutOfTurn expected → offer_reply reply ≡ OfferReply.OutOfTurn expected
+offer_told reply fault back expected err is = ap offer_reply err ∙ ap (λ f. offer_reply (Err (f, back))) is
+
+decided_told : (reply : Result Recorded (FinishFault × Job × Outcome)) (fault : FinishFault) (job : Job) (o : Outcome) → reply ≡ Err (fault, job, o)
+    → fault ≡ finish.AlreadyDecided → finish_reply reply ≡ FinishReply.AlreadyDecided
+decided_told reply fault job o err is = ap finish_reply err ∙ ap (λ f. finish_reply (Err (f, job, o))) is
+
+stopped_told : (reply : Result Recorded (FinishFault × Job × Outcome)) (fault : FinishFault) (job : Job) (o : Outcome) → reply ≡ Err (fault, job, o)
+    → fault ≡ finish.Stopped → finish_reply reply ≡ FinishReply.Stopped
+stopped_told reply fault job o err is = ap finish_reply err ∙ ap (λ f. finish_reply (Err (f, job, o))) is
+
+module _ (parts : TermsParts) (there : ¬ ForTerms parts (λ T. ⊥)) where
+  -- a test that holds for all terms
+  pub holds : (b : Bool) → ForTerms parts (λ T. b ≡ true) → b ≡ true
+  holds b h = elim (cases_Bool b) [
+    | inl is_true ↦ is_true
+    | inr other ↦ absurd (there (λ T is. false≢true (sym other ∙ h T is)))
+  ]
+
+  -- numbers in an order that holds for all terms
+  pub lies_below : (m n : ℕ) → ForTerms parts (λ T. m < n) → m < n
+  lies_below m n h = elim (cases_lt m n) [
+    | inl is_below ↦ is_below
+    | inr other ↦ absurd (there (λ T is. omega (arith, other, h T is)))
+  ]
+
+  module _ (before after : Known) (of_terms : before.seen.terms ≡ parts) (h : HadSection before after) where
+    -- the section by the terms that the caller knows
+    went : (Goes : GateAt → GateAt → Type 0) → Went Goes after → ForTerms parts (λ T. Goes (at T after.found) (at T after.seen))
+    went Goes w T is = w T (subst (λ terms. IsTermsOf terms T) (sym (h.fresh.terms ∙ of_terms)) is)
+
+    seen_terms : after.seen.terms ≡ parts
+    seen_terms = h.grown.terms ∙ h.fresh.terms ∙ of_terms
+
+    -- the gate is stopped, and the section has changed nothing
+    pub stopped_seen : Went (λ old new. (old.stopped ≡ true) × (new ≡ old)) after → after.seen.stopped ≡ true
+    stopped_seen w = holds after.seen.stopped (λ T is.
+        let r = went (λ old new. (old.stopped ≡ true) × (new ≡ old)) w T is in
+        ap (λ (g : GateAt). g.stopped) r.1 ∙ r.0)
+
+    pub stopped_shut : Went (λ old new. (old.stopped ≡ true) × (new ≡ old)) after → is_shut after.seen ≡ true
+    stopped_shut w = or_left after.seen.stopped (closed after.seen.journal) (stopped_seen w)
+
+    -- it is closed
+    pub closed_shut : Went (λ old new. (old.stopped ≡ false) × (closed old.journal ≡ true) × (new ≡ old)) after → is_shut after.seen ≡ true
+    closed_shut w = holds (is_shut after.seen) (λ T is.
+        let r = went (λ old new. (old.stopped ≡ false) × (closed old.journal ≡ true) × (new ≡ old)) w T is in
+        or_right after.seen.stopped (closed after.seen.journal) (ap (λ (g : GateAt). closed g.journal) r.2 ∙ r.1))
+
+    pub shut_past : (provider : ℕ) → is_shut after.seen ≡ true → is_past after.seen provider ≡ true
+    shut_past provider shut = or_left (is_shut after.seen) (ended after.seen.journal provider) shut
+
+    ended_past : (provider : ℕ) → ended after.seen.journal provider ≡ true → is_past after.seen provider ≡ true
+    ended_past provider over = or_right (is_shut after.seen) (ended after.seen.journal provider) over
+
+    -- the provider ends, or has ended
+    pub ends_past : (provider count : ℕ) → Went (λ old new. Ends old provider count EndReply.Ended new) after → is_past after.seen provider ≡ true
+    ends_past provider count w = holds (is_past after.seen provider) (λ T is.
+        let r = went (λ old new. Ends old provider count EndReply.Ended new) w T is in
+        let J = after.found.journal ++ End provider ∷ [] in
+        let journal : after.seen.journal ≡ closing T J = ap (λ (g : GateAt). g.journal) r.3 in
+        let t : Tell J after.seen.journal = rw journal (closing_tells T J) in
+        ended_past provider (t.ended provider ∙ ended_now after.found.journal provider))
+
+    pub already_past : (provider count : ℕ) → Went (λ old new. Ends old provider count EndReply.AlreadyEnded new) after → is_past after.seen provider ≡ true
+    already_past provider count w = holds (is_past after.seen provider) (λ T is.
+        let r = went (λ old new. Ends old provider count EndReply.AlreadyEnded new) w T is in
+        ended_past provider (ap (λ (g : GateAt). ended g.journal provider) r.3 ∙ r.2))
+
+    -- a provider of which so many claims are accepted doesn't lack one of them
+    pub none_lacks : (provider count expected : ℕ) (reply : Result Ended EndFault) (fault : EndFault) → reply ≡ Err fault → fault ≡ end.OutOfTurn expected
+        → HasTaken before.seen provider count → ¬ Went (λ old new. Ends old provider count (end_reply reply) new) after
+    none_lacks provider count expected reply fault err is_fault has w = there (λ T is.
+        let r : Ends (at T after.found) provider count (EndReply.OutOfTurn expected) (at T after.seen) =
+            subst (λ r. Ends (at T after.found) provider count r (at T after.seen)) (end_told reply fault expected err is_fault)
+            (went (λ old new. Ends old provider count (end_reply reply) new) w T is) in
+        omega (arith, r.1, r.2, has, no_fewer before.seen.journal after.found.journal provider h.fresh.journal))
+
+    -- a claim is accepted
+    pub accepts_on : (provider place position : ℕ) → Went (λ old new. Offers old provider place (OfferReply.Accepted position) new) after
+        → (place < place + 1) × HasTaken after.seen provider (place + 1)
+    accepts_on provider place position w =
+        let more = lies_below place (length (places after.seen.journal provider)) (λ T is.
+        let r = went (λ old new. Offers old provider place (OfferReply.Accepted position) new) w T is in
+        let J = after.found.journal ++ Accept provider place ∷ [] in
+        let journal : after.seen.journal ≡ closing T J = ap (λ (g : GateAt). g.journal) r.3 in
+        let t : Tell J after.seen.journal = rw journal (closing_tells T J) in
+        omega (arith, r.1, ap length (t.places provider), places_more after.found.journal provider place)) in
+        (omega arith, omega (arith, more))
+
+    -- another one is the provider's next, and that is a later one
+    pub goes_on : (provider place expected : ℕ) (reply : Result Accepted (OfferFault × Offer)) (fault : OfferFault) (back : Offer) → reply ≡ Err (fault, back)
+        → fault ≡ offer.OutOfTurn expected → HasTaken before.seen provider place → Went (λ old new. Offers old provider place (offer_reply reply) new) after
+        → (place < expected) × HasTaken after.seen provider expected
+    goes_on provider place expected reply fault back err is_fault has w =
+        let all : ForTerms parts (λ T. Offers (at T after.found) provider place (OfferReply.OutOfTurn expected) (at T after.seen)) = λ T is.
+            subst (λ r. Offers (at T after.found) provider place r (at T after.seen)) (offer_told reply fault back expected err is_fault)
+            (went (λ old new. Offers old provider place (offer_reply reply) new) w T is) in
+        let later = lies_below place expected (λ T is.
+            let r = all T is in
+            omega (arith, r.1, r.2, has, no_fewer before.seen.journal after.found.journal provider h.fresh.journal)) in
+        let within = lies_below expected (suc (length (places after.seen.journal provider))) (λ T is.
+            let r = all T is in
+            omega (arith, r.1, ap (λ (g : GateAt). length (places g.journal provider)) r.3)) in
+        (later, omega (arith, within))
+
+    -- the work is over
+    pub over_seen : Went (λ old new. Takes old TakeReply.Over new) after → ForTerms after.seen.terms (λ T. Finished T after.seen.journal)
+    over_seen w T is =
+        let r = went (λ old new. Takes old TakeReply.Over new) w T (subst (λ terms. IsTermsOf terms T) seen_terms is) in
+        subst (λ J. Finished T J) (sym (ap (λ (g : GateAt). g.journal) r.2)) r.1
+
+    -- a claim is taken
+    pub work_seen : ClaimsHaveFields → IsPlan parts.plan → (job : Job)
+        → Went (λ old new. Takes old (TakeReply.Work job.position job.claim job.acc) new) after → IsInWork after.seen job
+    work_seen law sound job w =
+        let all = went (λ old new. Takes old (TakeReply.Work job.position job.claim job.acc) new) w in
+        let journal : (T : Terms) → IsTermsOf parts T → after.seen.journal ≡ after.found.journal ++ Take job.position ∷ [] =
+        λ T is. ap (λ (g : GateAt). g.journal) (all T is).3 in
+        record {
+          in_work = holds (taken after.seen.journal job.position) (λ T is. rw (journal T is) (now_taken after.found.journal job.position));
+          is_job = λ T is.
+              let known = subst (λ terms. IsTermsOf terms T) seen_terms is in
+              rw (journal T known) (job_stays T after.found.journal job.position job.claim job.acc (all T known).2.job);
+          fields = subst (λ terms. IsClaimOf terms.plan job.claim) (sym seen_terms) (fields-decided parts.plan job.claim sound (λ other. there (λ T is.
+              other (accepted-of law parts T after.found.journal job.position job.claim sound is (all T is).2.job.stands))));
+        }
+
+    -- its decision is recorded, or was before
+    pub recorded_seen : (position : ℕ) (o : Outcome) → Went (λ old new. Finishes old position o FinishReply.Recorded new) after
+        → decided after.seen.journal position ≡ true
+    recorded_seen position o w = holds (decided after.seen.journal position) (λ T is.
+        let r = went (λ old new. Finishes old position o FinishReply.Recorded new) w T is in
+        let journal : after.seen.journal ≡ after.found.journal ++ Decide position o ∷ [] = ap (λ (g : GateAt). g.journal) r.2 in
+        rw journal (any_now (is_decide position) after.found.journal (Decide position o) (eq-eqb position position refl)))
+
+    pub already_seen : (position : ℕ) (o : Outcome) (reply : Result Recorded (FinishFault × Job × Outcome)) (fault : FinishFault) (job : Job) (back : Outcome)
+        → reply ≡ Err (fault, job, back) → fault ≡ finish.AlreadyDecided → Went (λ old new. Finishes old position o (finish_reply reply) new) after
+        → decided after.seen.journal position ≡ true
+    already_seen position o reply fault job back err is_fault w = holds (decided after.seen.journal position) (λ T is.
+        let r : Finishes (at T after.found) position o FinishReply.AlreadyDecided (at T after.seen) =
+            subst (λ r. Finishes (at T after.found) position o r (at T after.seen)) (decided_told reply fault job back err is_fault)
+            (went (λ old new. Finishes old position o (finish_reply reply) new) w T is) in
+        ap (λ (g : GateAt). decided g.journal position) r.2 ∙ r.1)
+
+    -- it is refused, since the gate is stopped
+    pub refused_seen : (position : ℕ) (o : Outcome) (reply : Result Recorded (FinishFault × Job × Outcome)) (fault : FinishFault) (job : Job) (back : Outcome)
+        → reply ≡ Err (fault, job, back) → fault ≡ finish.Stopped → Went (λ old new. Finishes old position o (finish_reply reply) new) after
+        → after.seen.stopped ≡ true
+    refused_seen position o reply fault job back err is_fault w = stopped_seen (λ T is.
+        subst (λ r. Finishes (at T after.found) position o r (at T after.seen)) (stopped_told reply fault job back err is_fault) (w T is))

@@ -1,0 +1,38 @@
+-- What the threads of a run have seen of the gate that they share.
+use Rattle.std.specs.Prelude.{◌≡◌, ◌<◌, ◌≤◌, ◌+◌, ◌||◌, ℕ, Bool, true, Option, Some, None, length}
+use Rattle.settlement.specs.Claim.{IsClaimOf}
+use Rattle.journal.specs.Events.{IsJob, closed, ended, places, taken}
+use Rattle.journal.specs.Lawful.{Finished}
+use Rattle.claim_gate.specs.Parts.{GateParts, ForTerms}
+use Rattle.claim_gate.specs.declared.job.Job.{Job}
+use Rattle.crew.specs.declared.worker.Turn.{Turn}
+use Rattle.crew.specs.declared.worker.Turn.TheVariants.{Over, Work, NothingReady}
+
+-- so many claims of the provider are accepted at least
+abbrev pub HasTaken : GateParts → ℕ → ℕ → Type 0
+HasTaken gate provider count = count ≤ length (places gate.journal provider)
+
+-- no claim and no end is accepted any more: the gate is stopped, or its journal is closed
+abbrev pub is_shut : GateParts → Bool
+is_shut gate = gate.stopped || closed gate.journal
+
+-- nor is one of this provider, where it has ended
+abbrev pub is_past : GateParts → ℕ → Bool
+is_past gate provider = is_shut gate || ended gate.journal provider
+
+-- what a provider is to offer behind the claim at a place: all in front of this later place are accepted, or no more is
+abbrev pub GoesOnAt : GateParts → ℕ → ℕ → Option ℕ → Type 0
+GoesOnAt gate provider place (Some next) = (place < next) × HasTaken gate provider next
+GoesOnAt gate provider place None = is_shut gate ≡ true
+
+-- the claim is taken, the job is its, and it has the fields that the plan decides by
+pub record IsInWork (gate : GateParts) (job : Job) : Type 0 where
+  pub in_work : taken gate.journal job.position ≡ true
+  pub is_job : ForTerms gate.terms (λ T. IsJob T gate.journal job.position job.claim job.acc)
+  pub fields : IsClaimOf gate.terms.plan job.claim
+
+-- what a worker is to do: nothing any more, where the journal is finished; or to decide a claim
+abbrev pub IsTurn : GateParts → Turn → Type 0
+IsTurn gate Over = ForTerms gate.terms (λ T. Finished T gate.journal)
+IsTurn gate (Work job) = IsInWork gate job
+IsTurn gate NothingReady = Unit {0}

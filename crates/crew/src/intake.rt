@@ -1,0 +1,188 @@
+//! What an intake of a run does: it reads a provider's file.
+ghost use Rattle.std.specs.Prelude.{◌≡◌, ◌≢◌, ◌<◌, ◌≤◌, ◌+◌, ◌-◌, ◌^◌, true, [], length, get_or, slice_get, Some, IfOk, IfErr};
+ghost use Rattle.intake_csv.specs.Rows.{IsAtStart};
+ghost use Rattle.claim_gate.specs.Parts.{ForTerms};
+ghost use Rattle.claim_gate.specs.Replies.{HasClaims, IsFiled};
+ghost use Rattle.claim_gate.specs.Shared.{LeadsTo};
+ghost use Rattle.crew.specs.Sharing.{GoesOnAt, HasTaken, is_past};
+ghost use Rattle.crew.specs.declared.fault.RunFault.TheVariants.{OutOfMemory, Workers};
+
+use crate::fault::RunFault;
+use crate::laws::terms_are_seen;
+use crate::stopping::stop;
+use claim_gate::{EndFault, Gate, Offer, OfferFault};
+use claim_terms::Terms;
+use feel_tests::field_spells_at_most_one_value;
+use fixpoint::text_denotes_at_most_one;
+use intake_csv::{Row, Rows, no_records_give_no_rows, reader_begins_with_all_rows};
+use std::alloc::Global;
+use std::sync::Wait;
+
+/// Offers the claims of a provider's file in order, and ends the provider behind the last. What others have offered of it isn't
+/// offered again. Where memory is wanting, the gate is stopped.
+pub(crate) fn take_in<R: Wait, G: Gate>(
+    rt: &R,
+    alloc: Global,
+    terms: &Terms,
+    gate: &G,
+    pass: G::Pass,
+    provider: usize,
+) -> Result<G::Pass, (RunFault, G::Pass)>
+    requires own { G.has_pass gate.now pass }
+    requires terms { (G.known pass).seen.terms ≡ terms.now }
+    requires least { 1 ≤ provider }
+    requires most { provider ≤ length terms.now.files }
+    ensures own { IfOk result (λ p. G.has_pass gate.now p) }
+    ensures back { IfErr result (λ e. G.has_pass gate.now e.1) }
+    ensures past { IfOk result (λ p. is_past (G.known p).seen provider ≡ true) }
+    ensures fault { IfErr result (λ e. e.0 ≢ Workers) }
+{
+    match read_on(rt, alloc, terms, gate, pass, provider) {
+        Ok(pass) => Ok(pass),
+        Err((RunFault::OutOfMemory, pass)) => Err((
+            RunFault::OutOfMemory,
+            stop(rt, terms, gate, pass),
+        )),
+        Err(left) => Err(left),
+    }
+}
+
+// The same without the stop.
+fn read_on<R: Wait, G: Gate>(
+    rt: &R,
+    alloc: Global,
+    terms: &Terms,
+    gate: &G,
+    mut pass: G::Pass,
+    provider: usize,
+) -> Result<G::Pass, (RunFault, G::Pass)>
+    requires own { G.has_pass gate.now pass }
+    requires terms { (G.known pass).seen.terms ≡ terms.now }
+    requires least { 1 ≤ provider }
+    requires most { provider ≤ length terms.now.files }
+    ensures own { IfOk result (λ p. G.has_pass gate.now p) }
+    ensures back { IfErr result (λ e. G.has_pass gate.now e.1) }
+    ensures past { IfOk result (λ p. is_past (G.known p).seen provider ≡ true) }
+    ensures fault { IfErr result (λ e. e.0 ≢ Workers) }
+{
+    reader_begins_with_all_rows();
+    no_records_give_no_rows();
+    text_denotes_at_most_one();
+    field_spells_at_most_one_value();
+    let mut rows = match open(alloc, terms, provider) {
+        Ok(rows) => rows,
+        Err(fault) => return Err((fault, pass)),
+    };
+    let mut count = 0;
+    let mut expected = 0;
+    loop {
+        let Ok(next) = rows.next() else {
+            return Err((RunFault::OutOfMemory, pass));
+        };
+        let Some(row) = next else {
+            return end(rt, terms, gate, pass, provider, count);
+        };
+        let Row::Good { claim, .. } = row else {
+            continue;
+        };
+        let place = count;
+        count += 1;
+        if place < expected {
+            continue;
+        }
+        let offered = Offer {
+            provider,
+            place,
+            claim,
+        };
+        (expected, pass) = match offer(rt, terms, gate, pass, offered) {
+            Ok((Some(next), pass)) => (next, pass),
+            Ok((None, pass)) => return Ok(pass),
+            Err(left) => return Err(left),
+        };
+    }
+}
+
+// The rows of a provider's file.
+fn open(alloc: Global, terms: &Terms, provider: usize) -> Result<Rows, RunFault>
+    requires least { 1 ≤ provider }
+    requires most { provider ≤ length terms.now.files }
+    ensures rows { IfOk result (IsAtStart terms.now.plan.names (get_or terms.now.files (provider - 1) [])) }
+    ensures fault { IfErr result (λ fault. fault ≡ OutOfMemory) }
+{
+    match Rows::new(alloc, terms.plan(), terms.files()[provider - 1]) {
+        Ok(rows) => Ok(rows),
+        Err(_) => Err(RunFault::OutOfMemory),
+    }
+}
+
+// Offers a claim, and gives the place of the provider's next one; none where no more claims are accepted.
+#[tactic(auto, using(crate::proofs::Sections::led))]
+fn offer<R: Wait, G: Gate>(
+    rt: &R,
+    terms: &Terms,
+    gate: &G,
+    pass: G::Pass,
+    offer: Offer,
+) -> Result<(Option<usize>, G::Pass), (RunFault, G::Pass)>
+    requires own { G.has_pass gate.now pass }
+    requires terms { (G.known pass).seen.terms ≡ terms.now }
+    requires filed { ForTerms terms.now (λ T. IsFiled T offer) }
+    requires taken { HasTaken (G.known pass).seen offer.provider offer.place }
+    requires room { offer.place + 1 < 2 ^ 64 }
+    ensures own { IfOk result (λ r. G.has_pass gate.now r.1) }
+    ensures back { IfErr result (λ e. G.has_pass gate.now e.1) }
+    ensures seen { IfOk result (λ r. LeadsTo (G.known pass).seen (G.known r.1).seen) }
+    ensures seen_back { IfErr result (λ e. LeadsTo (G.known pass).seen (G.known e.1).seen) }
+    ensures next { IfOk result (λ r. GoesOnAt (G.known r.1).seen offer.provider offer.place r.0) }
+    ensures fault { IfErr result (λ e. e.0 ≢ Workers) }
+{
+    terms_are_seen(terms);
+    let place = offer.place;
+    let (accepted, pass) = match gate.offer(rt, pass, offer) {
+        Ok(answer) => answer,
+        Err((_, pass, _)) => return Err((RunFault::Worn, pass)),
+    };
+    match accepted {
+        Ok(_) => Ok((Some(place + 1), pass)),
+        Err((OfferFault::OutOfTurn { expected }, _)) => Ok((Some(expected), pass)),
+        Err((OfferFault::Closed, _)) => Ok((None, pass)),
+        Err((OfferFault::Stopped, _)) => Ok((None, pass)),
+        Err((OfferFault::OutOfMemory, _)) => Err((RunFault::OutOfMemory, pass)),
+    }
+}
+
+// Ends a provider whose claims, so many, are all accepted.
+#[tactic(auto, using(crate::proofs::Sections::led))]
+fn end<R: Wait, G: Gate>(
+    rt: &R,
+    terms: &Terms,
+    gate: &G,
+    pass: G::Pass,
+    provider: usize,
+    count: usize,
+) -> Result<G::Pass, (RunFault, G::Pass)>
+    requires own { G.has_pass gate.now pass }
+    requires terms { (G.known pass).seen.terms ≡ terms.now }
+    requires claims { ForTerms terms.now (λ T. HasClaims T provider count) }
+    requires taken { HasTaken (G.known pass).seen provider count }
+    ensures own { IfOk result (λ p. G.has_pass gate.now p) }
+    ensures back { IfErr result (λ e. G.has_pass gate.now e.1) }
+    ensures seen_back { IfErr result (λ e. LeadsTo (G.known pass).seen (G.known e.1).seen) }
+    ensures past { IfOk result (λ p. is_past (G.known p).seen provider ≡ true) }
+    ensures fault { IfErr result (λ e. e.0 ≢ Workers) }
+{
+    terms_are_seen(terms);
+    let (ended, pass) = match gate.end(rt, pass, provider, count) {
+        Ok(answer) => answer,
+        Err((_, pass)) => return Err((RunFault::Worn, pass)),
+    };
+    match ended {
+        Ok(_) => Ok(pass),
+        Err(EndFault::AlreadyEnded) => Ok(pass),
+        Err(EndFault::Closed) => Ok(pass),
+        Err(EndFault::Stopped) => Ok(pass),
+        Err(EndFault::OutOfMemory) => Err((RunFault::OutOfMemory, pass)),
+        Err(EndFault::OutOfTurn { .. }) => unreachable!(),
+    }
+}

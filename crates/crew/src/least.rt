@@ -1,0 +1,44 @@
+//! The least fault that the threads of a run have met.
+ghost use Rattle.std.specs.Prelude.{◌≡◌, ◌≤◌};
+ghost use Rattle.crew.specs.FaultNumber.{number_of};
+ghost use Rattle.crew.specs.declared.fault.RunFault.TheVariants.{Workers, Stopped};
+
+use crate::fault::RunFault;
+use std::sync::atomic::{AtomicU64, Ordering};
+
+/// The least fault that any thread has noted, by its number.
+#[derive(Drop)]
+pub(crate) struct LeastFault {
+    number: AtomicU64,
+}
+
+impl LeastFault {
+    /// Nothing is noted yet.
+    pub(crate) fn new() -> LeastFault {
+        LeastFault {
+            number: AtomicU64::new(u64::MAX),
+        }
+    }
+
+    /// Notes a fault.
+    pub(crate) fn note(&self, fault: RunFault) {
+        self.number
+            .fetch_min(u64::from(fault.number()), Ordering::SeqCst);
+    }
+
+    /// The lesser of the caller's own fault and of the least that was noted. Only the faults that a thread meets by itself count:
+    /// that the run was stopped each caller sees for itself.
+    pub(crate) fn or_own(&self, own: RunFault) -> RunFault
+        ensures least { number_of result ≤ number_of own }
+        ensures workers { result ≡ Workers → own ≡ Workers }
+        ensures stopped { result ≡ Stopped → own ≡ Stopped }
+    {
+        let noted = self.number.load(Ordering::SeqCst);
+        match noted.min(u64::from(own.number())) {
+            2 => RunFault::OutOfMemory,
+            3 => RunFault::Thread,
+            4 => RunFault::Worn,
+            _ => own,
+        }
+    }
+}

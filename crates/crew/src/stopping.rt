@@ -1,0 +1,24 @@
+//! How a thread that can't go on ends the run.
+ghost use Rattle.std.specs.Prelude.{◌≡◌, ◌⊎◌, true};
+ghost use Rattle.claim_gate.specs.Shared.{LeadsTo};
+
+use crate::laws::terms_are_seen;
+use claim_gate::Gate;
+use claim_terms::Terms;
+use std::sync::Wait;
+
+/// Stops the gate, so that all threads leave. Where its lock is worn, no thread can call it any more.
+#[tactic(auto, using(crate::proofs::Sections::led))]
+pub(crate) fn stop<R: Wait, G: Gate>(rt: &R, terms: &Terms, gate: &G, pass: G::Pass) -> G::Pass
+    requires own { G.has_pass gate.now pass }
+    requires terms { (G.known pass).seen.terms ≡ terms.now }
+    ensures own { G.has_pass gate.now result }
+    ensures seen { LeadsTo (G.known pass).seen (G.known result).seen }
+    ensures stopped { ((G.known result).seen.stopped ≡ true) ⊎ G.is_worn result }
+{
+    terms_are_seen(terms);
+    match gate.stop(rt, pass) {
+        Ok(pass) => pass,
+        Err((_, pass)) => pass,
+    }
+}

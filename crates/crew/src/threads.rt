@@ -1,0 +1,187 @@
+//! A run by many threads: an intake for each provider's file, and so many workers.
+ghost use Rattle.std.specs.Prelude.{◌≡◌, ◌≢◌, ◌↔◌, ◌<◌, ◌≤◌, ◌+◌, true, length, IfOk, IfErr, OnOk};
+ghost use Rattle.journal.specs.Lawful.{Finished};
+ghost use Rattle.claim_gate.specs.Parts.{ForTerms};
+ghost use Rattle.claim_gate.specs.Shared.{LeadsTo};
+ghost use Rattle.crew.specs.Workers.{IsWorkerCount};
+ghost use Rattle.crew.specs.declared.fault.RunFault.TheVariants.{Workers, Stopped};
+
+use crate::fault::RunFault;
+use crate::intake::take_in;
+use crate::laws::terms_are_seen;
+use crate::least::LeastFault;
+use crate::stopping::stop;
+use crate::worker::work;
+use claim_gate::{Batch, Gate, GateState, LockedGate, SerialGate};
+use claim_terms::Terms;
+use journal::finished_is_final;
+use std::alloc::Global;
+use std::sync::Wait;
+use std::thread;
+use std::thread::Threads;
+use turn_lock::{Section, SpinLock};
+
+/// How many workers a run may have at most.
+pub const WORKERS_LIMIT: usize = 64;
+
+/// Runs by an intake thread for each provider's file and so many workers, behind a spin lock.
+pub fn run<'t, R: Threads + Wait + Sync>(
+    rt: &R,
+    alloc: Global,
+    terms: &'t Terms<'t>,
+    workers: usize,
+) -> Result<Batch<'t>, RunFault>
+    ensures terms { IfOk result (λ batch. batch.terms ≡ terms.now) }
+    ensures finished { IfOk result (λ batch. ForTerms terms.now (λ T. Finished T batch.journal)) }
+    ensures workers { OnOk result (IsWorkerCount workers) }
+    ensures refused { IfErr result (λ fault. (fault ≡ Workers) ↔ (¬ IsWorkerCount workers)) }
+{
+    if workers == 0 || workers > WORKERS_LIMIT {
+        return Err(RunFault::Workers);
+    }
+    terms_are_seen(terms);
+    let state = GateState::new(alloc, terms)?;
+    let (lock, pass) = SpinLock::new(alloc, state)?;
+    let state = run_behind(rt, alloc, terms, workers, lock, pass)?;
+    match Batch::from_state(state, terms) {
+        Ok(batch) => Ok(batch),
+        Err(_) => unreachable!(),
+    }
+}
+
+// The gate of a finished run behind a lock.
+fn run_behind<S: Section + Drop + Sync, R: Threads + Wait + Sync>(
+    rt: &R,
+    alloc: Global,
+    terms: &Terms,
+    workers: usize,
+    lock: S,
+    pass: S::Pass,
+) -> Result<S::Value, RunFault>
+where
+    S::Value: SerialGate + Drop + Send + Sync,
+    S::Pass: Send + Drop,
+    requires own { S.has_pass lock pass }
+    requires terms { (S.Value.shown (S.seen pass)).terms ≡ terms.now }
+    requires workers { IsWorkerCount workers }
+    ensures terms { IfOk result (λ state. (S.Value.shown state).terms ≡ terms.now) }
+    ensures finished { IfOk result (λ state. ForTerms terms.now (λ T. Finished T (S.Value.shown state).journal)) }
+    ensures fault { IfErr result (λ fault. fault ≢ Workers) }
+{
+    finished_is_final();
+    let gate = LockedGate::over(lock);
+    let pass = match run_with(rt, alloc, terms, workers, &gate, pass) {
+        Ok(pass) => pass,
+        Err((fault, _)) => return Err(fault),
+    };
+    match gate.retire(rt, pass) {
+        Ok(state) => Ok(state),
+        Err(_) => Err(RunFault::Worn),
+    }
+}
+
+/// The same on a gate and a pass of the caller's. The caller takes part as one worker more until the journal is finished, and
+/// then waits for all threads.
+pub fn run_with<R: Threads + Wait + Sync, G: Gate + Sync>(
+    rt: &R,
+    alloc: Global,
+    terms: &Terms,
+    workers: usize,
+    gate: &G,
+    pass: G::Pass,
+) -> Result<G::Pass, (RunFault, G::Pass)>
+    requires own { G.has_pass gate.now pass }
+    requires terms { (G.known pass).seen.terms ≡ terms.now }
+    ensures own { IfOk result (λ p. G.has_pass gate.now p) }
+    ensures back { IfErr result (λ e. G.has_pass gate.now e.1) }
+    ensures seen { IfOk result (λ p. LeadsTo (G.known pass).seen (G.known p).seen) }
+    ensures seen_back { IfErr result (λ e. LeadsTo (G.known pass).seen (G.known e.1).seen) }
+    ensures finished { IfOk result (λ p. ForTerms terms.now (λ T. Finished T (G.known p).seen.journal)) }
+    ensures workers { OnOk result (IsWorkerCount workers) }
+    ensures refused { IfErr result (λ e. (e.0 ≡ Workers) ↔ (¬ IsWorkerCount workers)) }
+    ensures stopped { IfErr result (λ e. e.0 ≡ Stopped → (G.known e.1).seen.stopped ≡ true) }
+{
+    if workers == 0 || workers > WORKERS_LIMIT {
+        return Err((RunFault::Workers, pass));
+    }
+    let least = LeastFault::new();
+    match in_threads(rt, alloc, terms, workers, gate, pass, &least) {
+        Ok(pass) => Ok(pass),
+        Err((own, pass)) => Err((least.or_own(own), pass)),
+    }
+}
+
+// Starts the threads, works, and waits for them. A thread notes its fault; the caller's own comes back.
+fn in_threads<R: Threads + Wait + Sync, G: Gate + Sync>(
+    rt: &R,
+    alloc: Global,
+    terms: &Terms,
+    workers: usize,
+    gate: &G,
+    pass: G::Pass,
+    least: &LeastFault,
+) -> Result<G::Pass, (RunFault, G::Pass)>
+    requires own { G.has_pass gate.now pass }
+    requires terms { (G.known pass).seen.terms ≡ terms.now }
+    requires workers { IsWorkerCount workers }
+    ensures own { IfOk result (λ p. G.has_pass gate.now p) }
+    ensures back { IfErr result (λ e. G.has_pass gate.now e.1) }
+    ensures seen { IfOk result (λ p. LeadsTo (G.known pass).seen (G.known p).seen) }
+    ensures seen_back { IfErr result (λ e. LeadsTo (G.known pass).seen (G.known e.1).seen) }
+    ensures finished { IfOk result (λ p. ForTerms terms.now (λ T. Finished T (G.known p).seen.journal)) }
+    ensures fault { IfErr result (λ e. e.0 ≢ Workers) }
+    ensures stopped { IfErr result (λ e. e.0 ≡ Stopped → (G.known e.1).seen.stopped ≡ true) }
+{
+    let threads = terms.files().len() + workers;
+    thread::scope(
+        thread::scope_env(),
+        rt,
+        |scope| -> Result<G::Pass, (RunFault, G::Pass)>
+            requires { G.has_pass gate.now pass × ((G.known pass).seen.terms ≡ terms.now) }
+            ensures own { IfOk result (λ p. G.has_pass gate.entry.now p) }
+            ensures back { IfErr result (λ e. G.has_pass gate.entry.now e.1) }
+            ensures seen { IfOk result (λ p. LeadsTo (G.known pass).seen (G.known p).seen) }
+            ensures seen_back { IfErr result (λ e. LeadsTo (G.known pass).seen (G.known e.1).seen) }
+            ensures finished { IfOk result (λ p. ForTerms terms.entry.now (λ T. Finished T (G.known p).seen.journal)) }
+            ensures fault { IfErr result (λ e. e.0 ≢ Workers) }
+            ensures stopped { IfErr result (λ e. e.0 ≡ Stopped → (G.known e.1).seen.stopped ≡ true) }
+        {
+            let mut pass = pass;
+            'threads: for number in 0..threads {
+                let (mine, theirs) = gate.split(pass);
+                let job = move ||
+                    requires { G.has_pass gate.now theirs × ((G.known theirs).seen.terms ≡ terms.now) }
+                { take_part(rt, alloc, terms, gate, theirs, number, least) };
+                if scope.spawn(job).is_err() {
+                    least.note(RunFault::Thread);
+                    return work(rt, alloc, terms, gate, stop(rt, terms, gate, mine));
+                }
+                pass = mine;
+            }
+            work(rt, alloc, terms, gate, pass)
+        },
+    )
+}
+
+// What the thread of this number does: the first ones are the providers' intakes, the others are workers.
+fn take_part<R: Wait, G: Gate>(
+    rt: &R,
+    alloc: Global,
+    terms: &Terms,
+    gate: &G,
+    pass: G::Pass,
+    number: usize,
+    least: &LeastFault,
+)
+    requires own { G.has_pass gate.now pass }
+    requires terms { (G.known pass).seen.terms ≡ terms.now }
+{
+    let left = if number < terms.files().len() {
+        take_in(rt, alloc, terms, gate, pass, number + 1)
+    } else {
+        work(rt, alloc, terms, gate, pass)
+    };
+    if let Err((fault, _)) = left {
+        least.note(fault);
+    }
+}
