@@ -62,6 +62,7 @@ fn read_on<R: Wait, G: Gate>(
     requires most { provider ≤ length terms.now.files }
     ensures own { IfOk result (λ p. G.has_pass gate.now p) }
     ensures back { IfErr result (λ e. G.has_pass gate.now e.1) }
+    ensures terms { IfErr result (λ e. (G.known e.1).seen.terms ≡ terms.now) }
     ensures past { IfOk result (λ p. is_past (G.known p).seen provider ≡ true) }
     ensures fault { IfErr result (λ e. e.0 ≢ Workers) }
 {
