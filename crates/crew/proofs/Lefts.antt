@@ -7,7 +7,7 @@ use Rattle.settlement.specs.declared.claim.Claim.{Claim}
 use Rattle.dtable.specs.Plan.{PlanParts}
 use Rattle.dtable.specs.declared.table.InputData.{InputData}
 use Rattle.intake_csv.specs.Laws.{NoRecordsNoRows, StartHasTheRows}
-use Rattle.intake_csv.specs.Rows.{GivesRow, IsAtStart, RowsLeft}
+use Rattle.intake_csv.specs.Rows.{AreRowsLeft, GivesRow, IsAtStart, RowsLeft}
 use Rattle.intake_csv.specs.declared.fault.RowFault.{RowFault}
 use Rattle.intake_csv.specs.declared.rows.Row.{Row}
 use Rattle.intake_csv.specs.declared.rows.Row.TheVariants.{Good, Bad}
@@ -15,9 +15,16 @@ use Rattle.claim_terms.specs.Terms.{AreClaimsOf, IsTermsOf, TermsParts, claim_in
 use Rattle.journal.specs.Terms.{Terms, claims_of}
 use Rattle.claim_gate.specs.Parts.{ForTerms, GateParts}
 use Rattle.claim_gate.specs.Replies.{HasClaims}
-use Rattle.crew.specs.Reading.{AreLeft, IsReading}
 use Rattle.crew.specs.Sharing.{HasTaken}
 use Rattle.crew.proofs.OneClaim.{BeginLike, alike, begin-like}
+
+-- behind so many claims of a provider, those among the rows that are left are its other ones
+pub record AreLeft (T : Terms) (provider count : ℕ) (left : RowsLeft) : Type 0 where
+  pub front : List Claim
+  pub rows : List Row
+  pub are_rows : AreRowsLeft left rows
+  pub whole : claims_of T provider ≡ front ++ claims_among rows
+  pub counted : length front ≡ count
 
 -- the claims of a file at a place
 at_place : (names : List InputData) (texts : List (List ℕ)) (files : List (List Claim)) (i : ℕ) → AllZip (AreClaimsOf names) texts files → i < length texts
@@ -107,23 +114,8 @@ left_none law parts T provider count left terms least most none h =
       count_is = sym h.counted ∙ ap length (sym all);
     }
 
--- what holds between two records of a provider's file
-pub record IsAtRecord (terms : TermsParts) (plan : PlanParts) (provider count : ℕ) (gate : GateParts) (left : RowsLeft) : Type 0 where
-  pub of_terms : gate.terms ≡ terms
-  pub of_plan : plan ≡ terms.plan
-  pub reading : ForTerms terms (λ T. IsReading T provider count gate)
-  pub claims : ForTerms terms (λ T. AreLeft T provider count left)
-  pub place : left.place ≡ count
-  pub fewer : left.place < left.number
-
--- what holds between two files: this provider's is the next one
-pub record IsAtFile (terms : TermsParts) (plan : PlanParts) (provider : ℕ) (gate : GateParts) : Type 0 where
-  pub of_terms : gate.terms ≡ terms
-  pub of_plan : plan ≡ terms.plan
-  pub reading : ForTerms terms (λ T. IsReading T provider 0 gate)
-
--- what holds between two records of a provider's file, as an intake reads it: so many claims were read, and all in front of the
--- place that is expected next are accepted
+-- what holds between two records of a provider's file: so many claims were read, and all in front of the place that is expected next
+-- are accepted
 pub record IsAtOffer (terms : TermsParts) (seen : GateParts) (provider count expected : ℕ) (left : RowsLeft) : Type 0 where
   pub of_terms : seen.terms ≡ terms
   pub claims : ForTerms terms (λ T. AreLeft T provider count left)

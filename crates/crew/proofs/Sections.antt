@@ -30,8 +30,7 @@ use Rattle.claim_gate.specs.declared.reply.Ended.{Ended}
 use Rattle.claim_gate.specs.declared.reply.Recorded.{Recorded}
 use Rattle.crew.specs.Sharing.{HasTaken, IsInWork, is_past, is_shut}
 use Rattle.crew.proofs.Claims.{accepted-of, fields-decided}
-use Rattle.crew.proofs.Deciding.{job_stays, now_taken}
-use Rattle.crew.proofs.Journals.{Tell, any_now, closing_tells, ended_now, places_more}
+use Rattle.crew.proofs.Journals.{Tell, any_now, closing_tells, ended_now, job_stays, now_taken, places_more}
 
 -- what was seen before leads to what is seen now
 pub led : (before after : Known) → HadSection before after → LeadsTo before.seen after.seen
@@ -124,8 +123,8 @@ module _ (parts : TermsParts) (there : ¬ ForTerms parts (λ T. ⊥)) where
         → HasTaken before.seen provider count → ¬ Went (λ old new. Ends old provider count (end_reply reply) new) after
     none_lacks provider count expected reply fault err is_fault has w = there (λ T is.
         let r : Ends (at T after.found) provider count (EndReply.OutOfTurn expected) (at T after.seen) =
-            subst (λ r. Ends (at T after.found) provider count r (at T after.seen)) (end_told reply fault expected err is_fault)
-            (went (λ old new. Ends old provider count (end_reply reply) new) w T is) in
+        subst (λ r. Ends (at T after.found) provider count r (at T after.seen)) (end_told reply fault expected err is_fault)
+        (went (λ old new. Ends old provider count (end_reply reply) new) w T is) in
         omega (arith, r.1, r.2, has, no_fewer before.seen.journal after.found.journal provider h.fresh.journal))
 
     -- a claim is accepted
@@ -146,14 +145,14 @@ module _ (parts : TermsParts) (there : ¬ ForTerms parts (λ T. ⊥)) where
         → (place < expected) × HasTaken after.seen provider expected
     goes_on provider place expected reply fault back err is_fault has w =
         let all : ForTerms parts (λ T. Offers (at T after.found) provider place (OfferReply.OutOfTurn expected) (at T after.seen)) = λ T is.
-            subst (λ r. Offers (at T after.found) provider place r (at T after.seen)) (offer_told reply fault back expected err is_fault)
-            (went (λ old new. Offers old provider place (offer_reply reply) new) w T is) in
+        subst (λ r. Offers (at T after.found) provider place r (at T after.seen)) (offer_told reply fault back expected err is_fault)
+        (went (λ old new. Offers old provider place (offer_reply reply) new) w T is) in
         let later = lies_below place expected (λ T is.
-            let r = all T is in
-            omega (arith, r.1, r.2, has, no_fewer before.seen.journal after.found.journal provider h.fresh.journal)) in
+        let r = all T is in
+        omega (arith, r.1, r.2, has, no_fewer before.seen.journal after.found.journal provider h.fresh.journal)) in
         let within = lies_below expected (suc (length (places after.seen.journal provider))) (λ T is.
-            let r = all T is in
-            omega (arith, r.1, ap (λ (g : GateAt). length (places g.journal provider)) r.3)) in
+        let r = all T is in
+        omega (arith, r.1, ap (λ (g : GateAt). length (places g.journal provider)) r.3)) in
         (later, omega (arith, within))
 
     -- the work is over
@@ -191,8 +190,8 @@ module _ (parts : TermsParts) (there : ¬ ForTerms parts (λ T. ⊥)) where
         → decided after.seen.journal position ≡ true
     already_seen position o reply fault job back err is_fault w = holds (decided after.seen.journal position) (λ T is.
         let r : Finishes (at T after.found) position o FinishReply.AlreadyDecided (at T after.seen) =
-            subst (λ r. Finishes (at T after.found) position o r (at T after.seen)) (decided_told reply fault job back err is_fault)
-            (went (λ old new. Finishes old position o (finish_reply reply) new) w T is) in
+        subst (λ r. Finishes (at T after.found) position o r (at T after.seen)) (decided_told reply fault job back err is_fault)
+        (went (λ old new. Finishes old position o (finish_reply reply) new) w T is) in
         ap (λ (g : GateAt). decided g.journal position) r.2 ∙ r.1)
 
     -- it is refused, since the gate is stopped

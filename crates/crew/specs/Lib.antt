@@ -1,4 +1,3 @@
 pub mod FaultNumber
 pub mod Workers
 pub mod Sharing
-pub mod Reading

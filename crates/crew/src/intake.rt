@@ -18,6 +18,9 @@ use intake_csv::{Row, Rows, no_records_give_no_rows, reader_begins_with_all_rows
 use std::alloc::Global;
 use std::sync::Wait;
 
+#[cfg(test)]
+mod tests;
+
 /// Offers the claims of a provider's file in order, and ends the provider behind the last. What others have offered of it isn't
 /// offered again. Where memory is wanting, the gate is stopped.
 pub(crate) fn take_in<R: Wait, G: Gate>(
@@ -105,7 +108,7 @@ fn read_on<R: Wait, G: Gate>(
 }
 
 // The rows of a provider's file.
-fn open(alloc: Global, terms: &Terms, provider: usize) -> Result<Rows, RunFault>
+fn open<'t>(alloc: Global, terms: &'t Terms, provider: usize) -> Result<Rows<'t>, RunFault>
     requires least { 1 ≤ provider }
     requires most { provider ≤ length terms.now.files }
     ensures rows { IfOk result (IsAtStart terms.now.plan.names (get_or terms.now.files (provider - 1) [])) }

@@ -1,12 +1,12 @@
 //! Runs: the providers' files are read, their claims accepted and decided, until the journal is finished.
 //!
-//! `run_alone` is the run on one thread, over terms from `claim_terms` and a gate from `claim_gate`; files come from
-//! `intake_csv`, decisions from `settlement`.
+//! `run` does so by an intake thread for each provider's file and by workers, over terms from `claim_terms` and a gate from
+//! `claim_gate`, which they share behind a lock from `turn_lock`; files come from `intake_csv`, decisions from `settlement`.
+//! `run_with` is the same on a gate of the caller's.
 //!
-//! Begin with `alone.rt`, whose `run_alone` carries the promise, and `specs/Reading.antt`, which says how far a run is.
+//! Begin with `threads.rt`, whose `run` and `run_with` carry the promise; `intake.rt` and `worker.rt` are what the threads do.
 #![tactic(auto)]
 
-mod alone;
 mod fault;
 mod intake;
 mod laws;
@@ -17,7 +17,6 @@ mod tests;
 mod threads;
 mod worker;
 
-pub use alone::run_alone;
 pub use fault::RunFault;
 pub use laws::terms_are_seen;
 pub use threads::{WORKERS_LIMIT, run, run_with};

@@ -1,5 +1,5 @@
-//! Runs by worked examples: each journal is written by hand, an event a line.
-use crate::{RunFault, run_alone};
+//! Runs by worked examples: what each claim comes to is written by hand, whatever the schedule.
+use crate::{RunFault, WORKERS_LIMIT, run};
 use claim_terms::Terms;
 use dtable::{Plan, read_plan};
 use journal::Event;
@@ -9,8 +9,10 @@ use std::fmt::Write;
 use std::process::Abort;
 use std::test::Fail;
 
+mod meeting;
+
 /// A plan with a table of fees and one of remarks.
-const PLAN: &[u8] = br#"
+pub const PLAN: &[u8] = br#"
 version = 1
 fields = [{name = "code", kind = "text"}]
 
@@ -42,7 +44,7 @@ rules = [
 ]
 "#;
 
-const ONE: &[u8] = b"claim,member,service,billed,code
+pub const ONE: &[u8] = b"claim,member,service,billed,code
 c1,M1,2024-01-05,120.00,A
 c2,M1,2024-02-01,40.00,B
 c3,M1,2024-02-02,40.00,Z
@@ -50,7 +52,7 @@ c4,M1,2024-03-01,100.00,A
 ";
 
 /// The second record is refused: it isn't in whole cents.
-const TWO: &[u8] = b"claim,member,service,billed,code
+pub const TWO: &[u8] = b"claim,member,service,billed,code
 d1,M2,2024-01-09,30.00,B
 d2,M2,2024-01-10,9.999,B
 d3,M2,2024-01-11,10.00,X
@@ -58,15 +60,10 @@ d3,M2,2024-01-11,10.00,X
 
 const HEADER: &[u8] = b"claim,member,service,billed,code\n";
 
-/// The first file's claims in two files.
-const ONE_A: &[u8] = b"claim,member,service,billed,code
-c1,M1,2024-01-05,120.00,A
-c2,M1,2024-02-01,40.00,B
-";
-
-const ONE_B: &[u8] = b"claim,member,service,billed,code
-c3,M1,2024-02-02,40.00,Z
-c4,M1,2024-03-01,100.00,A
+const THREE: &[u8] = b"claim,member,service,billed,code
+e1,M3,2024-01-05,120.00,A
+e2,M3,2024-02-01,40.00,B
+e3,M4,2024-02-02,40.00,X
 ";
 
 /// Refused records in front of the first claim, between the claims, and behind the last.
@@ -84,123 +81,32 @@ const BALANCES: &[u8] = b"member,met,oop,paid
 M1,50.00,10.00,5.00
 ";
 
-const BOTH_FILES: &str = "accept 1 0
-take 0
-decide 0 paid 100.00 50.00 10.00 8.00 60.00 40.00 OVER
-accept 1 1
-take 1
-decide 1 paid 40.00 0.00 10.00 6.00 0.00 40.00 MET
-accept 1 2
-take 2
-decide 2 norule:1 0.00 0.00 0.00 0.00 0.00 0.00
-accept 1 3
-take 3
-decide 3 paid 100.00 0.00 10.00 18.00 0.00 100.00 MET
-end 1
-accept 2 0
-take 4
-decide 4 paid 30.00 30.00 0.00 0.00 30.00 0.00
-accept 2 1
-take 5
-decide 5 denied 0.00 0.00 0.00 0.00 0.00 0.00
-end 2
-close
-";
-
-/// The cutoff is reached at the first claim of the second file.
-const UP_TO_FIVE: &str = "accept 1 0
-take 0
-decide 0 paid 100.00 50.00 10.00 8.00 60.00 40.00 OVER
-accept 1 1
-take 1
-decide 1 paid 40.00 0.00 10.00 6.00 0.00 40.00 MET
-accept 1 2
-take 2
-decide 2 norule:1 0.00 0.00 0.00 0.00 0.00 0.00
-accept 1 3
-take 3
-decide 3 paid 100.00 0.00 10.00 18.00 0.00 100.00 MET
-end 1
-accept 2 0
-close
-take 4
-decide 4 paid 30.00 30.00 0.00 0.00 30.00 0.00
-";
-
-/// The cutoff is reached in the middle of the first file.
-const UP_TO_TWO: &str = "accept 1 0
-take 0
-decide 0 paid 100.00 50.00 10.00 8.00 60.00 40.00 OVER
-accept 1 1
-close
-take 1
-decide 1 paid 40.00 0.00 10.00 6.00 0.00 40.00 MET
-";
-
-/// The cutoff is reached at the last of all claims, so that its provider doesn't end.
-const UP_TO_ALL: &str = "accept 1 0
-take 0
-decide 0 paid 30.00 30.00 0.00 0.00 30.00 0.00
-accept 1 1
-close
-take 1
-decide 1 denied 0.00 0.00 0.00 0.00 0.00 0.00
-";
-
-/// The member's later claims stand in the second file, and go on where the first one's left the accumulators.
-const IN_TWO_FILES: &str = "accept 1 0
-take 0
-decide 0 paid 100.00 50.00 10.00 8.00 60.00 40.00 OVER
-accept 1 1
-take 1
-decide 1 paid 40.00 0.00 10.00 6.00 0.00 40.00 MET
-end 1
-accept 2 0
-take 2
-decide 2 norule:1 0.00 0.00 0.00 0.00 0.00 0.00
-accept 2 1
-take 3
-decide 3 paid 100.00 0.00 10.00 18.00 0.00 100.00 MET
-end 2
-close
+/// The claims of both files by provider and place, and how many events of each kind there are.
+pub const BOTH_FILES: &str = "1 0 paid 100.00 50.00 10.00 8.00 60.00 40.00 OVER
+1 1 paid 40.00 0.00 10.00 6.00 0.00 40.00 MET
+1 2 norule:1 0.00 0.00 0.00 0.00 0.00 0.00
+1 3 paid 100.00 0.00 10.00 18.00 0.00 100.00 MET
+2 0 paid 30.00 30.00 0.00 0.00 30.00 0.00
+2 1 denied 0.00 0.00 0.00 0.00 0.00 0.00
+accepts 6 takes 6 decides 6 ends 2 closes 1
 ";
 
 /// With the deductible met and 10.00 out of pocket at the start, the limit of 60.00 is reached by 28.00, 16.00 and 6.00.
-const FROM_BALANCES: &str = "accept 1 0
-take 0
-decide 0 paid 100.00 0.00 10.00 18.00 28.00 72.00 OVER MET
-accept 1 1
-take 1
-decide 1 paid 40.00 0.00 10.00 6.00 16.00 24.00 MET
-accept 1 2
-take 2
-decide 2 norule:1 0.00 0.00 0.00 0.00 0.00 0.00
-accept 1 3
-take 3
-decide 3 paid 100.00 0.00 10.00 18.00 6.00 94.00 MET
-end 1
-accept 2 0
-take 4
-decide 4 paid 30.00 30.00 0.00 0.00 30.00 0.00
-accept 2 1
-take 5
-decide 5 denied 0.00 0.00 0.00 0.00 0.00 0.00
-end 2
-close
+const FROM_BALANCES: &str = "1 0 paid 100.00 0.00 10.00 18.00 28.00 72.00 OVER MET
+1 1 paid 40.00 0.00 10.00 6.00 16.00 24.00 MET
+1 2 norule:1 0.00 0.00 0.00 0.00 0.00 0.00
+1 3 paid 100.00 0.00 10.00 18.00 6.00 94.00 MET
+2 0 paid 30.00 30.00 0.00 0.00 30.00 0.00
+2 1 denied 0.00 0.00 0.00 0.00 0.00 0.00
+accepts 6 takes 6 decides 6 ends 2 closes 1
 ";
 
-const BETWEEN_REFUSED: &str = "accept 1 0
-take 0
-decide 0 paid 1.00 1.00 0.00 0.00 1.00 0.00
-accept 1 1
-take 1
-decide 1 paid 30.00 30.00 0.00 0.00 30.00 0.00
-end 1
-end 2
-close
+const BETWEEN_REFUSED: &str = "1 0 paid 1.00 1.00 0.00 0.00 1.00 0.00
+1 1 paid 30.00 30.00 0.00 0.00 30.00 0.00
+accepts 2 takes 2 decides 2 ends 2 closes 1
 ";
 
-fn plan(rt: &impl Abort, alloc: Global) -> Plan {
+pub fn plan(rt: &impl Abort, alloc: Global) -> Plan {
     read_plan(alloc, PLAN).expect(rt, "a plan")
 }
 
@@ -229,78 +135,160 @@ fn write_outcome(text: &mut String, outcome: &Outcome) -> Result<(), Fail> {
     Ok(())
 }
 
-fn write_event(text: &mut String, event: &Event) -> Result<(), Fail> {
-    match event {
-        Event::Accept { provider, place } => write!(text, "accept {provider} {place}")?,
-        Event::End { provider } => write!(text, "end {provider}")?,
-        Event::Close => write!(text, "close")?,
-        Event::Take { position } => write!(text, "take {position}")?,
-        Event::Decide { position, outcome } => {
-            write!(text, "decide {position} ")?;
+// The outcome of the claim at a position.
+fn write_decision(text: &mut String, journal: &[Event], position: usize) -> Result<(), Fail> {
+    for event in journal {
+        if let Event::Decide {
+            position: decided,
+            outcome,
+        } = event
+            && *decided == position
+        {
             write_outcome(text, outcome.outcome())?;
         }
     }
-    writeln!(text, "")?;
     Ok(())
 }
 
-// The journal of a run, an event a line.
-fn journal_of_run(
-    rt: &impl Abort,
-    alloc: Global,
-    files: &[&[u8]],
-    balances: Option<&[u8]>,
-    cutoff: Option<u64>,
-) -> Result<String, Fail> {
-    let plan = plan(rt, alloc);
-    let terms = Terms::new(alloc, &plan, files, balances, cutoff).expect(rt, "terms");
-    let batch = run_alone(alloc, &terms).expect(rt, "a run");
-    let mut text = String::new(alloc);
-    for event in batch.journal() {
-        write_event(&mut text, event)?;
+// A provider's claims in the order in which they were accepted, each with its place and its outcome, a line each.
+fn write_claims(text: &mut String, journal: &[Event], provider: usize) -> Result<(), Fail> {
+    let mut position = 0usize;
+    for event in journal {
+        if let Event::Accept {
+            provider: from,
+            place,
+        } = event
+        {
+            if *from == provider {
+                write!(text, "{provider} {place} ")?;
+                write_decision(text, journal, position)?;
+                writeln!(text, "")?;
+            }
+            position = position.saturating_add(1);
+        }
     }
+    Ok(())
+}
+
+/// How many events of each kind there are.
+#[derive(Clone, Copy, Debug, PartialEq)]
+pub struct EventCounts {
+    pub accepts: usize,
+    pub takes: usize,
+    pub decides: usize,
+    pub ends: usize,
+    pub closes: usize,
+}
+
+pub fn count_events(journal: &[Event]) -> EventCounts {
+    let mut kinds = EventCounts {
+        accepts: 0,
+        takes: 0,
+        decides: 0,
+        ends: 0,
+        closes: 0,
+    };
+    for event in journal {
+        let count = match event {
+            Event::Accept { .. } => &mut kinds.accepts,
+            Event::Take { .. } => &mut kinds.takes,
+            Event::Decide { .. } => &mut kinds.decides,
+            Event::End { .. } => &mut kinds.ends,
+            Event::Close => &mut kinds.closes,
+        };
+        *count = count.saturating_add(1);
+    }
+    kinds
+}
+
+// What a journal comes to, whatever the schedule was.
+pub fn summary(alloc: Global, journal: &[Event], providers: usize) -> Result<String, Fail> {
+    let mut text = String::new(alloc);
+    for place in 0..providers {
+        write_claims(&mut text, journal, place + 1)?;
+    }
+    let k = count_events(journal);
+    write!(text, "accepts {} takes {} ", k.accepts, k.takes)?;
+    writeln!(
+        text,
+        "decides {} ends {} closes {}",
+        k.decides, k.ends, k.closes
+    )?;
     Ok(text)
 }
 
 #[test]
 fn runs_over_two_files(rt: HostRuntime) -> Result<(), Fail> {
-    for (files, cutoff, journal) in [
+    let plan = plan(&rt, rt.alloc());
+    for (files, balances, wanted) in [
         ([ONE, TWO], None, BOTH_FILES),
-        ([ONE, TWO], Some(7), BOTH_FILES),
-        ([ONE, TWO], Some(5), UP_TO_FIVE),
-        ([ONE, TWO], Some(2), UP_TO_TWO),
-        ([ONE, TWO], Some(0), "close\n"),
-        ([TWO, HEADER], Some(2), UP_TO_ALL),
-        ([ONE_A, ONE_B], None, IN_TWO_FILES),
+        ([ONE, TWO], Some(BALANCES), FROM_BALANCES),
         ([REFUSED, HEADER], None, BETWEEN_REFUSED),
     ] {
-        let text = journal_of_run(&rt, rt.alloc(), &files, None, cutoff)?;
-        assert!(rt; text.as_str() == journal);
+        let terms = Terms::new(rt.alloc(), &plan, &files, balances, None).expect(&rt, "terms");
+        for workers in [1, 2, 4, WORKERS_LIMIT] {
+            let batch = run(&rt, rt.alloc(), &terms, workers).expect(&rt, "a run");
+            let text = summary(rt.alloc(), batch.journal(), files.len())?;
+            assert!(rt; text.as_str() == wanted);
+        }
     }
     Ok(())
 }
 
 #[test]
-fn a_run_from_balances(rt: HostRuntime) -> Result<(), Fail> {
-    let text = journal_of_run(&rt, rt.alloc(), &[ONE, TWO], Some(BALANCES), None)?;
-    assert!(rt; text.as_str() == FROM_BALANCES);
+fn a_run_over_a_header_alone(rt: HostRuntime) -> Result<(), Fail> {
+    let plan = plan(&rt, rt.alloc());
+    let files = [HEADER];
+    let terms = Terms::new(rt.alloc(), &plan, &files, None, None).expect(&rt, "terms");
+    let batch = run(&rt, rt.alloc(), &terms, 2).expect(&rt, "a run");
+    assert!(rt; matches!(batch.journal(), [Event::End { provider: 1 }, Event::Close]));
     Ok(())
 }
 
 #[test]
-fn a_run_over_a_header_alone(rt: HostRuntime) -> Result<(), Fail> {
-    let text = journal_of_run(&rt, rt.alloc(), &[HEADER], None, None)?;
-    assert!(rt; text.as_str() == "end 1\nclose\n");
+fn a_run_up_to_a_cutoff(rt: HostRuntime) -> Result<(), Fail> {
+    let plan = plan(&rt, rt.alloc());
+    let files = [THREE, THREE];
+    for (cutoff, accepts) in [(0, 0), (1, 1), (4, 4), (6, 6), (7, 6)] {
+        let terms = Terms::new(rt.alloc(), &plan, &files, None, Some(cutoff)).expect(&rt, "terms");
+        let batch = run(&rt, rt.alloc(), &terms, 2).expect(&rt, "a run");
+        let kinds = count_events(batch.journal());
+        assert_eq!(rt; kinds.accepts, accepts);
+        assert_eq!(rt; kinds.takes, accepts);
+        assert_eq!(rt; kinds.decides, accepts);
+        assert_eq!(rt; kinds.closes, 1);
+    }
+    Ok(())
+}
+
+#[test]
+fn a_run_refuses_no_worker_and_too_many(rt: HostRuntime) -> Result<(), Fail> {
+    let plan = plan(&rt, rt.alloc());
+    let files = [TWO];
+    let terms = Terms::new(rt.alloc(), &plan, &files, None, None).expect(&rt, "terms");
+    for workers in [0, WORKERS_LIMIT + 1, usize::MAX] {
+        match run(&rt, rt.alloc(), &terms, workers) {
+            Ok(_) => return Err(Fail::new("a run of too few or too many workers")),
+            Err(fault) => assert!(rt; fault == RunFault::Workers),
+        }
+    }
     Ok(())
 }
 
 #[test]
 fn faults_have_numbers_and_texts(rt: HostRuntime) -> Result<(), Fail> {
-    assert!(rt; RunFault::Workers.number() == 1);
-    assert!(rt; RunFault::OutOfMemory.number() == 2);
-    let mut text = String::new(rt.alloc());
-    write!(text, "{}; {}", RunFault::Workers, RunFault::OutOfMemory)?;
-    assert!(rt; text.as_str() == "no worker, or too many workers; out of memory");
+    for (fault, number, wanted) in [
+        (RunFault::Workers, 1, "no worker, or too many workers"),
+        (RunFault::OutOfMemory, 2, "out of memory"),
+        (RunFault::Thread, 3, "a thread can't be started"),
+        (RunFault::Worn, 4, "the lock has no ticket left"),
+        (RunFault::Stopped, 5, "the run was stopped"),
+    ] {
+        assert!(rt; fault.number() == number);
+        let mut text = String::new(rt.alloc());
+        write!(text, "{fault}")?;
+        assert!(rt; text.as_str() == wanted);
+    }
     Ok(())
 }
 
@@ -313,9 +301,9 @@ fn a_run_or_no_memory(rt: HostRuntime) -> Result<(), Fail> {
     let Ok(terms) = Terms::new(rt.alloc(), &plan, &files, None, None) else {
         return Ok(());
     };
-    match run_alone(rt.alloc(), &terms) {
+    match run(&rt, rt.alloc(), &terms, 2) {
         Ok(batch) => assert!(rt; batch.journal().len() == 21),
-        Err(fault) => assert!(rt; fault == RunFault::OutOfMemory),
+        Err(fault) => assert!(rt; fault == RunFault::OutOfMemory || fault == RunFault::Thread),
     }
     Ok(())
 }

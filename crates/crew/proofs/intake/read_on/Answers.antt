@@ -3,10 +3,11 @@ use Rattle.crew.proofs.Lefts.{first_offer, left_none, next_claim, next_offer, re
 use Rattle.crew.proofs.intake.read_on.Goals as goal
 
 pub loop-next-init : goal.loop-next-init
-loop-next-init g c =
-    (c.requires.own,
-    first_offer c.reader_begins_with_all_rows.ensures c.args.terms.now (g.G.Gate.known c.args.pass).seen c.args.provider c.in-Ok.rows c.requires.terms c.requires.least
-    c.requires.most c.in-Ok.ensures.rows)
+loop-next-init g c = (
+  c.requires.own,
+  first_offer c.reader_begins_with_all_rows.ensures c.args.terms.now (g.G.Gate.known c.args.pass).seen c.args.provider c.in-Ok.rows c.requires.terms c.requires.least
+      c.requires.most c.in-Ok.ensures.rows,
+)
 
 pub end-requires-clause-claims : goal.end-requires-clause-claims
 end-requires-clause-claims g c κs within T is =
@@ -17,10 +18,11 @@ end-requires-clause-claims g c κs within T is =
 pub loop-next-preserved-in_default-row : goal.loop-next-preserved-in_default-row
 loop-next-preserved-in_default-row g c =
     let some = rw c.in-Some.is at c.in-Ok-next.ensures.gives in
-    let gives = rw c.in_default-row.is at some in
-    (c.loop-next.invariant.0,
-    refused_offer c.text_denotes_at_most_one.ensures c.field_spells_at_most_one_value.ensures c.args.terms.now (g.G.Gate.known c.loop-next.pass).seen c.args.provider
-    c.loop-next.count c.loop-next.expected c.loop-next.rows c.next.new.self c.in_default-row.field-0 c.in_default-row.field-1 c.loop-next.invariant.1 gives)
+    let gives = rw c.in_default-row.is at some in (
+      c.loop-next.invariant.0,
+      refused_offer c.text_denotes_at_most_one.ensures c.field_spells_at_most_one_value.ensures c.args.terms.now (g.G.Gate.known c.loop-next.pass).seen c.args.provider
+          c.loop-next.count c.loop-next.expected c.loop-next.rows c.next.new.self c.in_default-row.field-0 c.in_default-row.field-1 c.loop-next.invariant.1 gives,
+    )
 
 pub offer-requires-clause-filed : goal.offer-requires-clause-filed
 offer-requires-clause-filed g c κs within T is =
@@ -32,20 +34,22 @@ offer-requires-clause-filed g c κs within T is =
 pub loop-next-preserved-then-place-expected : goal.loop-next-preserved-then-place-expected
 loop-next-preserved-then-place-expected g c =
     let some = rw c.in-Some.is at c.in-Ok-next.ensures.gives in
-    let gives = rw c.in-Good.is at some in
-    (c.loop-next.invariant.0,
-    next_offer c.text_denotes_at_most_one.ensures c.field_spells_at_most_one_value.ensures c.args.terms.now (g.G.Gate.known c.loop-next.pass).seen
-    (g.G.Gate.known c.loop-next.pass).seen c.args.provider c.loop-next.count c.loop-next.expected c.loop-next.expected c.loop-next.rows c.next.new.self c.in-Good.number
-    c.in-Good.place c.in-Good.claim c.loop-next.invariant.1 gives c.loop-next.invariant.1.of_terms (omega (arith, c.if-place-expected.true))
-    c.loop-next.invariant.1.has_taken)
+    let gives = rw c.in-Good.is at some in (
+      c.loop-next.invariant.0,
+      next_offer c.text_denotes_at_most_one.ensures c.field_spells_at_most_one_value.ensures c.args.terms.now (g.G.Gate.known c.loop-next.pass).seen
+          (g.G.Gate.known c.loop-next.pass).seen c.args.provider c.loop-next.count c.loop-next.expected c.loop-next.expected c.loop-next.rows c.next.new.self c.in-Good.number
+          c.in-Good.place c.in-Good.claim c.loop-next.invariant.1 gives c.loop-next.invariant.1.of_terms (omega (arith, c.if-place-expected.true))
+          c.loop-next.invariant.1.has_taken,
+    )
 
 pub loop-next-preserved : goal.loop-next-preserved
 loop-next-preserved g c =
     let some = rw c.in-Some.is at c.in-Ok-next.ensures.gives in
     let gives = rw c.in-Good.is at some in
-    let on = c.in-Ok-Some-default.ensures in
-    (on.own,
-    next_offer c.text_denotes_at_most_one.ensures c.field_spells_at_most_one_value.ensures c.args.terms.now (g.G.Gate.known c.loop-next.pass).seen
-    (g.G.Gate.known c.in-Ok-Some-default.pass).seen c.args.provider c.loop-next.count c.loop-next.expected c.in-Ok-Some-default.next c.loop-next.rows c.next.new.self
-    c.in-Good.number c.in-Good.place c.in-Good.claim c.loop-next.invariant.1 gives (on.seen.terms ∙ c.loop-next.invariant.1.of_terms)
-    (rw c.in-Ok-Some-default.field-0-0-is at on.next).0 (rw c.in-Ok-Some-default.field-0-0-is at on.next).1)
+    let on = c.in-Ok-Some-default.ensures in (
+      on.own,
+      next_offer c.text_denotes_at_most_one.ensures c.field_spells_at_most_one_value.ensures c.args.terms.now (g.G.Gate.known c.loop-next.pass).seen
+          (g.G.Gate.known c.in-Ok-Some-default.pass).seen c.args.provider c.loop-next.count c.loop-next.expected c.in-Ok-Some-default.next c.loop-next.rows c.next.new.self
+          c.in-Good.number c.in-Good.place c.in-Good.claim c.loop-next.invariant.1 gives (on.seen.terms ∙ c.loop-next.invariant.1.of_terms)
+          (rw c.in-Ok-Some-default.field-0-0-is at on.next).0 (rw c.in-Ok-Some-default.field-0-0-is at on.next).1,
+    )
