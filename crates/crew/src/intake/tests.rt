@@ -61,7 +61,10 @@ fn first_two(rt: &impl Abort, alloc: Global, terms: &Terms) -> (Claim, Claim)
     reader_begins_with_all_rows();
     text_denotes_at_most_one();
     field_spells_at_most_one_value();
-    let mut rows = open(alloc, terms, 1).expect(rt, "rows");
+    let mut rows = match open(alloc, terms, 1) {
+        Ok(rows) => rows,
+        Err(_) => panic!(rt; "rows"),
+    };
     let first = match rows.next() {
         Ok(Some(Row::Good { claim, .. })) => claim,
         _ => panic!(rt; "a claim"),

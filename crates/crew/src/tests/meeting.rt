@@ -40,7 +40,9 @@ struct MeetingGate<G> {
 }
 
 impl<G> MeetingGate<G> {
-    fn over(gate: G, meeting: Meeting) -> MeetingGate<G> {
+    fn over(gate: G, meeting: Meeting) -> MeetingGate<G>
+        ensures { result.gate ≡ gate }
+    {
         MeetingGate {
             gate,
             meeting,
