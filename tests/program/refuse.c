@@ -1,20 +1,22 @@
-// A library to preload: it counts the program's allocations, refuses the one whose number REFUSED_ALLOCATION gives
-// (from 1), and writes the count to the file that ALLOCATION_COUNT names when the program ends.
+// A library to preload: it counts the program's allocations, those of all its threads in the order in which they come, refuses
+// the one whose number REFUSED_ALLOCATION gives (from 1), and writes the count to the file that ALLOCATION_COUNT names when the
+// program ends.
 #define _GNU_SOURCE
 #include <dlfcn.h>
 #include <errno.h>
 #include <fcntl.h>
+#include <stdatomic.h>
 #include <stdio.h>
 #include <stdlib.h>
 #include <sys/syscall.h>
 #include <unistd.h>
 
-static long count;
+static atomic_long count;
 
 static int is_refused(void) {
   const char *number = getenv("REFUSED_ALLOCATION");
-  count++;
-  if (number == NULL || atol(number) != count) return 0;
+  long mine = atomic_fetch_add(&count, 1) + 1;
+  if (number == NULL || atol(number) != mine) return 0;
   errno = ENOMEM;
   return 1;
 }
@@ -36,7 +38,7 @@ __attribute__((destructor)) static void tell(void) {
   if (path == NULL) return;
   int file = open(path, O_WRONLY | O_CREAT | O_TRUNC, 0600);
   if (file < 0) return;
-  dprintf(file, "%ld\n", count);
+  dprintf(file, "%ld\n", atomic_load(&count));
   close(file);
 }
 

@@ -1,5 +1,5 @@
 -- The remittance of a run, from the journal of its batch and the bytes of its report, and what becomes of it at a refusal.
-use Rattle.std.proofs.Common.{◌≢◌, ℕ, List, [], ◌∷◌, map, Option, Result, IfErr, OnOk, inl, inr, refl, sym, subst}
+use Rattle.std.proofs.Common.{◌≡◌, ◌≢◌, ◌↔◌, ℕ, List, [], ◌∷◌, map, Option, Result, IfErr, OnOk, inl, inr, refl, sym, subst}
 use Rattle.std.proofs.KnownBytes.{Keeps-refl}
 use Rattle.std.proofs.lemmas.Result.{on_ok_weaker, IfErr-weaker}
 use Rattle.std.specs.List.{AllZip}
@@ -15,14 +15,20 @@ use Rattle.intake_csv.specs.Rows.{AreRowsOf}
 use Rattle.intake_csv.specs.declared.rows.Row.{Row}
 use Rattle.journal.specs.declared.event.Event.{Event}
 use Rattle.journal.specs.Terms.{Terms}
+use Rattle.claim_terms.specs.Fault.{HasTermsFault}
 use Rattle.claim_terms.specs.Terms.{AreClaimsOf, IsTermsOf, TermsParts, claims_among}
+use Rattle.claim_terms.specs.declared.fault.TermsFault.{TermsFault}
+use Rattle.claim_terms.specs.declared.fault.TermsFault.TheVariants as terms
+use Rattle.crew.specs.Workers.{IsWorkerCount}
+use Rattle.crew.specs.declared.fault.RunFault.{RunFault}
+use Rattle.crew.specs.declared.fault.RunFault.TheVariants as run
 use Rattle.remit.specs.Report.{IsReport, report_records, text_of}
 use Rattle.remit.specs.Writing.{IsFinishedOver, WritesFront, WritesReport}
 use Rattle.remit.specs.declared.fault.WriteFault.{WriteFault}
 use Rattle.adjudicate.specs.declared.stop.Stop.{Stop}
 use Rattle.adjudicate.specs.declared.stop.Stop.TheVariants as stop
 use Rattle.adjudicate.specs.RunText.{AreTermsOfTexts, IsRemittance, IsRemittanceOf, RunTexts, WritesRemittanceFront}
-use Rattle.adjudicate.specs.RunStop.{IsRunReason, IsStopOfWrite, RefusesRun, StopsRemittance, WritesRemittanceUntil}
+use Rattle.adjudicate.specs.RunStop.{IsRunReason, IsStopOfRun, IsStopOfTerms, IsStopOfWrite, StopsRemittance, WritesRemittanceUntil}
 use Rattle.adjudicate.specs.Stop.{IsStopOfPlan, WritesText}
 
 -- the claims of files are those among their rows
@@ -82,11 +88,22 @@ module _ (parts : TermsParts) (J : List Event) (finished : IsFinishedOver parts 
   }
 
   -- so a report that ends early ends the remittance
-  pub stops_by_write : (fault : WriteFault) (s : Stop) → HaveDistinctNames (claim_columns parts.plan.names) → ¬ ((T : Terms) → IsTermsOf parts T → ⊥)
-      → WritesFront parts J fault.written old new → IsStopOfWrite fault s → StopsRemittance parts old new s
-  stops_by_write fault (stop.Write written) distinct seen w made = rw made.0 (writes_front fault.written distinct seen w)
-  stops_by_write fault stop.NoMemory distinct seen w made = inr (fault.written, writes_front fault.written distinct seen w)
-  stops_by_write fault _ distinct seen w made = absurd made
+  pub stops_by_write : (workers : ℕ) (fault : WriteFault) (s : Stop) → HaveDistinctNames (claim_columns parts.plan.names) → ¬ ((T : Terms) → IsTermsOf parts T → ⊥)
+      → WritesFront parts J fault.written old new → IsStopOfWrite fault s → StopsRemittance parts workers old new s
+  stops_by_write workers fault (stop.Write written) distinct seen w made = rw made.0 (writes_front fault.written distinct seen w)
+  stops_by_write workers fault stop.NoMemory distinct seen w made = inr (fault.written, writes_front fault.written distinct seen w)
+  stops_by_write workers fault _ distinct seen w made = absurd made
+
+-- a fault of the run ends it before anything is written
+pub stops_by_run : (parts : TermsParts) (workers : ℕ) (contents : Option (List ℕ)) (fault : RunFault) (s : Stop) → ((fault ≡ run.Workers) ↔ (¬ IsWorkerCount workers))
+    → IsStopOfRun fault s → StopsRemittance parts workers contents contents s
+stops_by_run parts workers contents fault (stop.Run same) refused made =
+    let equal : fault ≡ same = sym made.0 in
+    let P : RunFault → Type 0 = λ f. f ≢ run.OutOfMemory in
+    let Q : RunFault → Type 0 = λ f. (f ≡ run.Workers) ↔ (¬ IsWorkerCount workers) in
+    (record { told = subst P equal made.1; refused = subst Q equal refused }, Keeps-refl contents)
+stops_by_run parts workers contents fault stop.NoMemory refused made = inl (Keeps-refl contents)
+stops_by_run parts workers contents fault _ refused made = absurd made
 
 -- why a run is refused: the plan's text spells no plan
 pub reason_of_plan : (texts : RunTexts) (workers : ℕ) (fault : PlanFault) (s : Stop)
@@ -97,20 +114,23 @@ reason_of_plan texts workers fault (stop.Plan same) none made =
 reason_of_plan texts workers fault stop.NoMemory none made = tt
 reason_of_plan texts workers fault _ none made = absurd made
 
--- or under the plan there is no run
-pub reason_of_run : (texts : RunTexts) (workers : ℕ) (plan : PlanParts) (s : Stop) → IsPlanText texts.plan plan → RefusesRun plan texts workers s
-    → IsRunReason texts workers s
-reason_of_run texts workers plan (stop.Plan fault) spelled refused = absurd refused
-reason_of_run texts workers plan (stop.Write written) spelled refused = absurd refused
-reason_of_run texts workers plan stop.NoMemory spelled refused = tt
-reason_of_run texts workers plan _ spelled refused = (plan, spelled, refused)
+-- or under the plan the texts make no terms
+pub reason_of_terms : (texts : RunTexts) (workers : ℕ) (plan : PlanParts) (fault : TermsFault) (s : Stop) → IsPlanText texts.plan plan
+    → HasTermsFault plan texts.files texts.balances fault → IsStopOfTerms fault s → IsRunReason texts workers s
+reason_of_terms texts workers plan fault (stop.Terms same) spelled has made =
+    let equal : fault ≡ same = sym made.0 in
+    let P : TermsFault → Type 0 = λ f. HasTermsFault plan texts.files texts.balances f in
+    let Q : TermsFault → Type 0 = λ f. f ≢ terms.OutOfMemory in
+    (plan, spelled, (subst P equal has, subst Q equal made.1))
+reason_of_terms texts workers plan fault stop.NoMemory spelled has made = tt
+reason_of_terms texts workers plan fault _ spelled has made = absurd made
 
 -- and then nothing is written
-pub kept_by_run : (texts : RunTexts) (workers : ℕ) (plan : PlanParts) (contents : Option (List ℕ)) (s : Stop) → RefusesRun plan texts workers s
+pub kept_by_terms : (texts : RunTexts) (contents : Option (List ℕ)) (fault : TermsFault) (s : Stop) → IsStopOfTerms fault s
     → WritesRemittanceUntil texts contents contents s
-kept_by_run texts workers plan contents (stop.Write written) refused = absurd refused
-kept_by_run texts workers plan contents stop.NoMemory refused = inl (Keeps-refl contents)
-kept_by_run texts workers plan contents _ refused = Keeps-refl contents
+kept_by_terms texts contents fault (stop.Terms same) made = Keeps-refl contents
+kept_by_terms texts contents fault stop.NoMemory made = inl (Keeps-refl contents)
+kept_by_terms texts contents fault _ made = absurd made
 
 -- what is written for the terms of the texts is written for the texts
 module _ (texts : RunTexts) (parts : TermsParts) (over : AreTermsOfTexts texts parts) (old new : Option (List ℕ)) where
@@ -118,27 +138,28 @@ module _ (texts : RunTexts) (parts : TermsParts) (over : AreTermsOfTexts texts p
   whole_over r h =
       on_ok_weaker r (λ w. record { text = w.text; is_text = record { parts = parts; over = over; is_remittance = w.is_text }; appended = w.appended }) h
 
-  front_over : (s : Stop) → StopsRemittance parts old new s → WritesRemittanceUntil texts old new s
-  front_over (stop.Write written) h = record { parts = parts; over = over; writes = h }
-  front_over stop.NoMemory (inl kept) = inl kept
-  front_over stop.NoMemory (inr (written, h)) = inr (written, record { parts = parts; over = over; writes = h })
-  front_over _ h = absurd h
+  front_over : (workers : ℕ) (s : Stop) → StopsRemittance parts workers old new s → WritesRemittanceUntil texts old new s
+  front_over workers (stop.Run fault) h = h.1
+  front_over workers (stop.Write written) h = record { parts = parts; over = over; writes = h }
+  front_over workers stop.NoMemory (inl kept) = inl kept
+  front_over workers stop.NoMemory (inr (written, h)) = inr (written, record { parts = parts; over = over; writes = h })
+  front_over workers _ h = absurd h
 
-  pub stopped_over : {X : Type 0} (r : Result X Stop) → IfErr r (StopsRemittance parts old new) → IfErr r (WritesRemittanceUntil texts old new)
-  stopped_over r h = IfErr-weaker r _ _ front_over h
+  pub stopped_over : {X : Type 0} (workers : ℕ) (r : Result X Stop) → IfErr r (StopsRemittance parts workers old new) → IfErr r (WritesRemittanceUntil texts old new)
+  stopped_over workers r h = IfErr-weaker r _ _ (front_over workers) h
+
+  -- and it ends for a fault of the run, or for a reason that can come with any texts
+  reason_over : (workers : ℕ) (s : Stop) → StopsRemittance parts workers old new s → IsRunReason texts workers s
+  reason_over workers (stop.Run fault) h = (over.plan, over.spelled, record { parts = parts; are_terms = over.are_terms; refuses = h.0 })
+  reason_over workers (stop.Write written) h = tt
+  reason_over workers stop.NoMemory h = tt
+  reason_over workers _ h = absurd h
+
+  pub reasons_over : {X : Type 0} (workers : ℕ) (r : Result X Stop) → IfErr r (StopsRemittance parts workers old new) → IfErr r (IsRunReason texts workers)
+  reasons_over workers r h = IfErr-weaker r _ _ (reason_over workers) h
 
 -- the columns that its claims need have distinct names
 pub distinct_over : (texts : RunTexts) (parts : TermsParts) → PlansNeedDistinctNames → AreTermsOfTexts texts parts → HaveDistinctNames (claim_columns parts.plan.names)
 distinct_over texts parts law over =
     let P : PlanParts → Type 0 = λ plan. HaveDistinctNames (claim_columns plan.names) in
     subst P (sym over.are_terms.plan_is) (law texts.plan over.plan over.spelled)
-
--- and it ends for a reason that can come with any texts
-reason_over : (texts : RunTexts) (workers : ℕ) (parts : TermsParts) (old new : Option (List ℕ)) (s : Stop) → StopsRemittance parts old new s → IsRunReason texts workers s
-reason_over texts workers parts old new (stop.Write written) h = tt
-reason_over texts workers parts old new stop.NoMemory h = tt
-reason_over texts workers parts old new _ h = absurd h
-
-pub reasons_over : {X : Type 0} (texts : RunTexts) (workers : ℕ) (parts : TermsParts) (old new : Option (List ℕ)) (r : Result X Stop) → IfErr r (StopsRemittance parts old new)
-    → IfErr r (IsRunReason texts workers)
-reasons_over texts workers parts old new r h = IfErr-weaker r _ _ (reason_over texts workers parts old new) h

@@ -1,5 +1,5 @@
 -- Why the command `run` stops, and what its writer has got then.
-use Rattle.std.specs.Prelude.{◌≡◌, ◌≢◌, ◌⊎◌, ℕ, List, Option}
+use Rattle.std.specs.Prelude.{◌≡◌, ◌≢◌, ◌⊎◌, ◌↔◌, ℕ, List, Option}
 use Rattle.std.specs.Io.KnownBytes.{Keeps}
 use Rattle.dtable.specs.Plan.{PlanParts}
 use Rattle.dtable.specs.PlanFile.{IsPlanText}
@@ -9,25 +9,31 @@ use Rattle.claim_terms.specs.declared.fault.TermsFault.{TermsFault}
 use Rattle.claim_terms.specs.declared.fault.TermsFault.TheVariants as terms
 use Rattle.crew.specs.declared.fault.RunFault.{RunFault}
 use Rattle.crew.specs.declared.fault.RunFault.TheVariants as run
+use Rattle.crew.specs.Workers.{IsWorkerCount}
 use Rattle.remit.specs.declared.fault.WriteCause.TheVariants as write
 use Rattle.remit.specs.declared.fault.WriteFault.{WriteFault}
 use Rattle.adjudicate.specs.declared.stop.Stop.{Stop}
 use Rattle.adjudicate.specs.declared.stop.Stop.TheVariants as stop
-use Rattle.adjudicate.specs.RunText.{AreTermsUnder, IsWorkerCount, RunTexts, WritesFrontOver, WritesRemittanceFront}
+use Rattle.adjudicate.specs.RunText.{AreTermsUnder, RunTexts, WritesFrontOver, WritesRemittanceFront}
 use Rattle.adjudicate.specs.Stop.{SpellsNoPlan}
 
--- the texts make terms under this plan, but a run can't have so many workers
-pub record RefusesWorkers (plan : PlanParts) (texts : RunTexts) (workers : ℕ) (fault : RunFault) : Type 0 where
+-- a run with so many workers is refused by this fault: by that of the workers exactly where there can't be so many of them. Want of
+-- memory is told by another refusal
+pub record RefusesWorkers (workers : ℕ) (fault : RunFault) : Type 0 where
+  pub told : fault ≢ run.OutOfMemory
+  pub refused : (fault ≡ run.Workers) ↔ (¬ IsWorkerCount workers)
+
+-- the texts make terms under this plan, and their run is refused by this fault
+pub record RefusesTerms (plan : PlanParts) (texts : RunTexts) (workers : ℕ) (fault : RunFault) : Type 0 where
   pub parts : TermsParts
   pub are_terms : AreTermsUnder plan texts parts
-  pub fault_is : fault ≡ run.Workers
-  pub refused : ¬ IsWorkerCount workers
+  pub refuses : RefusesWorkers workers fault
 
 -- the texts under this plan, and so many workers, give this refusal: the terms are tried before the workers. Want of memory can come
 -- with any
 abbrev pub RefusesRun : PlanParts → RunTexts → ℕ → Stop → Type 0
 RefusesRun plan texts workers (stop.Terms fault) = HasTermsFault plan texts.files texts.balances fault × (fault ≢ terms.OutOfMemory)
-RefusesRun plan texts workers (stop.Run fault) = RefusesWorkers plan texts workers fault
+RefusesRun plan texts workers (stop.Run fault) = RefusesTerms plan texts workers fault
 RefusesRun plan texts workers stop.NoMemory = Unit {0}
 RefusesRun plan texts workers _ = ⊥
 
@@ -42,12 +48,13 @@ IsRunReason texts workers (stop.Write written) = Unit {0}
 IsRunReason texts workers stop.NoMemory = Unit {0}
 IsRunReason texts workers s = RefusesRunSpelled texts workers s
 
--- what ends the remittance of these terms: a write fault, where the writer has got so many first bytes, or want of memory, where
--- it has got none or some first bytes
-abbrev pub StopsRemittance : TermsParts → Option (List ℕ) → Option (List ℕ) → Stop → Type 0
-StopsRemittance parts old new (stop.Write written) = WritesRemittanceFront parts old new written
-StopsRemittance parts old new stop.NoMemory = Keeps old new ⊎ ((written : ℕ) × WritesRemittanceFront parts old new written)
-StopsRemittance parts old new _ = ⊥
+-- what ends the remittance of these terms: a fault of the run, where the writer has got nothing, a write fault, where it has got so
+-- many first bytes, or want of memory, where it has got none or some first bytes
+abbrev pub StopsRemittance : TermsParts → ℕ → Option (List ℕ) → Option (List ℕ) → Stop → Type 0
+StopsRemittance parts workers old new (stop.Run fault) = RefusesWorkers workers fault × Keeps old new
+StopsRemittance parts workers old new (stop.Write written) = WritesRemittanceFront parts old new written
+StopsRemittance parts workers old new stop.NoMemory = Keeps old new ⊎ ((written : ℕ) × WritesRemittanceFront parts old new written)
+StopsRemittance parts workers old new _ = ⊥
 
 -- what a writer has got at a refusal of a run: at a write fault so many first bytes of the remittance, at want of memory none or
 -- some first bytes, and otherwise nothing

@@ -1,5 +1,5 @@
 -- What the command `run` writes: the remittance of one journal.
-use Rattle.std.specs.Prelude.{◌≡◌, ◌≤◌, ℕ, List, Option, length, take}
+use Rattle.std.specs.Prelude.{◌≡◌, ℕ, List, Option, length, take}
 use Rattle.std.specs.Io.KnownBytes.{Appends}
 use Rattle.dtable.specs.Plan.{PlanParts}
 use Rattle.dtable.specs.PlanFile.{IsPlanText}
@@ -10,7 +10,6 @@ use Rattle.claim_terms.specs.Terms.{AreTermsOf, IsTermsOf, TermsParts, text_in, 
 use Rattle.remit.specs.Report.{IsReport}
 use Rattle.remit.specs.Writing.{IsFinishedOver}
 use Rattle.adjudicate.specs.declared.run.RunInput.{RunInput}
-use Rattle.adjudicate.specs.declared.run.TheConstants.{WORKERS_LIMIT}
 
 -- what the remittance of a run is made from: the text of the plan, that of the balances, if there is one, those of the providers'
 -- files, and how many claims are accepted at most, if that is limited
@@ -28,11 +27,6 @@ run_texts input = record {
   files = texts_of input.files.now;
   cutoff = input.cutoff;
 }
-
--- a run has one worker at least
-pub record IsWorkerCount (count : ℕ) : Type 0 where
-  pub least : 1 ≤ count
-  pub most : count ≤ WORKERS_LIMIT
 
 -- these are the terms of the texts, under this plan
 abbrev pub AreTermsUnder : PlanParts → RunTexts → TermsParts → Type 0

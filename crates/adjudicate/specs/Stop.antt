@@ -118,7 +118,7 @@ stop_line s = stop_text s ++ line_end ∷ []
 -- the status of a fault of a run: 1 where it is the number of workers, 3 where a resource is wanting
 abbrev pub run_status : RunFault → ℕ
 run_status run.Workers = 1
-run_status run.OutOfMemory = 3
+run_status _ = 3
 
 -- 1 where the texts are refused, 3 where a resource is wanting
 abbrev pub status_of : Stop → ℕ

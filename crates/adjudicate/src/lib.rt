@@ -24,7 +24,8 @@ mod testing;
 mod value;
 
 pub use check::do_check;
+pub use crew::WORKERS_LIMIT;
 pub use intake_csv::FILE_LIMIT_BYTES;
-pub use run::{RunInput, WORKERS_LIMIT, do_run};
+pub use run::{RunInput, do_run};
 pub use stop::{ArgumentFault, LINE_LIMIT_BYTES, MissingName, Stop};
 pub use value::{PLAN_LIMIT_BYTES, do_value};

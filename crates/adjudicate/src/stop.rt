@@ -67,7 +67,7 @@ pub enum Stop {
     /// The texts make no terms for a run.
     #[error("terms: {0}")]
     Terms(TermsFault),
-    /// There is no run with so many workers.
+    /// The run with so many workers is refused, before a byte is written.
     #[error("run: {0}")]
     Run(RunFault),
     /// The writer took so many bytes of the text, and then failed.
@@ -87,8 +87,7 @@ impl Stop {
             Stop::Plan(_) => 1,
             Stop::Argument { .. } | Stop::Missing(_) | Stop::Tables(_) => 1,
             Stop::Terms(_) | Stop::Run(RunFault::Workers) => 1,
-            Stop::Run(RunFault::OutOfMemory) => 3,
-            Stop::Write { .. } | Stop::NoMemory => 3,
+            Stop::Run(_) | Stop::Write { .. } | Stop::NoMemory => 3,
         }
     }
 

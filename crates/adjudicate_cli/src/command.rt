@@ -58,8 +58,8 @@ The first file is provider 1, the second provider 2, and so on, up to 64. The
 remittance goes to standard output as CSV: a record for each record of each
 file (paid, denied, pended, refused or late), and one with the totals.";
 
-const STATUSES: &str =
-    "Exit status: 0 done, 1 input refused, 2 usage, 3 a file, a stream or memory is wanting.";
+const STATUSES: &str = "Exit status: 0 done, 1 input refused, 2 usage,
+3 a file, a stream, memory or a thread is wanting.";
 
 /// The whole command line of the program.
 pub fn command_line<'a>(alloc: Global) -> Result<Command<'a>, Error> {
@@ -107,7 +107,7 @@ fn run_command<'a>(alloc: Global) -> Result<Command<'a>, Error> {
         .value_name("N")
         .value_parser(ValueParser::unsigned(1, WORKERS_LIMIT as u64))
         .default_value("4")
-        .help("How many workers decide claims, from 1 to 64");
+        .help("How many threads decide claims, from 1 to 64");
     let files = Arg::new(alloc, FILE)
         .help("The providers' files of claims, as CSV")
         .required(true)

@@ -12,6 +12,7 @@ use fixpoint::Out;
 use std::alloc::{AllocError, Global};
 use std::io;
 use std::rt::Files;
+use std::sync::Wait;
 use std::thread::Threads;
 use std::time::Clock;
 
@@ -27,7 +28,7 @@ struct Texts {
 pub fn run_of<R>(rt: &R, matches: &ArgMatches<'_>, is_watched: bool) -> u8
 where
     R: Files + Print + Eprint + AllocGlobal,
-    R: Clock + Threads + Clone + Drop + Send + 'static,
+    R: Clock + Threads + Wait + Clone + Drop + Send + Sync + 'static,
     ensures known { result ≤ RESOURCE }
 {
     let pulse = if is_watched { Pulse::start(rt) } else { None };
@@ -42,7 +43,9 @@ where
 }
 
 /// Settles the claims of the texts.
-fn settle<R: Print + Eprint + AllocGlobal>(rt: &R, matches: &ArgMatches<'_>, texts: &Texts) -> u8
+fn settle<R>(rt: &R, matches: &ArgMatches<'_>, texts: &Texts) -> u8
+where
+    R: Print + Eprint + AllocGlobal + Threads + Wait + Sync,
     ensures known { result ≤ RESOURCE }
 {
     let Some(workers) = matches.get_one::<usize>(WORKERS) else {
@@ -59,7 +62,7 @@ fn settle<R: Print + Eprint + AllocGlobal>(rt: &R, matches: &ArgMatches<'_>, tex
         workers,
     };
     let mut out = Out::new(io::writer(rt));
-    match do_run(rt.alloc(), input, &mut out) {
+    match do_run(rt, input, &mut out) {
         Ok(()) => DONE,
         Err(stop) => stopped(rt, &stop),
     }

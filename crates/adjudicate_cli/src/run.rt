@@ -11,6 +11,7 @@ use clap::ArgMatches;
 use clap::error::ErrorKind;
 use fixpoint::Out;
 use std::rt::{Env, Files};
+use std::sync::Wait;
 use std::thread::Threads;
 use std::time::Clock;
 use std::{env, io};
@@ -20,7 +21,7 @@ use std::{env, io};
 pub fn status<R>(rt: &R, is_watched: bool) -> u8
 where
     R: Env + Files + Print + Eprint + AllocGlobal,
-    R: Clock + Threads + Clone + Drop + Send + 'static,
+    R: Clock + Threads + Wait + Clone + Drop + Send + Sync + 'static,
     ensures known { result ≤ RESOURCE }
 {
     let alloc = rt.alloc();
@@ -46,7 +47,7 @@ where
 fn command<R>(rt: &R, matches: &ArgMatches<'_>, is_watched: bool) -> u8
 where
     R: Files + Print + Eprint + AllocGlobal,
-    R: Clock + Threads + Clone + Drop + Send + 'static,
+    R: Clock + Threads + Wait + Clone + Drop + Send + Sync + 'static,
     ensures known { result ≤ RESOURCE }
 {
     if let Some(value) = matches.subcommand_matches(VALUE) {

@@ -1,6 +1,7 @@
 //! Worked runs, by hand: texts, and the remittance of each.
 use super::*;
 use crate::testing::{Narrow, WhenFull, says};
+use crew::WORKERS_LIMIT;
 use std::process::Abort;
 
 mod refusals;
@@ -191,9 +192,9 @@ fn run_of<'a>(files: &'a [&'a [u8]]) -> RunInput<'a> {
 }
 
 /// Asserts the remittance of a run.
-fn gives(rt: &impl Abort, alloc: Global, input: RunInput, report: &str) {
-    let mut out = Out::new(Vec::new(alloc));
-    let result = do_run(alloc, input, &mut out);
+fn gives<R: Threads + Wait + Sync + AllocGlobal + Abort>(rt: &R, input: RunInput, report: &str) {
+    let mut out = Out::new(Vec::new(rt.alloc()));
+    let result = do_run(rt, input, &mut out);
     assert!(rt; result.is_ok(), "{report}");
     assert!(rt; !out.failed(), "{report}");
     assert_eq!(rt; out.into_inner().as_slice(), report.as_bytes());
@@ -201,27 +202,25 @@ fn gives(rt: &impl Abort, alloc: Global, input: RunInput, report: &str) {
 
 #[test]
 fn two_files_in_one_remittance(rt: HostRuntime) {
-    for workers in [1, 4, WORKERS_LIMIT] {
+    for workers in [1, 2, 4, WORKERS_LIMIT] {
         let mut input = run_of(&BOTH);
         input.workers = workers;
-        gives(&rt, rt.alloc(), input, REPORT);
+        gives(&rt, input, REPORT);
     }
 }
 
 #[test]
 fn a_cutoff_leaves_claims_over(rt: HostRuntime) {
-    let alloc = rt.alloc();
-    let mut input = run_of(&THREE_AND_THREE);
-    input.cutoff = Some(4);
-    let mut out = Out::new(Vec::new(alloc));
-    let result = do_run(alloc, input, &mut out);
-    assert!(rt; result.is_ok());
-    let report = out.into_inner();
-    assert!(rt;
-        SPLITS
-            .iter()
-            .any(|split| split.as_bytes() == report.as_slice())
-    );
+    for workers in [1, 2, 4, WORKERS_LIMIT] {
+        let mut input = run_of(&THREE_AND_THREE);
+        input.cutoff = Some(4);
+        input.workers = workers;
+        let mut out = Out::new(Vec::new(rt.alloc()));
+        let result = do_run(&rt, input, &mut out);
+        assert!(rt; result.is_ok(), "{workers}");
+        let report = out.into_inner();
+        assert!(rt; SPLITS.iter().any(|split| split.as_bytes() == report.as_slice()));
+    }
 }
 
 #[test]
@@ -229,7 +228,7 @@ fn cutoffs_at_their_ends(rt: HostRuntime) {
     for (cutoff, report) in [(0, ALL_LATE), (6, REPORT), (7, REPORT), (u64::MAX, REPORT)] {
         let mut input = run_of(&BOTH);
         input.cutoff = Some(cutoff);
-        gives(&rt, rt.alloc(), input, report);
+        gives(&rt, input, report);
     }
 }
 
@@ -243,7 +242,7 @@ fn files_in_many_forms(rt: HostRuntime) {
         let files = [file];
         let mut input = run_of(&files);
         input.workers = 2;
-        gives(&rt, rt.alloc(), input, report);
+        gives(&rt, input, report);
     }
 }
 
@@ -252,7 +251,7 @@ fn a_member_begins_with_its_balance(rt: HostRuntime) {
     let files = [ONE_EACH];
     let mut input = run_of(&files);
     input.balances = Some(BALANCES);
-    gives(&rt, rt.alloc(), input, ONE_EACH_REPORT);
+    gives(&rt, input, ONE_EACH_REPORT);
 }
 
 /// A writer that takes so many bytes and then fails; one that has room for all gets all.
@@ -262,7 +261,7 @@ fn a_full_writer_has_the_first_bytes(rt: HostRuntime) {
         for width in [7, 1_024] {
             for limit in [0, 1, 36, 37, 88, 89, 300, 499] {
                 let mut out = Out::new(Narrow::new(limit, width, when_full));
-                match do_run(rt.alloc(), run_of(&BOTH), &mut out) {
+                match do_run(&rt, run_of(&BOTH), &mut out) {
                     Err(Stop::Write { written }) => assert_eq!(rt; written, limit),
                     _ => panic!(rt; "no write fault at {limit}"),
                 }
@@ -272,7 +271,7 @@ fn a_full_writer_has_the_first_bytes(rt: HostRuntime) {
                 assert!(rt; REPORT.as_bytes().starts_with(writer.taken()), "{limit}");
             }
             let mut out = Out::new(Narrow::new(REPORT.len(), width, when_full));
-            let result = do_run(rt.alloc(), run_of(&BOTH), &mut out);
+            let result = do_run(&rt, run_of(&BOTH), &mut out);
             assert!(rt; result.is_ok(), "{width}");
             assert_eq!(rt; out.into_inner().taken(), REPORT.as_bytes());
         }
@@ -282,7 +281,7 @@ fn a_full_writer_has_the_first_bytes(rt: HostRuntime) {
 #[test]
 fn a_write_fault_has_its_line(rt: HostRuntime) {
     let mut out = Out::new(Narrow::new(37, 1_024, WhenFull::Fails));
-    match do_run(rt.alloc(), run_of(&BOTH), &mut out) {
+    match do_run(&rt, run_of(&BOTH), &mut out) {
         Ok(()) => panic!(&rt; "not refused"),
         Err(stop) => says(&rt, &stop, "write fault at 37\n", 3),
     }
@@ -293,16 +292,23 @@ fn a_write_fault_has_its_line(rt: HostRuntime) {
     );
 }
 
-/// Run it with each allocation refused in turn: all of them are the command's.
+/// Run it with each allocation refused in turn: all of them are the command's. Which of them is a thread's differs from
+/// run to run; where a thread can't be started the answer says so, and nothing is written.
 #[test]
 fn a_run_or_no_memory(rt: HostRuntime) {
     let mut out = Out::new(Narrow::new(1_024, 1_024, WhenFull::Fails));
-    match do_run(rt.alloc(), run_of(&BOTH), &mut out) {
+    match do_run(&rt, run_of(&BOTH), &mut out) {
         Ok(()) => assert_eq!(rt; out.into_inner().taken(), REPORT.as_bytes()),
         Err(stop) => {
-            says(&rt, &stop, "no memory\n", 3);
             assert!(rt; !out.failed());
-            assert!(rt; REPORT.as_bytes().starts_with(out.into_inner().taken()));
+            let writer = out.into_inner();
+            if let Stop::Run(_) = stop {
+                says(&rt, &stop, "run fault 3\n", 3);
+                assert!(rt; writer.taken().is_empty());
+            } else {
+                says(&rt, &stop, "no memory\n", 3);
+                assert!(rt; REPORT.as_bytes().starts_with(writer.taken()));
+            }
         }
     }
 }

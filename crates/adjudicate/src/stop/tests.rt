@@ -152,6 +152,9 @@ fn refusals_of_a_run_have_their_lines(rt: HostRuntime) {
         (Stop::from(RunFault::Workers), "run fault 1\n", 1),
         (Stop::Run(RunFault::OutOfMemory), "run fault 2\n", 3),
         (Stop::from(RunFault::OutOfMemory), "no memory\n", 3),
+        (Stop::from(RunFault::Thread), "run fault 3\n", 3),
+        (Stop::from(RunFault::Worn), "run fault 4\n", 3),
+        (Stop::from(RunFault::Stopped), "run fault 5\n", 3),
         (Stop::from(device), "write fault at 37\n", 3),
         (Stop::from(no_memory), "no memory\n", 3),
     ] {

@@ -29,9 +29,9 @@ const ONE_REFUSED: [&[u8]; 2] = [FIRST, NO_BILLED];
 const TOO_MANY: [&[u8]; 65] = [HEADER; 65];
 
 /// Asserts that a run is refused with this line and status 1, and that nothing is written.
-fn refuses(rt: &impl Abort, alloc: Global, input: RunInput, line: &str) {
-    let mut out = Out::new(Vec::new(alloc));
-    match do_run(alloc, input, &mut out) {
+fn refuses<R: Threads + Wait + Sync + AllocGlobal + Abort>(rt: &R, input: RunInput, line: &str) {
+    let mut out = Out::new(Vec::new(rt.alloc()));
+    match do_run(rt, input, &mut out) {
         Ok(()) => panic!(rt; "not refused: {line}"),
         Err(stop) => says(rt, &stop, line, 1),
     }
@@ -47,7 +47,7 @@ fn plans_that_make_no_run(rt: HostRuntime) {
     ] {
         let mut input = run_of(&BOTH);
         input.plan = plan;
-        refuses(&rt, rt.alloc(), input, line);
+        refuses(&rt, input, line);
     }
 }
 
@@ -60,10 +60,10 @@ fn files_that_make_no_run(rt: HostRuntime) {
         (CLAIM_TWICE, "terms fault 3 file 2 cause 4\n"),
     ] {
         let files = [FIRST, file, NO_BILLED];
-        refuses(&rt, rt.alloc(), run_of(&files), line);
+        refuses(&rt, run_of(&files), line);
     }
-    refuses(&rt, rt.alloc(), run_of(&[]), "terms fault 2\n");
-    refuses(&rt, rt.alloc(), run_of(&TOO_MANY), "terms fault 2\n");
+    refuses(&rt, run_of(&[]), "terms fault 2\n");
+    refuses(&rt, run_of(&TOO_MANY), "terms fault 2\n");
 }
 
 #[test]
@@ -77,7 +77,7 @@ fn balances_that_make_no_run(rt: HostRuntime) {
     ] {
         let mut input = run_of(&BOTH);
         input.balances = Some(balances);
-        refuses(&rt, rt.alloc(), input, line);
+        refuses(&rt, input, line);
     }
 }
 
@@ -86,7 +86,7 @@ fn numbers_of_workers_that_make_no_run(rt: HostRuntime) {
     for workers in [0, 65, usize::MAX] {
         let mut input = run_of(&BOTH);
         input.workers = workers;
-        refuses(&rt, rt.alloc(), input, "run fault 1\n");
+        refuses(&rt, input, "run fault 1\n");
     }
 }
 
@@ -103,13 +103,12 @@ fn bad_run<'a>(plan: &'a [u8], files: &'a [&'a [u8]]) -> RunInput<'a> {
 
 #[test]
 fn the_first_fault_is_told(rt: HostRuntime) {
-    let alloc = rt.alloc();
     let line = "terms fault 4 record 2 cause 8 column 1\n";
-    refuses(&rt, alloc, bad_run(PLAN, &BOTH), line);
+    refuses(&rt, bad_run(PLAN, &BOTH), line);
     let line = "terms fault 3 file 2 cause 3\n";
-    refuses(&rt, alloc, bad_run(PLAN, &ONE_REFUSED), line);
-    refuses(&rt, alloc, bad_run(PLAN, &[]), "terms fault 2\n");
-    refuses(&rt, alloc, bad_run(NO_ROLES, &[]), "terms fault 1\n");
+    refuses(&rt, bad_run(PLAN, &ONE_REFUSED), line);
+    refuses(&rt, bad_run(PLAN, &[]), "terms fault 2\n");
+    refuses(&rt, bad_run(NO_ROLES, &[]), "terms fault 1\n");
     let line = "plan fault 2 table 0 rule 0 column 0\n";
-    refuses(&rt, alloc, bad_run(NO_VERSION, &[]), line);
+    refuses(&rt, bad_run(NO_VERSION, &[]), line);
 }
