@@ -1,5 +1,5 @@
 //! A run by many threads: an intake for each provider's file, and so many workers.
-ghost use Rattle.std.specs.Prelude.{◌≡◌, ◌≢◌, ◌↔◌, ◌<◌, ◌≤◌, ◌+◌, true, length, IfOk, IfErr, OnOk};
+ghost use Rattle.std.specs.Prelude.{◌≡◌, ◌≢◌, ◌↔◌, ◌<◌, ◌≤◌, ◌+◌, true, IsTrue, length, IfOk, IfErr, OnOk};
 ghost use Rattle.journal.specs.Lawful.{Finished};
 ghost use Rattle.claim_gate.specs.Parts.{ForTerms};
 ghost use Rattle.claim_gate.specs.Shared.{LeadsTo};
@@ -36,7 +36,7 @@ pub fn run<'t, R: Threads + Wait + Sync>(
     ensures workers { OnOk result (IsWorkerCount workers) }
     ensures refused { IfErr result (λ fault. (fault ≡ Workers) ↔ (¬ IsWorkerCount workers)) }
 {
-    if workers == 0 || workers > WORKERS_LIMIT {
+    if !may_have(workers) {
         return Err(RunFault::Workers);
     }
     terms_are_seen(terms);
@@ -47,6 +47,13 @@ pub fn run<'t, R: Threads + Wait + Sync>(
         Ok(batch) => Ok(batch),
         Err(_) => unreachable!(),
     }
+}
+
+// Whether a run may have so many workers.
+fn may_have(workers: usize) -> bool
+    ensures { IsTrue result ↔ IsWorkerCount workers }
+{
+    1 <= workers && workers <= WORKERS_LIMIT
 }
 
 // The gate of a finished run behind a lock.
@@ -101,7 +108,7 @@ pub fn run_with<R: Threads + Wait + Sync, G: Gate + Sync>(
     ensures refused { IfErr result (λ e. (e.0 ≡ Workers) ↔ (¬ IsWorkerCount workers)) }
     ensures stopped { IfErr result (λ e. e.0 ≡ Stopped → (G.known e.1).seen.stopped ≡ true) }
 {
-    if workers == 0 || workers > WORKERS_LIMIT {
+    if !may_have(workers) {
         return Err((RunFault::Workers, pass));
     }
     let least = LeastFault::new();
@@ -146,9 +153,9 @@ fn in_threads<R: Threads + Wait + Sync, G: Gate + Sync>(
             ensures fault { IfErr result (λ e. e.0 ≢ Workers) }
             ensures stopped { IfErr result (λ e. e.0 ≡ Stopped → (G.known e.1).seen.stopped ≡ true) }
         {
-            let mut pass = pass;
+            let mut own = pass;
             'threads: for number in 0..threads {
-                let (mine, theirs) = gate.split(pass);
+                let (mine, theirs) = gate.split(own);
                 let job = move ||
                     requires { G.has_pass gate.now theirs × ((G.known theirs).seen.terms ≡ terms.now) }
                 { take_part(rt, alloc, terms, gate, theirs, number, least) };
@@ -156,9 +163,9 @@ fn in_threads<R: Threads + Wait + Sync, G: Gate + Sync>(
                     least.note(RunFault::Thread);
                     return work(rt, alloc, terms, gate, stop(rt, terms, gate, mine));
                 }
-                pass = mine;
+                own = mine;
             }
-            work(rt, alloc, terms, gate, pass)
+            work(rt, alloc, terms, gate, own)
         },
     )
 }
