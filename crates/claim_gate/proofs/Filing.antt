@@ -1,29 +1,27 @@
 -- The claims of a file, one after another, and jobs in work.
-use Rattle.std.proofs.Common.{◌≡◌, ℕ, zero, suc, ◌<◌, ◌≤◌, ◌+◌, ◌-◌, Bool, true, false, List, [], ◌∷◌, ◌++◌, length, get_or, Some, IsSome, refl, sym, ap, ◌∙◌, subst, arith, append_assoc, append-nil, eq-eqb}
+use Rattle.std.proofs.Common.{◌≡◌, ℕ, zero, suc, ◌<◌, ◌≤◌, ◌+◌, ◌-◌, true, false, List, [], ◌∷◌, ◌++◌, length, get_or, Some, refl, sym, ap, ◌∙◌, subst, arith, append_assoc, append-nil, eq-eqb}
 use Rattle.std.specs.Borrow.{Bor}
-use Rattle.std.specs.List.{AllZip, list_any, slice_get}
+use Rattle.std.specs.List.{AllZip, slice_get}
 use Rattle.std.proofs.lemmas.Bool.{both_ways, or_left}
 use Rattle.std.proofs.lemmas.List.{length-map, length_push}
 use Rattle.std.proofs.lemmas.List.Folds.{list_any-append}
 use Rattle.settlement.specs.declared.claim.Claim.{Claim}
-use Rattle.dtable.specs.PlanFile.{IsPlanText}
 use Rattle.intake_csv.specs.Columns.{claim_columns}
 use Rattle.intake_csv.specs.Laws.{StartHasTheRows, PlansNeedDistinctNames, ColumnsStandApart, GivenRowIsTheFirst, NoRecordsNoRows, StandApart}
 use Rattle.intake_csv.specs.Rows.{GivesRow, IsAtStart, RowsLeft}
 use Rattle.intake_csv.specs.declared.rows.Row.TheVariants.{Good}
 use Rattle.claim_terms.specs.Terms.{TermsParts, AreClaimsOf, IsTermsOf, claims_among, texts_of}
-use Rattle.journal.specs.Terms.{Terms, IsProvider, claims_of}
+use Rattle.journal.specs.Terms.{Terms, claims_of}
 use Rattle.journal.specs.Events.{is_take, taken, IsJob}
 use Rattle.journal.specs.Gate.{GateAt, Continues, TakeReply, Takes}
 use Rattle.journal.specs.Laws.{JobsStay}
 use Rattle.journal.specs.declared.event.Event.{Event}
 use Rattle.journal.specs.declared.event.Event.TheVariants.{Take}
 use Rattle.claim_gate.specs.Parts.{GateParts, ForTerms}
-use Rattle.claim_gate.specs.Replies.{HasClaims, IsFiled, IsWorkOf}
+use Rattle.claim_gate.specs.Replies.{HasClaims, IsWorkOf}
 use Rattle.claim_gate.specs.Shared.{Known, LeadsTo, Went}
 use Rattle.claim_gate.specs.Worked.{IsReader, IsSpelled, IsAtWork, WorkStays}
 use Rattle.claim_gate.specs.declared.job.Job.{Job}
-use Rattle.claim_gate.specs.declared.offer.Offer.{Offer}
 use Rattle.claim_gate.specs.declared.reply.Taken.TheVariants.{Work}
 use Rattle.claim_gate.proofs.Journals.{any_now}
 use Rattle.claim_gate.proofs.Providers.{as_many_files}

@@ -1,7 +1,7 @@
 -- Calls of a gate behind a lock, by those of the gate of one thread.
-use Rattle.std.proofs.Common.{◌≡◌, ◌+◌, ℕ, true, Bool, ◌∷◌, [], ◌++◌, Result, Ok, Err, refl, sym, ap, ◌∙◌, subst}
+use Rattle.std.proofs.Common.{◌≡◌, ◌+◌, ℕ, true, ◌∷◌, [], ◌++◌, Result, Ok, Err, refl, sym, ap, ◌∙◌, subst}
 use Rattle.std.specs.Result.{OnOk, OnErr}
-use Rattle.claim_terms.specs.Terms.{TermsParts, IsTermsOf}
+use Rattle.claim_terms.specs.Terms.{IsTermsOf}
 use Rattle.settlement.specs.declared.acc.Acc.{Acc}
 use Rattle.settlement.specs.declared.claim.Claim.{Claim}
 use Rattle.journal.specs.Terms.{Terms}

@@ -1,6 +1,5 @@
 -- A gate that several callers share: what one of them knows of it, and what a call tells.
 use Rattle.std.specs.Prelude.{◌≡◌, ◌+◌, ℕ, true}
-use Rattle.journal.specs.Terms.{Terms}
 use Rattle.journal.specs.Gate.{GateAt, Continues}
 use Rattle.journal.specs.Lawful.{Lawful}
 use Rattle.claim_gate.specs.Parts.{GateParts, ForTerms, at}

@@ -4,7 +4,6 @@ use Rattle.std.specs.List.{AllZip, slice_get}
 use Rattle.fixpoint.specs.NumberText.{DenotesAtMostOne}
 use Rattle.feel_tests.specs.Plain.{SpellsOnePlain}
 use Rattle.settlement.specs.declared.claim.Claim.{Claim}
-use Rattle.dtable.specs.Plan.{PlanParts}
 use Rattle.dtable.specs.declared.table.InputData.{InputData}
 use Rattle.intake_csv.specs.Laws.{NoRecordsNoRows, StartHasTheRows}
 use Rattle.intake_csv.specs.Rows.{AreRowsLeft, GivesRow, IsAtStart, RowsLeft}

@@ -1,5 +1,5 @@
 -- What the threads of a run have seen of the gate that they share.
-use Rattle.std.specs.Prelude.{◌≡◌, ◌<◌, ◌≤◌, ◌+◌, ◌||◌, ℕ, Bool, true, Option, Some, None, length}
+use Rattle.std.specs.Prelude.{◌≡◌, ◌<◌, ◌≤◌, ◌||◌, ℕ, Bool, true, Option, Some, None, length}
 use Rattle.settlement.specs.Claim.{IsClaimOf}
 use Rattle.journal.specs.Events.{IsJob, closed, ended, places, taken}
 use Rattle.journal.specs.Lawful.{Finished}

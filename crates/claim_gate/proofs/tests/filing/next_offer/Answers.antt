@@ -1,4 +1,4 @@
-use Rattle.claim_gate.proofs.Filing.{IsNextOf, gives}
+use Rattle.claim_gate.proofs.Filing.{gives}
 use Rattle.claim_gate.proofs.tests.filing.next_offer.Goals as goal
 
 pub returns-clause-filed : goal.returns-clause-filed
