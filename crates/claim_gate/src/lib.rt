@@ -3,10 +3,12 @@
 //! A `GateState` is the gate as one thread sees it. `offer` and `end` are the calls of those who read the providers' files,
 //! `take` and `finish` those of who decides claims; `stop` ends all that. Its journal is lawful, always. A `Batch` is a run
 //! whose journal is finished. Terms come from `claim_terms`, the members' turns from `lanes`, and what journals and the
-//! calls are from `journal`.
+//! calls are from `journal`. A `LockedGate` is such a gate behind a lock from `turn_lock`, and `Gate` is what each of the
+//! callers that share it sees of it.
 //!
 //! Begin with `specs/Parts.antt` and `specs/Replies.antt`, which tie the calls to what `journal` says of them; then read
-//! `state.rt`. What the gate keeps so that no call walks the journal stands in `specs/Kept.antt`.
+//! `state.rt`. What the gate keeps so that no call walks the journal stands in `specs/Kept.antt`. For the shared gate read
+//! `specs/Shared.antt`, then `gate.rt` and `locked.rt`.
 #![tactic(auto)]
 
 mod batch;

@@ -219,7 +219,11 @@ fn a_cutoff_leaves_claims_over(rt: HostRuntime) {
         let result = do_run(&rt, input, &mut out);
         assert!(rt; result.is_ok(), "{workers}");
         let report = out.into_inner();
-        assert!(rt; SPLITS.iter().any(|split| split.as_bytes() == report.as_slice()));
+        assert!(rt;
+            SPLITS
+                .iter()
+                .any(|split| split.as_bytes() == report.as_slice())
+        );
     }
 }
 
