@@ -1,5 +1,5 @@
 -- A gate that several callers share: what one of them knows of it, and what a call tells.
-use Rattle.std.specs.Prelude.{◌≡◌, ◌+◌, ℕ, true}
+use Rattle.std.specs.Prelude.{◌≡◌, ◌⊎◌, ◌+◌, ℕ, true}
 use Rattle.journal.specs.Gate.{GateAt, Continues}
 use Rattle.journal.specs.Lawful.{Lawful}
 use Rattle.claim_gate.specs.Parts.{GateParts, ForTerms, at}
@@ -20,6 +20,13 @@ pub record Known : Type 0 where
   pub seen : GateParts
   pub found : GateParts
   pub tally : ℕ
+
+-- two passes have met: both have then seen the later of the two states that they had seen, to which the other leads; the last
+-- section and the tally are the first's
+pub record HaveMet (first second both : Known) : Type 0 where
+  pub later : ((both.seen ≡ first.seen) × LeadsTo second.seen first.seen) ⊎ ((both.seen ≡ second.seen) × LeadsTo first.seen second.seen)
+  pub found : both.found ≡ first.found
+  pub tally : both.tally ≡ first.tally
 
 -- the pass has had one section: it found a lawful state, which may come behind what the pass had seen, and left a lawful one,
 -- which the pass has seen now

@@ -1,7 +1,7 @@
 //! The gate behind a lock.
 ghost use Rattle.std.specs.Prelude.{◌≡◌, IfOk, IfErr};
 ghost use Rattle.claim_gate.specs.Shared.{IsLawful, LeadsTo};
-ghost use Rattle.claim_gate.specs.Locked.{lock_of};
+ghost use Rattle.claim_gate.specs.Locked.{lock_of, known_by};
 
 use crate::counts::Counts;
 use crate::fault::{EndFault, FinishFault, OfferFault, TakeFault};
@@ -13,7 +13,7 @@ use crate::serial::SerialGate;
 use journal::jobs_stay;
 use settlement::Outcome;
 use std::sync::Wait;
-use turn_lock::{Section, Worn};
+use turn_lock::{Pass, Section, TicketLock, Worn};
 
 /// A gate of one thread behind a lock. Its passes are the lock's, and each call is one section.
 #[derive(Drop)]
@@ -46,6 +46,21 @@ where
             }
             Err(worn) => Err(worn),
         }
+    }
+}
+
+impl<V: SerialGate> LockedGate<TicketLock<V>> {
+    ghost use Rattle.turn_lock.specs.TicketShown.{IsPassOf, pass_knows};
+    ghost use Rattle.claim_gate.specs.Shared.{HaveMet};
+
+    /// Makes what two passes have seen one: both have then seen the longer of the two journals. It waits for nobody.
+    pub fn meet(&self, one: Pass<V>, other: Pass<V>) -> (Pass<V>, Pass<V>)
+        requires { IsPassOf (lock_of self.now) one × IsPassOf (lock_of self.now) other }
+        ensures own { IsPassOf (lock_of self.now) result.0 × IsPassOf (lock_of self.now) result.1 }
+        ensures met { HaveMet (known_by V.shown (pass_knows one)) (known_by V.shown (pass_knows other)) (known_by V.shown (pass_knows result.0)) }
+        ensures same { pass_knows result.1 ≡ pass_knows result.0 }
+    {
+        self.lock.meet(one, other)
     }
 }
 

@@ -12,13 +12,15 @@ use turn_lock::Growing;
 
 impl<'t> Growing for GateState<'t> {
     ghost use Rattle.claim_gate.specs.Shared.{LeadsTo};
-    ghost use Rattle.claim_gate.specs.Leading.{leads_itself, leads_further};
+    ghost use Rattle.claim_gate.specs.Leading.{leads_itself, leads_further, leads_either};
 
     ghost leads = { LeadsTo };
 
     ghost reflexive = { leads_itself };
 
     ghost transitive = { leads_further };
+
+    ghost ordered = { leads_either };
 }
 
 /// A gate of one thread. `GateState` is one; a lock's code names the calls alone, since a value that borrows its terms can't

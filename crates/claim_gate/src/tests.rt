@@ -4,6 +4,7 @@ mod calls;
 mod filing;
 mod in_turn;
 mod last_ticket;
+mod meeting;
 mod shared;
 mod worked;
 

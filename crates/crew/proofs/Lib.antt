@@ -5,3 +5,4 @@ pub mod OneClaim
 pub mod Lefts
 pub mod SomeRow
 pub mod SomeTerms
+pub mod Held

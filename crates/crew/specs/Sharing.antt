@@ -1,7 +1,18 @@
 -- What the threads of a run have seen of the gate that they share.
 use Rattle.std.specs.Prelude.{◌≡◌, ◌<◌, ◌≤◌, ◌||◌, ℕ, Bool, true, Option, Some, None, length}
+use Rattle.std.specs.List.{All}
+use Rattle.dtable.specs.Plan.{PlanParts}
+use Rattle.journal.specs.Settled.{outcome_of}
+use Rattle.crew.specs.declared.worker.Gathered.{Gathered}
+use Rattle.crew.specs.declared.worker.Gathered.TheVariants as gathered
+use Rattle.claim_gate.specs.declared.offer.Offer.{Offer}
+use Rattle.crew.specs.declared.intake.Offered.{Offered}
+use Rattle.crew.specs.declared.intake.Offered.TheVariants as offered
+use Rattle.crew.specs.declared.worker.Settled.{Settled}
+use Rattle.crew.specs.declared.worker.Handed.{Handed}
+use Rattle.crew.specs.declared.worker.Handed.TheVariants.{In, Back}
 use Rattle.settlement.specs.Claim.{IsClaimOf}
-use Rattle.journal.specs.Events.{IsJob, closed, ended, places, taken}
+use Rattle.journal.specs.Events.{IsJob, closed, decided, ended, places, taken}
 use Rattle.journal.specs.Lawful.{Finished}
 use Rattle.claim_gate.specs.Parts.{GateParts, ForTerms}
 use Rattle.claim_gate.specs.declared.job.Job.{Job}
@@ -36,3 +47,27 @@ abbrev pub IsTurn : GateParts → Turn → Type 0
 IsTurn gate Over = ForTerms gate.terms (λ T. Finished T gate.journal)
 IsTurn gate (Work job) = IsInWork gate job
 IsTurn gate NothingReady = Unit {0}
+
+-- a claim in work, with its settlement
+pub record IsSettledIn (gate : GateParts) (settled : Settled) : Type 0 where
+  pub in_work : IsInWork gate settled.job
+  pub value : settled.outcome ≡ outcome_of gate.terms.plan settled.job.claim settled.job.acc
+
+-- what a worker has taken in a row of calls: nothing any more, where the journal is finished; or claims, which are in work
+abbrev pub IsGathered : GateParts → Gathered → Type 0
+IsGathered gate gathered.Over = ForTerms gate.terms (λ T. Finished T gate.journal)
+IsGathered gate (gathered.Jobs jobs) = All (IsInWork gate) jobs.items
+
+-- a claim with its settlement by a plan
+abbrev pub settled_by : PlanParts → Job → Settled
+settled_by plan job = record { job = job; outcome = outcome_of plan job.claim job.acc }
+
+-- the claim is decided, or its outcome comes back
+abbrev pub IsHanded : GateParts → Settled → Handed → Type 0
+IsHanded gate settled In = decided gate.journal settled.job.position ≡ true
+IsHanded gate settled (Back back) = back ≡ settled
+
+-- what comes of an offer: where the provider goes on, or the offer itself
+abbrev pub IsOffered : GateParts → Offer → Offered → Type 0
+IsOffered gate offer (offered.Next next) = GoesOnAt gate offer.provider offer.place next
+IsOffered gate offer (offered.Back back) = back ≡ offer

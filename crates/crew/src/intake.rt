@@ -4,9 +4,10 @@ ghost use Rattle.intake_csv.specs.Rows.{IsAtStart};
 ghost use Rattle.claim_gate.specs.Parts.{ForTerms};
 ghost use Rattle.claim_gate.specs.Replies.{HasClaims, IsFiled};
 ghost use Rattle.claim_gate.specs.Shared.{LeadsTo};
-ghost use Rattle.crew.specs.Sharing.{GoesOnAt, HasTaken, is_past};
+ghost use Rattle.crew.specs.Sharing.{GoesOnAt, HasTaken, IsOffered, is_past};
 ghost use Rattle.crew.specs.declared.fault.RunFault.TheVariants.{OutOfMemory, Workers};
 
+use crate::baton::Baton;
 use crate::fault::RunFault;
 use crate::laws::terms_are_seen;
 use crate::stopping::stop;
@@ -21,6 +22,14 @@ use std::sync::Wait;
 #[cfg(test)]
 mod tests;
 
+/// What comes of an offer.
+enum Offered {
+    /// It is accepted, or was before: the place of the provider's next claim; none where no more claims are accepted.
+    Next(Option<usize>),
+    /// There is no memory for it.
+    Back(Offer),
+}
+
 /// Offers the claims of a provider's file in order, and ends the provider behind the last. What others have offered of it isn't
 /// offered again. Where memory is wanting, the gate is stopped.
 pub(crate) fn take_in<R: Wait, G: Gate>(
@@ -30,6 +39,7 @@ pub(crate) fn take_in<R: Wait, G: Gate>(
     gate: &G,
     pass: G::Pass,
     provider: usize,
+    baton: &Baton,
 ) -> Result<G::Pass, (RunFault, G::Pass)>
     requires own { G.has_pass gate.now pass }
     requires terms { (G.known pass).seen.terms ≡ terms.now }
@@ -40,7 +50,7 @@ pub(crate) fn take_in<R: Wait, G: Gate>(
     ensures past { IfOk result (λ p. is_past (G.known p).seen provider ≡ true) }
     ensures fault { IfErr result (λ e. e.0 ≢ Workers) }
 {
-    match read_on(rt, alloc, terms, gate, pass, provider) {
+    match read_on(rt, alloc, terms, gate, pass, provider, baton) {
         Ok(pass) => Ok(pass),
         Err((RunFault::OutOfMemory, pass)) => Err((
             RunFault::OutOfMemory,
@@ -58,6 +68,7 @@ fn read_on<R: Wait, G: Gate>(
     gate: &G,
     mut pass: G::Pass,
     provider: usize,
+    baton: &Baton,
 ) -> Result<G::Pass, (RunFault, G::Pass)>
     requires own { G.has_pass gate.now pass }
     requires terms { (G.known pass).seen.terms ≡ terms.now }
@@ -77,6 +88,7 @@ fn read_on<R: Wait, G: Gate>(
         Ok(rows) => rows,
         Err(fault) => return Err((fault, pass)),
     };
+    let mut hold = baton.hold(rt);
     let mut count = 0;
     let mut expected = 0;
     loop {
@@ -99,6 +111,7 @@ fn read_on<R: Wait, G: Gate>(
             place,
             claim,
         };
+        hold.call(rt);
         (expected, pass) = match offer(rt, terms, gate, pass, offered) {
             Ok((Some(next), pass)) => (next, pass),
             Ok((None, pass)) => return Ok(pass),
@@ -120,8 +133,9 @@ fn open<'t>(alloc: Global, terms: &'t Terms, provider: usize) -> Result<Rows<'t>
     }
 }
 
-// Offers a claim, and gives the place of the provider's next one; none where no more claims are accepted.
-#[tactic(auto, using(crate::proofs::Sections::led))]
+// Offers a claim, and once more where memory is wanting. Gives the place of the provider's next one; none where no more claims
+// are accepted.
+#[tactic(auto, using(crate::proofs::Held::led_on))]
 fn offer<R: Wait, G: Gate>(
     rt: &R,
     terms: &Terms,
@@ -141,6 +155,67 @@ fn offer<R: Wait, G: Gate>(
     ensures next { IfOk result (λ r. GoesOnAt (G.known r.1).seen offer.provider offer.place r.0) }
     ensures fault { IfErr result (λ e. e.0 ≢ Workers) }
 {
+    let (offered, pass) = match offer_once(rt, terms, gate, pass, offer) {
+        Ok(answer) => answer,
+        Err(left) => return Err(left),
+    };
+    match offered {
+        Offered::Next(next) => Ok((next, pass)),
+        Offered::Back(offer) => offer_again(rt, terms, gate, pass, offer),
+    }
+}
+
+// The second try, which is the last.
+fn offer_again<R: Wait, G: Gate>(
+    rt: &R,
+    terms: &Terms,
+    gate: &G,
+    pass: G::Pass,
+    offer: Offer,
+) -> Result<(Option<usize>, G::Pass), (RunFault, G::Pass)>
+    requires own { G.has_pass gate.now pass }
+    requires terms { (G.known pass).seen.terms ≡ terms.now }
+    requires filed { ForTerms terms.now (λ T. IsFiled T offer) }
+    requires taken { HasTaken (G.known pass).seen offer.provider offer.place }
+    requires room { offer.place + 1 < 2 ^ 64 }
+    ensures own { IfOk result (λ r. G.has_pass gate.now r.1) }
+    ensures back { IfErr result (λ e. G.has_pass gate.now e.1) }
+    ensures seen { IfOk result (λ r. LeadsTo (G.known pass).seen (G.known r.1).seen) }
+    ensures seen_back { IfErr result (λ e. LeadsTo (G.known pass).seen (G.known e.1).seen) }
+    ensures next { IfOk result (λ r. GoesOnAt (G.known r.1).seen offer.provider offer.place r.0) }
+    ensures fault { IfErr result (λ e. e.0 ≢ Workers) }
+{
+    let (offered, pass) = match offer_once(rt, terms, gate, pass, offer) {
+        Ok(answer) => answer,
+        Err(left) => return Err(left),
+    };
+    match offered {
+        Offered::Next(next) => Ok((next, pass)),
+        Offered::Back(_) => Err((RunFault::OutOfMemory, pass)),
+    }
+}
+
+// One call. The offer comes back where there is no memory.
+#[tactic(auto, using(crate::proofs::Sections::led))]
+fn offer_once<R: Wait, G: Gate>(
+    rt: &R,
+    terms: &Terms,
+    gate: &G,
+    pass: G::Pass,
+    offer: Offer,
+) -> Result<(Offered, G::Pass), (RunFault, G::Pass)>
+    requires own { G.has_pass gate.now pass }
+    requires terms { (G.known pass).seen.terms ≡ terms.now }
+    requires filed { ForTerms terms.now (λ T. IsFiled T offer) }
+    requires taken { HasTaken (G.known pass).seen offer.provider offer.place }
+    requires room { offer.place + 1 < 2 ^ 64 }
+    ensures own { IfOk result (λ r. G.has_pass gate.now r.1) }
+    ensures back { IfErr result (λ e. G.has_pass gate.now e.1) }
+    ensures seen { IfOk result (λ r. LeadsTo (G.known pass).seen (G.known r.1).seen) }
+    ensures seen_back { IfErr result (λ e. LeadsTo (G.known pass).seen (G.known e.1).seen) }
+    ensures offered { IfOk result (λ r. IsOffered (G.known r.1).seen offer r.0) }
+    ensures fault { IfErr result (λ e. e.0 ≢ Workers) }
+{
     terms_are_seen(terms);
     let place = offer.place;
     let (accepted, pass) = match gate.offer(rt, pass, offer) {
@@ -148,17 +223,44 @@ fn offer<R: Wait, G: Gate>(
         Err((_, pass, _)) => return Err((RunFault::Worn, pass)),
     };
     match accepted {
-        Ok(_) => Ok((Some(place + 1), pass)),
-        Err((OfferFault::OutOfTurn { expected }, _)) => Ok((Some(expected), pass)),
-        Err((OfferFault::Closed, _)) => Ok((None, pass)),
-        Err((OfferFault::Stopped, _)) => Ok((None, pass)),
-        Err((OfferFault::OutOfMemory, _)) => Err((RunFault::OutOfMemory, pass)),
+        Ok(_) => Ok((Offered::Next(Some(place + 1)), pass)),
+        Err((OfferFault::OutOfTurn { expected }, _)) => Ok((Offered::Next(Some(expected)), pass)),
+        Err((OfferFault::Closed, _)) => Ok((Offered::Next(None), pass)),
+        Err((OfferFault::Stopped, _)) => Ok((Offered::Next(None), pass)),
+        Err((OfferFault::OutOfMemory, back)) => Ok((Offered::Back(back), pass)),
     }
 }
 
-// Ends a provider whose claims, so many, are all accepted.
-#[tactic(auto, using(crate::proofs::Sections::led))]
+// Ends a provider whose claims, so many, are all accepted, and tries once more where memory is wanting.
+#[tactic(auto, using(crate::proofs::Held::led_on))]
 fn end<R: Wait, G: Gate>(
+    rt: &R,
+    terms: &Terms,
+    gate: &G,
+    pass: G::Pass,
+    provider: usize,
+    count: usize,
+) -> Result<G::Pass, (RunFault, G::Pass)>
+    requires own { G.has_pass gate.now pass }
+    requires terms { (G.known pass).seen.terms ≡ terms.now }
+    requires claims { ForTerms terms.now (λ T. HasClaims T provider count) }
+    requires taken { HasTaken (G.known pass).seen provider count }
+    ensures own { IfOk result (λ p. G.has_pass gate.now p) }
+    ensures back { IfErr result (λ e. G.has_pass gate.now e.1) }
+    ensures seen_back { IfErr result (λ e. LeadsTo (G.known pass).seen (G.known e.1).seen) }
+    ensures past { IfOk result (λ p. is_past (G.known p).seen provider ≡ true) }
+    ensures fault { IfErr result (λ e. e.0 ≢ Workers) }
+{
+    match end_once(rt, terms, gate, pass, provider, count) {
+        Ok(pass) => Ok(pass),
+        Err((RunFault::OutOfMemory, back)) => end_once(rt, terms, gate, back, provider, count),
+        Err(left) => Err(left),
+    }
+}
+
+// One call.
+#[tactic(auto, using(crate::proofs::Sections::led))]
+fn end_once<R: Wait, G: Gate>(
     rt: &R,
     terms: &Terms,
     gate: &G,

@@ -7,6 +7,7 @@
 //! Begin with `threads.rt`, whose `run` and `run_with` carry the promise; `intake.rt` and `worker.rt` are what the threads do.
 #![tactic(auto)]
 
+mod baton;
 mod fault;
 mod intake;
 mod laws;

@@ -10,6 +10,7 @@ use std::process::Abort;
 use std::test::Fail;
 
 mod meeting;
+mod stopping;
 
 /// A plan with a table of fees and one of remarks.
 pub const PLAN: &[u8] = br#"

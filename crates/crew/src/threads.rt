@@ -6,6 +6,7 @@ ghost use Rattle.claim_gate.specs.Shared.{LeadsTo};
 ghost use Rattle.crew.specs.Workers.{IsWorkerCount};
 ghost use Rattle.crew.specs.declared.fault.RunFault.TheVariants.{Workers, Stopped};
 
+use crate::baton::Baton;
 use crate::fault::RunFault;
 use crate::intake::take_in;
 use crate::laws::terms_are_seen;
@@ -14,17 +15,18 @@ use crate::stopping::stop;
 use crate::worker::work;
 use claim_gate::{Batch, Gate, GateState, LockedGate, SerialGate};
 use claim_terms::Terms;
+use cutplan::{CutPlan, compile};
 use journal::finished_is_final;
 use std::alloc::Global;
 use std::sync::Wait;
 use std::thread;
 use std::thread::Threads;
-use turn_lock::{Section, SpinLock};
+use turn_lock::{Section, TicketLock};
 
 /// How many workers a run may have at most.
 pub const WORKERS_LIMIT: usize = 64;
 
-/// Runs by an intake thread for each provider's file and so many workers, behind a spin lock.
+/// Runs by an intake thread for each provider's file and so many workers, behind a ticket lock.
 pub fn run<'t, R: Threads + Wait + Sync>(
     rt: &R,
     alloc: Global,
@@ -41,7 +43,7 @@ pub fn run<'t, R: Threads + Wait + Sync>(
     }
     terms_are_seen(terms);
     let state = GateState::new(alloc, terms)?;
-    let (lock, pass) = SpinLock::new(alloc, state)?;
+    let (lock, pass) = TicketLock::new(alloc, state)?;
     let state = run_behind(rt, alloc, terms, workers, lock, pass)?;
     match Batch::from_state(state, terms) {
         Ok(batch) => Ok(batch),
@@ -111,8 +113,12 @@ pub fn run_with<R: Threads + Wait + Sync, G: Gate + Sync>(
     if !may_have(workers) {
         return Err((RunFault::Workers, pass));
     }
+    let Ok(plan) = compile(alloc, terms.plan()) else {
+        return Err((RunFault::OutOfMemory, stop(rt, terms, gate, pass)));
+    };
     let least = LeastFault::new();
-    match in_threads(rt, alloc, terms, workers, gate, pass, &least) {
+    let baton = Baton::new();
+    match in_threads(rt, alloc, terms, &plan, workers, gate, pass, &least, &baton) {
         Ok(pass) => Ok(pass),
         Err((own, pass)) => Err((least.or_own(own), pass)),
     }
@@ -123,14 +129,17 @@ fn in_threads<R: Threads + Wait + Sync, G: Gate + Sync>(
     rt: &R,
     alloc: Global,
     terms: &Terms,
+    plan: &CutPlan,
     workers: usize,
     gate: &G,
     pass: G::Pass,
     least: &LeastFault,
+    baton: &Baton,
 ) -> Result<G::Pass, (RunFault, G::Pass)>
     requires own { G.has_pass gate.now pass }
     requires terms { (G.known pass).seen.terms ≡ terms.now }
     requires workers { IsWorkerCount workers }
+    requires plan { plan.now ≡ terms.now.plan }
     ensures own { IfOk result (λ p. G.has_pass gate.now p) }
     ensures back { IfErr result (λ e. G.has_pass gate.now e.1) }
     ensures seen { IfOk result (λ p. LeadsTo (G.known pass).seen (G.known p).seen) }
@@ -144,7 +153,7 @@ fn in_threads<R: Threads + Wait + Sync, G: Gate + Sync>(
         thread::scope_env(),
         rt,
         |scope| -> Result<G::Pass, (RunFault, G::Pass)>
-            requires { G.has_pass gate.now pass × ((G.known pass).seen.terms ≡ terms.now) }
+            requires { G.has_pass gate.now pass × ((G.known pass).seen.terms ≡ terms.now) × (plan.now ≡ terms.now.plan) }
             ensures own { IfOk result (λ p. G.has_pass gate.entry.now p) }
             ensures back { IfErr result (λ e. G.has_pass gate.entry.now e.1) }
             ensures seen { IfOk result (λ p. LeadsTo (G.known pass).seen (G.known p).seen) }
@@ -157,15 +166,15 @@ fn in_threads<R: Threads + Wait + Sync, G: Gate + Sync>(
             'threads: for number in 0..threads {
                 let (mine, theirs) = gate.split(own);
                 let job = move ||
-                    requires { G.has_pass gate.now theirs × ((G.known theirs).seen.terms ≡ terms.now) }
-                { take_part(rt, alloc, terms, gate, theirs, number, least) };
+                    requires { G.has_pass gate.now theirs × ((G.known theirs).seen.terms ≡ terms.now) × (plan.now ≡ terms.now.plan) }
+                { take_part(rt, alloc, terms, plan, gate, theirs, number, least, baton) };
                 if scope.spawn(job).is_err() {
                     least.note(RunFault::Thread);
-                    return work(rt, alloc, terms, gate, stop(rt, terms, gate, mine));
+                    return work(rt, alloc, terms, plan, gate, stop(rt, terms, gate, mine), baton);
                 }
                 own = mine;
             }
-            work(rt, alloc, terms, gate, own)
+            work(rt, alloc, terms, plan, gate, own, baton)
         },
     )
 }
@@ -175,18 +184,21 @@ fn take_part<R: Wait, G: Gate>(
     rt: &R,
     alloc: Global,
     terms: &Terms,
+    plan: &CutPlan,
     gate: &G,
     pass: G::Pass,
     number: usize,
     least: &LeastFault,
+    baton: &Baton,
 )
     requires own { G.has_pass gate.now pass }
     requires terms { (G.known pass).seen.terms ≡ terms.now }
+    requires plan { plan.now ≡ terms.now.plan }
 {
     let left = if number < terms.files().len() {
-        take_in(rt, alloc, terms, gate, pass, number + 1)
+        take_in(rt, alloc, terms, gate, pass, number + 1, baton)
     } else {
-        work(rt, alloc, terms, gate, pass)
+        work(rt, alloc, terms, plan, gate, pass, baton)
     };
     if let Err((fault, _)) = left {
         least.note(fault);

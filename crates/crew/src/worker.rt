@@ -1,22 +1,26 @@
 //! What a worker of a run does.
-ghost use Rattle.std.specs.Prelude.{◌≡◌, ◌≢◌, true, IfOk, IfErr};
+ghost use Rattle.std.specs.Prelude.{◌≡◌, ◌≢◌, true, map, IsSome, IfOk, IfErr};
+ghost use Rattle.std.specs.List.{All};
+ghost use Rattle.settlement.specs.Claim.{IsClaimOf};
 ghost use Rattle.journal.specs.Events.{decided};
 ghost use Rattle.journal.specs.Lawful.{Finished};
 ghost use Rattle.claim_gate.specs.Parts.{ForTerms};
 ghost use Rattle.claim_gate.specs.Shared.{LeadsTo};
-ghost use Rattle.crew.specs.Sharing.{IsInWork, IsTurn};
+ghost use Rattle.crew.specs.Sharing.{IsGathered, IsHanded, IsInWork, IsSettledIn, IsTurn, settled_by};
 ghost use Rattle.crew.specs.declared.fault.RunFault.TheVariants.{Workers, Stopped};
 
+use crate::baton::{Baton, CALLS_LIMIT};
 use crate::fault::RunFault;
 use crate::laws::terms_are_seen;
 use crate::stopping::stop;
 use claim_gate::{FinishFault, Gate, Job, Taken};
 use claim_terms::Terms;
 use crossbeam_utils::Backoff;
-use dtable::Plan;
+use cutplan::CutPlan;
 use intake_csv::claims_have_the_plan_s_fields;
-use settlement::Adjudicator;
-use std::alloc::Global;
+use journal::jobs_stay;
+use settlement::{Adjudicator, Outcome};
+use std::alloc::{AllocError, Global};
 use std::sync::Wait;
 
 /// What a worker is to do.
@@ -29,14 +33,40 @@ enum Turn {
     NothingReady,
 }
 
+/// What a worker has taken in a row of calls.
+enum Gathered {
+    /// Nothing, and never again: the journal is finished.
+    Over,
+    /// These claims.
+    Jobs(Vec<Job>),
+}
+
+/// A claim in work, with its outcome, which isn't recorded yet.
+#[derive(Drop)]
+struct Settled {
+    job: Job,
+    outcome: Outcome,
+}
+
+/// What comes of an outcome that is handed in.
+enum Handed {
+    /// It is recorded, or was before.
+    In,
+    /// There is no memory for it.
+    Back(Settled),
+}
+
 /// Takes claims and decides them until the journal is finished. Where memory is wanting, the gate is stopped.
 pub(crate) fn work<R: Wait, G: Gate>(
     rt: &R,
     alloc: Global,
     terms: &Terms,
+    plan: &CutPlan,
     gate: &G,
     pass: G::Pass,
+    baton: &Baton,
 ) -> Result<G::Pass, (RunFault, G::Pass)>
+    requires plan { plan.now ≡ terms.now.plan }
     requires own { G.has_pass gate.now pass }
     requires terms { (G.known pass).seen.terms ≡ terms.now }
     ensures own { IfOk result (λ p. G.has_pass gate.now p) }
@@ -47,7 +77,7 @@ pub(crate) fn work<R: Wait, G: Gate>(
     ensures fault { IfErr result (λ e. e.0 ≢ Workers) }
     ensures stopped { IfErr result (λ e. e.0 ≡ Stopped → (G.known e.1).seen.stopped ≡ true) }
 {
-    match work_on(rt, alloc, terms, gate, pass) {
+    match work_on(rt, alloc, terms, plan, gate, pass, baton) {
         Ok(pass) => Ok(pass),
         Err((RunFault::OutOfMemory, pass)) => Err((
             RunFault::OutOfMemory,
@@ -57,14 +87,17 @@ pub(crate) fn work<R: Wait, G: Gate>(
     }
 }
 
-// The same without the stop.
+// The same without the stop. The claims of a turn are decided while another thread has its own.
 fn work_on<R: Wait, G: Gate>(
     rt: &R,
     alloc: Global,
     terms: &Terms,
+    plan: &CutPlan,
     gate: &G,
     mut pass: G::Pass,
+    baton: &Baton,
 ) -> Result<G::Pass, (RunFault, G::Pass)>
+    requires plan { plan.now ≡ terms.now.plan }
     requires own { G.has_pass gate.now pass }
     requires terms { (G.known pass).seen.terms ≡ terms.now }
     ensures own { IfOk result (λ p. G.has_pass gate.now p) }
@@ -75,36 +108,132 @@ fn work_on<R: Wait, G: Gate>(
     ensures fault { IfErr result (λ e. e.0 ≢ Workers) }
     ensures stopped { IfErr result (λ e. e.0 ≡ Stopped → (G.known e.1).seen.stopped ≡ true) }
 {
-    let Ok(mut adjudicator) = Adjudicator::new(alloc, terms.plan()) else {
+    let _plan = terms.plan();
+    let Ok(mut adjudicator) = Adjudicator::new(alloc, plan) else {
         return Err((RunFault::OutOfMemory, pass));
     };
     let backoff = Backoff::new();
+    let mut settled = Vec::new(alloc);
     for _ in rt.forever() {
-        let (turn, back) = match take(rt, terms, gate, pass) {
+        let (gathered, back) = match take_turn(rt, alloc, terms, gate, pass, settled, baton) {
             Ok(taken) => taken,
             Err(left) => return Err(left),
         };
-        pass = match turn {
-            Turn::Over => return Ok(back),
-            Turn::Work(job) => {
-                backoff.reset();
-                match decide(rt, alloc, terms, gate, back, &mut adjudicator, job) {
-                    Ok(pass) => pass,
-                    Err(left) => return Err(left),
-                }
-            }
-            Turn::NothingReady => {
-                backoff.snooze();
-                back
-            }
+        let jobs = match gathered {
+            Gathered::Over => return Ok(back),
+            Gathered::Jobs(jobs) => jobs,
         };
+        if jobs.is_empty() {
+            backoff.snooze();
+        } else {
+            backoff.reset();
+        }
+        let Ok(decided) = decide_all(alloc, &mut adjudicator, jobs) else {
+            return Err((RunFault::OutOfMemory, back));
+        };
+        settled = decided;
+        pass = back;
     }
     unreachable!()
 }
 
-// Asks the gate what there is to do.
-#[tactic(auto, using(crate::proofs::Sections::led))]
+// A row of calls: records what is settled, and takes as many claims as there are to be had.
+#[tactic(auto, using(crate::proofs::Held::led_on))]
+fn take_turn<R: Wait, G: Gate>(
+    rt: &R,
+    alloc: Global,
+    terms: &Terms,
+    gate: &G,
+    pass: G::Pass,
+    settled: Vec<Settled>,
+    baton: &Baton,
+) -> Result<(Gathered, G::Pass), (RunFault, G::Pass)>
+    requires own { G.has_pass gate.now pass }
+    requires terms { (G.known pass).seen.terms ≡ terms.now }
+    requires settled { All (IsSettledIn (G.known pass).seen) settled.items }
+    ensures own { IfOk result (λ r. G.has_pass gate.now r.1) }
+    ensures back { IfErr result (λ e. G.has_pass gate.now e.1) }
+    ensures seen { IfOk result (λ r. LeadsTo (G.known pass).seen (G.known r.1).seen) }
+    ensures seen_back { IfErr result (λ e. LeadsTo (G.known pass).seen (G.known e.1).seen) }
+    ensures gathered { IfOk result (λ r. IsGathered (G.known r.1).seen r.0) }
+    ensures fault { IfErr result (λ e. e.0 ≢ Workers) }
+    ensures stopped { IfErr result (λ e. e.0 ≡ Stopped → (G.known e.1).seen.stopped ≡ true) }
+{
+    let _hold = baton.hold(rt);
+    let pass = match record_all(rt, terms, gate, pass, settled) {
+        Ok(pass) => pass,
+        Err(left) => return Err(left),
+    };
+    gather(rt, alloc, terms, gate, pass)
+}
+
+// Takes claims, one call after another, until none is ready or a turn has no call left.
+fn gather<R: Wait, G: Gate>(
+    rt: &R,
+    alloc: Global,
+    terms: &Terms,
+    gate: &G,
+    mut pass: G::Pass,
+) -> Result<(Gathered, G::Pass), (RunFault, G::Pass)>
+    requires own { G.has_pass gate.now pass }
+    requires terms { (G.known pass).seen.terms ≡ terms.now }
+    ensures own { IfOk result (λ r. G.has_pass gate.now r.1) }
+    ensures back { IfErr result (λ e. G.has_pass gate.now e.1) }
+    ensures seen { IfOk result (λ r. LeadsTo (G.known pass).seen (G.known r.1).seen) }
+    ensures seen_back { IfErr result (λ e. LeadsTo (G.known pass).seen (G.known e.1).seen) }
+    ensures gathered { IfOk result (λ r. IsGathered (G.known r.1).seen r.0) }
+    ensures fault { IfErr result (λ e. e.0 ≢ Workers) }
+    ensures stopped { IfErr result (λ e. e.0 ≡ Stopped → (G.known e.1).seen.stopped ≡ true) }
+{
+    jobs_stay();
+    let mut jobs = Vec::new(alloc);
+    'calls: for _ in 0..CALLS_LIMIT {
+        let (turn, back) = match take(rt, terms, gate, pass) {
+            Ok(taken) => taken,
+            Err(left) => return Err(left),
+        };
+        match turn {
+            Turn::Over => return Ok((Gathered::Over, back)),
+            Turn::NothingReady => return Ok((Gathered::Jobs(jobs), back)),
+            Turn::Work(job) => {
+                let Ok(()) = jobs.push(job) else {
+                    return Err((RunFault::OutOfMemory, back));
+                };
+            }
+        }
+        pass = back;
+    }
+    Ok((Gathered::Jobs(jobs), pass))
+}
+
+// Asks the gate what there is to do, and once more where memory is wanting.
+#[tactic(auto, using(crate::proofs::Held::led_on))]
 fn take<R: Wait, G: Gate>(
+    rt: &R,
+    terms: &Terms,
+    gate: &G,
+    pass: G::Pass,
+) -> Result<(Turn, G::Pass), (RunFault, G::Pass)>
+    requires own { G.has_pass gate.now pass }
+    requires terms { (G.known pass).seen.terms ≡ terms.now }
+    ensures own { IfOk result (λ r. G.has_pass gate.now r.1) }
+    ensures back { IfErr result (λ e. G.has_pass gate.now e.1) }
+    ensures seen { IfOk result (λ r. LeadsTo (G.known pass).seen (G.known r.1).seen) }
+    ensures seen_back { IfErr result (λ e. LeadsTo (G.known pass).seen (G.known e.1).seen) }
+    ensures turn { IfOk result (λ r. IsTurn (G.known r.1).seen r.0) }
+    ensures fault { IfErr result (λ e. e.0 ≢ Workers) }
+    ensures stopped { IfErr result (λ e. e.0 ≡ Stopped → (G.known e.1).seen.stopped ≡ true) }
+{
+    match take_once(rt, terms, gate, pass) {
+        Ok(taken) => Ok(taken),
+        Err((RunFault::OutOfMemory, back)) => take_once(rt, terms, gate, back),
+        Err(left) => Err(left),
+    }
+}
+
+// One call.
+#[tactic(auto, using(crate::proofs::Sections::led))]
+fn take_once<R: Wait, G: Gate>(
     rt: &R,
     terms: &Terms,
     gate: &G,
@@ -136,43 +265,143 @@ fn take<R: Wait, G: Gate>(
     }
 }
 
-// Decides a claim in work, and hands the outcome in. Another worker may have done so already.
-#[tactic(auto, using(crate::proofs::Sections::led))]
-fn decide<'t, R: Wait, G: Gate>(
-    rt: &R,
+// Decides claims in work, in order.
+fn decide_all<'v, 'p>(
     alloc: Global,
-    terms: &Terms<'t>,
+    adjudicator: &mut Adjudicator<'v, CutPlan<'p>>,
+    jobs: Vec<Job>,
+) -> Result<Vec<Settled>, AllocError>
+    requires roles { IsSome adjudicator.old.roles }
+    requires fields { All (λ job. IsClaimOf adjudicator.old job.claim) jobs.items }
+    ensures plan { adjudicator.new ≡ adjudicator.old }
+    ensures settled { IfOk result (λ settled. settled.items ≡ map (settled_by adjudicator.old) jobs.items) }
+{
+    let mut settled = Vec::with_capacity(alloc, jobs.len())?;
+    for job in jobs {
+        let outcome = adjudicator.decide(alloc, &job.claim, job.acc)?;
+        settled.push(Settled { job, outcome })?;
+    }
+    Ok(settled)
+}
+
+// Records outcomes, one call after another.
+fn record_all<R: Wait, G: Gate>(
+    rt: &R,
+    terms: &Terms,
     gate: &G,
-    pass: G::Pass,
-    adjudicator: &mut Adjudicator<'t, Plan>,
-    job: Job,
+    mut pass: G::Pass,
+    settled: Vec<Settled>,
 ) -> Result<G::Pass, (RunFault, G::Pass)>
     requires own { G.has_pass gate.now pass }
     requires terms { (G.known pass).seen.terms ≡ terms.now }
-    requires plan { adjudicator.old ≡ terms.now.plan }
-    requires in_work { IsInWork (G.known pass).seen job }
-    ensures plan { adjudicator.new ≡ terms.now.plan }
+    requires settled { All (IsSettledIn (G.known pass).seen) settled.items }
     ensures own { IfOk result (λ p. G.has_pass gate.now p) }
     ensures back { IfErr result (λ e. G.has_pass gate.now e.1) }
     ensures seen { IfOk result (λ p. LeadsTo (G.known pass).seen (G.known p).seen) }
     ensures seen_back { IfErr result (λ e. LeadsTo (G.known pass).seen (G.known e.1).seen) }
-    ensures decided { IfOk result (λ p. decided (G.known p).seen.journal job.position ≡ true) }
+    ensures fault { IfErr result (λ e. e.0 ≢ Workers) }
+    ensures stopped { IfErr result (λ e. e.0 ≡ Stopped → (G.known e.1).seen.stopped ≡ true) }
+{
+    jobs_stay();
+    for one in settled {
+        pass = match record(rt, terms, gate, pass, one) {
+            Ok(pass) => pass,
+            Err(left) => return Err(left),
+        };
+    }
+    Ok(pass)
+}
+
+// Hands an outcome in, and once more where memory is wanting. Another worker may have done so already.
+#[tactic(auto, using(crate::proofs::Held::led_on))]
+fn record<R: Wait, G: Gate>(
+    rt: &R,
+    terms: &Terms,
+    gate: &G,
+    pass: G::Pass,
+    settled: Settled,
+) -> Result<G::Pass, (RunFault, G::Pass)>
+    requires own { G.has_pass gate.now pass }
+    requires terms { (G.known pass).seen.terms ≡ terms.now }
+    requires settled { IsSettledIn (G.known pass).seen settled }
+    ensures own { IfOk result (λ p. G.has_pass gate.now p) }
+    ensures back { IfErr result (λ e. G.has_pass gate.now e.1) }
+    ensures seen { IfOk result (λ p. LeadsTo (G.known pass).seen (G.known p).seen) }
+    ensures seen_back { IfErr result (λ e. LeadsTo (G.known pass).seen (G.known e.1).seen) }
+    ensures decided { IfOk result (λ p. decided (G.known p).seen.journal settled.job.position ≡ true) }
+    ensures fault { IfErr result (λ e. e.0 ≢ Workers) }
+    ensures stopped { IfErr result (λ e. e.0 ≡ Stopped → (G.known e.1).seen.stopped ≡ true) }
+{
+    jobs_stay();
+    let (handed, pass) = match hand_in(rt, terms, gate, pass, settled) {
+        Ok(answer) => answer,
+        Err(left) => return Err(left),
+    };
+    match handed {
+        Handed::In => Ok(pass),
+        Handed::Back(settled) => record_again(rt, terms, gate, pass, settled),
+    }
+}
+
+// The second try, which is the last.
+fn record_again<R: Wait, G: Gate>(
+    rt: &R,
+    terms: &Terms,
+    gate: &G,
+    pass: G::Pass,
+    settled: Settled,
+) -> Result<G::Pass, (RunFault, G::Pass)>
+    requires own { G.has_pass gate.now pass }
+    requires terms { (G.known pass).seen.terms ≡ terms.now }
+    requires settled { IsSettledIn (G.known pass).seen settled }
+    ensures own { IfOk result (λ p. G.has_pass gate.now p) }
+    ensures back { IfErr result (λ e. G.has_pass gate.now e.1) }
+    ensures seen { IfOk result (λ p. LeadsTo (G.known pass).seen (G.known p).seen) }
+    ensures seen_back { IfErr result (λ e. LeadsTo (G.known pass).seen (G.known e.1).seen) }
+    ensures decided { IfOk result (λ p. decided (G.known p).seen.journal settled.job.position ≡ true) }
+    ensures fault { IfErr result (λ e. e.0 ≢ Workers) }
+    ensures stopped { IfErr result (λ e. e.0 ≡ Stopped → (G.known e.1).seen.stopped ≡ true) }
+{
+    let (handed, pass) = match hand_in(rt, terms, gate, pass, settled) {
+        Ok(answer) => answer,
+        Err(left) => return Err(left),
+    };
+    match handed {
+        Handed::In => Ok(pass),
+        Handed::Back(_) => Err((RunFault::OutOfMemory, pass)),
+    }
+}
+
+// One call. The claim comes back with its outcome where there is no memory.
+#[tactic(auto, using(crate::proofs::Sections::led))]
+fn hand_in<R: Wait, G: Gate>(
+    rt: &R,
+    terms: &Terms,
+    gate: &G,
+    pass: G::Pass,
+    settled: Settled,
+) -> Result<(Handed, G::Pass), (RunFault, G::Pass)>
+    requires own { G.has_pass gate.now pass }
+    requires terms { (G.known pass).seen.terms ≡ terms.now }
+    requires settled { IsSettledIn (G.known pass).seen settled }
+    ensures own { IfOk result (λ r. G.has_pass gate.now r.1) }
+    ensures back { IfErr result (λ e. G.has_pass gate.now e.1) }
+    ensures seen { IfOk result (λ r. LeadsTo (G.known pass).seen (G.known r.1).seen) }
+    ensures seen_back { IfErr result (λ e. LeadsTo (G.known pass).seen (G.known e.1).seen) }
+    ensures handed { IfOk result (λ r. IsHanded (G.known r.1).seen settled r.0) }
     ensures fault { IfErr result (λ e. e.0 ≢ Workers) }
     ensures stopped { IfErr result (λ e. e.0 ≡ Stopped → (G.known e.1).seen.stopped ≡ true) }
 {
     terms_are_seen(terms);
-    let _plan = terms.plan();
-    let Ok(outcome) = adjudicator.decide(alloc, &job.claim, job.acc) else {
-        return Err((RunFault::OutOfMemory, pass));
-    };
+    let Settled { job, outcome } = settled;
     let (recorded, pass) = match gate.finish(rt, pass, job, outcome) {
         Ok(answer) => answer,
         Err((_, pass, _, _)) => return Err((RunFault::Worn, pass)),
     };
     match recorded {
-        Ok(_) => Ok(pass),
-        Err((FinishFault::AlreadyDecided, _, _)) => Ok(pass),
+        Ok(_) => Ok((Handed::In, pass)),
+        Err((FinishFault::AlreadyDecided, _, _)) => Ok((Handed::In, pass)),
         Err((FinishFault::Stopped, _, _)) => Err((RunFault::Stopped, pass)),
-        Err((FinishFault::OutOfMemory, _, _)) => Err((RunFault::OutOfMemory, pass)),
+        Err((FinishFault::OutOfMemory, job, outcome)) => Ok((Handed::Back(Settled { job, outcome }), pass)),
     }
 }

@@ -2,7 +2,7 @@
 //! has its clauses too; what the second of two passes finds tells it from the locks.
 
 ghost use Rattle.std.specs.Prelude.{◌≡◌, ◌≤◌, ◌<◌, ℕ};
-ghost use Rattle.lock_examples.specs.Counts.{same_count, later_count};
+ghost use Rattle.lock_examples.specs.Counts.{same_count, later_count, either_count};
 
 use std::sync::Wait;
 use turn_lock::{Growing, Section, Worn};
@@ -19,6 +19,8 @@ impl Growing for Visitors {
     ghost reflexive = { λ x. same_count x.count };
 
     ghost transitive = { λ x y z. later_count x.count y.count z.count };
+
+    ghost ordered = { λ x y z. either_count x.count y.count z.count };
 }
 
 /// What can be counted.

@@ -2,7 +2,7 @@
 //! `Section`, called by two threads and retired at the end. What the gate replies is proved from `Section`'s clauses alone.
 
 ghost use Rattle.std.specs.Prelude.{◌≡◌, ◌+◌, IfOk, IfErr};
-ghost use Rattle.turn_lock.specs.Toy.{GoesOn, same_list, longer_list};
+ghost use Rattle.turn_lock.specs.Toy.{GoesOn, same_list, longer_list, either_list};
 ghost use Rattle.lock_examples.specs.Notes.{Noted};
 
 use std::alloc::{AllocError, Global};
@@ -24,6 +24,8 @@ impl<'t> Growing for Notes<'t> {
     ghost reflexive = { λ x. same_list x.taken.items };
 
     ghost transitive = { λ x y z. longer_list x.taken.items y.taken.items z.taken.items };
+
+    ghost ordered = { λ x y z. either_list x.taken.items y.taken.items z.taken.items };
 }
 
 /// What can be noted by the place of its term.

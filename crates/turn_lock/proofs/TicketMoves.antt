@@ -1,5 +1,5 @@
 -- Each step of the ticket lock keeps its rule.
-use Rattle.std.proofs.Common.{◌≡◌, ◌≢◌, ◌⊎◌, ◌<◌, ◌≤◌, ◌%◌, ◌^◌, ℕ, ◌+◌, eqb, Option, Some, List, [], ◌∷◌, ◌++◌, set, get_or, sym, refl, ap, ◌∙◌, subst, ⊎_elim, inl, inr, arith, eq-eqb, ne_eqb}
+use Rattle.std.proofs.Common.{◌≡◌, ◌≢◌, ◌⊎◌, ◌<◌, ◌≤◌, ◌%◌, ◌^◌, ℕ, ◌+◌, eqb, Option, Some, List, [], ◌∷◌, ◌++◌, set, get_or, max, sym, refl, ap, ◌∙◌, subst, ⊎_elim, inl, inr, arith, eq-eqb, ne_eqb}
 use mathlib.Core.Logic.{dite}
 use mathlib.Core.Option.{some, none, some-injective, some-ne-none}
 use mathlib.Core.Option as maybe
@@ -7,15 +7,15 @@ use native.Mathlib.Decide.{ℕ_discrete}
 use lib.ListN.{get_elem?}
 use lib.Seq.{set-get_or}
 use prog.Atomic.{either}
-use Rattle.atomic_table.specs.Table.{Step, opening, step, keeps, takes, gives, stepped, put_back, rest, Allows, Splits}
+use Rattle.atomic_table.specs.Table.{Step, opening, step, keeps, takes, gives, stepped, put_back, rest, Allows, Splits, Joins}
 use Rattle.atomic_table.proofs.Lists.{at_set, set_again, set_else, at_longer, at_snoc}
 use Rattle.turn_lock.specs.declared.ticket.view.Stage.{Stage}
 use Rattle.turn_lock.specs.declared.ticket.view.Stage.TheVariants.{Idle, Looked, Waiting, Holding}
 use Rattle.turn_lock.specs.declared.ticket.view.Known.{Known}
 use Rattle.turn_lock.specs.declared.ticket.view.TicketView.{TicketView}
 use Rattle.turn_lock.specs.declared.ticket.view.TicketView.TheVariants.{Spent, Live}
-use Rattle.turn_lock.specs.Ticket.{last_word, TicketState, TicketSeat, HasTicket, opened, newcomer, idle_at, looked_at, waiting_for, in_section, after_section, stage_of, next_of, known, Has, IsHome, IsOut, TicketLockRule}
-use Rattle.turn_lock.specs.Steps.{Looks, Draws, Begins, Serves, Leaves}
+use Rattle.turn_lock.specs.Ticket.{last_word, TicketState, TicketSeat, HasTicket, opened, newcomer, idle_at, looked_at, waiting_for, in_section, after_section, both_known, beside, seen_alone, stage_of, next_of, known, Has, IsHome, IsOut, TicketLockRule}
+use Rattle.turn_lock.specs.Steps.{Looks, Draws, Begins, Serves, Settles, Leaves}
 use Rattle.turn_lock.proofs.Views.{there_set}
 
 ticket_of_stage : (stage : Stage) (ticket : ℕ) (other : Stage) → stage ≡ other → HasTicket ticket other → HasTicket ticket stage
@@ -26,6 +26,9 @@ ticket_held ticket other same = cc
 
 after_it : (ticket other : ℕ) → ticket ≤ other → (ticket ≡ other → ⊥) → ticket + 1 ≤ other
 after_it ticket other low apart = omega arith
+
+max_le : (a b c : ℕ) → a ≤ c → b ≤ c → max a b ≤ c
+max_le a b c h h' = omega arith
 
 -- one more fits a word, and is no less than it would be without wrapping
 up_one : (n : ℕ) → n < 18446744073709551615 → (n + 1) % 2 ^ 64 ≡ n + 1
@@ -57,6 +60,12 @@ module _ {T : Type 0} where
 
   pub known_is : (v : TicketView T) (stage : Stage) (is : stage_of v ≡ Some stage) (k : Known T) → v ≡ Live k → known v stage is ≡ k
   known_is v stage is k e = live_is _ _ (sym (known_live v stage is) ∙ e)
+
+  -- two idle passes are an idle one
+  pub beside_idle : (v w : TicketView T) → stage_of v ≡ Some Idle → stage_of w ≡ Some Idle → stage_of (beside v w) ≡ Some Idle
+  beside_idle Spent w is is' = is
+  beside_idle (Live k) Spent is is' = is
+  beside_idle (Live k) (Live l) is is' = refl
 
   -- views that are equal know the same
   pub same_known : (v w : TicketView T) (stage : Stage) (is : stage_of v ≡ Some stage) (is' : stage_of w ≡ Some stage) → v ≡ w → known v stage is ≡ known w stage is'
@@ -433,6 +442,107 @@ module _ {T : Type 0} (leads : T → T → Type 0) (first : ℕ) where
       let here : Has s id k = at ∙ ap some live in
       subst (λ (x : List (TicketView T) × TicketView T). Rule record { words = s.words; homes = s.homes; views = x.0 ++ x.1 ∷ [] }) (λ i. (sym (set_again s.views id v at) i, sym live i))
       (joins_free s r k (idle_free k (known_stage v Idle is)) (r.values_seen id k here) (r.words_seen id k here))
+
+  spent_live : (l : Known T) → Spent ≡ Live l → ⊥
+  spent_live l e = cc
+
+  -- a live view among those of which one is spent was there before
+  unspent : (vs : List (TicketView T)) (id j : ℕ) (l : Known T) → get_elem? (set vs id Spent) j ≡ some (Live l) → get_elem? vs j ≡ some (Live l)
+  unspent vs id j l at = ⊎_elim (λ (t : (j ≡ id) × (Spent ≡ Live l)). absurd (spent_live l t.1)) (λ (t : (j ≢ id) × (get_elem? vs j ≡ some (Live l))). t.1) (at_set vs id j Spent (Live l) at)
+
+  -- a pass with no ticket is spent
+  spends : (s : TicketState T) (r : Rule s) (id : ℕ) (k : Known T) → Has s id k → Free k → Rule record { words = s.words; homes = s.homes; views = set s.views id Spent }
+  spends s r id k at free = record {
+    next = r.next;
+    serving = r.serving;
+    current = r.current;
+    words = r.words;
+    from_first = r.from_first;
+    served_are_drawn = r.served_are_drawn;
+    never_wraps = r.never_wraps;
+    tickets_in_turn = λ i l ticket there. r.tickets_in_turn i l ticket (unspent s.views id i l there);
+    tickets_apart = λ i j l m ticket there there'. r.tickets_apart i j l m ticket (unspent s.views id i l there) (unspent s.views id j m there');
+    holder_is_served = λ i l ticket there. r.holder_is_served i l ticket (unspent s.views id i l there);
+    slot = ⊎_elim
+        (λ (h : IsHome s r.current). inl record { home = h.home; nobody = λ i l ticket there. h.nobody i l ticket (unspent s.views id i l there) })
+        (λ (o : IsOut s r.serving r.current). inr record {
+          away = o.away;
+          holder = o.holder;
+          knows = o.knows;
+          is_there = set_else s.views id o.holder Spent (λ same. free_holds_not k free r.serving (ap (λ (x : Known T). x.stage) (one_known s id o.holder k o.knows (sym same) at o.is_there) ∙ o.holds)) ∙ o.is_there;
+          holds = o.holds;
+          value = o.value;
+        })
+        r.slot;
+    values_seen = λ i l there. r.values_seen i l (unspent s.views id i l there);
+    words_seen = λ i l there. r.words_seen i l (unspent s.views id i l there);
+  }
+
+  -- a pass with no ticket has seen these two values, and this next word
+  has_seen : (s : TicketState T) (r : Rule s) (id : ℕ) (k l : Known T) (words : List ℕ) → Has s id k → Free k → Free l → leads l.seen r.current → leads l.also r.current → l.next ≤ r.next → words ≡ s.words
+      → Rule (with_view s words s.homes id l)
+  has_seen s r id k l words at free free' seen also word same =
+      let a = r.from_first in let b = r.served_are_drawn in let c = r.never_wraps in
+      renewed s r id r.next r.serving r.current words s.homes l (same ∙ r.words) a b c (omega arith) (λ _ h. h)
+      record {
+        in_turn = λ ticket has. absurd (free' ticket has);
+        apart = λ j m ticket _ _ has _. free' ticket has;
+        served = λ ticket holds. absurd (free' ticket (holds_ticket l ticket holds));
+        values = (seen, also);
+        word = word;
+      }
+      (others_stay s r id)
+      (same_slot s r id k l words at (free_holds_not k free) (free_holds_not l free'))
+
+  pub joins_allowed : (id : ℕ) (v : TicketView T) (other : ℕ) (w : TicketView T) → stage_of v ≡ Some Idle → stage_of w ≡ Some Idle → Joins Rule id v other w (beside v w) Spent
+  joins_allowed id v other w is is' s r at apart there =
+      let k : Known T = known v Idle is in
+      let l : Known T = known w Idle is' in
+      let live : v ≡ Live k = known_live v Idle is in
+      let live' : w ≡ Live l = known_live w Idle is' in
+      let free : Free k = idle_free k (known_stage v Idle is) in
+      let free' : Free l = idle_free l (known_stage w Idle is') in
+      let both : Known T = both_known k l in
+      let here : Has s id k = at ∙ ap some live in
+      let mate : Has s other l = sym (set_else s.views id other (beside v w) apart) ∙ (there ∙ ap some live') in
+      let low : k.next ≤ r.next = r.words_seen id k here in
+      let low' : l.next ≤ r.next = r.words_seen other l mate in
+      let first : Rule (with_view s s.words s.homes id both) = has_seen s r id k both s.words here free (idle_free both refl) (r.values_seen id k here).0 (r.values_seen other l mate).0 (max_le k.next l.next r.next low low') refl in
+      let still : Has (with_view s s.words s.homes id both) other l = set_else s.views id other (Live both) apart ∙ mate in
+      subst (λ (x : TicketView T). Rule record { words = s.words; homes = s.homes; views = set (set s.views id x) other Spent })
+      (λ i. beside (sym live i) (sym live' i)) (spends (with_view s s.words s.homes id both) first other l still free')
+
+  pub settles_allowed : (slots id : ℕ) (me : TicketSeat T) → stage_of me.0 ≡ Some Idle → ((x y z : T) → leads x z → leads y z → leads x y ⊎ leads y x)
+      → Allows Rule slots id me 0 (λ n. n) (Settles leads (step slots 0 0 0 none) me)
+  settles_allowed slots id me is ordered s r _ at _ =
+      let k : Known T = known me.0 Idle is in
+      let live : me.0 ≡ Live k = known_live me.0 Idle is in
+      let here : Has s id k = at ∙ ap some live in
+      let free : Free k = idle_free k (known_stage me.0 Idle is) in
+      let old = r.values_seen id k here in
+      let word : ℕ = get_or s.words 0 0 in
+      let low : k.next ≤ r.next = r.words_seen id k here in ⊎_elim
+      (λ (up : leads k.seen k.also). (
+        Live (seen_alone k k.also),
+        keeps,
+        tt,
+        has_seen s r id k (seen_alone k k.also) (set s.words 0 word) here free (idle_free (seen_alone k k.also) refl) old.1 old.1 low (set-get_or s.words 0 0),
+        (k, live, inr (up, refl)),
+      ))
+      (λ (down : leads k.also k.seen). (
+        Live (seen_alone k k.seen),
+        keeps,
+        tt,
+        has_seen s r id k (seen_alone k k.seen) (set s.words 0 word) here free (idle_free (seen_alone k k.seen) refl) old.0 old.0 low (set-get_or s.words 0 0),
+        (k, live, inl (down, refl)),
+      ))
+      (ordered k.seen k.also r.current old.0 old.1)
+
+  -- behind it the pass is idle
+  pub settled_idle : (st : Step (Option T)) (me me' : TicketSeat T) (word : ℕ) → Settles leads st me word me' → stage_of me'.0 ≡ Some Idle
+  settled_idle st me me' word told =
+      ⊎_elim (λ (t : leads told.0.also told.0.seen × (me' ≡ (Live (seen_alone told.0 told.0.seen), me.1))). ap (λ (m : TicketSeat T). stage_of m.0) t.1)
+      (λ (t : leads told.0.seen told.0.also × (me' ≡ (Live (seen_alone told.0 told.0.also), me.1))). ap (λ (m : TicketSeat T). stage_of m.0) t.1) told.2
 
   no_view : (i : ℕ) (k : Known T) → get_elem? [] i ≡ some (Live k) → ⊥
   no_view i k at = some-ne-none (Live k) (sym at)

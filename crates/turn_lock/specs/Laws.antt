@@ -4,15 +4,15 @@
 use Rattle.std.specs.Prelude.{◌≡◌, ◌<◌, ◌≤◌, ◌^◌, ◌%◌, ℕ, ◌+◌, eqb, false, true, [], ◌∷◌, slice_index, Option, Some}
 use mathlib.Core.Option.{none}
 use prog.Atomic.{either}
-use Rattle.atomic_table.specs.Table.{opening, Step, step, Allows, Splits}
+use Rattle.atomic_table.specs.Table.{opening, Step, step, Allows, Splits, Joins}
 use Rattle.turn_lock.specs.declared.spin.view.SpinView.{SpinView}
 use Rattle.turn_lock.specs.declared.ticket.view.Stage.TheVariants.{Idle, Looked, Waiting, Holding}
 use Rattle.turn_lock.specs.declared.ticket.view.Known.{Known}
 use Rattle.turn_lock.specs.declared.ticket.view.TicketView.{TicketView}
-use Rattle.turn_lock.specs.declared.ticket.view.TicketView.TheVariants.{Live}
+use Rattle.turn_lock.specs.declared.ticket.view.TicketView.TheVariants.{Spent, Live}
 use Rattle.turn_lock.specs.Spin as spin
-use Rattle.turn_lock.specs.Ticket.{TicketState, TicketSeat, HasTicket, Has, TicketLockRule, last_word, newcomer, stage_of, next_of, known}
-use Rattle.turn_lock.specs.Steps.{Looks, Draws, Serves, Leaves}
+use Rattle.turn_lock.specs.Ticket.{TicketState, TicketSeat, HasTicket, Has, TicketLockRule, last_word, newcomer, beside, stage_of, next_of, known}
+use Rattle.turn_lock.specs.Steps.{Looks, Draws, Serves, Settles, Leaves}
 
 module _ {T : Type 0} (leads : T → T → Type 0) where
   -- the steps of the spin lock
@@ -57,6 +57,10 @@ module _ {T : Type 0} (leads : T → T → Type 0) where
     pub opens : (value : T) → TicketLockRule leads first (opening (first ∷ first ∷ []) (Some value ∷ []) (newcomer first value))
     -- an idle pass becomes two
     pub splits : (id : ℕ) (v : TicketView T) → stage_of v ≡ Some Idle → Splits (TicketLockRule leads first) id v v v
+    -- two idle passes become one, which has seen what both had; the other is spent
+    pub joins : (id : ℕ) (v : TicketView T) (other : ℕ) (w : TicketView T) → stage_of v ≡ Some Idle → stage_of w ≡ Some Idle → Joins (TicketLockRule leads first) id v other w (beside v w) Spent
+    -- an idle pass that has seen two values loads a word
+    pub settles : (slots id : ℕ) (me : TicketSeat T) → stage_of me.0 ≡ Some Idle → Allows (TicketLockRule leads first) slots id me 0 (λ word. word) (Settles leads (step slots 0 0 0 none) me)
     -- an idle pass loads the next word
     pub looks : (slots id : ℕ) (me : TicketSeat T) → stage_of me.0 ≡ Some Idle → Allows (TicketLockRule leads first) slots id me 0 (λ word. word) (Looks (step slots 0 0 0 none) me)
     -- a pass that has looked exchanges the word that it saw by one more

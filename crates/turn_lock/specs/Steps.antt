@@ -1,10 +1,10 @@
 -- The kinds of atomic step of the ticket lock. Each is by one pass, from what the table has of it (me) to what it has then (me'), with the word that it found.
-use Rattle.std.specs.Prelude.{◌≡◌, ◌≢◌, ℕ, ◌<◌, ◌≤◌, [], ◌∷◌, Option, Some}
+use Rattle.std.specs.Prelude.{◌≡◌, ◌≢◌, ◌⊎◌, ℕ, ◌<◌, ◌≤◌, [], ◌∷◌, Option, Some}
 use Rattle.atomic_table.specs.Table.{Step}
 use Rattle.turn_lock.specs.declared.ticket.view.Stage.TheVariants.{Waiting, Holding}
 use Rattle.turn_lock.specs.declared.ticket.view.Known.{Known}
 use Rattle.turn_lock.specs.declared.ticket.view.TicketView.TheVariants.{Live}
-use Rattle.turn_lock.specs.Ticket.{TicketSeat, last_word, idle_at, looked_at, waiting_for, in_section, after_section}
+use Rattle.turn_lock.specs.Ticket.{TicketSeat, last_word, idle_at, looked_at, waiting_for, in_section, after_section, seen_alone}
 
 module _ {T : Type 0} where
   -- look: an idle pass loads the next word, which is no less than it has seen. At the last word it stays idle
@@ -33,6 +33,12 @@ module _ {T : Type 0} where
       (k : Known T) × (ticket : ℕ) × (me.0 ≡ Live k) × (k.stage ≡ Waiting ticket) × (word ≤ ticket)
       × (word ≡ ticket → Begins leads ticket me me')
       × (word ≢ ticket → me' ≡ me)
+
+  -- a pass that has seen two values loads a word: of the two, to one of which the other leads, it has seen the later one then
+  abbrev pub Settles : (T → T → Type 0) → Step (Option T) → TicketSeat T → ℕ → TicketSeat T → Type 0
+  Settles leads st me word me' =
+      (k : Known T) × (me.0 ≡ Live k)
+      × ((leads k.also k.seen × (me' ≡ (Live (seen_alone k k.seen), me.1))) ⊎ (leads k.seen k.also × (me' ≡ (Live (seen_alone k k.also), me.1))))
 
   -- leave: the pass raises the word that is served, and the slot goes home with a value to which the one found leads
   abbrev pub Leaves : (T → T → Type 0) → Step (Option T) → TicketSeat T → ℕ → TicketSeat T → Type 0

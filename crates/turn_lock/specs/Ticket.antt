@@ -1,6 +1,6 @@
 -- The ticket lock of Mellor-Crummey and Scott (1991): its views, and the rule that holds between any two atomic steps.
 -- Word 0 is the next ticket, word 1 the ticket that is served. The one slot is at home with the value, or out with the pass that holds.
-use Rattle.std.specs.Prelude.{◌≡◌, ◌⊎◌, ℕ, ◌+◌, ◌<◌, ◌≤◌, [], ◌∷◌, Option, Some, None}
+use Rattle.std.specs.Prelude.{◌≡◌, ◌⊎◌, ℕ, ◌+◌, ◌<◌, ◌≤◌, max, [], ◌∷◌, Option, Some, None}
 use Rattle.std.proofs.Common.{subst}
 use mathlib.Core.Option.{some, none}
 use lib.ListN.{get_elem?}
@@ -61,6 +61,23 @@ module _ {T : Type 0} where
   -- the pass has left this value: one more section is ended
   abbrev pub after_section : Known T → ℕ → T → Known T
   after_section k ticket value = record { stage = Idle; seen = value; also = value; next = ticket + 1; ended = k.ended + 1; last = k.seen }
+
+  -- two passes without a ticket as one: it has seen both values, and the greater next word; its tally is the first's
+  abbrev pub both_known : Known T → Known T → Known T
+  both_known k l = record { stage = Idle; seen = k.seen; also = l.seen; next = max k.next l.next; ended = k.ended; last = k.last }
+
+  abbrev pub beside : TicketView T → TicketView T → TicketView T
+  beside Spent w = Spent
+  beside (Live k) Spent = Live k
+  beside (Live k) (Live l) = Live (both_known k l)
+
+  -- the pass has seen this value alone
+  abbrev pub seen_alone : Known T → T → Known T
+  seen_alone k value = record { stage = Idle; seen = value; also = value; next = k.next; ended = k.ended; last = k.last }
+
+  -- what both know where two passes have met, of which this is the later value
+  abbrev pub met : Known T → Known T → T → Known T
+  met k l value = record { stage = Idle; seen = value; also = value; next = max k.next l.next; ended = k.ended; last = k.last }
 
   -- where the pass is; a spent view has no stage
   abbrev pub stage_of : TicketView T → Option Stage

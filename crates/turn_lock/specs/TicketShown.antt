@@ -1,5 +1,5 @@
 -- What contracts say of the passes of a ticket lock.
-use Rattle.std.specs.Prelude.{◌≡◌, ℕ, ◌<◌}
+use Rattle.std.specs.Prelude.{◌≡◌, ◌⊎◌, ℕ, ◌<◌}
 use Rattle.turn_lock.specs.declared.ticket.view.Stage.TheVariants.{Idle, Looked as AtLooked, Waiting as AtWaiting, Holding as AtHolding}
 use Rattle.turn_lock.specs.declared.ticket.view.Known.{Known}
 use Rattle.turn_lock.specs.declared.ticket.pass.Pass.{Pass}
@@ -9,7 +9,7 @@ use Rattle.turn_lock.specs.declared.ticket.pass.Holding.{Holding}
 use Rattle.turn_lock.specs.declared.ticket.lock.TicketLock.{TicketLock}
 use Rattle.turn_lock.specs.declared.ticket.fault.DrawFault.{DrawFault}
 use Rattle.turn_lock.specs.declared.ticket.fault.DrawFault.TheVariants.{Worn, Raced}
-use Rattle.turn_lock.specs.Ticket.{known, last_word, idle_at}
+use Rattle.turn_lock.specs.Ticket.{known, last_word, idle_at, met}
 
 module _ {T : Type 0} where
   -- the next word that the pass looked at, and may draw
@@ -45,6 +45,10 @@ module _ {T : Type 0} where
   abbrev pub IsRefused : Known T → DrawFault → Known T → Type 0
   IsRefused k Worn l = l ≡ idle_at k last_word
   IsRefused k (Raced n) l = (k.next < n) × (l ≡ idle_at k n)
+
+-- two passes have met: what the one had seen leads to what the other had, which both have seen now
+abbrev pub HasMet : {T : Type 0} → (T → T → Type 0) → Known T → Known T → Known T → Type 0
+HasMet leads k l m = (leads l.seen k.seen × (m ≡ met k l k.seen)) ⊎ (leads k.seen l.seen × (m ≡ met k l l.seen))
 
 -- the pass and the lock are of one table
 abbrev pub IsPassOf : {T : Type 0} → TicketLock T → Pass T → Type 0

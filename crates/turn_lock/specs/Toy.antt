@@ -1,6 +1,6 @@
 -- The small world of the tests: lists that only grow at their end.
-use Rattle.std.specs.Prelude.{◌≡◌, List, [], ◌++◌}
-use Rattle.std.proofs.Common.{sym, ap, ◌∙◌, append-nil, append_assoc}
+use Rattle.std.specs.Prelude.{◌≡◌, ◌⊎◌, List, [], ◌∷◌, ◌++◌}
+use Rattle.std.proofs.Common.{sym, refl, ap, ◌∙◌, inl, inr, get_or, drop, append-nil, append_assoc}
 
 module _ {A : Type 0} where
   -- the second list begins with the first
@@ -12,3 +12,16 @@ module _ {A : Type 0} where
 
   pub longer_list : (xs ys zs : List A) → GoesOn xs ys → GoesOn ys zs → GoesOn xs zs
   longer_list xs ys zs a b = (a.0 ++ b.0, b.1 ∙ (ap (λ l. l ++ b.0) a.1 ∙ append_assoc xs a.0 b.0))
+
+  pub either_front : (xs ys a b : List A) → xs ++ a ≡ ys ++ b → GoesOn xs ys ⊎ GoesOn ys xs
+  either_front [] ys a b same = inl (ys, refl)
+  either_front (x ∷ xs) [] a b same = inr (x ∷ xs, refl)
+  either_front (x ∷ xs) (y ∷ ys) a b same =
+      let head : x ≡ y = ap (λ l. get_or l 0 x) same in
+      elim (either_front xs ys a b (ap (drop 1) same)) [
+        | inl on ↦ inl (on.0, λ i. sym head i ∷ on.1 i)
+        | inr on ↦ inr (on.0, λ i. head i ∷ on.1 i)
+      ]
+
+  pub either_list : (xs ys zs : List A) → GoesOn xs zs → GoesOn ys zs → GoesOn xs ys ⊎ GoesOn ys xs
+  either_list xs ys zs a b = either_front xs ys a.0 b.0 (sym a.1 ∙ b.1)

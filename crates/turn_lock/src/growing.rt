@@ -1,5 +1,7 @@
 //! What a value behind a lock has to be.
 
+ghost use Rattle.std.specs.Prelude.{◌⊎◌};
+
 /// A value that grows: each holder of the lock leaves one to which the value found leads.
 pub trait Growing {
     // The second may come after the first.
@@ -8,4 +10,7 @@ pub trait Growing {
     ghost reflexive: { (x : Self) → leads x x };
 
     ghost transitive: { (x y z : Self) → leads x y → leads y z → leads x z };
+
+    // Of two that lead to a third, one leads to the other.
+    ghost ordered: { (x y z : Self) → leads x z → leads y z → leads x y ⊎ leads y x };
 }

@@ -1,7 +1,7 @@
 //! The locks' worked values, and threads that append through each lock.
 
 ghost use Rattle.std.specs.Prelude.{IfOk};
-ghost use Rattle.turn_lock.specs.Toy.{GoesOn, same_list, longer_list};
+ghost use Rattle.turn_lock.specs.Toy.{GoesOn, same_list, longer_list, either_list};
 ghost use Rattle.turn_lock.specs.TicketShown.{IsPassOf};
 
 use crate::{DrawFault, Growing, Pass, Raced, Section, SpinLock, TicketLock, Worn};
@@ -30,6 +30,8 @@ impl Growing for Entries {
     ghost reflexive = { λ x. same_list x.items.items };
 
     ghost transitive = { λ x y z. longer_list x.items.items y.items.items z.items.items };
+
+    ghost ordered = { λ x y z. either_list x.items.items y.items.items z.items.items };
 }
 
 impl Entries {
@@ -322,4 +324,50 @@ fn each_law_is_called(_rt: HostRuntime) {
     crate::ticket_steps_keep_the_rule::<Entries>(0);
     crate::ticket_rule_says::<Entries>(0);
     crate::ticket_steps_forget_nothing::<Entries>();
+}
+
+// Appends in one section.
+fn append_one(
+    rt: &(impl Wait + Abort),
+    lock: &TicketLock<Entries>,
+    pass: Pass<Entries>,
+    number: u64,
+) -> Pass<Entries>
+    requires { IsPassOf lock.now pass }
+    ensures { IsPassOf lock.now result }
+{
+    match lock.lock(rt, pass) {
+        Ok((mut entries, holding)) => {
+            let _appended = entries.append(line(number));
+            lock.leave(holding, entries)
+        }
+        Err((_, pass)) => pass,
+    }
+}
+
+#[test]
+fn two_passes_meet(rt: HostRuntime) -> Result<(), Fail> {
+    let (lock, pass) = TicketLock::new(rt.alloc(), Entries::new(rt.alloc()))?;
+    let (a, b) = lock.split(pass);
+    let a = append_one(&rt, &lock, a, 1);
+    let (a, b) = lock.meet(a, b);
+    let b = append_one(&rt, &lock, b, 2);
+    let (b, a) = lock.meet(b, a);
+    drop(b);
+    let Ok((entries, holding)) = lock.lock(&rt, a) else {
+        return Err(Fail::new("worn"));
+    };
+    assert_eq!(rt; entries.entries().len(), 2);
+    let _entries = lock.retire(holding, entries);
+    Ok(())
+}
+
+#[test]
+fn two_worn_passes_meet(rt: HostRuntime) -> Result<(), Fail> {
+    let (lock, pass) = TicketLock::new_at(rt.alloc(), Entries::new(rt.alloc()), u64::MAX)?;
+    let (a, b) = lock.split(pass);
+    let (a, b) = lock.meet(a, b);
+    assert!(rt; lock.look(a).is_err());
+    assert!(rt; lock.look(b).is_err());
+    Ok(())
 }

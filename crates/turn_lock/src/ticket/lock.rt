@@ -6,7 +6,7 @@ ghost use Rattle.turn_lock.specs.Steps.{Begins};
 
 use super::fault::{DrawFault, Raced};
 use super::pass::{Drawn, Holding, Looked, Pass};
-use super::rule::{Draw, Leave, Look, Opening, Serve, Tickets, Twice};
+use super::rule::{Beside, Draw, Leave, Look, Opening, Serve, Settle, Tickets, Twice};
 use super::view::TicketView;
 use crate::growing::Growing;
 use crate::section::Worn;
@@ -59,7 +59,7 @@ impl<T: Growing + Drop> TicketLock<T> {
 }
 
 impl<T: Growing> TicketLock<T> {
-    ghost use Rattle.turn_lock.specs.TicketShown.{IsPassOf, IsLookedOf, IsDrawnOf, IsHoldingOf, IsWornPass, IsRefused, pass_knows, looked_knows, drawn_knows, holding_knows, looked_next, drawn_ticket, held_ticket};
+    ghost use Rattle.turn_lock.specs.TicketShown.{IsPassOf, IsLookedOf, IsDrawnOf, IsHoldingOf, IsWornPass, IsRefused, HasMet, pass_knows, looked_knows, drawn_knows, holding_knows, looked_next, drawn_ticket, held_ticket};
 
     /// A second pass, and both have seen what the one had.
     pub fn split(&self, pass: Pass<T>) -> (Pass<T>, Pass<T>)
@@ -70,6 +70,22 @@ impl<T: Growing> TicketLock<T> {
         let Pass { mut seat } = pass;
         let other = self.table.shared.split_seat::<Twice>(&mut seat);
         (Pass { seat }, Pass { seat: other })
+    }
+
+    /// Makes what two passes have seen one: both have then seen the later of the two values, and the greater next word. The tally of
+    /// both is the first's.
+    pub fn meet(&self, one: Pass<T>, other: Pass<T>) -> (Pass<T>, Pass<T>)
+        requires { IsPassOf self.now one × IsPassOf self.now other }
+        ensures own { IsPassOf self.now result.0 × IsPassOf self.now result.1 }
+        ensures met { HasMet T.leads (pass_knows one) (pass_knows other) (pass_knows result.0) }
+        ensures same { pass_knows result.1 ≡ pass_knows result.0 }
+    {
+        let Pass { mut seat } = one;
+        let Pass { seat: second } = other;
+        self.table.shared.join_seat::<Beside>(&mut seat, second);
+        self.table.shared.load::<Settle<T>>(&mut seat, 0);
+        let second = self.table.shared.split_seat::<Twice>(&mut seat);
+        (Pass { seat }, Pass { seat: second })
     }
 
     /// One load of the next word. `Worn` where no ticket is left, and then always.

@@ -1,11 +1,12 @@
 //! The rule of the ticket lock, and what each of its steps tells.
 
-ghost use Rattle.turn_lock.specs.Ticket.{TicketLockRule, newcomer};
-ghost use Rattle.turn_lock.specs.Steps.{Looks, Draws, Serves, Leaves};
+ghost use Rattle.turn_lock.specs.Ticket.{TicketLockRule, beside, newcomer};
+ghost use Rattle.turn_lock.specs.declared.ticket.view.TicketView.TheVariants.{Spent};
+ghost use Rattle.turn_lock.specs.Steps.{Looks, Draws, Serves, Settles, Leaves};
 
 use super::view::TicketView;
 use crate::growing::Growing;
-use atomic_table::{Play, Split, TableRule};
+use atomic_table::{Join, Play, Split, TableRule};
 use std::marker::PhantomData;
 use std::snapshot::Snapshot;
 
@@ -57,6 +58,24 @@ pub struct Leave<T> {
 
 impl<T: Growing> Play<Option<T>, TicketView<T>> for Leave<T> {
     ghost then = { Leaves T.leads };
+}
+
+/// Of two values that a pass has seen, it keeps the later.
+pub struct Settle<T> {
+    value: PhantomData<T>,
+}
+
+impl<T: Growing> Play<Option<T>, TicketView<T>> for Settle<T> {
+    ghost then = { Settles T.leads };
+}
+
+/// Two passes made one, which has seen what both had.
+pub struct Beside;
+
+impl<T> Join<TicketView<T>> for Beside {
+    ghost both = { beside };
+
+    ghost spent = { Spent };
 }
 
 /// Both passes have seen what the one had.

@@ -1,14 +1,13 @@
-use Rattle.crew.proofs.Sections.{accepts_on, goes_on}
+use Rattle.std.proofs.Common.{◌≡◌, ◌≤◌, length, subst, sym, arith}
+use Rattle.journal.specs.Events.{places}
+use Rattle.crew.specs.Sharing.{HasTaken}
+use Rattle.crew.proofs.Sections.{no_fewer}
 use Rattle.crew.proofs.intake.offer.Goals as goal
 
-pub returns-in-Ok-accepted-clause-next : goal.returns-in-Ok-accepted-clause-next
-returns-in-Ok-accepted-clause-next g c =
-    let reply = rw c.in-Ok-accepted.is at c.in-Ok.ensures.reply in
-    accepts_on c.args.terms.now c.terms_are_seen.ensures (g.G.Gate.known c.args.pass) (g.G.Gate.known c.in-Ok.answer.1) c.requires.terms c.in-Ok.ensures.section
-    c.args.offer.provider c.args.offer.place c.in-Ok-accepted.field-0.position reply
-
-pub returns-in-Err-OutOfTurn-default-clause-next : goal.returns-in-Err-OutOfTurn-default-clause-next
-returns-in-Err-OutOfTurn-default-clause-next g c =
-    goes_on c.args.terms.now c.terms_are_seen.ensures (g.G.Gate.known c.args.pass) (g.G.Gate.known c.in-Ok.answer.1) c.requires.terms c.in-Ok.ensures.section
-    c.args.offer.provider c.args.offer.place c.in-Err-OutOfTurn-default.expected c.in-Ok.answer.0 c.in-Err-OutOfTurn-default.field-0-0 c.in-Err-OutOfTurn-default.field-0-1
-    c.in-Err-OutOfTurn-default.is (rw c.in-Err-OutOfTurn-default.is at c.in-Err-OutOfTurn-default.field-0-0-is) c.requires.taken c.in-Ok.ensures.reply
+pub offer_again-requires-clause-taken : goal.offer_again-requires-clause-taken
+offer_again-requires-clause-taken g c κs within =
+    let before = (g.G.Gate.known c.args.pass).seen in
+    let after = (g.G.Gate.known c.in-Ok.answer.1).seen in
+    let same = rw c.in-Back.is at c.in-Ok.ensures.offered in
+    let more = no_fewer before.journal after.journal c.args.offer.provider c.in-Ok.ensures.seen.journal in
+    subst (λ o. HasTaken after o.provider o.place) (sym same) (omega (arith, c.requires.taken, more))

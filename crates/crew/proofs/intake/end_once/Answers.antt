@@ -1,5 +1,5 @@
 use Rattle.crew.proofs.Sections.{ends_past, none_lacks}
-use Rattle.crew.proofs.intake.end.Goals as goal
+use Rattle.crew.proofs.intake.end_once.Goals as goal
 
 pub unreachable-requires : goal.unreachable-requires
 unreachable-requires g c =

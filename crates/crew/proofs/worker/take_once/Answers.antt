@@ -1,5 +1,5 @@
 use Rattle.crew.proofs.Sections.{work_seen}
-use Rattle.crew.proofs.worker.take.Goals as goal
+use Rattle.crew.proofs.worker.take_once.Goals as goal
 
 pub returns-in-Ok-Work-clause-turn : goal.returns-in-Ok-Work-clause-turn
 returns-in-Ok-Work-clause-turn g c =
