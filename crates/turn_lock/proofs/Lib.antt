@@ -1,3 +1,6 @@
 pub mod Views
 pub mod SpinMoves
+pub mod TicketViews
+pub mod TicketWords
+pub mod TicketValues
 pub mod TicketMoves
