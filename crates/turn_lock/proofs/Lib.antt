@@ -4,3 +4,4 @@ pub mod TicketViews
 pub mod TicketWords
 pub mod TicketValues
 pub mod TicketMoves
+pub mod TicketLater

@@ -269,3 +269,36 @@ module _ {T : Type 0} (leads : T → T → Type 0) (same : (x : T) → leads x x
   pub leaves_remember : (st : Step (Option T)) (me me' : TicketSeat T) (word : ℕ) → next_of me.0 ≡ word + 1 → Leaves leads st me word me' → (a b : Known T) → me.0 ≡ Live a → me'.0 ≡ Live b → leads a.seen b.seen × (a.next ≤ b.next)
   leaves_remember st me me' word saw told = let k = told.0 in let saw' : k.next ≡ word + 1 = sym (ap next_of told.2) ∙ saw in
       remembers me me' k (after_section k word told.1) told.2 (ap (λ (m : TicketSeat T). m.0) told.6) told.5 (omega arith)
+
+module _ {T : Type 0} (leads : T → T → Type 0) where
+  abbrev SameTally : Known T → Known T → Type 0
+  SameTally k l = (l.ended ≡ k.ended) × (l.last ≡ k.last)
+
+  -- where a step leaves the pass with l from k, its seat has the tally that l has of k
+  counts : (Tally : Known T → Known T → Type 0) (me me' : TicketSeat T) (k l : Known T) → me.0 ≡ Live k → me'.0 ≡ Live l → Tally k l → (a b : Known T) → me.0 ≡ Live a → me'.0 ≡ Live b → Tally a b
+  counts Tally me me' k l is is' tally a b at at' = subst (λ (x : Known T × Known T). Tally x.0 x.1) (λ i. (live_is k a (sym is ∙ at) i, live_is l b (sym is' ∙ at') i)) tally
+
+  pub settles_keep_tally : (st : Step (Option T)) (me me' : TicketSeat T) (word : ℕ) → Settles leads st me word me' → (a b : Known T) → me.0 ≡ Live a → me'.0 ≡ Live b → SameTally a b
+  settles_keep_tally st me me' word told = let k = told.0 in ⊎_elim
+      (λ (t : leads k.also k.seen × (me' ≡ (Live (seen_alone k k.seen), me.1))). counts SameTally me me' k (seen_alone k k.seen) told.1 (ap (λ (m : TicketSeat T). m.0) t.1) (refl, refl))
+      (λ (t : leads k.seen k.also × (me' ≡ (Live (seen_alone k k.also), me.1))). counts SameTally me me' k (seen_alone k k.also) told.1 (ap (λ (m : TicketSeat T). m.0) t.1) (refl, refl))
+      told.2
+
+  pub looks_keep_tally : (st : Step (Option T)) (me me' : TicketSeat T) (word : ℕ) → Looks st me word me' → (a b : Known T) → me.0 ≡ Live a → me'.0 ≡ Live b → SameTally a b
+  looks_keep_tally st me me' word told = let k = told.0 in dite (ℕ_discrete word last_word)
+      (λ worn. counts SameTally me me' k (idle_at k word) told.1 (ap (λ (m : TicketSeat T). m.0) (told.5 worn)) (refl, refl))
+      (λ left. counts SameTally me me' k (looked_at k word) told.1 (ap (λ (m : TicketSeat T). m.0) (told.4 left)) (refl, refl))
+
+  pub draws_keep_tally : (st : Step (Option T)) (me me' : TicketSeat T) (word : ℕ) → Draws st me word me' → (a b : Known T) → me.0 ≡ Live a → me'.0 ≡ Live b → SameTally a b
+  draws_keep_tally st me me' word told = let k = told.0 in dite (ℕ_discrete word k.next)
+      (λ hit. counts SameTally me me' k (waiting_for k word) told.1 (ap (λ (m : TicketSeat T). m.0) (told.2 hit)) (refl, refl))
+      (λ miss. counts SameTally me me' k (idle_at k word) told.1 (ap (λ (m : TicketSeat T). m.0) (told.3 miss).1) (refl, refl))
+
+  pub serves_keep_tally : (st : Step (Option T)) (me me' : TicketSeat T) (word : ℕ) → Serves leads st me word me' → (a b : Known T) → me.0 ≡ Live a → me'.0 ≡ Live b → SameTally a b
+  serves_keep_tally st me me' word told = let k = told.0 in dite (ℕ_discrete word told.1)
+      (λ hit. let b = told.5 hit in counts SameTally me me' b.0 (in_section b.0 told.1 b.1) b.2 (ap (λ (m : TicketSeat T). m.0) b.4) (refl, refl))
+      (λ miss. counts SameTally me me' k k told.2 (ap (λ (m : TicketSeat T). m.0) (told.6 miss) ∙ told.2) (refl, refl))
+
+  pub leaves_count : (st : Step (Option T)) (me me' : TicketSeat T) (word : ℕ) → Leaves leads st me word me' → (a b : Known T) → me.0 ≡ Live a → me'.0 ≡ Live b → (b.ended ≡ a.ended + 1) × (b.last ≡ a.seen)
+  leaves_count st me me' word told =
+      let k = told.0 in counts (λ (x y : Known T). (y.ended ≡ x.ended + 1) × (y.last ≡ x.seen)) me me' k (after_section k word told.1) told.2 (ap (λ (m : TicketSeat T). m.0) told.6) (refl, refl)
