@@ -349,18 +349,30 @@ fn in_section<R: Wait>(
     Ok((found, lock.leave(holding, value)))
 }
 
+// Meets, of which the caller asks only that both passes come back.
+fn meet(
+    lock: &TicketLock<Entries>,
+    one: Pass<Entries>,
+    other: Pass<Entries>,
+) -> (Pass<Entries>, Pass<Entries>)
+    requires { IsPassOf lock.now one × IsPassOf lock.now other }
+    ensures { IsPassOf lock.now result.0 × IsPassOf lock.now result.1 }
+{
+    lock.meet(one, other)
+}
+
 #[test]
 fn two_passes_meet(rt: HostRuntime) -> Result<(), Fail> {
     let (lock, pass) = TicketLock::new(rt.alloc(), Entries::new(rt.alloc()))?;
     let (a, b) = lock.split(pass);
     let (found, a) = in_section(&rt, &lock, a, Some(line(7)))?;
     assert_eq!(rt; found, 0);
-    let (a, b) = lock.meet(a, b);
+    let (a, b) = meet(&lock, a, b);
     let (found, b) = in_section(&rt, &lock, b, None)?;
     assert_eq!(rt; found, 1);
     let (found, b) = in_section(&rt, &lock, b, Some(line(8)))?;
     assert_eq!(rt; found, 1);
-    let (a, b) = lock.meet(a, b);
+    let (a, b) = meet(&lock, a, b);
     drop(b);
     let Ok((value, holding)) = lock.lock(&rt, a) else {
         return Err(Fail::new("a lock with tickets left is worn"));
@@ -378,14 +390,14 @@ fn two_worn_passes_meet(rt: HostRuntime) -> Result<(), Fail> {
     let Err((Worn, a)) = lock.look(a) else {
         return Err(Fail::new("a look of a worn pass"));
     };
-    let (a, b) = lock.meet(a, b);
+    let (a, b) = meet(&lock, a, b);
     let Err((Worn, a)) = lock.look(a) else {
         return Err(Fail::new("a look of a worn pass that has met another"));
     };
     let Err((Worn, b)) = lock.look(b) else {
         return Err(Fail::new("a look of a pass that has met a worn one"));
     };
-    let (a, b) = lock.meet(b, a);
+    let (a, b) = meet(&lock, b, a);
     assert!(rt; lock.look(a).is_err() && lock.look(b).is_err());
     Ok(())
 }
