@@ -135,3 +135,21 @@ module _ {T : Type 0} (leads : T → T → Type 0) where
     };
     seen = each_snoc (λ (v : V). leads v.seen value) [] (newcomer value) (λ i v at. absurd (some-ne-none v (sym at))) (same value);
   }
+
+  pub one_holds : (s : SpinState T) → Rule s → (i j : ℕ) (v w : V) → get_elem? s.views i ≡ some v → get_elem? s.views j ≡ some w → v.holds ≡ true → w.holds ≡ true → i ≡ j
+  one_holds s r i j v w at there holds holds' = ⊎_elim
+      (λ (f : IsFree s r.current). absurd (not_both v.holds (f.nobody i v at) holds))
+      (λ (t : IsTaken s r.current). t.alone i v at holds ∙ sym (t.alone j w there holds'))
+      r.slot
+
+  pub one_value : (s : SpinState T) → Rule s → (current : T) × ((i : ℕ) (v : V) → get_elem? s.views i ≡ some v → leads v.seen current × (v.holds ≡ true → v.seen ≡ current))
+  one_value s r = (
+    r.current,
+    λ i v at. (
+      r.seen i v at,
+      λ holds. ⊎_elim
+          (λ (f : IsFree s r.current). absurd (not_both v.holds (f.nobody i v at) holds))
+          (λ (t : IsTaken s r.current). ap (λ (u : V). u.seen) (one_view s.views i t.holder v t.view (t.alone i v at holds) at t.is_there) ∙ t.value)
+          r.slot,
+    ),
+  )

@@ -2,7 +2,8 @@
 -- `Allows holds slots id me word f kind` says: in each state that the rule admits, in which the pass id is me, the word may become f of what it was, such that
 -- the pass is then as the kind of step says, and the rule holds again. The moves that read or write the slot while a pass holds it change no word, no slot at home and no view.
 use Rattle.std.specs.Prelude.{◌≡◌, ◌<◌, ◌≤◌, ◌^◌, ◌%◌, ℕ, ◌+◌, eqb, false, true, [], ◌∷◌, slice_index, Option, Some}
-use mathlib.Core.Option.{none}
+use mathlib.Core.Option.{some, none}
+use lib.ListN.{get_elem?}
 use prog.Atomic.{either}
 use Rattle.atomic_table.specs.Table.{opening, Step, step, Allows, Splits, Joins}
 use Rattle.turn_lock.specs.declared.spin.view.SpinView.{SpinView}
@@ -11,7 +12,7 @@ use Rattle.turn_lock.specs.declared.ticket.view.Known.{Known}
 use Rattle.turn_lock.specs.declared.ticket.view.TicketView.{TicketView}
 use Rattle.turn_lock.specs.declared.ticket.view.TicketView.TheVariants.{Spent, Live}
 use Rattle.turn_lock.specs.Spin as spin
-use Rattle.turn_lock.specs.Ticket.{TicketState, TicketSeat, HasTicket, Has, TicketLockRule, last_word, newcomer, beside, stage_of, next_of, known}
+use Rattle.turn_lock.specs.Ticket.{TicketState, TicketSeat, HasTicket, Has, WordsRule, ValuesRule, TicketLockRule, last_word, newcomer, beside, stage_of, next_of, known}
 use Rattle.turn_lock.specs.Steps.{Looks, Draws, Serves, Settles, Leaves}
 
 module _ {T : Type 0} (leads : T → T → Type 0) where
@@ -28,16 +29,30 @@ module _ {T : Type 0} (leads : T → T → Type 0) where
     pub frees : (slots id : ℕ) (me : spin.SpinSeat T) (value : T) → me.0.holds ≡ true → me.1 ≡ (0, Some value) ∷ [] → leads me.0.seen value
         → Allows (spin.SpinLockRule leads) slots id me 0 (λ _. 0) (λ _. spin.Frees leads (step slots 0 0 0 none) me 0)
 
-  -- what the rule says of any two passes of the ticket lock, whatever steps were taken
-  pub record TicketRuleSays (first : ℕ) : Type 0 where
+  -- what the rule says of any two passes of the spin lock, whatever steps were taken
+  pub record SpinRuleSays : Type 0 where
     -- one pass holds at a time
-    pub one_holds : (s : TicketState T) → TicketLockRule leads first s → (i j : ℕ) (k l : Known T) (t u : ℕ) → Has s i k → Has s j l → k.stage ≡ Holding t → l.stage ≡ Holding u → i ≡ j
-    -- no ticket is drawn twice
-    pub one_ticket : (s : TicketState T) → TicketLockRule leads first s → (i j : ℕ) (k l : Known T) (t : ℕ) → Has s i k → Has s j l → HasTicket t k.stage → HasTicket t l.stage → i ≡ j
-    -- all that was seen leads to one value
-    pub one_value : (s : TicketState T) → TicketLockRule leads first s → (current : T) × ((i : ℕ) (k : Known T) → Has s i k → leads k.seen current)
+    pub one_holds : (s : spin.SpinState T) → spin.SpinLockRule leads s → (i j : ℕ) (v w : SpinView T) → get_elem? s.views i ≡ some v → get_elem? s.views j ≡ some w → v.holds ≡ true → w.holds ≡ true → i ≡ j
+    -- all that was seen leads to one value, which is the one that who holds has found
+    pub one_value : (s : spin.SpinState T) → spin.SpinLockRule leads s → (current : T) × ((i : ℕ) (v : SpinView T) → get_elem? s.views i ≡ some v → leads v.seen current × (v.holds ≡ true → v.seen ≡ current))
+
+  -- what the words of the ticket lock say of any two passes, whatever steps were taken
+  pub record WordsSay (first : ℕ) : Type 0 where
+    -- one pass holds at a time
+    pub one_holds : (s : TicketState T) → WordsRule first s → (i j : ℕ) (k l : Known T) (t u : ℕ) → Has s i k → Has s j l → k.stage ≡ Holding t → l.stage ≡ Holding u → i ≡ j
+    -- no two passes have one ticket
+    pub one_ticket : (s : TicketState T) → WordsRule first s → (i j : ℕ) (k l : Known T) (t : ℕ) → Has s i k → Has s j l → HasTicket t k.stage → HasTicket t l.stage → i ≡ j
     -- once a pass has seen the last word, the next word is the last
-    pub worn_for_good : (s : TicketState T) → TicketLockRule leads first s → (i : ℕ) (k : Known T) → Has s i k → k.next ≡ last_word → slice_index s.words 0 ≡ last_word
+    pub worn_for_good : (s : TicketState T) → WordsRule first s → (i : ℕ) (k : Known T) → Has s i k → k.next ≡ last_word → slice_index s.words 0 ≡ last_word
+
+  -- what the values say of them
+  pub record ValuesSay : Type 0 where
+    -- all that was seen leads to one value, which is the one that who holds has found
+    pub one_value : (s : TicketState T) → ValuesRule leads s → (current : T) × ((i : ℕ) (k : Known T) → Has s i k → leads k.seen current × ((t : ℕ) → k.stage ≡ Holding t → k.seen ≡ current))
+
+  pub record TicketRuleSays (first : ℕ) : Type 0 where
+    pub words : WordsSay first
+    pub values : ValuesSay
 
   -- the pass still has what it had seen: the value leads to the one that it has seen now, and the next word is no less
   abbrev pub Remembers : TicketSeat T → TicketSeat T → Type 0
@@ -51,7 +66,19 @@ module _ {T : Type 0} (leads : T → T → Type 0) where
     -- the pass is in its section, where it has seen no next word beyond its ticket's
     pub leaves : (st : Step (Option T)) (me me' : TicketSeat T) (word : ℕ) → next_of me.0 ≡ word + 1 → Leaves leads st me word me' → Remembers me me'
 
-  -- the steps of the ticket lock
+  -- the pass has ended as many sections as before, and the last of them found the same value
+  abbrev pub HasSameTally : TicketSeat T → TicketSeat T → Type 0
+  HasSameTally me me' = (k l : Known T) → me.0 ≡ Live k → me'.0 ≡ Live l → (l.ended ≡ k.ended) × (l.last ≡ k.last)
+
+  -- only the end of a section changes the tally of its pass: it is one more then, and the value found is the last
+  pub record TicketStepsKeepTally : Type 0 where
+    pub settles : (st : Step (Option T)) (me me' : TicketSeat T) (word : ℕ) → Settles leads st me word me' → HasSameTally me me'
+    pub looks : (st : Step (Option T)) (me me' : TicketSeat T) (word : ℕ) → Looks st me word me' → HasSameTally me me'
+    pub draws : (st : Step (Option T)) (me me' : TicketSeat T) (word : ℕ) → Draws st me word me' → HasSameTally me me'
+    pub serves : (st : Step (Option T)) (me me' : TicketSeat T) (word : ℕ) → Serves leads st me word me' → HasSameTally me me'
+    pub leaves : (st : Step (Option T)) (me me' : TicketSeat T) (word : ℕ) → Leaves leads st me word me' → (k l : Known T) → me.0 ≡ Live k → me'.0 ≡ Live l → (l.ended ≡ k.ended + 1) × (l.last ≡ k.seen)
+
+  -- the steps of the ticket lock. Each keeps both passes of its rule, the words and the values
   pub record TicketStepsKeepRule (first : ℕ) : Type 0 where
     -- a new lock: both words are the first ticket, and its value is at home
     pub opens : (value : T) → TicketLockRule leads first (opening (first ∷ first ∷ []) (Some value ∷ []) (newcomer first value))

@@ -4,4 +4,5 @@ pub mod Ticket
 pub mod Steps
 pub mod TicketShown
 pub mod Laws
+pub mod Later
 pub mod Toy

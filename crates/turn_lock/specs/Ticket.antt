@@ -111,25 +111,24 @@ module _ {T : Type 0} where
   abbrev pub Has : TicketState T → ℕ → Known T → Type 0
   Has s i k = get_elem? s.views i ≡ some (Live k)
 
-  -- the value is at home, and no pass holds
-  pub record IsHome (s : TicketState T) (current : T) : Type 0 where
-    pub home : s.homes ≡ some (Some current) ∷ []
+  -- the slot is at home, and no pass holds
+  pub record IsHome (s : TicketState T) : Type 0 where
+    pub value : T
+    pub home : s.homes ≡ some (Some value) ∷ []
     pub nobody : (i : ℕ) (k : Known T) (ticket : ℕ) → Has s i k → k.stage ≡ Holding ticket → ⊥
 
-  -- the slot is out with the pass that holds, which has found the current value
-  pub record IsOut (s : TicketState T) (serving : ℕ) (current : T) : Type 0 where
+  -- the slot is out with the pass that holds
+  pub record IsOut (s : TicketState T) (serving : ℕ) : Type 0 where
     pub away : s.homes ≡ none ∷ []
     pub holder : ℕ
     pub knows : Known T
     pub is_there : Has s holder knows
     pub holds : knows.stage ≡ Holding serving
-    pub value : knows.seen ≡ current
 
-  -- The lock rule. Of a spent view it says nothing
-  pub record TicketLockRule (leads : T → T → Type 0) (first : ℕ) (s : TicketState T) : Type 0 where
+  -- Words, the first pass of the lock rule: the two words, the tickets that were drawn, and where the slot is
+  pub record WordsRule (first : ℕ) (s : TicketState T) : Type 0 where
     pub next : ℕ
     pub serving : ℕ
-    pub current : T
     pub words : s.words ≡ next ∷ serving ∷ []
     -- the words are in order, and nothing wraps
     pub from_first : first ≤ serving
@@ -140,8 +139,20 @@ module _ {T : Type 0} where
     pub tickets_apart : (i j : ℕ) (k l : Known T) (ticket : ℕ) → Has s i k → Has s j l → HasTicket ticket k.stage → HasTicket ticket l.stage → i ≡ j
     -- who holds is served, and the slot is at home where none holds
     pub holder_is_served : (i : ℕ) (k : Known T) (ticket : ℕ) → Has s i k → k.stage ≡ Holding ticket → ticket ≡ serving
-    pub slot : IsHome s current ⊎ IsOut s serving current
-    -- each value that was seen leads to the current one
-    pub values_seen : (i : ℕ) (k : Known T) → Has s i k → leads k.seen current × leads k.also current
+    pub slot : IsHome s ⊎ IsOut s serving
     -- each next word that was seen is at most the next
     pub words_seen : (i : ℕ) (k : Known T) → Has s i k → k.next ≤ next
+
+  -- Values, the second pass: the one current value, and what was seen of it
+  pub record ValuesRule (leads : T → T → Type 0) (s : TicketState T) : Type 0 where
+    pub current : T
+    -- it is the value at home, and the one that who holds has found
+    pub at_home : (value : T) → s.homes ≡ some (Some value) ∷ [] → value ≡ current
+    pub was_found : (i : ℕ) (k : Known T) (ticket : ℕ) → Has s i k → k.stage ≡ Holding ticket → k.seen ≡ current
+    -- each value that was seen leads to the current one
+    pub values_seen : (i : ℕ) (k : Known T) → Has s i k → leads k.seen current × leads k.also current
+
+  -- The lock rule: both passes. Of a spent view it says nothing
+  pub record TicketLockRule (leads : T → T → Type 0) (first : ℕ) (s : TicketState T) : Type 0 where
+    pub words : WordsRule first s
+    pub values : ValuesRule leads s

@@ -5,7 +5,8 @@
 //! Mellor-Crummey and Scott (1991), whose passes are served in the order of their tickets.
 //! Both stand on `atomic_table`: its words change in single sequentially consistent steps, and each step here is proved to
 //! keep the lock's rule, over every interleaving and for any number of passes.
-//! Begin with `section.rt`, then `specs/Spin.antt` for the smaller rule and `specs/Ticket.antt` for the larger one.
+//! Begin with `section.rt`, then `specs/Spin.antt` for the smaller rule and `specs/Ticket.antt` for the larger one, which is
+//! made of two: `WordsRule`, of the two words, the tickets and where the slot is, and `ValuesRule`, of the value in it.
 
 #![tactic(auto)]
 
@@ -19,8 +20,8 @@ mod ticket;
 
 pub use growing::Growing;
 pub use law::{
-    spin_steps_keep_the_rule, ticket_rule_says, ticket_steps_forget_nothing,
-    ticket_steps_keep_the_rule,
+    spin_rule_says, spin_steps_keep_the_rule, ticket_rule_says, ticket_steps_forget_nothing,
+    ticket_steps_keep_the_rule, ticket_steps_keep_the_tally, tickets_come_once,
 };
 pub use section::{Section, Worn};
 pub use spin::{SpinHolding, SpinLock, SpinPass};

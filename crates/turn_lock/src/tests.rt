@@ -321,44 +321,65 @@ fn threads_append_through_a_ticket_lock(rt: HostRuntime) -> Result<(), Fail> {
 #[test]
 fn each_law_is_called(_rt: HostRuntime) {
     crate::spin_steps_keep_the_rule::<Entries>();
+    crate::spin_rule_says::<Entries>();
     crate::ticket_steps_keep_the_rule::<Entries>(0);
     crate::ticket_rule_says::<Entries>(0);
     crate::ticket_steps_forget_nothing::<Entries>();
+    crate::ticket_steps_keep_the_tally::<Entries>();
+    crate::tickets_come_once::<Entries>(0);
 }
 
-// Appends in one section.
-fn append_one(
-    rt: &(impl Wait + Abort),
+// One section, in which the entry is appended, if there is one: how many stood there before, and the pass.
+fn in_section<R: Wait>(
+    rt: &R,
     lock: &TicketLock<Entries>,
     pass: Pass<Entries>,
-    number: u64,
-) -> Pass<Entries>
+    entry: Option<Entry>,
+) -> Result<(usize, Pass<Entries>), Fail>
     requires { IsPassOf lock.now pass }
-    ensures { IsPassOf lock.now result }
+    ensures { IfOk result (λ r. IsPassOf lock.now r.1) }
 {
-    match lock.lock(rt, pass) {
-        Ok((mut entries, holding)) => {
-            let _appended = entries.append(line(number));
-            lock.leave(holding, entries)
-        }
-        Err((_, pass)) => pass,
+    let Ok((mut value, holding)) = lock.lock(rt, pass) else {
+        return Err(Fail::new("a lock with tickets left is worn"));
+    };
+    let found = value.entries().len();
+    if let Some(entry) = entry {
+        value.append(entry);
     }
+    Ok((found, lock.leave(holding, value)))
+}
+
+// Meets, of which the caller asks only that both passes come back.
+fn meet(
+    lock: &TicketLock<Entries>,
+    one: Pass<Entries>,
+    other: Pass<Entries>,
+) -> (Pass<Entries>, Pass<Entries>)
+    requires { IsPassOf lock.now one × IsPassOf lock.now other }
+    ensures { IsPassOf lock.now result.0 × IsPassOf lock.now result.1 }
+{
+    lock.meet(one, other)
 }
 
 #[test]
 fn two_passes_meet(rt: HostRuntime) -> Result<(), Fail> {
     let (lock, pass) = TicketLock::new(rt.alloc(), Entries::new(rt.alloc()))?;
     let (a, b) = lock.split(pass);
-    let a = append_one(&rt, &lock, a, 1);
-    let (a, b) = lock.meet(a, b);
-    let b = append_one(&rt, &lock, b, 2);
-    let (b, a) = lock.meet(b, a);
+    let (found, a) = in_section(&rt, &lock, a, Some(line(7)))?;
+    assert_eq!(rt; found, 0);
+    let (a, b) = meet(&lock, a, b);
+    let (found, b) = in_section(&rt, &lock, b, None)?;
+    assert_eq!(rt; found, 1);
+    let (found, b) = in_section(&rt, &lock, b, Some(line(8)))?;
+    assert_eq!(rt; found, 1);
+    let (a, b) = meet(&lock, a, b);
     drop(b);
-    let Ok((entries, holding)) = lock.lock(&rt, a) else {
-        return Err(Fail::new("worn"));
+    let Ok((value, holding)) = lock.lock(&rt, a) else {
+        return Err(Fail::new("a lock with tickets left is worn"));
     };
-    assert_eq!(rt; entries.entries().len(), 2);
-    let _entries = lock.retire(holding, entries);
+    assert_eq!(rt; holding.ticket(), 3);
+    let value = lock.retire(holding, value);
+    assert_eq!(rt; value.entries(), [line(7), line(8)].as_slice());
     Ok(())
 }
 
@@ -366,8 +387,17 @@ fn two_passes_meet(rt: HostRuntime) -> Result<(), Fail> {
 fn two_worn_passes_meet(rt: HostRuntime) -> Result<(), Fail> {
     let (lock, pass) = TicketLock::new_at(rt.alloc(), Entries::new(rt.alloc()), u64::MAX)?;
     let (a, b) = lock.split(pass);
-    let (a, b) = lock.meet(a, b);
-    assert!(rt; lock.look(a).is_err());
-    assert!(rt; lock.look(b).is_err());
+    let Err((Worn, a)) = lock.look(a) else {
+        return Err(Fail::new("a look of a worn pass"));
+    };
+    let (a, b) = meet(&lock, a, b);
+    let Err((Worn, a)) = lock.look(a) else {
+        return Err(Fail::new("a look of a worn pass that has met another"));
+    };
+    let Err((Worn, b)) = lock.look(b) else {
+        return Err(Fail::new("a look of a pass that has met a worn one"));
+    };
+    let (a, b) = meet(&lock, b, a);
+    assert!(rt; lock.look(a).is_err() && lock.look(b).is_err());
     Ok(())
 }

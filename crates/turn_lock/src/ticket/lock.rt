@@ -15,7 +15,6 @@ use crossbeam_utils::Backoff;
 use std::alloc::{AllocError, Global};
 use std::snapshot::Snapshot;
 use std::sync::Wait;
-use std::thread;
 
 /// A value behind two words, whose passes are served in the order of their tickets. Tickets run to 2^64 - 2.
 #[derive(Drop)]
@@ -72,8 +71,9 @@ impl<T: Growing> TicketLock<T> {
         (Pass { seat }, Pass { seat: other })
     }
 
-    /// Makes what two passes have seen one: both have then seen the later of the two values, and the greater next word. The tally of
-    /// both is the first's.
+    /// Makes what two passes of this lock have seen one: both have then seen the later of the two values and the greater next
+    /// word, and both have the first's tally. It waits for nobody and takes no memory.
+    /// Not promised: that the value is the newest, since another pass may have left one behind it.
     pub fn meet(&self, one: Pass<T>, other: Pass<T>) -> (Pass<T>, Pass<T>)
         requires { IsPassOf self.now one × IsPassOf self.now other }
         ensures own { IsPassOf self.now result.0 × IsPassOf self.now result.1 }
@@ -83,6 +83,7 @@ impl<T: Growing> TicketLock<T> {
         let Pass { mut seat } = one;
         let Pass { seat: second } = other;
         self.table.shared.join_seat::<Beside>(&mut seat, second);
+        // The one seat has seen both values now. Both lead to the current one, so that one of them leads to the other.
         self.table.shared.load::<Settle<T>>(&mut seat, 0);
         let second = self.table.shared.split_seat::<Twice>(&mut seat);
         (Pass { seat }, Pass { seat: second })
@@ -146,7 +147,7 @@ impl<T: Growing> TicketLock<T> {
         }
     }
 
-    // Looks at the word that is served until it is the ticket. The next in line looks often, the others give way.
+    // Looks at the word that is served until it is the ticket, with a pause between two looks.
     fn await_turn<R: Wait>(
         &self,
         rt: &R,
@@ -164,11 +165,7 @@ impl<T: Growing> TicketLock<T> {
             if served == ticket {
                 return seat;
             }
-            if ticket - served == 1 {
-                backoff.snooze();
-            } else {
-                thread::yield_now();
-            }
+            backoff.snooze();
         }
         unreachable!()
     }

@@ -2,7 +2,8 @@ use Rattle.std.proofs.Common.{rules, ap, ◌∙◌}
 use mathlib.Core.Option.{none}
 use Rattle.atomic_table.specs.Table.{step}
 use Rattle.turn_lock.specs.Ticket.{stage_of}
-use Rattle.turn_lock.proofs.TicketMoves.{serves_allowed, begun}
+use Rattle.turn_lock.proofs.TicketMoves.{serves_allowed}
+use Rattle.turn_lock.proofs.TicketViews.{begun}
 use Rattle.turn_lock.proofs.ticket.lock.TicketLock.await_turn.Goals as goal
 
 pub load-served-requires : goal.load-served-requires

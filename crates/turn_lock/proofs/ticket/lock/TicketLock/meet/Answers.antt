@@ -2,7 +2,8 @@ use Rattle.std.proofs.Common.{rules, ap, ◌∙◌}
 use mathlib.Core.Option.{none}
 use Rattle.atomic_table.specs.Table.{step}
 use Rattle.turn_lock.specs.Ticket.{stage_of}
-use Rattle.turn_lock.proofs.TicketMoves.{beside_idle, joins_allowed, settled_idle, settles_allowed, splits_allowed}
+use Rattle.turn_lock.proofs.TicketMoves.{joins_allowed, settled_idle, settles_allowed, splits_allowed}
+use Rattle.turn_lock.proofs.TicketViews.{beside_idle}
 use Rattle.turn_lock.proofs.ticket.lock.TicketLock.meet.Goals as goal
 
 pub join_seat-requires : goal.join_seat-requires
