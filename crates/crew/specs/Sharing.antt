@@ -16,8 +16,8 @@ use Rattle.journal.specs.Events.{IsJob, closed, decided, ended, places, taken}
 use Rattle.journal.specs.Lawful.{Finished}
 use Rattle.claim_gate.specs.Parts.{GateParts, ForTerms}
 use Rattle.claim_gate.specs.declared.job.Job.{Job}
-use Rattle.crew.specs.declared.worker.Turn.{Turn}
-use Rattle.crew.specs.declared.worker.Turn.TheVariants.{Over, Work, NothingReady}
+use Rattle.crew.specs.declared.worker.Task.{Task}
+use Rattle.crew.specs.declared.worker.Task.TheVariants.{Over, Work, NothingReady}
 
 -- so many claims of the provider are accepted at least
 abbrev pub HasTaken : GateParts → ℕ → ℕ → Type 0
@@ -43,10 +43,10 @@ pub record IsInWork (gate : GateParts) (job : Job) : Type 0 where
   pub fields : IsClaimOf gate.terms.plan job.claim
 
 -- what a worker is to do: nothing any more, where the journal is finished; or to decide a claim
-abbrev pub IsTurn : GateParts → Turn → Type 0
-IsTurn gate Over = ForTerms gate.terms (λ T. Finished T gate.journal)
-IsTurn gate (Work job) = IsInWork gate job
-IsTurn gate NothingReady = Unit {0}
+abbrev pub IsTask : GateParts → Task → Type 0
+IsTask gate Over = ForTerms gate.terms (λ T. Finished T gate.journal)
+IsTask gate (Work job) = IsInWork gate job
+IsTask gate NothingReady = Unit {0}
 
 -- a claim in work, with its settlement
 pub record IsSettledIn (gate : GateParts) (settled : Settled) : Type 0 where

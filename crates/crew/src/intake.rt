@@ -7,10 +7,10 @@ ghost use Rattle.claim_gate.specs.Shared.{LeadsTo};
 ghost use Rattle.crew.specs.Sharing.{GoesOnAt, HasTaken, IsOffered, is_past};
 ghost use Rattle.crew.specs.declared.fault.RunFault.TheVariants.{OutOfMemory, Workers};
 
-use crate::baton::Baton;
 use crate::fault::RunFault;
 use crate::laws::terms_are_seen;
 use crate::stopping::stop;
+use crate::turns::Turns;
 use claim_gate::{EndFault, Gate, Offer, OfferFault};
 use claim_terms::Terms;
 use feel_tests::field_spells_at_most_one_value;
@@ -39,7 +39,7 @@ pub(crate) fn take_in<R: Wait, G: Gate>(
     gate: &G,
     pass: G::Pass,
     provider: usize,
-    baton: &Baton,
+    turns: &Turns,
 ) -> Result<G::Pass, (RunFault, G::Pass)>
     requires own { G.has_pass gate.now pass }
     requires terms { (G.known pass).seen.terms ≡ terms.now }
@@ -50,7 +50,7 @@ pub(crate) fn take_in<R: Wait, G: Gate>(
     ensures past { IfOk result (λ p. is_past (G.known p).seen provider ≡ true) }
     ensures fault { IfErr result (λ e. e.0 ≢ Workers) }
 {
-    match read_on(rt, alloc, terms, gate, pass, provider, baton) {
+    match read_on(rt, alloc, terms, gate, pass, provider, turns) {
         Ok(pass) => Ok(pass),
         Err((RunFault::OutOfMemory, pass)) => Err((
             RunFault::OutOfMemory,
@@ -68,7 +68,7 @@ fn read_on<R: Wait, G: Gate>(
     gate: &G,
     mut pass: G::Pass,
     provider: usize,
-    baton: &Baton,
+    turns: &Turns,
 ) -> Result<G::Pass, (RunFault, G::Pass)>
     requires own { G.has_pass gate.now pass }
     requires terms { (G.known pass).seen.terms ≡ terms.now }
@@ -88,7 +88,7 @@ fn read_on<R: Wait, G: Gate>(
         Ok(rows) => rows,
         Err(fault) => return Err((fault, pass)),
     };
-    let mut hold = baton.hold(rt);
+    let mut turn = turns.begin(rt);
     let mut count = 0;
     let mut expected = 0;
     loop {
@@ -111,7 +111,7 @@ fn read_on<R: Wait, G: Gate>(
             place,
             claim,
         };
-        hold.call(rt);
+        turn.count_offer(rt);
         (expected, pass) = match offer(rt, terms, gate, pass, offered) {
             Ok((Some(next), pass)) => (next, pass),
             Ok((None, pass)) => return Ok(pass),

@@ -7,7 +7,7 @@
 //! Begin with `threads.rt`, whose `run` and `run_with` carry the promise; `intake.rt` and `worker.rt` are what the threads do.
 #![tactic(auto)]
 
-mod baton;
+mod backlog;
 mod fault;
 mod intake;
 mod laws;
@@ -16,6 +16,7 @@ mod stopping;
 #[cfg(test)]
 mod tests;
 mod threads;
+mod turns;
 mod worker;
 
 pub use fault::RunFault;

@@ -6,12 +6,12 @@ ghost use Rattle.claim_gate.specs.Shared.{LeadsTo};
 ghost use Rattle.crew.specs.Workers.{IsWorkerCount};
 ghost use Rattle.crew.specs.declared.fault.RunFault.TheVariants.{Workers, Stopped};
 
-use crate::baton::Baton;
 use crate::fault::RunFault;
 use crate::intake::take_in;
 use crate::laws::terms_are_seen;
 use crate::least::LeastFault;
 use crate::stopping::stop;
+use crate::turns::Turns;
 use crate::worker::work;
 use claim_gate::{Batch, Gate, GateState, LockedGate, SerialGate};
 use claim_terms::Terms;
@@ -117,8 +117,8 @@ pub fn run_with<R: Threads + Wait + Sync, G: Gate + Sync>(
         return Err((RunFault::OutOfMemory, stop(rt, terms, gate, pass)));
     };
     let least = LeastFault::new();
-    let baton = Baton::new();
-    match in_threads(rt, alloc, terms, &plan, workers, gate, pass, &least, &baton) {
+    let turns = Turns::new();
+    match in_threads(rt, alloc, terms, &plan, workers, gate, pass, &least, &turns) {
         Ok(pass) => Ok(pass),
         Err((own, pass)) => Err((least.or_own(own), pass)),
     }
@@ -134,7 +134,7 @@ fn in_threads<R: Threads + Wait + Sync, G: Gate + Sync>(
     gate: &G,
     pass: G::Pass,
     least: &LeastFault,
-    baton: &Baton,
+    turns: &Turns,
 ) -> Result<G::Pass, (RunFault, G::Pass)>
     requires own { G.has_pass gate.now pass }
     requires terms { (G.known pass).seen.terms ≡ terms.now }
@@ -167,14 +167,22 @@ fn in_threads<R: Threads + Wait + Sync, G: Gate + Sync>(
                 let (mine, theirs) = gate.split(own);
                 let job = move ||
                     requires { G.has_pass gate.now theirs × ((G.known theirs).seen.terms ≡ terms.now) × (plan.now ≡ terms.now.plan) }
-                { take_part(rt, alloc, terms, plan, gate, theirs, number, least, baton) };
+                { take_part(rt, alloc, terms, plan, gate, theirs, number, least, turns) };
                 if scope.spawn(job).is_err() {
                     least.note(RunFault::Thread);
-                    return work(rt, alloc, terms, plan, gate, stop(rt, terms, gate, mine), baton);
+                    return work(
+                        rt,
+                        alloc,
+                        terms,
+                        plan,
+                        gate,
+                        stop(rt, terms, gate, mine),
+                        turns,
+                    );
                 }
                 own = mine;
             }
-            work(rt, alloc, terms, plan, gate, own, baton)
+            work(rt, alloc, terms, plan, gate, own, turns)
         },
     )
 }
@@ -189,16 +197,16 @@ fn take_part<R: Wait, G: Gate>(
     pass: G::Pass,
     number: usize,
     least: &LeastFault,
-    baton: &Baton,
+    turns: &Turns,
 )
     requires own { G.has_pass gate.now pass }
     requires terms { (G.known pass).seen.terms ≡ terms.now }
     requires plan { plan.now ≡ terms.now.plan }
 {
     let left = if number < terms.files().len() {
-        take_in(rt, alloc, terms, gate, pass, number + 1, baton)
+        take_in(rt, alloc, terms, gate, pass, number + 1, turns)
     } else {
-        work(rt, alloc, terms, plan, gate, pass, baton)
+        work(rt, alloc, terms, plan, gate, pass, turns)
     };
     if let Err((fault, _)) = left {
         least.note(fault);

@@ -6,16 +6,15 @@ ghost use Rattle.journal.specs.Events.{decided};
 ghost use Rattle.journal.specs.Lawful.{Finished};
 ghost use Rattle.claim_gate.specs.Parts.{ForTerms};
 ghost use Rattle.claim_gate.specs.Shared.{LeadsTo};
-ghost use Rattle.crew.specs.Sharing.{IsGathered, IsHanded, IsInWork, IsSettledIn, IsTurn, settled_by};
+ghost use Rattle.crew.specs.Sharing.{IsGathered, IsHanded, IsInWork, IsSettledIn, IsTask, settled_by};
 ghost use Rattle.crew.specs.declared.fault.RunFault.TheVariants.{Workers, Stopped};
 
-use crate::baton::{Baton, CALLS_LIMIT};
 use crate::fault::RunFault;
 use crate::laws::terms_are_seen;
 use crate::stopping::stop;
+use crate::turns::{CALLS_LIMIT, Turn, Turns};
 use claim_gate::{FinishFault, Gate, Job, Taken};
 use claim_terms::Terms;
-use crossbeam_utils::Backoff;
 use cutplan::CutPlan;
 use intake_csv::claims_have_the_plan_s_fields;
 use journal::jobs_stay;
@@ -24,7 +23,7 @@ use std::alloc::{AllocError, Global};
 use std::sync::Wait;
 
 /// What a worker is to do.
-enum Turn {
+enum Task {
     /// Nothing any more: the journal is finished.
     Over,
     /// To decide a claim.
@@ -64,7 +63,7 @@ pub(crate) fn work<R: Wait, G: Gate>(
     plan: &CutPlan,
     gate: &G,
     pass: G::Pass,
-    baton: &Baton,
+    turns: &Turns,
 ) -> Result<G::Pass, (RunFault, G::Pass)>
     requires plan { plan.now ≡ terms.now.plan }
     requires own { G.has_pass gate.now pass }
@@ -77,7 +76,7 @@ pub(crate) fn work<R: Wait, G: Gate>(
     ensures fault { IfErr result (λ e. e.0 ≢ Workers) }
     ensures stopped { IfErr result (λ e. e.0 ≡ Stopped → (G.known e.1).seen.stopped ≡ true) }
 {
-    match work_on(rt, alloc, terms, plan, gate, pass, baton) {
+    match work_on(rt, alloc, terms, plan, gate, pass, turns) {
         Ok(pass) => Ok(pass),
         Err((RunFault::OutOfMemory, pass)) => Err((
             RunFault::OutOfMemory,
@@ -95,7 +94,7 @@ fn work_on<R: Wait, G: Gate>(
     plan: &CutPlan,
     gate: &G,
     mut pass: G::Pass,
-    baton: &Baton,
+    turns: &Turns,
 ) -> Result<G::Pass, (RunFault, G::Pass)>
     requires plan { plan.now ≡ terms.now.plan }
     requires own { G.has_pass gate.now pass }
@@ -112,10 +111,10 @@ fn work_on<R: Wait, G: Gate>(
     let Ok(mut adjudicator) = Adjudicator::new(alloc, plan) else {
         return Err((RunFault::OutOfMemory, pass));
     };
-    let backoff = Backoff::new();
     let mut settled = Vec::new(alloc);
+    let mut rests = 0;
     for _ in rt.forever() {
-        let (gathered, back) = match take_turn(rt, alloc, terms, gate, pass, settled, baton) {
+        let (gathered, back) = match take_turn(rt, alloc, terms, gate, pass, settled, turns) {
             Ok(taken) => taken,
             Err(left) => return Err(left),
         };
@@ -123,11 +122,11 @@ fn work_on<R: Wait, G: Gate>(
             Gathered::Over => return Ok(back),
             Gathered::Jobs(jobs) => jobs,
         };
-        if jobs.is_empty() {
-            backoff.snooze();
+        rests = if jobs.is_empty() {
+            turns.rest(rt, rests)
         } else {
-            backoff.reset();
-        }
+            0
+        };
         let Ok(decided) = decide_all(alloc, &mut adjudicator, jobs) else {
             return Err((RunFault::OutOfMemory, back));
         };
@@ -146,7 +145,7 @@ fn take_turn<R: Wait, G: Gate>(
     gate: &G,
     pass: G::Pass,
     settled: Vec<Settled>,
-    baton: &Baton,
+    turns: &Turns,
 ) -> Result<(Gathered, G::Pass), (RunFault, G::Pass)>
     requires own { G.has_pass gate.now pass }
     requires terms { (G.known pass).seen.terms ≡ terms.now }
@@ -159,12 +158,12 @@ fn take_turn<R: Wait, G: Gate>(
     ensures fault { IfErr result (λ e. e.0 ≢ Workers) }
     ensures stopped { IfErr result (λ e. e.0 ≡ Stopped → (G.known e.1).seen.stopped ≡ true) }
 {
-    let _hold = baton.hold(rt);
+    let turn = turns.begin(rt);
     let pass = match record_all(rt, terms, gate, pass, settled) {
         Ok(pass) => pass,
         Err(left) => return Err(left),
     };
-    gather(rt, alloc, terms, gate, pass)
+    gather(rt, alloc, terms, gate, pass, &turn)
 }
 
 // Takes claims, one call after another, until none is ready or a turn has no call left.
@@ -174,6 +173,7 @@ fn gather<R: Wait, G: Gate>(
     terms: &Terms,
     gate: &G,
     mut pass: G::Pass,
+    turn: &Turn,
 ) -> Result<(Gathered, G::Pass), (RunFault, G::Pass)>
     requires own { G.has_pass gate.now pass }
     requires terms { (G.known pass).seen.terms ≡ terms.now }
@@ -188,14 +188,15 @@ fn gather<R: Wait, G: Gate>(
     jobs_stay();
     let mut jobs = Vec::new(alloc);
     'calls: for _ in 0..CALLS_LIMIT {
-        let (turn, back) = match take(rt, terms, gate, pass) {
+        let (task, back) = match take(rt, terms, gate, pass) {
             Ok(taken) => taken,
             Err(left) => return Err(left),
         };
-        match turn {
-            Turn::Over => return Ok((Gathered::Over, back)),
-            Turn::NothingReady => return Ok((Gathered::Jobs(jobs), back)),
-            Turn::Work(job) => {
+        match task {
+            Task::Over => return Ok((Gathered::Over, back)),
+            Task::NothingReady => return Ok((Gathered::Jobs(jobs), back)),
+            Task::Work(job) => {
+                turn.count_taken();
                 let Ok(()) = jobs.push(job) else {
                     return Err((RunFault::OutOfMemory, back));
                 };
@@ -213,14 +214,14 @@ fn take<R: Wait, G: Gate>(
     terms: &Terms,
     gate: &G,
     pass: G::Pass,
-) -> Result<(Turn, G::Pass), (RunFault, G::Pass)>
+) -> Result<(Task, G::Pass), (RunFault, G::Pass)>
     requires own { G.has_pass gate.now pass }
     requires terms { (G.known pass).seen.terms ≡ terms.now }
     ensures own { IfOk result (λ r. G.has_pass gate.now r.1) }
     ensures back { IfErr result (λ e. G.has_pass gate.now e.1) }
     ensures seen { IfOk result (λ r. LeadsTo (G.known pass).seen (G.known r.1).seen) }
     ensures seen_back { IfErr result (λ e. LeadsTo (G.known pass).seen (G.known e.1).seen) }
-    ensures turn { IfOk result (λ r. IsTurn (G.known r.1).seen r.0) }
+    ensures task { IfOk result (λ r. IsTask (G.known r.1).seen r.0) }
     ensures fault { IfErr result (λ e. e.0 ≢ Workers) }
     ensures stopped { IfErr result (λ e. e.0 ≡ Stopped → (G.known e.1).seen.stopped ≡ true) }
 {
@@ -238,14 +239,14 @@ fn take_once<R: Wait, G: Gate>(
     terms: &Terms,
     gate: &G,
     pass: G::Pass,
-) -> Result<(Turn, G::Pass), (RunFault, G::Pass)>
+) -> Result<(Task, G::Pass), (RunFault, G::Pass)>
     requires own { G.has_pass gate.now pass }
     requires terms { (G.known pass).seen.terms ≡ terms.now }
     ensures own { IfOk result (λ r. G.has_pass gate.now r.1) }
     ensures back { IfErr result (λ e. G.has_pass gate.now e.1) }
     ensures seen { IfOk result (λ r. LeadsTo (G.known pass).seen (G.known r.1).seen) }
     ensures seen_back { IfErr result (λ e. LeadsTo (G.known pass).seen (G.known e.1).seen) }
-    ensures turn { IfOk result (λ r. IsTurn (G.known r.1).seen r.0) }
+    ensures task { IfOk result (λ r. IsTask (G.known r.1).seen r.0) }
     ensures fault { IfErr result (λ e. e.0 ≢ Workers) }
     ensures stopped { IfErr result (λ e. e.0 ≡ Stopped → (G.known e.1).seen.stopped ≡ true) }
 {
@@ -257,9 +258,9 @@ fn take_once<R: Wait, G: Gate>(
         Err((_, pass)) => return Err((RunFault::Worn, pass)),
     };
     match taken {
-        Ok(Taken::Over) => Ok((Turn::Over, pass)),
-        Ok(Taken::Work(job)) => Ok((Turn::Work(job), pass)),
-        Ok(Taken::NothingReady) => Ok((Turn::NothingReady, pass)),
+        Ok(Taken::Over) => Ok((Task::Over, pass)),
+        Ok(Taken::Work(job)) => Ok((Task::Work(job), pass)),
+        Ok(Taken::NothingReady) => Ok((Task::NothingReady, pass)),
         Ok(Taken::Stopped) => Err((RunFault::Stopped, pass)),
         Err(_) => Err((RunFault::OutOfMemory, pass)),
     }
@@ -402,6 +403,9 @@ fn hand_in<R: Wait, G: Gate>(
         Ok(_) => Ok((Handed::In, pass)),
         Err((FinishFault::AlreadyDecided, _, _)) => Ok((Handed::In, pass)),
         Err((FinishFault::Stopped, _, _)) => Err((RunFault::Stopped, pass)),
-        Err((FinishFault::OutOfMemory, job, outcome)) => Ok((Handed::Back(Settled { job, outcome }), pass)),
+        Err((FinishFault::OutOfMemory, job, outcome)) => Ok((
+            Handed::Back(Settled { job, outcome }),
+            pass,
+        )),
     }
 }

@@ -94,7 +94,6 @@ impl<G: Gate> Gate for StoppingGate<G> {
     }
 }
 
-
 // Whether a run is stopped.
 fn is_stopped<S: Section + Drop + Sync, R: Threads + Wait + Sync>(
     rt: &R,

@@ -16,7 +16,7 @@ loop-job-preserved c =
     let one : Settled = record { job = job; outcome = c.in_ok-outcome.outcome } in (
       c.in_ok-outcome.ensures.plan ∙ c.loop-job.invariant.0,
       ap (λ xs. xs ++ map (settled_by plan) rest) c.in_ok-push.ensures.items
-      ∙ one_more (settled_by plan) c.loop-job.settled.items items rest job one (map (settled_by plan) c.args.jobs.items) c.in-Some.ensures.steps.0
-      (settled_is c.loop-job.adjudicator plan job c.in_ok-outcome.outcome one refl c.in_ok-outcome.ensures.decided c.loop-job.invariant.0) c.loop-job.invariant.1,
+          ∙ one_more (settled_by plan) c.loop-job.settled.items items rest job one (map (settled_by plan) c.args.jobs.items) c.in-Some.ensures.steps.0
+          (settled_is c.loop-job.adjudicator plan job c.in_ok-outcome.outcome one refl c.in_ok-outcome.ensures.decided c.loop-job.invariant.0) c.loop-job.invariant.1,
       All-rest (λ j. IsClaimOf plan j.claim) job rest items c.in-Some.ensures.steps.0 c.loop-job.invariant.2,
     )

@@ -15,7 +15,7 @@ calls-preserved g c =
     let after = (g.G.Gate.known c.in-Ok.taken.1).seen in
     let P = IsInWork after in
     let on = c.in-Ok.ensures in
-    let here = rw c.in-Work.is at on.turn in (
+    let here = rw c.in-Work.is at on.task in (
       on.own,
       leads_further (g.G.Gate.known c.args.pass).seen before after c.calls.invariant.1 on.seen,
       on.seen.terms ∙ c.calls.invariant.2,

@@ -13,9 +13,10 @@ loop-preserved g c =
     let on = c.in-Ok-take_turn.ensures in
     let jobs = c.in-Jobs.jobs.items in
     let gathered = rw c.in-Jobs.is at on.gathered in
-    let plan : c.loop.adjudicator ≡ after.terms.plan = c.loop.invariant.5 ∙ ap (λ terms. terms.plan) (sym (on.seen.terms ∙ c.loop.invariant.4)) in
-    (
-      tt, tt, on.own,
+    let plan : c.loop.adjudicator ≡ after.terms.plan = c.loop.invariant.5 ∙ ap (λ terms. terms.plan) (sym (on.seen.terms ∙ c.loop.invariant.4)) in (
+      tt,
+      tt,
+      on.own,
       leads_further (g.G.Gate.known c.args.pass).seen before after c.loop.invariant.3 on.seen,
       on.seen.terms ∙ c.loop.invariant.4,
       c.in-Ok-decide_all.ensures.plan ∙ c.loop.invariant.5,

@@ -1,0 +1,200 @@
+//! Whose turn at the gate it is: a hint, which keeps the threads of a run from asking for its lock all at once.
+//!
+//! A lock that serves strictly in order goes to another thread at each section where several ask for it, and stands still until
+//! that one is scheduled. So a thread makes many calls in a row while it has the turn, and the others sleep: they would take the
+//! processor from it.
+//!
+//! It is a hint only. Each call of the gate is a section of its own, with the turn or without it; nothing is proved of the words
+//! here, and nothing rests on them. That is why waiting has a bound: a gate of the caller's may hold one call until another thread
+//! makes one, and a thread that has waited for long calls without the turn. A word that is wrong costs time alone.
+
+use crate::backlog::Backlog;
+use crossbeam_utils::Backoff;
+use std::sync::Wait;
+use std::sync::atomic::{AtomicU64, Ordering};
+use std::time::Duration;
+
+#[cfg(test)]
+mod tests;
+
+/// How many claims a thread offers or takes in one turn. A turn is to be long beside the time that a sleeper takes to wake up, and
+/// short beside the time in which the others run out of work.
+pub(crate) const CALLS_LIMIT: u32 = 256;
+
+/// Nobody has the turn.
+const FREE: u32 = 0;
+
+/// Somebody has it.
+const HELD: u32 = 1;
+
+/// It was given back to who sleeps. Who comes now has to wait.
+const HANDED_OVER: u32 = 2;
+
+/// How often a thread looks before it sleeps: for some microseconds, less than going to sleep and waking up take.
+const LOOKS_LIMIT: u32 = 12;
+
+/// A sleep ends when the turn is given back. This is its bound, in case that nobody wakes the sleeper.
+const SLEEP_MICROS: u64 = 5_000;
+
+/// After so many sleeps, half a second, a thread goes without the turn: far longer than a turn takes on a busy machine.
+const SLEEPS_LIMIT: u32 = 100;
+
+/// The first rest of a worker that found nothing to do. Each further one is twice as long, so that many idle workers don't keep the
+/// turn from the intakes.
+const REST_MICROS: u64 = 100;
+
+/// So often a rest is doubled: the longest takes some three milliseconds, by which a run may end later.
+const DOUBLINGS_LIMIT: u32 = 5;
+
+/// Who has the turn calls the gate, the others wait for a while.
+#[derive(Drop)]
+pub(crate) struct Turns {
+    word: AtomicU64,
+    // How many threads sleep until the turn is given back.
+    sleepers: AtomicU64,
+    // Idle workers sleep here, and nobody wakes them.
+    resting: AtomicU64,
+    backlog: Backlog,
+}
+
+impl Turns {
+    /// Nobody has the turn, and no claim waits.
+    pub(crate) fn new() -> Turns {
+        Turns {
+            word: AtomicU64::new(u64::from(FREE)),
+            sleepers: AtomicU64::new(0),
+            resting: AtomicU64::new(0),
+            backlog: Backlog::new(),
+        }
+    }
+
+    /// Waits for a turn, for a while. It ends where what is given is dropped.
+    pub(crate) fn begin<R: Wait>(&self, rt: &R) -> Turn<'_> {
+        Turn {
+            turns: self,
+            has: self.obtain(rt),
+            calls_left: CALLS_LIMIT,
+        }
+    }
+
+    /// Lets the others go on where there is nothing to do, the longer the more rests there were in a row. Gives their number.
+    pub(crate) fn rest<R: Wait>(&self, rt: &R, rests: u32) -> u32 {
+        let micros = REST_MICROS << rests.min(DOUBLINGS_LIMIT);
+        self.resting
+            .park_timeout(rt, 0, Duration::from_micros(micros));
+        rests.saturating_add(1)
+    }
+
+    // False where others had it for too long.
+    fn obtain<R: Wait>(&self, rt: &R) -> bool {
+        let backoff = Backoff::new();
+        for _ in 0..LOOKS_LIMIT {
+            if self.exchange(FREE, HELD) {
+                return true;
+            }
+            backoff.snooze();
+        }
+        self.sleepers.fetch_add(1, Ordering::SeqCst);
+        let has = self.obtain_by_sleeping(rt);
+        self.sleepers.fetch_sub(1, Ordering::SeqCst);
+        has
+    }
+
+    fn obtain_by_sleeping<R: Wait>(&self, rt: &R) -> bool {
+        if self.exchange(FREE, HELD) {
+            return true;
+        }
+        for _ in 0..SLEEPS_LIMIT {
+            self.sleep(rt);
+            if self.exchange(FREE, HELD) || self.exchange(HANDED_OVER, HELD) {
+                return true;
+            }
+        }
+        false
+    }
+
+    // Until the turn is given back, or for a while.
+    fn sleep<R: Wait>(&self, rt: &R) {
+        let seen = if self.is(HANDED_OVER) {
+            HANDED_OVER
+        } else {
+            HELD
+        };
+        self.word
+            .park_timeout(rt, seen, Duration::from_micros(SLEEP_MICROS));
+    }
+
+    // Gives the turn to who sleeps. Who goes to sleep only now either finds the word changed or is counted when it is looked again.
+    fn give_back(&self) {
+        let to = if self.has_sleepers() {
+            HANDED_OVER
+        } else {
+            FREE
+        };
+        self.word.store(u64::from(to), Ordering::SeqCst);
+        if self.has_sleepers() {
+            self.word.wake_one();
+        }
+    }
+
+    fn has_sleepers(&self) -> bool {
+        self.sleepers.load(Ordering::SeqCst) > 0
+    }
+
+    fn is(&self, state: u32) -> bool {
+        self.word.load(Ordering::SeqCst) == u64::from(state)
+    }
+
+    fn exchange(&self, from: u32, to: u32) -> bool {
+        let (from, to) = (u64::from(from), u64::from(to));
+        self.word
+            .compare_exchange(from, to, Ordering::SeqCst, Ordering::SeqCst)
+            .is_ok()
+    }
+}
+
+/// A row of calls of the gate, with the turn or without it.
+pub(crate) struct Turn<'t> {
+    turns: &'t Turns,
+    has: bool,
+    calls_left: u32,
+}
+
+impl Turn<'_> {
+    /// Counts an offer. After so many the turn goes to another thread, and an intake that is far ahead of the workers sleeps.
+    pub(crate) fn count_offer<R: Wait>(&mut self, rt: &R) {
+        self.turns.backlog.add_one();
+        match self.calls_left.checked_sub(1) {
+            Some(left) => self.calls_left = left,
+            None => {
+                self.end();
+                self.turns.backlog.await_shorter(rt);
+                self.has = self.turns.obtain(rt);
+                self.calls_left = CALLS_LIMIT;
+            }
+        }
+    }
+
+    /// Counts a claim that was taken.
+    pub(crate) fn count_taken(&self) {
+        self.turns.backlog.remove_one();
+    }
+
+    fn end(&self) {
+        self.turns.backlog.wake_where_short();
+        if self.has {
+            self.turns.give_back();
+        }
+    }
+}
+
+impl Drop for Turn<'_> {
+    fn drop(self) {
+        self.end();
+        let Turn {
+            turns: _,
+            has: _,
+            calls_left: _,
+        } = self;
+    }
+}
