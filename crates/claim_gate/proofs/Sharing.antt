@@ -1,5 +1,5 @@
 -- Calls of a gate behind a lock, by those of the gate of one thread.
-use Rattle.std.proofs.Common.{◌≡◌, ◌+◌, ℕ, true, ◌∷◌, [], ◌++◌, Result, Ok, Err, refl, sym, ap, ◌∙◌, subst}
+use Rattle.std.proofs.Common.{◌≡◌, ◌+◌, ℕ, max, true, ◌∷◌, [], ◌++◌, Result, Ok, Err, refl, sym, ap, inl, inr, ◌∙◌, subst}
 use Rattle.std.specs.Result.{OnOk, OnErr}
 use Rattle.claim_terms.specs.Terms.{IsTermsOf}
 use Rattle.settlement.specs.declared.acc.Acc.{Acc}
@@ -9,6 +9,9 @@ use Rattle.journal.specs.Events.{IsJob}
 use Rattle.journal.specs.Gate.{Leads}
 use Rattle.journal.specs.Laws.{JobsStay}
 use Rattle.journal.specs.declared.event.Event.{Event}
+use Rattle.turn_lock.specs.Ticket.{last_word}
+use Rattle.turn_lock.specs.TicketShown.{HasMet}
+use Rattle.turn_lock.specs.declared.ticket.view.Known.{Known as Seen}
 use Rattle.claim_gate.specs.Leading.{leads_itself}
 use Rattle.claim_gate.specs.Parts.{GateParts, ForTerms, at}
 use Rattle.claim_gate.specs.Shared.{LeadsTo, IsLawful, Known, HadSection}
@@ -49,3 +52,14 @@ had_section before after found left found_is left_is fresh found_lawful grown le
   left_lawful = subst IsLawful (sym left_is) left_lawful;
   tally = tally;
 }
+
+-- where two passes that have seen the last word have met, both have seen it
+pub met_worn :
+    {T : Type 0} (leads : T → T → Type 0) (one other both : Seen T) → HasMet leads one other both → one.next ≡ last_word → other.next ≡ last_word
+    → both.next ≡ last_word
+met_worn leads one other both met worn behind =
+    let greater : max one.next other.next ≡ last_word = rw (worn, behind) refl in
+    elim met [
+      | inl is ↦ ap (λ k. k.next) is.1 ∙ greater
+      | inr is ↦ ap (λ k. k.next) is.1 ∙ greater
+    ]

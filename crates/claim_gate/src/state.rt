@@ -1,11 +1,12 @@
 //! The gate of one thread.
 ghost use Rattle.std.specs.Prelude.{◌≡◌, ◌+◌, ◌<◌, ◌≤◌, ◌≢◌, ◌↔◌, ◌++◌, ◌∷◌, [], true, false, cond, IsTrue, length, vec_len, vec_capacity, IfOk, IfErr, OnOk, OnErr};
-ghost use Rattle.journal.specs.Terms.{Terms as AnyTerms};
+ghost use Rattle.journal.specs.Terms.{Terms as AnyTerms, opening};
 ghost use Rattle.journal.specs.Events.{places, ended, closed, taken, decided, reached, IsJob};
 ghost use Rattle.journal.specs.Gate.{Continues, Offers, Ends, Takes, Finishes, Stops, Counts as AreCounts};
 ghost use Rattle.journal.specs.Lawful.{Lawful};
 ghost use Rattle.journal.specs.Settled.{outcome_of};
 ghost use Rattle.journal.specs.declared.event.Event.TheVariants as events;
+ghost use Rattle.lanes.specs.Calls.{place_behind};
 ghost use Rattle.claim_gate.specs.Kept.{is_due};
 ghost use Rattle.claim_gate.specs.Parts.{ForTerms, at};
 ghost use Rattle.claim_gate.specs.Replies.{offer_reply, end_reply, take_reply, finish_reply, IsFiled, HasClaims, IsOver, IsWorkOf, first_journal};
@@ -18,9 +19,9 @@ use crate::offer::Offer;
 use crate::reply::{Accepted, Ended, Recorded, Taken};
 use claim_terms::Terms;
 use journal::{Decision, Event, gate_stays_lawful, starts_lawful};
-use lanes::Lanes;
-use settlement::{Outcome, after};
-use std::alloc::{AllocError, Global};
+use lanes::{Followed, Lanes};
+use settlement::{Claim, Outcome, after};
+use std::alloc::{AllocError, AllocFailed, Global};
 use std::marker::Model;
 
 /// A gate of one thread: its terms, its journal, which is lawful, and whether it is stopped.
@@ -135,9 +136,8 @@ impl<'t> GateState<'t> {
             place,
             claim,
         } = offer;
-        let opening = self.terms.opening(claim.member.as_str());
         let position = self.lanes.len();
-        if let Err(failed) = self.lanes.add(claim, opening) {
+        if let Err(failed) = add(&mut self.lanes, self.terms, claim) {
             let claim = failed.value;
             let offer = Offer {
                 provider,
@@ -307,6 +307,21 @@ impl<'t> GateState<'t> {
         ensures { IsTrue result ↔ IsOver self.now.journal }
     {
         self.closed && self.decisions == self.lanes.len()
+    }
+}
+
+// Adds a claim behind the others. The terms are asked what its member begins with for the member's first claim alone.
+fn add(lanes: &mut Lanes, terms: &Terms, claim: Claim) -> Result<(), AllocFailed<Claim>>
+    ensures added { IfOk result (λ _. lanes.new ≡ lanes.old ++ place_behind lanes.old claim (opening terms.now.balances claim.member) ∷ []) }
+    ensures back { IfErr result (λ failed. failed.value ≡ claim) }
+    ensures refused { IfErr result (λ _. lanes.new ≡ lanes.old) }
+{
+    match lanes.follow(claim)? {
+        Followed::Added => Ok(()),
+        Followed::First(claim) => {
+            let opening = terms.opening(claim.member.as_str());
+            lanes.begin(claim, opening)
+        }
     }
 }
 

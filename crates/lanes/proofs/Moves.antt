@@ -7,10 +7,11 @@ use Rattle.std.specs.Option.{IfSome, MatchOption}
 use Rattle.std.specs.Str.{bytes_eq}
 use Rattle.std.proofs.lemmas.Bool.{false≢true, false_from_ne_true}
 use Rattle.std.proofs.lemmas.Slice.Eq.{bytes_eq-Decides}
+use Rattle.settlement.specs.Claim.{nothing_yet}
 use Rattle.settlement.specs.declared.acc.Acc.{Acc}
 use Rattle.settlement.specs.declared.claim.Claim.{Claim}
-use Rattle.lanes.specs.Places.{Phase, Place, Decided, InWork, Ready, Waiting, is_decided, is_of, is_ready, is_waiting, phase_at}
-use Rattle.lanes.specs.Calls.{IsInWork, IsPicked, phase_after, place_behind, ready_at, with_decision, with_phase}
+use Rattle.lanes.specs.Places.{Phase, Place, Decided, InWork, Ready, Waiting, is_decided, is_of, is_ready, is_waiting, phase_at, member_at}
+use Rattle.lanes.specs.Calls.{IsInWork, IsNew, IsPicked, phase_after, place_behind, ready_at, with_decision, with_phase}
 use Rattle.lanes.specs.Members.{AreDistinct, IsAbsent}
 use Rattle.lanes.specs.Chains.{AreAs, AreKept, AreLinked, AreQueued, DecidesSlot, FirstIsReady, IsEnd, IsFollowedBy, IsIdle, IsNext, NextIsAnother, SlotAt, TakesFirst, lanes_of, nexts_of, place_of, places_of}
 use Rattle.lanes.specs.declared.chains.Chains.{Chains}
@@ -223,6 +224,13 @@ pub record Follows (members : List (List ℕ)) (old new : Chains) (lane : ℕ) (
   pub ready : (last : ℕ) (before : Slot) → IsEnd old lane last before
       → new.ready.items ≡ cond (is_ready (phase_after before.phase claim)) (old.ready.items ++ length old.slots.items ∷ []) old.ready.items
 
+-- the place that is a member's
+place-that-is : (places : List Place) (position : ℕ) (member : List ℕ) → member_at places position ≡ Some member
+    → (place : Place) × (slice_get places position ≡ Some place) × (place.member ≡ member)
+place-that-is [] position member its = absurd (none-some member its)
+place-that-is (p ∷ ps) zero member its = (p, refl, same_Some p.member member its)
+place-that-is (p ∷ ps) (suc position) member its = place-that-is ps position member its
+
 -- a position within a list has something
 pub there-within : {X : Type 0} (xs : List X) (k : ℕ) → k < length xs → (x : X) × (slice_get xs k ≡ Some x)
 there-within [] k within = absurd (omega (arith, within))
@@ -289,20 +297,20 @@ follow-linked members old new lane claim f =
     (nexts_of new.slots.items) (slice_set old.ends.items lane (length (lanes_of slots))) new.ends.items lanes nexts ends
     (linked-follow (length members) (lanes_of slots) (nexts_of slots) old.ends.items lane last f.kept.linked (nexts_size ∙ sym lanes_size) end.0)
 
-pub follow-kept : (members : List (List ℕ)) (old new : Chains) (lane : ℕ) (claim : Claim) (opening : Acc) → Follows members old new lane claim → AreKept members new
-follow-kept members old new lane claim opening f =
+pub follow-kept : (members : List (List ℕ)) (old new : Chains) (lane : ℕ) (claim : Claim) → Follows members old new lane claim → AreKept members new
+follow-kept members old new lane claim f =
     let slots = old.slots.items in
     let places = places_of members slots in
     let (last, before, end, same) = end-of members old new lane claim f in
     let slot : Slot = record { lane = lane; next = None; phase = phase_after before.phase claim } in
-    let added = follow-places members old new lane claim opening f in
-    let place = follow-place members old new lane claim opening f last before end same in
+    let added = follow-places members old new lane claim nothing_yet f in
+    let place = follow-place members old new lane claim nothing_yet f last before end same in
     let queue = queue-add places old.ready.items (place_of members slot) (length slots) (sym (length-map slots (place_of members))) f.kept.queued in
     record {
       distinct = f.kept.distinct;
       linked = follow-linked members old new lane claim f;
       queued = rw (added, f.ready last before end, ← place) queue;
-      in_turn = rw added (in_turn-add places claim opening f.kept.in_turn);
+      in_turn = rw added (in_turn-add places claim nothing_yet f.kept.in_turn);
     }
 
 -- the first claim of a new lane
@@ -459,6 +467,27 @@ begins members old new claim opening h absent distinct slots ends ready = record
   ends = ends ∙ ap (λ n. old.ends.items ++ n ∷ []) old.slots.ok.0;
   ready = ready ∙ ap (λ n. old.ready.items ++ n ∷ []) old.slots.ok.0;
 }
+
+-- a member is new among the places exactly where it has no lane
+pub new-where-absent : (members : List (List ℕ)) (chains : Chains) (member : List ℕ) → AreKept members chains → IsAbsent members member
+    → IsNew (places_of members chains.slots.items) member
+new-where-absent members chains member h absent position its =
+    let slots = chains.slots.items in
+    let (place, there, same) = place-that-is (places_of members slots) position member its in
+    let (slot, at, is) = slot-of members slots position place there in
+    let known = h.linked.known position slot.lane (lane-at slots position slot at) in
+    absent slot.lane (slice_get-get_or members slot.lane [] known ∙ ap Some (ap (λ (x : Place). x.member) is ∙ same))
+
+pub absent-where-new : (members : List (List ℕ)) (chains : Chains) (member : List ℕ) → AreKept members chains
+    → IsNew (places_of members chains.slots.items) member → IsAbsent members member
+absent-where-new members chains member h new lane its =
+    let slots = chains.slots.items in
+    let known = slice_get_within members lane member its in
+    let size = h.linked.counted in
+    let (last, end) = there-within chains.ends.items lane (omega (arith, known, size)) in
+    let (slot, at, same) = slot-in slots last lane (h.linked.ended lane last end).there in
+    let name : get_or members slot.lane [] ≡ member = ap (λ k. get_or members k []) same ∙ get_or_from_slice_get members lane member [] its in
+    new last (ap (option_map (λ (p : Place). p.member)) (place-at members slots last slot at) ∙ ap Some name)
 
 -- what a call that is no error tells
 pub ok-holds : {T E : Type 0} (r : Result T E) (P : Type 0) → is_err r ≡ false → OnOk r P → P

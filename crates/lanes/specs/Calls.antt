@@ -1,9 +1,11 @@
 -- What the calls make of the places.
-use Rattle.std.specs.Prelude.{◌≡◌, ℕ, zero, suc, Bool, false, cond, if◌then◌else◌, List, [], ◌∷◌, Some, slice_get}
+use Rattle.std.specs.Prelude.{◌≡◌, ℕ, zero, suc, Bool, false, cond, if◌then◌else◌, List, [], ◌∷◌, ◌++◌, Some, slice_get}
 use Rattle.std.specs.Option.{option_map_or}
 use Rattle.settlement.specs.declared.acc.Acc.{Acc}
 use Rattle.settlement.specs.declared.claim.Claim.{Claim}
-use Rattle.lanes.specs.Places.{Phase, Waiting, Ready, InWork, Decided, Place, is_of, is_ready, is_decided, all_decided, left_of, phase_at}
+use Rattle.lanes.specs.Places.{Phase, Waiting, Ready, InWork, Decided, Place, is_of, is_ready, is_decided, all_decided, left_of, phase_at, member_at}
+use Rattle.lanes.specs.declared.followed.Followed.{Followed}
+use Rattle.lanes.specs.declared.followed.Followed.TheVariants.{Added, First}
 use Rattle.lanes.specs.declared.picked.Picked.{Picked}
 
 -- the phase of a claim behind these places: ready where each earlier claim of its member is decided, at what the last of them left
@@ -14,6 +16,16 @@ phase_behind places claim opening =
 -- the place of a claim behind these places, where its member began with these accumulators
 abbrev pub place_behind : List Place → Claim → Acc → Place
 place_behind places claim opening = record { member = claim.member; phase = phase_behind places claim opening }
+
+-- no claim among these is the member's
+abbrev pub IsNew : List Place → List ℕ → Type 0
+IsNew places member = (position : ℕ) → ¬ (member_at places position ≡ Some member)
+
+-- what becomes of a claim that is to follow its member's last one: it is behind the others, whatever the member began with; or
+-- it comes back, since the member has none, and nothing changes
+abbrev pub HasFollowed : List Place → Claim → List Place → Followed → Type 0
+HasFollowed old claim new Added = (opening : Acc) → new ≡ old ++ place_behind old claim opening ∷ []
+HasFollowed old claim new (First back) = (new ≡ old) × (back ≡ claim) × IsNew old claim.member
 
 -- the phase of a claim whose member's last one is at this phase
 abbrev pub phase_after : Phase → Claim → Phase

@@ -1,9 +1,10 @@
 //! Lanes: the places of all claims, and which of them may be taken.
 ghost use Rattle.std.specs.Prelude.{◌≡◌, ◌++◌, ◌∷◌, [], length, IfOk, IfErr, IfSome, IfNone};
 ghost use Rattle.lanes.specs.Places.{InTurn, InWork};
-ghost use Rattle.lanes.specs.Calls.{place_behind, with_phase, with_decision, IsPicked, IsInWork, NothingReady, is_decided_at};
+ghost use Rattle.lanes.specs.Calls.{IsNew, HasFollowed, place_behind, with_phase, with_decision, IsPicked, IsInWork, NothingReady, is_decided_at};
 
 use crate::chains::Chains;
+use crate::followed::Followed;
 use crate::members::Members;
 use crate::picked::Picked;
 use settlement::{Acc, Claim};
@@ -48,9 +49,30 @@ impl Lanes {
         self.chains.slots.len()
     }
 
-    /// Adds a claim behind all others; its member began with these accumulators. The claim comes back where there is
-    /// no memory.
-    pub fn add(&mut self, claim: Claim, opening: Acc) -> Result<(), AllocFailed<Claim>>
+    /// Adds a claim behind all others, where its member has one among them; the accumulators that the member began with don't
+    /// matter then. The claim comes back where the member has none, and where there is no memory.
+    pub fn follow(&mut self, claim: Claim) -> Result<Followed, AllocFailed<Claim>>
+        ensures goes { IfOk result (HasFollowed self.old claim self.new) }
+        ensures back { IfErr result (λ failed. failed.value ≡ claim) }
+        ensures refused { IfErr result (λ _. self.new ≡ self.old) }
+        ensures in_turn { InTurn self.new }
+    {
+        match self.members.find(claim.member.as_str()) {
+            Some(lane) => {
+                if self.chains.reserve().is_err() {
+                    return Err(AllocFailed { value: claim });
+                }
+                self.chains.follow(lane, claim);
+                Ok(Followed::Added)
+            }
+            None => Ok(Followed::First(claim)),
+        }
+    }
+
+    /// Adds a member's first claim behind all others; the member began with these accumulators. The claim comes back where
+    /// there is no memory.
+    pub fn begin(&mut self, claim: Claim, opening: Acc) -> Result<(), AllocFailed<Claim>>
+        requires { IsNew self.old claim.member }
         ensures added { IfOk result (λ _. self.new ≡ self.old ++ place_behind self.old claim opening ∷ []) }
         ensures back { IfErr result (λ failed. failed.value ≡ claim) }
         ensures refused { IfErr result (λ _. self.new ≡ self.old) }
@@ -59,19 +81,11 @@ impl Lanes {
         if self.chains.reserve().is_err() {
             return Err(AllocFailed { value: claim });
         }
-        match self.members.find(claim.member.as_str()) {
-            Some(lane) => {
-                self.chains.follow(lane, claim);
-                Ok(())
-            }
-            None => {
-                if self.members.add(claim.member.as_str()).is_err() {
-                    return Err(AllocFailed { value: claim });
-                }
-                self.chains.begin(claim, opening);
-                Ok(())
-            }
+        if self.members.add(claim.member.as_str()).is_err() {
+            return Err(AllocFailed { value: claim });
         }
+        self.chains.begin(claim, opening);
+        Ok(())
     }
 
     /// Takes a claim that is ready, if there is one.

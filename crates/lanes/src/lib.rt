@@ -8,6 +8,7 @@
 
 mod board;
 mod chains;
+mod followed;
 mod members;
 mod phase;
 mod picked;
@@ -16,4 +17,5 @@ mod slot;
 mod tests;
 
 pub use board::Lanes;
+pub use followed::Followed;
 pub use picked::Picked;

@@ -2,12 +2,12 @@
 ghost use Rattle.std.specs.Prelude.{ℕ, IfSome};
 ghost use Rattle.lanes.specs.Calls.{IsInWork};
 
-use crate::{Lanes, Picked};
+use crate::{Followed, Lanes, Picked};
 use dtable::Sequence;
 use feel_tests::{Day, TEXT_LIMIT_BYTES, Text};
 use fixpoint::Fixed;
 use settlement::{Acc, Claim, Money};
-use std::alloc::{AllocError, Global};
+use std::alloc::{AllocError, AllocFailed, Global};
 use std::process::Abort;
 use std::test::Fail;
 
@@ -40,7 +40,15 @@ fn claim(rt: &impl Abort, alloc: Global, id: &str, member: &str) -> Result<Claim
     })
 }
 
-// Adds a claim of a member who began with so much met. A claim that is refused comes back, and is not among the others.
+// Adds a claim behind its member's last one, or as the first of a member who began with 1.00 met.
+fn place(rt: &impl Abort, lanes: &mut Lanes, claim: Claim) -> Result<(), AllocFailed<Claim>> {
+    match lanes.follow(claim)? {
+        Followed::Added => Ok(()),
+        Followed::First(claim) => lanes.begin(claim, acc(rt, 100)),
+    }
+}
+
+// Adds a claim of a member who began with 1.00 met. A claim that is refused comes back, and is not among the others.
 fn add(
     rt: &impl Abort,
     alloc: Global,
@@ -50,8 +58,7 @@ fn add(
 ) -> Result<(), AllocError> {
     let claim = claim(rt, alloc, id, member)?;
     let before = lanes.len();
-    let opening = acc(rt, 100);
-    match lanes.add(claim, opening) {
+    match place(rt, lanes, claim) {
         Ok(()) => {
             assert!(rt; before < lanes.len());
             Ok(())
