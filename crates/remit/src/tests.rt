@@ -3,7 +3,7 @@ use crate::report::write_journal;
 use crate::{WriteCause, WriteFault, write_report};
 use claim_gate::{Batch, GateState};
 use claim_terms::Terms;
-use dtable::{Plan, Sequence, read_plan};
+use dtable::{Sequence, read_plan};
 use feel_tests::{TEXT_LIMIT_BYTES, Text};
 use fixpoint::{Fixed, Out};
 use journal::{Decision, Event};
@@ -11,7 +11,6 @@ use settlement::{Money, Outcome, Reason, Role, Verdict};
 use std::alloc::{AllocError, Global};
 use std::io;
 use std::io::{ErrorKind, Write};
-use std::process::Abort;
 use std::test::Fail;
 
 /// A plan with one field. The journals are given, so that its roles decide nothing here.
@@ -41,6 +40,8 @@ d1,M2,2024-01-09,30.00,B
 d2,M2,2024-01-10,9.999,B
 d3,M2,2024-01-11,10.00,X
 ";
+
+const BOTH: &[&[u8]] = &[FIRST, SECOND];
 
 const REPORT: &[u8] =
     b"provider,record,claim,member,status,reason,allowed,ded,copay,coins,share,paid,remarks\r
@@ -143,13 +144,12 @@ const GREAT_REPORT: &[u8] =
 total,4,,,,,299999999999.97,299999999999.97,299999999999.97,299999999999.97,299999999999.97,299999999999.97,\r
 ";
 
-fn plan(rt: &impl Abort, alloc: Global) -> Plan {
-    read_plan(alloc, PLAN).expect(rt, "a plan")
-}
-
-fn cents(rt: &impl Abort, cents: i64) -> Money {
-    let amount = Fixed::from_units(cents.saturating_mul(100)).expect(rt, "a number");
-    Money::new(amount).expect(rt, "money")
+// So many cents, or no money where there can't be so many.
+fn money(cents: i64) -> Money {
+    match Fixed::from_units(cents.saturating_mul(100)) {
+        Some(amount) => Money::new(amount).unwrap_or(Money::zero()),
+        None => Money::zero(),
+    }
 }
 
 fn texts(alloc: Global, remarks: &[&str]) -> Result<Sequence<Text>, AllocError> {
@@ -164,7 +164,6 @@ fn texts(alloc: Global, remarks: &[&str]) -> Result<Sequence<Text>, AllocError> 
 
 // The decision of a position: its verdict, its amounts in cents, and its remarks.
 fn decide(
-    rt: &impl Abort,
     alloc: Global,
     position: usize,
     verdict: Verdict,
@@ -174,12 +173,12 @@ fn decide(
     let [allowed, ded, copay, coins, share, paid] = amounts;
     let outcome = Outcome {
         verdict,
-        allowed: cents(rt, allowed),
-        ded: cents(rt, ded),
-        copay: cents(rt, copay),
-        coins: cents(rt, coins),
-        share: cents(rt, share),
-        paid: cents(rt, paid),
+        allowed: money(allowed),
+        ded: money(ded),
+        copay: money(copay),
+        coins: money(coins),
+        share: money(share),
+        paid: money(paid),
         remarks: texts(alloc, remarks)?,
     };
     match Decision::new(alloc, outcome) {
@@ -189,11 +188,9 @@ fn decide(
 }
 
 fn push_accepts(journal: &mut Vec<Event>, accepts: &[(usize, usize)]) -> Result<(), AllocError> {
-    for (provider, place) in accepts {
-        journal.push(Event::Accept {
-            provider: *provider,
-            place: *place,
-        })?;
+    for accept in accepts {
+        let (provider, place) = *accept;
+        journal.push(Event::Accept { provider, place })?;
     }
     Ok(())
 }
@@ -205,174 +202,181 @@ fn push_takes(journal: &mut Vec<Event>, count: usize) -> Result<(), AllocError> 
     Ok(())
 }
 
-// The first claims of one file, so many of them, which are all that are accepted.
-fn one_file(alloc: Global, count: usize) -> Result<Vec<Event>, AllocError> {
+fn push_decisions(
+    alloc: Global,
+    journal: &mut Vec<Event>,
+    decisions: &[(usize, Verdict, [i64; 6], &[&str])],
+) -> Result<(), AllocError> {
+    for decision in decisions {
+        let (position, verdict, amounts, remarks) = *decision;
+        journal.push(decide(alloc, position, verdict, amounts, remarks)?)?;
+    }
+    Ok(())
+}
+
+// A journal of these accepts, after which so many files have ended, and of a take and a decision of each.
+fn journal_of(
+    alloc: Global,
+    accepts: &[(usize, usize)],
+    ended: usize,
+    decisions: &[(usize, Verdict, [i64; 6], &[&str])],
+) -> Result<Vec<Event>, AllocError> {
     let mut journal = Vec::new(alloc);
-    for place in 0..count {
-        journal.push(Event::Accept { provider: 1, place })?;
+    push_accepts(&mut journal, accepts)?;
+    for file in 0..ended {
+        let provider = file.saturating_add(1);
+        journal.push(Event::End { provider })?;
     }
     journal.push(Event::Close)?;
-    push_takes(&mut journal, count)?;
+    push_takes(&mut journal, accepts.len())?;
+    push_decisions(alloc, &mut journal, decisions)?;
     Ok(journal)
 }
 
-// The journal of both files: the second provider's claims are accepted between those of the first.
-fn both_files(rt: &impl Abort, alloc: Global) -> Result<Vec<Event>, AllocError> {
-    let mut journal = Vec::new(alloc);
-    push_accepts(
-        &mut journal,
-        &[(1, 0), (2, 0), (1, 1), (1, 2), (2, 1), (1, 3)],
-    )?;
-    journal.push(Event::End { provider: 1 })?;
-    journal.push(Event::End { provider: 2 })?;
-    journal.push(Event::Close)?;
-    push_takes(&mut journal, 6)?;
-    let pended = Verdict::Pended(Reason::NoRule { table: 1 });
-    journal.push(decide(rt, alloc, 4, Verdict::Denied, [0; 6], &[])?)?;
-    journal.push(decide(
-        rt,
-        alloc,
+// Writes the report of a journal over these files and this cutoff; nothing where the terms want memory.
+fn write_over<W: Write>(
+    alloc: Global,
+    files: &[&[u8]],
+    cutoff: Option<u64>,
+    journal: &[Event],
+    out: &mut Out<W>,
+) -> Option<Result<(), WriteFault>> {
+    let plan = read_plan(alloc, PLAN).ok()?;
+    let terms = Terms::new(alloc, &plan, files, None, cutoff).ok()?;
+    Some(write_journal(alloc, &terms, journal, out))
+}
+
+// The journal has this report.
+fn reports(
+    alloc: Global,
+    files: &[&[u8]],
+    cutoff: Option<u64>,
+    journal: &[Event],
+    report: &[u8],
+) -> bool {
+    let mut out = Out::new(Vec::new(alloc));
+    let answer = write_over(alloc, files, cutoff, journal, &mut out);
+    answer == Some(Ok(())) && !out.failed() && out.into_inner().as_slice() == report
+}
+
+/// The accepts of both files: the second provider's claims are accepted between those of the first.
+const ACCEPTS: &[(usize, usize)] = &[(1, 0), (2, 0), (1, 1), (1, 2), (2, 1), (1, 3)];
+
+const DECISIONS: &[(usize, Verdict, [i64; 6], &[&str])] = &[
+    (4, Verdict::Denied, [0; 6], &[]),
+    (
         0,
         Verdict::Paid,
         [10_000, 5_000, 1_000, 800, 6_000, 4_000],
         &["OVER"],
-    )?)?;
-    journal.push(decide(
-        rt,
-        alloc,
-        1,
-        Verdict::Paid,
-        [3_000, 3_000, 0, 0, 3_000, 0],
-        &[],
-    )?)?;
-    journal.push(decide(
-        rt,
-        alloc,
-        2,
-        Verdict::Paid,
-        [4_000, 0, 1_000, 600, 0, 4_000],
-        &["MET"],
-    )?)?;
-    journal.push(decide(rt, alloc, 3, pended, [0; 6], &[])?)?;
-    journal.push(decide(
-        rt,
-        alloc,
+    ),
+    (1, Verdict::Paid, [3_000, 3_000, 0, 0, 3_000, 0], &[]),
+    (2, Verdict::Paid, [4_000, 0, 1_000, 600, 0, 4_000], &["MET"]),
+    (3, Verdict::Pended(Reason::NoRule { table: 1 }), [0; 6], &[]),
+    (
         5,
         Verdict::Paid,
         [10_000, 0, 1_000, 1_800, 0, 10_000],
         &["MET"],
-    )?)?;
-    Ok(journal)
-}
+    ),
+];
 
 #[test]
 fn the_report_of_two_files(rt: HostRuntime) -> Result<(), Fail> {
     let alloc = rt.alloc();
-    let plan = plan(&rt, alloc);
-    let files = [FIRST, SECOND];
-    let terms = Terms::new(alloc, &plan, &files, None, None).expect(&rt, "terms");
-    let journal = both_files(&rt, alloc)?;
-    let mut out = Out::new(Vec::new(alloc));
-    assert!(rt; write_journal(alloc, &terms, journal.as_slice(), &mut out).is_ok());
-    assert!(rt; !out.failed());
-    assert!(rt; out.into_inner().as_slice() == REPORT);
+    let journal = journal_of(alloc, ACCEPTS, 2, DECISIONS)?;
+    assert!(rt; reports(alloc, BOTH, None, journal.as_slice(), REPORT));
     Ok(())
 }
 
 #[test]
-fn the_report_of_no_claims(rt: HostRuntime) -> Result<(), Fail> {
-    let alloc = rt.alloc();
-    let plan = plan(&rt, alloc);
-    let files = [HEADER];
-    let terms = Terms::new(alloc, &plan, &files, None, None).expect(&rt, "terms");
+fn the_report_of_no_claims(rt: HostRuntime) {
     let journal = [Event::End { provider: 1 }, Event::Close];
-    let mut out = Out::new(Vec::new(alloc));
-    assert!(rt; write_journal(alloc, &terms, &journal, &mut out).is_ok());
-    assert!(rt; out.into_inner().as_slice() == NO_CLAIMS);
-    Ok(())
+    assert!(rt; reports(rt.alloc(), &[HEADER], None, &journal, NO_CLAIMS));
 }
+
+const WITH_REMARKS: &[(usize, Verdict, [i64; 6], &[&str])] = &[(
+    0,
+    Verdict::Denied,
+    [0; 6],
+    &["X,Y", "Z"],
+)];
 
 #[test]
 fn quotes_and_a_late_claim(rt: HostRuntime) -> Result<(), Fail> {
     let alloc = rt.alloc();
-    let plan = plan(&rt, alloc);
-    let files = [QUOTED];
-    let terms = Terms::new(alloc, &plan, &files, None, Some(1)).expect(&rt, "terms");
-    let mut journal = one_file(alloc, 1)?;
-    journal.push(decide(&rt, alloc, 0, Verdict::Denied, [0; 6], &["X,Y", "Z"])?)?;
-    let mut out = Out::new(Vec::new(alloc));
-    assert!(rt; write_journal(alloc, &terms, journal.as_slice(), &mut out).is_ok());
-    assert!(rt; out.into_inner().as_slice() == QUOTED_REPORT);
+    let journal = journal_of(alloc, &[(1, 0)], 0, WITH_REMARKS)?;
+    assert!(rt; reports(alloc, &[QUOTED], Some(1), journal.as_slice(), QUOTED_REPORT));
     Ok(())
 }
+
+/// The accepts of a file of five claims.
+const FIVE_ACCEPTS: &[(usize, usize)] = &[(1, 0), (1, 1), (1, 2), (1, 3), (1, 4)];
+
+/// A claim pended for each reason.
+const PENDED: &[(usize, Verdict, [i64; 6], &[&str])] = &[
+    (
+        0,
+        Verdict::Pended(Reason::Outside {
+            table: 2,
+            column: 1,
+        }),
+        [0; 6],
+        &[],
+    ),
+    (1, Verdict::Pended(Reason::NoRule { table: 3 }), [0; 6], &[]),
+    (2, Verdict::Pended(Reason::Clash { table: 12 }), [0; 6], &[]),
+    (3, Verdict::Pended(Reason::Range { table: 0 }), [0; 6], &[]),
+    (4, Verdict::Pended(Reason::Term(Role::OopMax)), [0; 6], &[]),
+];
 
 #[test]
 fn each_reason_has_its_text(rt: HostRuntime) -> Result<(), Fail> {
     let alloc = rt.alloc();
-    let plan = plan(&rt, alloc);
-    let files = [FIVE];
-    let terms = Terms::new(alloc, &plan, &files, None, Some(5)).expect(&rt, "terms");
-    let mut journal = one_file(alloc, 5)?;
-    let reasons = [
-        Reason::Outside {
-            table: 2,
-            column: 1,
-        },
-        Reason::NoRule { table: 3 },
-        Reason::Clash { table: 12 },
-        Reason::Range { table: 0 },
-        Reason::Term(Role::OopMax),
-    ];
-    let mut position: usize = 0;
-    for reason in reasons {
-        journal.push(decide(&rt, alloc, position, Verdict::Pended(reason), [0; 6], &[])?)?;
-        position = position.saturating_add(1);
-    }
-    let mut out = Out::new(Vec::new(alloc));
-    assert!(rt; write_journal(alloc, &terms, journal.as_slice(), &mut out).is_ok());
-    assert!(rt; out.into_inner().as_slice() == REASONS_REPORT);
+    let journal = journal_of(alloc, FIVE_ACCEPTS, 0, PENDED)?;
+    assert!(rt; reports(alloc, &[FIVE], Some(5), journal.as_slice(), REASONS_REPORT));
     Ok(())
 }
+
+/// Three claims paid with the greatest amounts, and one denied.
+const GREAT: &[(usize, Verdict, [i64; 6], &[&str])] = &[
+    (0, Verdict::Paid, [9_999_999_999_999; 6], &[]),
+    (1, Verdict::Paid, [9_999_999_999_999; 6], &[]),
+    (2, Verdict::Paid, [9_999_999_999_999; 6], &[]),
+    (3, Verdict::Denied, [0; 6], &[]),
+];
 
 #[test]
 fn totals_leave_the_range_of_numbers(rt: HostRuntime) -> Result<(), Fail> {
     let alloc = rt.alloc();
-    let plan = plan(&rt, alloc);
-    let files = [FIVE];
-    let terms = Terms::new(alloc, &plan, &files, None, Some(4)).expect(&rt, "terms");
-    let mut journal = one_file(alloc, 4)?;
-    for position in 0..3_usize {
-        journal.push(decide(
-            &rt,
-            alloc,
-            position,
-            Verdict::Paid,
-            [9_999_999_999_999; 6],
-            &[],
-        )?)?;
-    }
-    journal.push(decide(&rt, alloc, 3, Verdict::Denied, [0; 6], &[])?)?;
-    let mut out = Out::new(Vec::new(alloc));
-    assert!(rt; write_journal(alloc, &terms, journal.as_slice(), &mut out).is_ok());
-    assert!(rt; out.into_inner().as_slice() == GREAT_REPORT);
+    let journal = journal_of(alloc, &FIVE_ACCEPTS[..4], 0, GREAT)?;
+    assert!(rt; reports(alloc, &[FIVE], Some(4), journal.as_slice(), GREAT_REPORT));
     Ok(())
 }
 
-#[test]
-fn the_report_of_a_run_that_admits_nothing(rt: HostRuntime) -> Result<(), Fail> {
-    let alloc = rt.alloc();
-    let plan = plan(&rt, alloc);
-    let files = [FIRST, SECOND];
-    let terms = Terms::new(alloc, &plan, &files, None, Some(0)).expect(&rt, "terms");
-    let gate = GateState::new(alloc, &terms)?;
-    let Ok(batch) = Batch::from_state(gate, &terms) else {
-        return Err("the journal is not finished".into());
-    };
+// Writes the report of a run that admits no claim of these files; nothing where that wants memory.
+fn write_late<W: Write>(
+    alloc: Global,
+    files: &[&[u8]],
+    out: &mut Out<W>,
+) -> Option<Result<(), WriteFault>> {
+    let plan = read_plan(alloc, PLAN).ok()?;
+    let terms = Terms::new(alloc, &plan, files, None, Some(0)).ok()?;
+    let gate = GateState::new(alloc, &terms).ok()?;
+    let batch = Batch::from_state(gate, &terms).ok()?;
+    Some(write_report(alloc, &terms, &batch, out))
+}
+
+// A run that admits no claim of these files has this report.
+fn reports_late(alloc: Global, files: &[&[u8]], report: &[u8]) -> bool {
     let mut out = Out::new(Vec::new(alloc));
-    assert!(rt; write_report(alloc, &terms, &batch, &mut out).is_ok());
-    assert!(rt; !out.failed());
-    assert!(rt; out.into_inner().as_slice() == LATE_REPORT);
-    Ok(())
+    let answer = write_late(alloc, files, &mut out);
+    answer == Some(Ok(())) && !out.failed() && out.into_inner().as_slice() == report
+}
+
+#[test]
+fn the_report_of_a_run_that_admits_nothing(rt: HostRuntime) {
+    assert!(rt; reports_late(rt.alloc(), BOTH, LATE_REPORT));
 }
 
 // A file with one record whose member is a text of 257 bytes.
@@ -389,17 +393,9 @@ fn too_long(alloc: Global) -> Result<Vec<u8>, AllocError> {
 #[test]
 fn each_fault_of_a_record_has_its_text(rt: HostRuntime) -> Result<(), Fail> {
     let alloc = rt.alloc();
-    let plan = plan(&rt, alloc);
     let long = too_long(alloc)?;
     let files = [FAULTS, NO_TEXT, long.as_slice()];
-    let terms = Terms::new(alloc, &plan, &files, None, Some(0)).expect(&rt, "terms");
-    let gate = GateState::new(alloc, &terms)?;
-    let Ok(batch) = Batch::from_state(gate, &terms) else {
-        return Err("the journal is not finished".into());
-    };
-    let mut out = Out::new(Vec::new(alloc));
-    assert!(rt; write_report(alloc, &terms, &batch, &mut out).is_ok());
-    assert!(rt; out.into_inner().as_slice() == FAULTS_REPORT);
+    assert!(rt; reports_late(alloc, &files, FAULTS_REPORT));
     Ok(())
 }
 
@@ -425,23 +421,22 @@ impl Write for Bounded {
     }
 }
 
+// The answer tells that so many bytes were written.
+fn is_cut_at(answer: Option<Result<(), WriteFault>>, written: usize) -> bool {
+    let cause = WriteCause::Device;
+    answer == Some(Err(WriteFault { written, cause }))
+}
+
 #[test]
 fn a_full_writer_has_the_first_bytes(rt: HostRuntime) -> Result<(), Fail> {
     let alloc = rt.alloc();
-    let plan = plan(&rt, alloc);
-    let files = [FIRST, SECOND];
-    let terms = Terms::new(alloc, &plan, &files, None, None).expect(&rt, "terms");
-    let journal = both_files(&rt, alloc)?;
+    let journal = journal_of(alloc, ACCEPTS, 2, DECISIONS)?;
     let mut out = Out::new(Bounded {
         taken: Vec::new(alloc),
         limit: 37,
     });
-    let fault = WriteFault {
-        written: 37,
-        cause: WriteCause::Device,
-    };
-    assert!(rt; write_journal(alloc, &terms, journal.as_slice(), &mut out) == Err(fault));
-    assert!(rt; out.failed());
+    let answer = write_over(alloc, BOTH, None, journal.as_slice(), &mut out);
+    assert!(rt; is_cut_at(answer, 37) && out.failed());
     assert!(rt; out.into_inner().taken.as_slice() == FIRST_BYTES);
     Ok(())
 }
@@ -461,20 +456,11 @@ impl Write for Closed {
 }
 
 #[test]
-fn a_writer_that_takes_nothing(rt: HostRuntime) -> Result<(), Fail> {
-    let alloc = rt.alloc();
-    let plan = plan(&rt, alloc);
-    let files = [HEADER];
-    let terms = Terms::new(alloc, &plan, &files, None, None).expect(&rt, "terms");
+fn a_writer_that_takes_nothing(rt: HostRuntime) {
     let journal = [Event::End { provider: 1 }, Event::Close];
     let mut out = Out::new(Closed);
-    let fault = WriteFault {
-        written: 0,
-        cause: WriteCause::Device,
-    };
-    assert!(rt; write_journal(alloc, &terms, &journal, &mut out) == Err(fault));
-    assert!(rt; out.failed());
-    Ok(())
+    let answer = write_over(rt.alloc(), &[HEADER], None, &journal, &mut out);
+    assert!(rt; is_cut_at(answer, 0) && out.failed());
 }
 
 // The lines, each so many times.
@@ -503,21 +489,14 @@ fn one_field_records(alloc: Global, count: usize) -> Result<String, AllocError> 
 #[test]
 fn bytes_are_counted_over_pieces(rt: HostRuntime) -> Result<(), Fail> {
     let alloc = rt.alloc();
-    let plan = plan(&rt, alloc);
     let file = repeated(alloc, HEADER, b"x\n", 3_000)?;
-    let files = [file.as_slice()];
-    let terms = Terms::new(alloc, &plan, &files, None, Some(0)).expect(&rt, "terms");
-    let journal = [Event::Close];
     let mut out = Out::new(Bounded {
         taken: Vec::new(alloc),
         limit: 66_000,
     });
-    let fault = WriteFault {
-        written: 66_000,
-        cause: WriteCause::Device,
-    };
-    assert!(rt; write_journal(alloc, &terms, &journal, &mut out) == Err(fault));
-    assert!(rt; out.failed());
+    let files = [file.as_slice()];
+    let answer = write_over(alloc, &files, Some(0), &[Event::Close], &mut out);
+    assert!(rt; is_cut_at(answer, 66_000) && out.failed());
     let taken = out.into_inner().taken;
     let wanted = one_field_records(alloc, 3_000)?;
     assert!(rt; taken.len() == 66_000);
@@ -532,51 +511,30 @@ fn causes_have_numbers(rt: HostRuntime) {
 }
 
 // The writer has got the whole report, or its first bytes, as many as the fault tells: a `Vec` that can't grow is a writer
-// that fails.
-fn whole_or_front(answer: Result<(), WriteFault>, taken: &[u8], report: &[u8]) -> bool {
+// that fails. Where the terms want memory nothing is written.
+fn whole_or_front(answer: Option<Result<(), WriteFault>>, taken: &[u8], report: &[u8]) -> bool {
     match answer {
-        Ok(()) => taken == report,
-        Err(fault) => taken.len() == fault.written && report.starts_with(taken),
+        None => taken.is_empty(),
+        Some(Ok(())) => taken == report,
+        Some(Err(fault)) => taken.len() == fault.written && report.starts_with(taken),
     }
 }
 
 #[test]
-fn a_report_or_no_memory(rt: HostRuntime) -> Result<(), Fail> {
+fn a_report_or_no_memory(rt: HostRuntime) {
     let alloc = rt.alloc();
-    let Ok(plan) = read_plan(alloc, PLAN) else {
-        return Ok(());
-    };
-    let files = [FIRST, SECOND];
-    let Ok(terms) = Terms::new(alloc, &plan, &files, None, None) else {
-        return Ok(());
-    };
-    let Ok(journal) = both_files(&rt, alloc) else {
-        return Ok(());
+    let Ok(journal) = journal_of(alloc, ACCEPTS, 2, DECISIONS) else {
+        return;
     };
     let mut out = Out::new(Vec::new(alloc));
-    let result = write_journal(alloc, &terms, journal.as_slice(), &mut out);
-    assert!(rt; whole_or_front(result, out.into_inner().as_slice(), REPORT));
-    Ok(())
+    let answer = write_over(alloc, BOTH, None, journal.as_slice(), &mut out);
+    assert!(rt; whole_or_front(answer, out.into_inner().as_slice(), REPORT));
 }
 
 #[test]
-fn the_report_of_a_run_or_no_memory(rt: HostRuntime) -> Result<(), Fail> {
+fn the_report_of_a_run_or_no_memory(rt: HostRuntime) {
     let alloc = rt.alloc();
-    let Ok(plan) = read_plan(alloc, PLAN) else {
-        return Ok(());
-    };
-    let files = [FIRST, SECOND];
-    let Ok(terms) = Terms::new(alloc, &plan, &files, None, Some(0)) else {
-        return Ok(());
-    };
-    let Ok(gate) = GateState::new(alloc, &terms) else {
-        return Ok(());
-    };
-    let Ok(batch) = Batch::from_state(gate, &terms) else {
-        return Err("the journal is not finished".into());
-    };
     let mut out = Out::new(Vec::new(alloc));
-    let result = write_report(alloc, &terms, &batch, &mut out);
-    assert!(rt; whole_or_front(result, out.into_inner().as_slice(), LATE_REPORT));
-    Ok(())
+    let answer = write_late(alloc, BOTH, &mut out);
+    assert!(rt; whole_or_front(answer, out.into_inner().as_slice(), LATE_REPORT));
 }

@@ -1,9 +1,16 @@
 //! Worked values of the command, and what no clause says: that it succeeds where memory and the writer allow.
 use super::*;
-use crate::testing::{Narrow, WhenFull, says};
-use std::process::Abort;
+use crate::testing::{
+    Narrow, WhenFull, is_cut, is_printed, is_refused, is_whole, is_whole_or_none, says,
+};
+use std::alloc::AllocError;
+use std::test::Fail;
 
 mod regions;
+
+use regions::{
+    NO_RULES, TOLD_OF_TWO_TABLES, TOLD_OF_WIDE_AND_OVERLAPPING, TWO_TABLES, WIDE_AND_OVERLAPPING,
+};
 
 /// One number column, with a gap between two rules that a number has, and one above them.
 const TWO_GAPS: &str = "version = 1
@@ -43,17 +50,7 @@ outputs = [{name = \"y\", kind = \"number\"}]
 rules = [{when = ['\"A\"'], then = ['1']}, {when = ['\"B\"'], then = ['2']}]
 ";
 
-/// Four number columns of 16 regions each, since no number lies between 1 and 1.0001: 65,536 cells, of which the rule
-/// has 8 times 8 times 8 times 8.
-const AS_MANY_CELLS_AS_MAY_BE: &str = "version = 1
-fields = [{name = \"x\", kind = \"number\"}]
-[[tables]]
-inputs = [{name = \"x\"}, {name = \"x\"}, {name = \"x\"}, {name = \"x\"}]
-outputs = [{name = \"y\", kind = \"number\"}]
-rules = [{when = ['1,1.0001,3,4,5,6,7,8', '1,1.0001,3,4,5,6,7,8', '1,1.0001,3,4,5,6,7,8', '1,1.0001,3,4,5,6,7,8'], then = ['1']}]
-";
-
-/// The same with 17 regions each.
+/// Four number columns of 17 regions each: more cells than a check has.
 const WIDE: &str = "version = 1
 fields = [{name = \"x\", kind = \"number\"}]
 [[tables]]
@@ -62,115 +59,103 @@ outputs = [{name = \"y\", kind = \"number\"}]
 rules = [{when = ['1,2,3,4,5,6,7,8', '1,2,3,4,5,6,7,8', '1,2,3,4,5,6,7,8', '1,2,3,4,5,6,7,8'], then = ['1']}]
 ";
 
-/// Asserts the text that is printed for a plan.
-fn gives(rt: &impl Abort, alloc: Global, plan: &str, text: &str) {
-    let mut out = Out::new(Vec::new(alloc));
-    let result = do_check(alloc, plan.as_bytes(), &mut out);
-    assert!(rt; result.is_ok(), "{text}");
-    assert!(rt; !out.failed(), "{text}");
-    assert_eq!(rt; out.into_inner().as_slice(), text.as_bytes());
-}
-
-#[test]
-fn numbers_that_no_rule_or_two_rules_have(rt: HostRuntime) {
-    let alloc = rt.alloc();
-    gives(&rt, alloc, TWO_GAPS, TOLD_GAPS);
-    gives(
-        &rt,
-        alloc,
+/// A plan, and what is printed.
+const PRINTED: &[(&str, &str)] = &[
+    (TWO_GAPS, TOLD_GAPS),
+    (
         ONE_OVERLAP,
         "overlap table 1: rules 1 2\ngaps 0 overlaps 1\n",
-    );
-}
-
-#[test]
-fn texts_that_no_rule_has(rt: HostRuntime) {
-    let alloc = rt.alloc();
-    gives(
-        &rt,
-        alloc,
+    ),
+    (
         TWO_TEXTS,
         "gap table 1: not(\"A\",\"B\")\ngaps 1 overlaps 0\n",
-    );
-    gives(&rt, alloc, ALLOWED_TEXTS, "gaps 0 overlaps 0\n");
-}
+    ),
+    (ALLOWED_TEXTS, "gaps 0 overlaps 0\n"),
+    (WIDE, "wide table 1\ngaps 0 overlaps 0\n"),
+    (TWO_TABLES, TOLD_OF_TWO_TABLES),
+    (WIDE_AND_OVERLAPPING, TOLD_OF_WIDE_AND_OVERLAPPING),
+    (NO_RULES, "gap table 1: - ; -\ngaps 1 overlaps 0\n"),
+    ("version = 1\n", "gaps 0 overlaps 0\n"),
+];
 
-#[test]
-fn as_many_cells_as_a_check_may_have(rt: HostRuntime) {
-    let alloc = rt.alloc();
+/// Writers that take so many bytes a write.
+const WRITERS: &[(usize, WhenFull)] = &[
+    (1, WhenFull::Fails),
+    (3, WhenFull::Fails),
+    (64, WhenFull::Fails),
+    (1, WhenFull::TakesNothing),
+    (3, WhenFull::TakesNothing),
+    (64, WhenFull::TakesNothing),
+];
+
+// The command prints this text for a plan.
+fn gives(alloc: Global, plan: &str, text: &str) -> bool {
     let mut out = Out::new(Vec::new(alloc));
-    let result = do_check(alloc, AS_MANY_CELLS_AS_MAY_BE.as_bytes(), &mut out);
-    assert!(rt; result.is_ok());
-    let text = out.into_inner();
-    assert!(rt;
-        text.starts_with(b"gap table 1: <1 ; <1 ; <1 ; <1\ngap table 1: <1 ; <1 ; <1 ; 1\n")
-    );
-    assert!(rt; text.ends_with(b"gap table 1: >8 ; >8 ; >8 ; >8\ngaps 61440 overlaps 0\n"));
-    let lines = text.iter().filter(|byte| **byte == b'\n').count();
-    assert_eq!(rt; lines, 61_441);
+    let result = do_check(alloc, plan.as_bytes(), &mut out);
+    is_printed(result, out, text)
 }
 
 #[test]
-fn a_table_with_more_cells_is_wide(rt: HostRuntime) {
-    gives(&rt, rt.alloc(), WIDE, "wide table 1\ngaps 0 overlaps 0\n");
+fn gaps_overlaps_and_wide_tables(rt: HostRuntime) {
+    for row in PRINTED {
+        let (plan, text) = *row;
+        assert!(rt; gives(rt.alloc(), plan, text), "{text}");
+    }
 }
 
 #[test]
 fn a_text_that_is_no_plan_is_refused(rt: HostRuntime) {
     let alloc = rt.alloc();
     let mut out = Out::new(Vec::new(alloc));
-    match do_check(alloc, b"version = 2\n", &mut out) {
-        Ok(()) => panic!(&rt; "not refused"),
-        Err(stop) => says(&rt, &stop, "plan fault 3 table 0 rule 0 column 0\n", 1),
-    }
-    assert!(rt; !out.failed());
-    assert!(rt; out.into_inner().is_empty());
+    let result = do_check(alloc, b"version = 2\n", &mut out);
+    assert!(rt; is_refused(result, out, "plan fault 3 table 0 rule 0 column 0\n"));
 }
 
-/// A writer that takes five bytes and then fails; one that takes a byte a write gets all.
+// A writer that has room for so many bytes of the text gets these.
+fn fills(
+    alloc: Global,
+    limit: usize,
+    width: usize,
+    when_full: WhenFull,
+) -> Result<bool, AllocError> {
+    let mut out = Out::new(Narrow::new(alloc, limit, width, when_full)?);
+    let result = do_check(alloc, TWO_GAPS.as_bytes(), &mut out);
+    if limit < TOLD_GAPS.len() {
+        Ok(is_cut(result, out, TOLD_GAPS, limit))
+    } else {
+        Ok(is_whole(result, out, TOLD_GAPS))
+    }
+}
+
 #[test]
-fn a_full_writer_has_the_first_bytes(rt: HostRuntime) {
-    let plan = TWO_GAPS.as_bytes();
-    for when_full in [WhenFull::Fails, WhenFull::TakesNothing] {
-        for width in [1, 3, 64] {
-            for limit in 0..49 {
-                let mut out = Out::new(Narrow::new(limit, width, when_full));
-                match do_check(rt.alloc(), plan, &mut out) {
-                    Err(Stop::Write { written }) => assert_eq!(rt; written, limit),
-                    _ => panic!(rt; "no write fault at {limit}"),
-                }
-                assert!(rt; out.failed(), "{limit}");
-                let writer = out.into_inner();
-                assert_eq!(rt; writer.taken(), &TOLD_GAPS.as_bytes()[..limit]);
-            }
-            let mut out = Out::new(Narrow::new(49, width, when_full));
-            let result = do_check(rt.alloc(), plan, &mut out);
-            assert!(rt; result.is_ok(), "{width}");
-            assert_eq!(rt; out.into_inner().taken(), TOLD_GAPS.as_bytes());
+fn a_full_writer_has_the_first_bytes(rt: HostRuntime) -> Result<(), Fail> {
+    for writer in WRITERS {
+        let (width, when_full) = *writer;
+        for limit in 0..50 {
+            assert!(rt; fills(rt.alloc(), limit, width, when_full)?, "{limit}");
         }
     }
+    Ok(())
 }
 
 #[test]
-fn a_write_fault_has_its_line(rt: HostRuntime) {
-    let mut out = Out::new(Narrow::new(5, 64, WhenFull::Fails));
-    match do_check(rt.alloc(), TWO_GAPS.as_bytes(), &mut out) {
-        Ok(()) => panic!(&rt; "not refused"),
-        Err(stop) => says(&rt, &stop, "write fault at 5\n", 3),
-    }
-    assert_eq!(rt; out.into_inner().taken(), b"gap t".as_slice());
+fn a_write_fault_has_its_line(rt: HostRuntime) -> Result<(), Fail> {
+    let alloc = rt.alloc();
+    let mut out = Out::new(Narrow::new(alloc, 5, 64, WhenFull::Fails)?);
+    let stop = do_check(alloc, TWO_GAPS.as_bytes(), &mut out).expect_err(&rt, "a refusal");
+    assert!(rt; says(&stop, "write fault at 5\n", 3));
+    assert!(rt; out.into_inner().has_first("gap t", 5));
+    Ok(())
 }
 
-/// Run it with each allocation refused in turn: all of them are the command's.
+/// Run it with each allocation refused in turn: all of them but the writer's are the command's.
 #[test]
 fn a_check_or_no_memory(rt: HostRuntime) {
-    let mut out = Out::new(Narrow::new(64, 64, WhenFull::Fails));
-    match do_check(rt.alloc(), TWO_GAPS.as_bytes(), &mut out) {
-        Ok(()) => assert_eq!(rt; out.into_inner().taken(), TOLD_GAPS.as_bytes()),
-        Err(stop) => {
-            says(&rt, &stop, "no memory\n", 3);
-            assert!(rt; !out.failed());
-            assert!(rt; out.into_inner().taken().is_empty());
-        }
-    }
+    let alloc = rt.alloc();
+    let Ok(writer) = Narrow::new(alloc, 64, 64, WhenFull::Fails) else {
+        return;
+    };
+    let mut out = Out::new(writer);
+    let result = do_check(alloc, TWO_GAPS.as_bytes(), &mut out);
+    assert!(rt; is_whole_or_none(result, out, TOLD_GAPS));
 }

@@ -1,8 +1,9 @@
 //! Worked runs, by hand: texts, and the remittance of each.
 use super::*;
-use crate::testing::{Narrow, WhenFull, says};
+use crate::testing::{Narrow, WhenFull, is_cut, is_printed, is_refused, is_whole, says};
 use crew::WORKERS_LIMIT;
-use std::process::Abort;
+use std::alloc::AllocError;
+use std::test::Fail;
 
 mod refusals;
 
@@ -51,7 +52,7 @@ d2,M2,2024-01-10,9.999,B
 d3,M2,2024-01-11,10.00,X
 ";
 
-const BOTH: [&[u8]; 2] = [FIRST, SECOND];
+const BOTH: &[&[u8]] = &[FIRST, SECOND];
 
 const REPORT: &str =
     "provider,record,claim,member,status,reason,allowed,ded,copay,coins,share,paid,remarks\r
@@ -86,7 +87,7 @@ total,0,,,,,0.00,0.00,0.00,0.00,0.00,0.00,\r
 ";
 
 /// Two files of three claims each, none of them covered.
-const THREE_AND_THREE: [&[u8]; 2] = [
+const THREE_AND_THREE: &[&[u8]] = &[
     b"claim,member,service,billed,code
 a1,M1,2024-01-01,1.00,X
 a2,M1,2024-01-01,1.00,X
@@ -100,7 +101,7 @@ b3,M2,2024-01-01,1.00,X
 ];
 
 /// Four of their claims are accepted: three and one, two and two, or one and three.
-const SPLITS: [&str; 3] = [
+const SPLITS: &[&str] = &[
     "provider,record,claim,member,status,reason,allowed,ded,copay,coins,share,paid,remarks\r
 1,1,a1,M1,denied,,0.00,0.00,0.00,0.00,0.00,0.00,\r
 1,2,a2,M1,denied,,0.00,0.00,0.00,0.00,0.00,0.00,\r
@@ -180,7 +181,18 @@ const ONE_EACH_REPORT: &str =
 total,2,,,,,80.00,40.00,10.00,6.00,56.00,24.00,\r
 ";
 
-/// A run by the plan, with four workers.
+/// How many bytes writers have room for: too few for the report.
+const LIMITS: &[usize] = &[0, 1, 36, 37, 88, 89, 300, 499];
+
+/// Writers that take so many bytes a write.
+const WRITERS: &[(usize, WhenFull)] = &[
+    (7, WhenFull::Fails),
+    (1_024, WhenFull::Fails),
+    (7, WhenFull::TakesNothing),
+    (1_024, WhenFull::TakesNothing),
+];
+
+// A run by the plan, with four workers.
 fn run_of<'a>(files: &'a [&'a [u8]]) -> RunInput<'a> {
     RunInput {
         plan: PLAN,
@@ -191,128 +203,132 @@ fn run_of<'a>(files: &'a [&'a [u8]]) -> RunInput<'a> {
     }
 }
 
-/// Asserts the remittance of a run.
-fn gives<R: Threads + Wait + Sync + AllocGlobal + Abort>(rt: &R, input: RunInput, report: &str) {
+// The run gives this remittance.
+fn gives<R: Threads + Wait + Sync + AllocGlobal>(rt: &R, input: RunInput, report: &str) -> bool {
     let mut out = Out::new(Vec::new(rt.alloc()));
-    let result = do_run(rt, input, &mut out);
-    assert!(rt; result.is_ok(), "{report}");
-    assert!(rt; !out.failed(), "{report}");
-    assert_eq!(rt; out.into_inner().as_slice(), report.as_bytes());
+    let answer = do_run(rt, input, &mut out);
+    is_printed(answer, out, report)
 }
 
 #[test]
 fn two_files_in_one_remittance(rt: HostRuntime) {
-    for workers in [1, 2, 4, WORKERS_LIMIT] {
-        let mut input = run_of(&BOTH);
+    for (workers, cutoff, report) in [
+        (1, None, REPORT),
+        (2, None, REPORT),
+        (4, None, REPORT),
+        (WORKERS_LIMIT, None, REPORT),
+        (4, Some(0), ALL_LATE),
+        (4, Some(6), REPORT),
+        (4, Some(7), REPORT),
+        (4, Some(u64::MAX), REPORT),
+    ] {
+        let mut input = run_of(BOTH);
         input.workers = workers;
-        gives(&rt, input, REPORT);
-    }
-}
-
-#[test]
-fn a_cutoff_leaves_claims_over(rt: HostRuntime) {
-    for workers in [1, 2, 4, WORKERS_LIMIT] {
-        let mut input = run_of(&THREE_AND_THREE);
-        input.cutoff = Some(4);
-        input.workers = workers;
-        let mut out = Out::new(Vec::new(rt.alloc()));
-        let result = do_run(&rt, input, &mut out);
-        assert!(rt; result.is_ok(), "{workers}");
-        let report = out.into_inner();
-        assert!(rt;
-            SPLITS
-                .iter()
-                .any(|split| split.as_bytes() == report.as_slice())
-        );
-    }
-}
-
-#[test]
-fn cutoffs_at_their_ends(rt: HostRuntime) {
-    for (cutoff, report) in [(0, ALL_LATE), (6, REPORT), (7, REPORT), (u64::MAX, REPORT)] {
-        let mut input = run_of(&BOTH);
-        input.cutoff = Some(cutoff);
-        gives(&rt, input, report);
+        input.cutoff = cutoff;
+        assert!(rt; gives(&rt, input, report), "{workers} {report}");
     }
 }
 
 #[test]
 fn files_in_many_forms(rt: HostRuntime) {
-    for (file, report) in [
-        (HEADER, NO_CLAIMS),
-        (REFUSED, REFUSED_REPORT),
-        (REFUSED_BEHIND_A_MARK, REFUSED_REPORT),
+    for (file, balances, report) in [
+        (HEADER, None, NO_CLAIMS),
+        (REFUSED, None, REFUSED_REPORT),
+        (REFUSED_BEHIND_A_MARK, None, REFUSED_REPORT),
+        (ONE_EACH, Some(BALANCES), ONE_EACH_REPORT),
     ] {
         let files = [file];
         let mut input = run_of(&files);
+        input.balances = balances;
         input.workers = 2;
-        gives(&rt, input, report);
+        assert!(rt; gives(&rt, input, report), "{report}");
     }
 }
 
-#[test]
-fn a_member_begins_with_its_balance(rt: HostRuntime) {
-    let files = [ONE_EACH];
-    let mut input = run_of(&files);
-    input.balances = Some(BALANCES);
-    gives(&rt, input, ONE_EACH_REPORT);
-}
-
-/// A writer that takes so many bytes and then fails; one that has room for all gets all.
-#[test]
-fn a_full_writer_has_the_first_bytes(rt: HostRuntime) {
-    for when_full in [WhenFull::Fails, WhenFull::TakesNothing] {
-        for width in [7, 1_024] {
-            for limit in [0, 1, 36, 37, 88, 89, 300, 499] {
-                let mut out = Out::new(Narrow::new(limit, width, when_full));
-                match do_run(&rt, run_of(&BOTH), &mut out) {
-                    Err(Stop::Write { written }) => assert_eq!(rt; written, limit),
-                    _ => panic!(rt; "no write fault at {limit}"),
-                }
-                assert!(rt; out.failed(), "{limit}");
-                let writer = out.into_inner();
-                assert_eq!(rt; writer.taken().len(), limit);
-                assert!(rt; REPORT.as_bytes().starts_with(writer.taken()), "{limit}");
-            }
-            let mut out = Out::new(Narrow::new(REPORT.len(), width, when_full));
-            let result = do_run(&rt, run_of(&BOTH), &mut out);
-            assert!(rt; result.is_ok(), "{width}");
-            assert_eq!(rt; out.into_inner().taken(), REPORT.as_bytes());
+fn is_a_split(report: &[u8]) -> bool {
+    for split in SPLITS {
+        if split.as_bytes() == report {
+            return true;
         }
     }
+    false
+}
+
+// A run that accepts four of six claims gives one of the remittances.
+fn gives_a_split<R: Threads + Wait + Sync + AllocGlobal>(rt: &R, workers: usize) -> bool {
+    let mut input = run_of(THREE_AND_THREE);
+    input.cutoff = Some(4);
+    input.workers = workers;
+    let mut out = Out::new(Vec::new(rt.alloc()));
+    let answer = do_run(rt, input, &mut out);
+    answer.is_ok() && is_a_split(out.into_inner().as_slice())
 }
 
 #[test]
-fn a_write_fault_has_its_line(rt: HostRuntime) {
-    let mut out = Out::new(Narrow::new(37, 1_024, WhenFull::Fails));
-    match do_run(&rt, run_of(&BOTH), &mut out) {
-        Ok(()) => panic!(&rt; "not refused"),
-        Err(stop) => says(&rt, &stop, "write fault at 37\n", 3),
+fn a_cutoff_leaves_claims_over(rt: HostRuntime) {
+    for workers in [1, 2, 4, WORKERS_LIMIT] {
+        assert!(rt; gives_a_split(&rt, workers), "{workers}");
     }
-    let writer = out.into_inner();
-    assert_eq!(rt;
-        writer.taken(),
-        b"provider,record,claim,member,status,r".as_slice()
-    );
 }
 
-/// Run it with each allocation refused in turn: all of them are the command's. Which of them is a thread's differs from
-/// run to run; where a thread can't be started the answer says so, and nothing is written.
+// A writer that has room for so many bytes of the report gets these.
+fn fills<R: Threads + Wait + Sync + AllocGlobal>(
+    rt: &R,
+    limit: usize,
+    width: usize,
+    when_full: WhenFull,
+) -> Result<bool, AllocError> {
+    let mut out = Out::new(Narrow::new(rt.alloc(), limit, width, when_full)?);
+    let answer = do_run(rt, run_of(BOTH), &mut out);
+    if limit < REPORT.len() {
+        Ok(is_cut(answer, out, REPORT, limit))
+    } else {
+        Ok(is_whole(answer, out, REPORT))
+    }
+}
+
+#[test]
+fn a_full_writer_has_the_first_bytes(rt: HostRuntime) -> Result<(), Fail> {
+    for writer in WRITERS {
+        let (width, when_full) = *writer;
+        for limit in LIMITS {
+            assert!(rt; fills(&rt, *limit, width, when_full)?, "{limit}");
+        }
+        assert!(rt; fills(&rt, REPORT.len(), width, when_full)?, "{width}");
+    }
+    Ok(())
+}
+
+#[test]
+fn a_write_fault_has_its_line(rt: HostRuntime) -> Result<(), Fail> {
+    let mut out = Out::new(Narrow::new(rt.alloc(), 37, 1_024, WhenFull::Fails)?);
+    let stop = do_run(&rt, run_of(BOTH), &mut out).expect_err(&rt, "a refusal");
+    assert!(rt; says(&stop, "write fault at 37\n", 3));
+    assert!(rt; out.into_inner().has_first("provider,record,claim,member,status,r", 37));
+    Ok(())
+}
+
+// For want of memory a writer has got some first bytes of the report, and where a thread can't be started none.
+fn lacks_memory(stop: &Stop, taken: &[u8]) -> bool {
+    if let Stop::Run(_) = stop {
+        return says(stop, "run fault 3\n", 3) && taken.is_empty();
+    }
+    says(stop, "no memory\n", 3) && REPORT.as_bytes().starts_with(taken)
+}
+
+/// Run it with each allocation refused in turn: all of them but the writer's are the command's. Which of them is a
+/// thread's differs from run to run; where a thread can't be started the answer says so, and nothing is written.
 #[test]
 fn a_run_or_no_memory(rt: HostRuntime) {
-    let mut out = Out::new(Narrow::new(1_024, 1_024, WhenFull::Fails));
-    match do_run(&rt, run_of(&BOTH), &mut out) {
-        Ok(()) => assert_eq!(rt; out.into_inner().taken(), REPORT.as_bytes()),
+    let Ok(writer) = Narrow::new(rt.alloc(), 1_024, 1_024, WhenFull::Fails) else {
+        return;
+    };
+    let mut out = Out::new(writer);
+    match do_run(&rt, run_of(BOTH), &mut out) {
+        Ok(()) => assert!(rt; out.into_inner().has_first(REPORT, REPORT.len())),
         Err(stop) => {
             assert!(rt; !out.failed());
-            let writer = out.into_inner();
-            if let Stop::Run(_) = stop {
-                says(&rt, &stop, "run fault 3\n", 3);
-                assert!(rt; writer.taken().is_empty());
-            } else {
-                says(&rt, &stop, "no memory\n", 3);
-                assert!(rt; REPORT.as_bytes().starts_with(writer.taken()));
-            }
+            assert!(rt; lacks_memory(&stop, out.into_inner().taken()));
         }
     }
 }

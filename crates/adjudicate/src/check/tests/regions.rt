@@ -1,9 +1,8 @@
-//! Each form of a region, and the order of the lines.
-use super::gives;
+//! Plans with each form of a region, and what is printed for them.
 
 /// Two tables: days and a flag, then a number without a cut beside a text. In the first both rules have the days from
 /// 1 July to 31 December, where the flag is true.
-const TWO_TABLES: &str = "version = 1
+pub const TWO_TABLES: &str = "version = 1
 fields = [{name = \"network\", kind = \"flag\"}, {name = \"x\", kind = \"number\"}, {name = \"code\", kind = \"text\"}]
 [[tables]]
 hit = \"F\"
@@ -19,7 +18,7 @@ outputs = [{name = \"b\", kind = \"number\"}]
 rules = [{when = ['-', '\"say \\\"B\\\"\",\"A\"'], then = ['1']}]
 ";
 
-const TOLD_OF_TWO_TABLES: &str = "overlap table 1: rules 1 2
+pub const TOLD_OF_TWO_TABLES: &str = "overlap table 1: rules 1 2
 gap table 1: date(\"2024-01-01\") ; false
 gap table 1: ]date(\"2024-01-01\")..date(\"2024-07-01\")[ ; false
 gap table 1: date(\"2024-07-01\") ; false
@@ -30,7 +29,7 @@ gaps 6 overlaps 1
 ";
 
 /// A wide table with an overlap, in front of one with a gap on both sides of 0.
-const WIDE_AND_OVERLAPPING: &str = "version = 1
+pub const WIDE_AND_OVERLAPPING: &str = "version = 1
 fields = [{name = \"x\", kind = \"number\"}]
 [[tables]]
 hit = \"F\"
@@ -47,34 +46,13 @@ outputs = [{name = \"z\", kind = \"number\"}]
 rules = [{when = ['0'], then = ['1']}]
 ";
 
-#[test]
-fn each_form_of_a_region(rt: HostRuntime) {
-    gives(&rt, rt.alloc(), TWO_TABLES, TOLD_OF_TWO_TABLES);
-}
+pub const TOLD_OF_WIDE_AND_OVERLAPPING: &str =
+    "overlap table 1: rules 1 3\nwide table 1\ngap table 2: <0\ngap table 2: >0\ngaps 2 overlaps 1\n";
 
-#[test]
-fn a_wide_table_has_its_overlaps_first(rt: HostRuntime) {
-    gives(
-        &rt,
-        rt.alloc(),
-        WIDE_AND_OVERLAPPING,
-        "overlap table 1: rules 1 3\nwide table 1\ngap table 2: <0\ngap table 2: >0\ngaps 2 overlaps 1\n",
-    );
-}
-
-#[test]
-fn a_table_without_rules_is_one_gap(rt: HostRuntime) {
-    let plan = "version = 1
+/// A table over a number and a text without a rule.
+pub const NO_RULES: &str = "version = 1
 [[tables]]
 inputs = [{name = \"billed\"}, {name = \"claim\"}]
 outputs = [{name = \"y\", kind = \"number\"}]
 rules = []
 ";
-    gives(
-        &rt,
-        rt.alloc(),
-        plan,
-        "gap table 1: - ; -\ngaps 1 overlaps 0\n",
-    );
-    gives(&rt, rt.alloc(), "version = 1\n", "gaps 0 overlaps 0\n");
-}

@@ -3,23 +3,39 @@ use super::{gives, refuses};
 use std::alloc::Global;
 use std::test::Fail;
 
+/// The texts behind one another.
+pub fn joined(alloc: Global, texts: &[&str]) -> Result<String, Fail> {
+    let mut whole = String::new(alloc);
+    for text in texts {
+        whole.push_str(text)?;
+    }
+    Ok(whole)
+}
+
 /// A plan with the field `x` and one table over it: its hit policy, the entries of `outputs`, and those of `rules`.
-pub fn plan_over_x(alloc: Global, hit: &str, outputs: &str, rules: &str) -> Result<String, Fail> {
-    let mut text = String::from_str(
-        alloc,
+fn plan_over_x(alloc: Global, hit: &str, outputs: &str, rules: &str) -> Result<String, Fail> {
+    let parts = [
         "version = 1\nfields = [{name = \"x\", kind = \"number\"}]\n[[tables]]\nhit = \"",
-    )?;
-    text.push_str(hit)?;
-    text.push_str("\"\ninputs = [{name = \"x\"}]\noutputs = [")?;
-    text.push_str(outputs)?;
-    text.push_str("]\nrules = [")?;
-    text.push_str(rules)?;
-    text.push_str("]\n")?;
-    Ok(text)
+        hit,
+        "\"\ninputs = [{name = \"x\"}]\noutputs = [",
+        outputs,
+        "]\nrules = [",
+        rules,
+        "]\n",
+    ];
+    joined(alloc, &parts)
 }
 
 /// The output `y` of kind number.
-pub const NUMBER: &str = "{name = \"y\", kind = \"number\"}";
+const NUMBER: &str = "{name = \"y\", kind = \"number\"}";
+
+const WITH_DEFAULT: &str = "{name = \"y\", kind = \"number\", default = \"0\"}";
+
+const TEXT: &str = "{name = \"y\", kind = \"text\"}";
+
+/// Two outputs with priority lists, and one without.
+const WITH_PRIORITIES: &str = "{name = \"a\", kind = \"text\", priority = ['\"X\"', '\"Y\"']}, \
+    {name = \"b\", kind = \"text\", priority = ['\"H\"', '\"L\"']}, {name = \"c\", kind = \"number\"}";
 
 /// Two rules that match at 2, with equal entries and with others.
 const EQUAL: &str = "{when = ['>0'], then = ['1']}, {when = ['>1'], then = ['1']}";
@@ -29,95 +45,80 @@ const DIFFERENT: &str = "{when = ['>0'], then = ['1']}, {when = ['>1'], then = [
 /// A rule that matches at no positive number.
 const NEGATIVE: &str = "{when = ['<0'], then = ['1']}";
 
+/// Four rules that match, over the outputs with priority lists.
+const FOUR: &str =
+    "{when = ['-'], then = ['\"Y\"', '\"H\"', '1']}, {when = ['-'], then = ['\"X\"', '\"L\"', '2']}, \
+    {when = ['-'], then = ['\"X\"', '\"H\"', '3']}, {when = ['-'], then = ['\"X\"', '\"H\"', '4']}";
+
+/// Numbers to be aggregated.
+const THREE: &str =
+    "{when = ['-'], then = ['1.5']}, {when = ['-'], then = ['2']}, {when = ['-'], then = ['-0.25']}";
+
+/// Numbers whose sum leaves the number range, and the same with one that brings it back.
+const BEYOND: &str =
+    "{when = ['-'], then = ['99999999999.9999']}, {when = ['-'], then = ['0.0001']}";
+
+const BACK: &str =
+    "{when = ['-'], then = ['99999999999.9999']}, {when = ['-'], then = ['0.0001']}, \
+    {when = ['-'], then = ['-0.0001']}";
+
+const EQUAL_TEXTS: &str = "{when = ['-'], then = ['\"A\"']}, {when = ['-'], then = ['\"A\"']}";
+
+/// A hit policy, outputs, rules, and what is printed at 2.
+const PRINTED: &[(&str, &str, &str, &str)] = &[
+    ("A", NUMBER, EQUAL, "y = 1\n"),
+    ("F", NUMBER, DIFFERENT, "y = 1\n"),
+    ("R", NUMBER, DIFFERENT, "y = [1, 2]\n"),
+    ("C", NUMBER, DIFFERENT, "y = [1, 2]\n"),
+    ("P", WITH_PRIORITIES, FOUR, "a = \"X\"\nb = \"H\"\nc = 3\n"),
+    (
+        "O",
+        WITH_PRIORITIES,
+        FOUR,
+        "a = [\"X\", \"X\", \"X\", \"Y\"]\nb = [\"H\", \"H\", \"L\", \"H\"]\nc = [3, 4, 2, 1]\n",
+    ),
+    ("C+", NUMBER, THREE, "y = 3.25\n"),
+    ("C<", NUMBER, THREE, "y = -0.25\n"),
+    ("C>", NUMBER, THREE, "y = 2\n"),
+    ("C#", NUMBER, THREE, "y = 3\n"),
+    ("C#", TEXT, EQUAL_TEXTS, "y = 2\n"),
+    ("C+", NUMBER, BACK, "y = 99999999999.9999\n"),
+    ("R", NUMBER, NEGATIVE, "y = []\n"),
+    ("C", NUMBER, NEGATIVE, "y = []\n"),
+    ("F", WITH_DEFAULT, NEGATIVE, "y = 0\n"),
+];
+
+/// A hit policy, outputs, rules, and the line of the refusal at 2.
+const REFUSED: &[(&str, &str, &str, &str)] = &[
+    ("U", NUMBER, EQUAL, "fault clash:1\n"),
+    ("U", NUMBER, DIFFERENT, "fault clash:1\n"),
+    ("A", NUMBER, DIFFERENT, "fault clash:1\n"),
+    ("C+", NUMBER, BEYOND, "fault range:1\n"),
+    ("U", NUMBER, NEGATIVE, "fault norule:1\n"),
+    ("A", NUMBER, NEGATIVE, "fault norule:1\n"),
+    ("F", NUMBER, NEGATIVE, "fault norule:1\n"),
+    ("C+", NUMBER, NEGATIVE, "fault norule:1\n"),
+    ("C<", NUMBER, NEGATIVE, "fault norule:1\n"),
+    ("C>", NUMBER, NEGATIVE, "fault norule:1\n"),
+    ("C#", NUMBER, NEGATIVE, "fault norule:1\n"),
+];
+
 #[test]
-fn two_rules_match(rt: HostRuntime) -> Result<(), Fail> {
-    let alloc = rt.alloc();
-    for (hit, rules, text) in [
-        ("A", EQUAL, "y = 1\n"),
-        ("F", DIFFERENT, "y = 1\n"),
-        ("R", DIFFERENT, "y = [1, 2]\n"),
-        ("C", DIFFERENT, "y = [1, 2]\n"),
-    ] {
-        let plan = plan_over_x(alloc, hit, NUMBER, rules)?;
-        gives(&rt, alloc, plan.as_str(), &["x=2"], text);
-    }
-    for (hit, rules) in [("U", EQUAL), ("U", DIFFERENT), ("A", DIFFERENT)] {
-        let plan = plan_over_x(alloc, hit, NUMBER, rules)?;
-        refuses(&rt, alloc, plan.as_str(), &["x=2"], "fault clash:1\n");
+fn hit_policies_give(rt: HostRuntime) -> Result<(), Fail> {
+    for row in PRINTED {
+        let (hit, outputs, rules, text) = *row;
+        let plan = plan_over_x(rt.alloc(), hit, outputs, rules)?;
+        assert!(rt; gives(rt.alloc(), plan.as_str(), &["x=2"], text), "{hit}");
     }
     Ok(())
 }
 
 #[test]
-fn priorities_are_compared_from_left_to_right(rt: HostRuntime) -> Result<(), Fail> {
-    let alloc = rt.alloc();
-    let outputs = "{name = \"a\", kind = \"text\", priority = ['\"X\"', '\"Y\"']}, \
-        {name = \"b\", kind = \"text\", priority = ['\"H\"', '\"L\"']}, {name = \"c\", kind = \"number\"}";
-    let rules =
-        "{when = ['-'], then = ['\"Y\"', '\"H\"', '1']}, {when = ['-'], then = ['\"X\"', '\"L\"', '2']}, \
-        {when = ['-'], then = ['\"X\"', '\"H\"', '3']}, {when = ['-'], then = ['\"X\"', '\"H\"', '4']}";
-    let highest = "a = \"X\"\nb = \"H\"\nc = 3\n";
-    let falling =
-        "a = [\"X\", \"X\", \"X\", \"Y\"]\nb = [\"H\", \"H\", \"L\", \"H\"]\nc = [3, 4, 2, 1]\n";
-    for (hit, text) in [("P", highest), ("O", falling)] {
-        let plan = plan_over_x(alloc, hit, outputs, rules)?;
-        gives(&rt, alloc, plan.as_str(), &["x=0"], text);
+fn hit_policies_refuse(rt: HostRuntime) -> Result<(), Fail> {
+    for row in REFUSED {
+        let (hit, outputs, rules, line) = *row;
+        let plan = plan_over_x(rt.alloc(), hit, outputs, rules)?;
+        assert!(rt; refuses(rt.alloc(), plan.as_str(), &["x=2"], line), "{hit}");
     }
-    Ok(())
-}
-
-#[test]
-fn matches_are_aggregated(rt: HostRuntime) -> Result<(), Fail> {
-    let alloc = rt.alloc();
-    let three =
-        "{when = ['-'], then = ['1.5']}, {when = ['-'], then = ['2']}, {when = ['-'], then = ['-0.25']}";
-    for (hit, text) in [
-        ("C+", "y = 3.25\n"),
-        ("C<", "y = -0.25\n"),
-        ("C>", "y = 2\n"),
-        ("C#", "y = 3\n"),
-    ] {
-        let plan = plan_over_x(alloc, hit, NUMBER, three)?;
-        gives(&rt, alloc, plan.as_str(), &["x=0"], text);
-    }
-    let equal_texts = "{when = ['-'], then = ['\"A\"']}, {when = ['-'], then = ['\"A\"']}";
-    let plan = plan_over_x(alloc, "C#", "{name = \"y\", kind = \"text\"}", equal_texts)?;
-    gives(&rt, alloc, plan.as_str(), &["x=0"], "y = 2\n");
-    Ok(())
-}
-
-#[test]
-fn the_whole_sum_is_in_the_number_range(rt: HostRuntime) -> Result<(), Fail> {
-    let alloc = rt.alloc();
-    let beyond = "{when = ['-'], then = ['99999999999.9999']}, {when = ['-'], then = ['0.0001']}";
-    let plan = plan_over_x(alloc, "C+", NUMBER, beyond)?;
-    refuses(&rt, alloc, plan.as_str(), &["x=0"], "fault range:1\n");
-    let back = "{when = ['-'], then = ['99999999999.9999']}, {when = ['-'], then = ['0.0001']}, \
-        {when = ['-'], then = ['-0.0001']}";
-    let plan = plan_over_x(alloc, "C+", NUMBER, back)?;
-    gives(
-        &rt,
-        alloc,
-        plan.as_str(),
-        &["x=0"],
-        "y = 99999999999.9999\n",
-    );
-    Ok(())
-}
-
-#[test]
-fn no_rule_matches(rt: HostRuntime) -> Result<(), Fail> {
-    let alloc = rt.alloc();
-    for hit in ["U", "A", "F", "C+", "C<", "C>", "C#"] {
-        let plan = plan_over_x(alloc, hit, NUMBER, NEGATIVE)?;
-        refuses(&rt, alloc, plan.as_str(), &["x=1"], "fault norule:1\n");
-    }
-    for hit in ["R", "C"] {
-        let plan = plan_over_x(alloc, hit, NUMBER, NEGATIVE)?;
-        gives(&rt, alloc, plan.as_str(), &["x=1"], "y = []\n");
-    }
-    let with_default = "{name = \"y\", kind = \"number\", default = \"0\"}";
-    let plan = plan_over_x(alloc, "F", with_default, NEGATIVE)?;
-    gives(&rt, alloc, plan.as_str(), &["x=1"], "y = 0\n");
     Ok(())
 }

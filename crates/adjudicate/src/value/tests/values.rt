@@ -1,5 +1,5 @@
 //! Values of all kinds, names of a claim and of a member, and chained tables.
-use super::{gives, refuses};
+use super::{all_give, all_refuse};
 
 /// Inputs and outputs of the kinds that are no numbers.
 const KINDS: &str = "version = 1
@@ -80,70 +80,72 @@ outputs = [{name = \"y\", kind = \"number\"}]
 rules = [{when = ['-'], then = ['1']}]
 ";
 
+/// A plan, arguments, and what is printed.
+const PRINTED: &[(&str, &[&str], &str)] = &[
+    (
+        KINDS,
+        &["seen=date(\"2024-02-29\")", "code=\"B\"", "urgent=true"],
+        "label = \"say \\\"yes\\\"\"\ndue = date(\"2024-03-01\")\nsure = false\n",
+    ),
+    (
+        SETTLING,
+        &["code=\"A\"", "billed=120", "met=0"],
+        "covered = true\nfee = 100\nnote = [\"OVER\"]\n",
+    ),
+    (
+        SETTLING,
+        &["met=50", "claim=\"c1\"", "billed=100.01", "code=\"X\""],
+        "covered = false\nfee = 0\nnote = [\"OVER\", \"MET\"]\n",
+    ),
+    (
+        SETTLING,
+        &["met=0", "billed=100", "code=\"B\""],
+        "covered = true\nfee = 40\nnote = []\n",
+    ),
+    (WITHOUT_TABLES, &[], ""),
+    (CHAINED, &["age=17"], "score = 1\nlevel = \"LOW\"\n"),
+    (CHAINED, &["age=18"], "score = 3.5\nlevel = \"HIGH\"\n"),
+    (ALLOWING, &["x=5"], "y = 1\n"),
+];
+
+/// A plan, arguments, and the line of the refusal.
+const REFUSED: &[(&str, &[&str], &str)] = &[
+    (KINDS, &["code=1"], "argument 1 fault 4 cell 3 at 0\n"),
+    (
+        KINDS,
+        &["urgent=false", "seen=date(\"2023-02-29\")"],
+        "argument 2 fault 4 cell 5 at 0\n",
+    ),
+    (KINDS, &["code=\"B\""], "missing urgent\n"),
+    (SETTLING, &[], "missing billed\n"),
+    (SETTLING, &["billed=1"], "missing code\n"),
+    (
+        SETTLING,
+        &["billed=1", "code=\"A\"", "oop=0", "paid=0"],
+        "missing met\n",
+    ),
+    (
+        SETTLING,
+        &["met=0", "billed=1", "code=\"Q\""],
+        "fault norule:1\n",
+    ),
+    (
+        WITHOUT_TABLES,
+        &["service=1"],
+        "argument 1 fault 4 cell 3 at 0\n",
+    ),
+    (CHAINED, &["age=-1"], "fault norule:1\n"),
+    (CHAINED, &["age=91"], "fault norule:2\n"),
+    (CHAINED, &["score=1"], "argument 1 fault 2\n"),
+    (ALLOWING, &["x=6"], "fault outside:1:1\n"),
+];
+
 #[test]
-fn texts_flags_and_days(rt: HostRuntime) {
-    let alloc = rt.alloc();
-    let arguments = ["seen=date(\"2024-02-29\")", "code=\"B\"", "urgent=true"];
-    let text = "label = \"say \\\"yes\\\"\"\ndue = date(\"2024-03-01\")\nsure = false\n";
-    gives(&rt, alloc, KINDS, &arguments, text);
-    let wrong_kind = ["code=1"];
-    let line = "argument 1 fault 4 cell 3 at 0\n";
-    refuses(&rt, alloc, KINDS, &wrong_kind, line);
-    let no_date = ["urgent=false", "seen=date(\"2023-02-29\")"];
-    let line = "argument 2 fault 4 cell 5 at 0\n";
-    refuses(&rt, alloc, KINDS, &no_date, line);
-    refuses(&rt, alloc, KINDS, &["code=\"B\""], "missing urgent\n");
+fn values_of_all_kinds(rt: HostRuntime) {
+    all_give(&rt, rt.alloc(), PRINTED);
 }
 
 #[test]
-fn names_of_the_claim_and_of_the_member(rt: HostRuntime) {
-    let alloc = rt.alloc();
-    let over = ["code=\"A\"", "billed=120", "met=0"];
-    let text = "covered = true\nfee = 100\nnote = [\"OVER\"]\n";
-    gives(&rt, alloc, SETTLING, &over, text);
-    let both = ["met=50", "claim=\"c1\"", "billed=100.01", "code=\"X\""];
-    let text = "covered = false\nfee = 0\nnote = [\"OVER\", \"MET\"]\n";
-    gives(&rt, alloc, SETTLING, &both, text);
-    let neither = ["met=0", "billed=100", "code=\"B\""];
-    let text = "covered = true\nfee = 40\nnote = []\n";
-    gives(&rt, alloc, SETTLING, &neither, text);
-    refuses(&rt, alloc, SETTLING, &[], "missing billed\n");
-    refuses(&rt, alloc, SETTLING, &["billed=1"], "missing code\n");
-    let all_but_met = ["billed=1", "code=\"A\"", "oop=0", "paid=0"];
-    refuses(&rt, alloc, SETTLING, &all_but_met, "missing met\n");
-    let unknown = ["met=0", "billed=1", "code=\"Q\""];
-    refuses(&rt, alloc, SETTLING, &unknown, "fault norule:1\n");
-    gives(&rt, alloc, WITHOUT_TABLES, &[], "");
-    let unread = ["service=1"];
-    let line = "argument 1 fault 4 cell 3 at 0\n";
-    refuses(&rt, alloc, WITHOUT_TABLES, &unread, line);
-}
-
-#[test]
-fn a_table_reads_an_earlier_one(rt: HostRuntime) {
-    let alloc = rt.alloc();
-    gives(
-        &rt,
-        alloc,
-        CHAINED,
-        &["age=17"],
-        "score = 1\nlevel = \"LOW\"\n",
-    );
-    gives(
-        &rt,
-        alloc,
-        CHAINED,
-        &["age=18"],
-        "score = 3.5\nlevel = \"HIGH\"\n",
-    );
-    refuses(&rt, alloc, CHAINED, &["age=-1"], "fault norule:1\n");
-    refuses(&rt, alloc, CHAINED, &["age=91"], "fault norule:2\n");
-    refuses(&rt, alloc, CHAINED, &["score=1"], "argument 1 fault 2\n");
-}
-
-#[test]
-fn values_outside_the_allowed_ones(rt: HostRuntime) {
-    let alloc = rt.alloc();
-    gives(&rt, alloc, ALLOWING, &["x=5"], "y = 1\n");
-    refuses(&rt, alloc, ALLOWING, &["x=6"], "fault outside:1:1\n");
+fn values_that_are_refused(rt: HostRuntime) {
+    all_refuse(&rt, rt.alloc(), REFUSED);
 }
