@@ -1,8 +1,8 @@
 //! Two callers who come to agree. Each notes its name in a list behind a `TicketLock`, in a section of its own, and knows of
-//! the list only what it saw there. Once they have met, both have seen one list, which begins with what either had seen. So
-//! both places are places of that list, and two names stand at two places: that neither lock nor list told them.
+//! the list only what it saw there. Once they have met, both have seen one list, which begins with what either had seen: so
+//! both places are places of that list, and two names stand at two places, which no section alone could tell.
 
-ghost use Rattle.std.specs.Prelude.{◌≡◌, ◌≢◌, IfSome};
+ghost use Rattle.std.specs.Prelude.{◌≡◌, ◌≢◌, ◌<◌, IfSome};
 ghost use Rattle.turn_lock.specs.Toy.{GoesOn, same_list, longer_list, either_list};
 ghost use Rattle.turn_lock.specs.TicketShown.{IsPassOf, pass_knows};
 ghost use Rattle.lock_examples.specs.Names.{HasName};
@@ -86,6 +86,8 @@ pub fn agree(lock: &TicketLock<Names>, one: Caller, other: Caller) -> (Caller, C
 pub fn earlier(one: &Caller, other: &Caller) -> u64
     requires agreed { (pass_knows one.now.pass).seen ≡ (pass_knows other.now.pass).seen }
     requires apart { one.now.name ≢ other.now.name }
+    ensures first { one.now.place < other.now.place → result ≡ one.now.name }
+    ensures second { other.now.place < one.now.place → result ≡ other.now.name }
 {
     match one.place.cmp(&other.place) {
         Ordering::Less => one.name,

@@ -1,14 +1,13 @@
 -- What no number of steps of the ticket lock undoes.
-use Rattle.std.proofs.Common.{◌≡◌, ◌<◌, ◌≤◌, ◌%◌, ◌^◌, ℕ, ◌+◌, eqb, List, [], ◌∷◌, set, get_or, sym, ap, ◌∙◌, arith, eq-eqb, ne_eqb}
+use Rattle.std.proofs.Common.{◌≡◌, ◌<◌, ◌≤◌, ℕ, ◌+◌, eqb, set, get_or, sym, ap, ◌∙◌, arith, eq-eqb, ne_eqb}
 use mathlib.Core.Logic.{dite}
 use mathlib.Core.Option.{some}
 use native.Mathlib.Decide.{ℕ_discrete}
 use lib.Seq.{set-get_or}
 use prog.Atomic.{either}
-use Rattle.turn_lock.specs.declared.ticket.view.Stage.TheVariants.{Holding}
 use Rattle.turn_lock.specs.declared.ticket.view.Known.{Known}
 use Rattle.turn_lock.specs.Ticket.{TicketState, TicketSeat, HasTicket, Has, last_word, next_of, TicketLockRule}
-use Rattle.turn_lock.specs.Later.{next_word, served_word, Goes, GoesToDraw, DrawsTicket, GoesToLeave, LeavesTicket, Next, splits, joins, settles, looks, draws, serves, leaves, Later, here, onward}
+use Rattle.turn_lock.specs.Later.{next_word, served_word, GoesToDraw, DrawsTicket, GoesToLeave, LeavesTicket, Next, splits, joins, settles, looks, draws, serves, leaves, Later, here, onward}
 use Rattle.turn_lock.proofs.TicketViews.{up_one, holds_ticket}
 
 module _ {T : Type 0} (leads : T → T → Type 0) (first : ℕ) where

@@ -14,7 +14,7 @@ use Rattle.turn_lock.specs.declared.ticket.view.Known.{Known}
 use Rattle.turn_lock.specs.declared.ticket.view.TicketView.{TicketView}
 use Rattle.turn_lock.specs.declared.ticket.view.TicketView.TheVariants.{Spent, Live}
 use Rattle.turn_lock.specs.Ticket.{last_word, TicketState, TicketSeat, newcomer, idle_at, looked_at, waiting_for, in_section, after_section, both_known, beside, seen_alone, stage_of, next_of, known, Has, IsHome, IsOut, TicketLockRule}
-use Rattle.turn_lock.specs.Steps.{Looks, Draws, Serves, Settles, Leaves}
+use Rattle.turn_lock.specs.Steps.{Looks, Draws, Serves, Settles, Leaves, Exchanges}
 use Rattle.turn_lock.proofs.TicketViews.{ticket_of_stage, max_le, up_one, live_is, known_live, known_stage, known_next, same_known, Free, holds_ticket, idle_free, looked_free, free_holds_not, with_view, with_pass, with_spent}
 use Rattle.turn_lock.proofs.TicketWords as on_words
 use Rattle.turn_lock.proofs.TicketValues as on_values
@@ -270,6 +270,9 @@ module _ {T : Type 0} (leads : T → T → Type 0) (same : (x : T) → leads x x
   leaves_remember st me me' word saw told = let k = told.0 in let saw' : k.next ≡ word + 1 = sym (ap next_of told.2) ∙ saw in
       remembers me me' k (after_section k word told.1) told.2 (ap (λ (m : TicketSeat T). m.0) told.6) told.5 (omega arith)
 
+  pub exchanges_remember : (me me' : TicketSeat T) (new : Option T) → Exchanges me new me' → (a b : Known T) → me.0 ≡ Live a → me'.0 ≡ Live b → leads a.seen b.seen × (a.next ≤ b.next)
+  exchanges_remember me me' new told a b at at' = remembers me me' a a at (ap (λ (m : TicketSeat T). m.0) told.2 ∙ at) (same a.seen) (omega arith) a b at at'
+
 module _ {T : Type 0} (leads : T → T → Type 0) where
   abbrev SameTally : Known T → Known T → Type 0
   SameTally k l = (l.ended ≡ k.ended) × (l.last ≡ k.last)
@@ -302,3 +305,6 @@ module _ {T : Type 0} (leads : T → T → Type 0) where
   pub leaves_count : (st : Step (Option T)) (me me' : TicketSeat T) (word : ℕ) → Leaves leads st me word me' → (a b : Known T) → me.0 ≡ Live a → me'.0 ≡ Live b → (b.ended ≡ a.ended + 1) × (b.last ≡ a.seen)
   leaves_count st me me' word told =
       let k = told.0 in counts (λ (x y : Known T). (y.ended ≡ x.ended + 1) × (y.last ≡ x.seen)) me me' k (after_section k word told.1) told.2 (ap (λ (m : TicketSeat T). m.0) told.6) (refl, refl)
+
+  pub exchanges_keep_tally : (me me' : TicketSeat T) (new : Option T) → Exchanges me new me' → (a b : Known T) → me.0 ≡ Live a → me'.0 ≡ Live b → SameTally a b
+  exchanges_keep_tally me me' new told a b at at' = counts SameTally me me' a a at (ap (λ (m : TicketSeat T). m.0) told.2 ∙ at) (refl, refl) a b at at'

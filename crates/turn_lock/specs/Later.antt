@@ -1,10 +1,10 @@
 -- The ticket lock over time: what one atomic step of a pass may make of it, and what no number of steps undoes.
-use Rattle.std.specs.Prelude.{◌≡◌, ◌<◌, ◌≤◌, ◌^◌, ◌%◌, ℕ, ◌+◌, eqb, ◌∷◌, [], ◌++◌, Option, Some, slice_index, slice_set}
+use Rattle.std.specs.Prelude.{◌≡◌, ◌<◌, ◌≤◌, ◌^◌, ◌%◌, ℕ, ◌+◌, eqb, ◌∷◌, [], ◌++◌, Some, slice_index, slice_set}
 use mathlib.Core.Option.{some, none}
 use lib.ListN.{get_elem?}
 use prog.Atomic.{either}
 use Rattle.atomic_table.specs.Table.{step}
-use Rattle.turn_lock.specs.declared.ticket.view.Stage.TheVariants.{Idle, Looked, Waiting, Holding}
+use Rattle.turn_lock.specs.declared.ticket.view.Stage.TheVariants.{Idle}
 use Rattle.turn_lock.specs.declared.ticket.view.Known.{Known}
 use Rattle.turn_lock.specs.declared.ticket.view.TicketView.{TicketView}
 use Rattle.turn_lock.specs.declared.ticket.view.TicketView.TheVariants.{Spent}

@@ -13,7 +13,7 @@ use Rattle.turn_lock.specs.declared.ticket.view.TicketView.{TicketView}
 use Rattle.turn_lock.specs.declared.ticket.view.TicketView.TheVariants.{Spent, Live}
 use Rattle.turn_lock.specs.Spin as spin
 use Rattle.turn_lock.specs.Ticket.{TicketState, TicketSeat, HasTicket, Has, WordsRule, ValuesRule, TicketLockRule, last_word, newcomer, beside, stage_of, next_of, known}
-use Rattle.turn_lock.specs.Steps.{Looks, Draws, Serves, Settles, Leaves}
+use Rattle.turn_lock.specs.Steps.{Looks, Draws, Serves, Settles, Leaves, Exchanges}
 
 module _ {T : Type 0} (leads : T → T → Type 0) where
   -- the steps of the spin lock
@@ -65,6 +65,7 @@ module _ {T : Type 0} (leads : T → T → Type 0) where
     pub serves : (st : Step (Option T)) (me me' : TicketSeat T) (word : ℕ) → Serves leads st me word me' → Remembers me me'
     -- the pass is in its section, where it has seen no next word beyond its ticket's
     pub leaves : (st : Step (Option T)) (me me' : TicketSeat T) (word : ℕ) → next_of me.0 ≡ word + 1 → Leaves leads st me word me' → Remembers me me'
+    pub exchanges : (me me' : TicketSeat T) (new : Option T) → Exchanges me new me' → Remembers me me'
 
   -- the pass has ended as many sections as before, and the last of them found the same value
   abbrev pub HasSameTally : TicketSeat T → TicketSeat T → Type 0
@@ -77,6 +78,7 @@ module _ {T : Type 0} (leads : T → T → Type 0) where
     pub draws : (st : Step (Option T)) (me me' : TicketSeat T) (word : ℕ) → Draws st me word me' → HasSameTally me me'
     pub serves : (st : Step (Option T)) (me me' : TicketSeat T) (word : ℕ) → Serves leads st me word me' → HasSameTally me me'
     pub leaves : (st : Step (Option T)) (me me' : TicketSeat T) (word : ℕ) → Leaves leads st me word me' → (k l : Known T) → me.0 ≡ Live k → me'.0 ≡ Live l → (l.ended ≡ k.ended + 1) × (l.last ≡ k.seen)
+    pub exchanges : (me me' : TicketSeat T) (new : Option T) → Exchanges me new me' → HasSameTally me me'
 
   -- the steps of the ticket lock. Each keeps both passes of its rule, the words and the values
   pub record TicketStepsKeepRule (first : ℕ) : Type 0 where
@@ -99,3 +101,5 @@ module _ {T : Type 0} (leads : T → T → Type 0) where
     -- a pass that holds, and has put a value into its slot, raises the word that is served by one
     pub leaves : (slots id : ℕ) (me : TicketSeat T) (ticket : ℕ) (value : T) (is : stage_of me.0 ≡ Some (Holding ticket)) → me.1 ≡ (0, Some value) ∷ []
         → leads (known me.0 (Holding ticket) is).seen value → Allows (TicketLockRule leads first) slots id me 1 (λ word. (word + 1) % 2 ^ 64) (Leaves leads (step slots 1 1 0 none) me)
+    -- a pass that holds takes the value out of its slot, or puts one into it: the state is as it was, and still has the pass
+    pub exchanges : (s : TicketState T) (id : ℕ) (me me' : TicketSeat T) (new : Option T) → TicketLockRule leads first s → get_elem? s.views id ≡ some me.0 → Exchanges me new me' → TicketLockRule leads first s × (get_elem? s.views id ≡ some me'.0)

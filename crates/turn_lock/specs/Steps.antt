@@ -45,3 +45,7 @@ module _ {T : Type 0} where
   Leaves leads st me word me' =
       (k : Known T) × (value : T) × (me.0 ≡ Live k) × (k.stage ≡ Holding word) × (me.1 ≡ (0, Some value) ∷ []) × leads k.seen value
       × (me' ≡ (Live (after_section k word value), []))
+
+  -- take and put: in its section the pass takes the value out of its slot, or puts one into it. No word changes, no slot comes home, and its view stays
+  abbrev pub Exchanges : TicketSeat T → Option T → TicketSeat T → Type 0
+  Exchanges me new me' = (old : Option T) × (me.1 ≡ (0, old) ∷ []) × (me' ≡ (me.0, (0, new) ∷ []))

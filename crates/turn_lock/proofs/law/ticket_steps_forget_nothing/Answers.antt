@@ -1,4 +1,4 @@
-use Rattle.turn_lock.proofs.TicketMoves.{looks_remember, draws_remember, serves_remember, leaves_remember}
+use Rattle.turn_lock.proofs.TicketMoves.{looks_remember, draws_remember, serves_remember, leaves_remember, exchanges_remember}
 use Rattle.turn_lock.proofs.law.ticket_steps_forget_nothing.Goals as goal
 
 pub returns : goal.returns
@@ -7,4 +7,5 @@ returns g c = record {
   draws = draws_remember g.T.Growing.leads g.T.Growing.reflexive;
   serves = serves_remember g.T.Growing.leads g.T.Growing.reflexive;
   leaves = leaves_remember g.T.Growing.leads g.T.Growing.reflexive;
+  exchanges = exchanges_remember g.T.Growing.leads g.T.Growing.reflexive;
 }

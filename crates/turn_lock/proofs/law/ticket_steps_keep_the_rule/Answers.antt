@@ -1,4 +1,5 @@
-use Rattle.std.proofs.Common.{arith}
+use Rattle.std.proofs.Common.{arith, sym, ap, ◌∙◌}
+use mathlib.Core.Option.{some}
 use Rattle.turn_lock.proofs.TicketMoves.{opens, splits_allowed, joins_allowed, settles_allowed, looks_allowed, draws_allowed, serves_allowed, leaves_allowed}
 use Rattle.turn_lock.proofs.law.ticket_steps_keep_the_rule.Goals as goal
 
@@ -12,4 +13,5 @@ returns g c = record {
   draws = draws_allowed g.T.Growing.leads c.args.first;
   serves = λ slots id me ticket empty is. serves_allowed g.T.Growing.leads c.args.first slots id me ticket empty is g.T.Growing.reflexive;
   leaves = λ slots id me ticket value is carried grown. leaves_allowed g.T.Growing.leads c.args.first slots id me ticket value is carried grown g.T.Growing.reflexive g.T.Growing.transitive;
+  exchanges = λ s id me me' new r at told. (r, at ∙ ap (λ m. some m.0) (sym told.2));
 }

@@ -1,4 +1,4 @@
-use Rattle.turn_lock.proofs.TicketMoves.{settles_keep_tally, looks_keep_tally, draws_keep_tally, serves_keep_tally, leaves_count}
+use Rattle.turn_lock.proofs.TicketMoves.{settles_keep_tally, looks_keep_tally, draws_keep_tally, serves_keep_tally, leaves_count, exchanges_keep_tally}
 use Rattle.turn_lock.proofs.law.ticket_steps_keep_the_tally.Goals as goal
 
 pub returns : goal.returns
@@ -8,4 +8,5 @@ returns g c = record {
   draws = draws_keep_tally g.T.Growing.leads;
   serves = serves_keep_tally g.T.Growing.leads;
   leaves = leaves_count g.T.Growing.leads;
+  exchanges = exchanges_keep_tally g.T.Growing.leads;
 }
