@@ -15,7 +15,7 @@ use Rattle.turn_lock.specs.declared.ticket.view.TicketView.{TicketView}
 use Rattle.turn_lock.specs.declared.ticket.view.TicketView.TheVariants.{Spent, Live}
 use Rattle.turn_lock.specs.Ticket.{last_word, TicketState, TicketSeat, newcomer, idle_at, looked_at, waiting_for, in_section, after_section, both_known, beside, seen_alone, stage_of, next_of, known, Has, IsHome, IsOut, TicketLockRule}
 use Rattle.turn_lock.specs.Steps.{Looks, Draws, Serves, Settles, Leaves, Exchanges}
-use Rattle.turn_lock.proofs.TicketViews.{ticket_of_stage, max_le, up_one, live_is, known_live, known_stage, known_next, same_known, Free, holds_ticket, idle_free, looked_free, free_holds_not, with_view, with_pass, with_spent}
+use Rattle.turn_lock.proofs.TicketViews.{ticket_of_stage, max_le, max_left, max_right, up_one, live_is, known_live, known_stage, known_next, same_known, Free, holds_ticket, idle_free, looked_free, free_holds_not, with_view, with_pass, with_spent}
 use Rattle.turn_lock.proofs.TicketWords as on_words
 use Rattle.turn_lock.proofs.TicketValues as on_values
 
@@ -250,6 +250,20 @@ module _ {T : Type 0} (leads : T → T → Type 0) (same : (x : T) → leads x x
   remembers : (me me' : TicketSeat T) (k l : Known T) → me.0 ≡ Live k → me'.0 ≡ Live l → leads k.seen l.seen → k.next ≤ l.next → (a b : Known T) → me.0 ≡ Live a → me'.0 ≡ Live b → leads a.seen b.seen × (a.next ≤ b.next)
   remembers me me' k l is is' sees more a b at at' =
       subst (λ (x : Known T × Known T). leads x.0.seen x.1.seen × (x.0.next ≤ x.1.next)) (λ i. (live_is k a (sym is ∙ at) i, live_is l b (sym is' ∙ at') i)) (sees, more)
+
+  pub joins_remember : (k l m : Known T) → beside (Live k) (Live l) ≡ Live m → leads k.seen m.seen × leads l.seen m.also × (k.next ≤ m.next) × (l.next ≤ m.next)
+  joins_remember k l m is = subst (λ (x : Known T). leads k.seen x.seen × leads l.seen x.also × (k.next ≤ x.next) × (l.next ≤ x.next)) (live_is (both_known k l) m is) (same k.seen, same l.seen, max_left k.next l.next, max_right k.next l.next)
+
+  -- where a step leaves the pass with l from k, which both values of k lead to
+  both_remembered : (me me' : TicketSeat T) (k l : Known T) → me.0 ≡ Live k → me'.0 ≡ Live l → leads k.seen l.seen → leads k.also l.seen → k.next ≤ l.next → (a b : Known T) → me.0 ≡ Live a → me'.0 ≡ Live b → leads a.seen b.seen × leads a.also b.seen × (a.next ≤ b.next)
+  both_remembered me me' k l is is' sees sees' more a b at at' =
+      subst (λ (x : Known T × Known T). leads x.0.seen x.1.seen × leads x.0.also x.1.seen × (x.0.next ≤ x.1.next)) (λ i. (live_is k a (sym is ∙ at) i, live_is l b (sym is' ∙ at') i)) (sees, sees', more)
+
+  pub settles_remember : (st : Step (Option T)) (me me' : TicketSeat T) (word : ℕ) → Settles leads st me word me' → (a b : Known T) → me.0 ≡ Live a → me'.0 ≡ Live b → leads a.seen b.seen × leads a.also b.seen × (a.next ≤ b.next)
+  settles_remember st me me' word told = let k = told.0 in ⊎_elim
+      (λ (t : leads k.also k.seen × (me' ≡ (Live (seen_alone k k.seen), me.1))). both_remembered me me' k (seen_alone k k.seen) told.1 (ap (λ (m : TicketSeat T). m.0) t.1) (same k.seen) t.0 (omega arith))
+      (λ (t : leads k.seen k.also × (me' ≡ (Live (seen_alone k k.also), me.1))). both_remembered me me' k (seen_alone k k.also) told.1 (ap (λ (m : TicketSeat T). m.0) t.1) t.0 (same k.also) (omega arith))
+      told.2
 
   pub looks_remember : (st : Step (Option T)) (me me' : TicketSeat T) (word : ℕ) → Looks st me word me' → (a b : Known T) → me.0 ≡ Live a → me'.0 ≡ Live b → leads a.seen b.seen × (a.next ≤ b.next)
   looks_remember st me me' word told = let k = told.0 in dite (ℕ_discrete word last_word)

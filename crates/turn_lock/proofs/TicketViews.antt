@@ -25,6 +25,12 @@ after_it ticket other low apart = omega arith
 pub max_le : (a b c : ℕ) → a ≤ c → b ≤ c → max a b ≤ c
 max_le a b c h h' = omega arith
 
+pub max_left : (a b : ℕ) → a ≤ max a b
+max_left a b = omega arith
+
+pub max_right : (a b : ℕ) → b ≤ max a b
+max_right a b = omega arith
+
 -- one more fits a word, and is no less than it would be without wrapping
 pub up_one : (n : ℕ) → n < 18446744073709551615 → (n + 1) % 2 ^ 64 ≡ n + 1
 up_one n small = omega arith

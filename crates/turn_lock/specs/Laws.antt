@@ -60,6 +60,10 @@ module _ {T : Type 0} (leads : T → T → Type 0) where
 
   -- no step of the ticket lock forgets what was seen
   pub record TicketStepsForgetNothing : Type 0 where
+    -- two passes made one have both values, and no lesser next word than either
+    pub joins : (k l m : Known T) → beside (Live k) (Live l) ≡ Live m → leads k.seen m.seen × leads l.seen m.also × (k.next ≤ m.next) × (l.next ≤ m.next)
+    -- both values lead to the one that is kept
+    pub settles : (st : Step (Option T)) (me me' : TicketSeat T) (word : ℕ) → Settles leads st me word me' → (k l : Known T) → me.0 ≡ Live k → me'.0 ≡ Live l → leads k.seen l.seen × leads k.also l.seen × (k.next ≤ l.next)
     pub looks : (st : Step (Option T)) (me me' : TicketSeat T) (word : ℕ) → Looks st me word me' → Remembers me me'
     pub draws : (st : Step (Option T)) (me me' : TicketSeat T) (word : ℕ) → Draws st me word me' → Remembers me me'
     pub serves : (st : Step (Option T)) (me me' : TicketSeat T) (word : ℕ) → Serves leads st me word me' → Remembers me me'

@@ -329,15 +329,16 @@ fn each_law_is_called(_rt: HostRuntime) {
     crate::tickets_come_once::<Entries>(0);
 }
 
-// One section, in which the entry is appended, if there is one: how many stood there before, and the pass.
+// One section, which finds so many entries, and in which this one is appended, if there is one.
 fn in_section<R: Wait>(
     rt: &R,
     lock: &TicketLock<Entries>,
     pass: Pass<Entries>,
+    expected: usize,
     entry: Option<Entry>,
-) -> Result<(usize, Pass<Entries>), Fail>
+) -> Result<Pass<Entries>, Fail>
     requires { IsPassOf lock.now pass }
-    ensures { IfOk result (λ r. IsPassOf lock.now r.1) }
+    ensures { IfOk result (λ p. IsPassOf lock.now p) }
 {
     let Ok((mut value, holding)) = lock.lock(rt, pass) else {
         return Err(Fail::new("a lock with tickets left is worn"));
@@ -346,7 +347,12 @@ fn in_section<R: Wait>(
     if let Some(entry) = entry {
         value.append(entry);
     }
-    Ok((found, lock.leave(holding, value)))
+    let pass = lock.leave(holding, value);
+    if found == expected {
+        Ok(pass)
+    } else {
+        Err(Fail::new("a section found another number of entries"))
+    }
 }
 
 // Meets, of which the caller asks only that both passes come back.
@@ -365,13 +371,10 @@ fn meet(
 fn two_passes_meet(rt: HostRuntime) -> Result<(), Fail> {
     let (lock, pass) = TicketLock::new(rt.alloc(), Entries::new(rt.alloc()))?;
     let (a, b) = lock.split(pass);
-    let (found, a) = in_section(&rt, &lock, a, Some(line(7)))?;
-    assert_eq!(rt; found, 0);
+    let a = in_section(&rt, &lock, a, 0, Some(line(7)))?;
     let (a, b) = meet(&lock, a, b);
-    let (found, b) = in_section(&rt, &lock, b, None)?;
-    assert_eq!(rt; found, 1);
-    let (found, b) = in_section(&rt, &lock, b, Some(line(8)))?;
-    assert_eq!(rt; found, 1);
+    let b = in_section(&rt, &lock, b, 1, None)?;
+    let b = in_section(&rt, &lock, b, 1, Some(line(8)))?;
     let (a, b) = meet(&lock, a, b);
     drop(b);
     let Ok((value, holding)) = lock.lock(&rt, a) else {

@@ -7,13 +7,13 @@ use Rattle.turn_lock.proofs.TicketViews.{beside_idle}
 use Rattle.turn_lock.proofs.ticket.lock.TicketLock.meet.Goals as goal
 
 pub join_seat-requires : goal.join_seat-requires
-join_seat-requires g c = (search rules, search rules, search rules, search rules, joins_allowed g.T.Growing.leads _ _ _ _ _ c.args.one.idle.1 c.args.other.idle.1)
+join_seat-requires g c = (search rules, search rules, search rules, search rules, joins_allowed g.T.Growing.leads _ _ _ _ _ (search rules) (search rules))
 
 pub load-requires : goal.load-requires
 load-requires g c = (
   search rules,
   search rules,
-  settles_allowed g.T.Growing.leads _ _ _ _ (ap (λ me. stage_of me.0) c.join_seat.ensures.2 ∙ beside_idle _ _ c.args.one.idle.1 c.args.other.idle.1) g.T.Growing.ordered,
+  settles_allowed g.T.Growing.leads _ _ _ _ (ap (λ me. stage_of me.0) c.join_seat.ensures.2 ∙ beside_idle _ _ (search rules) (search rules)) g.T.Growing.ordered,
 )
 
 pub split_seat-second-requires : goal.split_seat-second-requires
