@@ -33,11 +33,14 @@ const HANDED_OVER: u32 = 2;
 /// How often a thread looks before it sleeps: for some microseconds, less than going to sleep and waking up take.
 const LOOKS_LIMIT: u32 = 12;
 
-/// A sleep ends when the turn is given back. This is its bound, in case that nobody wakes the sleeper.
-const SLEEP_MICROS: u64 = 5_000;
+/// A sleep ends when the turn is given back. This is its bound, in case that who is woken isn't scheduled for a while.
+const SLEEP_MICROS: u64 = 500;
 
 /// After so many sleeps, half a second, a thread goes without the turn: far longer than a turn takes on a busy machine.
-const SLEEPS_LIMIT: u32 = 100;
+const SLEEPS_LIMIT: u32 = 1_000;
+
+/// So long who comes now leaves a turn that was handed over to those that have slept: about what one of them needs to wake up.
+const COURTESY_MICROS: u64 = 50;
 
 /// The first rest of a worker that found nothing to do. Each further one is twice as long, so that many idle workers don't keep the
 /// turn from the intakes.
@@ -115,23 +118,32 @@ impl Turns {
 
     // Until the turn is given back, or for a while.
     fn sleep<R: Wait>(&self, rt: &R) {
-        let seen = if self.is(HANDED_OVER) {
-            HANDED_OVER
+        let (seen, micros) = if self.is(HANDED_OVER) {
+            (HANDED_OVER, COURTESY_MICROS)
         } else {
-            HELD
+            (HELD, SLEEP_MICROS)
         };
         self.word
-            .park_timeout(rt, seen, Duration::from_micros(SLEEP_MICROS));
+            .park_timeout(rt, seen, Duration::from_micros(micros));
     }
 
-    // Gives the turn to who sleeps. Who goes to sleep only now either finds the word changed or is counted when it is looked again.
+    // Gives the turn to whoever comes first, for a thread that has something else to do now.
     fn give_back(&self) {
-        let to = if self.has_sleepers() {
+        self.leave_as(FREE);
+    }
+
+    // Gives it to who sleeps, for a thread that asks for it again at once: it would have it before a sleeper wakes up.
+    fn hand_over(&self) {
+        self.leave_as(if self.has_sleepers() {
             HANDED_OVER
         } else {
             FREE
-        };
-        self.word.store(u64::from(to), Ordering::SeqCst);
+        });
+    }
+
+    // Who goes to sleep only now either finds the word changed or is counted already.
+    fn leave_as(&self, state: u32) {
+        self.word.store(u64::from(state), Ordering::SeqCst);
         if self.has_sleepers() {
             self.word.wake_one();
         }
@@ -161,36 +173,37 @@ pub(crate) struct Turn<'t> {
 }
 
 impl Turn<'_> {
-    /// Counts an offer. After so many the turn goes to another thread, and an intake that is far ahead of the workers sleeps.
+    /// Counts an offer. After so many the turn goes to who sleeps, and an intake that is far ahead of the workers sleeps first.
     pub(crate) fn count_offer<R: Wait>(&mut self, rt: &R) {
         self.turns.backlog.add_one();
         match self.calls_left.checked_sub(1) {
             Some(left) => self.calls_left = left,
-            None => {
-                self.end();
-                self.turns.backlog.await_shorter(rt);
-                self.has = self.turns.obtain(rt);
-                self.calls_left = CALLS_LIMIT;
-            }
+            None => self.renew(rt),
         }
+    }
+
+    fn renew<R: Wait>(&mut self, rt: &R) {
+        self.turns.backlog.wake_where_short();
+        if self.has {
+            self.turns.hand_over();
+        }
+        self.turns.backlog.await_shorter(rt);
+        self.has = self.turns.obtain(rt);
+        self.calls_left = CALLS_LIMIT;
     }
 
     /// Counts a claim that was taken.
     pub(crate) fn count_taken(&self) {
         self.turns.backlog.remove_one();
     }
-
-    fn end(&self) {
-        self.turns.backlog.wake_where_short();
-        if self.has {
-            self.turns.give_back();
-        }
-    }
 }
 
 impl Drop for Turn<'_> {
     fn drop(self) {
-        self.end();
+        self.turns.backlog.wake_where_short();
+        if self.has {
+            self.turns.give_back();
+        }
         let Turn {
             turns: _,
             has: _,

@@ -35,10 +35,11 @@ fn a_turn_goes_to_who_sleeps(rt: HostRuntime) -> Result<(), Fail> {
     let turns = Turns::new();
     let first = turns.begin(&rt);
     turns.sleepers.fetch_add(1, Ordering::SeqCst);
-    drop(first);
+    turns.hand_over();
     assert!(rt; turns.is(HANDED_OVER));
     assert!(rt; !turns.exchange(FREE, HELD));
     assert!(rt; turns.begin(&rt).has);
+    drop(first);
     Ok(())
 }
 
