@@ -54,7 +54,8 @@ fn take_first<G: Gate>(
 {
     let (one, other) = accept_first(rt, alloc, terms, gate, passes)?;
     let (one, job) = take_job(rt, terms, gate, one, 0)?;
-    assert!(rt; is_job(&job, 0, "c1") && is_at(job.acc, 0, 0, 0));
+    assert!(rt; is_job(&job, 0, "c1"));
+    assert!(rt; is_at(job.acc, 0, 0, 0));
     Ok((one, other, job))
 }
 
@@ -94,7 +95,8 @@ fn take_other<G: Gate>(
     let (one, other) = passes;
     let one = accept_at(rt, alloc, terms, gate, one, (2, 0), 2)?;
     let (other, job) = take_job(rt, terms, gate, other, 2)?;
-    assert!(rt; is_job(&job, 2, "d1") && is_at(job.acc, 0, 0, 0));
+    assert!(rt; is_job(&job, 2, "d1"));
+    assert!(rt; is_at(job.acc, 0, 0, 0));
     Ok((one, other))
 }
 
@@ -115,7 +117,8 @@ fn take_second<G: Gate>(
     let (one, other) = passes;
     let one = record(rt, alloc, terms, gate, one, job)?;
     let (other, next) = take_job(rt, terms, gate, other, 1)?;
-    assert!(rt; is_job(&next, 1, "c2") && is_at(next.acc, 500_000, 600_000, 400_000));
+    assert!(rt; is_job(&next, 1, "c2"));
+    assert!(rt; is_at(next.acc, 500_000, 600_000, 400_000));
     Ok((one, other, next))
 }
 

@@ -72,7 +72,8 @@ fn take_first<'t>(
     let back = refuse_at(rt, alloc, terms, gate, 1, 0, out_of_turn)?;
     assert!(rt; is_offer(&back, 1, 0, "c1"));
     let job = take_job(rt, terms, gate, 0)?;
-    assert!(rt; is_job(&job, 0, "c1") && is_at(job.acc, 0, 0, 0));
+    assert!(rt; is_job(&job, 0, "c1"));
+    assert!(rt; is_at(job.acc, 0, 0, 0));
     Ok(job)
 }
 
@@ -108,7 +109,8 @@ fn take_other<'t>(
 {
     accept_at(rt, alloc, terms, gate, 2, 0, 2)?;
     let job = take_job(rt, terms, gate, 2)?;
-    assert!(rt; is_job(&job, 2, "d1") && is_at(job.acc, 0, 0, 0));
+    assert!(rt; is_job(&job, 2, "d1"));
+    assert!(rt; is_at(job.acc, 0, 0, 0));
     Ok(())
 }
 
@@ -127,7 +129,8 @@ fn take_second<'t>(
 {
     record(rt, alloc, terms, gate, job)?;
     let next = take_job(rt, terms, gate, 1)?;
-    assert!(rt; is_job(&next, 1, "c2") && is_at(next.acc, 500_000, 600_000, 400_000));
+    assert!(rt; is_job(&next, 1, "c2"));
+    assert!(rt; is_at(next.acc, 500_000, 600_000, 400_000));
     Ok(next)
 }
 
