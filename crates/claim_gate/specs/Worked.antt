@@ -6,10 +6,11 @@ use Rattle.settlement.specs.declared.claim.Claim.{Claim}
 use Rattle.intake_csv.specs.Laws.{StandApart}
 use Rattle.intake_csv.specs.Rows.{AreRowsLeft, RowsLeft}
 use Rattle.intake_csv.specs.declared.rows.Row.{Row}
-use Rattle.claim_terms.specs.Terms.{claims_among}
+use Rattle.claim_terms.specs.Terms.{TermsParts, claims_among}
 use Rattle.journal.specs.Terms.{Terms, IsProvider, claims_of}
 use Rattle.journal.specs.Events.{taken, IsJob}
 use Rattle.claim_gate.specs.Parts.{GateParts, ForTerms}
+use Rattle.claim_gate.specs.Shared.{Known}
 use Rattle.claim_gate.specs.declared.job.Job.{Job}
 
 -- the plan is that of a text
@@ -35,3 +36,13 @@ pub record IsAtWork (gate : GateParts) (job : Job) : Type 0 where
 -- what was in work still is
 abbrev pub WorkStays : GateParts → GateParts → Type 0
 WorkStays old new = (job : Job) → IsAtWork old job → IsAtWork new job
+
+-- the pass is one of the gate, and has seen these terms
+pub record IsCaller {P : Type 0} (has_pass : P → Type 0) (known : P → Known) (terms : TermsParts) (pass : P) : Type 0 where
+  pub own : has_pass pass
+  pub terms_are : (known pass).seen.terms ≡ terms
+
+-- two such passes
+pub record AreCallers {P : Type 0} (has_pass : P → Type 0) (known : P → Known) (terms : TermsParts) (passes : P × P) : Type 0 where
+  pub one : IsCaller has_pass known terms passes.0
+  pub other : IsCaller has_pass known terms passes.1

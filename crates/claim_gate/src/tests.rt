@@ -61,8 +61,21 @@ d2,M2,2024-01-10,9.999,B
 d3,M2,2024-01-11,10.00,X
 ";
 
+// A function for each text: what calls it is proved without the text.
+fn plan_text() -> &'static [u8] {
+    PLAN
+}
+
+fn first_file() -> &'static [u8] {
+    FIRST_FILE
+}
+
+fn second_file() -> &'static [u8] {
+    SECOND_FILE
+}
+
 fn plan(rt: &impl Abort, alloc: Global) -> Plan {
-    read_plan(alloc, PLAN).expect(rt, "a plan")
+    read_plan(alloc, plan_text()).expect(rt, "a plan")
 }
 
 // Whether the answer of `take` is that nothing is left to do.
@@ -92,7 +105,7 @@ fn counts(accepted: usize, ended: usize, decided: usize, closed: bool) -> Counts
 #[test]
 fn nothing_is_offered_yet(rt: HostRuntime) -> Result<(), Fail> {
     let plan = plan(&rt, rt.alloc());
-    let files = [FIRST_FILE, SECOND_FILE];
+    let files = [first_file(), second_file()];
     let terms = Terms::new(rt.alloc(), &plan, &files, None, None).expect(&rt, "terms");
     let mut gate = GateState::new(rt.alloc(), &terms)?;
     assert!(rt; gate.journal().is_empty());
@@ -106,7 +119,7 @@ fn nothing_is_offered_yet(rt: HostRuntime) -> Result<(), Fail> {
 #[test]
 fn no_claim_is_admitted(rt: HostRuntime) -> Result<(), Fail> {
     let plan = plan(&rt, rt.alloc());
-    let files = [FIRST_FILE, SECOND_FILE];
+    let files = [first_file(), second_file()];
     let terms = Terms::new(rt.alloc(), &plan, &files, None, Some(0)).expect(&rt, "terms");
     let mut gate = GateState::new(rt.alloc(), &terms)?;
     assert!(rt; matches!(gate.journal(), [Event::Close]));
@@ -123,7 +136,7 @@ fn no_claim_is_admitted(rt: HostRuntime) -> Result<(), Fail> {
 #[test]
 fn a_stopped_gate_hands_nothing_out(rt: HostRuntime) -> Result<(), Fail> {
     let plan = plan(&rt, rt.alloc());
-    let files = [FIRST_FILE, SECOND_FILE];
+    let files = [first_file(), second_file()];
     let terms = Terms::new(rt.alloc(), &plan, &files, None, Some(0)).expect(&rt, "terms");
     let mut gate = GateState::new(rt.alloc(), &terms)?;
     gate.stop();
@@ -135,10 +148,10 @@ fn a_stopped_gate_hands_nothing_out(rt: HostRuntime) -> Result<(), Fail> {
 
 #[test]
 fn a_gate_is_made_or_no_memory(rt: HostRuntime) -> Result<(), Fail> {
-    let Ok(plan) = read_plan(rt.alloc(), PLAN) else {
+    let Ok(plan) = read_plan(rt.alloc(), plan_text()) else {
         return Ok(());
     };
-    let files = [FIRST_FILE, SECOND_FILE];
+    let files = [first_file(), second_file()];
     let Ok(terms) = Terms::new(rt.alloc(), &plan, &files, None, Some(0)) else {
         return Ok(());
     };

@@ -3,18 +3,17 @@ ghost use Rattle.std.specs.Prelude.{◌≡◌, IfOk, OnOk};
 ghost use Rattle.journal.specs.Settled.{outcome_of};
 ghost use Rattle.claim_gate.specs.Parts.{ForTerms};
 ghost use Rattle.claim_gate.specs.Replies.{HasClaims, IsFiled};
-ghost use Rattle.claim_gate.specs.Worked.{IsAtWork, IsReader, WorkStays};
+ghost use Rattle.claim_gate.specs.Worked.{IsAtWork, IsSpelled, WorkStays};
 
-use super::filing::next_offer;
+use super::filing::offer_at;
 use crate::{EndFault, FinishFault, GateState, Job, Offer, OfferFault, TakeFault, Taken, Terms};
-use intake_csv::Rows;
 use journal::jobs_stay;
 use settlement::{Outcome, decide};
 use std::alloc::{AllocError, Global};
 use std::process::Abort;
 
 // Offers a claim, which is accepted at a position.
-pub fn accept<'t>(
+fn accept<'t>(
     rt: &impl Abort,
     terms: &'t Terms<'t>,
     gate: &mut GateState<'t>,
@@ -38,28 +37,28 @@ pub fn accept<'t>(
     }
 }
 
-// Offers the next claim of a provider's file, which is accepted at a position.
-pub fn accept_next<'t>(
+// Offers the claim at a place of a provider's file, which is accepted at a position.
+pub fn accept_at<'t>(
     rt: &impl Abort,
+    alloc: Global,
     terms: &'t Terms<'t>,
     gate: &mut GateState<'t>,
     provider: usize,
-    rows: &mut Rows,
+    place: usize,
     position: usize,
 ) -> Result<(), AllocError>
+    requires plan { IsSpelled terms.now.plan }
     requires terms { gate.old.terms ≡ terms.now }
-    requires reader { ForTerms terms.now (λ T. IsReader T provider rows.old) }
     ensures terms { gate.new.terms ≡ terms.now }
     ensures stays { OnOk result (WorkStays gate.old gate.new) }
-    ensures reader { OnOk result (ForTerms terms.now (λ T. IsReader T provider rows.new)) }
 {
-    let offer = next_offer(rt, terms, provider, rows)?;
+    let offer = offer_at(rt, alloc, terms, provider, place)?;
     accept(rt, terms, gate, offer, position)?;
     Ok(())
 }
 
 // Offers a claim, which is refused: it comes back, and the journal is as before.
-pub fn refuse<'t>(
+fn refuse<'t>(
     rt: &impl Abort,
     terms: &'t Terms<'t>,
     gate: &mut GateState<'t>,
@@ -81,6 +80,25 @@ pub fn refuse<'t>(
             back
         }
     }
+}
+
+// Offers the claim at a place of a provider's file, which is refused.
+pub fn refuse_at<'t>(
+    rt: &impl Abort,
+    alloc: Global,
+    terms: &'t Terms<'t>,
+    gate: &mut GateState<'t>,
+    provider: usize,
+    place: usize,
+    fault: OfferFault,
+) -> Result<Offer, AllocError>
+    requires plan { IsSpelled terms.now.plan }
+    requires terms { gate.old.terms ≡ terms.now }
+    ensures terms { gate.new.terms ≡ terms.now }
+    ensures stays { OnOk result (WorkStays gate.old gate.new) }
+{
+    let offer = offer_at(rt, alloc, terms, provider, place)?;
+    Ok(refuse(rt, terms, gate, offer, fault))
 }
 
 // Takes a claim, which is that at a position.

@@ -102,6 +102,24 @@ pub fn next_offer(
     }
 }
 
+// The claim at a place of a provider's file, whose records up to it are claims, as an offer.
+pub fn offer_at(
+    rt: &impl Abort,
+    alloc: Global,
+    terms: &Terms,
+    provider: usize,
+    place: usize,
+) -> Result<Offer, AllocError>
+    requires { IsSpelled terms.now.plan }
+    ensures { IfOk result (λ offer. ForTerms terms.now (λ T. IsFiled T offer)) }
+{
+    let mut rows = open(rt, alloc, terms, provider)?;
+    for _ in 0..place {
+        next_offer(rt, terms, provider, &mut rows)?;
+    }
+    next_offer(rt, terms, provider, &mut rows)
+}
+
 // Reads a provider's file to its end: so many claims, and nothing else.
 pub fn read_all(
     rt: &impl Abort,

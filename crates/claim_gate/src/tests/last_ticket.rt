@@ -1,11 +1,14 @@
-//! A gate behind a lock whose last ticket is drawn by the first call: each later call is answered so, and the pass comes back.
+//! A gate behind a lock of which two tickets are left, one, or none: each call behind the last one is answered so, and the pass
+//! and the values come back.
 ghost use Rattle.std.specs.Prelude.{◌≡◌, IfOk, IfErr};
-ghost use Rattle.claim_gate.specs.Worked.{IsSpelled};
+ghost use Rattle.claim_gate.specs.Worked.{IsAtWork, IsCaller, IsSpelled};
 
-use super::filing::{is_offer, next_offer, open, plan_of, read_all, terms_of};
-use super::shared::accept;
-use super::{FIRST_FILE, PLAN};
-use crate::{Gate, GateState, LockedGate, SerialGate, Terms};
+use super::calls::settled;
+use super::filing::{is_offer, offer_at, plan_of, read_all, terms_of};
+use super::shared::{accept_at, take_job};
+use super::worked::{is_job, is_paid_40};
+use super::{first_file, plan_text};
+use crate::{Gate, GateState, Job, LockedGate, SerialGate, Terms};
 use std::alloc::{AllocError, Global};
 use std::process::Abort;
 use std::sync::Wait;
@@ -21,13 +24,10 @@ fn worn_intake<G: Gate>(
     pass: G::Pass,
 ) -> Result<G::Pass, AllocError>
     requires plan { IsSpelled terms.now.plan }
-    requires own { G.has_pass gate.now pass }
-    requires terms { (G.known pass).seen.terms ≡ terms.now }
-    ensures own { IfOk result (λ p. G.has_pass gate.now p) }
-    ensures terms { IfOk result (λ p. (G.known p).seen.terms ≡ terms.now) }
+    requires caller { IsCaller (G.has_pass gate.now) G.known terms.now pass }
+    ensures caller { IfOk result (IsCaller (G.has_pass gate.now) G.known terms.now) }
 {
-    let mut rows = open(rt, alloc, terms, 1)?;
-    let offer = next_offer(rt, terms, 1, &mut rows)?;
+    let offer = offer_at(rt, alloc, terms, 1, 0)?;
     read_all(rt, alloc, terms, 1, 4)?;
     let Err((_, pass, back)) = gate.offer(rt, pass, offer) else {
         panic!(rt; "no ticket for an offer");
@@ -72,26 +72,111 @@ where
     requires terms { (S.Value.shown (S.seen pass)).terms ≡ terms.now }
 {
     let gate = LockedGate::over(lock);
-    let mut rows = open(rt, alloc, terms, 1)?;
-    let offer = next_offer(rt, terms, 1, &mut rows)?;
-    let pass = accept(rt, terms, &gate, pass, offer, 0)?;
+    let pass = accept_at(rt, alloc, terms, &gate, pass, (1, 0), 0)?;
     let pass = worn_intake(rt, alloc, terms, &gate, pass)?;
     let pass = worn_calls(rt, &gate, pass);
     assert!(rt; gate.retire(rt, pass).is_err());
     Ok(())
 }
 
-fn by_the_last_ticket(rt: &(impl Abort + Wait), alloc: Global) -> Result<(), AllocError> {
-    let plan = plan_of(alloc, PLAN)?;
-    let files = [FIRST_FILE];
+// No claim is accepted at all.
+fn calls_without<S: Section + Drop>(
+    rt: &(impl Abort + Wait),
+    alloc: Global,
+    terms: &Terms,
+    lock: S,
+    pass: S::Pass,
+) -> Result<(), AllocError>
+where
+    S::Value: SerialGate + Drop,
+    S::Pass: Send + Drop,
+    requires plan { IsSpelled terms.now.plan }
+    requires own { S.has_pass lock pass }
+    requires terms { (S.Value.shown (S.seen pass)).terms ≡ terms.now }
+{
+    let gate = LockedGate::over(lock);
+    let pass = worn_intake(rt, alloc, terms, &gate, pass)?;
+    let _pass = worn_calls(rt, &gate, pass);
+    Ok(())
+}
+
+// The outcome of a job: both come back.
+fn worn_finish<G: Gate>(
+    rt: &(impl Abort + Wait),
+    alloc: Global,
+    terms: &Terms,
+    gate: &G,
+    pass: G::Pass,
+    job: Job,
+) -> Result<(), AllocError>
+    requires caller { IsCaller (G.has_pass gate.now) G.known terms.now pass }
+    requires at_work { IsAtWork (G.known pass).seen job }
+{
+    let outcome = settled(rt, alloc, terms, &job)?;
+    let Err((_, _pass, job, outcome)) = gate.finish(rt, pass, job, outcome) else {
+        panic!(rt; "no ticket for a finish");
+    };
+    assert!(rt; is_job(&job, 0, "c1") && is_paid_40(&outcome));
+    Ok(())
+}
+
+// The first claim is taken by the last ticket.
+fn finish_over<S: Section + Drop>(
+    rt: &(impl Abort + Wait),
+    alloc: Global,
+    terms: &Terms,
+    lock: S,
+    pass: S::Pass,
+) -> Result<(), AllocError>
+where
+    S::Value: SerialGate + Drop,
+    S::Pass: Send + Drop,
+    requires plan { IsSpelled terms.now.plan }
+    requires own { S.has_pass lock pass }
+    requires terms { (S.Value.shown (S.seen pass)).terms ≡ terms.now }
+{
+    let gate = LockedGate::over(lock);
+    let pass = accept_at(rt, alloc, terms, &gate, pass, (1, 0), 0)?;
+    let (pass, job) = take_job(rt, terms, &gate, pass, 0)?;
+    worn_finish(rt, alloc, terms, &gate, pass, job)
+}
+
+fn by_one_ticket(rt: &(impl Abort + Wait), alloc: Global) -> Result<(), AllocError> {
+    let plan = plan_of(alloc, plan_text())?;
+    let files = [first_file()];
     let terms = terms_of(alloc, &plan, &files, None)?;
     let state = GateState::new(alloc, &terms)?;
     let (lock, pass) = TicketLock::new_at(alloc, state, u64::MAX - 1)?;
     calls_over(rt, alloc, &terms, lock, pass)
 }
 
+fn by_no_ticket(rt: &(impl Abort + Wait), alloc: Global) -> Result<(), AllocError> {
+    let plan = plan_of(alloc, plan_text())?;
+    let files = [first_file()];
+    let terms = terms_of(alloc, &plan, &files, None)?;
+    let state = GateState::new(alloc, &terms)?;
+    let (lock, pass) = TicketLock::new_at(alloc, state, u64::MAX)?;
+    calls_without(rt, alloc, &terms, lock, pass)
+}
+
+fn by_two_tickets(rt: &(impl Abort + Wait), alloc: Global) -> Result<(), AllocError> {
+    let plan = plan_of(alloc, plan_text())?;
+    let files = [first_file()];
+    let terms = terms_of(alloc, &plan, &files, None)?;
+    let state = GateState::new(alloc, &terms)?;
+    let (lock, pass) = TicketLock::new_at(alloc, state, u64::MAX - 2)?;
+    finish_over(rt, alloc, &terms, lock, pass)
+}
+
 #[test]
 fn no_call_without_a_ticket(rt: HostRuntime) -> Result<(), Fail> {
-    by_the_last_ticket(&rt, rt.alloc())?;
+    by_no_ticket(&rt, rt.alloc())?;
+    by_one_ticket(&rt, rt.alloc())?;
+    Ok(())
+}
+
+#[test]
+fn no_outcome_without_a_ticket(rt: HostRuntime) -> Result<(), Fail> {
+    by_two_tickets(&rt, rt.alloc())?;
     Ok(())
 }

@@ -4,9 +4,9 @@ ghost use Rattle.std.specs.Prelude.{◌≡◌};
 ghost use Rattle.turn_lock.specs.TicketShown.{IsPassOf, pass_knows};
 ghost use Rattle.claim_gate.specs.Worked.{IsSpelled};
 
-use super::filing::{is_offer, next_offer, open, plan_of, terms_of};
-use super::shared::{accept, find_stopped, refuse};
-use super::{FIRST_FILE, PLAN, SECOND_FILE};
+use super::filing::{is_offer, plan_of, terms_of};
+use super::shared::{accept_at, find_stopped, refuse_at};
+use super::{first_file, plan_text, second_file};
 use crate::{Gate, GateState, LockedGate, OfferFault, SerialGate, Terms};
 use std::alloc::{AllocError, Global};
 use std::process::Abort;
@@ -29,18 +29,14 @@ fn met_calls<V: SerialGate + Send + Drop>(
 {
     let gate = LockedGate::over(lock);
     let (one, other) = gate.split(pass);
-    let mut rows = open(rt, alloc, terms, 1)?;
-    let offer = next_offer(rt, terms, 1, &mut rows)?;
-    let one = accept(rt, terms, &gate, one, offer, 0)?;
+    let one = accept_at(rt, alloc, terms, &gate, one, (1, 0), 0)?;
     let (one, other) = gate.meet(one, other);
     let Ok((counts, other)) = gate.counts(rt, other) else {
         panic!(rt; "counts");
     };
     assert!(rt; counts.accepted == 1);
-    let mut rows = open(rt, alloc, terms, 1)?;
-    let offer = next_offer(rt, terms, 1, &mut rows)?;
     let out_of_turn = OfferFault::OutOfTurn { expected: 1 };
-    let (other, back) = refuse(rt, terms, &gate, other, offer, out_of_turn);
+    let (other, back) = refuse_at(rt, alloc, terms, &gate, other, (1, 0), out_of_turn)?;
     assert!(rt; is_offer(&back, 1, 0, "c1"));
     let Ok(other) = gate.stop(rt, other) else {
         panic!(rt; "a stop");
@@ -51,8 +47,8 @@ fn met_calls<V: SerialGate + Send + Drop>(
 }
 
 fn met_passes(rt: &(impl Abort + Wait), alloc: Global) -> Result<(), AllocError> {
-    let plan = plan_of(alloc, PLAN)?;
-    let files = [FIRST_FILE, SECOND_FILE];
+    let plan = plan_of(alloc, plan_text())?;
+    let files = [first_file(), second_file()];
     let terms = terms_of(alloc, &plan, &files, None)?;
     let (lock, pass) = TicketLock::new(alloc, GateState::new(alloc, &terms)?)?;
     met_calls(rt, alloc, &terms, lock, pass)
@@ -61,5 +57,35 @@ fn met_passes(rt: &(impl Abort + Wait), alloc: Global) -> Result<(), AllocError>
 #[test]
 fn two_passes_meet_at_a_gate(rt: HostRuntime) -> Result<(), Fail> {
     met_passes(&rt, rt.alloc())?;
+    Ok(())
+}
+
+// Two passes that have seen that no ticket is left: they meet, and have seen so still.
+fn meet_worn<V: SerialGate + Send + Drop>(
+    rt: &(impl Abort + Wait),
+    lock: TicketLock<V>,
+    pass: Pass<V>,
+)
+    requires { IsPassOf lock pass }
+{
+    let gate = LockedGate::over(lock);
+    let (one, other) = gate.split(pass);
+    let (one, other) = gate.meet(one, other);
+    assert!(rt; gate.counts(rt, one).is_err());
+    assert!(rt; gate.counts(rt, other).is_err());
+}
+
+fn worn_passes(rt: &(impl Abort + Wait), alloc: Global) -> Result<(), AllocError> {
+    let plan = plan_of(alloc, plan_text())?;
+    let files = [first_file()];
+    let terms = terms_of(alloc, &plan, &files, None)?;
+    let (lock, pass) = TicketLock::new_at(alloc, GateState::new(alloc, &terms)?, u64::MAX)?;
+    meet_worn(rt, lock, pass);
+    Ok(())
+}
+
+#[test]
+fn two_worn_passes_meet_at_a_gate(rt: HostRuntime) -> Result<(), Fail> {
+    worn_passes(&rt, rt.alloc())?;
     Ok(())
 }

@@ -3,9 +3,10 @@ ghost use Rattle.std.specs.Prelude.{◌≡◌, IfOk};
 ghost use Rattle.claim_gate.specs.Parts.{ForTerms};
 ghost use Rattle.claim_gate.specs.Replies.{HasClaims, IsFiled};
 ghost use Rattle.claim_gate.specs.Shared.{LeadsTo};
-ghost use Rattle.claim_gate.specs.Worked.{IsAtWork};
+ghost use Rattle.claim_gate.specs.Worked.{IsAtWork, IsCaller, IsSpelled};
 
 use super::calls::settled;
+use super::filing::offer_at;
 use crate::{EndFault, FinishFault, Gate, Job, Offer, OfferFault, TakeFault, Taken, Terms};
 use journal::jobs_stay;
 use settlement::Outcome;
@@ -14,7 +15,7 @@ use std::process::Abort;
 use std::sync::Wait;
 
 // Offers a claim, which is accepted at a position.
-pub fn accept<G: Gate>(
+fn accept<G: Gate>(
     rt: &(impl Abort + Wait),
     terms: &Terms,
     gate: &G,
@@ -22,10 +23,9 @@ pub fn accept<G: Gate>(
     offer: Offer,
     position: usize,
 ) -> Result<G::Pass, AllocError>
-    requires own { G.has_pass gate.now pass }
-    requires terms { (G.known pass).seen.terms ≡ terms.now }
+    requires caller { IsCaller (G.has_pass gate.now) G.known terms.now pass }
     requires filed { ForTerms terms.now (λ T. IsFiled T offer) }
-    ensures own { IfOk result (λ p. G.has_pass gate.now p) }
+    ensures caller { IfOk result (IsCaller (G.has_pass gate.now) G.known terms.now) }
     ensures leads { IfOk result (λ p. LeadsTo (G.known pass).seen (G.known p).seen) }
 {
     let _plan = terms.plan();
@@ -43,7 +43,7 @@ pub fn accept<G: Gate>(
 }
 
 // Offers a claim, which is refused: it comes back.
-pub fn refuse<G: Gate>(
+fn refuse<G: Gate>(
     rt: &(impl Abort + Wait),
     terms: &Terms,
     gate: &G,
@@ -51,10 +51,9 @@ pub fn refuse<G: Gate>(
     offer: Offer,
     fault: OfferFault,
 ) -> (G::Pass, Offer)
-    requires own { G.has_pass gate.now pass }
-    requires terms { (G.known pass).seen.terms ≡ terms.now }
+    requires caller { IsCaller (G.has_pass gate.now) G.known terms.now pass }
     requires filed { ForTerms terms.now (λ T. IsFiled T offer) }
-    ensures own { G.has_pass gate.now result.0 }
+    ensures caller { IsCaller (G.has_pass gate.now) G.known terms.now result.0 }
     ensures leads { LeadsTo (G.known pass).seen (G.known result.0).seen }
     ensures back { result.1 ≡ offer }
 {
@@ -71,6 +70,46 @@ pub fn refuse<G: Gate>(
     }
 }
 
+// Offers the claim at a place of a provider's file, which is accepted at a position.
+pub fn accept_at<G: Gate>(
+    rt: &(impl Abort + Wait),
+    alloc: Global,
+    terms: &Terms,
+    gate: &G,
+    pass: G::Pass,
+    filed: (usize, usize),
+    position: usize,
+) -> Result<G::Pass, AllocError>
+    requires plan { IsSpelled terms.now.plan }
+    requires caller { IsCaller (G.has_pass gate.now) G.known terms.now pass }
+    ensures caller { IfOk result (IsCaller (G.has_pass gate.now) G.known terms.now) }
+    ensures leads { IfOk result (λ p. LeadsTo (G.known pass).seen (G.known p).seen) }
+{
+    let (provider, place) = filed;
+    let offer = offer_at(rt, alloc, terms, provider, place)?;
+    accept(rt, terms, gate, pass, offer, position)
+}
+
+// Offers the claim at a place of a provider's file, which is refused.
+pub fn refuse_at<G: Gate>(
+    rt: &(impl Abort + Wait),
+    alloc: Global,
+    terms: &Terms,
+    gate: &G,
+    pass: G::Pass,
+    filed: (usize, usize),
+    fault: OfferFault,
+) -> Result<(G::Pass, Offer), AllocError>
+    requires plan { IsSpelled terms.now.plan }
+    requires caller { IsCaller (G.has_pass gate.now) G.known terms.now pass }
+    ensures caller { IfOk result (λ r. IsCaller (G.has_pass gate.now) G.known terms.now r.0) }
+    ensures leads { IfOk result (λ r. LeadsTo (G.known pass).seen (G.known r.0).seen) }
+{
+    let (provider, place) = filed;
+    let offer = offer_at(rt, alloc, terms, provider, place)?;
+    Ok(refuse(rt, terms, gate, pass, offer, fault))
+}
+
 // Takes a claim, which is that at a position.
 pub fn take_job<G: Gate>(
     rt: &(impl Abort + Wait),
@@ -79,9 +118,8 @@ pub fn take_job<G: Gate>(
     pass: G::Pass,
     position: usize,
 ) -> Result<(G::Pass, Job), AllocError>
-    requires own { G.has_pass gate.now pass }
-    requires terms { (G.known pass).seen.terms ≡ terms.now }
-    ensures own { IfOk result (λ r. G.has_pass gate.now r.0) }
+    requires caller { IsCaller (G.has_pass gate.now) G.known terms.now pass }
+    ensures caller { IfOk result (λ r. IsCaller (G.has_pass gate.now) G.known terms.now r.0) }
     ensures leads { IfOk result (λ r. LeadsTo (G.known pass).seen (G.known r.0).seen) }
     ensures at_work { IfOk result (λ r. IsAtWork (G.known r.0).seen r.1) }
 {
@@ -107,9 +145,8 @@ pub fn find_nothing<G: Gate>(
     gate: &G,
     pass: G::Pass,
 ) -> Result<G::Pass, AllocError>
-    requires own { G.has_pass gate.now pass }
-    requires terms { (G.known pass).seen.terms ≡ terms.now }
-    ensures own { IfOk result (λ p. G.has_pass gate.now p) }
+    requires caller { IsCaller (G.has_pass gate.now) G.known terms.now pass }
+    ensures caller { IfOk result (IsCaller (G.has_pass gate.now) G.known terms.now) }
     ensures leads { IfOk result (λ p. LeadsTo (G.known pass).seen (G.known p).seen) }
 {
     let _plan = terms.plan();
@@ -132,10 +169,9 @@ pub fn record<G: Gate>(
     pass: G::Pass,
     job: Job,
 ) -> Result<G::Pass, AllocError>
-    requires own { G.has_pass gate.now pass }
-    requires terms { (G.known pass).seen.terms ≡ terms.now }
+    requires caller { IsCaller (G.has_pass gate.now) G.known terms.now pass }
     requires at_work { IsAtWork (G.known pass).seen job }
-    ensures own { IfOk result (λ p. G.has_pass gate.now p) }
+    ensures caller { IfOk result (IsCaller (G.has_pass gate.now) G.known terms.now) }
     ensures leads { IfOk result (λ p. LeadsTo (G.known pass).seen (G.known p).seen) }
 {
     let outcome = settled(rt, alloc, terms, &job)?;
@@ -159,10 +195,9 @@ pub fn refuse_outcome<G: Gate>(
     job: Job,
     fault: FinishFault,
 ) -> Result<(G::Pass, Job, Outcome), AllocError>
-    requires own { G.has_pass gate.now pass }
-    requires terms { (G.known pass).seen.terms ≡ terms.now }
+    requires caller { IsCaller (G.has_pass gate.now) G.known terms.now pass }
     requires at_work { IsAtWork (G.known pass).seen job }
-    ensures own { IfOk result (λ r. G.has_pass gate.now r.0) }
+    ensures caller { IfOk result (λ r. IsCaller (G.has_pass gate.now) G.known terms.now r.0) }
     ensures leads { IfOk result (λ r. LeadsTo (G.known pass).seen (G.known r.0).seen) }
 {
     let outcome = settled(rt, alloc, terms, &job)?;
@@ -188,10 +223,9 @@ pub fn refuse_end<G: Gate>(
     count: usize,
     fault: EndFault,
 ) -> G::Pass
-    requires own { G.has_pass gate.now pass }
-    requires terms { (G.known pass).seen.terms ≡ terms.now }
+    requires caller { IsCaller (G.has_pass gate.now) G.known terms.now pass }
     requires claims { ForTerms terms.now (λ T. HasClaims T provider count) }
-    ensures own { G.has_pass gate.now result }
+    ensures caller { IsCaller (G.has_pass gate.now) G.known terms.now result }
     ensures leads { LeadsTo (G.known pass).seen (G.known result).seen }
 {
     let _plan = terms.plan();
@@ -214,9 +248,8 @@ pub fn find_stopped<G: Gate>(
     gate: &G,
     pass: G::Pass,
 ) -> G::Pass
-    requires own { G.has_pass gate.now pass }
-    requires terms { (G.known pass).seen.terms ≡ terms.now }
-    ensures own { G.has_pass gate.now result }
+    requires caller { IsCaller (G.has_pass gate.now) G.known terms.now pass }
+    ensures caller { IsCaller (G.has_pass gate.now) G.known terms.now result }
     ensures leads { LeadsTo (G.known pass).seen (G.known result).seen }
 {
     let _plan = terms.plan();

@@ -1,16 +1,14 @@
 //! Calls of a gate that were worked by hand, each also with an allocation refused. Amounts are in ten-thousandths.
 ghost use Rattle.std.specs.Prelude.{◌≡◌, IfOk, OnOk};
-ghost use Rattle.claim_gate.specs.Parts.{ForTerms};
-ghost use Rattle.claim_gate.specs.Worked.{IsAtWork, IsReader, IsSpelled, WorkStays};
+ghost use Rattle.claim_gate.specs.Worked.{IsAtWork, IsSpelled, WorkStays};
 
 use super::calls::{
-    accept_next, end, find_nothing, find_stopped, halt, record, refuse, refuse_end, refuse_outcome,
-    take_job,
+    accept_at, end, find_nothing, find_stopped, halt, record, refuse_at, refuse_end,
+    refuse_outcome, take_job,
 };
-use super::filing::{is_offer, next_offer, open, plan_of, read_all, terms_of};
-use super::{FIRST_FILE, PLAN, SECOND_FILE, counts, is_over};
+use super::filing::{is_offer, plan_of, read_all, terms_of};
+use super::{counts, first_file, is_over, plan_text, second_file};
 use crate::{Batch, EndFault, Event, FinishFault, GateState, Job, Offer, OfferFault, Terms};
-use intake_csv::Rows;
 use settlement::{Acc, Outcome, Verdict};
 use std::alloc::{AllocError, Global};
 use std::process::Abort;
@@ -21,6 +19,14 @@ const HEADER: &[u8] = b"claim,member,service,billed,code\n";
 const ONE_CLAIM: &[u8] = b"claim,member,service,billed,code
 c1,M1,2024-01-05,120.00,A
 ";
+
+fn header() -> &'static [u8] {
+    HEADER
+}
+
+fn one_claim() -> &'static [u8] {
+    ONE_CLAIM
+}
 
 pub fn is_at(acc: Acc, met: i64, oop: i64, paid: i64) -> bool {
     acc.met.amount().units() == met
@@ -36,47 +42,21 @@ pub fn is_job(job: &Job, position: usize, id: &str) -> bool {
     job.position == position && job.claim.id.as_str() == id
 }
 
-// A gate that has accepted the first provider's first claim, and the reader of the file behind it.
+// A gate that has accepted the first provider's first claim.
 fn begin<'t>(
     rt: &impl Abort,
     alloc: Global,
     terms: &'t Terms<'t>,
-) -> Result<(GateState<'t>, Rows<'t>), AllocError>
+) -> Result<GateState<'t>, AllocError>
     requires { IsSpelled terms.now.plan }
-    ensures terms { IfOk result (λ begun. begun.0.terms ≡ terms.now) }
-    ensures reader { IfOk result (λ begun. ForTerms terms.now (λ T. IsReader T 1 begun.1)) }
+    ensures { IfOk result (λ gate. gate.terms ≡ terms.now) }
 {
-    let mut rows = open(rt, alloc, terms, 1)?;
     let mut gate = GateState::new(alloc, terms)?;
-    accept_next(rt, terms, &mut gate, 1, &mut rows, 0)?;
-    Ok((gate, rows))
+    accept_at(rt, alloc, terms, &mut gate, 1, 0, 0)?;
+    Ok(gate)
 }
 
-// The first provider's first claim is refused when it is offered again.
-fn offer_again<'t>(
-    rt: &impl Abort,
-    alloc: Global,
-    terms: &'t Terms<'t>,
-    gate: &mut GateState<'t>,
-) -> Result<(), AllocError>
-    requires plan { IsSpelled terms.now.plan }
-    requires terms { gate.old.terms ≡ terms.now }
-    ensures terms { gate.new.terms ≡ terms.now }
-{
-    let mut rows = open(rt, alloc, terms, 1)?;
-    let offer = next_offer(rt, terms, 1, &mut rows)?;
-    let back = refuse(
-        rt,
-        terms,
-        gate,
-        offer,
-        OfferFault::OutOfTurn { expected: 1 },
-    );
-    assert!(rt; is_offer(&back, 1, 0, "c1"));
-    Ok(())
-}
-
-// Takes the first claim.
+// Takes the first claim, which is refused when it is offered again.
 fn take_first<'t>(
     rt: &impl Abort,
     alloc: Global,
@@ -88,66 +68,105 @@ fn take_first<'t>(
     ensures terms { gate.new.terms ≡ terms.now }
     ensures at_work { IfOk result (λ job. IsAtWork gate.new job) }
 {
-    offer_again(rt, alloc, terms, gate)?;
+    let out_of_turn = OfferFault::OutOfTurn { expected: 1 };
+    let back = refuse_at(rt, alloc, terms, gate, 1, 0, out_of_turn)?;
+    assert!(rt; is_offer(&back, 1, 0, "c1"));
     let job = take_job(rt, terms, gate, 0)?;
     assert!(rt; is_job(&job, 0, "c1"));
     assert!(rt; is_at(job.acc, 0, 0, 0));
     Ok(job)
 }
 
-// The member's second claim waits; the claim of another member is taken.
-fn other_calls<'t>(
+// The member's second claim waits.
+fn second_waits<'t>(
     rt: &impl Abort,
     alloc: Global,
     terms: &'t Terms<'t>,
     gate: &mut GateState<'t>,
-    rows: &mut Rows,
 ) -> Result<(), AllocError>
     requires plan { IsSpelled terms.now.plan }
     requires terms { gate.old.terms ≡ terms.now }
-    requires reader { ForTerms terms.now (λ T. IsReader T 1 rows.old) }
     ensures terms { gate.new.terms ≡ terms.now }
     ensures stays { OnOk result (WorkStays gate.old gate.new) }
-    ensures reader { OnOk result (ForTerms terms.now (λ T. IsReader T 1 rows.new)) }
 {
-    let mut second = open(rt, alloc, terms, 2)?;
     find_nothing(rt, terms, gate)?;
-    accept_next(rt, terms, gate, 1, rows, 1)?;
+    accept_at(rt, alloc, terms, gate, 1, 1, 1)?;
     find_nothing(rt, terms, gate)?;
-    accept_next(rt, terms, gate, 2, &mut second, 2)?;
-    let job = take_job(rt, terms, gate, 2)?;
-    assert!(rt; is_job(&job, 2, "d1") && is_at(job.acc, 0, 0, 0));
     Ok(())
 }
 
-// The calls behind the first ones: the first member's first claim is decided, and its second one is taken at what that
-// left. Gives that job.
-fn later_calls<'t>(
+// The claim of another member is taken.
+fn take_other<'t>(
+    rt: &impl Abort,
+    alloc: Global,
+    terms: &'t Terms<'t>,
+    gate: &mut GateState<'t>,
+) -> Result<(), AllocError>
+    requires plan { IsSpelled terms.now.plan }
+    requires terms { gate.old.terms ≡ terms.now }
+    ensures terms { gate.new.terms ≡ terms.now }
+    ensures stays { OnOk result (WorkStays gate.old gate.new) }
+{
+    accept_at(rt, alloc, terms, gate, 2, 0, 2)?;
+    let job = take_job(rt, terms, gate, 2)?;
+    assert!(rt; is_job(&job, 2, "d1"));
+    assert!(rt; is_at(job.acc, 0, 0, 0));
+    Ok(())
+}
+
+// The first member's first claim is decided, and its second one is taken at what that left. Gives that job.
+fn take_second<'t>(
     rt: &impl Abort,
     alloc: Global,
     terms: &'t Terms<'t>,
     gate: &mut GateState<'t>,
     job: Job,
-    rows: &mut Rows,
 ) -> Result<Job, AllocError>
-    requires plan { IsSpelled terms.now.plan }
     requires terms { gate.old.terms ≡ terms.now }
     requires at_work { IsAtWork gate.old job }
-    requires reader { ForTerms terms.now (λ T. IsReader T 1 rows.old) }
     ensures terms { gate.new.terms ≡ terms.now }
     ensures at_work { IfOk result (λ next. IsAtWork gate.new next) }
-    ensures reader { OnOk result (ForTerms terms.now (λ T. IsReader T 1 rows.new)) }
 {
-    other_calls(rt, alloc, terms, gate, rows)?;
     record(rt, alloc, terms, gate, job)?;
     let next = take_job(rt, terms, gate, 1)?;
     assert!(rt; is_job(&next, 1, "c2"));
     assert!(rt; is_at(next.acc, 500_000, 600_000, 400_000));
-    read_all(rt, alloc, terms, 1, 4)?;
-    let out_of_turn = EndFault::OutOfTurn { expected: 2 };
-    refuse_end(rt, terms, gate, 1, 4, out_of_turn);
-    assert!(rt; gate.counts() == counts(3, 0, 1, false));
     Ok(next)
+}
+
+// All of these calls, by a gate that was begun. Gives the last job.
+fn calls_in_turn<'t>(
+    rt: &impl Abort,
+    alloc: Global,
+    terms: &'t Terms<'t>,
+    gate: &mut GateState<'t>,
+) -> Result<Job, AllocError>
+    requires plan { IsSpelled terms.now.plan }
+    requires terms { gate.old.terms ≡ terms.now }
+    ensures terms { gate.new.terms ≡ terms.now }
+    ensures at_work { IfOk result (λ next. IsAtWork gate.new next) }
+{
+    let job = take_first(rt, alloc, terms, gate)?;
+    second_waits(rt, alloc, terms, gate)?;
+    take_other(rt, alloc, terms, gate)?;
+    take_second(rt, alloc, terms, gate, job)
+}
+
+// The first provider's end comes before all its claims are accepted.
+fn end_early<'t>(
+    rt: &impl Abort,
+    alloc: Global,
+    terms: &'t Terms<'t>,
+    gate: &mut GateState<'t>,
+) -> Result<(), AllocError>
+    requires plan { IsSpelled terms.now.plan }
+    requires terms { gate.old.terms ≡ terms.now }
+    ensures terms { gate.new.terms ≡ terms.now }
+{
+    read_all(rt, alloc, terms, 1, 4)?;
+    refuse_end(rt, terms, gate, 1, 4, EndFault::OutOfTurn { expected: 2 });
+    assert!(rt; gate.counts() == counts(3, 0, 1, false));
+    Ok(())
 }
 
 // Whether a journal is that of the worked calls.
@@ -179,9 +198,9 @@ pub fn is_worked(journal: &[Event]) -> bool {
 fn turn_calls<'t>(rt: &impl Abort, alloc: Global, terms: &'t Terms<'t>) -> Result<(), AllocError>
     requires { IsSpelled terms.now.plan }
 {
-    let (mut gate, mut rows) = begin(rt, alloc, terms)?;
-    let job = take_first(rt, alloc, terms, &mut gate)?;
-    let _next = later_calls(rt, alloc, terms, &mut gate, job, &mut rows)?;
+    let mut gate = begin(rt, alloc, terms)?;
+    let _next = calls_in_turn(rt, alloc, terms, &mut gate)?;
+    end_early(rt, alloc, terms, &mut gate)?;
     assert!(rt; is_worked(gate.journal()));
     match Batch::from_state(gate, terms) {
         Ok(_) => panic!(rt; "a journal that isn't finished"),
@@ -191,8 +210,8 @@ fn turn_calls<'t>(rt: &impl Abort, alloc: Global, terms: &'t Terms<'t>) -> Resul
 }
 
 fn take_turns(rt: &impl Abort, alloc: Global) -> Result<(), AllocError> {
-    let plan = plan_of(alloc, PLAN)?;
-    let files = [FIRST_FILE, SECOND_FILE];
+    let plan = plan_of(alloc, plan_text())?;
+    let files = [first_file(), second_file()];
     let terms = terms_of(alloc, &plan, &files, None)?;
     turn_calls(rt, alloc, &terms)
 }
@@ -232,8 +251,8 @@ fn decide_copy<'t>(
 }
 
 fn decide_twice(rt: &impl Abort, alloc: Global) -> Result<(), AllocError> {
-    let plan = plan_of(alloc, PLAN)?;
-    let files = [FIRST_FILE, SECOND_FILE];
+    let plan = plan_of(alloc, plan_text())?;
+    let files = [first_file(), second_file()];
     let terms = terms_of(alloc, &plan, &files, None)?;
     copy_calls(rt, alloc, &terms)
 }
@@ -241,7 +260,7 @@ fn decide_twice(rt: &impl Abort, alloc: Global) -> Result<(), AllocError> {
 fn copy_calls<'t>(rt: &impl Abort, alloc: Global, terms: &'t Terms<'t>) -> Result<(), AllocError>
     requires { IsSpelled terms.now.plan }
 {
-    let (mut gate, _) = begin(rt, alloc, terms)?;
+    let mut gate = begin(rt, alloc, terms)?;
     let job = take_first(rt, alloc, terms, &mut gate)?;
     decide_copy(rt, alloc, terms, &mut gate, job)
 }
@@ -257,25 +276,23 @@ fn an_outcome_is_recorded_once_or_no_memory(rt: HostRuntime) {
     let _wanting = decide_twice(&rt, rt.alloc());
 }
 
-// The first provider's next claim and its end are refused; the offer comes back.
+// The claim at a place of the first provider's file and the provider's end are refused; the offer comes back.
 fn refuse_intake<'t>(
     rt: &impl Abort,
     alloc: Global,
     terms: &'t Terms<'t>,
     gate: &mut GateState<'t>,
-    rows: &mut Rows,
+    place: usize,
     faults: (OfferFault, EndFault),
 ) -> Result<Offer, AllocError>
     requires plan { IsSpelled terms.now.plan }
     requires terms { gate.old.terms ≡ terms.now }
-    requires reader { ForTerms terms.now (λ T. IsReader T 1 rows.old) }
     ensures terms { gate.new.terms ≡ terms.now }
     ensures stays { OnOk result (WorkStays gate.old gate.new) }
 {
-    let offer = next_offer(rt, terms, 1, rows)?;
-    read_all(rt, alloc, terms, 1, 4)?;
     let (offer_fault, end_fault) = faults;
-    let back = refuse(rt, terms, gate, offer, offer_fault);
+    let back = refuse_at(rt, alloc, terms, gate, 1, place, offer_fault)?;
+    read_all(rt, alloc, terms, 1, 4)?;
     refuse_end(rt, terms, gate, 1, 4, end_fault);
     Ok(back)
 }
@@ -287,39 +304,37 @@ fn call_stopped<'t>(
     terms: &'t Terms<'t>,
     gate: &mut GateState<'t>,
     job: Job,
-    rows: &mut Rows,
 ) -> Result<(), AllocError>
     requires plan { IsSpelled terms.now.plan }
     requires terms { gate.old.terms ≡ terms.now }
     requires at_work { IsAtWork gate.old job }
-    requires reader { ForTerms terms.now (λ T. IsReader T 1 rows.old) }
+    ensures { gate.new.terms ≡ terms.now }
 {
-    halt(terms, gate);
     let faults = (OfferFault::Stopped, EndFault::Stopped);
-    let offer = refuse_intake(rt, alloc, terms, gate, rows, faults)?;
+    let offer = refuse_intake(rt, alloc, terms, gate, 2, faults)?;
     assert!(rt; is_offer(&offer, 1, 2, "c3"));
     find_stopped(rt, terms, gate);
     let stopped = FinishFault::Stopped;
     let (back, outcome) = refuse_outcome(rt, alloc, terms, gate, job, stopped)?;
-    assert!(rt; is_job(&back, 1, "c2"));
-    assert!(rt; is_paid_40(&outcome));
-    assert!(rt; gate.counts().stopped);
-    assert!(rt; is_worked(gate.journal()));
+    assert!(rt; is_job(&back, 1, "c2") && is_paid_40(&outcome));
     Ok(())
 }
 
+// The calls in turn, a stop, and each call again.
 fn stop_calls<'t>(rt: &impl Abort, alloc: Global, terms: &'t Terms<'t>) -> Result<(), AllocError>
     requires { IsSpelled terms.now.plan }
 {
-    let (mut gate, mut rows) = begin(rt, alloc, terms)?;
-    let job = take_first(rt, alloc, terms, &mut gate)?;
-    let next = later_calls(rt, alloc, terms, &mut gate, job, &mut rows)?;
-    call_stopped(rt, alloc, terms, &mut gate, next, &mut rows)
+    let mut gate = begin(rt, alloc, terms)?;
+    let job = calls_in_turn(rt, alloc, terms, &mut gate)?;
+    halt(terms, &mut gate);
+    call_stopped(rt, alloc, terms, &mut gate, job)?;
+    assert!(rt; gate.counts().stopped && is_worked(gate.journal()));
+    Ok(())
 }
 
 fn stop(rt: &impl Abort, alloc: Global) -> Result<(), AllocError> {
-    let plan = plan_of(alloc, PLAN)?;
-    let files = [FIRST_FILE, SECOND_FILE];
+    let plan = plan_of(alloc, plan_text())?;
+    let files = [first_file(), second_file()];
     let terms = terms_of(alloc, &plan, &files, None)?;
     stop_calls(rt, alloc, &terms)
 }
@@ -344,7 +359,7 @@ fn end_first<'t>(
     requires { IsSpelled terms.now.plan }
     ensures { IfOk result (λ gate. gate.terms ≡ terms.now) }
 {
-    let (mut gate, _) = begin(rt, alloc, terms)?;
+    let mut gate = begin(rt, alloc, terms)?;
     read_all(rt, alloc, terms, 1, 1)?;
     end(rt, terms, &mut gate, 1, 1)?;
     Ok(gate)
@@ -399,8 +414,8 @@ fn end_calls<'t>(rt: &impl Abort, alloc: Global, terms: &'t Terms<'t>) -> Result
 }
 
 fn finish_run(rt: &impl Abort, alloc: Global) -> Result<(), AllocError> {
-    let plan = plan_of(alloc, PLAN)?;
-    let files = [ONE_CLAIM];
+    let plan = plan_of(alloc, plan_text())?;
+    let files = [one_claim()];
     let terms = terms_of(alloc, &plan, &files, None)?;
     end_calls(rt, alloc, &terms)
 }
@@ -429,8 +444,8 @@ fn end_again<'t>(rt: &impl Abort, alloc: Global, terms: &'t Terms<'t>) -> Result
 }
 
 fn end_twice(rt: &impl Abort, alloc: Global) -> Result<(), AllocError> {
-    let plan = plan_of(alloc, PLAN)?;
-    let files = [ONE_CLAIM, HEADER];
+    let plan = plan_of(alloc, plan_text())?;
+    let files = [one_claim(), header()];
     let terms = terms_of(alloc, &plan, &files, None)?;
     end_again(rt, alloc, &terms)
 }
@@ -445,10 +460,9 @@ fn a_provider_ends_once(rt: HostRuntime) -> Result<(), Fail> {
 fn closed_calls<'t>(rt: &impl Abort, alloc: Global, terms: &'t Terms<'t>) -> Result<(), AllocError>
     requires { IsSpelled terms.now.plan }
 {
-    let mut rows = open(rt, alloc, terms, 1)?;
     let mut gate = GateState::new(alloc, terms)?;
     let faults = (OfferFault::Closed, EndFault::Closed);
-    let back = refuse_intake(rt, alloc, terms, &mut gate, &mut rows, faults)?;
+    let back = refuse_intake(rt, alloc, terms, &mut gate, 0, faults)?;
     assert!(rt; is_offer(&back, 1, 0, "c1"));
     assert!(rt; is_over(&gate.take()));
     assert!(rt; gate.into_journal().len() == 1);
@@ -456,8 +470,8 @@ fn closed_calls<'t>(rt: &impl Abort, alloc: Global, terms: &'t Terms<'t>) -> Res
 }
 
 fn admit_nothing(rt: &impl Abort, alloc: Global) -> Result<(), AllocError> {
-    let plan = plan_of(alloc, PLAN)?;
-    let files = [FIRST_FILE];
+    let plan = plan_of(alloc, plan_text())?;
+    let files = [first_file()];
     let terms = terms_of(alloc, &plan, &files, Some(0))?;
     closed_calls(rt, alloc, &terms)
 }
