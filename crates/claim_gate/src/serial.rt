@@ -130,3 +130,42 @@ impl<'t> SerialGate for GateState<'t> {
         self.counts()
     }
 }
+
+// A gate on the heap goes in and out of a lock as one pointer.
+impl<V: SerialGate> SerialGate for Box<V> {
+    ghost shown = { λ gate. V.shown gate.value };
+
+    ghost shows = { λ earlier later leads. V.shows earlier.value later.value leads };
+
+    fn journal(&self) -> &[Event] {
+        (**self).journal()
+    }
+
+    fn offer(&mut self, offer: Offer) -> Result<Accepted, (OfferFault, Offer)> {
+        (**self).offer(offer)
+    }
+
+    fn end(&mut self, provider: usize, count: usize) -> Result<Ended, EndFault> {
+        (**self).end(provider, count)
+    }
+
+    fn take(&mut self) -> Result<Taken, TakeFault> {
+        (**self).take()
+    }
+
+    fn finish(
+        &mut self,
+        job: Job,
+        outcome: Outcome,
+    ) -> Result<Recorded, (FinishFault, Job, Outcome)> {
+        (**self).finish(job, outcome)
+    }
+
+    fn stop(&mut self) {
+        (**self).stop();
+    }
+
+    fn counts(&self) -> Counts {
+        (**self).counts()
+    }
+}

@@ -42,10 +42,13 @@ pub fn run<'t, R: Threads + Wait + Sync>(
         return Err(RunFault::Workers);
     }
     terms_are_seen(terms);
-    let state = GateState::new(alloc, terms)?;
+    // Behind a pointer the gate goes in and out of the lock as one word.
+    let Ok(state) = Box::new(alloc, GateState::new(alloc, terms)?) else {
+        return Err(RunFault::OutOfMemory);
+    };
     let (lock, pass) = TicketLock::new(alloc, state)?;
     let state = run_behind(rt, alloc, terms, workers, lock, pass)?;
-    match Batch::from_state(state, terms) {
+    match Batch::from_state(Box::into_inner(state), terms) {
         Ok(batch) => Ok(batch),
         Err(_) => unreachable!(),
     }

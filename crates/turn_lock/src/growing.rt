@@ -14,3 +14,14 @@ pub trait Growing {
     // Of two that lead to a third, one leads to the other.
     ghost ordered: { (x y z : Self) → leads x z → leads y z → leads x y ⊎ leads y x };
 }
+
+/// On the heap a value goes in and out of a lock as one pointer.
+impl<T: Growing> Growing for Box<T> {
+    ghost leads = { λ old new. T.leads old.value new.value };
+
+    ghost reflexive = { λ x. T.reflexive x.value };
+
+    ghost transitive = { λ x y z. T.transitive x.value y.value z.value };
+
+    ghost ordered = { λ x y z. T.ordered x.value y.value z.value };
+}
