@@ -1,7 +1,7 @@
 //! Plans that the tests read.
 
 /// A plan with every key: a priority table, a sum over it, a list, and roles.
-pub const PLAN: &[u8] = br#"version = 1
+pub const PLAN: &str = r#"version = 1
 fields = [{name = "age", kind = "number"}, {name = "code", kind = "text"}]
 
 [roles]
@@ -56,7 +56,7 @@ oop_max = "1000"
 "#;
 
 /// The health plan of the formats page.
-pub const HEALTH: &[u8] = br#"version = 1
+pub const HEALTH: &str = r#"version = 1
 fields = [{name = "code", kind = "text"}]
 
 [roles]
@@ -88,7 +88,7 @@ rules = [
 "#;
 
 /// Tables in a chain, under five policies: a sum, the risk of highest priority, and lists that read both.
-pub const CHAIN: &[u8] = br#"version = 1
+pub const CHAIN: &str = r#"version = 1
 [[tables]]
 hit = "C+"
 inputs = [{name = "billed"}]
@@ -121,7 +121,7 @@ rules = [{when = ['"HIGH"'], then = ['"a"']}, {when = ['-'], then = ['"a"']}, {w
 "#;
 
 /// A sum, and a table that reads it.
-pub const SUM_AND_LEVEL: &[u8] = br#"version = 1
+pub const SUM_AND_LEVEL: &str = r#"version = 1
 fields = [{name = "x", kind = "number"}]
 
 [[tables]]

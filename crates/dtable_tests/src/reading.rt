@@ -27,7 +27,7 @@ fn has_name(names: &[InputData], place: usize, name: &str, kind: Kind) -> bool {
 
 #[test]
 fn a_plan_has_its_names(rt: HostRuntime) -> Result<(), Fail> {
-    let plan = read_plan(rt.alloc(), PLAN)?;
+    let plan = read_plan(rt.alloc(), PLAN.as_bytes())?;
     assert_eq!(rt; plan.names().len(), NAMES.len());
     for (place, (name, kind)) in NAMES.iter().enumerate() {
         assert!(rt; has_name(plan.names(), place, name, *kind), "{name}");
@@ -41,7 +41,7 @@ fn has_hit(tables: &[Table], place: usize, hit: Hit) -> bool {
 
 #[test]
 fn a_plan_has_its_tables(rt: HostRuntime) -> Result<(), Fail> {
-    let plan = read_plan(rt.alloc(), PLAN)?;
+    let plan = read_plan(rt.alloc(), PLAN.as_bytes())?;
     let tables = plan.tables();
     assert_eq!(rt; tables.len(), 3);
     assert!(rt;
@@ -56,7 +56,7 @@ fn is_output(source: &Source, wanted: &str) -> bool {
 
 #[test]
 fn a_plan_has_its_roles(rt: HostRuntime) -> Result<(), Fail> {
-    let plan = read_plan(rt.alloc(), PLAN)?;
+    let plan = read_plan(rt.alloc(), PLAN.as_bytes())?;
     let roles = plan.roles().ok_or("no roles")?;
     assert!(rt; is_output(&roles.cover, "covered") && is_output(&roles.fee, "fee"));
     assert!(rt; matches!(&roles.copay, Source::Literal(_)));
@@ -137,8 +137,9 @@ fn faults_of_roles(rt: HostRuntime) -> Result<(), Fail> {
 
 #[test]
 fn each_prefix_is_answered(rt: HostRuntime) -> Result<(), Fail> {
-    for length in 0..=HEALTH.len() {
-        if let Err(fault) = read_plan(rt.alloc(), &HEALTH[..length]) {
+    let bytes = HEALTH.as_bytes();
+    for length in 0..=bytes.len() {
+        if let Err(fault) = read_plan(rt.alloc(), &bytes[..length]) {
             assert!(rt;
                 fault.cause != PlanCause::OutOfMemory,
                 "a prefix of {length} bytes"

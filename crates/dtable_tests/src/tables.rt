@@ -1,4 +1,4 @@
-//! Hit policies by worked examples: what the one table of a plan answers where `x` is 2.
+//! Hit policies by worked examples: what the one table of a plan answers.
 use crate::answers::{give, shown};
 use dtable::{Fault, Inputs, Plan, Valuer, read_plan};
 use std::alloc::Global;
@@ -8,8 +8,9 @@ use std::test::Fail;
 /// The place of the field `x` among the names.
 const X: usize = 4;
 
-/// A hit policy, the table's outputs, its rules, an output's name, and what that answers.
+/// A value of `x`, a hit policy, the table's outputs, its rules, an output's name, and what that answers.
 type Row = (
+    &'static str,
     &'static str,
     &'static str,
     &'static str,
@@ -24,12 +25,12 @@ const SAME: &str = "{when = ['>0'], then = ['1']}, {when = ['>1'], then = ['1']}
 const OTHER: &str = "{when = ['>0'], then = ['1']}, {when = ['>1'], then = ['2']}";
 
 const TWO_MATCHES: [Row; 6] = [
-    ("U", Y, SAME, "y", "clash:1"),
-    ("A", Y, SAME, "y", "1\n"),
-    ("A", Y, OTHER, "y", "clash:1"),
-    ("F", Y, OTHER, "y", "1\n"),
-    ("R", Y, OTHER, "y", "list 1 2\n"),
-    ("C", Y, OTHER, "y", "list 1 2\n"),
+    ("2", "U", Y, SAME, "y", "clash:1"),
+    ("2", "A", Y, SAME, "y", "1\n"),
+    ("2", "A", Y, OTHER, "y", "clash:1"),
+    ("2", "F", Y, OTHER, "y", "1\n"),
+    ("2", "R", Y, OTHER, "y", "list 1 2\n"),
+    ("2", "C", Y, OTHER, "y", "list 1 2\n"),
 ];
 
 const RANKED: &str =
@@ -39,12 +40,26 @@ const FOUR: &str =
     r#"{when = ['-'], then = ['"Y"', '"H"', '1']}, {when = ['-'], then = ['"X"', '"L"', '2']}, {when = ['-'], then = ['"X"', '"H"', '3']}, {when = ['-'], then = ['"X"', '"H"', '4']}"#;
 
 const PRIORITIES: [Row; 6] = [
-    ("P", RANKED, FOUR, "a", "\"X\"\n"),
-    ("P", RANKED, FOUR, "b", "\"H\"\n"),
-    ("P", RANKED, FOUR, "c", "3\n"),
-    ("O", RANKED, FOUR, "a", "list \"X\" \"X\" \"X\" \"Y\"\n"),
-    ("O", RANKED, FOUR, "b", "list \"H\" \"H\" \"L\" \"H\"\n"),
-    ("O", RANKED, FOUR, "c", "list 3 4 2 1\n"),
+    ("2", "P", RANKED, FOUR, "a", "\"X\"\n"),
+    ("2", "P", RANKED, FOUR, "b", "\"H\"\n"),
+    ("2", "P", RANKED, FOUR, "c", "3\n"),
+    (
+        "2",
+        "O",
+        RANKED,
+        FOUR,
+        "a",
+        "list \"X\" \"X\" \"X\" \"Y\"\n",
+    ),
+    (
+        "2",
+        "O",
+        RANKED,
+        FOUR,
+        "b",
+        "list \"H\" \"H\" \"L\" \"H\"\n",
+    ),
+    ("2", "O", RANKED, FOUR, "c", "list 3 4 2 1\n"),
 ];
 
 const THREE: &str =
@@ -63,28 +78,29 @@ const TWICE: &str = r#"{when = ['-'], then = ['"A"']}, {when = ['-'], then = ['"
 const NONE: &str = "{when = ['>5'], then = ['1']}";
 
 const NUMBERS: [Row; 10] = [
-    ("C+", Y, THREE, "y", "3.25\n"),
-    ("C<", Y, THREE, "y", "-0.25\n"),
-    ("C>", Y, THREE, "y", "2\n"),
-    ("C+", Y, LARGE, "y", "range:1"),
-    ("C+", Y, BACK, "y", "99999999999.9999\n"),
-    ("C#", TEXT, TWICE, "y", "2\n"),
-    ("C<", Y, NONE, "y", "norule:1"),
-    ("C#", Y, NONE, "y", "norule:1"),
-    ("C", Y, NONE, "y", "list\n"),
-    ("R", Y, NONE, "y", "list\n"),
+    ("2", "C+", Y, THREE, "y", "3.25\n"),
+    ("2", "C<", Y, THREE, "y", "-0.25\n"),
+    ("2", "C>", Y, THREE, "y", "2\n"),
+    ("2", "C+", Y, LARGE, "y", "range:1"),
+    ("2", "C+", Y, BACK, "y", "99999999999.9999\n"),
+    ("2", "C#", TEXT, TWICE, "y", "2\n"),
+    ("2", "C<", Y, NONE, "y", "norule:1"),
+    ("2", "C#", Y, NONE, "y", "norule:1"),
+    ("2", "C", Y, NONE, "y", "list\n"),
+    ("2", "R", Y, NONE, "y", "list\n"),
 ];
 
 const DEFAULT: &str = "{name = 'y', kind = 'number', default = '0'}";
 
-const DEFAULTS: [Row; 7] = [
-    ("F", DEFAULT, NONE, "y", "0\n"),
-    ("U", DEFAULT, NONE, "y", "0\n"),
-    ("A", DEFAULT, OTHER, "y", "clash:1"),
-    ("C+", DEFAULT, NONE, "y", "0\n"),
-    ("C<", DEFAULT, "", "y", "0\n"),
-    ("C#", TEXT, "", "y", "7\n"),
-    ("R", DEFAULT, NONE, "y", "list\n"),
+const DEFAULTS: [Row; 8] = [
+    ("6", "U", Y, NONE, "y", "outside:1:1"),
+    ("2", "F", DEFAULT, NONE, "y", "0\n"),
+    ("2", "U", DEFAULT, NONE, "y", "0\n"),
+    ("2", "A", DEFAULT, OTHER, "y", "clash:1"),
+    ("2", "C+", DEFAULT, NONE, "y", "0\n"),
+    ("2", "C<", DEFAULT, "", "y", "0\n"),
+    ("2", "C#", TEXT, "", "y", "7\n"),
+    ("2", "R", DEFAULT, NONE, "y", "list\n"),
 ];
 
 /// A plan with the field `x` and one table over it.
@@ -129,9 +145,9 @@ fn fault_text(fault: Fault) -> &'static str {
 
 /// Each table answers what its row says.
 fn are_answered(rt: &impl Abort, alloc: Global, rows: &[Row]) -> Result<(), Fail> {
-    for (hit, outputs, rules, output, wanted) in rows {
+    for (x, hit, outputs, rules, output, wanted) in rows {
         let plan = over_x(alloc, hit, outputs, rules)?;
-        let text = told(rt, alloc, &plan, "2", output)?;
+        let text = told(rt, alloc, &plan, x, output)?;
         assert_eq!(rt;
             text.as_slice(),
             wanted.as_bytes(),
@@ -157,14 +173,6 @@ fn matches_are_aggregated(rt: HostRuntime) -> Result<(), Fail> {
 }
 
 #[test]
-fn defaults_serve_where_no_rule_matches(rt: HostRuntime) -> Result<(), Fail> {
+fn values_outside_and_defaults(rt: HostRuntime) -> Result<(), Fail> {
     are_answered(&rt, rt.alloc(), &DEFAULTS)
-}
-
-#[test]
-fn a_value_is_outside(rt: HostRuntime) -> Result<(), Fail> {
-    let plan = over_x(rt.alloc(), "U", Y, "")?;
-    let text = told(&rt, rt.alloc(), &plan, "6", "y")?;
-    assert_eq!(rt; text.as_slice(), "outside:1:1".as_bytes());
-    Ok(())
 }
