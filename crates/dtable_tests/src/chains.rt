@@ -106,10 +106,11 @@ const OF_CHAIN: [&str; 6] = ["score", "risk", "step", "note", "points", "rules"]
 const CHAIN_ANSWERS: &str =
     "3.25\n\"HIGH\"\nlist \"CALL\" \"MAIL\"\nlist \"OVER\" \"LOOK\"\nlist 3 1\n2\n";
 
-/// The chain's outputs answer what is wanted, unless there is no memory for their text.
-fn are_values_of_chain(rt: &impl Abort, alloc: Global, values: &Env) {
-    if let Ok(text) = shown(alloc, values, &OF_CHAIN) {
-        assert_eq!(rt; text.as_slice(), CHAIN_ANSWERS.as_bytes());
+/// Whether the chain's outputs answer what is wanted, where there is memory for their text.
+fn are_values_of_chain(alloc: Global, values: &Env) -> bool {
+    match shown(alloc, values, &OF_CHAIN) {
+        Ok(text) => text.as_slice() == CHAIN_ANSWERS.as_bytes(),
+        Err(_) => true,
     }
 }
 
@@ -132,7 +133,7 @@ fn a_chain_has_its_values_or_no_memory(rt: HostRuntime) -> Result<(), Fail> {
     }
     assert!(rt; plan.ready(&inputs));
     match plan.value(rt.alloc(), &inputs) {
-        Ok(values) => are_values_of_chain(&rt, rt.alloc(), &values),
+        Ok(values) => assert!(rt; are_values_of_chain(rt.alloc(), &values)),
         Err(fault) => assert_eq!(rt; fault, Fault::OutOfMemory),
     }
     Ok(())
