@@ -10,8 +10,6 @@
 //! `valuer.rt`, whose `value` carries the promise, and the files of `evaluation/`, one for each group of policies.
 #![tactic(auto)]
 
-#[cfg(test)]
-mod chain_tests;
 mod environment;
 mod evaluation;
 mod fault;
@@ -25,8 +23,6 @@ mod roles;
 mod sequence;
 mod soundness;
 mod table;
-#[cfg(test)]
-mod tests;
 mod valuer;
 
 pub use environment::{Answer, Env};

@@ -12,11 +12,7 @@ ghost use Rattle.dtable.specs.PlanFile.{IsPlanText, IsPlanDocument, SpellsOnePla
 ghost use Rattle.dtable.specs.Reading.{Reads};
 
 mod document;
-#[cfg(test)]
-mod fault_rows;
 mod inputs;
-#[cfg(test)]
-mod limit_tests;
 mod limits;
 mod literals;
 mod names;
@@ -26,8 +22,6 @@ mod roles;
 mod rules;
 mod scope;
 mod tables;
-#[cfg(test)]
-mod tests;
 
 use crate::plan::Plan;
 use crate::plan_fault::{PlanCause, PlanFault};
@@ -39,8 +33,6 @@ use place::Place;
 use roles::read_roles;
 use std::alloc::Global;
 use tables::read_tables;
-#[cfg(test)]
-pub use tests::{CHAIN, HEALTH};
 use toml::Value;
 
 /// Reads a plan's text.

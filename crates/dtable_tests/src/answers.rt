@@ -1,0 +1,41 @@
+//! What the tables of a plan answer, as text.
+use dtable::{Answer, Env, Inputs};
+use feel_tests::{Value, read_value};
+use std::alloc::{AllocError, Global};
+use std::test::Fail;
+
+/// Gives the name at the place the value that the literal spells.
+pub fn give(alloc: Global, inputs: &mut Inputs, place: usize, literal: &str) -> Result<(), Fail> {
+    let kind = inputs.kind_at(place).ok_or("no such name")?;
+    let value = read_value(alloc, kind, literal)?;
+    inputs.set(place, value);
+    Ok(())
+}
+
+/// What each of these outputs answers, a line for each.
+pub fn shown(alloc: Global, values: &Env, outputs: &[&str]) -> Result<Vec<u8>, AllocError> {
+    let mut text = Vec::new(alloc);
+    for output in outputs {
+        write_answer(&mut text, values.get(output))?;
+        text.push(b'\n')?;
+    }
+    Ok(text)
+}
+
+/// A literal, or the word `list` and the literals of a list.
+fn write_answer(text: &mut Vec<u8>, answer: Option<&Answer>) -> Result<(), AllocError> {
+    match answer {
+        Some(Answer::One(value)) => value.write_text(text),
+        Some(Answer::Many(list)) => write_list(text, list.as_slice()),
+        None => text.extend_from_slice(b"no answer"),
+    }
+}
+
+fn write_list(text: &mut Vec<u8>, list: &[Value]) -> Result<(), AllocError> {
+    text.extend_from_slice(b"list")?;
+    for value in list {
+        text.push(b' ')?;
+        value.write_text(text)?;
+    }
+    Ok(())
+}

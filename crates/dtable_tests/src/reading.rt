@@ -1,0 +1,150 @@
+//! The plan reader: a plan with every key, broken plans with the fault of each, and each prefix of a plan.
+use crate::plans::{HEALTH, PLAN, ROLES, SCORE};
+use dtable::{Hit, InputData, PlanCause, Source, Table, read_plan};
+use feel_tests::Kind;
+use std::alloc::Global;
+use std::process::Abort;
+use std::test::Fail;
+
+/// The names of the plan with every key, and their kinds.
+const NAMES: [(&str, Kind); 9] = [
+    ("claim", Kind::Text),
+    ("member", Kind::Text),
+    ("service", Kind::Day),
+    ("billed", Kind::Number),
+    ("age", Kind::Number),
+    ("code", Kind::Text),
+    ("met", Kind::Number),
+    ("oop", Kind::Number),
+    ("paid", Kind::Number),
+];
+
+fn has_name(names: &[InputData], place: usize, name: &str, kind: Kind) -> bool {
+    names
+        .get(place)
+        .is_some_and(|data| data.name.as_str() == name && data.kind == kind)
+}
+
+#[test]
+fn a_plan_has_its_names(rt: HostRuntime) -> Result<(), Fail> {
+    let plan = read_plan(rt.alloc(), PLAN.as_bytes())?;
+    assert_eq!(rt; plan.names().len(), NAMES.len());
+    for (place, (name, kind)) in NAMES.iter().enumerate() {
+        assert!(rt; has_name(plan.names(), place, name, *kind), "{name}");
+    }
+    Ok(())
+}
+
+fn has_hit(tables: &[Table], place: usize, hit: Hit) -> bool {
+    tables.get(place).is_some_and(|table| table.hit == hit)
+}
+
+#[test]
+fn a_plan_has_its_tables(rt: HostRuntime) -> Result<(), Fail> {
+    let plan = read_plan(rt.alloc(), PLAN.as_bytes())?;
+    let tables = plan.tables();
+    assert_eq!(rt; tables.len(), 3);
+    assert!(rt;
+        has_hit(tables, 0, Hit::P) && has_hit(tables, 1, Hit::Sum) && has_hit(tables, 2, Hit::R)
+    );
+    Ok(())
+}
+
+fn is_output(source: &Source, wanted: &str) -> bool {
+    matches!(source, Source::Output(name) if name.as_str() == wanted)
+}
+
+#[test]
+fn a_plan_has_its_roles(rt: HostRuntime) -> Result<(), Fail> {
+    let plan = read_plan(rt.alloc(), PLAN.as_bytes())?;
+    let roles = plan.roles().ok_or("no roles")?;
+    assert!(rt; is_output(&roles.cover, "covered") && is_output(&roles.fee, "fee"));
+    assert!(rt; matches!(&roles.copay, Source::Literal(_)));
+    assert!(rt; matches!(&roles.remarks, Some(name) if name.as_str() == "note"));
+    Ok(())
+}
+
+/// An edit of a plan: a part of its text and what replaces it; the fault's number and place: table, rule, column.
+type Edit = (&'static str, &'static str, &'static str);
+
+/// Edits of the plan with one table.
+const TABLE_FAULTS: [Edit; 7] = [
+    ("version = 1", "", "2 0 0 0"),
+    ("version = 1", "version = 4", "3 0 0 0"),
+    (
+        r#""number"}]"#,
+        r#""number"}, {name = "x", kind = "number"}]"#,
+        "4 0 0 2",
+    ),
+    (
+        r#"inputs = [{name = "x"}]"#,
+        r#"inputs = [{name = "z"}]"#,
+        "3 1 0 1",
+    ),
+    ("[[tables]]\n", "[[tables]]\nhit = \"Q\"\n", "6 1 0 0"),
+    ("[[tables]]\n", "[[tables]]\nhit = \"P\"\n", "7 1 0 0"),
+    ("when = ['[0..10[']", "when = [[\"x\"]]", "5 1 1 1"),
+];
+
+/// Edits of the plan with roles alone.
+const ROLE_FAULTS: [Edit; 2] = [
+    ("fee = \"5\"", "", "8 0 0 2"),
+    ("rate = \"0\"", "rate = \"2\"", "9 0 0 5"),
+];
+
+/// The plan with the first place of a part replaced by another.
+fn edited(alloc: Global, plan: &str, old: &str, new: &str) -> Result<String, Fail> {
+    let (before, after) = plan.split_once(old).ok_or("not in the plan")?;
+    let mut text = String::from_str(alloc, before)?;
+    text.push_str(new)?;
+    text.push_str(after)?;
+    Ok(text)
+}
+
+/// The number and the place of a text's fault.
+fn fault_of(alloc: Global, text: &str) -> Result<String, Fail> {
+    match read_plan(alloc, text.as_bytes()) {
+        Ok(_) => Ok(String::new(alloc)),
+        Err(fault) => Ok(format!(in alloc;
+            "{} {} {} {}",
+            fault.cause.number(),
+            fault.table,
+            fault.rule,
+            fault.column
+        )?),
+    }
+}
+
+/// Each edit spoils the plan, with its fault.
+fn are_refused(rt: &impl Abort, alloc: Global, plan: &str, edits: &[Edit]) -> Result<(), Fail> {
+    for (old, new, wanted) in edits {
+        let text = edited(alloc, plan, old, new)?;
+        let fault = fault_of(alloc, text.as_str())?;
+        assert_eq!(rt; fault.as_str(), *wanted, "{text}");
+    }
+    Ok(())
+}
+
+#[test]
+fn faults_of_tables(rt: HostRuntime) -> Result<(), Fail> {
+    are_refused(&rt, rt.alloc(), SCORE, &TABLE_FAULTS)
+}
+
+#[test]
+fn faults_of_roles(rt: HostRuntime) -> Result<(), Fail> {
+    are_refused(&rt, rt.alloc(), ROLES, &ROLE_FAULTS)
+}
+
+#[test]
+fn each_prefix_is_answered(rt: HostRuntime) -> Result<(), Fail> {
+    let bytes = HEALTH.as_bytes();
+    for length in 0..=bytes.len() {
+        if let Err(fault) = read_plan(rt.alloc(), &bytes[..length]) {
+            assert!(rt;
+                fault.cause != PlanCause::OutOfMemory,
+                "a prefix of {length} bytes"
+            );
+        }
+    }
+    Ok(())
+}
