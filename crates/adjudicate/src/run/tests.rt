@@ -304,7 +304,10 @@ fn a_write_fault_has_its_line(rt: HostRuntime) -> Result<(), Fail> {
     let mut out = Out::new(Narrow::new(rt.alloc(), 37, 1_024, WhenFull::Fails)?);
     let stop = do_run(&rt, run_of(BOTH), &mut out).expect_err(&rt, "a refusal");
     assert!(rt; says(&stop, "write fault at 37\n", 3));
-    assert!(rt; out.into_inner().has_first("provider,record,claim,member,status,r", 37));
+    assert!(rt;
+        out.into_inner()
+            .has_first("provider,record,claim,member,status,r", 37)
+    );
     Ok(())
 }
 
