@@ -1,7 +1,7 @@
 //! Writing a value as the literal that a cell would have for it.
 ghost use Rattle.std.specs.Prelude.{◌≡◌, ◌++◌, IfOk, OnOk, OnErr};
 ghost use Rattle.feel_tests.specs.Value.{date_literal, literal_text};
-ghost use Rattle.feel_tests.specs.Words.{quoted};
+ghost use Rattle.feel_tests.specs.Words.{quoted, escaped_byte};
 ghost use Rattle.fixpoint.specs.NumberText.{shortest_text};
 
 use crate::dates::text_of;
@@ -51,13 +51,20 @@ fn quoted(alloc: Global, bytes: &[u8]) -> Result<Vec<u8>, AllocError>
     let mut literal = Vec::new(alloc);
     literal.push(b'"')?;
     for byte in bytes {
-        if *byte == b'"' || *byte == b'\\' {
-            literal.push(b'\\')?;
-        }
-        literal.push(*byte)?;
+        push_escaped(*byte, &mut literal)?;
     }
     literal.push(b'"')?;
     Ok(literal)
+}
+
+fn push_escaped(byte: u8, literal: &mut Vec<u8>) -> Result<(), AllocError>
+    ensures { OnOk result (literal.new.items ≡ literal.old.items ++ escaped_byte byte) }
+{
+    if byte == b'"' || byte == b'\\' {
+        literal.push(b'\\')?;
+    }
+    literal.push(byte)?;
+    Ok(())
 }
 
 fn write_day(day: Day, out: &mut Vec<u8>) -> Result<(), AllocError>

@@ -49,7 +49,7 @@ fn inside_at<'a>(
 }
 
 /// What stands next in a string, with what follows it.
-#[derive(Clone, Copy, Debug)]
+#[derive(Clone, Copy)]
 pub enum Piece<'a> {
     /// The closing quote.
     Close(&'a [u8]),
@@ -64,22 +64,22 @@ pub enum Piece<'a> {
 fn first_piece(rest: &[u8]) -> Piece<'_>
     ensures { IsPiece rest.now result }
 {
-    if rest.is_empty() {
-        return Piece::End;
+    match rest {
+        [] => Piece::End,
+        [b'"', behind @ ..] => Piece::Close(behind),
+        [b'\\', behind @ ..] => escape(behind),
+        [byte, behind @ ..] => Piece::Byte(*byte, behind),
     }
-    let first = rest[0];
-    if first == b'"' {
-        return Piece::Close(&rest[1..]);
+}
+
+// What a backslash with these bytes behind it is.
+fn escape(behind: &[u8]) -> Piece<'_>
+    ensures { IsPiece (92 ∷ behind.now) result }
+{
+    match behind {
+        [] => Piece::End,
+        [b'"', rest @ ..] => Piece::Byte(b'"', rest),
+        [b'\\', rest @ ..] => Piece::Byte(b'\\', rest),
+        _ => Piece::BadEscape,
     }
-    if first != b'\\' {
-        return Piece::Byte(first, &rest[1..]);
-    }
-    if rest.len() == 1 {
-        return Piece::End;
-    }
-    let second = rest[1];
-    if second == b'"' || second == b'\\' {
-        return Piece::Byte(second, &rest[2..]);
-    }
-    Piece::BadEscape
 }

@@ -8,7 +8,7 @@ ghost use Rattle.feel_tests.specs.Symbols.{symbols, op_of};
 use crate::cell::Op;
 
 /// A symbol of the grammar of cells.
-#[derive(Clone, Copy, Debug, PartialEq, Eq)]
+#[derive(Clone, Copy, PartialEq, Eq)]
 pub enum Symbol {
     /// `<`
     Less,

@@ -8,7 +8,7 @@ ghost use Rattle.feel_tests.specs.Fronts.{digits_len, fraction_len, unsigned_len
 use crate::symbol::Symbol;
 
 /// The word at the front of a text, with what follows it.
-#[derive(Clone, Copy, Debug)]
+#[derive(Clone, Copy)]
 pub enum Token<'a> {
     Sign(Symbol, &'a [u8]),
     Number(&'a [u8], &'a [u8]),
@@ -47,10 +47,9 @@ fn behind_quote(bytes: &[u8]) -> Option<&[u8]>
     ensures some { IfSome result (λ inside. bytes.now ≡ 34 ∷ inside.now) }
     ensures none { IfNone result ((inside : List ℕ) → ¬ (bytes.now ≡ 34 ∷ inside)) }
 {
-    if bytes.is_empty() || bytes[0] != b'"' {
-        None
-    } else {
-        Some(&bytes[1..])
+    match bytes {
+        [b'"', inside @ ..] => Some(inside),
+        _ => None,
     }
 }
 
