@@ -1,30 +1,21 @@
 //! Want of memory: whichever allocation is refused, no call answers anything else in its place.
 //! The gate runs these tests once for each of their allocations, with that one refused.
-use crate::{
-    CellCause, CellFault, Day, Kind, PlainFault, Text, Value, read_cell, read_plain, read_value,
-};
-use fixpoint::Fixed;
+use super::{fault_of, field_fault_of, literal_fault_of};
+use crate::{CellCause, CellFault, Kind, PlainFault, read_value};
 use std::alloc::Global;
-use std::process::Abort;
-use std::test::Fail;
 
-// The cell is read, or has this fault where there is one; or memory was refused.
-fn is_read(
-    rt: &impl Abort,
-    alloc: Global,
-    kind: Kind,
-    text: &str,
-    wanted: Option<(CellCause, usize)>,
-) {
-    match read_cell(alloc, kind, text) {
-        Ok(_) => assert!(rt; wanted.is_none(), "{text}"),
-        Err(fault) => {
-            if fault.cause != CellCause::OutOfMemory {
-                let (cause, at) = wanted.expect(rt, "a cell");
-                assert_eq!(rt; fault, CellFault { at, cause }, "{text}");
-            }
-        }
+// Whether a text was answered so, or memory was refused.
+fn is_answered(fault: Option<CellFault>, wanted: Option<(CellCause, usize)>) -> bool {
+    match (fault, wanted) {
+        (None, None) => true,
+        (Some(fault), Some((cause, at))) => fault == CellFault { at, cause } || is_no_memory(fault),
+        (Some(fault), None) => is_no_memory(fault),
+        (None, Some(_)) => false,
     }
+}
+
+fn is_no_memory(fault: CellFault) -> bool {
+    fault.cause == CellCause::OutOfMemory
 }
 
 #[test]
@@ -50,52 +41,60 @@ fn cells_are_read_or_no_memory(rt: HostRuntime) {
         ),
         (Kind::Flag, "true,false,true", None),
     ] {
-        is_read(&rt, rt.alloc(), kind, text, wanted);
+        let fault = fault_of(rt.alloc(), kind, text);
+        assert!(rt; is_answered(fault, wanted), "{text}");
     }
 }
 
 #[test]
 fn literals_are_read_or_no_memory(rt: HostRuntime) {
-    let alloc = rt.alloc();
     for (kind, literal) in [
         (Kind::Text, "\"a\\\"b\""),
         (Kind::Day, "date(\"2024-02-29\")"),
         (Kind::Number, "1.5"),
         (Kind::Flag, "true"),
     ] {
-        match read_value(alloc, kind, literal) {
-            Ok(value) => assert_eq!(rt; value.kind(), kind),
-            Err(fault) => assert_eq!(rt; fault.cause, CellCause::OutOfMemory, "{literal}"),
-        }
+        let fault = literal_fault_of(rt.alloc(), kind, literal);
+        assert!(rt; is_answered(fault, None), "{literal}");
     }
-    match read_plain(alloc, Kind::Text, "a\"b") {
-        Ok(value) => assert_eq!(rt; value.kind(), Kind::Text),
-        Err(fault) => assert_eq!(rt; fault, PlainFault::OutOfMemory),
+    match field_fault_of(rt.alloc(), Kind::Text, "a\"b") {
+        None => {}
+        Some(fault) => assert_eq!(rt; fault, PlainFault::OutOfMemory),
     }
 }
 
-// The literal stands behind the text; or memory was refused, and the text is as it was.
-fn is_written_or_not_begun(rt: &impl Abort, alloc: Global, value: &Value, wanted: &str) {
-    if let Ok(mut out) = Vec::from_slice(alloc, b"x = ") {
-        match value.write_text(&mut out) {
-            Ok(()) => assert_eq!(rt; out.as_slice(), wanted.as_bytes()),
-            Err(_) => assert_eq!(rt; out.as_slice(), b"x = ".as_slice()),
-        }
+// Whether the literal of a value stands behind a text; or memory was refused, and the text is as it was.
+fn is_written_or_not_begun(alloc: Global, kind: Kind, literal: &str, wanted: &str) -> bool {
+    let Ok(value) = read_value(alloc, kind, literal) else {
+        return true;
+    };
+    let Ok(mut out) = Vec::from_slice(alloc, b"x = ") else {
+        return true;
+    };
+    match value.write_text(&mut out) {
+        Ok(()) => out.as_slice() == wanted.as_bytes(),
+        Err(_) => out.as_slice() == b"x = ".as_slice(),
     }
 }
 
 #[test]
-fn literals_are_written_or_no_memory(rt: HostRuntime) -> Result<(), Fail> {
-    let alloc = rt.alloc();
-    let number = Value::Number(Fixed::from_units(-5_000).ok_or("in range")?);
-    is_written_or_not_begun(&rt, alloc, &number, "x = -0.5");
-    if let Ok(text) = Text::new(alloc, "a\"b\\c and some more") {
-        let wanted = "x = \"a\\\"b\\\\c and some more\"";
-        is_written_or_not_begun(&rt, alloc, &Value::Text(text), wanted);
+fn literals_are_written_or_no_memory(rt: HostRuntime) {
+    for (kind, literal, wanted) in [
+        (Kind::Number, "-.5", "x = -0.5"),
+        (
+            Kind::Text,
+            "\"a\\\"b\\\\c and some more\"",
+            "x = \"a\\\"b\\\\c and some more\"",
+        ),
+        (Kind::Flag, "true", "x = true"),
+        (Kind::Flag, "false", "x = false"),
+        (
+            Kind::Day,
+            "date(\"2024-02-29\")",
+            "x = date(\"2024-02-29\")",
+        ),
+    ] {
+        let well = is_written_or_not_begun(rt.alloc(), kind, literal, wanted);
+        assert!(rt; well, "{literal}");
     }
-    is_written_or_not_begun(&rt, alloc, &Value::Flag(true), "x = true");
-    is_written_or_not_begun(&rt, alloc, &Value::Flag(false), "x = false");
-    let day = Value::Day(Day::from_epoch_day(19_782).ok_or("a day")?);
-    is_written_or_not_begun(&rt, alloc, &day, "x = date(\"2024-02-29\")");
-    Ok(())
 }
