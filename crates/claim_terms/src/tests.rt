@@ -3,7 +3,7 @@ use crate::{FILES_LIMIT, Terms, TermsFault};
 use dtable::{Plan, read_plan};
 use intake_csv::{BalanceFault, FILE_LIMIT_BYTES, FileFault, RowCause, RowFault};
 use settlement::Acc;
-use std::alloc::Global;
+use std::alloc::{AllocError, Global};
 use std::fmt::Write;
 use std::process::Abort;
 use std::test::Fail;
@@ -24,6 +24,8 @@ oop_max = "1000"
 const NO_ROLES: &[u8] = b"version = 1\n";
 
 const CLAIMS: &[u8] = b"claim,member,service,billed,code\nc1,M1,2024-01-05,120.00,A\n";
+
+const OTHER_CLAIMS: &[u8] = b"claim,member,service,billed,code\n";
 
 /// A file that lacks a column.
 const NO_CODE: &[u8] = b"claim,member,service,billed\n";
@@ -58,122 +60,171 @@ fn same(acc: Acc, met: i64, oop: i64, paid: i64) -> bool {
         && acc.paid.amount().units() == paid
 }
 
-#[test]
-fn terms_of_texts(rt: HostRuntime) -> Result<(), Fail> {
-    let plan = plan(&rt, rt.alloc(), PLAN);
-    let files = [CLAIMS, CLAIMS];
-    let terms = Terms::new(rt.alloc(), &plan, &files, Some(BALANCES), Some(7));
-    let terms = terms.expect(&rt, "terms");
-    assert!(rt; terms.plan().names().len() == 8 && terms.plan().roles().is_some());
-    assert!(rt; terms.files().len() == 2);
-    for text in terms.files() {
-        assert!(rt; *text == CLAIMS);
+fn terms<'a>(
+    rt: &impl Abort,
+    alloc: Global,
+    plan: &'a Plan,
+    files: &'a [&'a [u8]],
+    balances: Option<&[u8]>,
+    cutoff: Option<u64>,
+) -> Terms<'a> {
+    Terms::new(alloc, plan, files, balances, cutoff).expect(rt, "terms")
+}
+
+// Compares what these members begin with.
+fn opens(rt: &impl Abort, terms: &Terms, members: &[(&str, i64, i64, i64)]) {
+    for (member, met, oop, paid) in members {
+        assert!(rt; same(terms.opening(member), *met, *oop, *paid), "{member}");
     }
-    assert!(rt; terms.cutoff() == Some(7));
-    assert!(rt; same(terms.opening("M1"), 500_000, 100_000, 50_000));
-    assert!(rt; same(terms.opening("M2"), 0, 0, 0));
-    Ok(())
+}
+
+fn has_files(rt: &impl Abort, terms: &Terms, wanted: &[&[u8]]) {
+    assert!(rt; terms.files().len() == wanted.len());
+    for (text, other) in terms.files().iter().zip(wanted) {
+        assert!(rt; *text == *other);
+    }
 }
 
 #[test]
-fn terms_without_balances_and_cutoff(rt: HostRuntime) -> Result<(), Fail> {
+fn terms_of_texts(rt: HostRuntime) {
+    let plan = plan(&rt, rt.alloc(), PLAN);
+    let files = [CLAIMS, OTHER_CLAIMS];
+    let terms = terms(&rt, rt.alloc(), &plan, &files, Some(BALANCES), Some(7));
+    assert!(rt; terms.plan().names().len() == 8 && terms.plan().roles().is_some());
+    assert!(rt; terms.cutoff() == Some(7));
+    has_files(&rt, &terms, &files);
+    opens(
+        &rt,
+        &terms,
+        &[("M1", 500_000, 100_000, 50_000), ("M2", 0, 0, 0)],
+    );
+}
+
+#[test]
+fn terms_without_balances_and_cutoff(rt: HostRuntime) {
     let plan = plan(&rt, rt.alloc(), PLAN);
     let files = [CLAIMS];
-    let terms = Terms::new(rt.alloc(), &plan, &files, None, None).expect(&rt, "terms");
+    let terms = terms(&rt, rt.alloc(), &plan, &files, None, None);
     assert!(rt; terms.cutoff().is_none());
-    assert!(rt; same(terms.opening("M1"), 0, 0, 0));
-    Ok(())
+    opens(&rt, &terms, &[("M1", 0, 0, 0)]);
 }
 
 #[test]
-fn as_many_files_as_a_run_may_have(rt: HostRuntime) -> Result<(), Fail> {
+fn as_many_files_as_a_run_may_have(rt: HostRuntime) {
     let plan = plan(&rt, rt.alloc(), PLAN);
-    let none = fault_of(rt.alloc(), &plan, &[], None);
-    assert!(rt; none == Some(TermsFault::Files));
-    assert!(rt; fault_of(rt.alloc(), &plan, &TOO_MANY, None) == Some(TermsFault::Files));
-    assert!(rt; fault_of(rt.alloc(), &plan, &TOO_MANY[..FILES_LIMIT], None).is_none());
-    Ok(())
+    check_numbers_of_files(&rt, rt.alloc(), &plan, &TOO_MANY);
 }
 
-#[test]
-fn faults_come_in_order(rt: HostRuntime) -> Result<(), Fail> {
-    let no_roles = plan(&rt, rt.alloc(), NO_ROLES);
-    let plan = plan(&rt, rt.alloc(), PLAN);
-    let refused = fault_of(rt.alloc(), &no_roles, &[], Some(TWICE));
-    assert!(rt; refused == Some(TermsFault::NoRoles));
-    let refused = fault_of(rt.alloc(), &plan, &[], Some(TWICE));
-    assert!(rt; refused == Some(TermsFault::Files));
-    let files = [CLAIMS, TWO_CODES, NO_CODE];
-    let refused = fault_of(rt.alloc(), &plan, &files, Some(TWICE));
-    assert!(rt; refused == Some(file_fault(2, FileFault::DuplicateColumn)));
-    let refused = fault_of(rt.alloc(), &plan, &[CLAIMS], Some(TWICE));
-    assert!(rt; refused == Some(repeated()));
-    let refused = fault_of(rt.alloc(), &plan, &[CLAIMS], Some(b""));
-    let no_header = BalanceFault::File(FileFault::NoHeader);
-    assert!(rt; refused == Some(TermsFault::Balances(no_header)));
-    Ok(())
+fn check_numbers_of_files(rt: &impl Abort, alloc: Global, plan: &Plan, files: &[&[u8]]) {
+    assert!(rt; files.len() == 65);
+    assert!(rt; fault_of(alloc, plan, files, None) == Some(TermsFault::Files));
+    assert!(rt; fault_of(alloc, plan, &files[..FILES_LIMIT], None).is_none());
+    assert!(rt; fault_of(alloc, plan, &[], None) == Some(TermsFault::Files));
 }
 
-fn file_fault(provider: usize, fault: FileFault) -> TermsFault {
-    TermsFault::File { provider, fault }
-}
-
-// The second record of balances names a member again.
-fn repeated() -> TermsFault {
-    let fault = RowFault {
+/// The second record of balances names a member again.
+const REPEATED: TermsFault = TermsFault::Balances(BalanceFault::Row {
+    number: 2,
+    fault: RowFault {
         column: 1,
         cause: RowCause::Repeated,
-    };
-    TermsFault::Balances(BalanceFault::Row { number: 2, fault })
+    },
+});
+
+/// Files and balances that make no terms, and the first of their faults.
+const REFUSED: [(&[&[u8]], &[u8], TermsFault); 4] = [
+    (&[], TWICE, TermsFault::Files),
+    (
+        &[CLAIMS, TWO_CODES, NO_CODE],
+        TWICE,
+        TermsFault::File {
+            provider: 2,
+            fault: FileFault::DuplicateColumn,
+        },
+    ),
+    (&[CLAIMS], TWICE, REPEATED),
+    (
+        &[CLAIMS],
+        b"",
+        TermsFault::Balances(BalanceFault::File(FileFault::NoHeader)),
+    ),
+];
+
+#[test]
+fn faults_come_in_order(rt: HostRuntime) {
+    let no_roles = plan(&rt, rt.alloc(), NO_ROLES);
+    let refused = fault_of(rt.alloc(), &no_roles, &[], Some(TWICE));
+    assert!(rt; refused == Some(TermsFault::NoRoles));
+    let plan = plan(&rt, rt.alloc(), PLAN);
+    for (files, balances, fault) in &REFUSED {
+        let refused = fault_of(rt.alloc(), &plan, files, Some(balances));
+        assert!(rt; refused == Some(*fault), "{fault}");
+    }
 }
 
 #[test]
 fn a_file_that_is_too_large(rt: HostRuntime) -> Result<(), Fail> {
     let plan = plan(&rt, rt.alloc(), PLAN);
-    let mut text = Vec::with_capacity(rt.alloc(), FILE_LIMIT_BYTES.saturating_add(1))?;
-    text.extend_from_slice(CLAIMS)?;
-    for _ in 0..FILE_LIMIT_BYTES
-        .saturating_add(1)
-        .saturating_sub(CLAIMS.len())
-    {
-        text.push(b'\n')?;
-    }
+    let text = too_large(rt.alloc(), CLAIMS)?;
     assert!(rt; text.len() == 16_777_217);
     let refused = fault_of(rt.alloc(), &plan, &[&text, NO_CODE], None);
-    assert!(rt; refused == Some(file_fault(1, FileFault::TooLarge)));
+    let fault = FileFault::TooLarge;
+    assert!(rt; refused == Some(TermsFault::File { provider: 1, fault }));
     Ok(())
 }
+
+// The text with as many empty lines that it has one byte more than a file may have.
+fn too_large(alloc: Global, text: &[u8]) -> Result<Vec<u8>, AllocError> {
+    let size = FILE_LIMIT_BYTES.saturating_add(1);
+    let mut large = Vec::with_capacity(alloc, size)?;
+    large.extend_from_slice(text)?;
+    for _ in 0..size.saturating_sub(text.len()) {
+        large.push(b'\n')?;
+    }
+    Ok(large)
+}
+
+/// Faults, with their numbers and texts.
+const FAULTS: [(TermsFault, u8, &str); 5] = [
+    (TermsFault::NoRoles, 1, "the plan has no roles"),
+    (TermsFault::Files, 2, "no file, or too many files"),
+    (
+        TermsFault::File {
+            provider: 2,
+            fault: FileFault::NoHeader,
+        },
+        3,
+        "file 2: the file has no header",
+    ),
+    (
+        REPEATED,
+        4,
+        "balances: record 2: column 1: a member stands twice",
+    ),
+    (TermsFault::OutOfMemory, 5, "out of memory"),
+];
 
 #[test]
 fn faults_have_numbers_and_texts(rt: HostRuntime) -> Result<(), Fail> {
-    assert!(rt; TermsFault::NoRoles.number() == 1);
-    assert!(rt; TermsFault::Files.number() == 2);
-    assert!(rt; file_fault(1, FileFault::TooLarge).number() == 3);
-    assert!(rt; repeated().number() == 4);
-    assert!(rt; TermsFault::OutOfMemory.number() == 5);
-    let mut text = String::new(rt.alloc());
-    write!(
-        text,
-        "{}; {}",
-        file_fault(2, FileFault::NoHeader),
-        repeated()
-    )?;
-    assert!(rt;
-        text.as_str()
-            == "file 2: the file has no header; balances: record 2: column 1: a member stands twice"
-    );
+    for (fault, number, wanted) in &FAULTS {
+        assert!(rt; fault.number() == *number);
+        let mut text = String::new(rt.alloc());
+        write!(text, "{fault}")?;
+        assert!(rt; text.as_str() == *wanted);
+    }
     Ok(())
 }
 
 #[test]
-fn terms_or_no_memory(rt: HostRuntime) -> Result<(), Fail> {
-    let Ok(plan) = read_plan(rt.alloc(), PLAN) else {
-        return Ok(());
-    };
-    let files = [CLAIMS, CLAIMS];
-    match Terms::new(rt.alloc(), &plan, &files, Some(BALANCES), None) {
-        Ok(terms) => assert!(rt; same(terms.opening("M1"), 500_000, 100_000, 50_000)),
+fn terms_or_no_memory(rt: HostRuntime) {
+    if let Ok(plan) = read_plan(rt.alloc(), PLAN) {
+        check_terms_or_no_memory(&rt, rt.alloc(), &plan, &[CLAIMS, CLAIMS]);
+    }
+}
+
+fn check_terms_or_no_memory(rt: &impl Abort, alloc: Global, plan: &Plan, files: &[&[u8]]) {
+    match Terms::new(alloc, plan, files, Some(BALANCES), None) {
+        Ok(terms) => opens(rt, &terms, &[("M1", 500_000, 100_000, 50_000)]),
         Err(fault) => assert!(rt; fault == TermsFault::OutOfMemory),
     }
-    Ok(())
 }

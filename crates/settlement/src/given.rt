@@ -64,8 +64,9 @@ fn source_reads(place: usize, source: &Source) -> bool
     ensures { result ≡ source_reads place source.now }
 {
     match source {
+        Source::Literal(_) => false,
         Source::Input(given) => *given == place,
-        _ => false,
+        Source::Output(_) => false,
     }
 }
 
@@ -126,10 +127,16 @@ fn text_given(claim: &Claim, place: usize) -> Option<&Text>
         ID => Some(&claim.id),
         MEMBER => Some(&claim.member),
         SERVICE | BILLED => None,
-        _ => match claim.fields.as_slice().get(place - FIRST_FIELD) {
-            Some(Value::Text(text)) => Some(text),
-            _ => None,
-        },
+        _ => field_text(claim, place - FIRST_FIELD),
+    }
+}
+
+fn field_text(claim: &Claim, place: usize) -> Option<&Text>
+    ensures { (acc : Acc) → IfSome result (λ text. slice_get (values_behind claim.now acc) place ≡ Some (values.Text text.now)) }
+{
+    match claim.fields.as_slice().get(place) {
+        Some(Value::Text(text)) => Some(text),
+        _ => None,
     }
 }
 

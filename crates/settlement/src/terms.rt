@@ -86,7 +86,9 @@ fn text_of(value: &Value) -> Option<&Text>
 {
     match value {
         Value::Text(text) => Some(text),
-        _ => None,
+        Value::Number(_) => None,
+        Value::Flag(_) => None,
+        Value::Day(_) => None,
     }
 }
 
@@ -99,7 +101,8 @@ fn value_of<'a>(inputs: &'a Inputs, env: &'a Env, source: &'a Source) -> Option<
         Source::Input(place) => inputs.get(*place),
         Source::Output(name) => match env.get(name.as_str()) {
             Some(Answer::One(value)) => Some(value),
-            _ => None,
+            Some(Answer::Many(_)) => None,
+            None => None,
         },
     }
 }
