@@ -152,22 +152,30 @@ const REFUSED: [(&[&[u8]], &[u8], TermsFault); 4] = [
 
 #[test]
 fn faults_come_in_order(rt: HostRuntime) {
-    let no_roles = plan(&rt, rt.alloc(), NO_ROLES);
-    let refused = fault_of(rt.alloc(), &no_roles, &[], Some(TWICE));
-    assert!(rt; refused == Some(TermsFault::NoRoles));
+    check_no_roles(&rt, rt.alloc());
     let plan = plan(&rt, rt.alloc(), PLAN);
     for (files, balances, fault) in &REFUSED {
         let refused = fault_of(rt.alloc(), &plan, files, Some(balances));
-        assert!(rt; refused == Some(*fault), "{fault}");
+        assert!(rt; refused == Some(*fault));
     }
 }
 
+fn check_no_roles(rt: &impl Abort, alloc: Global) {
+    let plan = plan(rt, alloc, NO_ROLES);
+    let refused = fault_of(alloc, &plan, &[], Some(TWICE));
+    assert!(rt; refused == Some(TermsFault::NoRoles));
+}
+
 #[test]
-fn a_file_that_is_too_large(rt: HostRuntime) -> Result<(), Fail> {
+fn a_file_that_is_too_large(rt: HostRuntime) {
     let plan = plan(&rt, rt.alloc(), PLAN);
-    let text = too_large(rt.alloc(), CLAIMS)?;
+    assert!(rt; check_too_large(&rt, rt.alloc(), &plan).is_ok());
+}
+
+fn check_too_large(rt: &impl Abort, alloc: Global, plan: &Plan) -> Result<(), AllocError> {
+    let text = too_large(alloc, CLAIMS)?;
     assert!(rt; text.len() == 16_777_217);
-    let refused = fault_of(rt.alloc(), &plan, &[&text, NO_CODE], None);
+    let refused = fault_of(alloc, plan, &[&text, NO_CODE], None);
     let fault = FileFault::TooLarge;
     assert!(rt; refused == Some(TermsFault::File { provider: 1, fault }));
     Ok(())

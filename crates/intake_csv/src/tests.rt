@@ -155,18 +155,11 @@ const FAULTY_TOLD: &str =
     "1.0 a M\"1 19782 10000 A;2!0.1;3!2.4;4!3.5;5!4.6;6!4.7;7!2.3;8!2.2;9.1 i M1 19723 0 B;";
 
 #[test]
-fn each_fault_of_a_record(rt: HostRuntime) -> Result<(), Fail> {
+fn each_fault_of_a_record(rt: HostRuntime) {
     let plan = plan(&rt, rt.alloc(), PLAN);
-    reads(&rt, rt.alloc(), &plan, b"", &FAULTY, FAULTY_TOLD)?;
-    reads(
-        &rt,
-        rt.alloc(),
-        &plan,
-        b"\xEF\xBB\xBF",
-        &FAULTY,
-        FAULTY_TOLD,
-    )?;
-    Ok(())
+    let mark = b"\xEF\xBB\xBF";
+    assert!(rt; reads(&rt, rt.alloc(), &plan, b"", &FAULTY, FAULTY_TOLD).is_ok());
+    assert!(rt; reads(&rt, rt.alloc(), &plan, mark, &FAULTY, FAULTY_TOLD).is_ok());
 }
 
 /// Records with faults under several columns, in another order than the plan's.
@@ -185,10 +178,9 @@ const SHUFFLED_TOLD: &str =
     "1.0 a M 19723 10000 15000 true -719162;2!2.5;3!3.6;4!3.7;5!5.4;6!6.4;7!7.5;8!8.5;";
 
 #[test]
-fn faults_of_a_record_come_in_the_header_s_order(rt: HostRuntime) -> Result<(), Fail> {
+fn faults_of_a_record_come_in_the_header_s_order(rt: HostRuntime) {
     let plan = plan(&rt, rt.alloc(), KINDS);
-    tells(&rt, rt.alloc(), &plan, SHUFFLED, SHUFFLED_TOLD)?;
-    Ok(())
+    assert!(rt; tells(&rt, rt.alloc(), &plan, SHUFFLED, SHUFFLED_TOLD).is_ok());
 }
 
 /// Files of claims that are refused as a whole.
@@ -232,14 +224,18 @@ fn filled(alloc: Global, text: &[u8], size: usize) -> Result<Vec<u8>, AllocError
     Ok(filled)
 }
 
-#[test]
-fn a_file_of_the_greatest_size(rt: HostRuntime) -> Result<(), Fail> {
-    let plan = plan(&rt, rt.alloc(), PLAN);
-    let mut text = filled(rt.alloc(), HEADER, FILE_LIMIT_BYTES)?;
-    assert!(rt; refused(rt.alloc(), &plan, &text).is_none());
+fn check_the_greatest_size(rt: &impl Abort, alloc: Global, plan: &Plan) -> Result<(), AllocError> {
+    let mut text = filled(alloc, HEADER, FILE_LIMIT_BYTES)?;
+    assert!(rt; refused(alloc, plan, &text).is_none());
     text.push(b'\n')?;
-    assert!(rt; refused(rt.alloc(), &plan, &text) == Some(FileFault::TooLarge));
+    assert!(rt; refused(alloc, plan, &text) == Some(FileFault::TooLarge));
     Ok(())
+}
+
+#[test]
+fn a_file_of_the_greatest_size(rt: HostRuntime) {
+    let plan = plan(&rt, rt.alloc(), PLAN);
+    assert!(rt; check_the_greatest_size(&rt, rt.alloc(), &plan).is_ok());
 }
 
 /// What stands behind the header, and the rows that it gives: the cases that readers of CSV get wrong.
@@ -303,25 +299,23 @@ const HEADERS: [&[u8]; 4] = [
 ];
 
 #[test]
-fn quoting(rt: HostRuntime) -> Result<(), Fail> {
+fn quoting(rt: HostRuntime) {
     let plan = plan(&rt, rt.alloc(), PLAN);
     for header in &HEADERS {
         for (records, wanted) in &QUOTING {
-            reads(&rt, rt.alloc(), &plan, header, &[*records], wanted)?;
+            assert!(rt; reads(&rt, rt.alloc(), &plan, header, &[*records], wanted).is_ok());
         }
     }
-    Ok(())
 }
 
 const CLAIMS_TOLD: &str =
     "1.0 c1 M1 19727 1200000 A;2.1 c2 M1 19754 400000 B;3.2 c3 M1 19755 400000 Z;4.3 c4 M1 19783 1000000 A;";
 
 #[test]
-fn every_prefix_of_a_claim_file_is_answered(rt: HostRuntime) -> Result<(), Fail> {
+fn every_prefix_of_a_claim_file_is_answered(rt: HostRuntime) {
     let plan = plan(&rt, rt.alloc(), PLAN);
-    check_prefixes(&rt, rt.alloc(), &plan, CLAIMS)?;
-    tells(&rt, rt.alloc(), &plan, CLAIMS, CLAIMS_TOLD)?;
-    Ok(())
+    assert!(rt; check_prefixes(&rt, rt.alloc(), &plan, CLAIMS).is_ok());
+    assert!(rt; tells(&rt, rt.alloc(), &plan, CLAIMS, CLAIMS_TOLD).is_ok());
 }
 
 // A prefix is a file of claims where it has the header's 32 bytes.
@@ -515,10 +509,14 @@ fn faults_have_numbers_and_texts(rt: HostRuntime) -> Result<(), Fail> {
 #[test]
 fn claims_or_no_memory(rt: HostRuntime) {
     if let Ok(plan) = read_plan(rt.alloc(), PLAN) {
-        match Rows::new(rt.alloc(), &plan, CLAIMS) {
-            Ok(mut rows) => check_rows_or_no_memory(&rt, &mut rows),
-            Err(fault) => assert!(rt; fault == FileFault::OutOfMemory),
-        }
+        check_claims_or_no_memory(&rt, rt.alloc(), &plan, CLAIMS);
+    }
+}
+
+fn check_claims_or_no_memory(rt: &impl Abort, alloc: Global, plan: &Plan, text: &[u8]) {
+    match Rows::new(alloc, plan, text) {
+        Ok(mut rows) => check_rows_or_no_memory(rt, &mut rows),
+        Err(fault) => assert!(rt; fault == FileFault::OutOfMemory),
     }
 }
 
