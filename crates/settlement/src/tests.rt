@@ -164,49 +164,52 @@ fn settles(
     is_told(rt, alloc, &outcome, example)
 }
 
+fn plan(rt: &impl Abort, alloc: Global, text: &str) -> Plan {
+    read_plan(alloc, text.as_bytes()).expect(rt, "a plan")
+}
+
 // Decides the claims by the plan, each by a call of its own.
-fn decides(rt: &impl Abort, alloc: Global, plan: &str, examples: &[Example]) -> Result<(), Fail> {
-    let plan = read_plan(alloc, plan.as_bytes())?;
+fn decides(rt: &impl Abort, alloc: Global, text: &str, examples: &[Example]) {
+    let plan = plan(rt, alloc, text);
     for example in examples {
-        settles(rt, alloc, &plan, example)?;
+        assert!(rt; settles(rt, alloc, &plan, example).is_ok());
     }
-    Ok(())
 }
 
 #[test]
-fn amounts_written_in_the_plan(rt: HostRuntime) -> Result<(), Fail> {
-    decides(&rt, rt.alloc(), FLAT, &WRITTEN)
+fn amounts_written_in_the_plan(rt: HostRuntime) {
+    decides(&rt, rt.alloc(), FLAT, &WRITTEN);
 }
 
 #[test]
-fn a_rate_above_one(rt: HostRuntime) -> Result<(), Fail> {
+fn a_rate_above_one(rt: HostRuntime) {
     assert!(rt; Role::Rate.number() == 5);
-    decides(&rt, rt.alloc(), RATE_OF_CLAIM, &RATES)
+    decides(&rt, rt.alloc(), RATE_OF_CLAIM, &RATES);
 }
 
 #[test]
-fn who_pays_what(rt: HostRuntime) -> Result<(), Fail> {
-    decides(&rt, rt.alloc(), OPEN, &PAID)
+fn who_pays_what(rt: HostRuntime) {
+    decides(&rt, rt.alloc(), OPEN, &PAID);
 }
 
 #[test]
-fn the_first_role_that_is_not_what_it_must_be(rt: HostRuntime) -> Result<(), Fail> {
-    decides(&rt, rt.alloc(), OPEN, &UNPAID)
+fn the_first_role_that_is_not_what_it_must_be(rt: HostRuntime) {
+    decides(&rt, rt.alloc(), OPEN, &UNPAID);
 }
 
 #[test]
-fn faults_of_the_tables(rt: HostRuntime) -> Result<(), Fail> {
-    decides(&rt, rt.alloc(), FAULTY, &SCORED)
+fn faults_of_the_tables(rt: HostRuntime) {
+    decides(&rt, rt.alloc(), FAULTY, &SCORED);
 }
 
 #[test]
-fn tables_give_cover_fee_and_remarks(rt: HostRuntime) -> Result<(), Fail> {
-    decides(&rt, rt.alloc(), HEALTH, &TREATED)
+fn tables_give_cover_fee_and_remarks(rt: HostRuntime) {
+    decides(&rt, rt.alloc(), HEALTH, &TREATED);
 }
 
 #[test]
-fn tables_in_a_chain(rt: HostRuntime) -> Result<(), Fail> {
-    decides(&rt, rt.alloc(), CHAINED, &[CAPPED, UNCAPPED])
+fn tables_in_a_chain(rt: HostRuntime) {
+    decides(&rt, rt.alloc(), CHAINED, &[CAPPED, UNCAPPED]);
 }
 
 // Decides one claim more.
@@ -237,30 +240,24 @@ fn settles_both(
     settles_next(rt, alloc, &mut desk, plan, second)
 }
 
-fn decides_both(
-    rt: &impl Abort,
-    alloc: Global,
-    plan: &str,
-    examples: &[Example; 2],
-) -> Result<(), Fail> {
-    let plan = read_plan(alloc, plan.as_bytes())?;
-    settles_both(rt, alloc, &plan, examples)?;
-    Ok(())
+fn decides_both(rt: &impl Abort, alloc: Global, text: &str, examples: &[Example; 2]) {
+    let plan = plan(rt, alloc, text);
+    assert!(rt; settles_both(rt, alloc, &plan, examples).is_ok());
 }
 
 #[test]
-fn one_adjudicator_decides_claims_of_two_codes(rt: HostRuntime) -> Result<(), Fail> {
-    decides_both(&rt, rt.alloc(), HEALTH, &[FIRST, SECOND])
+fn one_adjudicator_decides_claims_of_two_codes(rt: HostRuntime) {
+    decides_both(&rt, rt.alloc(), HEALTH, &[FIRST, SECOND]);
 }
 
 #[test]
-fn one_adjudicator_decides_after_a_pended_claim(rt: HostRuntime) -> Result<(), Fail> {
-    decides_both(&rt, rt.alloc(), HEALTH, &BEHIND_A_PENDED)
+fn one_adjudicator_decides_after_a_pended_claim(rt: HostRuntime) {
+    decides_both(&rt, rt.alloc(), HEALTH, &BEHIND_A_PENDED);
 }
 
 #[test]
-fn what_each_claim_and_each_member_has(rt: HostRuntime) -> Result<(), Fail> {
-    decides_both(&rt, rt.alloc(), NAMED, &NAMING)
+fn what_each_claim_and_each_member_has(rt: HostRuntime) {
+    decides_both(&rt, rt.alloc(), NAMED, &NAMING);
 }
 
 // The plan, or none where no memory is left to read it.
@@ -343,29 +340,33 @@ fn leaves(
 }
 
 #[test]
-fn accumulators_leave_the_range_one_by_one(rt: HostRuntime) -> Result<(), Fail> {
+fn accumulators_leave_the_range_one_by_one(rt: HostRuntime) {
     let outcome = some_paid(&rt, rt.alloc());
     for (before, wanted) in &ADDED {
-        leaves(&rt, rt.alloc(), &outcome, acc(&rt, *before), wanted)?;
+        let before = acc(&rt, *before);
+        assert!(rt; leaves(&rt, rt.alloc(), &outcome, before, wanted).is_ok());
     }
+}
+
+// The claim has the fields of its plan, and not those of another, which has more.
+fn fits_one(rt: &impl Abort, alloc: Global, plan: &Plan) -> Result<(), AllocError> {
+    let claim = claim(rt, alloc, plan, 100, &["A"])?;
+    assert!(rt; claim.is_of(plan));
+    fits_not(rt, alloc, &claim);
     Ok(())
 }
 
-fn fits_one(rt: &impl Abort, alloc: Global, plan: &Plan, other: &Plan) -> Result<(), AllocError> {
-    let claim = claim(rt, alloc, plan, 100, &["A"])?;
-    assert!(rt; claim.is_of(plan));
-    assert!(rt; !claim.is_of(other));
-    Ok(())
+fn fits_not(rt: &impl Abort, alloc: Global, claim: &Claim) {
+    let open = plan(rt, alloc, OPEN);
+    assert!(rt; fields_of(&open).len() == 6);
+    assert!(rt; !claim.is_of(&open));
 }
 
 #[test]
-fn claims_have_the_fields_of_their_plan(rt: HostRuntime) -> Result<(), Fail> {
-    let health = read_plan(rt.alloc(), HEALTH.as_bytes())?;
-    let open = read_plan(rt.alloc(), OPEN.as_bytes())?;
-    assert!(rt; fields_of(&open).len() == 6);
+fn claims_have_the_fields_of_their_plan(rt: HostRuntime) {
+    let health = plan(&rt, rt.alloc(), HEALTH);
     assert!(rt; fields_of(&health).len() == 1);
-    fits_one(&rt, rt.alloc(), &health, &open)?;
-    Ok(())
+    assert!(rt; fits_one(&rt, rt.alloc(), &health).is_ok());
 }
 
 // Copies a claim, and looks at the copy.
@@ -383,10 +384,9 @@ fn is_that_claim(rt: &impl Abort, plan: &Plan, claim: &Claim) {
 }
 
 #[test]
-fn a_copy_of_a_claim(rt: HostRuntime) -> Result<(), Fail> {
-    let plan = read_plan(rt.alloc(), HEALTH.as_bytes())?;
-    copies(&rt, rt.alloc(), &plan)?;
-    Ok(())
+fn a_copy_of_a_claim(rt: HostRuntime) {
+    let plan = plan(&rt, rt.alloc(), HEALTH);
+    assert!(rt; copies(&rt, rt.alloc(), &plan).is_ok());
 }
 
 #[test]
