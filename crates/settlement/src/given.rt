@@ -127,16 +127,10 @@ fn text_given(claim: &Claim, place: usize) -> Option<&Text>
         ID => Some(&claim.id),
         MEMBER => Some(&claim.member),
         SERVICE | BILLED => None,
-        _ => field_text(claim, place - FIRST_FIELD),
-    }
-}
-
-fn field_text(claim: &Claim, place: usize) -> Option<&Text>
-    ensures { (acc : Acc) → IfSome result (λ text. slice_get (values_behind claim.now acc) place ≡ Some (values.Text text.now)) }
-{
-    match claim.fields.as_slice().get(place) {
-        Some(Value::Text(text)) => Some(text),
-        _ => None,
+        _ => match claim.fields.as_slice().get(place - FIRST_FIELD) {
+            Some(Value::Text(text)) => Some(text),
+            _ => None,
+        },
     }
 }
 
