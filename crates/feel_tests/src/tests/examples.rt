@@ -127,7 +127,13 @@ fn is_written(alloc: Global, kind: Kind, literal: &str, wanted: &str) -> Option<
     let value = read_value(alloc, kind, literal).ok()?;
     let mut out = Vec::new(alloc);
     value.write_text(&mut out).ok()?;
-    Some(out.as_slice() == wanted.as_bytes())
+    Some(out.as_slice() == wanted.as_bytes() && value.kind() == kind)
+}
+
+// Whether what is written for a literal is read back as the same value.
+fn is_read_back(alloc: Global, kind: Kind, literal: &str, written: &str) -> Option<bool> {
+    let value = read_value(alloc, kind, literal).ok()?;
+    is_read_as(alloc, kind, written, &value)
 }
 
 const LITERALS: [(Kind, &str, &str); 13] = [
@@ -151,11 +157,13 @@ const LITERALS: [(Kind, &str, &str); 13] = [
 ];
 
 #[test]
-fn literals_are_written(rt: HostRuntime) {
+fn literals_are_written_and_read_back(rt: HostRuntime) {
     for row in &LITERALS {
         let (kind, literal, wanted) = *row;
         let written = is_written(rt.alloc(), kind, literal, wanted);
         assert_eq!(rt; written, Some(true), "{literal}");
+        let read = is_read_back(rt.alloc(), kind, literal, wanted);
+        assert_eq!(rt; read, Some(true), "{literal}");
     }
     text_spells_at_most_one_value();
 }
@@ -286,11 +294,30 @@ fn plain_fields_are_refused(rt: HostRuntime) {
     }
 }
 
+const CAUSES: [(CellCause, u8); 8] = [
+    (CellCause::Token, 1),
+    (CellCause::Literal, 2),
+    (CellCause::WrongKind, 3),
+    (CellCause::BadEscape, 4),
+    (CellCause::BadDate, 5),
+    (CellCause::TooMany, 6),
+    (CellCause::Trailing, 7),
+    (CellCause::OutOfMemory, 8),
+];
+
 #[test]
-fn faults_are_numbered_and_told(rt: HostRuntime) -> Result<(), Fail> {
-    let cause = CellCause::BadDate;
-    assert_eq!(rt; cause.number(), 5);
+fn faults_have_numbers(rt: HostRuntime) {
+    for row in &CAUSES {
+        let (cause, number) = *row;
+        assert_eq!(rt; cause.number(), number);
+    }
     assert_eq!(rt; PlainFault::Bad.number(), 1);
+    assert_eq!(rt; PlainFault::OutOfMemory.number(), 2);
+}
+
+#[test]
+fn faults_are_told(rt: HostRuntime) -> Result<(), Fail> {
+    let cause = CellCause::BadDate;
     let told = format!(in rt.alloc(); "{}", CellFault { at: 17, cause })?;
     assert_eq!(rt; told.as_str(), "bad date at byte 17");
     Ok(())
