@@ -3,17 +3,19 @@ use crate::{RunFault, WORKERS_LIMIT, run};
 use claim_terms::Terms;
 use dtable::{Plan, read_plan};
 use journal::Event;
-use settlement::{Outcome, Reason, Verdict};
-use std::alloc::Global;
+use settlement::{Money, Outcome};
+use std::alloc::{AllocError, Global};
 use std::fmt::Write;
 use std::process::Abort;
+use std::sync::Wait;
 use std::test::Fail;
+use std::thread::Threads;
 
 mod meeting;
 mod stopping;
 
 /// A plan with a table of fees and one of remarks.
-pub const PLAN: &[u8] = br#"
+const PLAN: &[u8] = br#"
 version = 1
 fields = [{name = "code", kind = "text"}]
 
@@ -45,7 +47,7 @@ rules = [
 ]
 "#;
 
-pub const ONE: &[u8] = b"claim,member,service,billed,code
+const ONE: &[u8] = b"claim,member,service,billed,code
 c1,M1,2024-01-05,120.00,A
 c2,M1,2024-02-01,40.00,B
 c3,M1,2024-02-02,40.00,Z
@@ -53,7 +55,7 @@ c4,M1,2024-03-01,100.00,A
 ";
 
 /// The second record is refused: it isn't in whole cents.
-pub const TWO: &[u8] = b"claim,member,service,billed,code
+const TWO: &[u8] = b"claim,member,service,billed,code
 d1,M2,2024-01-09,30.00,B
 d2,M2,2024-01-10,9.999,B
 d3,M2,2024-01-11,10.00,X
@@ -83,61 +85,113 @@ M1,50.00,10.00,5.00
 ";
 
 /// The claims of both files by provider and place, and how many events of each kind there are.
-pub const BOTH_FILES: &str = "1 0 paid 100.00 50.00 10.00 8.00 60.00 40.00 OVER
-1 1 paid 40.00 0.00 10.00 6.00 0.00 40.00 MET
-1 2 norule:1 0.00 0.00 0.00 0.00 0.00 0.00
-1 3 paid 100.00 0.00 10.00 18.00 0.00 100.00 MET
-2 0 paid 30.00 30.00 0.00 0.00 30.00 0.00
-2 1 denied 0.00 0.00 0.00 0.00 0.00 0.00
+const BOTH_FILES: &str = "1 0 Paid 100.00 50.00 10.00 8.00 60.00 40.00 OVER
+1 1 Paid 40.00 0.00 10.00 6.00 0.00 40.00 MET
+1 2 Pended(NoRule { table: 1 }) 0.00 0.00 0.00 0.00 0.00 0.00
+1 3 Paid 100.00 0.00 10.00 18.00 0.00 100.00 MET
+2 0 Paid 30.00 30.00 0.00 0.00 30.00 0.00
+2 1 Denied 0.00 0.00 0.00 0.00 0.00 0.00
 accepts 6 takes 6 decides 6 ends 2 closes 1
 ";
 
 /// With the deductible met and 10.00 out of pocket at the start, the limit of 60.00 is reached by 28.00, 16.00 and 6.00.
-const FROM_BALANCES: &str = "1 0 paid 100.00 0.00 10.00 18.00 28.00 72.00 OVER MET
-1 1 paid 40.00 0.00 10.00 6.00 16.00 24.00 MET
-1 2 norule:1 0.00 0.00 0.00 0.00 0.00 0.00
-1 3 paid 100.00 0.00 10.00 18.00 6.00 94.00 MET
-2 0 paid 30.00 30.00 0.00 0.00 30.00 0.00
-2 1 denied 0.00 0.00 0.00 0.00 0.00 0.00
+const FROM_BALANCES: &str = "1 0 Paid 100.00 0.00 10.00 18.00 28.00 72.00 OVER MET
+1 1 Paid 40.00 0.00 10.00 6.00 16.00 24.00 MET
+1 2 Pended(NoRule { table: 1 }) 0.00 0.00 0.00 0.00 0.00 0.00
+1 3 Paid 100.00 0.00 10.00 18.00 6.00 94.00 MET
+2 0 Paid 30.00 30.00 0.00 0.00 30.00 0.00
+2 1 Denied 0.00 0.00 0.00 0.00 0.00 0.00
 accepts 6 takes 6 decides 6 ends 2 closes 1
 ";
 
-const BETWEEN_REFUSED: &str = "1 0 paid 1.00 1.00 0.00 0.00 1.00 0.00
-1 1 paid 30.00 30.00 0.00 0.00 30.00 0.00
+const BETWEEN_REFUSED: &str = "1 0 Paid 1.00 1.00 0.00 0.00 1.00 0.00
+1 1 Paid 30.00 30.00 0.00 0.00 30.00 0.00
 accepts 2 takes 2 decides 2 ends 2 closes 1
 ";
 
-pub fn plan(rt: &impl Abort, alloc: Global) -> Plan {
-    read_plan(alloc, PLAN).expect(rt, "a plan")
+// A function for each text: what calls it is proved without the text.
+fn plan_text() -> &'static [u8] {
+    PLAN
 }
 
-// The outcome: its verdict, its amounts as money, and its remarks.
-fn write_outcome(text: &mut String, outcome: &Outcome) -> Result<(), Fail> {
-    match outcome.verdict {
-        Verdict::Paid => write!(text, "paid")?,
-        Verdict::Denied => write!(text, "denied")?,
-        Verdict::Pended(Reason::NoRule { table }) => write!(text, "norule:{table}")?,
-        Verdict::Pended(_) => write!(text, "pended")?,
-    }
-    for amount in [
-        outcome.allowed,
-        outcome.ded,
-        outcome.copay,
-        outcome.coins,
-        outcome.share,
-        outcome.paid,
-    ] {
-        let cents = amount.amount().units() / 100;
-        write!(text, " {}.{:02}", cents / 100, cents % 100)?;
-    }
+pub fn file_one() -> &'static [u8] {
+    ONE
+}
+
+pub fn file_two() -> &'static [u8] {
+    TWO
+}
+
+fn file_three() -> &'static [u8] {
+    THREE
+}
+
+fn refused() -> &'static [u8] {
+    REFUSED
+}
+
+fn header() -> &'static [u8] {
+    HEADER
+}
+
+fn balances() -> &'static [u8] {
+    BALANCES
+}
+
+pub fn both_files() -> &'static str {
+    BOTH_FILES
+}
+
+fn from_balances() -> &'static str {
+    FROM_BALANCES
+}
+
+fn between_refused() -> &'static str {
+    BETWEEN_REFUSED
+}
+
+pub fn plan(rt: &impl Abort, alloc: Global) -> Plan {
+    read_plan(alloc, plan_text()).expect(rt, "a plan")
+}
+
+pub fn terms<'a>(
+    rt: &impl Abort,
+    alloc: Global,
+    plan: &'a Plan,
+    files: &'a [&'a [u8]],
+) -> Terms<'a> {
+    Terms::new(alloc, plan, files, None, None).expect(rt, "terms")
+}
+
+// An outcome: its verdict, its amounts as money, and its remarks.
+fn write_outcome(text: &mut String, outcome: &Outcome) -> Result<(), AllocError> {
+    write!(text, "{:?}", outcome.verdict)?;
+    write_amounts(text, outcome)?;
     for remark in outcome.remarks.as_slice() {
         write!(text, " {}", remark.as_str())?;
     }
     Ok(())
 }
 
+fn write_amounts(text: &mut String, outcome: &Outcome) -> Result<(), AllocError> {
+    let deducted = [outcome.allowed, outcome.ded, outcome.copay];
+    for amount in deducted {
+        write_amount(text, amount)?;
+    }
+    let divided = [outcome.coins, outcome.share, outcome.paid];
+    for amount in divided {
+        write_amount(text, amount)?;
+    }
+    Ok(())
+}
+
+fn write_amount(text: &mut String, amount: Money) -> Result<(), AllocError> {
+    let cents = amount.amount().units() / 100;
+    write!(text, " {}.{:02}", cents / 100, cents % 100)
+}
+
 // The outcome of the claim at a position.
-fn write_decision(text: &mut String, journal: &[Event], position: usize) -> Result<(), Fail> {
+fn write_decision(text: &mut String, journal: &[Event], position: usize) -> Result<(), AllocError> {
     for event in journal {
         if let Event::Decide {
             position: decided,
@@ -152,7 +206,7 @@ fn write_decision(text: &mut String, journal: &[Event], position: usize) -> Resu
 }
 
 // A provider's claims in the order in which they were accepted, each with its place and its outcome, a line each.
-fn write_claims(text: &mut String, journal: &[Event], provider: usize) -> Result<(), Fail> {
+fn write_claims(text: &mut String, journal: &[Event], provider: usize) -> Result<(), AllocError> {
     let mut position = 0usize;
     for event in journal {
         if let Event::Accept {
@@ -203,7 +257,7 @@ pub fn count_events(journal: &[Event]) -> EventCounts {
 }
 
 // What a journal comes to, whatever the schedule was.
-pub fn summary(alloc: Global, journal: &[Event], providers: usize) -> Result<String, Fail> {
+pub fn summary(alloc: Global, journal: &[Event], providers: usize) -> Result<String, AllocError> {
     let mut text = String::new(alloc);
     for place in 0..providers {
         write_claims(&mut text, journal, place + 1)?;
@@ -218,93 +272,142 @@ pub fn summary(alloc: Global, journal: &[Event], providers: usize) -> Result<Str
     Ok(text)
 }
 
-#[test]
-fn runs_over_two_files(rt: HostRuntime) -> Result<(), Fail> {
-    let plan = plan(&rt, rt.alloc());
-    for (files, balances, wanted) in [
-        ([ONE, TWO], None, BOTH_FILES),
-        ([ONE, TWO], Some(BALANCES), FROM_BALANCES),
-        ([REFUSED, HEADER], None, BETWEEN_REFUSED),
-    ] {
-        let terms = Terms::new(rt.alloc(), &plan, &files, balances, None).expect(&rt, "terms");
-        for workers in [1, 2, 4, WORKERS_LIMIT] {
-            let batch = run(&rt, rt.alloc(), &terms, workers).expect(&rt, "a run");
-            let text = summary(rt.alloc(), batch.journal(), files.len())?;
-            assert!(rt; text.as_str() == wanted);
-        }
+// Compares what a journal comes to.
+pub fn comes_to(rt: &impl Abort, alloc: Global, journal: &[Event], providers: usize, wanted: &str) {
+    let text = summary(alloc, journal, providers).expect(rt, "a summary");
+    assert!(rt; text.as_str() == wanted);
+}
+
+// Runs by so many workers, and compares what the run comes to.
+fn runs_by<R: Threads + Wait + Abort + Sync>(
+    rt: &R,
+    alloc: Global,
+    terms: &Terms,
+    workers: usize,
+    wanted: &str,
+) {
+    let batch = run(rt, alloc, terms, workers).expect(rt, "a run");
+    comes_to(rt, alloc, batch.journal(), terms.files().len(), wanted);
+}
+
+// Runs over files by several numbers of workers.
+fn runs_over<R: Threads + Wait + Abort + Sync>(
+    rt: &R,
+    alloc: Global,
+    files: &[&[u8]],
+    balances: Option<&[u8]>,
+    wanted: &str,
+) {
+    let plan = plan(rt, alloc);
+    let terms = Terms::new(alloc, &plan, files, balances, None).expect(rt, "terms");
+    for workers in [1, 2, 4, WORKERS_LIMIT] {
+        runs_by(rt, alloc, &terms, workers, wanted);
     }
-    Ok(())
 }
 
 #[test]
-fn a_run_over_a_header_alone(rt: HostRuntime) -> Result<(), Fail> {
-    let plan = plan(&rt, rt.alloc());
-    let files = [HEADER];
-    let terms = Terms::new(rt.alloc(), &plan, &files, None, None).expect(&rt, "terms");
-    let batch = run(&rt, rt.alloc(), &terms, 2).expect(&rt, "a run");
-    assert!(rt; matches!(batch.journal(), [Event::End { provider: 1 }, Event::Close]));
-    Ok(())
+fn runs_over_two_files(rt: HostRuntime) {
+    let files = [file_one(), file_two()];
+    runs_over(&rt, rt.alloc(), &files, None, both_files());
+    let balances = Some(balances());
+    runs_over(&rt, rt.alloc(), &files, balances, from_balances());
+    let files = [refused(), header()];
+    runs_over(&rt, rt.alloc(), &files, None, between_refused());
+}
+
+// Whether the journal of a run by two workers is the end of its only provider, and the close.
+fn is_empty_run<R: Threads + Wait + Abort + Sync>(rt: &R, alloc: Global, terms: &Terms) -> bool {
+    let batch = run(rt, alloc, terms, 2).expect(rt, "a run");
+    matches!(batch.journal(), [Event::End { provider: 1 }, Event::Close])
 }
 
 #[test]
-fn a_run_up_to_a_cutoff(rt: HostRuntime) -> Result<(), Fail> {
+fn a_run_over_a_header_alone(rt: HostRuntime) {
     let plan = plan(&rt, rt.alloc());
-    let files = [THREE, THREE];
+    let files = [header()];
+    let terms = terms(&rt, rt.alloc(), &plan, &files);
+    assert!(rt; is_empty_run(&rt, rt.alloc(), &terms));
+}
+
+// The events of a run by two workers up to a cutoff.
+fn events_up_to<R: Threads + Wait + Abort + Sync>(
+    rt: &R,
+    alloc: Global,
+    plan: &Plan,
+    cutoff: u64,
+) -> EventCounts {
+    let files = [file_three(), file_three()];
+    let terms = Terms::new(alloc, plan, &files, None, Some(cutoff)).expect(rt, "terms");
+    let batch = run(rt, alloc, &terms, 2).expect(rt, "a run");
+    count_events(batch.journal())
+}
+
+#[test]
+fn a_run_up_to_a_cutoff(rt: HostRuntime) {
+    let plan = plan(&rt, rt.alloc());
     for (cutoff, accepts) in [(0, 0), (1, 1), (4, 4), (6, 6), (7, 6)] {
-        let terms = Terms::new(rt.alloc(), &plan, &files, None, Some(cutoff)).expect(&rt, "terms");
-        let batch = run(&rt, rt.alloc(), &terms, 2).expect(&rt, "a run");
-        let kinds = count_events(batch.journal());
+        let kinds = events_up_to(&rt, rt.alloc(), &plan, cutoff);
         assert_eq!(rt; kinds.accepts, accepts);
         assert_eq!(rt; kinds.takes, accepts);
         assert_eq!(rt; kinds.decides, accepts);
         assert_eq!(rt; kinds.closes, 1);
     }
-    Ok(())
+}
+
+// The fault of a run by so many workers.
+fn run_fault<R: Threads + Wait + Abort + Sync>(
+    rt: &R,
+    alloc: Global,
+    terms: &Terms,
+    workers: usize,
+) -> Option<RunFault> {
+    run(rt, alloc, terms, workers).err()
 }
 
 #[test]
-fn a_run_refuses_no_worker_and_too_many(rt: HostRuntime) -> Result<(), Fail> {
+fn a_run_refuses_no_worker_and_too_many(rt: HostRuntime) {
     let plan = plan(&rt, rt.alloc());
-    let files = [TWO];
-    let terms = Terms::new(rt.alloc(), &plan, &files, None, None).expect(&rt, "terms");
+    let files = [file_two()];
+    let terms = terms(&rt, rt.alloc(), &plan, &files);
     for workers in [0, WORKERS_LIMIT + 1, usize::MAX] {
-        match run(&rt, rt.alloc(), &terms, workers) {
-            Ok(_) => return Err(Fail::new("a run of too few or too many workers")),
-            Err(fault) => assert!(rt; fault == RunFault::Workers),
-        }
+        let fault = run_fault(&rt, rt.alloc(), &terms, workers);
+        assert!(rt; fault == Some(RunFault::Workers));
     }
-    Ok(())
 }
+
+const FAULTS: [(RunFault, u8, &str); 5] = [
+    (RunFault::Workers, 1, "no worker, or too many workers"),
+    (RunFault::OutOfMemory, 2, "out of memory"),
+    (RunFault::Thread, 3, "a thread can't be started"),
+    (RunFault::Worn, 4, "the lock has no ticket left"),
+    (RunFault::Stopped, 5, "the run was stopped"),
+];
 
 #[test]
 fn faults_have_numbers_and_texts(rt: HostRuntime) -> Result<(), Fail> {
-    for (fault, number, wanted) in [
-        (RunFault::Workers, 1, "no worker, or too many workers"),
-        (RunFault::OutOfMemory, 2, "out of memory"),
-        (RunFault::Thread, 3, "a thread can't be started"),
-        (RunFault::Worn, 4, "the lock has no ticket left"),
-        (RunFault::Stopped, 5, "the run was stopped"),
-    ] {
-        assert!(rt; fault.number() == number);
+    for (fault, number, wanted) in &FAULTS {
+        assert!(rt; fault.number() == *number);
         let mut text = String::new(rt.alloc());
         write!(text, "{fault}")?;
-        assert!(rt; text.as_str() == wanted);
+        assert!(rt; text.as_str() == *wanted);
     }
     Ok(())
 }
 
-#[test]
-fn a_run_or_no_memory(rt: HostRuntime) -> Result<(), Fail> {
-    let Ok(plan) = read_plan(rt.alloc(), PLAN) else {
-        return Ok(());
-    };
-    let files = [ONE, TWO];
-    let Ok(terms) = Terms::new(rt.alloc(), &plan, &files, None, None) else {
-        return Ok(());
-    };
-    match run(&rt, rt.alloc(), &terms, 2) {
+// A run by two workers: its whole journal, or a refusal for memory or a thread.
+fn runs_or_not<R: Threads + Wait + Abort + Sync>(rt: &R, alloc: Global, terms: &Terms) {
+    match run(rt, alloc, terms, 2) {
         Ok(batch) => assert!(rt; batch.journal().len() == 21),
         Err(fault) => assert!(rt; fault == RunFault::OutOfMemory || fault == RunFault::Thread),
     }
-    Ok(())
+}
+
+#[test]
+fn a_run_or_no_memory(rt: HostRuntime) {
+    if let Ok(plan) = read_plan(rt.alloc(), plan_text()) {
+        let files = [file_one(), file_two()];
+        if let Ok(terms) = Terms::new(rt.alloc(), &plan, &files, None, None) {
+            runs_or_not(&rt, rt.alloc(), &terms);
+        }
+    }
 }

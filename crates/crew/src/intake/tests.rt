@@ -6,17 +6,16 @@ ghost use Rattle.claim_gate.specs.Parts.{ForTerms};
 ghost use Rattle.crew.specs.Sharing.{HasTaken};
 
 use super::{offer, open};
-use crate::tests::{BOTH_FILES, ONE, TWO, plan, summary};
+use crate::tests::{both_files, comes_to, file_one, file_two, plan, terms};
 use crate::{RunFault, run_with};
 use claim_gate::{Gate, GateState, LockedGate, Offer, SerialGate, Terms};
 use feel_tests::field_spells_at_most_one_value;
 use fixpoint::text_denotes_at_most_one;
 use intake_csv::{Row, reader_begins_with_all_rows};
 use settlement::Claim;
-use std::alloc::Global;
+use std::alloc::{AllocError, Global};
 use std::process::Abort;
 use std::sync::Wait;
-use std::test::Fail;
 use std::thread::Threads;
 use turn_lock::{Section, SpinLock};
 
@@ -76,14 +75,14 @@ fn first_two(rt: &impl Abort, alloc: Global, terms: &Terms) -> (Claim, Claim)
     (first, second)
 }
 
-// What a run comes to on a gate where another pass has had the first two claims of the first provider accepted.
+// Runs on a gate where another pass has had the first two claims of the first provider accepted.
 fn run_behind_others<S: Section + Drop + Sync, R: Threads + Wait + Abort + Sync>(
     rt: &R,
     alloc: Global,
     terms: &Terms,
     lock: S,
     pass: S::Pass,
-) -> Result<String, Fail>
+)
 where
     S::Value: SerialGate + Drop + Send + Sync,
     S::Pass: Send + Drop,
@@ -98,12 +97,12 @@ where
     let theirs = accept(rt, terms, &gate, theirs, 0, first);
     let _ = accept(rt, terms, &gate, theirs, 1, second);
     let Ok(mine) = run_with(rt, alloc, terms, 2, &gate, mine) else {
-        return Err(Fail::new("a run behind others"));
+        panic!(rt; "a run behind others");
     };
-    let Ok(state) = gate.retire(rt, mine) else {
-        return Err(Fail::new("the gate of the run"));
-    };
-    summary(alloc, state.journal(), files)
+    match gate.retire(rt, mine) {
+        Ok(state) => comes_to(rt, alloc, state.journal(), files, both_files()),
+        Err(_) => panic!(rt; "the gate of the run"),
+    }
 }
 
 // The fault of a run on a gate that was stopped.
@@ -129,26 +128,39 @@ where
     }
 }
 
-#[test]
-fn intakes_go_on_where_others_are(rt: HostRuntime) -> Result<(), Fail> {
-    let plan = plan(&rt, rt.alloc());
-    let files = [ONE, TWO];
-    let terms = Terms::new(rt.alloc(), &plan, &files, None, None).expect(&rt, "terms");
-    let state = GateState::new(rt.alloc(), &terms)?;
-    let (lock, pass) = SpinLock::new(rt.alloc(), state)?;
-    let text = run_behind_others(&rt, rt.alloc(), &terms, lock, pass)?;
-    assert!(rt; text.as_str() == BOTH_FILES);
+// The same behind a spin lock.
+fn goes_on<R: Threads + Wait + Abort + Sync>(
+    rt: &R,
+    alloc: Global,
+    terms: &Terms,
+) -> Result<(), AllocError> {
+    let (lock, pass) = SpinLock::new(alloc, GateState::new(alloc, terms)?)?;
+    run_behind_others(rt, alloc, terms, lock, pass);
     Ok(())
 }
 
 #[test]
-fn a_run_on_a_stopped_gate(rt: HostRuntime) -> Result<(), Fail> {
+fn intakes_go_on_where_others_are(rt: HostRuntime) {
     let plan = plan(&rt, rt.alloc());
-    let files = [ONE, TWO];
-    let terms = Terms::new(rt.alloc(), &plan, &files, None, None).expect(&rt, "terms");
-    let state = GateState::new(rt.alloc(), &terms)?;
-    let (lock, pass) = SpinLock::new(rt.alloc(), state)?;
-    let fault = run_stopped(&rt, rt.alloc(), &terms, lock, pass);
-    assert!(rt; fault == Some(RunFault::Stopped));
-    Ok(())
+    let files = [file_one(), file_two()];
+    let terms = terms(&rt, rt.alloc(), &plan, &files);
+    assert!(rt; goes_on(&rt, rt.alloc(), &terms).is_ok());
+}
+
+// Whether a run on a gate that was stopped is so refused, behind a spin lock.
+fn is_stopped<R: Threads + Wait + Sync>(
+    rt: &R,
+    alloc: Global,
+    terms: &Terms,
+) -> Result<bool, AllocError> {
+    let (lock, pass) = SpinLock::new(alloc, GateState::new(alloc, terms)?)?;
+    Ok(run_stopped(rt, alloc, terms, lock, pass) == Some(RunFault::Stopped))
+}
+
+#[test]
+fn a_run_on_a_stopped_gate(rt: HostRuntime) {
+    let plan = plan(&rt, rt.alloc());
+    let files = [file_one(), file_two()];
+    let terms = terms(&rt, rt.alloc(), &plan, &files);
+    assert!(rt; is_stopped(&rt, rt.alloc(), &terms) == Ok(true));
 }

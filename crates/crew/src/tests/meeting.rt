@@ -2,7 +2,7 @@
 
 ghost use Rattle.std.specs.Prelude.{◌≡◌};
 
-use super::{ONE, TWO, plan};
+use super::{file_one, file_two, plan, terms};
 use crate::run_with;
 use claim_gate::{
     Accepted, Counts, EndFault, Ended, FinishFault, Gate, GateState, Job, LockedGate, Offer,
@@ -10,10 +10,9 @@ use claim_gate::{
 };
 use claim_terms::Terms;
 use settlement::Outcome;
-use std::alloc::Global;
+use std::alloc::{AllocError, Global};
 use std::sync::Wait;
 use std::sync::atomic::{AtomicU64, Ordering};
-use std::test::Fail;
 use std::thread;
 use std::thread::Threads;
 use turn_lock::{Section, SpinLock, Worn};
@@ -170,24 +169,29 @@ where
     has_run && gate.has_met()
 }
 
-#[test]
-fn two_workers_meet(rt: HostRuntime) -> Result<(), Fail> {
-    let plan = plan(&rt, rt.alloc());
-    let files = [ONE, TWO];
-    let terms = Terms::new(rt.alloc(), &plan, &files, None, None).expect(&rt, "terms");
-    let state = GateState::new(rt.alloc(), &terms)?;
-    let (lock, pass) = SpinLock::new(rt.alloc(), state)?;
-    assert!(rt; meet(&rt, rt.alloc(), &terms, Meeting::OfWorkers, lock, pass));
-    Ok(())
+// The same behind a spin lock.
+fn meets<R: Threads + Wait + Sync>(
+    rt: &R,
+    alloc: Global,
+    terms: &Terms,
+    meeting: Meeting,
+) -> Result<bool, AllocError> {
+    let (lock, pass) = SpinLock::new(alloc, GateState::new(alloc, terms)?)?;
+    Ok(meet(rt, alloc, terms, meeting, lock, pass))
 }
 
 #[test]
-fn two_intakes_meet(rt: HostRuntime) -> Result<(), Fail> {
+fn two_workers_meet(rt: HostRuntime) {
     let plan = plan(&rt, rt.alloc());
-    let files = [ONE, TWO];
-    let terms = Terms::new(rt.alloc(), &plan, &files, None, None).expect(&rt, "terms");
-    let state = GateState::new(rt.alloc(), &terms)?;
-    let (lock, pass) = SpinLock::new(rt.alloc(), state)?;
-    assert!(rt; meet(&rt, rt.alloc(), &terms, Meeting::OfIntakes, lock, pass));
-    Ok(())
+    let files = [file_one(), file_two()];
+    let terms = terms(&rt, rt.alloc(), &plan, &files);
+    assert!(rt; meets(&rt, rt.alloc(), &terms, Meeting::OfWorkers) == Ok(true));
+}
+
+#[test]
+fn two_intakes_meet(rt: HostRuntime) {
+    let plan = plan(&rt, rt.alloc());
+    let files = [file_one(), file_two()];
+    let terms = terms(&rt, rt.alloc(), &plan, &files);
+    assert!(rt; meets(&rt, rt.alloc(), &terms, Meeting::OfIntakes) == Ok(true));
 }

@@ -2,7 +2,7 @@
 
 ghost use Rattle.std.specs.Prelude.{◌≡◌};
 
-use super::{ONE, TWO, plan};
+use super::{file_one, file_two, plan, terms};
 use crate::{RunFault, run_with};
 use claim_gate::{
     Accepted, Counts, EndFault, Ended, FinishFault, Gate, GateState, Job, LockedGate, Offer,
@@ -10,9 +10,8 @@ use claim_gate::{
 };
 use claim_terms::Terms;
 use settlement::Outcome;
-use std::alloc::Global;
+use std::alloc::{AllocError, Global};
 use std::sync::Wait;
-use std::test::Fail;
 use std::thread::Threads;
 use turn_lock::{Section, TicketLock, Worn};
 
@@ -110,18 +109,25 @@ where
 {
     let gate = StoppingGate::over(LockedGate::over(lock));
     match run_with(rt, alloc, terms, 2, &gate, pass) {
-        Err((RunFault::Stopped, _)) => true,
-        _ => false,
+        Ok(_) => false,
+        Err((fault, _)) => fault == RunFault::Stopped,
     }
 }
 
+// The same behind a ticket lock.
+fn stops<R: Threads + Wait + Sync>(
+    rt: &R,
+    alloc: Global,
+    terms: &Terms,
+) -> Result<bool, AllocError> {
+    let (lock, pass) = TicketLock::new(alloc, GateState::new(alloc, terms)?)?;
+    Ok(is_stopped(rt, alloc, terms, lock, pass))
+}
+
 #[test]
-fn a_work_s_finish_is_stopped(rt: HostRuntime) -> Result<(), Fail> {
+fn a_work_s_finish_is_stopped(rt: HostRuntime) {
     let plan = plan(&rt, rt.alloc());
-    let files = [ONE, TWO];
-    let terms = Terms::new(rt.alloc(), &plan, &files, None, None).expect(&rt, "terms");
-    let state = GateState::new(rt.alloc(), &terms)?;
-    let (lock, pass) = TicketLock::new(rt.alloc(), state)?;
-    assert!(rt; is_stopped(&rt, rt.alloc(), &terms, lock, pass));
-    Ok(())
+    let files = [file_one(), file_two()];
+    let terms = terms(&rt, rt.alloc(), &plan, &files);
+    assert!(rt; stops(&rt, rt.alloc(), &terms) == Ok(true));
 }
