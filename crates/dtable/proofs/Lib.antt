@@ -10,5 +10,4 @@ pub mod ReadPlan
 pub mod ReadRoles
 pub mod ReadTables
 pub mod Ready
-pub mod Sound
 pub mod Steps

@@ -122,14 +122,3 @@ pub record IsPlan (p : PlanParts) : Type 0 where
   pub demands : IsTrue (list_all (λ t. meets_demands t.hit t.outputs) p.tables)
   pub defaults : IsTrue (list_all (λ t. list_all (default_fits t.hit) t.outputs) p.tables)
   pub roles : IsTrue (option_map_or (roles_fit p) p.roles true)
-
--- the tests of all that holds of a plan beside its names
-abbrev pub is_sound : PlanParts → Bool
-is_sound p =
-    are_known p.names [] p.tables && list_all (λ t. list_all (rule_fits t) t.rules) p.tables && list_all (λ t. meets_demands t.hit t.outputs) p.tables
-    && list_all (λ t. list_all (default_fits t.hit) t.outputs) p.tables && option_map_or (roles_fit p) p.roles true
-
--- the plan that these parts make up, if they do
-abbrev pub MakesUp : PlanParts → Option PlanParts → Type 0
-MakesUp parts None = ¬ IsPlan parts
-MakesUp parts (Some plan) = plan ≡ parts

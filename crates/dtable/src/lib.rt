@@ -10,6 +10,7 @@
 //! `valuer.rt`, whose `value` carries the promise, and the files of `evaluation/`, one for each group of policies.
 #![tactic(auto)]
 
+mod demands;
 mod environment;
 mod evaluation;
 mod fault;
@@ -21,7 +22,6 @@ mod plan_fault;
 mod reading;
 mod roles;
 mod sequence;
-mod soundness;
 mod table;
 mod valuer;
 
