@@ -1,7 +1,10 @@
+pub mod DistinctNames
 pub mod Entries
+pub mod FoundOutput
 pub mod Matches
 pub mod Named
 pub mod OnlyOrder
+pub mod PlanLimits
 pub mod PriorityOrder
 pub mod ReadNames
 pub mod ReadOnce

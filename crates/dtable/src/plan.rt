@@ -2,13 +2,13 @@
 ghost use Rattle.std.specs.Prelude.{◌≡◌, ◌≤◌, ◌++◌, ◌↔◌, length, IsTrue, IfOk, OnOk};
 ghost use Rattle.std.specs.List.{list_all};
 ghost use Rattle.std.specs.Option.{option_copied};
+ghost use Rattle.dtable.specs.Limits.{name_limit_bytes};
 ghost use Rattle.dtable.specs.Inputs.{needs, is_served, IsReady};
 ghost use Rattle.dtable.specs.Names.{named, claim_names, accumulator_names, names_of};
 ghost use Rattle.dtable.specs.Plan.{IsPlan};
-ghost use Rattle.dtable.specs.declared.name.TheConstants.{NAME_LIMIT_BYTES};
 
 use crate::inputs::Inputs;
-use crate::name::{NAME_LIMIT_BYTES, Name};
+use crate::name::Name;
 use crate::roles::Roles;
 use crate::sequence::Sequence;
 use crate::table::{InputData, Table};
@@ -123,7 +123,7 @@ fn for_claim(alloc: Global, names: &mut Sequence<InputData>) -> Result<(), Alloc
 }
 
 fn named(alloc: Global, name: &str, kind: Kind) -> Result<InputData, AllocError>
-    requires { length name.now ≤ NAME_LIMIT_BYTES }
+    requires { length name.now ≤ name_limit_bytes }
     ensures { IfOk result (λ made. made ≡ named name.now kind) }
 {
     Ok(InputData {
