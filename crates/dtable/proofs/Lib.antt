@@ -1,7 +1,10 @@
+pub mod DistinctNames
 pub mod Entries
+pub mod FoundOutput
 pub mod Matches
 pub mod Named
 pub mod OnlyOrder
+pub mod PlanLimits
 pub mod PriorityOrder
 pub mod ReadNames
 pub mod ReadOnce
@@ -10,5 +13,4 @@ pub mod ReadPlan
 pub mod ReadRoles
 pub mod ReadTables
 pub mod Ready
-pub mod Sound
 pub mod Steps

@@ -1,9 +1,8 @@
 -- Names in a list, and what is seen of tables: whether a name is among them, and where its value comes from.
-use Rattle.std.proofs.Common.{◌≡◌, ℕ, Bool, true, false, not, ◌||◌, ◌&&◌, zero, suc, ◌+◌, ◌-◌, ◌<◌, cond, nat_lt, take, drop, get_or, Option, Some, None, option_map, inl, inr, List, [], ◌∷◌, ◌++◌, length, map, refl, sym, ap, ◌∙◌, arith, rules}
-use Rattle.std.specs.List.{list_any, list_all, position, prefix_len, position_or_len}
+use Rattle.std.proofs.Common.{◌≡◌, ℕ, Bool, true, false, not, ◌||◌, ◌&&◌, ◌+◌, ◌-◌, ◌<◌, cond, nat_lt, take, drop, get_or, None, List, [], ◌∷◌, ◌++◌, length, map, refl, sym, ap, ◌∙◌, arith}
+use Rattle.std.specs.List.{list_any, list_all, position, prefix_len}
 use Rattle.std.proofs.lemmas.List.{take_rest, length-map}
 use Rattle.std.specs.Str.{bytes_eq}
-use Rattle.std.proofs.lemmas.Bool.{cases_Bool}
 use Rattle.feel_tests.specs.declared.kind.Kind.{Kind}
 use Rattle.feel_tests.specs.declared.kind.Kind.TheVariants as kinds
 use Rattle.dtable.specs.declared.hit.Hit.{Hit}

@@ -1,8 +1,7 @@
 -- A text spells one plan at most.
-use Rattle.std.proofs.Common.{◌≡◌, ℕ, Bool, List, [], ◌∷◌, ◌++◌, length, map, codes, Option, Some, None, option_map, refl, sym, ap, ◌∙◌}
+use Rattle.std.proofs.Common.{◌≡◌, ℕ, List, [], map, codes, Option, sym, ap, ◌∙◌}
 use Rattle.std.proofs.lemmas.Option.{same_Some}
-use Rattle.toml.specs.Data.{Data, Items, Members, string, table as whole_table, get}
-use Rattle.feel_tests.specs.declared.kind.Kind.{Kind}
+use Rattle.toml.specs.Data.{Data, string, table as whole_table, get}
 use Rattle.feel_tests.specs.declared.cell.Cell.{Cell}
 use Rattle.feel_tests.specs.declared.value.Value.{Value}
 use Rattle.feel_tests.specs.Cell.{SpellsOneCell, SpellsOneValue}
@@ -17,9 +16,8 @@ use Rattle.dtable.specs.declared.table.Origin.TheVariants.{Given, Earlier}
 use Rattle.dtable.specs.declared.table.Output.{Output}
 use Rattle.dtable.specs.declared.table.Rule.{Rule}
 use Rattle.dtable.specs.declared.table.Table.{Table}
-use Rattle.dtable.specs.Document.{Optionally, EachUnder}
 use Rattle.dtable.specs.Plan.{PlanParts}
-use Rattle.dtable.specs.PlanFile.{IsEntry, IsCellUnder, IsRow, IsRule, AreRules, IsTable, AreTables, AreTablesOf, IsPlanDocument, IsPlanText, SpellsOnePlan}
+use Rattle.dtable.specs.PlanFile.{IsEntry, IsCellUnder, IsRule, AreRules, IsTable, AreTables, AreTablesOf, IsPlanDocument, SpellsOnePlan}
 use Rattle.dtable.specs.RoleFile.{IsSource, IsRole, AreRoles, AreRemarks, asked_kind}
 use Rattle.dtable.specs.Scope.{SeenOutput, seen_of, taken_names}
 use Rattle.dtable.proofs.Entries.{Optionally-same, Each-same, EachBehind-same, EachUnder-same}

@@ -1,11 +1,9 @@
 -- The parts of a plan's document: each entry spells one thing at most, and what leaves none.
-use Rattle.std.proofs.Common.{◌≡◌, ℕ, ◌+◌, ◌<◌, Bool, true, false, if◌then◌else◌, List, [], ◌∷◌, ◌++◌, length, map, codes, Option, Some, None, Result, Ok, Err, IsTrue, take, get_or, refl, sym, ap, ◌∙◌, arith}
+use Rattle.std.proofs.Common.{◌≡◌, ℕ, true, false, if◌then◌else◌, List, [], map, codes, Option, Some, None, Result, Ok, Err, refl, sym, ap, ◌∙◌}
 use Rattle.std.specs.Str.{bytes_eq}
 use Rattle.std.proofs.lemmas.Bool.{false≢true}
 use Rattle.std.proofs.lemmas.Option.{same_Some}
-use Rattle.toml.specs.Data.{Data, Items, string, get, as_str, as_array}
-use Rattle.toml.specs.View.{view, items_view}
-use Rattle.toml.specs.declared.value.Value.{Value as Entry}
+use Rattle.toml.specs.Data.{Data, Items, string, get, as_str}
 use Rattle.feel_tests.specs.declared.kind.Kind.{Kind}
 use Rattle.feel_tests.specs.declared.kind.Kind.TheVariants as kinds
 use Rattle.feel_tests.specs.declared.cell.Cell.{Cell}
@@ -17,15 +15,14 @@ use Rattle.dtable.specs.declared.table.InputData.{InputData}
 use Rattle.dtable.specs.declared.table.Input.{Input}
 use Rattle.dtable.specs.declared.table.Origin.{Origin}
 use Rattle.dtable.specs.declared.table.Output.{Output}
-use Rattle.dtable.specs.declared.table.Rule.{Rule}
 use Rattle.dtable.specs.declared.table.Table.{Table}
-use Rattle.dtable.specs.Document.{Optionally, Each, EachBehind}
+use Rattle.dtable.specs.Document.{Optionally}
 use Rattle.dtable.specs.NameForm.{is_among, reserved_names}
 use Rattle.dtable.specs.Names.{names_of}
 use Rattle.dtable.specs.declared.plan_fault.PlanFault.{PlanFault}
 use Rattle.dtable.specs.Plan.{is_ranked}
 use Rattle.dtable.specs.Reading.{Reads}
-use Rattle.dtable.specs.PlanFile.{IsEntry, is_listed, kind_word, hit_word, IsNamed, IsNewlyNamed, IsOfKind, IsLiteral, IsCellOf, IsCell, IsField, AreFields, IsInput, IsPriority, ArePriorityEntries, ArePriorities, IsOutput, IsHit, AreInputs, AreOutputs, AreRules, IsTable, AreTables, AreNames, AreTablesOf}
+use Rattle.dtable.specs.PlanFile.{IsEntry, is_listed, kind_word, hit_word, IsNamed, IsNewlyNamed, IsOfKind, IsLiteral, IsCellOf, IsCell, IsField, AreFields, IsInput, IsPriority, ArePriorities, IsOutput, IsHit, AreInputs, AreOutputs, IsTable, AreTables, AreNames, AreTablesOf}
 use Rattle.dtable.specs.Scope.{SeenOutput, seen_as, seen_of, seen_output, origin_of, kind_at, taken_names}
 use Rattle.dtable.proofs.Entries.{Optionally-same, Each-same, EachBehind-same, EachBehind-seen}
 

@@ -1,25 +1,24 @@
 -- A plan that a document spells holds what every plan holds.
-use Rattle.std.proofs.Common.{◌≡◌, ◌≢◌, ℕ, ◌+◌, ◌<◌, ◌≤◌, pos, Result, Ok, Err, IfOk, IfErr, ◌==◌, zero, suc, Bool, true, false, not, ◌&&◌, nat_lt, List, [], ◌∷◌, ◌++◌, length, map, codes, Option, Some, None, option_map, slice_get, get_or, IsTrue, inl, inr, refl, sym, ap, ◌∙◌, arith, rules}
+use Rattle.std.proofs.Common.{◌≡◌, ◌≢◌, ℕ, ◌+◌, ◌<◌, ◌≤◌, pos, Result, Ok, Err, IfOk, IfErr, ◌==◌, zero, suc, Bool, true, false, not, ◌&&◌, nat_lt, List, [], ◌∷◌, ◌++◌, length, map, codes, Option, Some, None, option_map, slice_get, IsTrue, inl, inr, refl, sym, ap, ◌∙◌, arith}
 use Rattle.std.specs.List.{list_all, list_any, zip, position}
-use Rattle.std.specs.Option.{option_map_or, option_and_then}
+use Rattle.std.specs.Option.{option_map_or}
 use Rattle.std.specs.Str.{bytes_eq}
-use Rattle.std.proofs.lemmas.Bool.{cases_Bool, false≢true, and_parts}
+use Rattle.std.proofs.lemmas.Bool.{cases_Bool}
 use Rattle.std.proofs.lemmas.Bool.Decides.{nat_tests}
 use Rattle.std.proofs.lemmas.List.{map-append}
 use Rattle.std.proofs.lemmas.List.Quantifiers.{position-Some}
-use Rattle.std.proofs.lemmas.Option.{same_Some, slice_get-get_or, slice_get-map}
+use Rattle.std.proofs.lemmas.Option.{same_Some, slice_get-map}
 use Rattle.std.specs.Str.{IsUtf8}
 use Rattle.toml.specs.Data.{Data, Items, Members, no_items, item, table as whole_table, integer, get}
 use Rattle.toml.specs.Parse.{parse_document}
 use Rattle.feel_tests.specs.Cell.{SpellsOneValue}
 use Rattle.dtable.specs.declared.plan_fault.PlanFault.{PlanFault}
 use Rattle.dtable.specs.declared.plan_fault.PlanCause.TheVariants.{OutOfMemory}
-use Rattle.dtable.specs.declared.reading.limits.TheConstants.{PLAN_LIMIT_BYTES}
+use Rattle.dtable.specs.Limits.{plan_limit_bytes}
 use Rattle.dtable.specs.Names.{names_of}
 use Rattle.dtable.specs.Reading.{Reads}
 use Rattle.feel_tests.specs.declared.kind.Kind.{Kind}
 use Rattle.feel_tests.specs.declared.kind.Kind.TheVariants as kinds
-use Rattle.feel_tests.specs.declared.cell.Cell.{Cell}
 use Rattle.feel_tests.specs.declared.value.Value.{Value}
 use Rattle.feel_tests.specs.Value.{kind_of}
 use Rattle.dtable.specs.declared.hit.Hit.{Hit}
@@ -39,10 +38,13 @@ use Rattle.dtable.specs.declared.table.Table.{Table}
 use Rattle.dtable.specs.Document.{optional_array_at, Optionally, Each, EachBehind, EachUnder}
 use Rattle.dtable.specs.Environment.{or_else}
 use Rattle.dtable.specs.Plan.{PlanParts, IsPlan, same_kind, has_kind, gives_one, seen_kind, is_known, are_known, entry_fits, rule_fits, is_ranked, meets_demands, default_fits, some_output, source_fits, remarks_fit, roles_fit}
-use Rattle.dtable.specs.PlanFile.{IsLiteral, IsEntry, IsInput, IsOutput, IsRow, IsRule, IsCellUnder, AreInputs, AreOutputs, AreRules, AreFields, AreNames, IsTable, AreTables, AreTablesOf, IsPlanDocument, IsPlanText}
-use Rattle.dtable.specs.RoleFile.{IsSource, IsNamedSource, IsRole, AreRoles, AreRemarks, asked_kind, lists_texts}
-use Rattle.dtable.specs.Scope.{SeenOutput, seen_as, seen_output, seen_of, is_single_of, earlier_origin, origin_of, kind_at}
-use Rattle.dtable.proofs.ReadNames.{position-single, seen_as-listed}
+use Rattle.dtable.specs.PlanFile.{IsLiteral, IsEntry, IsInput, IsOutput, IsRule, IsCellUnder, AreFields, AreNames, IsTable, AreTables, AreTablesOf, IsPlanDocument, IsPlanText}
+use Rattle.dtable.specs.RoleFile.{IsSource, IsRole, AreRoles, AreRemarks, asked_kind, lists_texts}
+use Rattle.dtable.specs.Scope.{SeenOutput, seen_as, seen_output, seen_of, earlier_origin, kind_at}
+use Rattle.dtable.proofs.DistinctNames.{distinct-document}
+use Rattle.dtable.proofs.FoundOutput.{IsFound, found}
+use Rattle.dtable.proofs.PlanLimits.{within-document}
+use Rattle.dtable.proofs.ReadNames.{seen_as-listed}
 use Rattle.dtable.proofs.ReadParts.{AreNames-same, AreTablesOf-seen}
 
 is_true : (b : Bool) → b ≡ true → IsTrue b
@@ -142,63 +144,6 @@ default_fits-of hit taken d o h = rw (seen_kind-as hit o) (default_ok (seen_as h
 
 defaults_fit : (names : List InputData) (earlier : List (List SeenOutput)) (d : Data) (t : Table) → IsTable names earlier d t → list_all (default_fits t.hit) t.outputs ≡ true
 defaults_fit names earlier d t h = each_behind_all (λ o. o.name) (IsOutput t.hit) (default_fits t.hit) (default_fits-of t.hit) _ h.outputs.entries t.outputs h.outputs.each
-
--- the output of an earlier table that a name stands for
-record IsFound (name : List ℕ) (first : ℕ) (ts : List Table) (origin : Origin) : Type 0 where
-  table : ℕ
-  column : ℕ
-  t : Table
-  output : Output
-  there : origin ≡ Earlier (first + table) column
-  t_at : slice_get ts table ≡ Some t
-  one : gives_one t.hit ≡ true
-  within : column < length t.outputs
-  output_at : slice_get t.outputs column ≡ Some output
-  named : bytes_eq output.name name ≡ true
-
-no_output : Output
-no_output = record { name = []; kind = kinds.Number; priority = None; fallback = None }
-
-found_here : (name : List ℕ) (first : ℕ) (t : Table) (ts : List Table) (column : ℕ) (origin : Origin) → position (is_single_of name) (seen_of t) ≡ Some column → Earlier first column ≡ origin → IsFound name first (t ∷ ts) origin
-found_here name first t ts column origin e there =
-    let at = position-Some (λ o. gives_one t.hit && bytes_eq o.name name) t.outputs column no_output (sym (position-single name t) ∙ e) in
-    let tests = and_parts (gives_one t.hit) (bytes_eq (get_or t.outputs column no_output).name name) at.1 in
-    let place : first ≡ first + 0 = omega arith in
-    record {
-      table = zero;
-      column = column;
-      t = t;
-      output = get_or t.outputs column no_output;
-      there = sym there ∙ ap (λ n. Earlier n column) place;
-      t_at = refl;
-      one = tests.0;
-      within = at.0;
-      output_at = slice_get-get_or t.outputs column no_output at.0;
-      named = tests.1;
-    }
-
-found_by : (name : List ℕ) (first : ℕ) (t : Table) (ts : List Table) (origin : Origin) → (earlier_origin (suc first) (map seen_of ts) name ≡ Some origin → IsFound name (suc first) ts origin)
-    → (p : Option ℕ) → position (is_single_of name) (seen_of t) ≡ p → or_else (option_map (Earlier first) p) (earlier_origin (suc first) (map seen_of ts) name) ≡ Some origin → IsFound name first (t ∷ ts) origin
-found_by name first t ts origin further (Some place) is e = found_here name first t ts place origin is (same_Some (Earlier first place) origin e)
-found_by name first t ts origin further None is e =
-    let later = further e in
-    let place : suc first + later.table ≡ first + suc later.table = omega arith in
-    record {
-      table = suc later.table;
-      column = later.column;
-      t = later.t;
-      output = later.output;
-      there = later.there ∙ ap (λ n. Earlier n later.column) place;
-      t_at = later.t_at;
-      one = later.one;
-      within = later.within;
-      output_at = later.output_at;
-      named = later.named;
-    }
-
-found : (name : List ℕ) (first : ℕ) (ts : List Table) (origin : Origin) → earlier_origin first (map seen_of ts) name ≡ Some origin → IsFound name first ts origin
-found name first [] origin e = cc
-found name first (t ∷ ts) origin e = found_by name first t ts origin (found name (suc first) ts origin) (position (is_single_of name) (seen_of t)) refl e
 
 -- origins are known
 known_earlier : (names : List InputData) (ts : List Table) (name : List ℕ) (origin : Origin) → IsFound name 0 ts origin → is_known names ts origin ≡ true
@@ -324,6 +269,8 @@ IsPlan-of d p h =
     record {
       fields = h.names.fields;
       names = h.names.named;
+      limits = within-document d p h;
+      distinct = distinct-document d p h;
       origins = is_true (are_known p.names [] p.tables) (known_tables p.names [] h.tables.entries p.tables tables);
       rules = is_true (list_all (λ t. list_all (rule_fits t) t.rules) p.tables) (each_behind_all seen_of (IsTable p.names) (λ t. list_all (rule_fits t) t.rules) (rules_fit p.names) [] h.tables.entries p.tables tables);
       demands = is_true (list_all (λ t. meets_demands t.hit t.outputs) p.tables) (each_behind_all seen_of (IsTable p.names) (λ t. meets_demands t.hit t.outputs) (demands_met p.names) [] h.tables.entries p.tables tables);
@@ -379,12 +326,12 @@ document_of_text text d p read h =
     let same : whole_table h.members ≡ d = same_Some (whole_table h.members) d (sym (ap (option_map whole_table) h.read) ∙ read) in
     rw same at h.spelled
 
-of_members : (o : Option Members) (text : List ℕ) (d : Data) (p : PlanParts) → parse_document text ≡ o → option_map whole_table o ≡ Some d → length text ≤ PLAN_LIMIT_BYTES → IsUtf8 text → IsPlanDocument d p → IsPlanText text p
+of_members : (o : Option Members) (text : List ℕ) (d : Data) (p : PlanParts) → parse_document text ≡ o → option_map whole_table o ≡ Some d → length text ≤ plan_limit_bytes → IsUtf8 text → IsPlanDocument d p → IsPlanText text p
 of_members None text d p read h within utf8 spelled = cc
 of_members (Some members) text d p read h within utf8 spelled =
     record { within = within; utf8 = utf8; members = members; read = read; spelled = rw (same_Some (whole_table members) d h) spelled }
 
-pub text_of_document : (text : List ℕ) (d : Data) (p : PlanParts) → option_map whole_table (parse_document text) ≡ Some d → length text ≤ PLAN_LIMIT_BYTES → IsUtf8 text → IsPlanDocument d p → IsPlanText text p
+pub text_of_document : (text : List ℕ) (d : Data) (p : PlanParts) → option_map whole_table (parse_document text) ≡ Some d → length text ≤ plan_limit_bytes → IsUtf8 text → IsPlanDocument d p → IsPlanText text p
 text_of_document text d p read = of_members (parse_document text) text d p refl read
 
 -- the clauses of an answer

@@ -1,15 +1,14 @@
 -- What a role's string spells, and what leaves no source.
-use Rattle.std.proofs.Common.{◌≡◌, ◌≢◌, ℕ, ℤ, pos, ◌≤ℤ◌, ◌*◌, ◌/◌, ◌%◌, eqb, ◌≤◌, Bool, true, false, List, length, codes, Option, Some, None, Result, Ok, Err, IfOk, OnOk, OnErr, is_some, subst, refl, sym, ap, ◌∙◌, arith}
+use Rattle.std.proofs.Common.{◌≡◌, ℕ, ℤ, pos, ◌≤ℤ◌, ◌*◌, ◌/◌, ◌%◌, eqb, true, false, List, Some, None, Result, Ok, Err, IfOk, OnOk, OnErr, is_some, subst, sym, ap, ◌∙◌, arith}
 use Rattle.std.proofs.lemmas.Bool.{false≢true, eqb-true, eq-eqb}
 use Rattle.std.proofs.lemmas.Int.{ints}
 use Rattle.std.specs.Int.RustNames.{unsigned_abs}
 use Rattle.std.proofs.lemmas.Option.{same_Some}
-use Rattle.toml.specs.Data.{Data, string, integer, float, boolean, datetime, array, table, get, as_table}
+use Rattle.toml.specs.Data.{Data, string, integer, float, boolean, datetime, array, table, as_table}
 use Rattle.feel_tests.specs.declared.kind.Kind.{Kind}
 use Rattle.feel_tests.specs.declared.value.Value.{Value}
 use Rattle.feel_tests.specs.Cell.{SpellsValue, SpellsOneValue}
 use Rattle.feel_tests.specs.Value.{kind_of}
-use Rattle.dtable.specs.declared.name.TheConstants.{NAME_LIMIT_BYTES}
 use Rattle.dtable.specs.declared.plan_fault.PlanFault.{PlanFault}
 use Rattle.dtable.specs.declared.roles.Roles.{Roles}
 use Rattle.dtable.specs.declared.roles.Source.{Source}
@@ -24,7 +23,7 @@ use Rattle.dtable.specs.RoleFile.{IsSource, IsNamedSource, SpellsNone, IsRole, A
 use Rattle.dtable.specs.Scope.{SeenOutput, origin_of, kind_at}
 
 module _ (names : List InputData) (earlier : List (List SeenOutput)) where
-  -- a name that stands for nothing, for a value of another kind, or that is longer than names are
+  -- a name that stands for nothing, or for a value of another kind
   pub named_none : (kind : Kind) (text : List ℕ) → origin_of names earlier text ≡ None → (s : Source) → ¬ IsNamedSource names earlier kind text s
   named_none kind text none (Literal value) h = h
   named_none kind text none (Input place) h = let clash : None ≡ Some (Given place) = sym none ∙ h.known in cc
@@ -38,12 +37,6 @@ module _ (names : List InputData) (earlier : List (List SeenOutput)) where
   named_other_kind kind text origin known other (Output name) h =
       let same : Earlier h.table h.column ≡ origin = same_Some (Earlier h.table h.column) origin (sym h.known ∙ known) in
       other (subst (λ o. kind_at names earlier o ≡ Some kind) same h.of_kind)
-
-  pub named_long : (kind : Kind) (text : List ℕ) (t c : ℕ) → origin_of names earlier text ≡ Some (Earlier t c) → ¬ (length text ≤ NAME_LIMIT_BYTES) → (s : Source) → ¬ IsNamedSource names earlier kind text s
-  named_long kind text t c known long (Literal value) h = h
-  named_long kind text t c known long (Input place) h =
-      let clash : Given place ≡ Earlier t c = same_Some (Given place) (Earlier t c) (sym h.known ∙ known) in cc
-  named_long kind text t c known long (Output name) h = long h.short
 
   -- a string that is no literal
   pub source_named : (asked : Asked) (text : List ℕ) → SpellsNone (asked_kind asked) text → (s : Source) → IsNamedSource names earlier (asked_kind asked) text s → IsSource names earlier asked text s

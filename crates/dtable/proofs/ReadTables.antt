@@ -1,9 +1,9 @@
 -- What leaves no inputs, outputs, rules or table: an entry that spells nothing, or parts that don't fit one another.
-use Rattle.std.proofs.Common.{◌≡◌, ℕ, ◌+◌, ◌<◌, Bool, true, false, List, [], ◌∷◌, ◌++◌, length, map, codes, Option, Some, None, take, get_or, IsTrue, refl, sym, ap, ◌∙◌, arith, rules}
+use Rattle.std.proofs.Common.{◌≡◌, ℕ, ◌+◌, ◌<◌, true, false, List, [], ◌∷◌, ◌++◌, length, map, codes, Some, take, get_or, sym, ◌∙◌, arith}
 use Rattle.std.proofs.lemmas.Bool.{false≢true}
 use Rattle.std.proofs.lemmas.Option.{same_Some}
 use Rattle.std.proofs.lemmas.List.{map-id}
-use Rattle.toml.specs.Data.{Data, Items, string, get}
+use Rattle.toml.specs.Data.{Data, Items, get}
 use Rattle.toml.specs.View.{view, items_view}
 use Rattle.toml.specs.declared.value.Value.{Value as Entry}
 use Rattle.feel_tests.specs.declared.kind.Kind.{Kind}
@@ -15,7 +15,7 @@ use Rattle.dtable.specs.declared.table.Input.{Input}
 use Rattle.dtable.specs.declared.table.Output.{Output}
 use Rattle.dtable.specs.declared.table.Rule.{Rule}
 use Rattle.dtable.specs.declared.table.Table.{Table}
-use Rattle.dtable.specs.Document.{array_at, item_count, Each, EachBehind, EachUnder}
+use Rattle.dtable.specs.Document.{array_at, item_count, EachBehind}
 use Rattle.dtable.specs.Plan.{meets_demands}
 use Rattle.dtable.specs.PlanFile.{IsPriority, ArePriorityEntries, IsRow, IsHit, IsInput, IsOutput, IsRule, AreInputs, AreOutputs, AreRules, IsTable, AreTables}
 use Rattle.dtable.specs.Scope.{SeenOutput, seen_of, taken_names}

@@ -1,5 +1,5 @@
 -- What contracts see of a plan, and what holds of every plan.
-use Rattle.std.specs.Prelude.{◌≡◌, ℕ, Bool, true, false, not, ◌&&◌, ◌==◌, nat_lt, List, [], ◌∷◌, ◌++◌, length, Option, Some, None, is_some, slice_get, IsTrue}
+use Rattle.std.specs.Prelude.{◌≡◌, ◌≢◌, ◌≤◌, ℕ, Bool, true, false, not, ◌&&◌, ◌==◌, nat_lt, List, [], ◌∷◌, ◌++◌, length, map, flat_map, All, AllPairs, IfSome, Option, Some, None, is_some, slice_get, IsTrue}
 use Rattle.std.specs.List.{list_all, list_any, zip}
 use Rattle.std.specs.Option.{option_map_or}
 use Rattle.std.specs.Str.{bytes_eq}
@@ -19,6 +19,7 @@ use Rattle.dtable.specs.declared.table.Table.{Table}
 use Rattle.dtable.specs.declared.roles.Source.{Source}
 use Rattle.dtable.specs.declared.roles.Source.TheVariants.{Literal, Input, Output}
 use Rattle.dtable.specs.declared.roles.Roles.{Roles}
+use Rattle.dtable.specs.Limits.{fields_limit, tables_limit, inputs_limit, outputs_limit, rules_limit, priority_limit}
 use Rattle.dtable.specs.Names.{names_of}
 
 -- what contracts see of a plan: the names that tables may read from outside, the tables in order, and the roles
@@ -113,23 +114,35 @@ roles_fit p roles =
     && source_fits p.names p.tables kinds.Number roles.rate && source_fits p.names p.tables kinds.Number roles.oop_max
     && remarks_fit p.tables roles.remarks
 
--- what holds of every plan
+-- a table is within the limits: so many inputs, outputs and rules, and so many values in each priority list
+pub record IsTableWithin (t : Table) : Type 0 where
+  pub inputs : length t.inputs ≤ inputs_limit
+  pub outputs : length t.outputs ≤ outputs_limit
+  pub rules : length t.rules ≤ rules_limit
+  pub priorities : All (λ o. IfSome o.priority (λ list. length list ≤ priority_limit)) t.outputs
+
+-- a plan of these fields and tables is within the limits
+pub record IsWithin (fields : List InputData) (tables : List Table) : Type 0 where
+  pub few_fields : length fields ≤ fields_limit
+  pub few_tables : length tables ≤ tables_limit
+  pub each_table : All IsTableWithin tables
+
+-- all names of a plan: those that tables may read from outside, and those of the outputs
+abbrev pub plan_names : PlanParts → List (List ℕ)
+plan_names p = map (λ d. d.name) p.names ++ flat_map (λ t. map (λ o. o.name) t.outputs) p.tables
+
+-- no name stands twice
+abbrev pub AreDistinct : List (List ℕ) → Type 0
+AreDistinct names = AllPairs (λ a b. a ≢ b) names
+
+-- what holds of every plan; each of its names is a `Name`, which has at most `name_limit_bytes`
 pub record IsPlan (p : PlanParts) : Type 0 where
   pub fields : List InputData
   pub names : p.names ≡ names_of fields
+  pub limits : IsWithin fields p.tables
+  pub distinct : AreDistinct (plan_names p)
   pub origins : IsTrue (are_known p.names [] p.tables)
   pub rules : IsTrue (list_all (λ t. list_all (rule_fits t) t.rules) p.tables)
   pub demands : IsTrue (list_all (λ t. meets_demands t.hit t.outputs) p.tables)
   pub defaults : IsTrue (list_all (λ t. list_all (default_fits t.hit) t.outputs) p.tables)
   pub roles : IsTrue (option_map_or (roles_fit p) p.roles true)
-
--- the tests of all that holds of a plan beside its names
-abbrev pub is_sound : PlanParts → Bool
-is_sound p =
-    are_known p.names [] p.tables && list_all (λ t. list_all (rule_fits t) t.rules) p.tables && list_all (λ t. meets_demands t.hit t.outputs) p.tables
-    && list_all (λ t. list_all (default_fits t.hit) t.outputs) p.tables && option_map_or (roles_fit p) p.roles true
-
--- the plan that these parts make up, if they do
-abbrev pub MakesUp : PlanParts → Option PlanParts → Type 0
-MakesUp parts None = ¬ IsPlan parts
-MakesUp parts (Some plan) = plan ≡ parts

@@ -1,5 +1,5 @@
 -- The plan that a plan's text spells, key by key of the document that `toml` reads from it.
-use Rattle.std.specs.Prelude.{◌≡◌, ℕ, ◌<◌, ◌≤◌, ◌++◌, pos, Bool, false, List, [], ◌∷◌, length, map, codes, Option, Some, None, IsUtf8, IsTrue}
+use Rattle.std.specs.Prelude.{◌≡◌, ℕ, ◌<◌, ◌≤◌, pos, Bool, false, List, [], length, map, codes, Option, Some, None, IsUtf8, IsTrue}
 use Rattle.toml.specs.Data.{Data, Items, Members, table, integer, string, get, as_array}
 use Rattle.toml.specs.Parse.{parse_document}
 use Rattle.feel_tests.specs.declared.kind.Kind.{Kind}
@@ -16,9 +16,8 @@ use Rattle.dtable.specs.declared.table.Input.{Input}
 use Rattle.dtable.specs.declared.table.Output.{Output}
 use Rattle.dtable.specs.declared.table.Rule.{Rule}
 use Rattle.dtable.specs.declared.table.Table.{Table}
-use Rattle.dtable.specs.declared.name.TheConstants.{NAME_LIMIT_BYTES}
-use Rattle.dtable.specs.declared.reading.limits.TheConstants.{PLAN_LIMIT_BYTES, FIELDS_LIMIT, TABLES_LIMIT, INPUTS_LIMIT, OUTPUTS_LIMIT, RULES_LIMIT, PRIORITY_LIMIT}
 use Rattle.dtable.specs.Document.{string_at, array_at, optional_array_at, item_count, Optionally, Each, EachBehind, EachUnder}
+use Rattle.dtable.specs.Limits.{plan_limit_bytes, fields_limit, tables_limit, inputs_limit, outputs_limit, rules_limit, priority_limit, name_limit_bytes}
 use Rattle.dtable.specs.NameForm.{has_name_form, is_among, reserved_names}
 use Rattle.dtable.specs.Names.{names_of}
 use Rattle.dtable.specs.Plan.{PlanParts, is_ranked, meets_demands}
@@ -50,7 +49,7 @@ hit_word Count = codes "C#"
 pub record IsNamed (entry : Data) (name : List ℕ) : Type 0 where
   pub written : string_at (codes "name") entry ≡ Some name
   pub form : IsTrue (has_name_form name)
-  pub short : length name ≤ NAME_LIMIT_BYTES
+  pub short : length name ≤ name_limit_bytes
 
 -- the key `name` holds a name that is not taken yet
 pub record IsNewlyNamed (taken : List (List ℕ)) (entry : Data) (name : List ℕ) : Type 0 where
@@ -87,7 +86,7 @@ pub record IsField (taken : List (List ℕ)) (entry : Data) (field : InputData) 
 
 -- entries of `fields`: not too many, and no name stands twice
 pub record AreFields (entries : Items) (fields : List InputData) : Type 0 where
-  pub within : item_count entries ≤ FIELDS_LIMIT
+  pub within : item_count entries ≤ fields_limit
   pub each : EachBehind (λ f. f.name) IsField reserved_names entries fields
 
 -- an entry of `inputs`: the name of a single value that is known there, and its allowed values, if they are restricted
@@ -107,7 +106,7 @@ pub record IsPriority (kind : Kind) (front : List Value) (entry : Data) (value :
 
 -- entries of `priority`: literals of the kind, highest first, not too many, and no value twice
 pub record ArePriorityEntries (kind : Kind) (entries : Items) (list : List Value) : Type 0 where
-  pub within : item_count entries ≤ PRIORITY_LIMIT
+  pub within : item_count entries ≤ priority_limit
   pub each : EachBehind (λ v. v) (IsPriority kind) [] entries list
 
 -- the array `priority`
@@ -158,7 +157,7 @@ pub record AreInputs (names : List InputData) (earlier : List (List SeenOutput))
   pub entries : Items
   pub written : array_at (codes "inputs") entry ≡ Some entries
   pub some : 0 < item_count entries
-  pub within : item_count entries ≤ INPUTS_LIMIT
+  pub within : item_count entries ≤ inputs_limit
   pub each : Each (IsInput names earlier) entries inputs
 
 -- the array `outputs`: one or more, not too many, and no name stands twice
@@ -166,14 +165,14 @@ pub record AreOutputs (hit : Hit) (taken : List (List ℕ)) (entry : Data) (outp
   pub entries : Items
   pub written : array_at (codes "outputs") entry ≡ Some entries
   pub some : 0 < item_count entries
-  pub within : item_count entries ≤ OUTPUTS_LIMIT
+  pub within : item_count entries ≤ outputs_limit
   pub each : EachBehind (λ o. o.name) (IsOutput hit) taken entries outputs
 
 -- the array `rules`: not too many
 pub record AreRules (names : List InputData) (earlier : List (List SeenOutput)) (inputs : List Input) (outputs : List Output) (entry : Data) (rules : List Rule) : Type 0 where
   pub entries : Items
   pub written : array_at (codes "rules") entry ≡ Some entries
-  pub within : item_count entries ≤ RULES_LIMIT
+  pub within : item_count entries ≤ rules_limit
   pub each : Each (IsRule names earlier inputs outputs) entries rules
 
 -- an entry of `tables`, where these names and what is seen of these tables are known
@@ -186,7 +185,7 @@ pub record IsTable (names : List InputData) (earlier : List (List SeenOutput)) (
 
 -- entries of `tables`, each behind those in front of it; not too many
 pub record AreTables (names : List InputData) (entries : Items) (tables : List Table) : Type 0 where
-  pub within : item_count entries ≤ TABLES_LIMIT
+  pub within : item_count entries ≤ tables_limit
   pub each : EachBehind seen_of (IsTable names) [] entries tables
 
 -- the key `fields` of a document, which may be left out, and the names of a plan with these fields
@@ -212,7 +211,7 @@ pub record IsPlanDocument (document : Data) (plan : PlanParts) : Type 0 where
 
 -- a text spells this plan
 pub record IsPlanText (text : List ℕ) (plan : PlanParts) : Type 0 where
-  pub within : length text ≤ PLAN_LIMIT_BYTES
+  pub within : length text ≤ plan_limit_bytes
   pub utf8 : IsUtf8 text
   pub members : Members
   pub read : parse_document text ≡ Some members

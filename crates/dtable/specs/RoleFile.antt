@@ -1,5 +1,5 @@
 -- The roles that the key `roles` of a plan's document spells.
-use Rattle.std.specs.Prelude.{◌≡◌, ℕ, ◌*◌, ◌≤◌, ℤ, pos, Bool, not, ◌&&◌, List, length, codes, Option, Some, IsTrue}
+use Rattle.std.specs.Prelude.{◌≡◌, ℕ, ◌*◌, ◌≤◌, ℤ, pos, Bool, not, ◌&&◌, List, codes, Some, IsTrue}
 use Rattle.std.specs.List.{list_any}
 use Rattle.std.specs.Str.{bytes_eq}
 use Rattle.toml.specs.Data.{Data, string, get}
@@ -9,7 +9,6 @@ use Rattle.feel_tests.specs.declared.value.Value.{Value}
 use Rattle.feel_tests.specs.declared.value.Value.TheVariants as values
 use Rattle.feel_tests.specs.Cell.{SpellsValue}
 use Rattle.feel_tests.specs.Value.{kind_of}
-use Rattle.dtable.specs.declared.name.TheConstants.{NAME_LIMIT_BYTES}
 use Rattle.dtable.specs.declared.roles.Roles.{Roles}
 use Rattle.dtable.specs.declared.roles.Source.{Source}
 use Rattle.dtable.specs.declared.roles.Source.TheVariants.{Literal, Input, Output}
@@ -56,7 +55,6 @@ pub record IsInputSource (names : List InputData) (earlier : List (List SeenOutp
 -- the name of an output of the kind with one value
 pub record IsOutputSource (names : List InputData) (earlier : List (List SeenOutput)) (kind : Kind) (text name : List ℕ) : Type 0 where
   pub same : name ≡ text
-  pub short : length text ≤ NAME_LIMIT_BYTES
   pub table : ℕ
   pub column : ℕ
   pub known : origin_of names earlier text ≡ Some (Earlier table column)
@@ -91,7 +89,6 @@ lists_texts earlier name = list_any (λ os. list_any (λ o. bytes_eq o.name name
 -- the string of `remarks`: the name of an output that lists texts
 pub record AreRemarks (earlier : List (List SeenOutput)) (entry : Data) (name : List ℕ) : Type 0 where
   pub written : entry ≡ string name
-  pub short : length name ≤ NAME_LIMIT_BYTES
   pub lists : IsTrue (lists_texts earlier name)
 
 -- the table `roles`: a flag, amounts of money and a rate, and the output of the remarks, if there is one

@@ -10,6 +10,7 @@
 //! `valuer.rt`, whose `value` carries the promise, and the files of `evaluation/`, one for each group of policies.
 #![tactic(auto)]
 
+mod demands;
 mod environment;
 mod evaluation;
 mod fault;
@@ -21,7 +22,6 @@ mod plan_fault;
 mod reading;
 mod roles;
 mod sequence;
-mod soundness;
 mod table;
 mod valuer;
 
@@ -33,7 +33,7 @@ pub use inputs::{Inputs, Slot};
 pub use name::{NAME_LIMIT_BYTES, Name};
 pub use plan::{Plan, all_names};
 pub use plan_fault::{PlanCause, PlanFault};
-pub use reading::{read_plan, text_spells_at_most_one_plan};
+pub use reading::{PLAN_LIMIT_BYTES, read_plan, text_spells_at_most_one_plan};
 pub use roles::{Roles, Source};
 pub use sequence::Sequence;
 pub use table::{Input, InputData, Origin, Output, Rule, Table};

@@ -1,6 +1,6 @@
 //! The names of input data and outputs.
 ghost use Rattle.std.specs.Prelude.{◌≡◌, ◌≤◌, length, IfOk};
-ghost use Rattle.dtable.specs.declared.name.TheConstants.{NAME_LIMIT_BYTES};
+ghost use Rattle.dtable.specs.Limits.{name_limit_bytes};
 
 use std::alloc::{AllocError, Global};
 use std::marker::Model;
@@ -8,24 +8,27 @@ use std::marker::Model;
 /// How many bytes a name has at most.
 pub const NAME_LIMIT_BYTES: usize = 64;
 
-/// The name of input data or of an output, which contracts see as its bytes.
+/// The name of input data or of an output, of at most `NAME_LIMIT_BYTES`, which contracts see as its bytes.
 #[derive(Debug, Drop)]
 pub struct Name {
     text: String,
 }
 
 impl Model for Name {
-    ghost use Rattle.std.specs.Prelude.{List, ℕ, string_bytes};
+    ghost use Rattle.std.specs.Prelude.{List, ℕ, ◌≤◌, length, string_bytes};
+    ghost use Rattle.dtable.specs.Limits.{name_limit_bytes};
 
     ghost Value = { List ℕ };
 
     ghost view = { λ n. string_bytes n.text };
+
+    ghost invariant = { λ n. length (string_bytes n.text) ≤ name_limit_bytes };
 }
 
 impl Name {
     /// The name of these bytes.
     pub fn new(alloc: Global, text: &str) -> Result<Name, AllocError>
-        requires { length text.now ≤ NAME_LIMIT_BYTES }
+        requires { length text.now ≤ name_limit_bytes }
         ensures { IfOk result (λ name. name ≡ text.now) }
     {
         Ok(Name {
@@ -35,7 +38,8 @@ impl Name {
 
     /// The name as text.
     pub fn as_str(&self) -> &str
-        ensures { result.now ≡ self.now }
+        ensures text { result.now ≡ self.now }
+        ensures short { length self.now ≤ name_limit_bytes }
     {
         self.text.as_str()
     }

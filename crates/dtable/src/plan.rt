@@ -2,16 +2,15 @@
 ghost use Rattle.std.specs.Prelude.{◌≡◌, ◌≤◌, ◌++◌, ◌↔◌, length, IsTrue, IfOk, OnOk};
 ghost use Rattle.std.specs.List.{list_all};
 ghost use Rattle.std.specs.Option.{option_copied};
+ghost use Rattle.dtable.specs.Limits.{name_limit_bytes};
 ghost use Rattle.dtable.specs.Inputs.{needs, is_served, IsReady};
 ghost use Rattle.dtable.specs.Names.{named, claim_names, accumulator_names, names_of};
-ghost use Rattle.dtable.specs.Plan.{IsPlan, MakesUp};
-ghost use Rattle.dtable.specs.declared.name.TheConstants.{NAME_LIMIT_BYTES};
+ghost use Rattle.dtable.specs.Plan.{IsPlan};
 
 use crate::inputs::Inputs;
-use crate::name::{NAME_LIMIT_BYTES, Name};
+use crate::name::Name;
 use crate::roles::Roles;
 use crate::sequence::Sequence;
-use crate::soundness::is_sound;
 use crate::table::{InputData, Table};
 use feel_tests::Kind;
 use std::alloc::{AllocError, Global};
@@ -45,23 +44,6 @@ impl Plan {
             names,
             tables,
             roles,
-        }
-    }
-
-    /// The plan of these fields, tables and roles, or none where they make up no plan.
-    pub fn checked(
-        alloc: Global,
-        fields: Sequence<InputData>,
-        tables: Sequence<Table>,
-        roles: Option<Roles>,
-    ) -> Result<Option<Plan>, AllocError>
-        ensures { IfOk result (MakesUp (record { names = names_of fields; tables = tables; roles = roles })) }
-    {
-        let names = all_names(alloc, fields)?;
-        if is_sound(names.as_slice(), tables.as_slice(), &roles) {
-            Ok(Some(Plan::new(names, tables, roles)))
-        } else {
-            Ok(None)
         }
     }
 
@@ -141,7 +123,7 @@ fn for_claim(alloc: Global, names: &mut Sequence<InputData>) -> Result<(), Alloc
 }
 
 fn named(alloc: Global, name: &str, kind: Kind) -> Result<InputData, AllocError>
-    requires { length name.now ≤ NAME_LIMIT_BYTES }
+    requires { length name.now ≤ name_limit_bytes }
     ensures { IfOk result (λ made. made ≡ named name.now kind) }
 {
     Ok(InputData {

@@ -27,7 +27,7 @@ use crate::plan::Plan;
 use crate::plan_fault::{PlanCause, PlanFault};
 use document::{read_document, required};
 use feel_tests::{text_spells_at_most_one_cell, text_spells_at_most_one_value};
-use limits::PLAN_LIMIT_BYTES;
+pub use limits::PLAN_LIMIT_BYTES;
 use names::read_names;
 use place::Place;
 use roles::read_roles;

@@ -3,8 +3,8 @@ use crate::answers::{give, shown};
 use crate::plans::{CHAIN, HEALTH, SUM_AND_LEVEL};
 use crate::tables::told;
 use dtable::{
-    Env, Fault, Hit, InputData, Inputs, Name, Plan, PlanFault, Sequence, Table, Valuer, all_names,
-    read_plan, rules_have_one_priority_order, text_spells_at_most_one_plan,
+    Env, Fault, InputData, Inputs, Name, Plan, PlanFault, Sequence, Valuer, all_names, read_plan,
+    rules_have_one_priority_order, text_spells_at_most_one_plan,
 };
 use feel_tests::{Kind, Value};
 use fixpoint::Fixed;
@@ -136,31 +136,6 @@ fn a_chain_has_its_values_or_no_memory(rt: HostRuntime) -> Result<(), Fail> {
         Ok(values) => assert!(rt; are_values_of_chain(rt.alloc(), &values)),
         Err(fault) => assert_eq!(rt; fault, Fault::OutOfMemory),
     }
-    Ok(())
-}
-
-#[test]
-fn parts_make_up_a_plan(rt: HostRuntime) -> Result<(), Fail> {
-    let alloc = rt.alloc();
-    let plan = Plan::checked(alloc, Sequence::new(alloc), Sequence::new(alloc), None)?;
-    let plan = plan.ok_or("no plan")?;
-    assert_eq!(rt; plan.names().len(), 7);
-    assert!(rt; plan.tables().is_empty() && plan.roles().is_none());
-    Ok(())
-}
-
-#[test]
-fn parts_make_up_no_plan(rt: HostRuntime) -> Result<(), Fail> {
-    let alloc = rt.alloc();
-    let mut tables = Sequence::new(alloc);
-    tables.push(Table {
-        hit: Hit::P,
-        inputs: Sequence::new(alloc),
-        outputs: Sequence::new(alloc),
-        rules: Sequence::new(alloc),
-    })?;
-    let plan = Plan::checked(alloc, Sequence::new(alloc), tables, None)?;
-    assert!(rt; plan.is_none());
     Ok(())
 }
 

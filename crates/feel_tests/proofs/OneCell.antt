@@ -5,7 +5,7 @@ use Rattle.feel_tests.specs.Words.{Word, Sign, Digits, Quoted, Name, Begins, IsB
 use Rattle.feel_tests.specs.Grammar.{not_word, op_symbol, IsLiteral, IsTest, IsList}
 use Rattle.feel_tests.specs.Parts.{Denies, DeniesPart, IsWholeList}
 use Rattle.feel_tests.specs.Cell.{IsNegation, SpellsCell}
-use Rattle.feel_tests.specs.declared.cell.TheConstants.{TEST_LIMIT}
+use Rattle.feel_tests.specs.Limits.{test_limit}
 use Rattle.feel_tests.specs.declared.symbol.Symbol.{Symbol}
 use Rattle.feel_tests.specs.declared.symbol.Symbol.TheVariants as symbols
 use Rattle.feel_tests.specs.declared.refusal.Refusal.{Refusal}
@@ -88,7 +88,7 @@ some_tests : (kind : Kind) (text : List ℕ) (tests : List Test) (end : List ℕ
 some_tests kind text [] end h = absurd h
 some_tests kind text (t ∷ more) end h = omega arith
 
-pub list_too_long : (kind : Kind) (text : List ℕ) (tests : List Test) (rest behind_comma : List ℕ) → IsList kind text tests rest → Begins rest (Sign symbols.Comma) behind_comma → length tests ≡ TEST_LIMIT → (others : List Test) (end : List ℕ) → IsWholeList kind text others end → ⊥
+pub list_too_long : (kind : Kind) (text : List ℕ) (tests : List Test) (rest behind_comma : List ℕ) → IsList kind text tests rest → Begins rest (Sign symbols.Comma) behind_comma → length tests ≡ test_limit → (others : List Test) (end : List ℕ) → IsWholeList kind text others end → ⊥
 list_too_long kind text tests rest behind_comma l b full others end h =
     let on = list_longer kind text tests rest behind_comma others end l b h.0 h.2 in
     let some = some_tests kind behind_comma on.more end on.list in

@@ -1,5 +1,6 @@
 -- What a text spells: the definitions that the readers' contracts cite.
 use Rattle.std.specs.Prelude.{◌≡◌, ◌≢◌, ℕ, ◌≤◌, ◌⊎◌, List, length}
+use Rattle.feel_tests.specs.Limits.{test_limit}
 use Rattle.feel_tests.specs.Words.{Sign, Name, IsBlank, Begins}
 use Rattle.feel_tests.specs.Grammar.{not_word, IsLiteral, IsList}
 use Rattle.feel_tests.specs.declared.symbol.Symbol.TheVariants as symbols
@@ -7,7 +8,6 @@ use Rattle.feel_tests.specs.declared.fault.CellCause.TheVariants.{OutOfMemory}
 use Rattle.feel_tests.specs.declared.fault.CellFault.{CellFault}
 use Rattle.feel_tests.specs.declared.kind.Kind.{Kind}
 use Rattle.feel_tests.specs.declared.value.Value.{Value}
-use Rattle.feel_tests.specs.declared.cell.TheConstants.{TEST_LIMIT}
 use Rattle.feel_tests.specs.declared.cell.Test.{Test}
 use Rattle.feel_tests.specs.declared.cell.Cell.{Cell}
 use Rattle.feel_tests.specs.declared.cell.Cell.TheVariants.{Dash, OneOf, NoneOf}
@@ -25,14 +25,14 @@ pub record IsNegation (kind : Kind) (text : List ℕ) (tests : List Test) : Type
   pub word : Begins text (Name not_word) behind_word
   pub opens : Begins behind_word (Sign symbols.OpenRound) behind_open
   pub list : IsList kind behind_open tests behind_list
-  pub few : length tests ≤ TEST_LIMIT
+  pub few : length tests ≤ test_limit
   pub closes : Begins behind_list (Sign symbols.CloseRound) rest
   pub blank : IsBlank rest
 
 -- the whole text is a cell of the kind: blank or a dash, a list of tests, or `not` of one
 abbrev pub SpellsCell : Kind → List ℕ → Cell → Type 0
 SpellsCell kind text Dash = IsBlank text ⊎ ((rest : List ℕ) × Begins text (Sign symbols.Dash) rest × IsBlank rest)
-SpellsCell kind text (OneOf tests) = (rest : List ℕ) × IsList kind text tests rest × (length tests ≤ TEST_LIMIT) × IsBlank rest
+SpellsCell kind text (OneOf tests) = (rest : List ℕ) × IsList kind text tests rest × (length tests ≤ test_limit) × IsBlank rest
 SpellsCell kind text (NoneOf tests) = IsNegation kind text tests
 
 -- a fault other than want of memory comes only where nothing is spelled

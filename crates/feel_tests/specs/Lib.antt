@@ -1,3 +1,4 @@
+pub mod Limits
 pub mod TextBytes
 pub mod DayNumber
 pub mod Fault

@@ -3,7 +3,7 @@ use Rattle.std.specs.Prelude.{◌≡◌, ◌≢◌, ℕ, ◌≤◌, Bool, List, 
 use Rattle.feel_tests.specs.Words.{skip_white, Sign, Begins}
 use Rattle.feel_tests.specs.Grammar.{start_in, end_in, IsSpan, IsList}
 use Rattle.feel_tests.specs.declared.kind.Kind.{Kind}
-use Rattle.feel_tests.specs.declared.cell.TheConstants.{TEST_LIMIT}
+use Rattle.feel_tests.specs.Limits.{test_limit}
 use Rattle.feel_tests.specs.declared.symbol.Symbol.TheVariants as symbols
 use Rattle.feel_tests.specs.declared.cell.Test.{Test}
 use Rattle.feel_tests.specs.declared.cell.Test.TheVariants.{Equal, Compare, Between}
@@ -35,7 +35,7 @@ IsSpanTest kind low_in text (Between low in_low high high_in) rest = (in_low ≡
 
 -- the text begins with a list within the limit that no comma follows
 abbrev pub IsWholeList : Kind → List ℕ → List Test → List ℕ → Type 0
-IsWholeList kind text tests rest = IsList kind text tests rest × (length tests ≤ TEST_LIMIT) × ((after : List ℕ) → ¬ Begins rest (Sign symbols.Comma) after)
+IsWholeList kind text tests rest = IsList kind text tests rest × (length tests ≤ test_limit) × ((after : List ℕ) → ¬ Begins rest (Sign symbols.Comma) after)
 
 -- behind white space the text begins with a quote
 abbrev pub IsQuoteFirst : List ℕ → Type 0

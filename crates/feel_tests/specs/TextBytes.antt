@@ -1,10 +1,10 @@
 -- The bytes that a text may have.
 use Rattle.std.specs.Prelude.{ℕ, ◌≤◌, List, length, IsUtf8}
-use Rattle.feel_tests.specs.declared.text.TheConstants.{TEXT_LIMIT_BYTES}
+use Rattle.feel_tests.specs.Limits.{text_limit_bytes}
 
 -- within the limit of a text
 abbrev pub IsShort : List ℕ → Type 0
-IsShort bytes = length bytes ≤ TEXT_LIMIT_BYTES
+IsShort bytes = length bytes ≤ text_limit_bytes
 
 -- the bytes of a text: UTF-8 within the limit
 abbrev pub IsText : List ℕ → Type 0

@@ -7,7 +7,7 @@ ghost use Rattle.feel_tests.specs.Cell.{SpellsValue, SpellsOneCell, SpellsOneVal
 ghost use Rattle.feel_tests.specs.Plain.{SpellsOnePlain};
 ghost use Rattle.feel_tests.specs.declared.kind.Kind.TheVariants as kinds;
 ghost use Rattle.feel_tests.specs.declared.value.Value.TheVariants as values;
-ghost use Rattle.feel_tests.specs.declared.text.TheConstants.{TEXT_LIMIT_BYTES};
+ghost use Rattle.feel_tests.specs.Limits.{text_limit_bytes};
 
 use crate::dates::date_of;
 use crate::day::Day;
@@ -55,7 +55,7 @@ fn number_spells(number: Fixed)
 }
 
 fn text_spells(text: &str)
-    requires { length text.now ≤ TEXT_LIMIT_BYTES }
+    requires { length text.now ≤ text_limit_bytes }
     ensures { SpellsValue kinds.Text (quoted text.now) (values.Text text.now) }
 {
     let _bytes = text.as_bytes();

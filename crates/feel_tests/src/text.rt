@@ -1,7 +1,7 @@
 //! Texts as values: UTF-8 of a limited length, equal where their bytes are.
 ghost use Rattle.std.specs.Prelude.{◌≡◌, ◌≤◌, length, IfOk, IfSome, IfNone, OnSome};
 ghost use Rattle.feel_tests.specs.TextBytes.{IsText};
-ghost use Rattle.feel_tests.specs.declared.text.TheConstants.{TEXT_LIMIT_BYTES};
+ghost use Rattle.feel_tests.specs.Limits.{text_limit_bytes};
 
 use std::alloc::{AllocError, Global};
 use std::marker::Model;
@@ -29,7 +29,7 @@ impl Model for Text {
 impl Text {
     /// The text of these bytes.
     pub fn new(alloc: Global, text: &str) -> Result<Text, AllocError>
-        requires { length text.now ≤ TEXT_LIMIT_BYTES }
+        requires { length text.now ≤ text_limit_bytes }
         ensures { IfOk result (λ made. made ≡ text.now) }
     {
         Ok(Text {
@@ -55,7 +55,7 @@ impl Text {
     /// The text as a slice.
     pub fn as_str(&self) -> &str
         ensures value { result.now ≡ self.now }
-        ensures fits { length self.now ≤ TEXT_LIMIT_BYTES }
+        ensures fits { length self.now ≤ text_limit_bytes }
     {
         self.text.as_str()
     }
@@ -63,7 +63,7 @@ impl Text {
     /// Its bytes.
     pub fn as_bytes(&self) -> &[u8]
         ensures value { result.now ≡ self.now }
-        ensures fits { length self.now ≤ TEXT_LIMIT_BYTES }
+        ensures fits { length self.now ≤ text_limit_bytes }
     {
         self.text.as_bytes()
     }

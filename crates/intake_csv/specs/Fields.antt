@@ -5,7 +5,7 @@ use Rattle.fixpoint.specs.NumberText.{Denotes}
 use Rattle.fixpoint.specs.Money.{IsCents, IsMoney}
 use Rattle.feel_tests.specs.Plain.{SpellsPlain}
 use Rattle.feel_tests.specs.TextBytes.{IsText}
-use Rattle.feel_tests.specs.declared.text.TheConstants.{TEXT_LIMIT_BYTES}
+use Rattle.feel_tests.specs.Limits.{text_limit_bytes}
 use Rattle.feel_tests.specs.declared.value.Value.{Value}
 use Rattle.feel_tests.specs.declared.value.Value.TheVariants.{Number}
 use Rattle.intake_csv.specs.Columns.{kind_under}
@@ -44,7 +44,7 @@ pub record IsBelowZero (bytes : List ℕ) : Type 0 where
 -- what is wrong with the field under the column; each fault supposes that those tried before it aren't there
 abbrev pub IsFaulty : Content → List ℕ → RowCause → Type 0
 IsFaulty content bytes Utf8 = ¬ IsUtf8 bytes
-IsFaulty content bytes TooLong = IsUtf8 bytes × (TEXT_LIMIT_BYTES < length bytes)
+IsFaulty content bytes TooLong = IsUtf8 bytes × (text_limit_bytes < length bytes)
 IsFaulty content bytes EmptyId = (content ≡ contents.Identifier) × (bytes ≡ [])
 IsFaulty content bytes NoValue = IsText bytes × ((value : Value) → ¬ SpellsPlain (kind_under content) bytes value)
 IsFaulty content bytes NotCents = (content ≡ contents.Money) × IsNotCents bytes

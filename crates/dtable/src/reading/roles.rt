@@ -1,11 +1,13 @@
 //! Reads the roles of a plan.
-ghost use Rattle.std.specs.Prelude.{◌≡◌, ◌↔◌, ◌≢◌, codes, map, length, not, ◌&&◌, Some, option_map, IsTrue, IfOk, OnOk, OnErr};
+ghost use Rattle.std.specs.Prelude.{◌≡◌, ◌↔◌, ◌≢◌, ◌≤◌, codes, map, length, not, ◌&&◌, Some, option_map, IsTrue, IfOk, OnOk, OnErr};
+ghost use Rattle.std.specs.Bool.{OnTrue};
 ghost use Rattle.std.specs.List.{list_any};
 ghost use Rattle.std.specs.Str.{bytes_eq};
 ghost use Rattle.toml.specs.Data.{get};
 ghost use Rattle.toml.specs.View.{view};
 ghost use Rattle.feel_tests.specs.declared.kind.Kind.TheVariants as kinds;
 ghost use Rattle.dtable.specs.Document.{string_at, Optionally};
+ghost use Rattle.dtable.specs.Limits.{name_limit_bytes};
 ghost use Rattle.dtable.specs.Plan.{same_kind};
 ghost use Rattle.dtable.specs.Reading.{Reads};
 ghost use Rattle.dtable.specs.RoleFile.{AreRoles, AreRemarks, IsRole, IsSource, IsNamedSource, IsLiteralSource, IsMoney, IsRate, Meets, asked_kind, lists_texts};
@@ -13,7 +15,7 @@ ghost use Rattle.dtable.specs.Scope.{seen_of};
 
 use super::place::Place;
 use super::scope::{kind_at, origin_of};
-use crate::name::{NAME_LIMIT_BYTES, Name};
+use crate::name::Name;
 use crate::plan_fault::{PlanCause, PlanFault};
 use crate::roles::{Roles, Source};
 use crate::table::{InputData, Origin, Output, Table};
@@ -214,10 +216,10 @@ fn read_named(
     }
     match origin {
         Origin::Given(input) => Ok(Source::Input(input)),
-        Origin::Earlier { .. } if text.len() > NAME_LIMIT_BYTES => Err(place.fault(
-            PlanCause::Role,
-        )),
-        Origin::Earlier { .. } => Ok(Source::Output(Name::new(alloc, text)?)),
+        Origin::Earlier { table, column } => {
+            let output = &tables[table].outputs.as_slice()[column];
+            Ok(Source::Output(Name::new(alloc, output.name.as_str())?))
+        }
     }
 }
 
@@ -256,7 +258,7 @@ fn read_remarks_name(
     let Some(text) = entry.as_str() else {
         return Err(place.fault(PlanCause::Role));
     };
-    if text.len() > NAME_LIMIT_BYTES || !lists_texts(tables, text) {
+    if !lists_texts(tables, text) {
         return Err(place.fault(PlanCause::Role));
     }
     Ok(Name::new(alloc, text)?)
@@ -264,19 +266,22 @@ fn read_remarks_name(
 
 /// Whether some output that lists texts has the name.
 fn lists_texts(tables: &[Table], name: &str) -> bool
-    ensures { result ≡ lists_texts (map seen_of tables.now) name.now }
+    ensures listed { result ≡ lists_texts (map seen_of tables.now) name.now }
+    ensures short { OnTrue result (length name.now ≤ name_limit_bytes) }
 {
     tables.iter().any(|table| table_lists_texts(table, name))
 }
 
 fn table_lists_texts(table: &Table, name: &str) -> bool
-    ensures { result ≡ list_any (λ o. bytes_eq o.name name.now && (not o.is_single && same_kind kinds.Text o.kind)) (seen_of table.now) }
+    ensures listed { result ≡ list_any (λ o. bytes_eq o.name name.now && (not o.is_single && same_kind kinds.Text o.kind)) (seen_of table.now) }
+    ensures short { OnTrue result (length name.now ≤ name_limit_bytes) }
 {
     !table.hit.gives_one() && some_text(table.outputs.as_slice(), name)
 }
 
 fn some_text(outputs: &[Output], name: &str) -> bool
-    ensures { result ≡ list_any (λ o. bytes_eq o.name name.now && same_kind kinds.Text o.kind) outputs.now }
+    ensures listed { result ≡ list_any (λ o. bytes_eq o.name name.now && same_kind kinds.Text o.kind) outputs.now }
+    ensures short { OnTrue result (length name.now ≤ name_limit_bytes) }
 {
     outputs.iter().any(|output| output.name.as_str() == name && is_text(output.kind))
 }

@@ -13,7 +13,7 @@ returns-in_err-inputs-clause-refused c =
 pub new-requires : goal.new-requires
 new-requires c =
     let plan = c.args.plan.now in
-    rw c.as_str.ensures (missing_short plan.names plan.tables _ _ c.requires.short c.in-Some.ensures.missing)
+    rw c.as_str.ensures.text (missing_short plan.names plan.tables _ _ c.requires.short c.in-Some.ensures.missing)
 
 pub returns-in_err-values-clause-refused : goal.returns-in_err-values-clause-refused
 returns-in_err-values-clause-refused c =

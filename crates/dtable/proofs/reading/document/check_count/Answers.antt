@@ -1,4 +1,4 @@
-use Rattle.std.proofs.Common.{◌≡◌, arith}
+use Rattle.std.proofs.Common.{arith}
 use Rattle.dtable.proofs.Entries.{item_count-view}
 use Rattle.dtable.proofs.reading.document.check_count.Goals as goal
 

@@ -1,4 +1,4 @@
-use Rattle.std.proofs.Common.{◌≡◌, Some, map, sym, ◌∙◌}
+use Rattle.std.proofs.Common.{◌≡◌, Some, map}
 use Rattle.std.proofs.lemmas.Result.{err_from_is_err_and}
 use Rattle.toml.specs.View.{view}
 use Rattle.dtable.specs.Scope.{seen_of, origin_of}
@@ -15,6 +15,6 @@ returns-in_err-values c =
     let p = err_from_is_err_and c.from_residual-in_err-values.result c.from_residual-in_err-values.ensures.1 in
     let names = c.args.names.now in
     let earlier = map seen_of c.args.tables.now in
-    let found = rw c.as_str.ensures at c.origin_of.ensures in
+    let found = rw c.as_str.ensures.text at c.origin_of.ensures in
     let known : origin_of names earlier c.in_ok-name.name ≡ Some c.in-Some.origin = cc in
     rw (p.1, p.2) (λ memory. IsInput-no_values names earlier (view c.args.entry.now) c.in_ok-name.name c.in-Some.origin c.in_ok-name.ensures known (c.in_err-values.ensures memory))

@@ -1,9 +1,9 @@
-use Rattle.std.proofs.Common.{map, sym, ◌∙◌}
+use Rattle.std.proofs.Common.{map}
 use Rattle.std.proofs.lemmas.Result.{err_from_is_err_and}
 use Rattle.toml.specs.View.{view}
 use Rattle.dtable.specs.PlanFile.{IsInput}
 use Rattle.dtable.specs.Scope.{seen_of}
-use Rattle.dtable.proofs.Entries.{Each-more, Each-none}
+use Rattle.dtable.proofs.Entries.{Each-more}
 use Rattle.dtable.proofs.ReadTables.{AreInputs-none}
 use Rattle.dtable.proofs.reading.inputs.read_inputs.Goals as goal
 

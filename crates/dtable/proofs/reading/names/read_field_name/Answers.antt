@@ -7,5 +7,5 @@ use Rattle.dtable.proofs.reading.names.read_field_name.Goals as goal
 
 pub returns-then-is_taken_field : goal.returns-then-is_taken_field
 returns-then-is_taken_field c _ =
-    let taken = rw c.as_str.ensures at c.is_taken_field.ensures in
+    let taken = rw c.as_str.ensures.text at c.is_taken_field.ensures in
     IsNewlyNamed-taken (reserved_names ++ data_names c.args.front.now) (view c.args.entry.now) c.in_ok-name.name c.in_ok-name.ensures (sym taken ∙ c.if-is_taken_field.true)

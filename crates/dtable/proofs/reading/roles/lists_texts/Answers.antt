@@ -12,7 +12,7 @@ over_tables : (name : List ℕ) (ts : List Table) → list_any (λ t. list_any (
 over_tables name [] = refl
 over_tables name (t ∷ ts) = ap (λ b. list_any (lists_text_as name) (seen_of t) || b) (over_tables name ts)
 
-pub returns : goal.returns
-returns c =
+pub returns-clause-listed : goal.returns-clause-listed
+returns-clause-listed c =
     any_from_yields_List (λ t. list_any (lists_text_as c.args.name.now) (seen_of t)) _ _ _ c.any.ensures.ran (YieldsList-from_slice c.args.tables.now cc) (λ x b q k. search (rules, tests))
     ∙ over_tables c.args.name.now c.args.tables.now

@@ -1,4 +1,4 @@
-use Rattle.std.proofs.Common.{◌≡◌, map}
+use Rattle.std.proofs.Common.{map}
 use Rattle.dtable.specs.RoleFile.{IsSource, IsNamedSource, asked_kind}
 use Rattle.dtable.specs.Scope.{seen_of}
 use Rattle.dtable.proofs.ReadParts.{Reads-as}

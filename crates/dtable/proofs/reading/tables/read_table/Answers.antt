@@ -1,4 +1,4 @@
-use Rattle.std.proofs.Common.{◌≡◌, false, map, sym, ◌∙◌}
+use Rattle.std.proofs.Common.{◌≡◌, false, map}
 use Rattle.std.proofs.lemmas.Result.{err_from_is_err_and}
 use Rattle.toml.specs.View.{view}
 use Rattle.dtable.specs.Plan.{meets_demands}
