@@ -17,3 +17,4 @@ pub mod Columnar
 pub mod Telling
 pub mod Holding
 pub mod Overlapping
+pub mod Matched
