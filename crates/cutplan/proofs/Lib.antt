@@ -18,3 +18,4 @@ pub mod Telling
 pub mod Holding
 pub mod Overlapping
 pub mod Matched
+pub mod CutOrder

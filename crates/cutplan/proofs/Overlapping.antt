@@ -25,7 +25,7 @@ abbrev asks_of : Table → ℕ → ℕ → Value → Bool
 asks_of t place column v = option_map_or (λ c. holds c v) (slice_get (rule_cells t place) column) true
 
 -- what stands at a place is among them
-among_place : {X : Type 0} (xs : List X) (n : ℕ) (x : X) → slice_get xs n ≡ Some x → Among x xs
+pub among_place : {X : Type 0} (xs : List X) (n : ℕ) (x : X) → slice_get xs n ≡ Some x → Among x xs
 among_place [] n x e = absurd cc
 among_place (y ∷ ys) zero x e = (let same : y ≡ x = cc in inl same)
 among_place (y ∷ ys) (suc n) x e = inr (among_place ys n x e)

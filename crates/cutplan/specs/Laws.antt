@@ -1,18 +1,19 @@
 -- Laws that tie the regions of a column, gaps and overlaps to values.
-use Rattle.std.specs.Prelude.{◌≡◌, ℕ, ◌-◌, ◌≤◌, ◌<◌, ◌↔◌, Bool, List, [], length, map, Some, None, slice_get, IsTrue, Contains, count_by}
+use Rattle.std.specs.Prelude.{◌≡◌, ◌≢◌, ℕ, ◌-◌, ◌≤◌, ◌<◌, ◌↔◌, Bool, List, [], length, map, filter, Some, None, slice_get, IsTrue, Contains, count_by}
 use Rattle.std.specs.List.{list_any, list_all, zip}
 use Rattle.feel_tests.specs.Holds.{holds}
 use Rattle.feel_tests.specs.declared.cell.Cell.{Cell}
+use Rattle.feel_tests.specs.declared.kind.Kind.TheVariants as kinds
 use Rattle.feel_tests.specs.declared.value.Value.{Value}
 use Rattle.dtable.specs.declared.environment.Answer.{Answer}
 use Rattle.dtable.specs.declared.inputs.Slot.{Slot}
 use Rattle.dtable.specs.declared.table.Rule.{Rule}
 use Rattle.dtable.specs.declared.table.Table.{Table}
 use Rattle.dtable.specs.Matching.{value_read, matching, first_outside}
-use Rattle.dtable.specs.Plan.{PlanParts}
+use Rattle.dtable.specs.Plan.{PlanParts, has_kind}
 use Rattle.cutplan.specs.declared.region.Region.{Region}
-use Rattle.cutplan.specs.Values.{is_value}
-use Rattle.cutplan.specs.Regions.{Column, columns, regions, is_allowed, is_in}
+use Rattle.cutplan.specs.Values.{is_value, is_before}
+use Rattle.cutplan.specs.Regions.{Column, columns, column_literals, regions, is_allowed, is_in}
 use Rattle.cutplan.specs.Check.{IsGap, IsOverlap, is_allowed_tuple, fits, rule_cells, lies_in, gaps, overlaps}
 
 -- each allowed value of a column lies in exactly one of its regions
@@ -91,3 +92,13 @@ pub record TellsMatches (p : PlanParts) (t : Table) (first second : ℕ) : Type 
 -- so for each pair of a table's rules, the smaller first
 abbrev pub OverlapsMatchTogether : Type 0
 OverlapsMatchTogether = (p : PlanParts) (t : Table) (first second : ℕ) → 1 ≤ first → first < second → second ≤ length t.rules → TellsMatches p t first second
+
+-- of two cuts of a column of numbers, days or texts, the one in front is the smaller, texts by their bytes
+abbrev pub CutsRise : Type 0
+CutsRise = (p : PlanParts) (t : Table) (place : ℕ) (column : Column) → slice_get (columns p t) place ≡ Some column → column.kind ≢ kinds.Flag
+    → (i j : ℕ) (v w : Value) → i < j → slice_get column.cuts i ≡ Some v → slice_get column.cuts j ≡ Some w → IsTrue (is_before v w)
+
+-- the cuts of a column are the literals of its kind, in its rules' cells and in its allowed values
+abbrev pub CutsAreLiterals : Type 0
+CutsAreLiterals = (p : PlanParts) (t : Table) (place : ℕ) (column : Column) → slice_get (columns p t) place ≡ Some column
+    → (v : Value) → Contains column.cuts v ↔ Contains (filter (has_kind column.kind) (column_literals t place column.values)) v

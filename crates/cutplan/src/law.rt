@@ -1,5 +1,5 @@
 //! Laws that tie the regions of a column to values, and the check to what matches. Each call does nothing.
-ghost use Rattle.cutplan.specs.Laws.{AllowedAreInside, CellsHoldAlike, FitsAreMatches, GapsAreTold, GapsMatchNothing, OverlapsAreTold, OverlapsMatchTogether, RegionsHoldValues, RegionsPartValues};
+ghost use Rattle.cutplan.specs.Laws.{AllowedAreInside, CellsHoldAlike, CutsAreLiterals, CutsRise, FitsAreMatches, GapsAreTold, GapsMatchNothing, OverlapsAreTold, OverlapsMatchTogether, RegionsHoldValues, RegionsPartValues};
 
 /// A rule's cell holds of all values of a region of its column, or of none.
 pub fn cells_hold_alike()
@@ -50,4 +50,16 @@ pub fn gaps_match_nothing()
 /// `matching` has both, and at no input has it the rules 1 and 2, unless something is outside.
 pub fn overlaps_match_together()
     ensures { OverlapsMatchTogether }
+{}
+
+/// The cuts of a column of numbers, days or texts stand in rising order, each once; texts in byte order. The cells `>5`
+/// and `[2..5]` cut their column at 2 and then at 5, and the cell `"B","A"` its own at `"A"` and then at `"B"`.
+pub fn cuts_rise()
+    ensures { CutsRise }
+{}
+
+/// The cuts of a column are the literals of its kind in its rules' cells and in its allowed values. The cell `<=7` cuts
+/// its column at 7; there is a cut at 6 only where a cell, or the allowed values, name it.
+pub fn cuts_are_literals()
+    ensures { CutsAreLiterals }
 {}
