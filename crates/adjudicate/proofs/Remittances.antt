@@ -11,12 +11,12 @@ use Rattle.dtable.specs.declared.plan_fault.PlanFault.{PlanFault}
 use Rattle.settlement.specs.declared.claim.Claim.{Claim}
 use Rattle.intake_csv.specs.Columns.{claim_columns}
 use Rattle.intake_csv.specs.Laws.{HaveDistinctNames, PlansNeedDistinctNames}
-use Rattle.intake_csv.specs.Rows.{AreRowsOf}
+use Rattle.intake_csv.specs.Rows.{AreRowsOf, claims_among}
 use Rattle.intake_csv.specs.declared.rows.Row.{Row}
 use Rattle.journal.specs.declared.event.Event.{Event}
 use Rattle.journal.specs.Terms.{Terms}
 use Rattle.claim_terms.specs.Fault.{HasTermsFault}
-use Rattle.claim_terms.specs.Terms.{AreClaimsOf, IsTermsOf, TermsParts, claims_among}
+use Rattle.claim_terms.specs.Terms.{AreClaimsOf, IsTermsOf, TermsParts}
 use Rattle.claim_terms.specs.declared.fault.TermsFault.{TermsFault}
 use Rattle.claim_terms.specs.declared.fault.TermsFault.TheVariants as terms
 use Rattle.crew.specs.Workers.{IsWorkerCount}

@@ -8,9 +8,9 @@ use Rattle.std.proofs.lemmas.List.Folds.{list_any-append}
 use Rattle.settlement.specs.declared.claim.Claim.{Claim}
 use Rattle.intake_csv.specs.Columns.{claim_columns}
 use Rattle.intake_csv.specs.Laws.{StartHasTheRows, PlansNeedDistinctNames, ColumnsStandApart, GivenRowIsTheFirst, NoRecordsNoRows, StandApart}
-use Rattle.intake_csv.specs.Rows.{GivesRow, IsAtStart, RowsLeft}
+use Rattle.intake_csv.specs.Rows.{GivesRow, IsAtStart, RowsLeft, claims_among}
 use Rattle.intake_csv.specs.declared.rows.Row.TheVariants.{Good}
-use Rattle.claim_terms.specs.Terms.{TermsParts, AreClaimsOf, IsTermsOf, claims_among, texts_of}
+use Rattle.claim_terms.specs.Terms.{TermsParts, AreClaimsOf, IsTermsOf, texts_of}
 use Rattle.journal.specs.Terms.{Terms, claims_of}
 use Rattle.journal.specs.Events.{is_take, taken, IsJob}
 use Rattle.journal.specs.Gate.{GateAt, Continues, TakeReply, Takes}

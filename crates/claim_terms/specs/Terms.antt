@@ -1,5 +1,5 @@
 -- What a run is fixed over: as texts, as the code keeps it, and as journals see it.
-use Rattle.std.specs.Prelude.{◌≡◌, ◌≤◌, ℕ, List, [], ◌∷◌, flat_map, length, map, option_map, string_bytes, Option, Some, None, IsSome}
+use Rattle.std.specs.Prelude.{◌≡◌, ◌≤◌, ℕ, List, [], length, map, option_map, string_bytes, Option, Some, None, IsSome}
 use Rattle.std.specs.Borrow.{Bor}
 use Rattle.std.specs.List.{All, AllZip}
 use Rattle.dtable.specs.Plan.{PlanParts}
@@ -7,12 +7,11 @@ use Rattle.dtable.specs.declared.table.InputData.{InputData}
 use Rattle.settlement.specs.declared.claim.Claim.{Claim}
 use Rattle.intake_csv.specs.Records.{Fields}
 use Rattle.intake_csv.specs.Columns.{IsSheet, claim_columns}
-use Rattle.intake_csv.specs.Rows.{AreRowsOf}
+use Rattle.intake_csv.specs.Rows.{AreRowsOf, claims_among}
 use Rattle.intake_csv.specs.Balances.{AreBalances, Entry, balance_of}
 use Rattle.intake_csv.specs.declared.balances.Balances.{Balances}
 use Rattle.intake_csv.specs.declared.column.Layout.{Layout}
 use Rattle.intake_csv.specs.declared.rows.Row.{Row}
-use Rattle.intake_csv.specs.declared.rows.Row.TheVariants.{Good, Bad}
 use Rattle.journal.specs.Terms.{Terms, opening}
 use Rattle.claim_terms.specs.declared.terms.TheConstants.{FILES_LIMIT}
 
@@ -32,14 +31,6 @@ entries_of balances = map (λ e. (string_bytes e.0, e.1)) balances.accounts.entr
 abbrev pub entries_in : Option Balances → List Entry
 entries_in None = []
 entries_in (Some balances) = entries_of balances
-
-abbrev pub claim_in : Row → List Claim
-claim_in (Good number place claim) = claim ∷ []
-claim_in (Bad number fault) = []
-
--- the claims among rows, in order
-abbrev pub claims_among : List Row → List Claim
-claims_among rows = flat_map claim_in rows
 
 -- the claims of a file: those among its rows
 pub record AreClaimsOf (names : List InputData) (text : List ℕ) (claims : List Claim) : Type 0 where

@@ -13,9 +13,9 @@ use crate::stopping::stop;
 use crate::turns::Turns;
 use claim_gate::{EndFault, Gate, Offer, OfferFault};
 use claim_terms::Terms;
-use feel_tests::field_spells_at_most_one_value;
-use fixpoint::text_denotes_at_most_one;
-use intake_csv::{Row, Rows, no_records_give_no_rows, reader_begins_with_all_rows};
+use intake_csv::{
+    Row, Rows, given_row_has_the_claim, no_records_give_no_rows, reader_begins_with_all_rows,
+};
 use std::alloc::Global;
 use std::sync::Wait;
 
@@ -82,8 +82,7 @@ fn read_on<R: Wait, G: Gate>(
 {
     reader_begins_with_all_rows();
     no_records_give_no_rows();
-    text_denotes_at_most_one();
-    field_spells_at_most_one_value();
+    given_row_has_the_claim();
     let mut rows = match open(alloc, terms, provider) {
         Ok(rows) => rows,
         Err(fault) => return Err((fault, pass)),

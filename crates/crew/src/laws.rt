@@ -2,10 +2,12 @@
 ghost use Rattle.claim_gate.specs.Parts.{ForTerms};
 
 use claim_terms::Terms;
+use intake_csv::files_have_rows;
 
 /// No terms are without what journals see of them: each record of a file is a claim or is refused.
 pub fn terms_are_seen(terms: &Terms)
     ensures { ¬ ForTerms terms.now (λ _. ⊥) }
 {
+    files_have_rows();
     let _plan = terms.plan();
 }

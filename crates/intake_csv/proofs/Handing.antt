@@ -9,7 +9,7 @@ use Rattle.intake_csv.specs.declared.rows.Row.{Row}
 use Rattle.intake_csv.specs.declared.rows.Row.TheVariants.{Good, Bad}
 
 -- one more claim, or none, in the count of claims
-count-row : (row : Row) (rows : List Row) → count_by is_claim (row ∷ rows) ≡ claims_in row + count_by is_claim rows
+pub count-row : (row : Row) (rows : List Row) → count_by is_claim (row ∷ rows) ≡ claims_in row + count_by is_claim rows
 count-row (Good number place claim) rows = sum_by-cons (λ x. cond (is_claim x) 1 0) (Good number place claim) rows
 count-row (Bad number fault) rows = sum_by-cons (λ x. cond (is_claim x) 1 0) (Bad number fault) rows
 

@@ -1,5 +1,5 @@
 -- The rows of a file of claims: each record behind the header as a claim, or as the first fault that refuses it.
-use Rattle.std.specs.Prelude.{◌≡◌, ◌≢◌, ◌<◌, ◌+◌, ◌⊎◌, ℕ, Bool, true, false, List, [], ◌∷◌, ◌++◌, length, Option, Some, None, Result, Ok, Err}
+use Rattle.std.specs.Prelude.{◌≡◌, ◌≢◌, ◌<◌, ◌+◌, ◌⊎◌, ℕ, Bool, true, false, List, [], ◌∷◌, ◌++◌, flat_map, length, Option, Some, None, Result, Ok, Err}
 use Rattle.std.specs.List.{All, AllZip, Any, count_by, slice_get}
 use Rattle.csv.specs.Records.{field_at}
 use Rattle.feel_tests.specs.declared.value.Value.{Value}
@@ -108,6 +108,15 @@ pub record IsAtStart (names : List InputData) (text : List ℕ) (left : RowsLeft
   pub number : left.number ≡ 1
   pub place : left.place ≡ 0
   pub failed : left.failed ≡ false
+
+-- the claim that the row is, or none
+abbrev pub claim_in : Row → List Claim
+claim_in (Good number place claim) = claim ∷ []
+claim_in (Bad number fault) = []
+
+-- the claims among rows, in order
+abbrev pub claims_among : List Row → List Claim
+claims_among rows = flat_map claim_in rows
 
 -- how many claims the row is: one or none
 abbrev pub claims_in : Row → ℕ
