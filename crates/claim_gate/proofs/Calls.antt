@@ -7,7 +7,7 @@ use Rattle.std.proofs.lemmas.List.{length-replicate, get_or-replicate}
 use Rattle.std.proofs.lemmas.List.Folds.{sum_by-replicate}
 use Rattle.std.proofs.lemmas.List.Sums.{sum_by_push}
 use Rattle.std.proofs.lemmas.Option.{none-some, slice_get_within}
-use Rattle.claim_terms.specs.Terms.{TermsParts, IsTermsOf}
+use Rattle.claim_terms.specs.Terms.{TermsParts, IsTermsOf, ForTerms}
 use Rattle.settlement.specs.declared.acc.Acc.{Acc}
 use Rattle.settlement.specs.declared.claim.Claim.{Claim}
 use Rattle.settlement.specs.declared.outcome.Outcome.{Outcome}
@@ -26,7 +26,6 @@ use Rattle.journal.specs.declared.event.Event.TheVariants.{Accept, End, Close, T
 use Rattle.claim_gate.specs.declared.intakes.Intake.{Intake}
 use Rattle.claim_gate.specs.Intakes.{no_intake, none_yet, intake_of, with_accept, with_end}
 use Rattle.claim_gate.specs.Kept.{is_begun, AreMarked, ArePlacesOf, IsIntakeOf, AreIntakesOf, IsKept, is_due}
-use Rattle.claim_gate.specs.Parts.{ForTerms}
 use Rattle.claim_gate.specs.Replies.{HasClaims, IsOver, first_journal}
 use Rattle.claim_gate.proofs.Claims.{places_stay_claims, places_accept, places_take, own_leaves}
 use Rattle.claim_gate.proofs.Decisions.{places_decision}

@@ -1,7 +1,7 @@
 -- Calls of a gate behind a lock, by those of the gate of one thread.
 use Rattle.std.proofs.Common.{◌≡◌, ◌+◌, ℕ, max, true, ◌∷◌, [], ◌++◌, Result, Ok, Err, refl, sym, ap, inl, inr, ◌∙◌, subst}
 use Rattle.std.specs.Result.{OnOk, OnErr}
-use Rattle.claim_terms.specs.Terms.{IsTermsOf}
+use Rattle.claim_terms.specs.Terms.{IsTermsOf, ForTerms}
 use Rattle.settlement.specs.declared.acc.Acc.{Acc}
 use Rattle.settlement.specs.declared.claim.Claim.{Claim}
 use Rattle.journal.specs.Terms.{Terms}
@@ -13,7 +13,7 @@ use Rattle.turn_lock.specs.Ticket.{last_word}
 use Rattle.turn_lock.specs.TicketShown.{HasMet}
 use Rattle.turn_lock.specs.declared.ticket.view.Known.{Known as Seen}
 use Rattle.claim_gate.specs.Leading.{leads_itself}
-use Rattle.claim_gate.specs.Parts.{GateParts, ForTerms, at}
+use Rattle.claim_gate.specs.Parts.{GateParts, at}
 use Rattle.claim_gate.specs.Shared.{LeadsTo, IsLawful, Known, HadSection}
 
 -- what leads to another state as contracts see the two does so as journals see them

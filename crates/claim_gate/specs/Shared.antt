@@ -2,7 +2,8 @@
 use Rattle.std.specs.Prelude.{◌≡◌, ◌⊎◌, ◌+◌, ℕ, true}
 use Rattle.journal.specs.Gate.{GateAt, Continues}
 use Rattle.journal.specs.Lawful.{Lawful}
-use Rattle.claim_gate.specs.Parts.{GateParts, ForTerms, at}
+use Rattle.claim_terms.specs.Terms.{ForTerms}
+use Rattle.claim_gate.specs.Parts.{GateParts, at}
 
 -- the later state of a gate may come behind the earlier one: the same terms, a journal that goes on, and nothing after a stop
 pub record LeadsTo (earlier later : GateParts) : Type 0 where

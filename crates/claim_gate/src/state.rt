@@ -8,7 +8,8 @@ ghost use Rattle.journal.specs.Settled.{outcome_of};
 ghost use Rattle.journal.specs.declared.event.Event.TheVariants as events;
 ghost use Rattle.lanes.specs.Calls.{place_behind};
 ghost use Rattle.claim_gate.specs.Kept.{is_due};
-ghost use Rattle.claim_gate.specs.Parts.{ForTerms, at};
+ghost use Rattle.claim_terms.specs.Terms.{ForTerms};
+ghost use Rattle.claim_gate.specs.Parts.{at};
 ghost use Rattle.claim_gate.specs.Replies.{offer_reply, end_reply, take_reply, finish_reply, IsFiled, HasClaims, IsOver, IsWorkOf, first_journal};
 
 use crate::counts::Counts;

@@ -1,2 +1,3 @@
 pub mod Openings
 pub mod Files
+pub mod SomeTerms

@@ -13,6 +13,8 @@ use Rattle.intake_csv.specs.declared.balances.Balances.{Balances}
 use Rattle.intake_csv.specs.declared.column.Layout.{Layout}
 use Rattle.intake_csv.specs.declared.rows.Row.{Row}
 use Rattle.journal.specs.Terms.{Terms, opening}
+use Rattle.journal.specs.Lawful.{Finished}
+use Rattle.journal.specs.declared.event.Event.{Event}
 use Rattle.claim_terms.specs.declared.terms.TheConstants.{FILES_LIMIT}
 
 -- what a run is fixed over: the plan, the text of each provider's file, the members that have balances, with these, and how
@@ -44,6 +46,14 @@ pub record IsTermsOf (parts : TermsParts) (T : Terms) : Type 0 where
   pub files : AllZip (AreClaimsOf parts.plan.names) parts.files T.files
   pub openings : (member : List ℕ) → opening T.balances member ≡ opening parts.balances member
   pub cutoff : T.cutoff ≡ parts.cutoff
+
+-- for these terms, as journals see them: for each list of claims that the files' texts have
+abbrev pub ForTerms : TermsParts → (Terms → Type 0) → Type 0
+ForTerms parts P = (T : Terms) → IsTermsOf parts T → P T
+
+-- the journal is finished over these terms
+abbrev pub IsFinishedOver : TermsParts → List Event → Type 0
+IsFinishedOver parts J = ForTerms parts (λ T. Finished T J)
 
 -- the texts behind references
 abbrev pub texts_of : List (Bor (List ℕ)) → List (List ℕ)

@@ -14,7 +14,8 @@ use Rattle.journal.specs.Laws.{JobsStay}
 use Rattle.journal.specs.Settled.{outcome_of}
 use Rattle.journal.specs.declared.event.Event.{Event}
 use Rattle.claim_gate.specs.Leading.{leads_further}
-use Rattle.claim_gate.specs.Parts.{GateParts, ForTerms}
+use Rattle.claim_terms.specs.Terms.{ForTerms}
+use Rattle.claim_gate.specs.Parts.{GateParts}
 use Rattle.claim_gate.specs.Shared.{LeadsTo}
 use Rattle.claim_gate.specs.declared.job.Job.{Job}
 use Rattle.claim_gate.proofs.Sharing.{job_stays}

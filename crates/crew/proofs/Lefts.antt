@@ -8,9 +8,9 @@ use Rattle.intake_csv.specs.Rows.{AreRowsLeft, GivesRow, IsAtStart, RowsLeft, cl
 use Rattle.intake_csv.specs.declared.fault.RowFault.{RowFault}
 use Rattle.intake_csv.specs.declared.rows.Row.{Row}
 use Rattle.intake_csv.specs.declared.rows.Row.TheVariants.{Good, Bad}
-use Rattle.claim_terms.specs.Terms.{AreClaimsOf, IsTermsOf, TermsParts}
+use Rattle.claim_terms.specs.Terms.{AreClaimsOf, IsTermsOf, TermsParts, ForTerms}
 use Rattle.journal.specs.Terms.{Terms, claims_of}
-use Rattle.claim_gate.specs.Parts.{ForTerms, GateParts}
+use Rattle.claim_gate.specs.Parts.{GateParts}
 use Rattle.claim_gate.specs.Replies.{HasClaims}
 use Rattle.crew.specs.Sharing.{HasTaken}
 

@@ -2,5 +2,4 @@ pub mod Sections
 pub mod Journals
 pub mod Claims
 pub mod Lefts
-pub mod SomeTerms
 pub mod Held

@@ -2,7 +2,7 @@
 
 ghost use Rattle.std.specs.Prelude.{◌≡◌, ◌≤◌, ◌+◌, ◌<◌, ◌^◌, length, slice_get, Some, IfOk};
 ghost use Rattle.journal.specs.Terms.{claims_of};
-ghost use Rattle.claim_gate.specs.Parts.{ForTerms};
+ghost use Rattle.claim_terms.specs.Terms.{ForTerms};
 ghost use Rattle.crew.specs.Sharing.{HasTaken};
 
 use super::{offer, open};

@@ -4,9 +4,8 @@ use Rattle.std.specs.List.{All, AllZip}
 use Rattle.settlement.specs.declared.claim.Claim.{Claim}
 use Rattle.dtable.specs.declared.table.InputData.{InputData}
 use Rattle.intake_csv.specs.Rows.{claims_among}
-use Rattle.claim_terms.specs.Terms.{AreClaimsOf, AreTerms, IsClaimFile, TermsParts}
+use Rattle.claim_terms.specs.Terms.{AreClaimsOf, AreTerms, ForTerms, IsClaimFile, TermsParts}
 use Rattle.intake_csv.specs.Laws.{FilesHaveRows}
-use Rattle.claim_gate.specs.Parts.{ForTerms}
 
 -- the claims of a file
 record ClaimsOf (names : List InputData) (text : List ℕ) : Type 0 where
