@@ -15,7 +15,8 @@ use Rattle.lanes.specs.Places.{Place, is_decided, left_of, all_decided, phase_at
 use Rattle.lanes.specs.declared.phase.Phase.{Phase}
 use Rattle.lanes.specs.declared.phase.Phase.TheVariants.{Waiting, Ready, InWork, Decided}
 use Rattle.lanes.specs.Calls.{phase_behind, place_behind, with_phase, with_decision, NothingReady}
-use Rattle.journal.specs.Terms.{Terms, claims_of, opening}
+use Rattle.settlement.specs.Opening.{opening}
+use Rattle.journal.specs.Terms.{Terms, claims_of}
 use Rattle.journal.specs.Settled.{outcome_of, accumulated}
 use Rattle.journal.specs.Events.{accepted, places, closed, is_close, taken, decided, claim_filed, claims, claim_at, left_by, before, reached, due, IsJob}
 use Rattle.journal.specs.Lawful.{Lawful, closing}

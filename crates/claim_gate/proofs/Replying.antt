@@ -17,7 +17,8 @@ use Rattle.claim_terms.specs.Terms.{TermsParts, AreTerms, texts_of, ForTerms}
 use Rattle.lanes.specs.Places.{Place, is_decided, phase_at, InTurn}
 use Rattle.lanes.specs.declared.phase.Phase.TheVariants.{Ready, InWork}
 use Rattle.lanes.specs.Calls.{place_behind, with_phase, with_decision, NothingReady}
-use Rattle.journal.specs.Terms.{Terms, IsProvider, claims_of, opening}
+use Rattle.settlement.specs.Opening.{opening}
+use Rattle.journal.specs.Terms.{Terms, IsProvider, claims_of}
 use Rattle.journal.specs.Settled.{outcome_of, accumulated}
 use Rattle.journal.specs.Events.{accepted, place_in, places, closed, taken, decided, IsJob}
 use Rattle.journal.specs.Gate.{OfferReply, EndReply, TakeReply, Continues, GateAt, Offers, Ends, Takes, is_any_decision}

@@ -1,6 +1,7 @@
 //! The gate of one thread.
 ghost use Rattle.std.specs.Prelude.{◌≡◌, ◌+◌, ◌<◌, ◌≤◌, ◌≢◌, ◌↔◌, ◌++◌, ◌∷◌, [], true, false, cond, IsTrue, length, vec_len, vec_capacity, IfOk, IfErr, OnOk, OnErr};
-ghost use Rattle.journal.specs.Terms.{Terms as AnyTerms, opening};
+ghost use Rattle.settlement.specs.Opening.{opening};
+ghost use Rattle.journal.specs.Terms.{Terms as AnyTerms};
 ghost use Rattle.journal.specs.Events.{places, ended, closed, taken, decided, reached, IsJob};
 ghost use Rattle.journal.specs.Gate.{Continues, Offers, Ends, Takes, Finishes, Stops, Counts as AreCounts};
 ghost use Rattle.journal.specs.Lawful.{Lawful};
