@@ -9,13 +9,13 @@ use Rattle.settlement.specs.declared.outcome.Outcome.{Outcome}
 use Rattle.intake_csv.specs.Laws.{ClaimsHaveFields}
 use Rattle.journal.specs.Terms.{Terms}
 use Rattle.journal.specs.Events.{closed, decided, ended, is_decide, place_in, places, taken}
-use Rattle.journal.specs.Gate.{GateAt, Continues, OfferReply, Offers, EndReply, Ends, TakeReply, Takes, FinishReply, Finishes}
+use Rattle.journal.specs.Gate.{GateAt, Continues, OfferReply, Offers, EndReply, Ends, TakeReply, Takes, FinishReply, Finishes, LeadsTo}
 use Rattle.journal.specs.Lawful.{Finished, closing}
 use Rattle.journal.specs.declared.event.Event.{Event}
 use Rattle.journal.specs.declared.event.Event.TheVariants.{Accept, End, Take, Decide}
-use Rattle.claim_gate.specs.Leading.{leads_further}
+use Rattle.journal.specs.Leading.{leads_further}
 use Rattle.claim_gate.specs.Parts.{at}
-use Rattle.claim_gate.specs.Shared.{LeadsTo, Known, HadSection, Went}
+use Rattle.claim_gate.specs.Shared.{Known, HadSection, Went}
 use Rattle.claim_gate.specs.Replies.{end_reply, finish_reply, offer_reply}
 use Rattle.claim_gate.specs.declared.fault.EndFault.{EndFault}
 use Rattle.claim_gate.specs.declared.fault.EndFault.TheVariants as end

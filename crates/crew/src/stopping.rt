@@ -1,6 +1,6 @@
 //! How a thread that can't go on ends the run.
 ghost use Rattle.std.specs.Prelude.{◌≡◌, ◌⊎◌, true};
-ghost use Rattle.claim_gate.specs.Shared.{LeadsTo};
+ghost use Rattle.journal.specs.Gate.{LeadsTo};
 
 use claim_gate::Gate;
 use claim_terms::{Terms, terms_are_seen};

@@ -2,7 +2,7 @@
 ghost use Rattle.std.specs.Prelude.{◌≡◌, ◌≢◌, ◌↔◌, ◌<◌, ◌≤◌, ◌+◌, true, IsTrue, length, IfOk, IfErr, OnOk};
 ghost use Rattle.journal.specs.Lawful.{Finished};
 ghost use Rattle.claim_terms.specs.Terms.{ForTerms};
-ghost use Rattle.claim_gate.specs.Shared.{LeadsTo};
+ghost use Rattle.journal.specs.Gate.{LeadsTo};
 ghost use Rattle.crew.specs.Workers.{IsWorkerCount};
 ghost use Rattle.crew.specs.declared.fault.RunFault.TheVariants.{Workers, Stopped};
 

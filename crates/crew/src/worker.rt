@@ -5,7 +5,7 @@ ghost use Rattle.settlement.specs.Claim.{IsClaimOf};
 ghost use Rattle.journal.specs.Events.{decided};
 ghost use Rattle.journal.specs.Lawful.{Finished};
 ghost use Rattle.claim_terms.specs.Terms.{ForTerms};
-ghost use Rattle.claim_gate.specs.Shared.{LeadsTo};
+ghost use Rattle.journal.specs.Gate.{LeadsTo};
 ghost use Rattle.crew.specs.Sharing.{IsGathered, IsHanded, IsInWork, IsSettledIn, IsTask, settled_by};
 ghost use Rattle.crew.specs.declared.fault.RunFault.TheVariants.{Workers, Stopped};
 

@@ -2,7 +2,7 @@
 ghost use Rattle.std.specs.Prelude.{◌≡◌, IfOk};
 ghost use Rattle.claim_terms.specs.Terms.{ForTerms};
 ghost use Rattle.claim_gate.specs.Replies.{HasClaims, IsFiled};
-ghost use Rattle.claim_gate.specs.Shared.{LeadsTo};
+ghost use Rattle.journal.specs.Gate.{LeadsTo};
 ghost use Rattle.claim_gate.specs.Worked.{IsAtWork, IsCaller, IsSpelled};
 
 use super::calls::settled;
