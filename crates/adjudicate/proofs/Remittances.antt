@@ -11,19 +11,19 @@ use Rattle.dtable.specs.declared.plan_fault.PlanFault.{PlanFault}
 use Rattle.settlement.specs.declared.claim.Claim.{Claim}
 use Rattle.intake_csv.specs.Columns.{claim_columns}
 use Rattle.intake_csv.specs.Laws.{HaveDistinctNames, PlansNeedDistinctNames}
-use Rattle.intake_csv.specs.Rows.{AreRowsOf}
+use Rattle.intake_csv.specs.Rows.{AreRowsOf, claims_among}
 use Rattle.intake_csv.specs.declared.rows.Row.{Row}
 use Rattle.journal.specs.declared.event.Event.{Event}
 use Rattle.journal.specs.Terms.{Terms}
 use Rattle.claim_terms.specs.Fault.{HasTermsFault}
-use Rattle.claim_terms.specs.Terms.{AreClaimsOf, IsTermsOf, TermsParts, claims_among}
+use Rattle.claim_terms.specs.Terms.{AreClaimsOf, ForTerms, IsFinishedOver, IsTermsOf, TermsParts}
 use Rattle.claim_terms.specs.declared.fault.TermsFault.{TermsFault}
 use Rattle.claim_terms.specs.declared.fault.TermsFault.TheVariants as terms
 use Rattle.crew.specs.Workers.{IsWorkerCount}
 use Rattle.crew.specs.declared.fault.RunFault.{RunFault}
 use Rattle.crew.specs.declared.fault.RunFault.TheVariants as run
 use Rattle.remit.specs.Report.{IsReport, report_records, text_of}
-use Rattle.remit.specs.Writing.{IsFinishedOver, WritesFront, WritesReport}
+use Rattle.remit.specs.Writing.{WritesFront, WritesReport}
 use Rattle.remit.specs.declared.fault.WriteFault.{WriteFault}
 use Rattle.adjudicate.specs.declared.stop.Stop.{Stop}
 use Rattle.adjudicate.specs.declared.stop.Stop.TheVariants as stop
@@ -69,13 +69,13 @@ module _ (parts : TermsParts) (J : List Event) (finished : IsFinishedOver parts 
   writes_remittance w = record { text = w.bytes; is_text = remittance_of w.bytes w.is_report; appended = w.appended }
 
   -- terms that journals can see have a report
-  some_report : ¬ ((T : Terms) → IsTermsOf parts T → ⊥) → ¬ ((report : List ℕ) → ¬ IsReport parts J report)
+  some_report : ¬ ForTerms parts (λ T. ⊥) → ¬ ((report : List ℕ) → ¬ IsReport parts J report)
   some_report seen none = seen (λ T are.
       let rows = rows_of_claims parts.plan.names parts.files T.files are.files in
       none (text_of (report_records J rows.files)) (record { files = rows.files; are_rows = rows.are_rows; bytes_are = refl }))
 
   -- the front of a report is that of the remittance
-  writes_front : (written : ℕ) → HaveDistinctNames (claim_columns parts.plan.names) → ¬ ((T : Terms) → IsTermsOf parts T → ⊥)
+  writes_front : (written : ℕ) → HaveDistinctNames (claim_columns parts.plan.names) → ¬ ForTerms parts (λ T. ⊥)
       → WritesFront parts J written old new → WritesRemittanceFront parts old new written
   writes_front written distinct seen w = record {
     journal = J;
@@ -88,7 +88,7 @@ module _ (parts : TermsParts) (J : List Event) (finished : IsFinishedOver parts 
   }
 
   -- so a report that ends early ends the remittance
-  pub stops_by_write : (workers : ℕ) (fault : WriteFault) (s : Stop) → HaveDistinctNames (claim_columns parts.plan.names) → ¬ ((T : Terms) → IsTermsOf parts T → ⊥)
+  pub stops_by_write : (workers : ℕ) (fault : WriteFault) (s : Stop) → HaveDistinctNames (claim_columns parts.plan.names) → ¬ ForTerms parts (λ T. ⊥)
       → WritesFront parts J fault.written old new → IsStopOfWrite fault s → StopsRemittance parts workers old new s
   stops_by_write workers fault (stop.Write written) distinct seen w made = rw made.0 (writes_front fault.written distinct seen w)
   stops_by_write workers fault stop.NoMemory distinct seen w made = inr (fault.written, writes_front fault.written distinct seen w)

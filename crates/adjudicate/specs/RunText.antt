@@ -6,9 +6,8 @@ use Rattle.dtable.specs.PlanFile.{IsPlanText}
 use Rattle.journal.specs.declared.event.Event.{Event}
 use Rattle.journal.specs.Lawful.{Finished}
 use Rattle.journal.specs.Terms.{Terms}
-use Rattle.claim_terms.specs.Terms.{AreTermsOf, IsTermsOf, TermsParts, text_in, texts_of}
+use Rattle.claim_terms.specs.Terms.{AreTermsOf, IsFinishedOver, IsTermsOf, TermsParts, text_in, texts_of}
 use Rattle.remit.specs.Report.{IsReport}
-use Rattle.remit.specs.Writing.{IsFinishedOver}
 use Rattle.adjudicate.specs.declared.run.RunInput.{RunInput}
 
 -- what the remittance of a run is made from: the text of the plan, that of the balances, if there is one, those of the providers'

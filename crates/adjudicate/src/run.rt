@@ -10,8 +10,7 @@ ghost use Rattle.adjudicate.specs.RunStop.{IsRunReason, StopsRemittance, WritesR
 ghost use Rattle.adjudicate.specs.Stop.{WritesText, failed_after};
 
 use crate::stop::Stop;
-use claim_terms::Terms;
-use crew::terms_are_seen;
+use claim_terms::{Terms, terms_are_seen};
 use dtable::read_plan;
 use fixpoint::Out;
 use intake_csv::plans_need_distinct_names;

@@ -7,7 +7,7 @@ use Rattle.std.proofs.lemmas.List.{length-replicate, get_or-replicate}
 use Rattle.std.proofs.lemmas.List.Folds.{sum_by-replicate}
 use Rattle.std.proofs.lemmas.List.Sums.{sum_by_push}
 use Rattle.std.proofs.lemmas.Option.{none-some, slice_get_within}
-use Rattle.claim_terms.specs.Terms.{TermsParts, IsTermsOf}
+use Rattle.claim_terms.specs.Terms.{TermsParts, IsTermsOf, ForTerms}
 use Rattle.settlement.specs.declared.acc.Acc.{Acc}
 use Rattle.settlement.specs.declared.claim.Claim.{Claim}
 use Rattle.settlement.specs.declared.outcome.Outcome.{Outcome}
@@ -15,7 +15,8 @@ use Rattle.lanes.specs.Places.{Place, is_decided, left_of, all_decided, phase_at
 use Rattle.lanes.specs.declared.phase.Phase.{Phase}
 use Rattle.lanes.specs.declared.phase.Phase.TheVariants.{Waiting, Ready, InWork, Decided}
 use Rattle.lanes.specs.Calls.{phase_behind, place_behind, with_phase, with_decision, NothingReady}
-use Rattle.journal.specs.Terms.{Terms, claims_of, opening}
+use Rattle.settlement.specs.Opening.{opening}
+use Rattle.journal.specs.Terms.{Terms, claims_of}
 use Rattle.journal.specs.Settled.{outcome_of, accumulated}
 use Rattle.journal.specs.Events.{accepted, places, closed, is_close, taken, decided, claim_filed, claims, claim_at, left_by, before, reached, due, IsJob}
 use Rattle.journal.specs.Lawful.{Lawful, closing}
@@ -26,7 +27,6 @@ use Rattle.journal.specs.declared.event.Event.TheVariants.{Accept, End, Close, T
 use Rattle.claim_gate.specs.declared.intakes.Intake.{Intake}
 use Rattle.claim_gate.specs.Intakes.{no_intake, none_yet, intake_of, with_accept, with_end}
 use Rattle.claim_gate.specs.Kept.{is_begun, AreMarked, ArePlacesOf, IsIntakeOf, AreIntakesOf, IsKept, is_due}
-use Rattle.claim_gate.specs.Parts.{ForTerms}
 use Rattle.claim_gate.specs.Replies.{HasClaims, IsOver, first_journal}
 use Rattle.claim_gate.proofs.Claims.{places_stay_claims, places_accept, places_take, own_leaves}
 use Rattle.claim_gate.proofs.Decisions.{places_decision}

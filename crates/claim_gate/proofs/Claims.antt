@@ -15,7 +15,8 @@ use Rattle.lanes.specs.Places.{Place, is_of, is_decided, left_in, left_by, left_
 use Rattle.lanes.specs.declared.phase.Phase.{Phase}
 use Rattle.lanes.specs.declared.phase.Phase.TheVariants.{Waiting, Ready, InWork, Decided}
 use Rattle.lanes.specs.Calls.{place_behind, with_phase}
-use Rattle.journal.specs.Terms.{Terms, opening}
+use Rattle.settlement.specs.Opening.{opening}
+use Rattle.journal.specs.Terms.{Terms}
 use Rattle.journal.specs.Settled.{outcome_of, accumulated}
 use Rattle.journal.specs.Events.{accepted, claims, claim_at, before, left_by as journal_left_by}
 use Rattle.journal.specs.declared.event.Event.{Event}

@@ -8,18 +8,18 @@ use Rattle.std.proofs.lemmas.List.Folds.{list_any-append}
 use Rattle.settlement.specs.declared.claim.Claim.{Claim}
 use Rattle.intake_csv.specs.Columns.{claim_columns}
 use Rattle.intake_csv.specs.Laws.{StartHasTheRows, PlansNeedDistinctNames, ColumnsStandApart, GivenRowIsTheFirst, NoRecordsNoRows, StandApart}
-use Rattle.intake_csv.specs.Rows.{GivesRow, IsAtStart, RowsLeft}
+use Rattle.intake_csv.specs.Rows.{GivesRow, IsAtStart, RowsLeft, claims_among}
 use Rattle.intake_csv.specs.declared.rows.Row.TheVariants.{Good}
-use Rattle.claim_terms.specs.Terms.{TermsParts, AreClaimsOf, IsTermsOf, claims_among, texts_of}
+use Rattle.claim_terms.specs.Terms.{TermsParts, AreClaimsOf, IsTermsOf, texts_of, ForTerms}
 use Rattle.journal.specs.Terms.{Terms, claims_of}
 use Rattle.journal.specs.Events.{is_take, taken, IsJob}
-use Rattle.journal.specs.Gate.{GateAt, Continues, TakeReply, Takes}
+use Rattle.journal.specs.Gate.{GateAt, Continues, TakeReply, Takes, LeadsTo}
 use Rattle.journal.specs.Laws.{JobsStay}
 use Rattle.journal.specs.declared.event.Event.{Event}
 use Rattle.journal.specs.declared.event.Event.TheVariants.{Take}
-use Rattle.claim_gate.specs.Parts.{GateParts, ForTerms}
+use Rattle.claim_gate.specs.Parts.{GateParts}
 use Rattle.claim_gate.specs.Replies.{HasClaims, IsWorkOf}
-use Rattle.claim_gate.specs.Shared.{Known, LeadsTo, Went}
+use Rattle.claim_gate.specs.Shared.{Known, Went}
 use Rattle.claim_gate.specs.Worked.{IsReader, IsSpelled, IsAtWork, WorkStays}
 use Rattle.claim_gate.specs.declared.job.Job.{Job}
 use Rattle.claim_gate.specs.declared.reply.Taken.TheVariants.{Work}

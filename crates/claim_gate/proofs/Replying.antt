@@ -13,11 +13,12 @@ use Rattle.settlement.specs.declared.acc.Acc.{Acc}
 use Rattle.settlement.specs.declared.claim.Claim.{Claim}
 use Rattle.settlement.specs.declared.outcome.Outcome.{Outcome}
 use Rattle.dtable.specs.Plan.{PlanParts}
-use Rattle.claim_terms.specs.Terms.{TermsParts, AreTerms, texts_of}
+use Rattle.claim_terms.specs.Terms.{TermsParts, AreTerms, texts_of, ForTerms}
 use Rattle.lanes.specs.Places.{Place, is_decided, phase_at, InTurn}
 use Rattle.lanes.specs.declared.phase.Phase.TheVariants.{Ready, InWork}
 use Rattle.lanes.specs.Calls.{place_behind, with_phase, with_decision, NothingReady}
-use Rattle.journal.specs.Terms.{Terms, IsProvider, claims_of, opening}
+use Rattle.settlement.specs.Opening.{opening}
+use Rattle.journal.specs.Terms.{Terms, IsProvider, claims_of}
 use Rattle.journal.specs.Settled.{outcome_of, accumulated}
 use Rattle.journal.specs.Events.{accepted, place_in, places, closed, taken, decided, IsJob}
 use Rattle.journal.specs.Gate.{OfferReply, EndReply, TakeReply, Continues, GateAt, Offers, Ends, Takes, is_any_decision}
@@ -31,7 +32,7 @@ use Rattle.claim_gate.specs.declared.offer.Offer.{Offer}
 use Rattle.claim_gate.specs.declared.state.GateState.TheInside.{Inside}
 use Rattle.claim_gate.specs.Intakes.{no_intake, none_yet, intake_of, with_accept, with_end}
 use Rattle.claim_gate.specs.Kept.{AreIntakesOf, AreMarked, IsKept, is_due}
-use Rattle.claim_gate.specs.Parts.{GateParts, ForTerms, at}
+use Rattle.claim_gate.specs.Parts.{GateParts, at}
 use Rattle.claim_gate.specs.Replies.{HasClaims, IsFiled, IsOver, first_journal}
 use Rattle.claim_gate.proofs.Calls.{closed_where, offer_accepted, kept_accept, end_ended, kept_end, first_is, kept_start, take_work, kept_take, take_over, take_nothing, kept_decision}
 use Rattle.claim_gate.proofs.Claims.{nowhere}

@@ -1,30 +1,24 @@
 -- Calls of a gate behind a lock, by those of the gate of one thread.
 use Rattle.std.proofs.Common.{◌≡◌, ◌+◌, ℕ, max, true, ◌∷◌, [], ◌++◌, Result, Ok, Err, refl, sym, ap, inl, inr, ◌∙◌, subst}
 use Rattle.std.specs.Result.{OnOk, OnErr}
-use Rattle.claim_terms.specs.Terms.{IsTermsOf}
+use Rattle.claim_terms.specs.Terms.{ForTerms, IsTermsOf, TermsParts}
 use Rattle.settlement.specs.declared.acc.Acc.{Acc}
 use Rattle.settlement.specs.declared.claim.Claim.{Claim}
 use Rattle.journal.specs.Terms.{Terms}
 use Rattle.journal.specs.Events.{IsJob}
-use Rattle.journal.specs.Gate.{Leads}
+use Rattle.journal.specs.Gate.{LeadsTo}
 use Rattle.journal.specs.Laws.{JobsStay}
 use Rattle.journal.specs.declared.event.Event.{Event}
 use Rattle.turn_lock.specs.Ticket.{last_word}
 use Rattle.turn_lock.specs.TicketShown.{HasMet}
 use Rattle.turn_lock.specs.declared.ticket.view.Known.{Known as Seen}
-use Rattle.claim_gate.specs.Leading.{leads_itself}
-use Rattle.claim_gate.specs.Parts.{GateParts, ForTerms, at}
-use Rattle.claim_gate.specs.Shared.{LeadsTo, IsLawful, Known, HadSection}
+use Rattle.journal.specs.Leading.{leads_itself}
+use Rattle.claim_gate.specs.Parts.{GateParts, at}
+use Rattle.claim_gate.specs.Shared.{HadSection, HaveMet, IsLawful, Known}
 
 -- what leads to another state as contracts see the two does so as journals see them
-pub leads_at : (T : Terms) (earlier later : GateParts) → LeadsTo earlier later → Leads (at T earlier) (at T later)
-leads_at T earlier later leads = record {
-  terms = refl;
-  journal = leads.journal;
-  stop = λ stopped.
-      let same : later ≡ earlier = leads.stop stopped in
-      record { stays = ap (λ gate. gate.stopped) same ∙ stopped; journal = ap (λ gate. gate.journal) same };
-}
+pub leads_at : (T : Terms) (earlier later : GateParts) → LeadsTo earlier later → LeadsTo (at T earlier) (at T later)
+leads_at T earlier later leads = record { terms = refl; journal = leads.journal; stop = λ stopped. ap (at T) (leads.stop stopped) }
 
 -- a job that the caller has seen is one in the state that is found
 pub job_stays :
@@ -62,4 +56,12 @@ met_worn leads one other both met worn behind =
     elim met [
       | inl is ↦ ap (λ k. k.next) is.1 ∙ greater
       | inr is ↦ ap (λ k. k.next) is.1 ∙ greater
+    ]
+
+-- passes that have met have seen the terms that both had
+pub met_terms : (first second both : Known) (parts : TermsParts) → HaveMet first second both → first.seen.terms ≡ parts → second.seen.terms ≡ parts → both.seen.terms ≡ parts
+met_terms first second both parts met one other =
+    elim met.later [
+      | inl same ↦ ap (λ (g : GateParts). g.terms) same.0 ∙ one
+      | inr same ↦ ap (λ (g : GateParts). g.terms) same.0 ∙ other
     ]

@@ -2,7 +2,7 @@
 use Rattle.std.specs.Prelude.{◌≡◌, ◌<◌, ℕ, suc, ◌||◌, Bool, true, false, List, length, count_by, get_or, slice_get, Some}
 use Rattle.std.specs.List.{list_all}
 use Rattle.std.specs.Option.{option_map_or}
-use Rattle.claim_terms.specs.Terms.{TermsParts}
+use Rattle.claim_terms.specs.Terms.{TermsParts, ForTerms}
 use Rattle.settlement.specs.declared.acc.Acc.{Acc}
 use Rattle.settlement.specs.declared.claim.Claim.{Claim}
 use Rattle.lanes.specs.Places.{Place, is_decided, phase_at}
@@ -16,7 +16,6 @@ use Rattle.journal.specs.Gate.{is_any_end, is_any_decision}
 use Rattle.journal.specs.declared.event.Event.{Event}
 use Rattle.claim_gate.specs.declared.intakes.Intake.{Intake}
 use Rattle.claim_gate.specs.Intakes.{no_intake}
-use Rattle.claim_gate.specs.Parts.{ForTerms}
 
 -- the claim is taken
 abbrev pub is_begun : Phase → Bool

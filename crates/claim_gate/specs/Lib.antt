@@ -4,6 +4,5 @@ pub mod Kept
 pub mod Replies
 pub mod FaultNumber
 pub mod Shared
-pub mod Leading
 pub mod Locked
 pub mod Worked

@@ -1,14 +1,9 @@
 -- A gate that several callers share: what one of them knows of it, and what a call tells.
-use Rattle.std.specs.Prelude.{◌≡◌, ◌⊎◌, ◌+◌, ℕ, true}
-use Rattle.journal.specs.Gate.{GateAt, Continues}
+use Rattle.std.specs.Prelude.{◌≡◌, ◌⊎◌, ◌+◌, ℕ}
+use Rattle.journal.specs.Gate.{GateAt, LeadsTo}
 use Rattle.journal.specs.Lawful.{Lawful}
-use Rattle.claim_gate.specs.Parts.{GateParts, ForTerms, at}
-
--- the later state of a gate may come behind the earlier one: the same terms, a journal that goes on, and nothing after a stop
-pub record LeadsTo (earlier later : GateParts) : Type 0 where
-  pub terms : later.terms ≡ earlier.terms
-  pub journal : Continues earlier.journal later.journal
-  pub stop : earlier.stopped ≡ true → later ≡ earlier
+use Rattle.claim_terms.specs.Terms.{ForTerms}
+use Rattle.claim_gate.specs.Parts.{GateParts, at}
 
 -- its journal is lawful
 abbrev pub IsLawful : GateParts → Type 0

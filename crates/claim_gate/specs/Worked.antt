@@ -4,12 +4,12 @@ use Rattle.dtable.specs.Plan.{PlanParts}
 use Rattle.dtable.specs.PlanFile.{IsPlanText}
 use Rattle.settlement.specs.declared.claim.Claim.{Claim}
 use Rattle.intake_csv.specs.Laws.{StandApart}
-use Rattle.intake_csv.specs.Rows.{AreRowsLeft, RowsLeft}
+use Rattle.intake_csv.specs.Rows.{AreRowsLeft, RowsLeft, claims_among}
 use Rattle.intake_csv.specs.declared.rows.Row.{Row}
-use Rattle.claim_terms.specs.Terms.{TermsParts, claims_among}
+use Rattle.claim_terms.specs.Terms.{TermsParts, ForTerms}
 use Rattle.journal.specs.Terms.{Terms, IsProvider, claims_of}
 use Rattle.journal.specs.Events.{taken, IsJob}
-use Rattle.claim_gate.specs.Parts.{GateParts, ForTerms}
+use Rattle.claim_gate.specs.Parts.{GateParts}
 use Rattle.claim_gate.specs.Shared.{Known}
 use Rattle.claim_gate.specs.declared.job.Job.{Job}
 

@@ -1,7 +1,7 @@
 //! Finished runs.
 ghost use Rattle.std.specs.Prelude.{◌≡◌, IfOk, IfErr};
 ghost use Rattle.journal.specs.Lawful.{Finished};
-ghost use Rattle.claim_gate.specs.Parts.{ForTerms};
+ghost use Rattle.claim_terms.specs.Terms.{ForTerms};
 
 use crate::state::GateState;
 use claim_terms::Terms;
@@ -16,7 +16,8 @@ pub struct Batch<'t> {
 }
 
 impl<'t> Model for Batch<'t> {
-    ghost use Rattle.claim_gate.specs.Parts.{BatchParts, ForTerms};
+    ghost use Rattle.claim_terms.specs.Terms.{ForTerms};
+    ghost use Rattle.claim_gate.specs.Parts.{BatchParts};
     ghost use Rattle.journal.specs.Lawful.{Finished};
 
     ghost Value = { BatchParts };

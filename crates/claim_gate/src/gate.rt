@@ -19,7 +19,8 @@ pub trait Gate {
     ghost use Rattle.journal.specs.Events.{taken, IsJob};
     ghost use Rattle.journal.specs.Gate.{Offers, Ends, Takes, Finishes, Stops, Counts as AreCounts};
     ghost use Rattle.journal.specs.Settled.{outcome_of};
-    ghost use Rattle.claim_gate.specs.Parts.{ForTerms, at};
+    ghost use Rattle.claim_terms.specs.Terms.{ForTerms};
+    ghost use Rattle.claim_gate.specs.Parts.{at};
     ghost use Rattle.claim_gate.specs.Replies.{offer_reply, end_reply, take_reply, finish_reply, IsFiled, HasClaims, IsWorkOf};
     ghost use Rattle.claim_gate.specs.Shared.{Known, HadSection, Went};
 

@@ -1,6 +1,7 @@
 //! The gate behind a lock.
 ghost use Rattle.std.specs.Prelude.{◌≡◌, IfOk, IfErr, IsErr};
-ghost use Rattle.claim_gate.specs.Shared.{IsLawful, LeadsTo};
+ghost use Rattle.journal.specs.Gate.{LeadsTo};
+ghost use Rattle.claim_gate.specs.Shared.{IsLawful};
 ghost use Rattle.claim_gate.specs.Locked.{lock_of, known_by};
 
 use crate::counts::Counts;

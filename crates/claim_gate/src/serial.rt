@@ -11,8 +11,8 @@ use settlement::Outcome;
 use turn_lock::Growing;
 
 impl<'t> Growing for GateState<'t> {
-    ghost use Rattle.claim_gate.specs.Shared.{LeadsTo};
-    ghost use Rattle.claim_gate.specs.Leading.{leads_itself, leads_further, leads_either};
+    ghost use Rattle.journal.specs.Gate.{LeadsTo};
+    ghost use Rattle.journal.specs.Leading.{leads_either, leads_further, leads_itself};
 
     ghost leads = { LeadsTo };
 
@@ -31,9 +31,11 @@ pub trait SerialGate: Growing {
     ghost use Rattle.journal.specs.Events.{taken, IsJob};
     ghost use Rattle.journal.specs.Gate.{Offers, Ends, Takes, Finishes, Counts as AreCounts};
     ghost use Rattle.journal.specs.Settled.{outcome_of};
-    ghost use Rattle.claim_gate.specs.Parts.{GateParts, ForTerms, at};
+    ghost use Rattle.claim_terms.specs.Terms.{ForTerms};
+    ghost use Rattle.claim_gate.specs.Parts.{GateParts, at};
     ghost use Rattle.claim_gate.specs.Replies.{offer_reply, end_reply, take_reply, finish_reply, IsFiled, HasClaims, IsWorkOf};
-    ghost use Rattle.claim_gate.specs.Shared.{IsLawful, LeadsTo};
+    ghost use Rattle.journal.specs.Gate.{LeadsTo};
+    ghost use Rattle.claim_gate.specs.Shared.{IsLawful};
 
     // Its terms, its journal, and whether it is stopped.
     ghost shown: { Self → GateParts };

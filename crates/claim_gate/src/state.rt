@@ -1,6 +1,7 @@
 //! The gate of one thread.
 ghost use Rattle.std.specs.Prelude.{◌≡◌, ◌+◌, ◌<◌, ◌≤◌, ◌≢◌, ◌↔◌, ◌++◌, ◌∷◌, [], true, false, cond, IsTrue, length, vec_len, vec_capacity, IfOk, IfErr, OnOk, OnErr};
-ghost use Rattle.journal.specs.Terms.{Terms as AnyTerms, opening};
+ghost use Rattle.settlement.specs.Opening.{opening};
+ghost use Rattle.journal.specs.Terms.{Terms as AnyTerms};
 ghost use Rattle.journal.specs.Events.{places, ended, closed, taken, decided, reached, IsJob};
 ghost use Rattle.journal.specs.Gate.{Continues, Offers, Ends, Takes, Finishes, Stops, Counts as AreCounts};
 ghost use Rattle.journal.specs.Lawful.{Lawful};
@@ -8,7 +9,8 @@ ghost use Rattle.journal.specs.Settled.{outcome_of};
 ghost use Rattle.journal.specs.declared.event.Event.TheVariants as events;
 ghost use Rattle.lanes.specs.Calls.{place_behind};
 ghost use Rattle.claim_gate.specs.Kept.{is_due};
-ghost use Rattle.claim_gate.specs.Parts.{ForTerms, at};
+ghost use Rattle.claim_terms.specs.Terms.{ForTerms};
+ghost use Rattle.claim_gate.specs.Parts.{at};
 ghost use Rattle.claim_gate.specs.Replies.{offer_reply, end_reply, take_reply, finish_reply, IsFiled, HasClaims, IsOver, IsWorkOf, first_journal};
 
 use crate::counts::Counts;

@@ -1,2 +1,2 @@
-pub mod Openings
 pub mod Files
+pub mod SomeTerms

@@ -1,5 +1,5 @@
 -- What a run is fixed over: as texts, as the code keeps it, and as journals see it.
-use Rattle.std.specs.Prelude.{◌≡◌, ◌≤◌, ℕ, List, [], ◌∷◌, flat_map, length, map, option_map, string_bytes, Option, Some, None, IsSome}
+use Rattle.std.specs.Prelude.{◌≡◌, ◌≤◌, ℕ, List, [], length, map, option_map, Option, Some, None, IsSome}
 use Rattle.std.specs.Borrow.{Bor}
 use Rattle.std.specs.List.{All, AllZip}
 use Rattle.dtable.specs.Plan.{PlanParts}
@@ -7,13 +7,14 @@ use Rattle.dtable.specs.declared.table.InputData.{InputData}
 use Rattle.settlement.specs.declared.claim.Claim.{Claim}
 use Rattle.intake_csv.specs.Records.{Fields}
 use Rattle.intake_csv.specs.Columns.{IsSheet, claim_columns}
-use Rattle.intake_csv.specs.Rows.{AreRowsOf}
-use Rattle.intake_csv.specs.Balances.{AreBalances, Entry, balance_of}
-use Rattle.intake_csv.specs.declared.balances.Balances.{Balances}
+use Rattle.intake_csv.specs.Rows.{AreRowsOf, claims_among}
+use Rattle.intake_csv.specs.Balances.{AreBalances, Entry}
 use Rattle.intake_csv.specs.declared.column.Layout.{Layout}
 use Rattle.intake_csv.specs.declared.rows.Row.{Row}
-use Rattle.intake_csv.specs.declared.rows.Row.TheVariants.{Good, Bad}
-use Rattle.journal.specs.Terms.{Terms, opening}
+use Rattle.settlement.specs.Opening.{opening}
+use Rattle.journal.specs.Terms.{Terms}
+use Rattle.journal.specs.Lawful.{Finished}
+use Rattle.journal.specs.declared.event.Event.{Event}
 use Rattle.claim_terms.specs.declared.terms.TheConstants.{FILES_LIMIT}
 
 -- what a run is fixed over: the plan, the text of each provider's file, the members that have balances, with these, and how
@@ -23,23 +24,6 @@ pub record TermsParts : Type 0 where
   pub files : List (List ℕ)
   pub balances : List Entry
   pub cutoff : Option ℕ
-
--- the members that balances name, with theirs
-abbrev pub entries_of : Balances → List Entry
-entries_of balances = map (λ e. (string_bytes e.0, e.1)) balances.accounts.entries
-
--- the same where there may be no balances
-abbrev pub entries_in : Option Balances → List Entry
-entries_in None = []
-entries_in (Some balances) = entries_of balances
-
-abbrev pub claim_in : Row → List Claim
-claim_in (Good number place claim) = claim ∷ []
-claim_in (Bad number fault) = []
-
--- the claims among rows, in order
-abbrev pub claims_among : List Row → List Claim
-claims_among rows = flat_map claim_in rows
 
 -- the claims of a file: those among its rows
 pub record AreClaimsOf (names : List InputData) (text : List ℕ) (claims : List Claim) : Type 0 where
@@ -53,6 +37,14 @@ pub record IsTermsOf (parts : TermsParts) (T : Terms) : Type 0 where
   pub files : AllZip (AreClaimsOf parts.plan.names) parts.files T.files
   pub openings : (member : List ℕ) → opening T.balances member ≡ opening parts.balances member
   pub cutoff : T.cutoff ≡ parts.cutoff
+
+-- for these terms, as journals see them: for each list of claims that the files' texts have
+abbrev pub ForTerms : TermsParts → (Terms → Type 0) → Type 0
+ForTerms parts P = (T : Terms) → IsTermsOf parts T → P T
+
+-- the journal is finished over these terms
+abbrev pub IsFinishedOver : TermsParts → List Event → Type 0
+IsFinishedOver parts J = ForTerms parts (λ T. Finished T J)
 
 -- the texts behind references
 abbrev pub texts_of : List (Bor (List ℕ)) → List (List ℕ)
@@ -79,16 +71,10 @@ pub record AreTerms (parts : TermsParts) : Type 0 where
   pub count : IsFileCount (length parts.files)
   pub files : All (IsClaimFile parts.plan.names) parts.files
 
--- the text is a file of balances, and a member begins with what it has of the member
-pub record HoldsBalances (text : List ℕ) (entries : List Entry) : Type 0 where
-  pub balances : Balances
-  pub read : AreBalances text balances
-  pub given : (member : List ℕ) → opening entries member ≡ balance_of balances member
-
 -- the balances of a text; without a text there are none
 abbrev pub AreBalancesOf : Option (List ℕ) → List Entry → Type 0
 AreBalancesOf None entries = entries ≡ []
-AreBalancesOf (Some text) entries = HoldsBalances text entries
+AreBalancesOf (Some text) entries = AreBalances text entries
 
 -- the terms of a plan, of the files' texts, of the text of the balances, if there is one, and of a cutoff
 pub record AreTermsOf (plan : PlanParts) (files : List (List ℕ)) (balances : Option (List ℕ)) (cutoff : Option ℕ) (parts : TermsParts) : Type 0 where

@@ -8,9 +8,11 @@
 #![tactic(auto)]
 
 mod fault;
+mod laws;
 mod terms;
 #[cfg(test)]
 mod tests;
 
 pub use fault::TermsFault;
+pub use laws::terms_are_seen;
 pub use terms::{FILES_LIMIT, Terms};

@@ -1,9 +1,10 @@
 //! Terms: what a run is fixed over.
-ghost use Rattle.std.specs.Prelude.{◌≡◌, length, IfOk, IfErr, OnOk};
+ghost use Rattle.std.specs.Prelude.{◌≡◌, [], length, IfOk, IfErr, OnOk};
 ghost use Rattle.std.specs.List.{All};
+ghost use Rattle.std.specs.Option.{unwrap_or};
 ghost use Rattle.claim_terms.specs.Fault.{HasTermsFault, IsFaultOfBalances, IsFaultOfFile, IsFaultOfFiles};
-ghost use Rattle.journal.specs.Terms.{opening};
-ghost use Rattle.claim_terms.specs.Terms.{AreBalancesOf, AreTerms, AreTermsOf, IsClaimFile, entries_in, text_in, texts_of};
+ghost use Rattle.settlement.specs.Opening.{opening};
+ghost use Rattle.claim_terms.specs.Terms.{AreBalancesOf, AreTerms, AreTermsOf, IsClaimFile, text_in, texts_of};
 
 use crate::fault::TermsFault;
 use dtable::Plan;
@@ -26,13 +27,15 @@ pub struct Terms<'a> {
 }
 
 impl<'a> Model for Terms<'a> {
-    ghost use Rattle.claim_terms.specs.Terms.{AreTerms, TermsParts, entries_in, texts_of};
+    ghost use Rattle.std.specs.Prelude.{[]};
+    ghost use Rattle.std.specs.Option.{unwrap_or};
+    ghost use Rattle.claim_terms.specs.Terms.{AreTerms, TermsParts, texts_of};
 
     ghost Value = { TermsParts };
 
-    ghost view = { λ t. record { plan = t.plan.now; files = texts_of t.files.now; balances = entries_in t.balances; cutoff = t.cutoff } };
+    ghost view = { λ t. record { plan = t.plan.now; files = texts_of t.files.now; balances = unwrap_or t.balances []; cutoff = t.cutoff } };
 
-    ghost invariant = { λ t. AreTerms (record { plan = t.plan.now; files = texts_of t.files.now; balances = entries_in t.balances; cutoff = t.cutoff }) };
+    ghost invariant = { λ t. AreTerms (record { plan = t.plan.now; files = texts_of t.files.now; balances = unwrap_or t.balances []; cutoff = t.cutoff }) };
 }
 
 impl<'a> Terms<'a> {
@@ -122,7 +125,7 @@ fn check_file(alloc: Global, plan: &Plan, provider: usize, text: &[u8]) -> Resul
 
 // The balances of a text, if there is one.
 fn balances_of(alloc: Global, text: Option<&[u8]>) -> Result<Option<Balances>, TermsFault>
-    ensures ok { IfOk result (λ balances. AreBalancesOf (text_in text.entry) (entries_in balances)) }
+    ensures ok { IfOk result (λ balances. AreBalancesOf (text_in text.entry) (unwrap_or balances [])) }
     ensures fault { IfErr result (IsFaultOfBalances (text_in text.entry)) }
 {
     let Some(given) = text else {

@@ -9,13 +9,13 @@ use Rattle.settlement.specs.Settlement.{outcome}
 use Rattle.settlement.specs.declared.outcome.Outcome.{Outcome}
 use Rattle.dtable.specs.Plan.{PlanParts}
 use Rattle.journal.specs.Events.{is_take, taken}
-use Rattle.journal.specs.Gate.{Continues}
+use Rattle.journal.specs.Gate.{Continues, LeadsTo}
 use Rattle.journal.specs.Laws.{JobsStay}
 use Rattle.journal.specs.Settled.{outcome_of}
 use Rattle.journal.specs.declared.event.Event.{Event}
-use Rattle.claim_gate.specs.Leading.{leads_further}
-use Rattle.claim_gate.specs.Parts.{GateParts, ForTerms}
-use Rattle.claim_gate.specs.Shared.{LeadsTo}
+use Rattle.journal.specs.Leading.{leads_further}
+use Rattle.claim_terms.specs.Terms.{ForTerms}
+use Rattle.claim_gate.specs.Parts.{GateParts}
 use Rattle.claim_gate.specs.declared.job.Job.{Job}
 use Rattle.claim_gate.proofs.Sharing.{job_stays}
 use Rattle.crew.specs.Sharing.{IsInWork, IsSettledIn, settled_by}

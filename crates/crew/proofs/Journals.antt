@@ -6,7 +6,8 @@ use Rattle.std.proofs.lemmas.List.{flat_map_more}
 use Rattle.std.proofs.lemmas.List.Folds.{list_any-append}
 use Rattle.settlement.specs.declared.acc.Acc.{Acc}
 use Rattle.settlement.specs.declared.claim.Claim.{Claim}
-use Rattle.journal.specs.Terms.{Terms, opening}
+use Rattle.settlement.specs.Opening.{opening}
+use Rattle.journal.specs.Terms.{Terms}
 use Rattle.journal.specs.Events.{IsJob, accept_in, accepts, claim_filed, claims, closed, due, ended, is_end, is_take, left_by, place_in, places, taken}
 use Rattle.journal.specs.Lawful.{closing}
 use Rattle.journal.specs.declared.event.Event.{Event}

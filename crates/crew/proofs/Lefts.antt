@@ -1,21 +1,18 @@
 -- A provider's claims that are left, as its file is read.
 use Rattle.std.proofs.Common.{◌≡◌, ℕ, zero, suc, ◌<◌, ◌≤◌, ◌+◌, ◌-◌, List, [], ◌∷◌, ◌++◌, length, get_or, Some, refl, sym, ap, subst, ◌∙◌, arith, append_assoc, append-nil, length-append}
 use Rattle.std.specs.List.{AllZip, slice_get}
-use Rattle.fixpoint.specs.NumberText.{DenotesAtMostOne}
-use Rattle.feel_tests.specs.Plain.{SpellsOnePlain}
 use Rattle.settlement.specs.declared.claim.Claim.{Claim}
 use Rattle.dtable.specs.declared.table.InputData.{InputData}
-use Rattle.intake_csv.specs.Laws.{NoRecordsNoRows, StartHasTheRows}
-use Rattle.intake_csv.specs.Rows.{AreRowsLeft, GivesRow, IsAtStart, RowsLeft}
+use Rattle.intake_csv.specs.Laws.{BeginLike, GivenRowHasTheClaim, NoRecordsNoRows, StartHasTheRows}
+use Rattle.intake_csv.specs.Rows.{AreRowsLeft, GivesRow, IsAtStart, RowsLeft, claim_in, claims_among}
 use Rattle.intake_csv.specs.declared.fault.RowFault.{RowFault}
 use Rattle.intake_csv.specs.declared.rows.Row.{Row}
 use Rattle.intake_csv.specs.declared.rows.Row.TheVariants.{Good, Bad}
-use Rattle.claim_terms.specs.Terms.{AreClaimsOf, IsTermsOf, TermsParts, claim_in, claims_among}
+use Rattle.claim_terms.specs.Terms.{AreClaimsOf, IsTermsOf, TermsParts, ForTerms}
 use Rattle.journal.specs.Terms.{Terms, claims_of}
-use Rattle.claim_gate.specs.Parts.{ForTerms, GateParts}
+use Rattle.claim_gate.specs.Parts.{GateParts}
 use Rattle.claim_gate.specs.Replies.{HasClaims}
 use Rattle.crew.specs.Sharing.{HasTaken}
-use Rattle.crew.proofs.OneClaim.{BeginLike, alike, begin-like}
 
 -- behind so many claims of a provider, those among the rows that are left are its other ones
 pub record AreLeft (T : Terms) (provider count : ℕ) (left : RowsLeft) : Type 0 where
@@ -59,14 +56,14 @@ left_first law parts T (suc i) left terms least most start =
 
 -- the claims among rows of which the first has the same claims as another row
 claims_begin : (row : Row) (left : RowsLeft) (rows : List Row) (b : BeginLike row left rows) → claims_among rows ≡ claim_in row ++ claims_among b.rest
-claims_begin row left rows b = elim b.both [ alike claims as_many ↦ ap claims_among b.split ∙ ap (λ cs. cs ++ claims_among b.rest) claims ]
+claims_begin row left rows b = ap claims_among b.rows_are ∙ ap (λ cs. cs ++ claims_among b.rest) b.claims
 
-module _ (one : DenotesAtMostOne) (plain : SpellsOnePlain) where
+module _ (law : GivenRowHasTheClaim) where
   -- a record that is refused leaves the same claims
   pub left_refused : (T : Terms) (provider count : ℕ) (old new : RowsLeft) (number : ℕ) (fault : RowFault) → AreLeft T provider count old
       → GivesRow old new (Bad number fault) → AreLeft T provider count new
   left_refused T provider count old new number fault h g =
-      let b = begin-like one plain old new (Bad number fault) h.rows g h.are_rows in
+      let b = law old new (Bad number fault) h.rows g h.are_rows in
       record {
         front = h.front;
         rows = b.rest;
@@ -87,13 +84,13 @@ module _ (one : DenotesAtMostOne) (plain : SpellsOnePlain) where
   pub next_claim : (T : Terms) (provider count : ℕ) (old new : RowsLeft) (number place : ℕ) (claim : Claim) → AreLeft T provider count old
       → GivesRow old new (Good number place claim) → slice_get (claims_of T provider) count ≡ Some claim
   next_claim T provider count old new number place claim h g =
-      let b = begin-like one plain old new (Good number place claim) h.rows g h.are_rows in
+      let b = law old new (Good number place claim) h.rows g h.are_rows in
       rw (begun T provider count old new number place claim h b, ← h.counted) (stands h.front claim (claims_among b.rest))
 
   pub left_behind : (T : Terms) (provider count : ℕ) (old new : RowsLeft) (number place : ℕ) (claim : Claim) → AreLeft T provider count old
       → GivesRow old new (Good number place claim) → AreLeft T provider (count + 1) new
   left_behind T provider count old new number place claim h g =
-      let b = begin-like one plain old new (Good number place claim) h.rows g h.are_rows in
+      let b = law old new (Good number place claim) h.rows g h.are_rows in
       record {
         front = h.front ++ claim ∷ [];
         rows = b.rest;
@@ -134,13 +131,13 @@ first_offer law parts seen provider left of_terms least most start = record {
   fewer = omega (arith, start.place, start.number);
 }
 
-module _ (one : DenotesAtMostOne) (plain : SpellsOnePlain) where
+module _ (law : GivenRowHasTheClaim) where
   -- behind a record that is refused
   pub refused_offer : (terms : TermsParts) (seen : GateParts) (provider count expected : ℕ) (old new : RowsLeft) (number : ℕ) (fault : RowFault)
       → IsAtOffer terms seen provider count expected old → GivesRow old new (Bad number fault) → IsAtOffer terms seen provider count expected new
   refused_offer terms seen provider count expected old new number fault h gives = record {
     of_terms = h.of_terms;
-    claims = λ T is. left_refused one plain T provider count old new number fault (h.claims T is) gives;
+    claims = λ T is. left_refused law T provider count old new number fault (h.claims T is) gives;
     has_taken = h.has_taken;
     reached = h.reached;
     place = omega (arith, gives.place, h.place);
@@ -153,7 +150,7 @@ module _ (one : DenotesAtMostOne) (plain : SpellsOnePlain) where
       → HasTaken later provider next → IsAtOffer terms later provider (count + 1) next new
   next_offer terms seen later provider count expected next old new number place claim h gives of_terms behind has_taken = record {
     of_terms = of_terms;
-    claims = λ T is. left_behind one plain T provider count old new number place claim (h.claims T is) gives;
+    claims = λ T is. left_behind law T provider count old new number place claim (h.claims T is) gives;
     has_taken = has_taken;
     reached = omega (arith, behind);
     place = omega (arith, gives.place, h.place);

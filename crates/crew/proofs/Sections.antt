@@ -2,20 +2,20 @@
 use Rattle.std.proofs.Common.{inl, inr, ◌≡◌, ◌<◌, ◌≤◌, ◌+◌, ℕ, suc, Bool, true, false, List, [], ◌∷◌, ◌++◌, length, Result, Err, refl, sym, ap, subst, ◌∙◌, arith, length-append}
 use Rattle.std.proofs.lemmas.Bool.{cases_Bool, cases_lt, eq-eqb, false≢true, or_left, or_right}
 use Rattle.std.proofs.lemmas.Grind.{flat_map-append}
-use Rattle.claim_terms.specs.Terms.{TermsParts, IsTermsOf}
+use Rattle.claim_terms.specs.Terms.{TermsParts, IsTermsOf, ForTerms}
 use Rattle.dtable.specs.Plan.{IsPlan}
 use Rattle.settlement.specs.Claim.{IsClaimOf}
 use Rattle.settlement.specs.declared.outcome.Outcome.{Outcome}
 use Rattle.intake_csv.specs.Laws.{ClaimsHaveFields}
 use Rattle.journal.specs.Terms.{Terms}
 use Rattle.journal.specs.Events.{closed, decided, ended, is_decide, place_in, places, taken}
-use Rattle.journal.specs.Gate.{GateAt, Continues, OfferReply, Offers, EndReply, Ends, TakeReply, Takes, FinishReply, Finishes}
+use Rattle.journal.specs.Gate.{GateAt, Continues, OfferReply, Offers, EndReply, Ends, TakeReply, Takes, FinishReply, Finishes, LeadsTo}
 use Rattle.journal.specs.Lawful.{Finished, closing}
 use Rattle.journal.specs.declared.event.Event.{Event}
 use Rattle.journal.specs.declared.event.Event.TheVariants.{Accept, End, Take, Decide}
-use Rattle.claim_gate.specs.Leading.{leads_further}
-use Rattle.claim_gate.specs.Parts.{ForTerms, at}
-use Rattle.claim_gate.specs.Shared.{LeadsTo, Known, HadSection, Went}
+use Rattle.journal.specs.Leading.{leads_further}
+use Rattle.claim_gate.specs.Parts.{at}
+use Rattle.claim_gate.specs.Shared.{Known, HadSection, Went}
 use Rattle.claim_gate.specs.Replies.{end_reply, finish_reply, offer_reply}
 use Rattle.claim_gate.specs.declared.fault.EndFault.{EndFault}
 use Rattle.claim_gate.specs.declared.fault.EndFault.TheVariants as end

@@ -14,7 +14,8 @@ use Rattle.crew.specs.declared.worker.Handed.TheVariants.{In, Back}
 use Rattle.settlement.specs.Claim.{IsClaimOf}
 use Rattle.journal.specs.Events.{IsJob, closed, decided, ended, places, taken}
 use Rattle.journal.specs.Lawful.{Finished}
-use Rattle.claim_gate.specs.Parts.{GateParts, ForTerms}
+use Rattle.claim_terms.specs.Terms.{ForTerms}
+use Rattle.claim_gate.specs.Parts.{GateParts}
 use Rattle.claim_gate.specs.declared.job.Job.{Job}
 use Rattle.crew.specs.declared.worker.Task.{Task}
 use Rattle.crew.specs.declared.worker.Task.TheVariants.{Over, Work, NothingReady}

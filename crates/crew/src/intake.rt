@@ -1,21 +1,20 @@
 //! What an intake of a run does: it reads a provider's file.
 ghost use Rattle.std.specs.Prelude.{◌≡◌, ◌≢◌, ◌<◌, ◌≤◌, ◌+◌, ◌-◌, ◌^◌, true, [], length, get_or, slice_get, Some, IfOk, IfErr};
 ghost use Rattle.intake_csv.specs.Rows.{IsAtStart};
-ghost use Rattle.claim_gate.specs.Parts.{ForTerms};
+ghost use Rattle.claim_terms.specs.Terms.{ForTerms};
 ghost use Rattle.claim_gate.specs.Replies.{HasClaims, IsFiled};
-ghost use Rattle.claim_gate.specs.Shared.{LeadsTo};
+ghost use Rattle.journal.specs.Gate.{LeadsTo};
 ghost use Rattle.crew.specs.Sharing.{GoesOnAt, HasTaken, IsOffered, is_past};
 ghost use Rattle.crew.specs.declared.fault.RunFault.TheVariants.{OutOfMemory, Workers};
 
 use crate::fault::RunFault;
-use crate::laws::terms_are_seen;
 use crate::stopping::stop;
 use crate::turns::Turns;
 use claim_gate::{EndFault, Gate, Offer, OfferFault};
-use claim_terms::Terms;
-use feel_tests::field_spells_at_most_one_value;
-use fixpoint::text_denotes_at_most_one;
-use intake_csv::{Row, Rows, no_records_give_no_rows, reader_begins_with_all_rows};
+use claim_terms::{Terms, terms_are_seen};
+use intake_csv::{
+    Row, Rows, given_row_has_the_claim, no_records_give_no_rows, reader_begins_with_all_rows,
+};
 use std::alloc::Global;
 use std::sync::Wait;
 
@@ -82,8 +81,7 @@ fn read_on<R: Wait, G: Gate>(
 {
     reader_begins_with_all_rows();
     no_records_give_no_rows();
-    text_denotes_at_most_one();
-    field_spells_at_most_one_value();
+    given_row_has_the_claim();
     let mut rows = match open(alloc, terms, provider) {
         Ok(rows) => rows,
         Err(fault) => return Err((fault, pass)),

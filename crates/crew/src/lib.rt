@@ -10,7 +10,6 @@
 mod backlog;
 mod fault;
 mod intake;
-mod laws;
 mod least;
 mod stopping;
 #[cfg(test)]
@@ -20,5 +19,4 @@ mod turns;
 mod worker;
 
 pub use fault::RunFault;
-pub use laws::terms_are_seen;
 pub use threads::{WORKERS_LIMIT, run, run_with};

@@ -1,10 +1,9 @@
 //! How a thread that can't go on ends the run.
 ghost use Rattle.std.specs.Prelude.{◌≡◌, ◌⊎◌, true};
-ghost use Rattle.claim_gate.specs.Shared.{LeadsTo};
+ghost use Rattle.journal.specs.Gate.{LeadsTo};
 
-use crate::laws::terms_are_seen;
 use claim_gate::Gate;
-use claim_terms::Terms;
+use claim_terms::{Terms, terms_are_seen};
 use std::sync::Wait;
 
 /// Stops the gate, so that all threads leave. Where its lock is worn, no thread can call it any more.

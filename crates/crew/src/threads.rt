@@ -1,20 +1,19 @@
 //! A run by many threads: an intake for each provider's file, and so many workers.
 ghost use Rattle.std.specs.Prelude.{◌≡◌, ◌≢◌, ◌↔◌, ◌<◌, ◌≤◌, ◌+◌, true, IsTrue, length, IfOk, IfErr, OnOk};
 ghost use Rattle.journal.specs.Lawful.{Finished};
-ghost use Rattle.claim_gate.specs.Parts.{ForTerms};
-ghost use Rattle.claim_gate.specs.Shared.{LeadsTo};
+ghost use Rattle.claim_terms.specs.Terms.{ForTerms};
+ghost use Rattle.journal.specs.Gate.{LeadsTo};
 ghost use Rattle.crew.specs.Workers.{IsWorkerCount};
 ghost use Rattle.crew.specs.declared.fault.RunFault.TheVariants.{Workers, Stopped};
 
 use crate::fault::RunFault;
 use crate::intake::take_in;
-use crate::laws::terms_are_seen;
 use crate::least::LeastFault;
 use crate::stopping::stop;
 use crate::turns::Turns;
 use crate::worker::work;
 use claim_gate::{Batch, Gate, GateState, LockedGate, SerialGate};
-use claim_terms::Terms;
+use claim_terms::{Terms, terms_are_seen};
 use cutplan::{CutPlan, compile};
 use journal::finished_is_final;
 use std::alloc::Global;

@@ -9,6 +9,7 @@ use Rattle.csv.specs.declared.parser.State.{State}
 use Rattle.csv.specs.declared.parser.State.TheVariants as state
 use Rattle.csv.specs.declared.reader.Reader.{Reader}
 use Rattle.csv.proofs.ReadFacts.{rows-end, rows-more}
+use Rattle.intake_csv.specs.declared.records.Stage.TheVariants.{Reading}
 use Rattle.intake_csv.specs.Reader.{HasLeft}
 use Rattle.intake_csv.specs.Records.{AreRecordsOf, Fields, Reads, RecordsLeft, records_of, remaining}
 use Rattle.intake_csv.proofs.Lists.{one-more}
@@ -152,11 +153,11 @@ reader-ends old new rows fields h read =
     none-left default_config old.state h.bytes rows h.are (rows-end (λ (s : Bor (List ℕ)). Some s.now) old new fields default_config h.bytes h.config h.source read)
 
 -- a text without a record
-pub no-records : (text : List ℕ) (new : RecordsLeft) (fields : Fields) → Reads (record { text = text; given = 0; failed = false }) new false fields → AreRecordsOf text []
+pub no-records : (text : List ℕ) (new : RecordsLeft) (fields : Fields) → Reads (record { text = text; given = 0; stage = Reading }) new false fields → AreRecordsOf text []
 no-records text new fields h = rw h.0 at (are-records-of text)
 
 -- a text with a first record, its header
-pub has-header : (text : List ℕ) (new : RecordsLeft) (fields : Fields) → Reads (record { text = text; given = 0; failed = false }) new true fields
+pub has-header : (text : List ℕ) (new : RecordsLeft) (fields : Fields) → Reads (record { text = text; given = 0; stage = Reading }) new true fields
     → AreRecordsOf text (fields ∷ drop 1 (records_of text))
 has-header text new fields h =
     let all : records_of text ≡ fields ∷ remaining new = h.0 in

@@ -1,21 +1,23 @@
 -- Entries of balances, with one more.
-use Rattle.std.proofs.Common.{inl, inr, ◌≡◌, ◌<◌, ◌+◌, ◌-◌, ℕ, suc, zero, true, false, List, [], ◌∷◌, ◌++◌, length, map, take, drop, get_or, Option, Some, None, cond, refl, sym, ap, ◌∙◌, arith}
+use Rattle.std.proofs.Common.{inl, inr, ◌≡◌, ◌<◌, ◌+◌, ◌-◌, ℕ, suc, zero, true, false, List, [], ◌∷◌, ◌++◌, length, map, take, drop, get_or, Option, Some, None, String, string_bytes, nat_cmp, cond, refl, sym, ap, ◌∙◌, arith}
 use Rattle.std.specs.List.{AllZip, Any}
 use Rattle.std.specs.Map.{lookup}
 use Rattle.std.specs.Option.{is_some, unwrap_or}
-use Rattle.std.specs.BTreeMap.{get_by_text}
+use Rattle.std.specs.BTreeMap.{BTreeMap, get_by_text, is_at}
+use Rattle.std.specs.Cmp.Lexicographic.{slice_cmp}
 use Rattle.std.proofs.lemmas.List.{append-nil, length-map, take-append-drop}
 use Rattle.std.proofs.lemmas.List.Quantifiers.{all_pairs_push}
 use Rattle.std.proofs.lemmas.Option.{slice_get-get_or}
 use Rattle.std.specs.Str.{bytes_eq}
 use Rattle.std.proofs.lemmas.Bool.{cases_Bool, false≢true}
 use Rattle.std.proofs.lemmas.Slice.Eq.{bytes_eq-Decides}
+use Rattle.std.proofs.lemmas.Map.Text.{is_eq-slice_cmp}
 use Rattle.settlement.specs.declared.acc.Acc.{Acc}
 use Rattle.settlement.specs.Claim.{nothing_yet}
+use Rattle.settlement.specs.Opening.{opening}
 use Rattle.intake_csv.specs.Records.{Fields}
 use Rattle.intake_csv.specs.Columns.{IsSheet, balance_columns}
-use Rattle.intake_csv.specs.Balances.{AreBalances, Entry, HoldsEntries, IsEntry, IsRecordFault, RefusesRecord}
-use Rattle.intake_csv.specs.declared.balances.Balances.{Balances}
+use Rattle.intake_csv.specs.Balances.{AreBalances, Entry, HoldsEntries, IsEntry, IsRecordFault, RefusesRecord, entries_of}
 use Rattle.intake_csv.specs.declared.column.Layout.{Layout}
 use Rattle.intake_csv.specs.declared.column.Column.{Column}
 use Rattle.intake_csv.specs.declared.column.Content.TheVariants.{Identifier, Money}
@@ -70,13 +72,13 @@ lookup-more (e ∷ es) m acc q none = elim (cases_Bool (bytes_eq m e.0)) [
 ]
 
 -- these many records behind the header hold entries, which the balances have
-pub record ReadBefore (layout : Layout) (records : List Fields) (count : ℕ) (balances : Balances) : Type 0 where
+pub record ReadBefore (layout : Layout) (records : List Fields) (count : ℕ) (balances : List Entry) : Type 0 where
   pub entries : List Entry
   pub each : AllZip (IsEntry layout) (take count records) entries
   pub holds : HoldsEntries entries balances
 
 -- one record more holds an entry
-pub read-next : (layout : Layout) (all : List Fields) (count : ℕ) (fields : Fields) (more : List Fields) (old new : Balances) → drop (count + 1) all ≡ fields ∷ more
+pub read-next : (layout : Layout) (all : List Fields) (count : ℕ) (fields : Fields) (more : List Fields) (old new : List Entry) → drop (count + 1) all ≡ fields ∷ more
     → ReadBefore layout (drop 1 all) count old
     → ((front : List Entry) → HoldsEntries front old → (entry : Entry) × IsEntry layout fields entry × HoldsEntries (front ++ entry ∷ []) new)
     → ReadBefore layout (drop 1 all) (count + 1) new
@@ -90,7 +92,7 @@ read-next layout all count fields more old new next before step =
     }
 
 -- one record more is refused
-pub refused-next : (text : List ℕ) (layout : Layout) (all : List Fields) (count : ℕ) (fields : Fields) (more : List Fields) (balances : Balances) (fault : RowFault)
+pub refused-next : (text : List ℕ) (layout : Layout) (all : List Fields) (count : ℕ) (fields : Fields) (more : List Fields) (balances : List Entry) (fault : RowFault)
     → IsSheet balance_columns text layout (drop 1 all) → drop (count + 1) all ≡ fields ∷ more → ReadBefore layout (drop 1 all) count balances
     → ((front : List Entry) → HoldsEntries front balances → IsRecordFault layout front fields fault) → RefusesRecord text (count + 1) fault
 refused-next text layout all count fields more balances fault sheet next before reason =
@@ -108,7 +110,7 @@ refused-next text layout all count fields more balances fault sheet next before 
     }
 
 -- all records hold entries
-pub read-all : (text : List ℕ) (layout : Layout) (all : List Fields) (count : ℕ) (balances : Balances) → IsSheet balance_columns text layout (drop 1 all)
+pub read-all : (text : List ℕ) (layout : Layout) (all : List Fields) (count : ℕ) (balances : List Entry) → IsSheet balance_columns text layout (drop 1 all)
     → drop (count + 1) all ≡ [] → ReadBefore layout (drop 1 all) count balances → AreBalances text balances
 read-all text layout all count balances sheet over before =
     let taken = rw append-nil at (sym (ap (λ rest. take count (drop 1 all) ++ rest) (sym (drop-after all count) ∙ over)) ∙ take-append-drop count (drop 1 all)) in
@@ -126,29 +128,58 @@ none-there : {A : Type 0} (o : Option A) → is_some o ≡ false → o ≡ None
 none-there None e = refl
 none-there (Some x) e = cc e
 
+-- a look-up in a map is one among its entries
+looked : {Y : Type 0} (es : List (String Y × Acc)) (m : List ℕ)
+    → lookup (is_at (λ k. slice_cmp nat_cmp m (string_bytes k))) es ≡ lookup (bytes_eq m) (map (λ e. (string_bytes e.0, e.1)) es)
+looked [] m = refl
+looked (e ∷ es) m =
+    let same = is_eq-slice_cmp m (string_bytes e.0) in
+    elim (cases_Bool (bytes_eq m (string_bytes e.0))) [
+      | inl here ↦ rw (same, here) refl
+      | inr other ↦ rw (same, other) (looked es m)
+    ]
+
+pub get-entry : {Y : Type 0} (accounts : BTreeMap (String Y) Acc) (m : List ℕ) → get_by_text accounts m ≡ lookup (bytes_eq m) (entries_of accounts)
+get-entry accounts m = looked accounts.entries m
+
+-- the balance that is found in a map, or none, is what its entries have
+pub balance-some : {Y : Type 0} (accounts : BTreeMap (String Y) Acc) (m : List ℕ) (acc : Acc) → get_by_text accounts m ≡ Some acc → acc ≡ opening (entries_of accounts) m
+balance-some accounts m acc is = ap (λ found. unwrap_or found nothing_yet) (sym is ∙ get-entry accounts m)
+
+pub balance-none : {Y : Type 0} (accounts : BTreeMap (String Y) Acc) (m : List ℕ) → get_by_text accounts m ≡ None → nothing_yet ≡ opening (entries_of accounts) m
+balance-none accounts m is = ap (λ found. unwrap_or found nothing_yet) (sym is ∙ get-entry accounts m)
+
+-- a map without entries has none
+pub holds-none : {Y : Type 0} (accounts : BTreeMap (String Y) Acc) → accounts.entries ≡ [] → HoldsEntries [] (entries_of accounts)
+holds-none accounts empty = record {
+  distinct = λ i j d less within. absurd (omega (arith, within));
+  found = λ m. ap (λ es. lookup (bytes_eq m) (map (λ e. (string_bytes e.0, e.1)) es)) empty;
+}
+
 -- the balances of entries and of one entry more
-pub holds-more : (entries : List Entry) (m key : List ℕ) (acc : Acc) (old new : Balances) → key ≡ m → HoldsEntries entries old
-    → is_some (get_by_text old.accounts m) ≡ false → ((q : List ℕ) → get_by_text new.accounts q ≡ cond (bytes_eq key q) (Some acc) (get_by_text old.accounts q))
-    → HoldsEntries (entries ++ (m, acc) ∷ []) new
+pub holds-more : {Y : Type 0} (entries : List Entry) (m key : List ℕ) (acc : Acc) (old new : BTreeMap (String Y) Acc) → key ≡ m → HoldsEntries entries (entries_of old)
+    → is_some (get_by_text old m) ≡ false → ((q : List ℕ) → get_by_text new q ≡ cond (bytes_eq key q) (Some acc) (get_by_text old q))
+    → HoldsEntries (entries ++ (m, acc) ∷ []) (entries_of new)
 holds-more entries m key acc old new same h absent updated =
-    let none = sym (h.found m) ∙ none-there (get_by_text old.accounts m) absent in
+    let none = sym (h.found m) ∙ sym (get-entry old m) ∙ none-there (get_by_text old m) absent in
     record {
       distinct = all_pairs_push (λ a b. ¬ (a.0 ≡ b.0)) entries (m, acc) h.distinct (not-found entries m none);
-      found = λ q. (rw same at (updated q)) ∙ ap (cond (bytes_eq m q) (Some acc)) (h.found q) ∙ sym (lookup-more entries m acc q none);
+      found = λ q.
+          sym (get-entry new q) ∙ (rw same at (updated q)) ∙ ap (cond (bytes_eq m q) (Some acc)) (get-entry old q ∙ h.found q) ∙ sym (lookup-more entries m acc q none);
     }
 
 -- the fault of a record whose member stands among the entries
-pub repeats : (layout : Layout) (front : List Entry) (balances : Balances) (fields : Fields) (entry : Entry) (d : Column)
+pub repeats : {Y : Type 0} (layout : Layout) (front : List Entry) (accounts : BTreeMap (String Y) Acc) (fields : Fields) (entry : Entry) (d : Column)
     → map (λ c. c.content) layout.columns ≡ Identifier ∷ Money ∷ Money ∷ Money ∷ [] → IsEntry layout fields entry
-    → HoldsEntries front balances → is_some (get_by_text balances.accounts entry.0) ≡ true
+    → HoldsEntries front (entries_of accounts) → is_some (get_by_text accounts entry.0) ≡ true
     → IsRecordFault layout front fields (record { column = (get_or layout.columns 0 d).place + 1; cause = Repeated })
-repeats layout front balances fields entry d contents read h known =
+repeats layout front accounts fields entry d contents read h known =
     let size = ap length contents in
     let mapped = length-map layout.columns (λ c. c.content) in
     inr (record {
       entry = entry;
       read = read;
-      again = found-again front entry.0 (sym (ap is_some (h.found entry.0)) ∙ known);
+      again = found-again front entry.0 (ap is_some (sym (h.found entry.0) ∙ sym (get-entry accounts entry.0)) ∙ known);
       column = get_or layout.columns 0 d;
       member = slice_get-get_or layout.columns 0 d (omega (arith, size, mapped));
       fault_is = refl;

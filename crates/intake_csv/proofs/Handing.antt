@@ -1,15 +1,17 @@
 -- Rows that are handed out one after another.
-use Rattle.std.proofs.Common.{◌≡◌, ◌+◌, ℕ, suc, Bool, false, List, [], ◌∷◌, ◌++◌, length, drop, Some, cond, refl, sym, ap, ◌∙◌, arith}
+use Rattle.std.proofs.Common.{◌≡◌, ◌+◌, ℕ, suc, List, [], ◌∷◌, ◌++◌, length, drop, Some, cond, refl, sym, ap, ◌∙◌, arith}
 use Rattle.std.specs.List.{count_by, slice_get}
 use Rattle.std.proofs.lemmas.List.Sums.{sum_by-cons}
 use Rattle.intake_csv.specs.Records.{Fields, records_of}
 use Rattle.intake_csv.specs.Rows.{AreRowsLeft, GivesRow, IsRow, RowsLeft, claims_in, is_claim}
 use Rattle.intake_csv.specs.declared.column.Layout.{Layout}
+use Rattle.intake_csv.specs.declared.records.Stage.{Stage}
+use Rattle.intake_csv.specs.declared.records.Stage.TheVariants.{Reading}
 use Rattle.intake_csv.specs.declared.rows.Row.{Row}
 use Rattle.intake_csv.specs.declared.rows.Row.TheVariants.{Good, Bad}
 
 -- one more claim, or none, in the count of claims
-count-row : (row : Row) (rows : List Row) → count_by is_claim (row ∷ rows) ≡ claims_in row + count_by is_claim rows
+pub count-row : (row : Row) (rows : List Row) → count_by is_claim (row ∷ rows) ≡ claims_in row + count_by is_claim rows
 count-row (Good number place claim) rows = sum_by-cons (λ x. cond (is_claim x) 1 0) (Good number place claim) rows
 count-row (Bad number fault) rows = sum_by-cons (λ x. cond (is_claim x) 1 0) (Bad number fault) rows
 
@@ -40,19 +42,19 @@ rows-head old new row g rest h = record { as_many = ap suc h.as_many ∙ sym (ap
         rw (g.layout, more, counted) at step
 
 -- a reader over these records of a file
-abbrev pub left_of : Layout → ℕ → ℕ → List ℕ → Bool → RowsLeft
-left_of layout number place text failed = record { layout = layout; number = number; place = place; records = drop number (records_of text); failed = failed }
+abbrev pub left_of : Layout → ℕ → ℕ → List ℕ → Stage → RowsLeft
+left_of layout number place text stage = record { layout = layout; number = number; place = place; records = drop number (records_of text); stage = stage }
 
 -- it gives the row of its next record
-pub gives-row : (layout : Layout) (number place after : ℕ) (text : List ℕ) (failed : Bool) (fields : Fields) (row : Row) → drop number (records_of text) ≡ fields ∷ drop (number + 1) (records_of text)
-    → IsRow layout number place fields row → after ≡ place + claims_in row → failed ≡ false
-    → GivesRow (left_of layout number place text failed) (left_of layout (number + 1) after text failed) row
-gives-row layout number place after text failed fields row next h counted well = record {
+pub gives-row : (layout : Layout) (number place after : ℕ) (text : List ℕ) (stage : Stage) (fields : Fields) (row : Row) → drop number (records_of text) ≡ fields ∷ drop (number + 1) (records_of text)
+    → IsRow layout number place fields row → after ≡ place + claims_in row → stage ≡ Reading
+    → GivesRow (left_of layout number place text stage) (left_of layout (number + 1) after text stage) row
+gives-row layout number place after text stage fields row next h counted well = record {
   fields = fields;
   next = next;
   is_row = h;
   layout = refl;
   number = refl;
   place = counted;
-  failed = well;
+  stage = well;
 }

@@ -11,3 +11,4 @@ pub mod OneFile
 pub mod PlanColumns
 pub mod OneField
 pub mod OneRow
+pub mod SomeRow

@@ -8,8 +8,8 @@ use Rattle.feel_tests.specs.Plain.{SpellsOnePlain}
 use Rattle.feel_tests.specs.declared.value.Value.{Value}
 use Rattle.settlement.specs.declared.claim.Claim.{Claim}
 use Rattle.intake_csv.specs.Records.{Fields}
-use Rattle.intake_csv.specs.Laws.{BeginWith, StandApart}
-use Rattle.intake_csv.specs.Rows.{AreRowsLeft, AreValues, GivesRow, HasFault, HasValues, HoldsUnder, IsFaultyUnder, IsFaultlessUnder, IsFirstFault, IsRow, RowsLeft, claim_values, is_claim}
+use Rattle.intake_csv.specs.Laws.{BeginLike, BeginWith, StandApart}
+use Rattle.intake_csv.specs.Rows.{AreRowsLeft, AreValues, GivesRow, HasFault, HasValues, HoldsUnder, IsFaultyUnder, IsFaultlessUnder, IsFirstFault, IsRow, RowsLeft, claim_in, claim_values, claims_in, is_claim}
 use Rattle.intake_csv.specs.declared.column.Column.{Column}
 use Rattle.intake_csv.specs.declared.column.Layout.{Layout}
 use Rattle.intake_csv.specs.declared.fault.RowCause.{RowCause}
@@ -139,6 +139,16 @@ module _ (one : DenotesAtMostOne) (plain : SpellsOnePlain) where
       let faults = fault-one layout fields f g apart h.1 k.1 in
       rw (h.0, k.0, faults) refl
 
+  -- whatever the columns are, its rows are the same claim, or none is one
+  row-alike : (layout : Layout) (number place : ℕ) (fields : Fields) (row other : Row) → IsRow layout number place fields row → IsRow layout number place fields other
+      → (claim_in row ≡ claim_in other) × (claims_in row ≡ claims_in other)
+  row-alike layout number place fields (Good n p c) (Good m q d) h k =
+      let claims = claim-one c d (values-one fields layout.columns (claim_values c) (claim_values d) h.2.1 k.2.1) in
+      (ap (λ x. x ∷ []) claims, refl)
+  row-alike layout number place fields (Good n p c) (Bad m g) h k = absurd (values-or-fault layout fields (claim_values c) g h.2 k.1)
+  row-alike layout number place fields (Bad n f) (Good m q d) h k = absurd (values-or-fault layout fields (claim_values d) f k.2 h.1)
+  row-alike layout number place fields (Bad n f) (Bad m g) h k = (refl, refl)
+
 -- a row at equal places
 moved-row : (layout other : Layout) (n m p q : ℕ) (fields : Fields) (row : Row) → layout ≡ other → n ≡ m → p ≡ q → IsRow layout n p fields row → IsRow other m q fields row
 moved-row layout other n m p q fields row same number place h = rw (same, number, place) at h
@@ -152,8 +162,9 @@ first-row old new fields row rows next h =
     (h.each [] rows row fields refl there)
 
 -- and the others are left behind it
-rows-behind : (old new : RowsLeft) (row : Row) (rows : List Row) → GivesRow old new row → AreRowsLeft old (row ∷ rows) → AreRowsLeft new rows
-rows-behind old new row rows g h = record { as_many = as_many; each = each }
+rows-behind : (old new : RowsLeft) (row first : Row) (rows : List Row) → GivesRow old new row → claims_in row ≡ claims_in first → AreRowsLeft old (first ∷ rows)
+    → AreRowsLeft new rows
+rows-behind old new row first rows g alike h = record { as_many = as_many; each = each }
   where
     as_many : length rows ≡ length new.records
     as_many = let sizes = h.as_many ∙ ap length g.next in omega (arith, sizes)
@@ -161,11 +172,12 @@ rows-behind old new row rows g h = record { as_many = as_many; each = each }
     each : (before after : List Row) (r : Row) (found : Fields) → rows ≡ before ++ r ∷ after → slice_get new.records (length before) ≡ Some found
         → IsRow new.layout (new.number + length before) (new.place + count_by is_claim before) found r
     each before after r found e is =
-        let there : slice_get old.records (length (row ∷ before)) ≡ Some found = rw g.next is in
-        let numbered : old.number + length (row ∷ before) ≡ new.number + length before = omega (arith, g.number) in
-        let placed = sym (count-more row before old.place new.place g.place) in
-        moved-row old.layout new.layout (old.number + length (row ∷ before)) (new.number + length before) (old.place + count_by is_claim (row ∷ before)) (new.place + count_by is_claim before)
-        found r (sym g.layout) numbered placed (h.each (row ∷ before) after r found (ap (λ xs. row ∷ xs) e) there)
+        let there : slice_get old.records (length (first ∷ before)) ≡ Some found = rw g.next is in
+        let numbered : old.number + length (first ∷ before) ≡ new.number + length before = omega (arith, g.number) in
+        let counted : new.place ≡ old.place + claims_in first = omega (arith, g.place, alike) in
+        let placed = sym (count-more first before old.place new.place counted) in
+        moved-row old.layout new.layout (old.number + length (first ∷ before)) (new.number + length before) (old.place + count_by is_claim (first ∷ before)) (new.place + count_by is_claim before)
+        found r (sym g.layout) numbered placed (h.each (first ∷ before) after r found (ap (λ xs. first ∷ xs) e) there)
 
 pub begin-with : DenotesAtMostOne → SpellsOnePlain → (old new : RowsLeft) (row : Row) (rows : List Row) → StandApart old.layout.columns → GivesRow old new row → AreRowsLeft old rows
     → BeginWith row new rows
@@ -175,5 +187,17 @@ begin-with one plain old new row (r ∷ rs) apart g h =
     record {
       rest = rs;
       rows_are = ap (λ x. x ∷ rs) same;
-      rest_left = rows-behind old new row rs g (rw same at h);
+      rest_left = rows-behind old new row r rs g (ap claims_in (sym same)) h;
+    }
+
+pub begin-like : DenotesAtMostOne → SpellsOnePlain → (old new : RowsLeft) (row : Row) (rows : List Row) → GivesRow old new row → AreRowsLeft old rows → BeginLike row new rows
+begin-like one plain old new row [] g h = let sizes = h.as_many ∙ ap length g.next in absurd (omega (arith, sizes))
+begin-like one plain old new row (r ∷ rs) g h =
+    let alike = row-alike one plain old.layout old.number old.place g.fields r row (first-row old new g.fields r rs g.next h) g.is_row in
+    record {
+      first = r;
+      rest = rs;
+      rows_are = refl;
+      claims = alike.0;
+      rest_left = rows-behind old new row r rs g (sym alike.1) h;
     }

@@ -1,14 +1,14 @@
 -- The balances of a text: what its members' accumulators are at the start.
-use Rattle.std.specs.Prelude.{◌≡◌, ◌≤◌, ◌+◌, ◌-◌, ◌⊎◌, ℕ, ℤ, List, map, [], ◌∷◌, take, Some}
+use Rattle.std.specs.Prelude.{◌≡◌, ◌≤◌, ◌+◌, ◌-◌, ◌⊎◌, ℕ, ℤ, List, map, [], ◌∷◌, take, Some, string_bytes}
 use Rattle.std.specs.List.{AllPairs, AllZip, Any, slice_get}
 use Rattle.std.specs.Map.{lookup}
-use Rattle.std.specs.Option.{unwrap_or}
 use Rattle.std.specs.Str.{bytes_eq}
-use Rattle.std.specs.BTreeMap.{get_by_text}
+use Rattle.std.specs.BTreeMap.{BTreeMap}
+use Rattle.std.specs.declared.string.String.{String}
 use Rattle.feel_tests.specs.declared.value.Value.{Value}
 use Rattle.feel_tests.specs.declared.value.Value.TheVariants.{Number, Text}
 use Rattle.settlement.specs.declared.acc.Acc.{Acc}
-use Rattle.settlement.specs.Claim.{nothing_yet}
+use Rattle.settlement.specs.Opening.{opening}
 use Rattle.intake_csv.specs.Records.{Fields}
 use Rattle.intake_csv.specs.Columns.{IsSheet, HasFileFault, balance_columns}
 use Rattle.intake_csv.specs.Rows.{HasValues, HasFault}
@@ -16,7 +16,6 @@ use Rattle.fixpoint.specs.Money.{IsMoney}
 use Rattle.intake_csv.specs.declared.column.Content.TheVariants.{Identifier, Money}
 use Rattle.intake_csv.specs.declared.column.Layout.{Layout}
 use Rattle.intake_csv.specs.declared.column.Column.{Column}
-use Rattle.intake_csv.specs.declared.balances.Balances.{Balances}
 use Rattle.intake_csv.specs.declared.fault.FileFault.TheVariants as file
 use Rattle.intake_csv.specs.declared.fault.RowFault.{RowFault}
 use Rattle.intake_csv.specs.declared.fault.RowCause.TheVariants.{Repeated}
@@ -40,22 +39,18 @@ pub record AreEntries (layout : Layout) (records : List Fields) (entries : List 
   pub each : AllZip (IsEntry layout) records entries
   pub distinct : AllPairs (λ a b. ¬ (a.0 ≡ b.0)) entries
 
--- what the entries have of a member: the accumulators that stand with it, or nothing yet
-abbrev pub opening : List Entry → List ℕ → Acc
-opening entries member = unwrap_or (lookup (bytes_eq member) entries) nothing_yet
-
--- what balances have of a member
-abbrev pub balance_of : Balances → List ℕ → Acc
-balance_of balances member = unwrap_or (get_by_text balances.accounts member) nothing_yet
+-- the entries of a map, in the order of its keys
+abbrev pub entries_of : {Y : Type 0} → BTreeMap (String Y) Acc → List Entry
+entries_of accounts = map (λ e. (string_bytes e.0, e.1)) accounts.entries
 
 -- the text is a file of entries, and the balances have of each member what the entries have
-pub record AreBalances (text : List ℕ) (balances : Balances) : Type 0 where
+pub record AreBalances (text : List ℕ) (balances : List Entry) : Type 0 where
   pub layout : Layout
   pub records : List Fields
   pub entries : List Entry
   pub sheet : IsSheet balance_columns text layout records
   pub read : AreEntries layout records entries
-  pub given : (member : List ℕ) → balance_of balances member ≡ opening entries member
+  pub given : (member : List ℕ) → opening balances member ≡ opening entries member
 
 -- the record holds an entry whose member stands among those in front, and the fault tells so at the member's column
 pub record IsRepeated (layout : Layout) (front : List Entry) (fields : Fields) (fault : RowFault) : Type 0 where
@@ -90,9 +85,9 @@ HasBalanceFault text (Row number fault) = RefusesRecord text number fault
 HasBalanceFault text OutOfMemory = Unit {0}
 
 -- the balances have these entries, no member twice
-pub record HoldsEntries (entries : List Entry) (balances : Balances) : Type 0 where
+pub record HoldsEntries (entries balances : List Entry) : Type 0 where
   pub distinct : AllPairs (λ a b. ¬ (a.0 ≡ b.0)) entries
-  pub found : (member : List ℕ) → get_by_text balances.accounts member ≡ lookup (bytes_eq member) entries
+  pub found : (member : List ℕ) → lookup (bytes_eq member) balances ≡ lookup (bytes_eq member) entries
 
 -- the columns of a file of balances
 abbrev pub IsBalanceLayout : Layout → Type 0

@@ -1,5 +1,5 @@
 -- What is known of the reader of `csv` under a reader of records.
-use Rattle.std.specs.Prelude.{◌≡◌, ℕ, Bool, true, false, List, [], Some}
+use Rattle.std.specs.Prelude.{◌≡◌, ℕ, List, [], Some}
 use Rattle.std.specs.Borrow.{Bor}
 use Rattle.csv.specs.Reading.{AreRecords, Ready, default_config, source_of}
 use Rattle.csv.specs.declared.reader.Reader.{Reader}
@@ -22,9 +22,3 @@ abbrev pub IsAtStage : Stage → Reader (Bor (List ℕ)) → List Fields → Typ
 IsAtStage Reading reader rows = HasLeft reader rows
 IsAtStage Over reader rows = rows ≡ []
 IsAtStage Failed reader rows = Unit {0}
-
--- memory was wanting
-abbrev pub is_failed : Stage → Bool
-is_failed Reading = false
-is_failed Over = false
-is_failed Failed = true

@@ -1,5 +1,5 @@
 -- The rows of a file of claims: each record behind the header as a claim, or as the first fault that refuses it.
-use Rattle.std.specs.Prelude.{◌≡◌, ◌≢◌, ◌<◌, ◌+◌, ◌⊎◌, ℕ, Bool, true, false, List, [], ◌∷◌, ◌++◌, length, Option, Some, None, Result, Ok, Err}
+use Rattle.std.specs.Prelude.{◌≡◌, ◌≢◌, ◌<◌, ◌+◌, ◌⊎◌, ℕ, Bool, true, false, List, [], ◌∷◌, ◌++◌, flat_map, length, Option, Some, None, Result, Ok, Err}
 use Rattle.std.specs.List.{All, AllZip, Any, count_by, slice_get}
 use Rattle.csv.specs.Records.{field_at}
 use Rattle.feel_tests.specs.declared.value.Value.{Value}
@@ -14,6 +14,8 @@ use Rattle.intake_csv.specs.declared.column.Layout.{Layout}
 use Rattle.intake_csv.specs.declared.fault.RowCause.{RowCause}
 use Rattle.intake_csv.specs.declared.fault.RowCause.TheVariants.{FieldCount}
 use Rattle.intake_csv.specs.declared.fault.RowFault.{RowFault}
+use Rattle.intake_csv.specs.declared.records.Stage.{Stage}
+use Rattle.intake_csv.specs.declared.records.Stage.TheVariants.{Reading, Over}
 use Rattle.intake_csv.specs.declared.rows.Row.{Row}
 use Rattle.intake_csv.specs.declared.rows.Row.TheVariants.{Good, Bad}
 
@@ -90,13 +92,13 @@ pub record AreRowsOf (names : List InputData) (text : List ℕ) (rows : List Row
   pub are_rows : AreRows layout 1 0 records rows
 
 -- what contracts see of a reader of rows: the number of the next record, how many claims stand in front of it, the
--- records that are left, and whether memory was wanting
+-- records that are left, and how far it has come
 pub record RowsLeft : Type 0 where
   pub layout : Layout
   pub number : ℕ
   pub place : ℕ
   pub records : List Fields
-  pub failed : Bool
+  pub stage : Stage
 
 -- the rows that a reader has left
 abbrev pub AreRowsLeft : RowsLeft → List Row → Type 0
@@ -107,7 +109,16 @@ pub record IsAtStart (names : List InputData) (text : List ℕ) (left : RowsLeft
   pub sheet : IsSheet (claim_columns names) text left.layout left.records
   pub number : left.number ≡ 1
   pub place : left.place ≡ 0
-  pub failed : left.failed ≡ false
+  pub stage : left.stage ≡ Reading
+
+-- the claim that the row is, or none
+abbrev pub claim_in : Row → List Claim
+claim_in (Good number place claim) = claim ∷ []
+claim_in (Bad number fault) = []
+
+-- the claims among rows, in order
+abbrev pub claims_among : List Row → List Claim
+claims_among rows = flat_map claim_in rows
 
 -- how many claims the row is: one or none
 abbrev pub claims_in : Row → ℕ
@@ -122,11 +133,11 @@ pub record GivesRow (old new : RowsLeft) (row : Row) : Type 0 where
   pub layout : new.layout ≡ old.layout
   pub number : new.number ≡ old.number + 1
   pub place : new.place ≡ old.place + claims_in row
-  pub failed : new.failed ≡ false
+  pub stage : new.stage ≡ Reading
 
--- what a reader gives: the row of its next record, or nothing where no record is left
+-- what a reader gives: the row of its next record, or nothing where no record is left; then it is over
 abbrev pub Gives : RowsLeft → RowsLeft → Option Row → Type 0
-Gives old new None = (old.records ≡ []) × (new ≡ old)
+Gives old new None = (old.records ≡ []) × (new ≡ record old { stage = Over })
 Gives old new (Some row) = GivesRow old new row
 
 -- the row is the first of those that were left, and those behind it are left now; none is given where none is left

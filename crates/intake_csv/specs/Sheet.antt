@@ -1,10 +1,11 @@
 -- What the reading of a file's header gives.
-use Rattle.std.specs.Prelude.{◌≡◌, ◌<◌, ◌≤◌, ℕ, false, List, drop, length}
+use Rattle.std.specs.Prelude.{◌≡◌, ◌<◌, ◌≤◌, ℕ, List, drop, length}
 use Rattle.std.specs.List.{All}
 use Rattle.intake_csv.specs.Records.{records_of}
 use Rattle.intake_csv.specs.Columns.{IsSheet}
 use Rattle.intake_csv.specs.declared.column.Needed.{Needed}
 use Rattle.intake_csv.specs.declared.column.Layout.{Layout}
+use Rattle.intake_csv.specs.declared.records.Stage.TheVariants.{Reading}
 use Rattle.intake_csv.specs.declared.sheet.Sheet.{Sheet}
 use Rattle.intake_csv.specs.declared.sheet.TheConstants.{FILE_LIMIT_BYTES}
 
@@ -17,4 +18,4 @@ pub record IsSheetOf (needed : List Needed) (text : List ℕ) (sheet : Sheet) : 
   pub is_sheet : IsSheet needed text sheet.layout (drop 1 (records_of text))
   pub within : IsWithin sheet.layout
   pub small : length text ≤ FILE_LIMIT_BYTES
-  pub records : sheet.records ≡ record { text = text; given = 1; failed = false }
+  pub records : sheet.records ≡ record { text = text; given = 1; stage = Reading }

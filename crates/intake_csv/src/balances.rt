@@ -2,7 +2,8 @@
 ghost use Rattle.std.specs.Prelude.{◌≡◌, ◌≤◌, ◌<◌, ◌++◌, ◌∷◌, [], List, length, map, drop, IfOk, IfErr, OnOk, slice_index_or, Some};
 ghost use Rattle.std.specs.List.{slice_get};
 ghost use Rattle.csv.specs.Records.{fields_of};
-ghost use Rattle.intake_csv.specs.Balances.{AreBalances, Entry, HasBalanceFault, HoldsEntries, IsBalanceLayout, IsEntry, IsEntryShaped, IsRecordFault, balance_of, entry_values};
+ghost use Rattle.settlement.specs.Opening.{opening};
+ghost use Rattle.intake_csv.specs.Balances.{AreBalances, Entry, HasBalanceFault, HoldsEntries, IsBalanceLayout, IsEntry, IsEntryShaped, IsRecordFault, entry_values};
 ghost use Rattle.intake_csv.specs.Columns.{balance_columns};
 ghost use Rattle.intake_csv.specs.Rows.{HasFault};
 ghost use Rattle.intake_csv.specs.Sheet.{IsWithin};
@@ -19,11 +20,21 @@ use feel_tests::{Text, Value};
 use settlement::Acc;
 use std::alloc::{AllocError, Global};
 use std::collections::BTreeMap;
+use std::marker::Model;
 
-/// The accumulators that members begin with.
+/// The accumulators that members begin with. Contracts see the list of them, each with its member.
 #[derive(Debug, Drop)]
 pub struct Balances {
     accounts: BTreeMap<String, Acc>,
+}
+
+impl Model for Balances {
+    ghost use Rattle.std.specs.Prelude.{List};
+    ghost use Rattle.intake_csv.specs.Balances.{Entry, entries_of};
+
+    ghost Value = { List Entry };
+
+    ghost view = { λ balances. entries_of balances.accounts };
 }
 
 /// Reads a file of balances, one record for each member that has any. The first record that is refused, or names
@@ -60,7 +71,7 @@ pub fn read_balances(alloc: Global, text: &[u8]) -> Result<Balances, BalanceFaul
 impl Balances {
     /// The member's accumulators, zeros where the balances don't name the member.
     pub fn of(&self, member: &str) -> Acc
-        ensures { result ≡ balance_of self.now member.now }
+        ensures { result ≡ opening self.now member.now }
     {
         match self.accounts.get(member) {
             Some(acc) => *acc,

@@ -1,5 +1,5 @@
 //! Laws of files of claims, for proofs that stand on them. Each call does nothing.
-ghost use Rattle.intake_csv.specs.Laws.{ClaimsHaveFields, ColumnsStandApart, GivenRowIsTheFirst, NoRecordsNoRows, PlansNeedDistinctNames, StartHasTheRows};
+ghost use Rattle.intake_csv.specs.Laws.{ClaimsHaveFields, ColumnsStandApart, FilesHaveRows, GivenRowHasTheClaim, GivenRowIsTheFirst, NoRecordsNoRows, PlansNeedDistinctNames, StartHasTheRows};
 
 /// A claim that a record of a file of claims holds has the plan's fields.
 pub fn claims_have_the_plan_s_fields()
@@ -28,6 +28,19 @@ pub fn given_row_is_the_first()
     fixpoint::text_denotes_at_most_one();
     feel_tests::field_spells_at_most_one_value();
 }
+
+/// The row that a reader gives is the same claim as the first of those that it had left, whatever its columns are.
+pub fn given_row_has_the_claim()
+    ensures { GivenRowHasTheClaim }
+{
+    fixpoint::text_denotes_at_most_one();
+    feel_tests::field_spells_at_most_one_value();
+}
+
+/// No file of claims is without its rows.
+pub fn files_have_rows()
+    ensures { FilesHaveRows }
+{}
 
 /// A reader that has no records left has no rows left.
 pub fn no_records_give_no_rows()

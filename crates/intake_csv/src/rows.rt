@@ -1,9 +1,10 @@
 //! The rows of a provider's file of claims.
-ghost use Rattle.std.specs.Prelude.{◌≡◌, true, List, IfOk, IfErr, OnErr, is_err};
+ghost use Rattle.std.specs.Prelude.{◌≡◌, true, List, Ok, None, IfOk, IfErr, OnErr, is_err};
 ghost use Rattle.csv.specs.Records.{fields_of};
 ghost use Rattle.dtable.specs.declared.table.InputData.{InputData};
 ghost use Rattle.intake_csv.specs.Columns.{HasFileFault, claim_columns};
 ghost use Rattle.intake_csv.specs.Rows.{AreRowsLeft, AreRowsOf, Gives, IsAtStart, IsHead, RowsLeft};
+ghost use Rattle.intake_csv.specs.declared.records.Stage.TheVariants.{Over, Failed};
 ghost use Rattle.intake_csv.specs.declared.rows.Row.{Row as AnyRow};
 
 use crate::claim::{claim_columns, read_claim};
@@ -42,12 +43,11 @@ pub struct Rows<'t> {
     current: ByteRecord,
     next: usize,
     claims: usize,
-    failed: bool,
 }
 
 impl<'t> Model for Rows<'t> {
     ghost use Rattle.std.specs.Prelude.{◌≡◌, ◌<◌, ◌≤◌, false, drop, length};
-    ghost use Rattle.intake_csv.specs.Records.{records_of};
+    ghost use Rattle.intake_csv.specs.Records.{is_failed, records_of};
     ghost use Rattle.intake_csv.specs.Rows.{RowsLeft};
     ghost use Rattle.intake_csv.specs.Sheet.{IsWithin};
     ghost use Rattle.intake_csv.specs.Record.{IsClaimLayout};
@@ -55,9 +55,9 @@ impl<'t> Model for Rows<'t> {
 
     ghost Value = { RowsLeft };
 
-    ghost view = { λ r. record { layout = r.layout; number = r.next; place = r.claims; records = drop r.next (records_of r.records.text); failed = r.failed } };
+    ghost view = { λ r. record { layout = r.layout; number = r.next; place = r.claims; records = drop r.next (records_of r.records.text); stage = r.records.stage } };
 
-    ghost invariant = { λ r. IsWithin r.layout × IsClaimLayout r.layout × (r.claims < r.next) × (length r.records.text ≤ FILE_LIMIT_BYTES) × (r.failed ≡ false → (r.records.given ≡ r.next) × (r.records.failed ≡ false)) };
+    ghost invariant = { λ r. IsWithin r.layout × IsClaimLayout r.layout × (r.claims < r.next) × (length r.records.text ≤ FILE_LIMIT_BYTES) × (is_failed r.records.stage ≡ false → r.records.given ≡ r.next) };
 }
 
 impl<'t> Rows<'t> {
@@ -76,27 +76,21 @@ impl<'t> Rows<'t> {
             current: ByteRecord::new(alloc),
             next: 1,
             claims: 0,
-            failed: false,
         })
     }
 
-    /// The next row, or none behind the last. After want of memory each later call answers it again.
+    /// The next row, or none behind the last, at each later call too. After want of memory each later call answers it again.
     pub fn next(&mut self) -> Result<Option<Row>, AllocError>
         ensures gives { IfOk result (Gives self.old self.new) }
         ensures head { IfOk result (IsHead self.old self.new) }
-        ensures refused { OnErr result (self.new ≡ record self.old { failed = true }) }
-        ensures failed { (self.old.failed ≡ true) → is_err result ≡ true }
+        ensures over { self.old.stage ≡ Over → result ≡ Ok None }
+        ensures refused { OnErr result (self.new ≡ record self.old { stage = Failed }) }
+        ensures failed { self.old.stage ≡ Failed → is_err result ≡ true }
     {
-        if self.failed {
-            return Err(AllocError);
-        }
         match self.records.read(&mut self.current) {
             Ok(true) => {}
             Ok(false) => return Ok(None),
-            Err(AllocError) => {
-                self.failed = true;
-                return Err(AllocError);
-            }
+            Err(AllocError) => return Err(AllocError),
         }
         let number = self.next;
         match read_claim(self.alloc, &self.layout, &self.current) {
@@ -115,7 +109,7 @@ impl<'t> Rows<'t> {
                 Ok(Some(Row::Bad { number, fault }))
             }
             Err(AllocError) => {
-                self.failed = true;
+                self.records.fail();
                 Err(AllocError)
             }
         }

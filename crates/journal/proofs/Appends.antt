@@ -4,7 +4,8 @@ use Rattle.std.proofs.lemmas.Bool.{cond-true, cond-false, cases_lt}
 use Rattle.std.proofs.lemmas.List.{flat_map_more, map-append, length-map, get_or_append_left, take-append-le, get_or_past}
 use Rattle.std.proofs.lemmas.Option.{none-some}
 use Rattle.settlement.specs.declared.outcome.Outcome.{Outcome}
-use Rattle.journal.specs.Terms.{Terms, opening}
+use Rattle.settlement.specs.Opening.{opening}
+use Rattle.journal.specs.Terms.{Terms}
 use Rattle.journal.specs.Settled.{outcome_of}
 use Rattle.journal.specs.Events.{accept_in, accepts, accepted, place_in, places, claim_filed, claims, claim_at, member_at, left_by, before, IsSettled}
 use Rattle.journal.specs.declared.event.Event.{Event}

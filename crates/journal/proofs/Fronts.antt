@@ -20,18 +20,3 @@ same_head x y xs ys h = ap (λ l. get_or l 0 x) h
 
 pub same_tail : {A : Type 0} (x y : A) (xs ys : List A) → x ∷ xs ≡ y ∷ ys → xs ≡ ys
 same_tail x y xs ys h = ap (drop 1) h
-
--- of two fronts of a list one is a front of the other
-pub data Compared {A : Type 0} (xs ys : List A) : Type 0 where
-  shorter : (rest : List A) → ys ≡ xs ++ rest → Compared xs ys
-  longer : (rest : List A) → xs ≡ ys ++ rest → Compared xs ys
-
-pub compared : {A : Type 0} (xs r ys s : List A) → xs ++ r ≡ ys ++ s → Compared xs ys
-compared [] r ys s h = shorter ys refl
-compared (x ∷ xs) r [] s h = longer (x ∷ xs) refl
-compared (x ∷ xs) r (y ∷ ys) s h =
-    let first : x ≡ y = same_head x y (xs ++ r) (ys ++ s) h in
-    elim (compared xs r ys s (same_tail x y (xs ++ r) (ys ++ s) h)) [
-      | shorter rest is ↦ shorter rest (ap (λ w. y ∷ w) is ∙ ap (λ w. w ∷ (xs ++ rest)) (sym first))
-      | longer rest is ↦ longer rest (ap (λ w. x ∷ w) is ∙ ap (λ w. w ∷ (ys ++ rest)) first)
-    ]

@@ -9,18 +9,18 @@ use Rattle.journal.specs.Settled.{outcome_of}
 use Rattle.journal.specs.Terms.{Terms, IsProvider, claims_of}
 use Rattle.journal.specs.Events.{accepted, places, is_end, ended, closed, is_close, IsJob, IsSettled, reached, all_ended, due}
 use Rattle.journal.specs.Lawful.{Lawful, IsNextClaim, IsNextEnd, IsNextDecision, Fits, closing}
-use Rattle.journal.specs.Gate.{GateAt, Continues, Leads, OfferReply, EndReply, TakeReply, FinishReply, Offers, Ends, Takes, MayFinish, Finishes, Stops, Adds, AddsAndCloses}
+use Rattle.journal.specs.Gate.{GateAt, Continues, LeadsTo, OfferReply, EndReply, TakeReply, FinishReply, Offers, Ends, Takes, MayFinish, Finishes, Stops, Adds, AddsAndCloses}
 use Rattle.journal.specs.Laws.{Goes}
 use Rattle.journal.specs.declared.event.Event.{Event}
 use Rattle.journal.specs.declared.event.Event.TheVariants.{Accept, End, Close, Take, Decide}
 use Rattle.std.proofs.lemmas.List.Folds.{list_any-append}
 use Rattle.journal.proofs.Appends.{accepted-append, claim_at-append, claim_at_within, before-append}
 use Rattle.journal.proofs.LawfulMore.{lawful_more}
-use Rattle.journal.proofs.Leading.{leads_self, running_leads}
+use Rattle.journal.specs.Leading.{leads_itself, running_leads}
 
 -- nothing changes
 stays : (old new : GateAt) → Lawful old.terms old.journal → new ≡ old → Goes old new
-stays old new L same = subst (Goes old) (sym same) (record { lawful = L; leads = leads_self old })
+stays old new L same = subst (Goes old) (sym same) (record { lawful = L; leads = leads_itself old })
 
 closing_continues : (T : Terms) (J : List Event) (event : Event) (b : Bool) → (due T (J ++ event ∷ []) && not (closed (J ++ event ∷ []))) ≡ b → Continues J (closing T (J ++ event ∷ []))
 closing_continues T J event true h = record {
@@ -145,11 +145,11 @@ job_stays T J K position claim acc job =
     }
 
 pub jobs_stay : (old new : GateAt) (position : ℕ) (claim : Claim) (acc : Acc)
-    → Leads old new → IsJob old.terms old.journal position claim acc → IsJob new.terms new.journal position claim acc
+    → LeadsTo old new → IsJob old.terms old.journal position claim acc → IsJob new.terms new.journal position claim acc
 jobs_stay old new position claim acc leads job =
     let longer : IsJob old.terms (old.journal ++ leads.journal.rest) position claim acc = job_stays old.terms old.journal leads.journal.rest position claim acc job in
     let same : IsJob old.terms new.journal position claim acc = subst (λ w. IsJob old.terms w position claim acc) (sym leads.journal.whole) longer in
-    subst (λ w. IsJob w new.journal position claim acc) leads.terms same
+    subst (λ w. IsJob w new.journal position claim acc) (sym leads.terms) same
 
 pub stop_goes : (old new : GateAt) → Lawful old.terms old.journal → Stops old new → Goes old new
 stop_goes old new L is =
@@ -158,6 +158,6 @@ stop_goes old new L is =
       leads = record {
         terms = refl;
         journal = record { rest = []; whole = sym (append-nil old.journal) };
-        stop = λ s. record { stays = refl; journal = refl };
+        stop = λ s. λ i. record { terms = old.terms; journal = old.journal; stopped = sym s i };
       };
     })

@@ -6,7 +6,6 @@ pub mod Fronts
 pub mod Counts
 pub mod Marks
 pub mod Finish
-pub mod Leading
 pub mod GateMoves
 pub mod Worked
 pub mod Turns

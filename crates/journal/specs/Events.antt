@@ -7,7 +7,8 @@ use Rattle.journal.specs.Settled.{outcome_of, accumulated}
 use Rattle.settlement.specs.declared.acc.Acc.{Acc}
 use Rattle.settlement.specs.declared.claim.Claim.{Claim}
 use Rattle.settlement.specs.declared.outcome.Outcome.{Outcome}
-use Rattle.journal.specs.Terms.{Terms, claims_of, opening}
+use Rattle.settlement.specs.Opening.{opening}
+use Rattle.journal.specs.Terms.{Terms, claims_of}
 use Rattle.journal.specs.declared.event.Event.{Event}
 use Rattle.journal.specs.declared.event.Event.TheVariants.{Accept, End, Close, Take, Decide}
 

@@ -10,27 +10,26 @@ use Rattle.journal.specs.Lawful.{Finished, IsReady, closing}
 use Rattle.journal.specs.declared.event.Event.{Event}
 use Rattle.journal.specs.declared.event.Event.TheVariants.{Accept, End, Take, Decide}
 
--- what a gate is at: its terms, its journal, and whether it is stopped
-pub record GateAt : Type 0 where
-  pub terms : Terms
+-- what a gate is at: its terms, as journals or as others see them, its journal, and whether it is stopped
+pub record GateOver (X : Type 0) : Type 0 where
+  pub terms : X
   pub journal : List Event
   pub stopped : Bool
+
+-- a gate, as journals see it
+abbrev pub GateAt : Type 0
+GateAt = GateOver Terms
 
 -- the later journal begins with the earlier one
 pub record Continues (earlier later : List Event) : Type 0 where
   pub rest : List Event
   pub whole : later ≡ earlier ++ rest
 
--- nothing happens after a stop
-pub record StaysStopped (old new : GateAt) : Type 0 where
-  pub stays : new.stopped ≡ true
-  pub journal : new.journal ≡ old.journal
-
--- the old state leads to the new one: the same terms, a journal that goes on, and nothing after a stop
-pub record Leads (old new : GateAt) : Type 0 where
-  pub terms : old.terms ≡ new.terms
-  pub journal : Continues old.journal new.journal
-  pub stop : old.stopped ≡ true → StaysStopped old new
+-- the later state of a gate may come behind the earlier one: the same terms, a journal that goes on, and nothing after a stop
+pub record LeadsTo {X : Type 0} (earlier later : GateOver X) : Type 0 where
+  pub terms : later.terms ≡ earlier.terms
+  pub journal : Continues earlier.journal later.journal
+  pub stop : earlier.stopped ≡ true → later ≡ earlier
 
 -- what the calls of a gate are answered
 pub data OfferReply : Type 0 where

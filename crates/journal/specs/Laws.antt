@@ -6,7 +6,7 @@ use Rattle.settlement.specs.declared.outcome.Outcome.{Outcome}
 use Rattle.journal.specs.Terms.{Terms, IsProvider, claims_of, all_claims, at_most}
 use Rattle.journal.specs.Events.{accepted, IsJob}
 use Rattle.journal.specs.Lawful.{Lawful, Finished, Fits, closing}
-use Rattle.journal.specs.Gate.{GateAt, Leads, OfferReply, EndReply, TakeReply, FinishReply, Offers, Ends, Takes, MayFinish, Finishes, Stops}
+use Rattle.journal.specs.Gate.{GateAt, LeadsTo, OfferReply, EndReply, TakeReply, FinishReply, Offers, Ends, Takes, MayFinish, Finishes, Stops}
 use Rattle.journal.specs.declared.event.Event.{Event}
 
 -- the journal of no event is lawful, with the close where that is due at once
@@ -27,19 +27,19 @@ FinishedIsFinal = (T : Terms) (J rest : List Event) → Finished T J → Lawful 
 
 -- each state leads to itself, and on
 abbrev pub LeadsToItself : Type 0
-LeadsToItself = (g : GateAt) → Leads g g
+LeadsToItself = (g : GateAt) → LeadsTo g g
 
 abbrev pub LeadsOn : Type 0
-LeadsOn = (a b c : GateAt) → Leads a b → Leads b c → Leads a c
+LeadsOn = (a b c : GateAt) → LeadsTo a b → LeadsTo b c → LeadsTo a c
 
 -- of two states that lead to a third one, one leads to the other
 abbrev pub LeadsEither : Type 0
-LeadsEither = (a b c : GateAt) → Leads a c → Leads b c → Leads a b ⊎ Leads b a
+LeadsEither = (a b c : GateAt) → LeadsTo a c → LeadsTo b c → LeadsTo a b ⊎ LeadsTo b a
 
 -- the new state is lawful, and the old one leads to it
 pub record Goes (old new : GateAt) : Type 0 where
   pub lawful : Lawful new.terms new.journal
-  pub leads : Leads old new
+  pub leads : LeadsTo old new
 
 -- from a lawful state each call of the gate of one thread goes to a lawful one, where its condition is met
 abbrev pub OfferGoes : Type 0
@@ -63,4 +63,4 @@ StopGoes = (old new : GateAt) → Lawful old.terms old.journal → Stops old new
 -- where a state leads to another one, a job of the first, once taken, is one of the second
 abbrev pub JobsStay : Type 0
 JobsStay = (old new : GateAt) (position : ℕ) (claim : Claim) (acc : Acc)
-    → Leads old new → IsJob old.terms old.journal position claim acc → IsJob new.terms new.journal position claim acc
+    → LeadsTo old new → IsJob old.terms old.journal position claim acc → IsJob new.terms new.journal position claim acc

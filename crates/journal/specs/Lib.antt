@@ -3,6 +3,7 @@ pub mod Settled
 pub mod Events
 pub mod Lawful
 pub mod Gate
+pub mod Leading
 pub mod Laws
 pub mod Worked
 pub mod Turns

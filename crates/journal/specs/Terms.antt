@@ -1,8 +1,6 @@
 -- What a run is fixed over.
-use Rattle.std.specs.Prelude.{◌≤◌, ℕ, zero, suc, ◌+◌, min, List, [], ◌∷◌, Option, Some, None, cond, get_or, length}
-use Rattle.std.specs.Str.{bytes_eq}
+use Rattle.std.specs.Prelude.{◌≤◌, ℕ, zero, suc, ◌+◌, min, List, [], ◌∷◌, Option, Some, None, get_or, length}
 use Rattle.dtable.specs.Plan.{PlanParts}
-use Rattle.settlement.specs.Claim.{nothing_yet}
 use Rattle.settlement.specs.declared.acc.Acc.{Acc}
 use Rattle.settlement.specs.declared.claim.Claim.{Claim}
 
@@ -39,8 +37,3 @@ all_claims T = claims_in_all T.files
 abbrev pub at_most : Option ℕ → ℕ → ℕ
 at_most None n = n
 at_most (Some cutoff) n = min cutoff n
-
--- what a member begins with: the balance in its name, zeros where there is none
-abbrev pub opening : List (List ℕ × Acc) → List ℕ → Acc
-opening [] member = nothing_yet
-opening (entry ∷ rest) member = cond (bytes_eq entry.0 member) entry.1 (opening rest member)

@@ -8,19 +8,19 @@ use Rattle.std.proofs.lemmas.Grind.{flat_map-append}
 use Rattle.std.proofs.lemmas.List.Concat.{flat_map-cons}
 use Rattle.std.proofs.lemmas.Slice.Zip.{AllZip-long}
 use Rattle.dtable.specs.declared.table.InputData.{InputData}
-use Rattle.intake_csv.specs.Rows.{AreRowsOf}
+use Rattle.intake_csv.specs.Rows.{AreRowsOf, claims_among}
 use Rattle.intake_csv.specs.declared.rows.Row.{Row}
 use Rattle.intake_csv.specs.declared.rows.Row.TheVariants.{Good, Bad}
 use Rattle.journal.specs.Terms.{Terms}
 use Rattle.journal.specs.declared.event.Event.{Event}
-use Rattle.claim_terms.specs.Terms.{AreClaimsOf, IsTermsOf, TermsParts, claims_among}
+use Rattle.claim_terms.specs.Terms.{AreClaimsOf, IsFinishedOver, IsTermsOf, TermsParts}
 use Rattle.remit.specs.Decided.{decided_as}
 use Rattle.remit.specs.Held.{At, Holds, IsReady, Writes, gathered_of}
 use Rattle.remit.specs.Looked.{Noted, looked_up}
 use Rattle.remit.specs.Records.{header_fields, line_of, record_of, records_of, told_of, total_fields}
 use Rattle.remit.specs.Report.{IsReport, record_text, report_records, text_of}
 use Rattle.remit.specs.Rows.{AreDistinct, AreRead, Begin, Deciding, WritesFiles, files_text}
-use Rattle.remit.specs.Writing.{IsFinishedOver, WritesFront, WritesReport}
+use Rattle.remit.specs.Writing.{WritesFront, WritesReport}
 use Rattle.remit.specs.declared.decisions.Decisions.{Decisions}
 use Rattle.remit.specs.declared.fault.WriteCause.TheVariants.{Device, OutOfMemory}
 use Rattle.remit.specs.declared.fault.WriteFault.{WriteFault}

@@ -4,14 +4,8 @@ use Rattle.std.specs.Io.KnownBytes.{Appends}
 use Rattle.intake_csv.specs.Columns.{claim_columns}
 use Rattle.intake_csv.specs.Laws.{HaveDistinctNames}
 use Rattle.journal.specs.declared.event.Event.{Event}
-use Rattle.journal.specs.Lawful.{Finished}
-use Rattle.journal.specs.Terms.{Terms}
-use Rattle.claim_terms.specs.Terms.{IsTermsOf, TermsParts}
+use Rattle.claim_terms.specs.Terms.{TermsParts}
 use Rattle.remit.specs.Report.{IsReport}
-
--- the journal is finished over these terms, as journals see them
-abbrev pub IsFinishedOver : TermsParts → List Event → Type 0
-IsFinishedOver parts J = (T : Terms) → IsTermsOf parts T → Finished T J
 
 -- the writer has got a report of these terms and this journal, whole
 pub record WritesReport (parts : TermsParts) (J : List Event) (old new : Option (List ℕ)) : Type 0 where

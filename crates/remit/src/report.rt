@@ -3,13 +3,13 @@ ghost use Rattle.std.specs.Prelude.{◌≡◌, ◌≤◌, ℕ, [], ◌∷◌, Li
 ghost use Rattle.dtable.specs.Plan.{PlanParts};
 ghost use Rattle.fixpoint.specs.Out.{has_failed, writer_of};
 ghost use Rattle.journal.specs.Events.{accepted};
-ghost use Rattle.claim_terms.specs.Terms.{texts_of};
+ghost use Rattle.claim_terms.specs.Terms.{IsFinishedOver, texts_of};
 ghost use Rattle.remit.specs.Held.{Writes, at};
 ghost use Rattle.remit.specs.Looked.{looked_up};
 ghost use Rattle.remit.specs.Records.{header_fields, record_of, total_fields};
 ghost use Rattle.remit.specs.Report.{record_text};
 ghost use Rattle.remit.specs.Rows.{WritesFile, WritesFiles, WritesLeft};
-ghost use Rattle.remit.specs.Writing.{IsFinishedOver, WritesFront, WritesReport};
+ghost use Rattle.remit.specs.Writing.{WritesFront, WritesReport};
 ghost use Rattle.remit.specs.declared.fault.WriteCause.TheVariants.{Device, OutOfMemory};
 
 use crate::decisions::Decisions;

@@ -1,7 +1,7 @@
 //! The calls of a gate, with the answers that are wanted: another answer ends the test, unless it is want of memory.
 ghost use Rattle.std.specs.Prelude.{◌≡◌, IfOk, OnOk};
 ghost use Rattle.journal.specs.Settled.{outcome_of};
-ghost use Rattle.claim_gate.specs.Parts.{ForTerms};
+ghost use Rattle.claim_terms.specs.Terms.{ForTerms};
 ghost use Rattle.claim_gate.specs.Replies.{HasClaims, IsFiled};
 ghost use Rattle.claim_gate.specs.Worked.{IsAtWork, IsSpelled, WorkStays};
 

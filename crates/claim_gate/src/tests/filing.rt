@@ -1,7 +1,7 @@
 //! The claims of providers' files, one after another, as who reads the files offers them.
 ghost use Rattle.std.specs.Prelude.{◌≡◌, ◌≤◌, ◌+◌, ◌-◌, [], get_or, length, IfOk, OnOk};
 ghost use Rattle.intake_csv.specs.Rows.{IsAtStart};
-ghost use Rattle.claim_gate.specs.Parts.{ForTerms};
+ghost use Rattle.claim_terms.specs.Terms.{ForTerms};
 ghost use Rattle.claim_gate.specs.Replies.{HasClaims, IsFiled};
 ghost use Rattle.claim_gate.specs.Worked.{IsReader, IsSpelled};
 

@@ -15,7 +15,7 @@ use std::test::Fail;
 use turn_lock::{Pass, TicketLock};
 
 // The calls of the two passes.
-#[tactic(auto, using(crate::specs::Leading::met_terms))]
+#[tactic(auto, using(crate::proofs::Sharing::met_terms))]
 fn met_calls<V: SerialGate + Send + Drop>(
     rt: &(impl Abort + Wait),
     alloc: Global,

@@ -1,8 +1,8 @@
 //! The calls of a gate behind a lock, each with the answer that is wanted: another one ends the test, unless it is want of memory.
 ghost use Rattle.std.specs.Prelude.{◌≡◌, IfOk};
-ghost use Rattle.claim_gate.specs.Parts.{ForTerms};
+ghost use Rattle.claim_terms.specs.Terms.{ForTerms};
 ghost use Rattle.claim_gate.specs.Replies.{HasClaims, IsFiled};
-ghost use Rattle.claim_gate.specs.Shared.{LeadsTo};
+ghost use Rattle.journal.specs.Gate.{LeadsTo};
 ghost use Rattle.claim_gate.specs.Worked.{IsAtWork, IsCaller, IsSpelled};
 
 use super::calls::settled;

@@ -2,16 +2,14 @@
 
 ghost use Rattle.std.specs.Prelude.{◌≡◌, ◌≤◌, ◌+◌, ◌<◌, ◌^◌, length, slice_get, Some, IfOk};
 ghost use Rattle.journal.specs.Terms.{claims_of};
-ghost use Rattle.claim_gate.specs.Parts.{ForTerms};
+ghost use Rattle.claim_terms.specs.Terms.{ForTerms};
 ghost use Rattle.crew.specs.Sharing.{HasTaken};
 
 use super::{offer, open};
 use crate::tests::{both_files, comes_to, file_one, file_two, plan, terms};
 use crate::{RunFault, run_with};
 use claim_gate::{Gate, GateState, LockedGate, Offer, SerialGate, Terms};
-use feel_tests::field_spells_at_most_one_value;
-use fixpoint::text_denotes_at_most_one;
-use intake_csv::{Row, reader_begins_with_all_rows};
+use intake_csv::{Row, given_row_has_the_claim, reader_begins_with_all_rows};
 use settlement::Claim;
 use std::alloc::{AllocError, Global};
 use std::process::Abort;
@@ -58,8 +56,7 @@ fn first_two(rt: &impl Abort, alloc: Global, terms: &Terms) -> (Claim, Claim)
     ensures second { ForTerms terms.now (λ T. slice_get (claims_of T 1) 1 ≡ Some result.1) }
 {
     reader_begins_with_all_rows();
-    text_denotes_at_most_one();
-    field_spells_at_most_one_value();
+    given_row_has_the_claim();
     let mut rows = match open(alloc, terms, 1) {
         Ok(rows) => rows,
         Err(_) => panic!(rt; "rows"),

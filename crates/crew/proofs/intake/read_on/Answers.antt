@@ -20,7 +20,7 @@ loop-next-preserved-in_default-row g c =
     let some = rw c.in-Some.is at c.in-Ok-next.ensures.gives in
     let gives = rw c.in_default-row.is at some in (
       c.loop-next.invariant.0,
-      refused_offer c.text_denotes_at_most_one.ensures c.field_spells_at_most_one_value.ensures c.args.terms.now (g.G.Gate.known c.loop-next.pass).seen c.args.provider
+      refused_offer c.given_row_has_the_claim.ensures c.args.terms.now (g.G.Gate.known c.loop-next.pass).seen c.args.provider
           c.loop-next.count c.loop-next.expected c.loop-next.rows c.next.new.self c.in_default-row.field-0 c.in_default-row.field-1 c.loop-next.invariant.1 gives,
     )
 
@@ -28,7 +28,7 @@ pub offer-requires-clause-filed : goal.offer-requires-clause-filed
 offer-requires-clause-filed g c κs within T is =
     let some = rw c.in-Some.is at c.in-Ok-next.ensures.gives in
     let gives = rw c.in-Good.is at some in
-    next_claim c.text_denotes_at_most_one.ensures c.field_spells_at_most_one_value.ensures T c.args.provider c.loop-next.count c.loop-next.rows c.next.new.self
+    next_claim c.given_row_has_the_claim.ensures T c.args.provider c.loop-next.count c.loop-next.rows c.next.new.self
     c.in-Good.number c.in-Good.place c.in-Good.claim (c.loop-next.invariant.1.claims T is) gives
 
 pub loop-next-preserved-then-place-expected : goal.loop-next-preserved-then-place-expected
@@ -36,7 +36,7 @@ loop-next-preserved-then-place-expected g c =
     let some = rw c.in-Some.is at c.in-Ok-next.ensures.gives in
     let gives = rw c.in-Good.is at some in (
       c.loop-next.invariant.0,
-      next_offer c.text_denotes_at_most_one.ensures c.field_spells_at_most_one_value.ensures c.args.terms.now (g.G.Gate.known c.loop-next.pass).seen
+      next_offer c.given_row_has_the_claim.ensures c.args.terms.now (g.G.Gate.known c.loop-next.pass).seen
           (g.G.Gate.known c.loop-next.pass).seen c.args.provider c.loop-next.count c.loop-next.expected c.loop-next.expected c.loop-next.rows c.next.new.self c.in-Good.number
           c.in-Good.place c.in-Good.claim c.loop-next.invariant.1 gives c.loop-next.invariant.1.of_terms (omega (arith, c.if-place-expected.true))
           c.loop-next.invariant.1.has_taken,
@@ -48,7 +48,7 @@ loop-next-preserved g c =
     let gives = rw c.in-Good.is at some in
     let on = c.in-Ok-Some-default.ensures in (
       on.own,
-      next_offer c.text_denotes_at_most_one.ensures c.field_spells_at_most_one_value.ensures c.args.terms.now (g.G.Gate.known c.loop-next.pass).seen
+      next_offer c.given_row_has_the_claim.ensures c.args.terms.now (g.G.Gate.known c.loop-next.pass).seen
           (g.G.Gate.known c.in-Ok-Some-default.pass).seen c.args.provider c.loop-next.count c.loop-next.expected c.in-Ok-Some-default.next c.loop-next.rows c.next.new.self
           c.in-Good.number c.in-Good.place c.in-Good.claim c.loop-next.invariant.1 gives (on.seen.terms ∙ c.loop-next.invariant.1.of_terms)
           (rw c.in-Ok-Some-default.field-0-0-is at on.next).0 (rw c.in-Ok-Some-default.field-0-0-is at on.next).1,

@@ -1,6 +1,6 @@
 use Rattle.std.proofs.Common.{◌∙◌, ◌++◌, ◌∷◌, [], rules}
 use Rattle.std.proofs.lemmas.List.Elements.{All-push, All-same}
-use Rattle.claim_gate.specs.Leading.{leads_further}
+use Rattle.journal.specs.Leading.{leads_further}
 use Rattle.crew.specs.Sharing.{IsInWork}
 use Rattle.crew.proofs.Held.{all_in_work_stay}
 use Rattle.crew.proofs.worker.gather.Goals as goal

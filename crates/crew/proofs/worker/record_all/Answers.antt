@@ -1,7 +1,7 @@
 use Rattle.std.proofs.Common.{◌∷◌, sym, ◌∙◌}
 use Rattle.std.proofs.lemmas.List.Elements.{All-head, All-same, All-tail}
 use Rattle.std.specs.Vec.Iter.{into_iter_items}
-use Rattle.claim_gate.specs.Leading.{leads_further}
+use Rattle.journal.specs.Leading.{leads_further}
 use Rattle.crew.specs.Sharing.{IsSettledIn}
 use Rattle.crew.proofs.Held.{all_settled_stay}
 use Rattle.crew.proofs.worker.record_all.Goals as goal

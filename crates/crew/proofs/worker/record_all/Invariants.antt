@@ -1,7 +1,7 @@
 use Rattle.std.proofs.Common.{◌≡◌}
 use Rattle.std.specs.List.{All}
 use Rattle.std.specs.Vec.Iter.{into_iter_items}
-use Rattle.claim_gate.specs.Shared.{LeadsTo}
+use Rattle.journal.specs.Gate.{LeadsTo}
 use Rattle.crew.specs.Sharing.{IsSettledIn}
 use Rattle.crew.proofs.worker.record_all.Given as goal
 

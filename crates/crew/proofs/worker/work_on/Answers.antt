@@ -1,6 +1,6 @@
 use Rattle.std.proofs.Common.{◌≡◌, map, ap, ◌∙◌, sym}
 use Rattle.std.proofs.lemmas.List.Elements.{All-same}
-use Rattle.claim_gate.specs.Leading.{leads_further}
+use Rattle.journal.specs.Leading.{leads_further}
 use Rattle.dtable.specs.Plan.{PlanParts}
 use Rattle.crew.specs.Sharing.{IsSettledIn, settled_by}
 use Rattle.crew.proofs.Held.{all_settled}

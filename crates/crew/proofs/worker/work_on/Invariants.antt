@@ -1,6 +1,6 @@
 use Rattle.std.proofs.Common.{◌≡◌}
 use Rattle.std.specs.List.{All}
-use Rattle.claim_gate.specs.Shared.{LeadsTo}
+use Rattle.journal.specs.Gate.{LeadsTo}
 use Rattle.crew.specs.Sharing.{IsSettledIn}
 use Rattle.crew.proofs.worker.work_on.Given as goal
 

@@ -1,4 +1,4 @@
-use Rattle.journal.proofs.Leading.{leads_either}
+use Rattle.journal.specs.Leading.{leads_either}
 use Rattle.journal.proofs.laws.leads_either_way.Goals as goal
 
 pub returns : goal.returns

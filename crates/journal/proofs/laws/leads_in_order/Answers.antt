@@ -1,5 +1,5 @@
-use Rattle.journal.proofs.Leading.{leads_self, leads_on}
+use Rattle.journal.specs.Leading.{leads_itself, leads_further}
 use Rattle.journal.proofs.laws.leads_in_order.Goals as goal
 
 pub returns : goal.returns
-returns c = record { itself = leads_self; on = leads_on }
+returns c = record { itself = leads_itself; on = leads_further }

@@ -1,5 +1,5 @@
 use Rattle.std.proofs.Common.{rules, ◌≤◌, length, refl, arith}
-use Rattle.journal.specs.Terms.{opening}
+use Rattle.settlement.specs.Opening.{opening}
 use Rattle.claim_gate.specs.Intakes.{intake_of}
 use Rattle.claim_gate.proofs.Replying.{IsAccepted, accepts, accepted_within}
 use Rattle.claim_gate.proofs.state.GateState.accept.Goals as goal

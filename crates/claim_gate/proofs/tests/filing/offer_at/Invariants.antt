@@ -1,4 +1,4 @@
-use Rattle.claim_gate.specs.Parts.{ForTerms}
+use Rattle.claim_terms.specs.Terms.{ForTerms}
 use Rattle.claim_gate.specs.Worked.{IsReader}
 use Rattle.claim_gate.proofs.tests.filing.offer_at.Given as goal
 

@@ -17,7 +17,7 @@ returns-then-contains_key-clause-refused c = λ front h.
     let values = rw c.in-Ok.is at c.in_ok-values.ensures.values in
     let has = rw c.entry_of.ensures at values in
     let known = rw c.as_str.ensures.value at (sym c.contains_key.ensures ∙ c.if-contains_key.true) in
-    rw c.as_slice.ensures (repeats c.args.layout.now front c.args.self.now (fields_of c.args.row.now) c.entry_of.result (record { place = 0; content = Identifier }) c.requires.balances has h known)
+    rw c.as_slice.ensures (repeats c.args.layout.now front c.self.inside.accounts (fields_of c.args.row.now) c.entry_of.result (record { place = 0; content = Identifier }) c.requires.balances has (rw (← c.self.view_is) at h) known)
 
 pub returns-in-Ok-insert-clause-entry : goal.returns-in-Ok-insert-clause-entry
 returns-in-Ok-insert-clause-entry c = λ front h.
@@ -27,6 +27,6 @@ returns-in-Ok-insert-clause-entry c = λ front h.
     let same = c.in_ok-key.ensures.ok ∙ c.as_str-2.ensures.value in (
       c.entry_of.result,
       has,
-      holds-more front c.entry_of.result.0 (string_bytes c.in_ok-key.key) c.entry_of.result.1 c.args.self.now (record { accounts = c.insert.new.self }) same h absent
-          (λ q. btree_map_updates_text (string_bytes c.in_ok-key.key) c.args.self.now.accounts c.insert.new.self (Some c.entry_of.result.1) c.in-Ok-insert.ensures.updates q),
+      holds-more front c.entry_of.result.0 (string_bytes c.in_ok-key.key) c.entry_of.result.1 c.self.inside.accounts c.insert.new.self same (rw (← c.self.view_is) at h) absent
+          (λ q. btree_map_updates_text (string_bytes c.in_ok-key.key) c.self.inside.accounts c.insert.new.self (Some c.entry_of.result.1) c.in-Ok-insert.ensures.updates q),
     )

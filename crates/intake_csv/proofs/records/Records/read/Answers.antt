@@ -25,7 +25,7 @@ returns-then-not-found-clause-reads c =
     let i = c.self.inside in
     let at : HasLeft i.reader (drop i.given (records_of i.text.now)) = rw c.in-Reading.is at c.self.invariant.0 in
     let read = rw c.if-not-found.true at (c.in-Ok.ensures.reads at.untrimmed at.ready) in
-    rw (← c.self.view_is, c.in-Reading.is) (reader-ends i.reader c.read_byte_record.new.self (drop i.given (records_of i.text.now)) (fields_of c.read_byte_record.new.row) at read, refl)
+    rw (← c.self.view_is, c.in-Reading.is) (reader-ends i.reader c.read_byte_record.new.self (drop i.given (records_of i.text.now)) (fields_of c.read_byte_record.new.row) at read, refl, refl)
 
 pub invariant_of-self-2 : goal.invariant_of-self-2
 invariant_of-self-2 c =
@@ -41,4 +41,4 @@ returns-clause-reads c =
     let at : HasLeft i.reader (drop i.given (records_of i.text.now)) = rw c.in-Reading.is at c.self.invariant.0 in
     let read = rw c.if-not-found.false at (c.in-Ok.ensures.reads at.untrimmed at.ready) in
     let gives = reader-gives i.reader c.read_byte_record.new.self (records_of i.text.now) i.given (fields_of c.read_byte_record.new.row) at read (c.in-Ok.ensures.ready at.untrimmed) in
-    rw (← c.self.view_is) (gives.next, refl)
+    rw (← c.self.view_is, c.in-Reading.is) (gives.next, refl, refl)

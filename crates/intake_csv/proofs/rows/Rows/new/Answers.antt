@@ -6,4 +6,4 @@ pub invariant_of-result : goal.invariant_of-result
 invariant_of-result c =
     let s = rw (c.as_slice.ensures, c.in_ok-needed.ensures) at c.in_ok-sheet.ensures.ok in
     let layout = claim-layout c.args.plan.now.names s.is_sheet.header c.in_ok-sheet.sheet.layout.columns s.is_sheet.columns in
-    rw s.records (s.within, record { fields = layout.0; contents = layout.1 }, omega arith, s.small, λ e. (refl, refl))
+    rw s.records (s.within, record { fields = layout.0; contents = layout.1 }, omega arith, s.small, λ e. refl)

@@ -1,5 +1,5 @@
 use Rattle.std.proofs.Common.{◌≡◌}
-use Rattle.claim_gate.specs.Shared.{LeadsTo}
+use Rattle.journal.specs.Gate.{LeadsTo}
 use Rattle.crew.proofs.threads.fn.in_threads.scope.Given as goal
 
 abbrev pub invariant-threads : goal.invariant-threads

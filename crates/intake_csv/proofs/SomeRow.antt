@@ -1,5 +1,5 @@
 -- No record is without its row: it is a claim, or it has a first fault.
-use Rattle.std.proofs.Common.{inl, inr, ◌≡◌, ◌<◌, ◌≤◌, ◌≤ℤ◌, ◌+◌, ◌⊎◌, ℕ, ℤ, pos, suc, zero, false, List, [], ◌∷◌, ◌++◌, length, Some, refl, sym, ap, ◌∙◌, arith}
+use Rattle.std.proofs.Common.{inl, inr, ◌≡◌, ◌<◌, ◌≤◌, ◌≤ℤ◌, ◌+◌, ◌⊎◌, ℕ, ℤ, pos, suc, false, List, [], ◌∷◌, ◌++◌, length, get_or, Some, refl, sym, ap, ◌∙◌, arith}
 use Rattle.std.specs.List.{All, Any, count_by, slice_get}
 use Rattle.std.proofs.lemmas.Bool.{cases_Bool, cases_eq, cases_lt}
 use Rattle.std.proofs.lemmas.Int.{ints}
@@ -15,7 +15,7 @@ use Rattle.feel_tests.specs.declared.value.Value.TheVariants.{Number, Text, Flag
 use Rattle.dtable.specs.declared.table.InputData.{InputData}
 use Rattle.settlement.specs.declared.claim.Claim.{Claim}
 use Rattle.intake_csv.specs.Records.{Fields}
-use Rattle.intake_csv.specs.Columns.{AreColumnsOf, claim_columns, kind_under}
+use Rattle.intake_csv.specs.Columns.{AreColumnsOf, IsSheet, claim_columns, kind_under}
 use Rattle.intake_csv.specs.Fields.{Holds, IsFaultless, IsFaulty}
 use Rattle.intake_csv.specs.Rows.{AreRows, AreValues, HoldsUnder, IsFaultlessUnder, IsFaultyUnder, IsFirstFault, IsRow, claim_values, claims_in, field_count, is_claim}
 use Rattle.intake_csv.specs.declared.column.Column.{Column}
@@ -28,7 +28,9 @@ use Rattle.intake_csv.specs.declared.fault.RowCause.TheVariants.{Utf8, TooLong, 
 use Rattle.intake_csv.specs.declared.fault.RowFault.{RowFault}
 use Rattle.intake_csv.specs.declared.rows.Row.{Row}
 use Rattle.intake_csv.specs.declared.rows.Row.TheVariants.{Good, Bad}
-use Rattle.crew.proofs.OneClaim.{count-row}
+use Rattle.intake_csv.specs.Laws.{RowsOf}
+use Rattle.intake_csv.proofs.Handing.{count-row}
+use Rattle.intake_csv.proofs.Lists.{field_at-get_or, field_at-within}
 
 not_negative : (units : ℤ) → is_negative units ≡ false → pos 0 ≤ℤ units
 not_negative (ℤ.pos n) e = omega (arith, ints)
@@ -136,25 +138,14 @@ module _ (fields : Fields) where
     )
   ]
 
-  there : (xs : Fields) (k : ℕ) (name : List ℕ) → field_at xs k ≡ Some name → k < length xs
-  unfolding field_at
-  there [] k name e = absurd (cc e)
-  there (x ∷ xs) zero name e = omega arith
-  there (x ∷ xs) (suc k) name e = let within = there xs k name e in omega (arith, within)
-
-  found : (xs : Fields) (k : ℕ) → k < length xs → (bytes : List ℕ) × (field_at xs k ≡ Some bytes)
-  unfolding field_at
-  found [] k within = absurd (omega (arith, within))
-  found (x ∷ xs) zero within = (x, refl)
-  found (x ∷ xs) (suc k) within = found xs k (omega (arith, within))
-
   all_columns : (header : Fields) (needed : List Needed) (columns : List Column) → AreColumnsOf header needed columns → length fields ≡ length header → ¬ ¬ AllOf columns
   all_columns header [] [] h same k = k (inl ([], tt, All-nil (IsFaultlessUnder fields)))
   all_columns header [] (c ∷ cs) h same k = absurd h
   all_columns header (n ∷ ns) [] h same k = absurd h
   all_columns header (n ∷ ns) (c ∷ cs) h same k =
-      let within = there header c.place n.name h.0.stands in
-      let (bytes, e) = found fields c.place (omega (arith, within, same)) in
+      let within = (field_at-get_or header c.place n.name h.0.stands).0 in
+      let bytes = get_or fields c.place [] in
+      let e = field_at-within fields c.place (omega (arith, within, same)) in
       field c.content bytes (λ f. all_columns header ns cs h.1 same (λ all. k (join c cs (under_field c bytes e f) all)))
 
 text-value : (content : Content) (bytes : List ℕ) (v : Value) → content ≡ Identifier → Holds content bytes v → (t : List ℕ) × (v ≡ Text t)
@@ -204,7 +195,7 @@ claim-of header fields names (a ∷ b ∷ c ∷ d ∷ ds) (v ∷ w ∷ x ∷ y �
     }
 
 -- what a file's header says of the columns that claims need
-pub record HasColumns (names : List InputData) (layout : Layout) : Type 0 where
+record HasColumns (names : List InputData) (layout : Layout) : Type 0 where
   pub header : Fields
   pub width : layout.width ≡ length header
   pub columns : AreColumnsOf header (claim_columns names) layout.columns
@@ -250,12 +241,18 @@ row_more layout number place f records row rows is h = record { as_many = ap suc
         rw (← same) (rw (more, placed) at step)
 
 -- some rows of these records
-pub record RowsOf (layout : Layout) (number place : ℕ) (records : List Fields) : Type 0 where
+record RowsAmong (layout : Layout) (number place : ℕ) (records : List Fields) : Type 0 where
   pub rows : List Row
   pub are : AreRows layout number place records rows
 
-pub some_rows : (names : List InputData) (layout : Layout) (number place : ℕ) (records : List Fields) → HasColumns names layout → ¬ ¬ RowsOf layout number place records
+some_rows : (names : List InputData) (layout : Layout) (number place : ℕ) (records : List Fields) → HasColumns names layout → ¬ ¬ RowsAmong layout number place records
 some_rows names layout number place [] h k = k (record { rows = []; are = record { as_many = refl; each = λ before after row fields e at. absurd (cc at) } })
 some_rows names layout number place (f ∷ records) h k = some_row names layout number place f h (λ r.
     some_rows names layout (number + 1) (place + claims_in r.row) records h (λ rs.
     k (record { rows = r.row ∷ rs.rows; are = row_more layout number place f records r.row rs.rows r.is rs.are })))
+
+-- some rows of a file
+pub file_rows : (names : List InputData) (text : List ℕ) (layout : Layout) (records : List Fields) → IsSheet (claim_columns names) text layout records → ¬ ¬ RowsOf names text
+file_rows names text layout records sheet k =
+    some_rows names layout 1 0 records (record { header = sheet.header; width = sheet.width; columns = sheet.columns }) (λ rs.
+    k (record { rows = rs.rows; are = record { layout = layout; records = records; sheet = sheet; are_rows = rs.are } }))

@@ -1,11 +1,13 @@
-//! Laws that runs stand on. Each call does nothing.
-ghost use Rattle.claim_gate.specs.Parts.{ForTerms};
+//! Laws of terms, for proofs that stand on them. Each call does nothing.
+ghost use Rattle.claim_terms.specs.Terms.{ForTerms};
 
-use claim_terms::Terms;
+use crate::terms::Terms;
+use intake_csv::files_have_rows;
 
 /// No terms are without what journals see of them: each record of a file is a claim or is refused.
 pub fn terms_are_seen(terms: &Terms)
     ensures { ¬ ForTerms terms.now (λ _. ⊥) }
 {
+    files_have_rows();
     let _plan = terms.plan();
 }

@@ -1,5 +1,0 @@
-use Rattle.crew.proofs.SomeTerms.{some_terms}
-use Rattle.crew.proofs.laws.terms_are_seen.Goals as goal
-
-pub returns : goal.returns
-returns c = some_terms c.args.terms.now c.plan-plan.ensures.terms
