@@ -1,15 +1,15 @@
 //! The program `adjudicate`: it reads its command line, its files and its streams, and leaves all else to the
 //! library of that name.
 //!
-//! `command` is the command line, by `clap`. `files` reads texts whole. `run` is what happens between the two: one command of the
-//! library over standard output, its line on standard error, its exit status; `remittance` is that for the command `run`,
+//! `command` is the command line, by `clap`. `files` reads texts whole. `commands` is what happens between the two: one command of
+//! the library over standard output, its line on standard error, its exit status; `run` is that for the command `run`,
 //! `telling` what a person is told, and `pulse` the signs of life while a run takes long.
 #![tactic(auto)]
 
 mod command;
+mod commands;
 mod files;
 mod pulse;
-mod remittance;
 mod run;
 mod telling;
 
@@ -19,5 +19,5 @@ use std::process::ExitCode;
 
 fn main(rt: HostRuntime) -> io::Result<ExitCode> {
     let is_watched = rt.stderr().is_terminal();
-    Ok(ExitCode::from(run::status(&rt, is_watched)))
+    Ok(ExitCode::from(commands::status(&rt, is_watched)))
 }

@@ -1,6 +1,6 @@
 //! What a person is told on standard error, and the exit statuses.
 
-ghost use Rattle.std.specs.Prelude.{◌≡◌};
+ghost use Rattle.std.specs.Prelude.{◌≡◌, IfErr, OnOk};
 ghost use Rattle.adjudicate.specs.Stop.{status_of};
 
 use adjudicate::{LINE_LIMIT_BYTES, Stop};
@@ -12,8 +12,19 @@ pub const USAGE: u8 = 2;
 
 pub const RESOURCE: u8 = 3;
 
+/// The status that a command of the library ends with. A refusal is told.
+pub fn ended<R: Eprint>(rt: &R, answer: &Result<(), Stop>) -> u8
+    ensures done { OnOk answer.now (result ≡ DONE) }
+    ensures refused { IfErr answer.now (λ stop. result ≡ status_of stop) }
+{
+    match answer {
+        Ok(()) => DONE,
+        Err(stop) => tell(rt, stop),
+    }
+}
+
 /// Tells a refusal of the library by its line, and answers its status.
-pub fn stopped<R: Eprint>(rt: &R, stop: &Stop) -> u8
+pub fn tell<R: Eprint>(rt: &R, stop: &Stop) -> u8
     ensures { result ≡ status_of stop.now }
 {
     let mut line = [0u8; LINE_LIMIT_BYTES];
