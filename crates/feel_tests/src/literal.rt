@@ -57,6 +57,7 @@ fn quoted(alloc: Global, bytes: &[u8]) -> Result<Vec<u8>, AllocError>
     Ok(literal)
 }
 
+// A byte, with a backslash before it where the literal of a text needs one.
 fn push_escaped(byte: u8, literal: &mut Vec<u8>) -> Result<(), AllocError>
     ensures { OnOk result (literal.new.items ≡ literal.old.items ++ escaped_byte byte) }
 {

@@ -1,4 +1,4 @@
-use Rattle.std.proofs.Common.{◌≡◌, subst, sym, ◌∙◌, List, ℕ, true, Bool, eqb}
+use Rattle.std.proofs.Common.{◌≡◌, subst, ◌∙◌, List, ℕ, true, Bool, eqb}
 use Rattle.std.specs.Cmp.Lexicographic.{pointwise}
 use Rattle.feel_tests.proofs.Denials.{name_denied}
 use Rattle.feel_tests.proofs.SameBytes.{bytes_apart, bytes_same}
