@@ -5,7 +5,7 @@ use Rattle.std.proofs.lemmas.Bool.{false≢true, ltb-true, eqb-true, and_parts, 
 use Rattle.std.proofs.lemmas.Option.{none-some, same_Some}
 use Rattle.toml.specs.Data.{Items, no_items, item}
 use Rattle.dtable.specs.declared.inputs.Slot.{Slot}
-use Rattle.dtable.specs.declared.name.TheConstants.{NAME_LIMIT_BYTES}
+use Rattle.dtable.specs.Limits.{name_limit_bytes}
 use Rattle.dtable.specs.declared.table.Input.{Input}
 use Rattle.dtable.specs.declared.table.InputData.{InputData}
 use Rattle.dtable.specs.declared.table.Origin.{Origin}
@@ -46,15 +46,15 @@ IsReady-from_below plan given end sound all below place read =
 -- each of these names is short
 abbrev AllShort : List InputData → Type 0
 AllShort [] = Unit {0}
-AllShort (d ∷ ds) = (length d.name ≤ NAME_LIMIT_BYTES) × AllShort ds
+AllShort (d ∷ ds) = (length d.name ≤ name_limit_bytes) × AllShort ds
 
 AllShort-append : (front back : List InputData) → AllShort front → AllShort back → AllShort (front ++ back)
 AllShort-append [] back _ short = short
 AllShort-append (d ∷ ds) back first short = (first.0, AllShort-append ds back first.1 short)
 
-AllShort-at : (names : List InputData) (place : ℕ) (input : InputData) → AllShort names → slice_get names place ≡ Some input → length input.name ≤ NAME_LIMIT_BYTES
+AllShort-at : (names : List InputData) (place : ℕ) (input : InputData) → AllShort names → slice_get names place ≡ Some input → length input.name ≤ name_limit_bytes
 AllShort-at [] place input short standing = absurd (none-some input standing)
-AllShort-at (d ∷ ds) zero input short standing = subst (λ (x : InputData). length x.name ≤ NAME_LIMIT_BYTES) (same_Some d input standing) short.0
+AllShort-at (d ∷ ds) zero input short standing = subst (λ (x : InputData). length x.name ≤ name_limit_bytes) (same_Some d input standing) short.0
 AllShort-at (d ∷ ds) (suc place) input short standing = AllShort-at ds place input short.1 standing
 
 fields_short : (taken : List (List ℕ)) (entries : Items) (fields : List InputData) → EachBehind (λ f. f.name) IsField taken entries fields → AllShort fields
@@ -76,6 +76,6 @@ AreShort-from_text text plan spelled place input standing =
     AllShort-at plan.names place input short standing
 
 -- and so is one that is missing
-pub missing_short : (names : List InputData) (tables : List Table) (given : List Slot) (name : List ℕ) → AreShort names → IsFirstMissing names tables given name → length name ≤ NAME_LIMIT_BYTES
+pub missing_short : (names : List InputData) (tables : List Table) (given : List Slot) (name : List ℕ) → AreShort names → IsFirstMissing names tables given name → length name ≤ name_limit_bytes
 missing_short names tables given name short missing =
-    subst (λ (n : List ℕ). length n ≤ NAME_LIMIT_BYTES) missing.named (short missing.place missing.input missing.standing)
+    subst (λ (n : List ℕ). length n ≤ name_limit_bytes) missing.named (short missing.place missing.input missing.standing)

@@ -9,8 +9,6 @@ use Rattle.dtable.specs.declared.table.InputData.{InputData}
 use Rattle.dtable.specs.declared.plan_fault.PlanCause.TheVariants as cause
 use Rattle.dtable.specs.declared.plan_fault.PlanFault.{PlanFault}
 use Rattle.settlement.specs.declared.claim.Claim.{Claim}
-use Rattle.intake_csv.specs.Columns.{claim_columns}
-use Rattle.intake_csv.specs.Laws.{HaveDistinctNames, PlansNeedDistinctNames}
 use Rattle.intake_csv.specs.Rows.{AreRowsOf, claims_among}
 use Rattle.intake_csv.specs.declared.rows.Row.{Row}
 use Rattle.journal.specs.declared.event.Event.{Event}
@@ -75,24 +73,23 @@ module _ (parts : TermsParts) (J : List Event) (finished : IsFinishedOver parts 
       none (text_of (report_records J rows.files)) (record { files = rows.files; are_rows = rows.are_rows; bytes_are = refl }))
 
   -- the front of a report is that of the remittance
-  writes_front : (written : ℕ) → HaveDistinctNames (claim_columns parts.plan.names) → ¬ ForTerms parts (λ T. ⊥)
-      → WritesFront parts J written old new → WritesRemittanceFront parts old new written
-  writes_front written distinct seen w = record {
+  writes_front : (written : ℕ) → ¬ ForTerms parts (λ T. ⊥) → WritesFront parts J written old new → WritesRemittanceFront parts old new written
+  writes_front written seen w = record {
     journal = J;
     finished = finished;
     bytes = w.bytes;
     counted = w.counted;
     appended = w.appended;
-    front = w.front distinct;
+    front = w.front;
     is_there = some_report seen;
   }
 
   -- so a report that ends early ends the remittance
-  pub stops_by_write : (workers : ℕ) (fault : WriteFault) (s : Stop) → HaveDistinctNames (claim_columns parts.plan.names) → ¬ ForTerms parts (λ T. ⊥)
+  pub stops_by_write : (workers : ℕ) (fault : WriteFault) (s : Stop) → ¬ ForTerms parts (λ T. ⊥)
       → WritesFront parts J fault.written old new → IsStopOfWrite fault s → StopsRemittance parts workers old new s
-  stops_by_write workers fault (stop.Write written) distinct seen w made = rw made.0 (writes_front fault.written distinct seen w)
-  stops_by_write workers fault stop.NoMemory distinct seen w made = inr (fault.written, writes_front fault.written distinct seen w)
-  stops_by_write workers fault _ distinct seen w made = absurd made
+  stops_by_write workers fault (stop.Write written) seen w made = rw made.0 (writes_front fault.written seen w)
+  stops_by_write workers fault stop.NoMemory seen w made = inr (fault.written, writes_front fault.written seen w)
+  stops_by_write workers fault _ seen w made = absurd made
 
 -- a fault of the run ends it before anything is written
 pub stops_by_run : (parts : TermsParts) (workers : ℕ) (contents : Option (List ℕ)) (fault : RunFault) (s : Stop) → ((fault ≡ run.Workers) ↔ (¬ IsWorkerCount workers))
@@ -157,9 +154,3 @@ module _ (texts : RunTexts) (parts : TermsParts) (over : AreTermsOfTexts texts p
 
   pub reasons_over : {X : Type 0} (workers : ℕ) (r : Result X Stop) → IfErr r (StopsRemittance parts workers old new) → IfErr r (IsRunReason texts workers)
   reasons_over workers r h = IfErr-weaker r _ _ (reason_over workers) h
-
--- the columns that its claims need have distinct names
-pub distinct_over : (texts : RunTexts) (parts : TermsParts) → PlansNeedDistinctNames → AreTermsOfTexts texts parts → HaveDistinctNames (claim_columns parts.plan.names)
-distinct_over texts parts law over =
-    let P : PlanParts → Type 0 = λ plan. HaveDistinctNames (claim_columns plan.names) in
-    subst P (sym over.are_terms.plan_is) (law texts.plan over.plan over.spelled)

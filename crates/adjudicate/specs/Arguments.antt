@@ -5,7 +5,7 @@ use Rattle.feel_tests.specs.declared.value.Value.{Value}
 use Rattle.feel_tests.specs.Cell.{SpellsValue}
 use Rattle.feel_tests.specs.Value.{kind_of}
 use Rattle.dtable.specs.declared.inputs.Slot.{Slot}
-use Rattle.dtable.specs.declared.name.TheConstants.{NAME_LIMIT_BYTES}
+use Rattle.dtable.specs.Limits.{name_limit_bytes}
 use Rattle.dtable.specs.declared.table.InputData.{InputData}
 use Rattle.dtable.specs.declared.table.Table.{Table}
 use Rattle.dtable.specs.Inputs.{needs, value_at, kind_at}
@@ -81,4 +81,4 @@ pub record IsFirstMissing (names : List InputData) (tables : List Table) (given 
 
 -- each name has at most as many bytes as the names of plans may have
 abbrev pub AreShort : List InputData → Type 0
-AreShort names = (place : ℕ) (input : InputData) → slice_get names place ≡ Some input → length input.name ≤ NAME_LIMIT_BYTES
+AreShort names = (place : ℕ) (input : InputData) → slice_get names place ≡ Some input → length input.name ≤ name_limit_bytes

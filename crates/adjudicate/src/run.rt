@@ -2,8 +2,6 @@
 
 ghost use Rattle.std.specs.Prelude.{◌≡◌, IfOk, IfErr, OnOk};
 ghost use Rattle.fixpoint.specs.Out.{writer_of, has_failed};
-ghost use Rattle.intake_csv.specs.Columns.{claim_columns};
-ghost use Rattle.intake_csv.specs.Laws.{HaveDistinctNames};
 ghost use Rattle.crew.specs.Workers.{IsWorkerCount};
 ghost use Rattle.adjudicate.specs.RunText.{IsRemittance, IsRemittanceOf, run_texts};
 ghost use Rattle.adjudicate.specs.RunStop.{IsRunReason, StopsRemittance, WritesRemittanceUntil};
@@ -13,7 +11,6 @@ use crate::stop::Stop;
 use claim_terms::{Terms, terms_are_seen};
 use dtable::read_plan;
 use fixpoint::Out;
-use intake_csv::plans_need_distinct_names;
 use remit::write_report;
 use std::io::Write;
 use std::sync::Wait;
@@ -59,7 +56,6 @@ pub fn do_run<R: Threads + Wait + Sync + AllocGlobal, W: Write>(
     ensures ok_failed { OnOk result (has_failed out.new ≡ has_failed out.old) }
     ensures failed { IfErr result (λ stop. has_failed out.new ≡ failed_after (has_failed out.old) stop) }
 {
-    plans_need_distinct_names();
     let alloc = rt.alloc();
     let plan = read_plan(alloc, input.plan)?;
     let terms = Terms::new(alloc, &plan, input.files, input.balances, input.cutoff)?;
@@ -73,7 +69,6 @@ fn write_remittance<R: Threads + Wait + Sync + AllocGlobal, W: Write>(
     workers: usize,
     out: &mut Out<W>,
 ) -> Result<(), Stop>
-    requires distinct { HaveDistinctNames (claim_columns terms.now.plan.names) }
     ensures written { OnOk result (WritesText (IsRemittanceOf terms.now)
         (W.contents (writer_of out.old)) (W.contents (writer_of out.new))) }
     ensures workers { OnOk result (IsWorkerCount workers) }

@@ -18,9 +18,6 @@ use std::alloc::Global;
 use std::io::Write;
 use text::value_lines;
 
-/// How many bytes a plan's text has at most.
-pub const PLAN_LIMIT_BYTES: usize = 1_048_576;
-
 /// Evaluates the plan's tables at the arguments, each `NAME=LITERAL`, and writes the value of each output.
 /// The whole text is made before its first byte is written.
 #[tactic(auto, using(crate::proofs::Refusals::writes_whole, crate::proofs::Refusals::writes_front))]

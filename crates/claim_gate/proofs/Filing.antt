@@ -6,8 +6,7 @@ use Rattle.std.proofs.lemmas.Bool.{both_ways, or_left}
 use Rattle.std.proofs.lemmas.List.{length-map, length_push}
 use Rattle.std.proofs.lemmas.List.Folds.{list_any-append}
 use Rattle.settlement.specs.declared.claim.Claim.{Claim}
-use Rattle.intake_csv.specs.Columns.{claim_columns}
-use Rattle.intake_csv.specs.Laws.{StartHasTheRows, PlansNeedDistinctNames, ColumnsStandApart, GivenRowIsTheFirst, NoRecordsNoRows, StandApart}
+use Rattle.intake_csv.specs.Laws.{StartHasTheRows, GivenRowIsTheFirst, NoRecordsNoRows, StandApart}
 use Rattle.intake_csv.specs.Rows.{GivesRow, IsAtStart, RowsLeft, claims_among}
 use Rattle.intake_csv.specs.declared.rows.Row.TheVariants.{Good}
 use Rattle.claim_terms.specs.Terms.{TermsParts, AreClaimsOf, IsTermsOf, texts_of, ForTerms}
@@ -20,7 +19,7 @@ use Rattle.journal.specs.declared.event.Event.TheVariants.{Take}
 use Rattle.claim_gate.specs.Parts.{GateParts}
 use Rattle.claim_gate.specs.Replies.{HasClaims, IsWorkOf}
 use Rattle.claim_gate.specs.Shared.{Known, Went}
-use Rattle.claim_gate.specs.Worked.{IsReader, IsSpelled, IsAtWork, WorkStays}
+use Rattle.claim_gate.specs.Worked.{IsReader, IsAtWork, WorkStays}
 use Rattle.claim_gate.specs.declared.job.Job.{Job}
 use Rattle.claim_gate.specs.declared.reply.Taken.TheVariants.{Work}
 use Rattle.claim_gate.proofs.Journals.{any_now}
@@ -33,9 +32,9 @@ zipped_at R (x ∷ xs) [] i d e h within = absurd h
 zipped_at R (x ∷ xs) (y ∷ ys) zero d e h within = h.0
 zipped_at R (x ∷ xs) (y ∷ ys) (suc i) d e h within = zipped_at R xs ys i d e h.1 (omega arith)
 
-at_start : StartHasTheRows → PlansNeedDistinctNames → ColumnsStandApart → (terms : TermsParts) (T : Terms) (q : ℕ) (left : RowsLeft)
-    → IsSpelled terms.plan → IsTermsOf terms T → q < length terms.files → IsAtStart terms.plan.names (get_or terms.files q []) left → IsReader T (suc q) left
-at_start rows_law names_law columns_law terms T q left plan is within starts =
+at_start : StartHasTheRows → (terms : TermsParts) (T : Terms) (q : ℕ) (left : RowsLeft)
+    → StandApart left.layout.columns → IsTermsOf terms T → q < length terms.files → IsAtStart terms.plan.names (get_or terms.files q []) left → IsReader T (suc q) left
+at_start rows_law terms T q left apart is within starts =
     let file : AreClaimsOf terms.plan.names (get_or terms.files q []) (get_or T.files q []) =
     zipped_at (AreClaimsOf terms.plan.names) terms.files T.files q [] [] is.files within in
     let many : length T.files ≡ length terms.files = as_many_files terms T is in
@@ -46,17 +45,17 @@ at_start rows_law names_law columns_law terms T q left plan is within starts =
       are_rows = rows_law terms.plan.names (get_or terms.files q []) left file.rows starts file.are_rows;
       whole = file.claims_are;
       counted = sym starts.place;
-      apart = columns_law (claim_columns terms.plan.names) (get_or terms.files q []) left.layout left.records (names_law plan.text terms.plan plan.spells) starts.sheet;
+      apart = apart;
     }
 
 -- a reader at the start of a provider's file
-pub reads : StartHasTheRows → PlansNeedDistinctNames → ColumnsStandApart → (terms : TermsParts) (provider : ℕ) (left : RowsLeft)
-    → IsSpelled terms.plan → 1 ≤ provider → provider ≤ length terms.files → IsAtStart terms.plan.names (get_or terms.files (provider - 1) []) left
+pub reads : StartHasTheRows → (terms : TermsParts) (provider : ℕ) (left : RowsLeft)
+    → StandApart left.layout.columns → 1 ≤ provider → provider ≤ length terms.files → IsAtStart terms.plan.names (get_or terms.files (provider - 1) []) left
     → ForTerms terms (λ T. IsReader T provider left)
-reads rows_law names_law columns_law terms zero left plan least most starts T is = let never : ⊥ = omega (arith, least) in absurd never
-reads rows_law names_law columns_law terms (suc q) left plan least most starts T is =
+reads rows_law terms zero left apart least most starts T is = let never : ⊥ = omega (arith, least) in absurd never
+reads rows_law terms (suc q) left apart least most starts T is =
     let same : suc q - 1 ≡ q = omega arith in
-    at_start rows_law names_law columns_law terms T q left plan is (omega (arith, most))
+    at_start rows_law terms T q left apart is (omega (arith, most))
     (subst (λ i. IsAtStart terms.plan.names (get_or terms.files i []) left) same starts)
 
 -- a provider among the files is one among their texts

@@ -1,5 +1,6 @@
 -- A text has one header and one list of records at most, and a header one column for each needed name.
 use Rattle.std.proofs.Common.{◌≡◌, ◌<◌, ℕ, suc, zero, List, [], ◌∷◌, length, get_or, Some, None, cond, refl, sym, ap, ◌∙◌, arith}
+use Rattle.std.specs.List.{AllPairs}
 use Rattle.std.specs.Str.{bytes_eq}
 use Rattle.std.proofs.lemmas.List.Sums.{sum_by-cons}
 use Rattle.std.proofs.lemmas.Slice.Eq.{bytes_eq-Decides}
@@ -11,7 +12,7 @@ use Rattle.csv.specs.declared.parser.State.{State}
 use Rattle.csv.specs.declared.parser.State.TheVariants as state
 use Rattle.intake_csv.specs.Records.{AreRecordsOf, Fields}
 use Rattle.intake_csv.specs.Columns.{AreColumnsOf, IsColumnOf, IsSheet, times}
-use Rattle.intake_csv.specs.Laws.{HaveDistinctNames, StandApart}
+use Rattle.intake_csv.specs.Laws.{StandApart}
 use Rattle.intake_csv.specs.declared.column.Column.{Column}
 use Rattle.intake_csv.specs.declared.column.Layout.{Layout}
 use Rattle.intake_csv.specs.declared.column.Needed.{Needed}
@@ -111,6 +112,10 @@ needed-at header (n ∷ ns) (c ∷ cs) zero d e h within = (omega arith, h.0)
 needed-at header (n ∷ ns) (c ∷ cs) (suc k) d e h within =
     let found = needed-at header ns cs k d e h.1 (omega (arith, within)) in
     (omega (arith, found.0), found.1)
+
+-- no two needed columns have the same name
+abbrev pub HaveDistinctNames : List Needed → Type 0
+HaveDistinctNames needed = AllPairs (λ a b. ¬ (a.name ≡ b.name)) needed
 
 -- columns of distinct names stand apart
 pub columns-apart : (header : Fields) (needed : List Needed) (columns : List Column) → HaveDistinctNames needed → AreColumnsOf header needed columns → StandApart columns

@@ -4,7 +4,6 @@ use Rattle.std.specs.List.{AllPairs}
 use Rattle.dtable.specs.declared.table.InputData.{InputData}
 use Rattle.dtable.specs.Names.{names_of}
 use Rattle.dtable.specs.Plan.{PlanParts}
-use Rattle.dtable.specs.PlanFile.{IsPlanText}
 use Rattle.settlement.specs.declared.claim.Claim.{Claim}
 use Rattle.settlement.specs.Claim.{IsClaimOf}
 use Rattle.intake_csv.specs.Records.{Fields}
@@ -12,7 +11,6 @@ use Rattle.intake_csv.specs.Columns.{IsSheet, claim_columns}
 use Rattle.intake_csv.specs.Rows.{AreRowsLeft, AreRowsOf, GivesRow, HasValues, IsAtStart, RowsLeft, claim_in, claim_values}
 use Rattle.intake_csv.specs.declared.column.Column.{Column}
 use Rattle.intake_csv.specs.declared.column.Layout.{Layout}
-use Rattle.intake_csv.specs.declared.column.Needed.{Needed}
 use Rattle.intake_csv.specs.declared.rows.Row.{Row}
 
 -- a claim that a record of a file of claims holds has the fields of the plan that the file was read under
@@ -20,22 +18,9 @@ abbrev pub ClaimsHaveFields : Type 0
 ClaimsHaveFields = (plan : PlanParts) (fields : List InputData) (text : List ℕ) (layout : Layout) (records : List Fields) (row : Fields) (claim : Claim)
     → plan.names ≡ names_of fields → IsSheet (claim_columns plan.names) text layout records → HasValues layout row (claim_values claim) → IsClaimOf plan claim
 
--- no two needed columns have the same name
-abbrev pub HaveDistinctNames : List Needed → Type 0
-HaveDistinctNames needed = AllPairs (λ a b. a.name ≢ b.name) needed
-
 -- no two columns stand at the same place of the header
 abbrev pub StandApart : List Column → Type 0
 StandApart columns = AllPairs (λ a b. a.place ≢ b.place) columns
-
--- the columns that the fields of a plan need have distinct names, and none is one of a claim's own
-abbrev pub PlansNeedDistinctNames : Type 0
-PlansNeedDistinctNames = (text : List ℕ) (plan : PlanParts) → IsPlanText text plan → HaveDistinctNames (claim_columns plan.names)
-
--- needed columns of distinct names stand apart in each file that has them
-abbrev pub ColumnsStandApart : Type 0
-ColumnsStandApart = (needed : List Needed) (text : List ℕ) (layout : Layout) (records : List Fields) → HaveDistinctNames needed
-    → IsSheet needed text layout records → StandApart layout.columns
 
 -- the rows of a text are those that a reader at its start has left
 abbrev pub StartHasTheRows : Type 0

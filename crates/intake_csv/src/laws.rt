@@ -1,19 +1,9 @@
 //! Laws of files of claims, for proofs that stand on them. Each call does nothing.
-ghost use Rattle.intake_csv.specs.Laws.{ClaimsHaveFields, ColumnsStandApart, FilesHaveRows, GivenRowHasTheClaim, GivenRowIsTheFirst, NoRecordsNoRows, PlansNeedDistinctNames, StartHasTheRows};
+ghost use Rattle.intake_csv.specs.Laws.{ClaimsHaveFields, FilesHaveRows, GivenRowHasTheClaim, GivenRowIsTheFirst, NoRecordsNoRows, StartHasTheRows};
 
 /// A claim that a record of a file of claims holds has the plan's fields.
 pub fn claims_have_the_plan_s_fields()
     ensures { ClaimsHaveFields }
-{}
-
-/// The columns that a file of claims needs under a plan have distinct names.
-pub fn plans_need_distinct_names()
-    ensures { PlansNeedDistinctNames }
-{}
-
-/// Needed columns of distinct names stand at distinct places of a header.
-pub fn columns_stand_apart()
-    ensures { ColumnsStandApart }
 {}
 
 /// A reader at the start of a text has all rows of the text left.

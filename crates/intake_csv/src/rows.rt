@@ -3,6 +3,7 @@ ghost use Rattle.std.specs.Prelude.{◌≡◌, true, List, Ok, None, IfOk, IfErr
 ghost use Rattle.csv.specs.Records.{fields_of};
 ghost use Rattle.dtable.specs.declared.table.InputData.{InputData};
 ghost use Rattle.intake_csv.specs.Columns.{HasFileFault, claim_columns};
+ghost use Rattle.intake_csv.specs.Laws.{StandApart};
 ghost use Rattle.intake_csv.specs.Rows.{AreRowsLeft, AreRowsOf, Gives, IsAtStart, IsHead, RowsLeft};
 ghost use Rattle.intake_csv.specs.declared.records.Stage.TheVariants.{Over, Failed};
 ghost use Rattle.intake_csv.specs.declared.rows.Row.{Row as AnyRow};
@@ -64,9 +65,11 @@ impl<'t> Rows<'t> {
     /// Reads the header of a file of claims under a plan.
     pub fn new(alloc: Global, plan: &Plan, text: &'t [u8]) -> Result<Rows<'t>, FileFault>
         ensures ok { IfOk result (IsAtStart plan.now.names text.now) }
+        ensures apart { IfOk result (λ rows. StandApart rows.layout.columns) }
         ensures rows { IfOk result (λ rows. (all : List AnyRow) → AreRowsLeft rows all → AreRowsOf plan.now.names text.now all) }
         ensures fault { IfErr result (HasFileFault (claim_columns plan.now.names) text.now) }
     {
+        let _names = plan.names();
         let needed = claim_columns(alloc, plan)?;
         let sheet = read_sheet(alloc, needed.as_slice(), text)?;
         Ok(Rows {

@@ -1,8 +1,8 @@
 //! Files by worked examples.
 use crate::{
     BalanceFault, FILE_LIMIT_BYTES, FileFault, Row, RowCause, RowFault, Rows,
-    claims_have_the_plan_s_fields, columns_stand_apart, given_row_is_the_first,
-    no_records_give_no_rows, plans_need_distinct_names, read_balances, reader_begins_with_all_rows,
+    claims_have_the_plan_s_fields, given_row_is_the_first, no_records_give_no_rows, read_balances,
+    reader_begins_with_all_rows,
 };
 use dtable::{Plan, read_plan};
 use feel_tests::Value;
@@ -489,8 +489,6 @@ fn check_prefixes_of_balances(rt: &impl Abort, alloc: Global, text: &[u8]) {
 #[test]
 fn calls_the_laws() {
     claims_have_the_plan_s_fields();
-    plans_need_distinct_names();
-    columns_stand_apart();
     reader_begins_with_all_rows();
     given_row_is_the_first();
     no_records_give_no_rows();

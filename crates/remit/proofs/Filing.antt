@@ -5,38 +5,35 @@ use Rattle.std.proofs.lemmas.Grind.{flat_map-append}
 use Rattle.std.proofs.lemmas.List.{get_or-map, length-map, take_all, take_more}
 use Rattle.std.proofs.lemmas.Slice.Zip.{AllZip-long, all_zipped_more}
 use Rattle.dtable.specs.declared.table.InputData.{InputData}
-use Rattle.intake_csv.specs.Columns.{claim_columns}
-use Rattle.intake_csv.specs.Laws.{ColumnsStandApart, StartHasTheRows}
+use Rattle.intake_csv.specs.Laws.{StandApart, StartHasTheRows}
 use Rattle.intake_csv.specs.Rows.{AreRowsLeft, AreRowsOf, IsAtStart, RowsLeft}
 use Rattle.intake_csv.specs.declared.rows.Row.{Row}
 use Rattle.remit.specs.Records.{record_of, records_of}
 use Rattle.remit.specs.Report.{record_text, text_of}
 use Rattle.claim_terms.specs.Terms.{texts_of}
 use Rattle.remit.specs.Held.{At, IsNoMemory, Writes, at}
-use Rattle.remit.specs.Rows.{AreDistinct, AreRead, Begin, Deciding, GivesAll, GivesFirst, IsRead, IsReadFirst, WritesFile, WritesFiles, WritesLeft, files_text, rows_text}
+use Rattle.remit.specs.Rows.{AreRead, Begin, Deciding, GivesAll, GivesFirst, IsRead, IsReadFirst, WritesFile, WritesFiles, WritesLeft, files_text, rows_text}
 use Rattle.remit.specs.declared.fault.WriteFault.{WriteFault}
 use Rattle.remit.specs.declared.pieces.Pieces.{Pieces}
 use Rattle.remit.proofs.Holding.{no-memory, writes-none, writes-then}
 use Rattle.remit.proofs.Passing.{rows-append}
 
 -- all rows of a text, by a reader at its start
-pub read-all : StartHasTheRows → ColumnsStandApart → (names : List InputData) (text : List ℕ) (start : RowsLeft) (rows : List Row) → IsAtStart names text start
+pub read-all : StartHasTheRows → (names : List InputData) (text : List ℕ) (start : RowsLeft) (rows : List Row) → StandApart start.layout.columns → IsAtStart names text start
     → ((all : List Row) → AreRowsLeft start all → AreRowsOf names text all) → GivesAll start rows → IsRead names text rows
-read-all begins apart names text start rows at_start of_text gives = record {
+read-all begins names text start rows apart at_start of_text gives = record {
   are_rows = of_text rows gives.are_rows;
-  only = λ distinct all are.
-      gives.only (apart (claim_columns names) text start.layout start.records distinct at_start.sheet) all (begins names text start all at_start are);
+  only = λ all are. gives.only apart all (begins names text start all at_start are);
 }
 
 -- the first rows of a text, by a reader at its start
-pub read-first : StartHasTheRows → ColumnsStandApart → (names : List InputData) (text : List ℕ) (start : RowsLeft) (rows : List Row) → IsAtStart names text start
+pub read-first : StartHasTheRows → (names : List InputData) (text : List ℕ) (start : RowsLeft) (rows : List Row) → StandApart start.layout.columns → IsAtStart names text start
     → GivesFirst start rows → IsReadFirst names text rows
-read-first begins apart names text start rows at_start gives distinct all are =
-    gives (apart (claim_columns names) text start.layout start.records distinct at_start.sheet) all (begins names text start all at_start are)
+read-first begins names text start rows apart at_start gives all are = gives apart all (begins names text start all at_start are)
 
 -- every text's rows begin with none
 pub read-none : (names : List InputData) (text : List ℕ) → IsReadFirst names text []
-read-none names text distinct all are = record { rest = all; whole_is = refl }
+read-none names text all are = record { rest = all; whole_is = refl }
 
 -- two lists beside each other, in two parts
 pub record Parted {A B : Type 0} (R : A → B → Type 0) (xs ys : List A) (all : List B) : Type 0 where
@@ -77,20 +74,20 @@ none-beside R (b ∷ all) h = absurd h
 
 -- no files
 pub none-read : (names : List InputData) → AreRead names [] []
-none-read names = record { are_rows = tt; only = λ distinct all are. none-beside (AreRowsOf names) all are }
+none-read names = record { are_rows = tt; only = λ all are. none-beside (AreRowsOf names) all are }
 
 -- one file more
 read-more : (names : List InputData) (texts : List (List ℕ)) (files : List (List Row)) (text : List ℕ) (rows : List Row) → AreRead names texts files
     → IsRead names text rows → AreRead names (texts ++ text ∷ []) (files ++ rows ∷ [])
 read-more names texts files text rows before read = record {
   are_rows = all_zipped_more (AreRowsOf names) texts files text rows before.are_rows read.are_rows;
-  only = λ distinct all are.
+  only = λ all are.
       let parts = parted (AreRowsOf names) texts (text ∷ []) all are in
       let last = headed (AreRowsOf names) text [] parts.behind parts.in_behind in
       let end = none-beside (AreRowsOf names) last.behind last.in_behind in
       parts.all_is
-      ∙ ap₂ (λ front behind. front ++ behind) (before.only distinct parts.front parts.in_front)
-      (last.all_is ∙ ap₂ (λ r rs. r ∷ rs) (read.only distinct last.head last.beside) end);
+      ∙ ap₂ (λ front behind. front ++ behind) (before.only parts.front parts.in_front)
+      (last.all_is ∙ ap₂ (λ r rs. r ∷ rs) (read.only last.head last.beside) end);
 }
 
 pub read-next : (names : List InputData) (texts : List (List ℕ)) (place : ℕ) (d : List ℕ) (files : List (List Row)) (rows : List Row) → place < length texts
@@ -132,18 +129,18 @@ files-push decided files rows place size =
 
 -- the files so far, and the first rows of one more, begin the text of whatever rows the files have
 begin-more : (decided : Deciding) (names : List InputData) (texts : List (List ℕ)) (text : List ℕ) (behind : List (List ℕ)) (files : List (List Row)) (rows : List Row)
-    → AreRead names texts files → IsReadFirst names text rows → AreDistinct names → (all : List (List Row)) → AllZip (AreRowsOf names) (texts ++ text ∷ behind) all
+    → AreRead names texts files → IsReadFirst names text rows → (all : List (List Row)) → AllZip (AreRowsOf names) (texts ++ text ∷ behind) all
     → Begin (files_text decided 1 files ++ rows_text decided (1 + length files) rows) (files_text decided 1 all)
-begin-more decided names texts text behind files rows before first distinct all are =
+begin-more decided names texts text behind files rows before first all are =
     let parts = parted (AreRowsOf names) texts (text ∷ behind) all are in
     let next = headed (AreRowsOf names) text behind parts.behind parts.in_behind in
-    let begins = first distinct next.head next.beside in
+    let begins = first next.head next.beside in
     let provider = 1 + length files in
     let others = files_text decided (suc provider) next.behind in
     record {
       rest = rows_text decided provider begins.rest ++ others;
       whole_is =
-          ap (files_text decided 1) (parts.all_is ∙ ap₂ (λ front rest. front ++ rest) (before.only distinct parts.front parts.in_front) next.all_is)
+          ap (files_text decided 1) (parts.all_is ∙ ap₂ (λ front rest. front ++ rest) (before.only parts.front parts.in_front) next.all_is)
           ∙ files-append decided 1 files (next.head ∷ next.behind)
           ∙ ap (λ t. files_text decided 1 files ++ t)
           (files-cons decided provider next.head next.behind
@@ -153,13 +150,13 @@ begin-more decided names texts text behind files rows before first distinct all 
     }
 
 pub begin-next : (decided : Deciding) (names : List InputData) (texts : List (List ℕ)) (place : ℕ) (d : List ℕ) (files : List (List Row)) (rows : List Row) → place < length texts
-    → length files ≡ place → AreRead names (take place texts) files → IsReadFirst names (get_or texts place d) rows → AreDistinct names → (all : List (List Row))
+    → length files ≡ place → AreRead names (take place texts) files → IsReadFirst names (get_or texts place d) rows → (all : List (List Row))
     → AllZip (AreRowsOf names) texts all → Begin (files_text decided 1 files ++ rows_text decided (place + 1) rows) (files_text decided 1 all)
-begin-next decided names texts place d files rows within size before first distinct all are =
+begin-next decided names texts place d files rows within size before first all are =
     let split : texts ≡ take place texts ++ get_or texts place d ∷ drop (suc place) texts =
     sym (take-append-drop place texts) ∙ ap (λ rest. take place texts ++ rest) (drop-cons texts place d within) in
     let provider : 1 + length files ≡ place + 1 = omega (arith, size) in
-    rw provider at (begin-more decided names (take place texts) (get_or texts place d) (drop (suc place) texts) files rows before first distinct all
+    rw provider at (begin-more decided names (take place texts) (get_or texts place d) (drop (suc place) texts) files rows before first all
     (subst (λ ts. AllZip (AreRowsOf names) ts all) split are))
 
 -- as many files as texts
@@ -167,13 +164,13 @@ pub files-long : (names : List InputData) (texts : List (List ℕ)) (files : Lis
 files-long names texts files read = AllZip-long (AreRowsOf names) texts files read.are_rows
 
 -- what is written of a reader at the start of a text is written of the text
-pub of-text : StartHasTheRows → ColumnsStandApart → (decided : Deciding) (provider : ℕ) (names : List InputData) (text : List ℕ) (start : RowsLeft) (old new : At)
-    (result : Result (Unit {0}) WriteFault) → IsAtStart names text start → ((all : List Row) → AreRowsLeft start all → AreRowsOf names text all)
+pub of-text : StartHasTheRows → (decided : Deciding) (provider : ℕ) (names : List InputData) (text : List ℕ) (start : RowsLeft) (old new : At)
+    (result : Result (Unit {0}) WriteFault) → StandApart start.layout.columns → IsAtStart names text start → ((all : List Row) → AreRowsLeft start all → AreRowsOf names text all)
     → WritesLeft decided provider start old new result → WritesFile decided provider names text old new result
-of-text begins apart decided provider names text start old new (Ok done) at_start of writes =
-    (writes.0, read-all begins apart names text start writes.0 at_start of writes.1, writes.2)
-of-text begins apart decided provider names text start old new (Err fault) at_start of writes =
-    (writes.0, read-first begins apart names text start writes.0 at_start writes.1, writes.2)
+of-text begins decided provider names text start old new (Ok done) apart at_start of writes =
+    (writes.0, read-all begins names text start writes.0 apart at_start of writes.1, writes.2)
+of-text begins decided provider names text start old new (Err fault) apart at_start of writes =
+    (writes.0, read-first begins names text start writes.0 apart at_start writes.1, writes.2)
 
 -- memory is wanting for a file
 pub file-no-memory : (decided : Deciding) (provider : ℕ) (names : List InputData) (text : List ℕ) (contents : Option (List ℕ)) (failed : Bool) (pieces : Pieces)

@@ -19,7 +19,7 @@ use Rattle.remit.specs.Held.{At, Holds, IsReady, Writes, gathered_of}
 use Rattle.remit.specs.Looked.{Noted, looked_up}
 use Rattle.remit.specs.Records.{header_fields, line_of, record_of, records_of, told_of, total_fields}
 use Rattle.remit.specs.Report.{IsReport, record_text, report_records, text_of}
-use Rattle.remit.specs.Rows.{AreDistinct, AreRead, Begin, Deciding, WritesFiles, files_text}
+use Rattle.remit.specs.Rows.{AreRead, Begin, Deciding, WritesFiles, files_text}
 use Rattle.remit.specs.Writing.{WritesFront, WritesReport}
 use Rattle.remit.specs.declared.decisions.Decisions.{Decisions}
 use Rattle.remit.specs.declared.fault.WriteCause.TheVariants.{Device, OutOfMemory}
@@ -146,7 +146,7 @@ front-of (x ∷ front) behind (suc n) is = ap (λ xs. x ∷ xs) (front-of front 
 
 -- the writing is refused within a text that begins each report
 pub front-written : (parts : TermsParts) (J : List Event) (start end : At) (text : List ℕ) (fault : WriteFault) → IsFresh start → Writes start end text (Err fault)
-    → (AreDistinct parts.plan.names → (report : List ℕ) → IsReport parts J report → Begin text report)
+    → ((report : List ℕ) → IsReport parts J report → Begin text report)
     → WritesFront parts J fault.written start.contents end.contents
 front-written parts J start end text fault fresh writes begins =
     let has = writes.0 start.contents [] (holds-none start fresh) in
@@ -154,15 +154,15 @@ front-written parts J start end text fault fresh writes begins =
       bytes = has.gone;
       counted = sym has.counted;
       appended = has.appended;
-      front = λ distinct report is.
-          let begin = begins distinct report is in
+      front = λ report is.
+          let begin = begins report is in
           let split = begin.whole_is ∙ ap (λ t. t ++ begin.rest) has.text_is ∙ append_assoc has.gone has.rest begin.rest in
           sym (ap (take fault.written) split ∙ front-of has.gone (has.rest ++ begin.rest) fault.written has.counted);
     }
 
 -- nothing is written
 pub none-written : (parts : TermsParts) (J : List Event) (contents : Option (List ℕ)) → WritesFront parts J 0 contents contents
-none-written parts J contents = record { bytes = []; counted = refl; appended = Appends-nil contents; front = λ distinct report is. refl }
+none-written parts J contents = record { bytes = []; counted = refl; appended = Appends-nil contents; front = λ report is. refl }
 
 -- each report begins with the header
 pub begins-header : (parts : TermsParts) (J : List Event) (report : List ℕ) → IsReport parts J report → Begin (record_text header_fields) report
@@ -182,7 +182,7 @@ files-same old new names others texts same a b result kept named alike writes =
 pub header-refused : (parts : TermsParts) (J : List Event) (a b : At) (fault : WriteFault) → IsFresh a → Writes a b (record_text header_fields) (Err fault)
     → WritesFront parts J fault.written a.contents b.contents
 header-refused parts J a b fault fresh header =
-    front-written parts J a b (record_text header_fields) fault fresh header (λ distinct report is. begins-header parts J report is)
+    front-written parts J a b (record_text header_fields) fault fresh header (λ report is. begins-header parts J report is)
 
 -- refused in the files
 pub files-refused : (parts : TermsParts) (J : List Event) (providers : ℕ) (decisions : Decisions) (a b c : At) (fault : WriteFault) → IsFinishedOver parts J
@@ -191,9 +191,9 @@ pub files-refused : (parts : TermsParts) (J : List Event) (providers : ℕ) (dec
 files-refused parts J providers decisions a b c fault finished noted as_many fresh header files =
     let text = record_text header_fields ++ files.0 in
     front-written parts J a c text fault fresh (writes-then a b c _ _ tt (Err fault) header files.2)
-    (λ distinct report is.
+    (λ report is.
     let alike = files-alike parts J providers decisions is.files finished noted as_many is.are_rows in
-    let begin = files.1 distinct is.files is.are_rows in
+    let begin = files.1 is.files is.are_rows in
     let total = record_text (total_fields J) in
     record {
       rest = begin.rest ++ total;
@@ -206,11 +206,11 @@ files-refused parts J providers decisions a b c fault finished noted as_many fre
 
 -- the whole text is that of each report
 whole-of-each : (parts : TermsParts) (J : List Event) (providers : ℕ) (decisions : Decisions) (files : List (List Row)) → IsFinishedOver parts J
-    → Noted providers J J decisions → providers ≡ length parts.files → AreRead parts.plan.names parts.files files → AreDistinct parts.plan.names → (report : List ℕ)
+    → Noted providers J J decisions → providers ≡ length parts.files → AreRead parts.plan.names parts.files files → (report : List ℕ)
     → IsReport parts J report → report ≡ record_text header_fields ++ (files_text (looked_up decisions) 1 files ++ record_text (total_fields J))
-whole-of-each parts J providers decisions files finished noted as_many read distinct report is =
+whole-of-each parts J providers decisions files finished noted as_many read report is =
     let alike = files-alike parts J providers decisions is.files finished noted as_many is.are_rows in
-    let same = read.only distinct is.files is.are_rows in
+    let same = read.only is.files is.are_rows in
     is.bytes_are ∙ whole-is J is.files
     ∙ ap (λ t. record_text header_fields ++ (t ++ record_text (total_fields J))) (sym alike ∙ ap (files_text (looked_up decisions) 1) same)
 
@@ -222,9 +222,9 @@ pub total-refused : (parts : TermsParts) (J : List Event) (providers : ℕ) (dec
 total-refused parts J providers decisions a b c d fault finished noted as_many fresh header files total =
     let text = record_text header_fields ++ (files_text (looked_up decisions) 1 files.0 ++ record_text (total_fields J)) in
     front-written parts J a d text fault fresh (writes-then a b d _ _ tt (Err fault) header (writes-then b c d _ _ tt (Err fault) files.2 total))
-    (λ distinct report is. record {
+    (λ report is. record {
       rest = [];
-      whole_is = whole-of-each parts J providers decisions files.0 finished noted as_many files.1 distinct report is ∙ sym (append-nil text);
+      whole_is = whole-of-each parts J providers decisions files.0 finished noted as_many files.1 report is ∙ sym (append-nil text);
     })
 
 -- refused at the end
@@ -238,10 +238,10 @@ end-refused parts J providers decisions a b c d e fault finished noted as_many f
     let text = record_text header_fields ++ (front ++ (last ++ [])) in
     front-written parts J a e text fault fresh
     (writes-then a b e _ _ tt (Err fault) header (writes-then b c e _ _ tt (Err fault) files.2 (writes-then c d e _ _ tt (Err fault) total end)))
-    (λ distinct report is. record {
+    (λ report is. record {
       rest = [];
       whole_is =
-          whole-of-each parts J providers decisions files.0 finished noted as_many files.1 distinct report is
+          whole-of-each parts J providers decisions files.0 finished noted as_many files.1 report is
           ∙ ap (λ t. record_text header_fields ++ (front ++ t)) (sym (append-nil last)) ∙ sym (append-nil text);
     })
 

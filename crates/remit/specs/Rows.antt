@@ -3,8 +3,7 @@ use Rattle.std.specs.Prelude.{◌≡◌, ℕ, List, ◌++◌, map, Option, Resul
 use Rattle.std.specs.List.{AllZip}
 use Rattle.dtable.specs.declared.table.InputData.{InputData}
 use Rattle.settlement.specs.declared.outcome.Outcome.{Outcome}
-use Rattle.intake_csv.specs.Columns.{claim_columns}
-use Rattle.intake_csv.specs.Laws.{HaveDistinctNames, StandApart}
+use Rattle.intake_csv.specs.Laws.{StandApart}
 use Rattle.intake_csv.specs.Rows.{AreRowsLeft, AreRowsOf, RowsLeft}
 use Rattle.intake_csv.specs.declared.rows.Row.{Row}
 use Rattle.remit.specs.Held.{At, Writes}
@@ -43,18 +42,14 @@ abbrev pub WritesLeft : Deciding → ℕ → RowsLeft → At → At → Result (
 WritesLeft decided provider left old new (Ok done) = (rows : List Row) × GivesAll left rows × Writes old new (rows_text decided provider rows) (Ok done)
 WritesLeft decided provider left old new (Err fault) = (rows : List Row) × GivesFirst left rows × Writes old new (rows_text decided provider rows) (Err fault)
 
--- the columns that claims need have distinct names
-abbrev pub AreDistinct : List InputData → Type 0
-AreDistinct names = HaveDistinctNames (claim_columns names)
-
--- these are the rows of the text, and where the columns that claims need have distinct names no others are
+-- these are the rows of the text, and no others are
 pub record IsRead (names : List InputData) (text : List ℕ) (rows : List Row) : Type 0 where
   pub are_rows : AreRowsOf names text rows
-  pub only : AreDistinct names → (all : List Row) → AreRowsOf names text all → all ≡ rows
+  pub only : (all : List Row) → AreRowsOf names text all → all ≡ rows
 
--- where the columns that claims need have distinct names, the rows of the text begin with these
+-- the rows of the text begin with these
 abbrev pub IsReadFirst : List InputData → List ℕ → List Row → Type 0
-IsReadFirst names text front = AreDistinct names → (all : List Row) → AreRowsOf names text all → Begin front all
+IsReadFirst names text front = (all : List Row) → AreRowsOf names text all → Begin front all
 
 -- the rows of a provider's file are written: all of them, or the first ones, and then the writing is refused
 abbrev pub WritesFile : Deciding → ℕ → List InputData → List ℕ → At → At → Result (Unit {0}) WriteFault → Type 0
@@ -62,15 +57,15 @@ WritesFile decided provider names text old new (Ok done) = (rows : List Row) × 
 WritesFile decided provider names text old new (Err fault) =
     (rows : List Row) × IsReadFirst names text rows × Writes old new (rows_text decided provider rows) (Err fault)
 
--- these are the rows of the files, and where the columns that claims need have distinct names no others are
+-- these are the rows of the files, and no others are
 pub record AreRead (names : List InputData) (texts : List (List ℕ)) (files : List (List Row)) : Type 0 where
   pub are_rows : AllZip (AreRowsOf names) texts files
-  pub only : AreDistinct names → (all : List (List Row)) → AllZip (AreRowsOf names) texts all → all ≡ files
+  pub only : (all : List (List Row)) → AllZip (AreRowsOf names) texts all → all ≡ files
 
--- the rows of the files are written: all of them; or a text that begins the text of each rows that the files have, where the
--- columns that claims need have distinct names, and then the writing is refused
+-- the rows of the files are written: all of them; or a text that begins the text of each rows that the files have, and then
+-- the writing is refused
 abbrev pub WritesFiles : Deciding → List InputData → List (List ℕ) → At → At → Result (Unit {0}) WriteFault → Type 0
 WritesFiles decided names texts old new (Ok done) = (files : List (List Row)) × AreRead names texts files × Writes old new (files_text decided 1 files) (Ok done)
 WritesFiles decided names texts old new (Err fault) =
-    (front : List ℕ) × (AreDistinct names → (all : List (List Row)) → AllZip (AreRowsOf names) texts all → Begin front (files_text decided 1 all))
+    (front : List ℕ) × ((all : List (List Row)) → AllZip (AreRowsOf names) texts all → Begin front (files_text decided 1 all))
     × Writes old new front (Err fault)

@@ -1,8 +1,6 @@
 -- What a writer has got of a report.
 use Rattle.std.specs.Prelude.{◌≡◌, ℕ, List, length, take, Option}
 use Rattle.std.specs.Io.KnownBytes.{Appends}
-use Rattle.intake_csv.specs.Columns.{claim_columns}
-use Rattle.intake_csv.specs.Laws.{HaveDistinctNames}
 use Rattle.journal.specs.declared.event.Event.{Event}
 use Rattle.claim_terms.specs.Terms.{TermsParts}
 use Rattle.remit.specs.Report.{IsReport}
@@ -13,10 +11,9 @@ pub record WritesReport (parts : TermsParts) (J : List Event) (old new : Option 
   pub is_report : IsReport parts J bytes
   pub appended : Appends old new bytes
 
--- the writer has got so many bytes; and where the columns that claims need have distinct names, as under every plan that is read
--- from a text, these are the first bytes of each report of these terms and this journal
+-- the writer has got so many bytes, and these are the first bytes of each report of these terms and this journal
 pub record WritesFront (parts : TermsParts) (J : List Event) (written : ℕ) (old new : Option (List ℕ)) : Type 0 where
   pub bytes : List ℕ
   pub counted : length bytes ≡ written
   pub appended : Appends old new bytes
-  pub front : HaveDistinctNames (claim_columns parts.plan.names) → (report : List ℕ) → IsReport parts J report → bytes ≡ take written report
+  pub front : (report : List ℕ) → IsReport parts J report → bytes ≡ take written report

@@ -137,7 +137,6 @@ impl<'j> Report<'j> {
         ensures decisions { self.new.decisions ≡ self.old.decisions }
     {
         intake_csv::reader_begins_with_all_rows();
-        intake_csv::columns_stand_apart();
         match Rows::new(self.alloc, plan, text) {
             Ok(rows) => self.write_rows(provider, rows, out),
             Err(_) => Err(self.pieces.no_memory()),

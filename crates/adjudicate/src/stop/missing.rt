@@ -1,9 +1,8 @@
 //! The name of what is missing.
 
 ghost use Rattle.std.specs.Prelude.{◌≡◌, ◌≤◌, length, IfOk};
-ghost use Rattle.dtable.specs.declared.name.TheConstants.{NAME_LIMIT_BYTES};
+ghost use Rattle.dtable.specs.Limits.{name_limit_bytes};
 
-use dtable::NAME_LIMIT_BYTES;
 use std::alloc::{AllocError, Global};
 use std::marker::Model;
 
@@ -15,19 +14,19 @@ pub struct MissingName {
 
 impl Model for MissingName {
     ghost use Rattle.std.specs.Prelude.{List, ℕ, ◌≤◌, length, string_bytes};
-    ghost use Rattle.dtable.specs.declared.name.TheConstants.{NAME_LIMIT_BYTES};
+    ghost use Rattle.dtable.specs.Limits.{name_limit_bytes};
 
     ghost Value = { List ℕ };
 
     ghost view = { λ n. string_bytes n.text };
 
-    ghost invariant = { λ n. length (string_bytes n.text) ≤ NAME_LIMIT_BYTES };
+    ghost invariant = { λ n. length (string_bytes n.text) ≤ name_limit_bytes };
 }
 
 impl MissingName {
     /// The name of these bytes.
     pub fn new(alloc: Global, text: &str) -> Result<Self, AllocError>
-        requires { length text.now ≤ NAME_LIMIT_BYTES }
+        requires { length text.now ≤ name_limit_bytes }
         ensures { IfOk result (λ name. name ≡ text.now) }
     {
         Ok(MissingName {
@@ -38,7 +37,7 @@ impl MissingName {
     /// The name as text.
     pub fn as_str(&self) -> &str
         ensures text { result.now ≡ self.now }
-        ensures short { length self.now ≤ NAME_LIMIT_BYTES }
+        ensures short { length self.now ≤ name_limit_bytes }
     {
         self.text.as_str()
     }

@@ -1,5 +1,6 @@
 //! The claims of providers' files, one after another, as who reads the files offers them.
 ghost use Rattle.std.specs.Prelude.{◌≡◌, ◌≤◌, ◌+◌, ◌-◌, [], get_or, length, IfOk, OnOk};
+ghost use Rattle.intake_csv.specs.Laws.{StandApart};
 ghost use Rattle.intake_csv.specs.Rows.{IsAtStart};
 ghost use Rattle.claim_terms.specs.Terms.{ForTerms};
 ghost use Rattle.claim_gate.specs.Replies.{HasClaims, IsFiled};
@@ -8,8 +9,8 @@ ghost use Rattle.claim_gate.specs.Worked.{IsReader, IsSpelled};
 use crate::{Offer, Terms};
 use dtable::{Plan, read_plan};
 use intake_csv::{
-    FileFault, Row, Rows, columns_stand_apart, given_row_is_the_first, no_records_give_no_rows,
-    plans_need_distinct_names, reader_begins_with_all_rows,
+    FileFault, Row, Rows, given_row_is_the_first, no_records_give_no_rows,
+    reader_begins_with_all_rows,
 };
 use std::alloc::{AllocError, Global};
 use std::process::Abort;
@@ -49,7 +50,8 @@ fn start<'t>(
 ) -> Result<Rows<'t>, AllocError>
     requires least { 1 ≤ provider }
     requires most { provider ≤ length terms.now.files }
-    ensures { IfOk result (IsAtStart terms.now.plan.names (get_or terms.now.files (provider - 1) [])) }
+    ensures start { IfOk result (IsAtStart terms.now.plan.names (get_or terms.now.files (provider - 1) [])) }
+    ensures apart { IfOk result (λ rows. StandApart rows.layout.columns) }
 {
     match Rows::new(alloc, terms.plan(), terms.files()[provider - 1]) {
         Ok(rows) => Ok(rows),
@@ -70,8 +72,6 @@ pub fn open<'t>(
     ensures place { IfOk result (λ rows. rows.place ≡ 0) }
 {
     reader_begins_with_all_rows();
-    plans_need_distinct_names();
-    columns_stand_apart();
     let files = terms.files();
     assert!(rt; 1 <= provider && provider <= files.len());
     let rows = start(rt, alloc, terms, provider)?;

@@ -7,5 +7,5 @@ start-requires-clause-most g c = among_texts c.files-files.result.now c.args.ter
 
 pub returns-clause-reader : goal.returns-clause-reader
 returns-clause-reader g c =
-    reads c.reader_begins_with_all_rows.ensures c.plans_need_distinct_names.ensures c.columns_stand_apart.ensures c.args.terms.now c.args.provider c.in_ok-rows.rows c.requires
-    (search rules) (among_texts c.files-files.result.now c.args.terms.now.files c.args.provider c.files-files.ensures.files (search rules)) c.in_ok-rows.ensures
+    reads c.reader_begins_with_all_rows.ensures c.args.terms.now c.args.provider c.in_ok-rows.rows c.in_ok-rows.ensures.apart
+    (search rules) (among_texts c.files-files.result.now c.args.terms.now.files c.args.provider c.files-files.ensures.files (search rules)) c.in_ok-rows.ensures.start

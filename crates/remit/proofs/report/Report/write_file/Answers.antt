@@ -4,8 +4,8 @@ use Rattle.remit.proofs.report.Report.write_file.Goals as goal
 
 pub returns-in-Ok-clause-writes : goal.returns-in-Ok-clause-writes
 returns-in-Ok-clause-writes g c =
-    of-text c.reader_begins_with_all_rows.ensures c.columns_stand_apart.ensures (looked_up c.args.self.now.decisions) c.args.provider c.args.plan.now.names
-    c.args.text.now c.in-Ok.rows _ _ c.write_rows.result c.in-Ok.ensures.ok c.in-Ok.ensures.rows c.write_rows.ensures.writes
+    of-text c.reader_begins_with_all_rows.ensures (looked_up c.args.self.now.decisions) c.args.provider c.args.plan.now.names
+    c.args.text.now c.in-Ok.rows _ _ c.write_rows.result c.in-Ok.ensures.apart c.in-Ok.ensures.ok c.in-Ok.ensures.rows c.write_rows.ensures.writes
 
 pub returns-in-Err-clause-writes : goal.returns-in-Err-clause-writes
 returns-in-Err-clause-writes g c =
