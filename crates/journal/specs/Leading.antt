@@ -25,9 +25,11 @@ compared (x ∷ J) r (y ∷ K) s h =
     ]
 
 module _ {X : Type 0} where
+  -- each state leads to itself
   pub leads_itself : (gate : GateOver X) → LeadsTo gate gate
   leads_itself gate = record { terms = refl; journal = continues_itself gate.journal; stop = λ _. refl }
 
+  -- where a state leads to another one, it leads to whatever that one leads to
   pub leads_further : (a b c : GateOver X) → LeadsTo a b → LeadsTo b c → LeadsTo a c
   leads_further a b c first second = record {
     terms = second.terms ∙ first.terms;
@@ -37,11 +39,11 @@ module _ {X : Type 0} where
         second.stop (ap (λ g. g.stopped) same ∙ stopped) ∙ same;
   }
 
-  -- a gate that is not stopped leads to another one of the same terms whose journal goes on from its own
+  -- a state that is not stopped leads to another one of the same terms whose journal goes on from its own
   pub running_leads : (a b : GateOver X) → a.stopped ≡ false → b.terms ≡ a.terms → Continues a.journal b.journal → LeadsTo a b
   running_leads a b runs terms on = record { terms = terms; journal = on; stop = λ stopped. absurd (both_ways a.stopped runs stopped) }
 
-  -- of two gates that lead to a third one, one leads to the other
+  -- of two states that lead to a third one, one leads to the other
   pub leads_either : (a b c : GateOver X) → LeadsTo a c → LeadsTo b c → LeadsTo a b ⊎ LeadsTo b a
   leads_either a b c ac bc =
       elim (cases_Bool a.stopped) [
