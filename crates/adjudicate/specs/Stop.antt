@@ -1,6 +1,7 @@
 -- What each refusal says of the texts, its line on standard error, and its exit status.
 use Rattle.std.specs.Prelude.{◌≡◌, ◌≢◌, ℕ, ◌+◌, ◌<◌, ◌++◌, Bool, true, List, [], ◌∷◌, length, codes, decimal, Option, Some, None, Err, Contains, slice_get, take}
 use Rattle.std.specs.Io.KnownBytes.{Appends, Keeps}
+use Rattle.fixpoint.specs.Out.{PutsFront}
 use Rattle.feel_tests.specs.declared.fault.CellFault.{CellFault}
 use Rattle.feel_tests.specs.declared.fault.CellCause.TheVariants as cell
 use Rattle.feel_tests.specs.Fault.{number_of as cell_cause_number}
@@ -248,5 +249,5 @@ RefusesPlan plan_text s = IsPlanReason plan_text s
 
 -- a write fault in the midst of a text, which the writer has got up to there
 abbrev pub PutsUntil : List ℕ → Option (List ℕ) → Option (List ℕ) → Stop → Type 0
-PutsUntil text old new (stop.Write written) = (written < length text) × Appends old new (take written text)
+PutsUntil text old new (stop.Write written) = PutsFront text written old new
 PutsUntil text old new _ = ⊥

@@ -1,5 +1,5 @@
 -- The writing of a text in pieces: what the writer has got of it, and what is gathered for it.
-use Rattle.std.specs.Prelude.{◌≡◌, ◌<◌, ◌+◌, ℕ, Bool, true, false, List, [], ◌++◌, length, take, Option, Result, Ok, Err}
+use Rattle.std.specs.Prelude.{◌≡◌, ℕ, Bool, true, false, List, [], ◌++◌, length, Option, Result, Ok, Err}
 use Rattle.std.specs.Io.KnownBytes.{Appends}
 use Rattle.csv.specs.Records.{Row, fields_of, partial_of}
 use Rattle.csv.specs.Writing.{fields_written, has_written, writer_pending, writer_setup, writer_under}
@@ -59,13 +59,6 @@ Writes old new more (Ok done) =
 Writes old new more (Err fault) =
     ((start : Option (List ℕ)) (text : List ℕ) → Holds start text old → HasFront start (text ++ more) fault.written new.contents)
     × Leaves fault old.failed new.failed
-
--- the writer got so many of the text's bytes, and not all; with those counted before it, that is the count that is told
-pub record PutsFront (text : List ℕ) (before written : ℕ) (old new : Option (List ℕ)) : Type 0 where
-  pub put : ℕ
-  pub cut : put < length text
-  pub counted : written ≡ before + put
-  pub appended : Appends old new (take put text)
 
 -- the fault is want of memory, after so many bytes
 pub record IsNoMemory (pieces : Pieces) (fault : WriteFault) : Type 0 where
