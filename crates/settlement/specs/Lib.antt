@@ -6,3 +6,4 @@ pub mod Reads
 pub mod Roles
 pub mod Accumulators
 pub mod Settlement
+pub mod ReasonText
