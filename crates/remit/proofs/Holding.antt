@@ -10,10 +10,10 @@ use Rattle.remit.specs.Report.{record_text, report_style}
 use Rattle.remit.specs.Held.{At, Holds, HasFront, IsNoMemory, IsReady, Writes, at, gathered_of}
 use Rattle.remit.specs.declared.fault.WriteCause.TheVariants.{Device}
 use Rattle.remit.specs.declared.fault.WriteFault.{WriteFault}
-use Rattle.remit.specs.declared.pieces.Pieces.{Pieces}
+use Rattle.remit.specs.declared.record_writer.RecordWriter.{RecordWriter}
 
 -- want of memory, at once
-pub no-memory : (contents : Option (List ℕ)) (failed : Bool) (old new : Pieces) (more : List ℕ) (fault : WriteFault) → IsNoMemory old fault
+pub no-memory : (contents : Option (List ℕ)) (failed : Bool) (old new : RecordWriter) (more : List ℕ) (fault : WriteFault) → IsNoMemory old fault
     → Writes (at contents failed old) (at contents failed new) more (Err fault)
 no-memory contents failed old new more fault none = (
   λ start text h. record {
@@ -27,7 +27,7 @@ no-memory contents failed old new more fault none = (
 )
 
 -- the writer fails while what is gathered is handed over
-pub hand-refused : (a b : Option (List ℕ)) (failed later : Bool) (old new : Pieces) (text : List ℕ) (put : ℕ) (fault : WriteFault) → text ≡ gathered_of old
+pub hand-refused : (a b : Option (List ℕ)) (failed later : Bool) (old new : RecordWriter) (text : List ℕ) (put : ℕ) (fault : WriteFault) → text ≡ gathered_of old
     → PutsFront text put a b → fault.written ≡ old.written + put → later ≡ true → fault.cause ≡ Device → Writes (at a failed old) (at b later new) [] (Err fault)
 hand-refused a b failed later old new text put fault is puts counted failing cause = (
   λ start whole h. record {
@@ -46,7 +46,7 @@ hand-refused a b failed later old new text put fault is puts counted failing cau
 )
 
 -- what is gathered is handed over
-pub handed : (a b : Option (List ℕ)) (failed later : Bool) (old new : Pieces) (text : List ℕ) → text ≡ gathered_of old → Appends a b text
+pub handed : (a b : Option (List ℕ)) (failed later : Bool) (old new : RecordWriter) (text : List ℕ) → text ≡ gathered_of old → Appends a b text
     → new.written ≡ old.written + length text → gathered_of new ≡ [] → IsReady new → later ≡ failed
     → Writes (at a failed old) (at b later new) [] (Ok tt)
 handed a b failed later old new text is appended counted none ready same = (
@@ -63,7 +63,7 @@ handed a b failed later old new text is appended counted none ready same = (
 )
 
 -- a record is gathered
-pub gathers : (contents : Option (List ℕ)) (failed : Bool) (old new : Pieces) (row : List ℕ) → new.written ≡ old.written
+pub gathers : (contents : Option (List ℕ)) (failed : Bool) (old new : RecordWriter) (row : List ℕ) → new.written ≡ old.written
     → (IsReady old → (gathered_of new ≡ gathered_of old ++ row) × IsReady new) → Writes (at contents failed old) (at contents failed new) row (Ok tt)
 gathers contents failed old new row same gathered = (
   λ start text h.
@@ -102,7 +102,7 @@ writes-within a b text more fault writes = (
 )
 
 -- a record is gathered, as the writer of records says
-pub gathers-record : (contents : Option (List ℕ)) (failed : Bool) (old new : Pieces) (fields : List (List ℕ)) → new.written ≡ old.written
+pub gathers-record : (contents : Option (List ℕ)) (failed : Bool) (old new : RecordWriter) (fields : List (List ℕ)) → new.written ≡ old.written
     → (fields_written old.gathered ≡ 0 → has_written old.gathered ≡ false → (writer_setup old.gathered).style ≢ NonNumeric
     → gathered_of new ≡ gathered_of old ++ row_text (writer_setup old.gathered) fields)
     → fields_written new.gathered ≡ 0 → has_written new.gathered ≡ false → writer_setup new.gathered ≡ writer_setup old.gathered

@@ -1,7 +1,7 @@
 use Rattle.std.proofs.Common.{◌≡◌, [], ◌∙◌, refl, rules}
 use Rattle.remit.specs.Held.{gathered_of}
 use Rattle.remit.proofs.Holding.{handed, hand-refused, no-memory}
-use Rattle.remit.proofs.pieces.Pieces.hand_over.Goals as goal
+use Rattle.remit.proofs.record_writer.RecordWriter.hand_over.Goals as goal
 
 pub returns-in_default-clause-writes : goal.returns-in_default-clause-writes
 returns-in_default-clause-writes g c =

@@ -18,20 +18,20 @@ const PIECE_BYTES: usize = 65_536;
 
 /// Records that are gathered, and how many bytes were handed over before them.
 #[derive(Drop)]
-pub struct Pieces {
+pub struct RecordWriter {
     alloc: Global,
     gathered: Writer<Vec<u8>>,
     written: usize,
 }
 
-impl Pieces {
+impl RecordWriter {
     /// No records.
-    pub fn new(alloc: Global) -> Pieces
+    pub fn new(alloc: Global) -> RecordWriter
         ensures gathered { gathered_of result ≡ [] }
         ensures written { result.written ≡ 0 }
         ensures ready { IsReady result }
     {
-        Pieces {
+        RecordWriter {
             alloc,
             gathered: writer_into(Vec::new(alloc)),
             written: 0,
