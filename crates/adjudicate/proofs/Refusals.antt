@@ -73,7 +73,7 @@ refuses_tables arguments plan given fault _ gives ready is_fault made = absurd m
 
 -- what was put until a write fault is the front of the text
 pub writes_until : (IsText : List ℕ → Type 0) (text : List ℕ) (old new : Option (List ℕ)) (s : Stop) → IsText text → PutsUntil text old new s → WritesUntil IsText old new s
-writes_until IsText text old new (stop.Write written) is_text put = record { text = text; is_text = is_text; cut = put.0; appended = put.1 }
+writes_until IsText text old new (stop.Write written) is_text put = record { text = text; is_text = is_text; cut = put.cut; appended = put.appended }
 writes_until IsText text old new _ is_text put = absurd put
 
 -- a text that was put whole is what the command may print

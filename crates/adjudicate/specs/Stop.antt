@@ -1,6 +1,8 @@
 -- What each refusal says of the texts, its line on standard error, and its exit status.
 use Rattle.std.specs.Prelude.{◌≡◌, ◌≢◌, ℕ, ◌+◌, ◌<◌, ◌++◌, Bool, true, List, [], ◌∷◌, length, codes, decimal, Option, Some, None, Err, Contains, slice_get, take}
 use Rattle.std.specs.Io.KnownBytes.{Appends, Keeps}
+use Rattle.std.specs.Option.{option_map_or}
+use Rattle.fixpoint.specs.Out.{PutsFront}
 use Rattle.feel_tests.specs.declared.fault.CellFault.{CellFault}
 use Rattle.feel_tests.specs.declared.fault.CellCause.TheVariants as cell
 use Rattle.feel_tests.specs.Fault.{number_of as cell_cause_number}
@@ -19,6 +21,8 @@ use Rattle.dtable.specs.Inputs.{IsReady, value_at}
 use Rattle.dtable.specs.Plan.{PlanParts}
 use Rattle.dtable.specs.PlanFile.{IsPlanText}
 use Rattle.dtable.specs.Scope.{data_names}
+use Rattle.settlement.specs.ReasonText.{reason_text}
+use Rattle.settlement.specs.Settlement.{reason_of}
 use Rattle.intake_csv.specs.declared.fault.BalanceFault.{BalanceFault}
 use Rattle.intake_csv.specs.declared.fault.BalanceFault.TheVariants as balance
 use Rattle.intake_csv.specs.declared.fault.RowFault.{RowFault}
@@ -68,13 +72,9 @@ abbrev pub argument_fault_text : ℕ → ArgumentFault → List ℕ
 argument_fault_text number fault =
     codes "argument " ++ (decimal number ++ (codes " fault " ++ (decimal (argument_fault_number fault) ++ argument_cell_text fault)))
 
--- the reason of a fault of the tables
+-- the reason of a fault of the tables, as a claim's; want of memory is none
 abbrev pub fault_text : Fault → List ℕ
-fault_text (faults.Outside table column) = codes "outside:" ++ (decimal table ++ (codes ":" ++ decimal column))
-fault_text (faults.NoRule table) = codes "norule:" ++ decimal table
-fault_text (faults.Clash table) = codes "clash:" ++ decimal table
-fault_text (faults.Range table) = codes "range:" ++ decimal table
-fault_text faults.OutOfMemory = codes "memory"
+fault_text fault = option_map_or reason_text (reason_of fault) (codes "memory")
 
 -- ` record R cause C column K`
 abbrev pub record_fault_text : ℕ → RowFault → List ℕ
@@ -248,5 +248,5 @@ RefusesPlan plan_text s = IsPlanReason plan_text s
 
 -- a write fault in the midst of a text, which the writer has got up to there
 abbrev pub PutsUntil : List ℕ → Option (List ℕ) → Option (List ℕ) → Stop → Type 0
-PutsUntil text old new (stop.Write written) = (written < length text) × Appends old new (take written text)
+PutsUntil text old new (stop.Write written) = PutsFront text written old new
 PutsUntil text old new _ = ⊥

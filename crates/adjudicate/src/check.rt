@@ -7,7 +7,7 @@ ghost use Rattle.adjudicate.specs.Stop.{WritesText, WritesUntil, IsPlanReason, f
 
 pub mod text;
 
-use crate::output::put_all;
+use crate::output::put_text;
 use crate::stop::Stop;
 use dtable::read_plan;
 use fixpoint::Out;
@@ -31,7 +31,7 @@ pub fn do_check<W: Write>(alloc: Global, plan: &[u8], out: &mut Out<W>) -> Resul
     ensures failed { IfErr result (λ stop. has_failed out.new ≡ failed_after (has_failed out.old) stop) }
 {
     let text = spelled_text(alloc, plan)?;
-    put_all(text.as_slice(), out)
+    put_text(text.as_slice(), out)
 }
 
 // The text that the command prints.

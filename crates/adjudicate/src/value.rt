@@ -9,7 +9,7 @@ ghost use Rattle.adjudicate.specs.Stop.{WritesText, WritesUntil, IsReason, faile
 pub mod arguments;
 pub mod text;
 
-use crate::output::put_all;
+use crate::output::put_text;
 use crate::stop::{MissingName, Stop};
 use arguments::{first_missing, read_arguments};
 use dtable::{Plan, Valuer, read_plan};
@@ -38,7 +38,7 @@ pub fn do_value<W: Write>(
     ensures failed { IfErr result (λ stop. has_failed out.new ≡ failed_after (has_failed out.old) stop) }
 {
     let text = value_text(alloc, plan, arguments)?;
-    put_all(text.as_slice(), out)
+    put_text(text.as_slice(), out)
 }
 
 // The text that the command prints.

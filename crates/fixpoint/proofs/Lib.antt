@@ -5,3 +5,4 @@ pub mod Numbers
 pub mod ShortestText
 pub mod NearestCents
 pub mod MoneyText
+pub mod Puts

@@ -1,5 +1,6 @@
 -- What contracts see of an `Out`: its writer, and whether it has failed.
-use Rattle.std.specs.Prelude.{Bool}
+use Rattle.std.specs.Prelude.{◌<◌, ℕ, Bool, List, length, take, Option}
+use Rattle.std.specs.Io.KnownBytes.{Appends}
 use Rattle.fixpoint.specs.declared.out.Out.{Out}
 
 -- the writer
@@ -9,3 +10,8 @@ writer_of out = out.writer
 -- whether a write has failed
 abbrev pub has_failed : {W : Type 0} → Out W → Bool
 has_failed out = out.failed
+
+-- the writer got so many first bytes of the text, and not all of them
+pub record PutsFront (text : List ℕ) (written : ℕ) (old new : Option (List ℕ)) : Type 0 where
+  pub cut : written < length text
+  pub appended : Appends old new (take written text)

@@ -3,7 +3,8 @@
 //! A `Fixed` is a whole count of ten-thousandths, called its units, of at most fifteen digits, and
 //! contracts see it as that count. `Fixed::parse` reads a number text, `write_into` writes the
 //! shortest one and `write_money` the one with two decimals. Sums are exact, products are rounded
-//! once to whole cents. `Out` passes pieces of bytes to a writer, one write a piece.
+//! once to whole cents. `Out` passes pieces of bytes to a writer, one write a piece, and
+//! `put_all` a whole text.
 //! The digits come from `itoa`, the messages of the faults from `thiserror`. Nothing here allocates.
 //!
 //! Begin with `specs/Number.antt`, `specs/NumberText.antt` and `specs/Money.antt`, which say what
@@ -18,6 +19,7 @@ mod reading;
 mod rounding;
 #[cfg(test)]
 mod tests;
+mod whole_text;
 mod writing;
 
 pub use fault::NumFault;
@@ -26,3 +28,4 @@ pub use laws::{
     money_text_denotes, products_are_rounded, shortest_text_denotes, text_denotes_at_most_one,
 };
 pub use out::{Failed, Out};
+pub use whole_text::{Cut, put_all};

@@ -191,6 +191,23 @@ fn puts_until_the_writer_is_full(rt: HostRuntime) {
 }
 
 #[test]
+fn puts_a_text_until_the_writer_is_full(rt: HostRuntime) {
+    for when_full in [WhenFull::Fails, WhenFull::TakesNothing] {
+        let mut out = Out::new(Limited::new(rt.alloc(), 5, when_full));
+        assert_eq!(rt; put_all(b"", &mut out), Ok(()));
+        assert_eq!(rt; put_all(b"abcd", &mut out), Ok(()));
+        assert!(rt; !out.failed());
+        assert_eq!(rt; put_all(b"efg", &mut out), Err(Cut { written: 1 }));
+        assert!(rt; out.failed());
+        assert_eq!(rt; put_all(b"", &mut out), Ok(()));
+        assert_eq!(rt; put_all(b"fg", &mut out), Err(Cut { written: 0 }));
+        let writer = out.into_inner();
+        assert_eq!(rt; writer.taken.as_slice(), b"abcde".as_slice());
+        assert_eq!(rt; writer.writes, 3);
+    }
+}
+
+#[test]
 fn says_what_is_wrong(rt: HostRuntime) -> Result<(), Fail> {
     let alloc = rt.alloc();
     for (fault, message) in [
@@ -203,6 +220,10 @@ fn says_what_is_wrong(rt: HostRuntime) -> Result<(), Fail> {
     assert_eq!(rt;
         format!(in alloc; "{Failed}")?.as_str(),
         "the writer takes no more bytes"
+    );
+    assert_eq!(rt;
+        format!(in alloc; "{}", Cut { written: 3 })?.as_str(),
+        "the writer takes no more after 3 bytes"
     );
     Ok(())
 }

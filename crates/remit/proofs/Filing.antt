@@ -14,7 +14,7 @@ use Rattle.claim_terms.specs.Terms.{texts_of}
 use Rattle.remit.specs.Held.{At, IsNoMemory, Writes, at}
 use Rattle.remit.specs.Rows.{AreRead, Begin, Deciding, GivesAll, GivesFirst, IsRead, IsReadFirst, WritesFile, WritesFiles, WritesLeft, files_text, rows_text}
 use Rattle.remit.specs.declared.fault.WriteFault.{WriteFault}
-use Rattle.remit.specs.declared.pieces.Pieces.{Pieces}
+use Rattle.remit.specs.declared.record_writer.RecordWriter.{RecordWriter}
 use Rattle.remit.proofs.Holding.{no-memory, writes-none, writes-then}
 use Rattle.remit.proofs.Passing.{rows-append}
 
@@ -173,10 +173,10 @@ of-text begins decided provider names text start old new (Err fault) apart at_st
     (writes.0, read-first begins names text start writes.0 apart at_start writes.1, writes.2)
 
 -- memory is wanting for a file
-pub file-no-memory : (decided : Deciding) (provider : ℕ) (names : List InputData) (text : List ℕ) (contents : Option (List ℕ)) (failed : Bool) (pieces : Pieces)
-    (fault : WriteFault) → IsNoMemory pieces fault → WritesFile decided provider names text (at contents failed pieces) (at contents failed pieces) (Err fault)
-file-no-memory decided provider names text contents failed pieces fault none =
-    ([], read-none names text, no-memory contents failed pieces pieces [] fault none)
+pub file-no-memory : (decided : Deciding) (provider : ℕ) (names : List InputData) (text : List ℕ) (contents : Option (List ℕ)) (failed : Bool) (writer : RecordWriter)
+    (fault : WriteFault) → IsNoMemory writer fault → WritesFile decided provider names text (at contents failed writer) (at contents failed writer) (Err fault)
+file-no-memory decided provider names text contents failed writer fault none =
+    ([], read-none names text, no-memory contents failed writer writer [] fault none)
 
 -- the rows of so many files are written
 pub record FilesSoFar (decided : Deciding) (names : List InputData) (texts : List (List ℕ)) (place : ℕ) (old new : At) : Type 0 where

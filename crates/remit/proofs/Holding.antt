@@ -1,28 +1,19 @@
 -- What a writer has got of a text that is written in pieces.
-use Rattle.std.proofs.Common.{◌≡◌, ◌≢◌, ℕ, ◌+◌, ◌-◌, Bool, true, false, [], ◌++◌, List, length, take, drop, Option, Result, Ok, Err, OnOk, is_err, sym, ap, subst, refl, ◌∙◌, append_assoc, append-nil, take-append-drop, length-append, length-take-le, arith}
+use Rattle.std.proofs.Common.{◌≡◌, ◌≢◌, ℕ, ◌+◌, Bool, true, false, [], ◌++◌, List, length, take, drop, Option, Result, Ok, Err, OnOk, is_err, sym, ap, subst, refl, ◌∙◌, append_assoc, append-nil, take-append-drop, length-append, length-take-le, arith}
 use Rattle.std.specs.Io.KnownBytes.{Appends}
 use Rattle.std.proofs.KnownBytes.{Appends-trans}
-use Rattle.std.proofs.Math.Seq.{take-add}
-use Rattle.std.proofs.lemmas.List.{take_rest}
 use Rattle.std.proofs.lemmas.Bool.{false≢true}
 use Rattle.csv.specs.Writing.{fields_written, has_written, row_text, writer_setup}
 use Rattle.csv.specs.declared.writer.QuoteStyle.TheVariants.{NonNumeric}
+use Rattle.fixpoint.specs.Out.{PutsFront}
 use Rattle.remit.specs.Report.{record_text, report_style}
-use Rattle.remit.specs.Held.{At, Holds, HasFront, IsNoMemory, IsReady, PutsFront, Writes, at, gathered_of}
+use Rattle.remit.specs.Held.{At, Holds, HasFront, IsNoMemory, IsReady, Writes, at, gathered_of}
 use Rattle.remit.specs.declared.fault.WriteCause.TheVariants.{Device}
 use Rattle.remit.specs.declared.fault.WriteFault.{WriteFault}
-use Rattle.remit.specs.declared.pieces.Pieces.{Pieces}
-
--- the first bytes of a text, and then the first of what is left, are the first bytes of the text
-pub Appends-front : (text : List ℕ) (written count : ℕ) (a b c : Option (List ℕ)) → Appends a b (take written text)
-    → Appends b c (take count (take (length text - written) (drop written text))) → Appends a c (take (written + count) text)
-Appends-front text written count a b c before now =
-    let joined : take (written + count) text ≡ take written text ++ take count (take (length text - written) (drop written text)) =
-    take-add written count text ∙ ap (λ rest. take written text ++ take count rest) (sym (take_rest text written)) in
-    subst (Appends a c) (sym joined) (Appends-trans a b c _ _ before now)
+use Rattle.remit.specs.declared.record_writer.RecordWriter.{RecordWriter}
 
 -- want of memory, at once
-pub no-memory : (contents : Option (List ℕ)) (failed : Bool) (old new : Pieces) (more : List ℕ) (fault : WriteFault) → IsNoMemory old fault
+pub no-memory : (contents : Option (List ℕ)) (failed : Bool) (old new : RecordWriter) (more : List ℕ) (fault : WriteFault) → IsNoMemory old fault
     → Writes (at contents failed old) (at contents failed new) more (Err fault)
 no-memory contents failed old new more fault none = (
   λ start text h. record {
@@ -36,26 +27,26 @@ no-memory contents failed old new more fault none = (
 )
 
 -- the writer fails while what is gathered is handed over
-pub hand-refused : (a b : Option (List ℕ)) (failed later : Bool) (old new : Pieces) (text : List ℕ) (fault : WriteFault) → text ≡ gathered_of old
-    → PutsFront text old.written fault.written a b → later ≡ true → fault.cause ≡ Device → Writes (at a failed old) (at b later new) [] (Err fault)
-hand-refused a b failed later old new text fault is puts failing cause = (
+pub hand-refused : (a b : Option (List ℕ)) (failed later : Bool) (old new : RecordWriter) (text : List ℕ) (put : ℕ) (fault : WriteFault) → text ≡ gathered_of old
+    → PutsFront text put a b → fault.written ≡ old.written + put → later ≡ true → fault.cause ≡ Device → Writes (at a failed old) (at b later new) [] (Err fault)
+hand-refused a b failed later old new text put fault is puts counted failing cause = (
   λ start whole h. record {
-    gone = h.gone ++ take puts.put text;
-    rest = drop puts.put text;
+    gone = h.gone ++ take put text;
+    rest = drop put text;
     text_is =
-        append-nil whole ∙ h.text_is ∙ ap (λ t. h.gone ++ t) (sym is ∙ sym (take-append-drop puts.put text))
-        ∙ sym (append_assoc h.gone (take puts.put text) (drop puts.put text));
-    appended = Appends-trans start a b h.gone (take puts.put text) h.appended puts.appended;
+        append-nil whole ∙ h.text_is ∙ ap (λ t. h.gone ++ t) (sym is ∙ sym (take-append-drop put text))
+        ∙ sym (append_assoc h.gone (take put text) (drop put text));
+    appended = Appends-trans start a b h.gone (take put text) h.appended puts.appended;
     counted =
-        let taken : length (take puts.put text) ≡ puts.put = length-take-le puts.put text (omega (arith, puts.cut)) in
-        let joined = length-append h.gone (take puts.put text) in
-        omega (arith, puts.counted, h.counted, taken, joined);
+        let taken : length (take put text) ≡ put = length-take-le put text (omega (arith, puts.cut)) in
+        let joined = length-append h.gone (take put text) in
+        omega (arith, counted, h.counted, taken, joined);
   },
   (λ device. failing, λ memory. cc (cause, memory)),
 )
 
 -- what is gathered is handed over
-pub handed : (a b : Option (List ℕ)) (failed later : Bool) (old new : Pieces) (text : List ℕ) → text ≡ gathered_of old → Appends a b text
+pub handed : (a b : Option (List ℕ)) (failed later : Bool) (old new : RecordWriter) (text : List ℕ) → text ≡ gathered_of old → Appends a b text
     → new.written ≡ old.written + length text → gathered_of new ≡ [] → IsReady new → later ≡ failed
     → Writes (at a failed old) (at b later new) [] (Ok tt)
 handed a b failed later old new text is appended counted none ready same = (
@@ -72,7 +63,7 @@ handed a b failed later old new text is appended counted none ready same = (
 )
 
 -- a record is gathered
-pub gathers : (contents : Option (List ℕ)) (failed : Bool) (old new : Pieces) (row : List ℕ) → new.written ≡ old.written
+pub gathers : (contents : Option (List ℕ)) (failed : Bool) (old new : RecordWriter) (row : List ℕ) → new.written ≡ old.written
     → (IsReady old → (gathered_of new ≡ gathered_of old ++ row) × IsReady new) → Writes (at contents failed old) (at contents failed new) row (Ok tt)
 gathers contents failed old new row same gathered = (
   λ start text h.
@@ -111,7 +102,7 @@ writes-within a b text more fault writes = (
 )
 
 -- a record is gathered, as the writer of records says
-pub gathers-record : (contents : Option (List ℕ)) (failed : Bool) (old new : Pieces) (fields : List (List ℕ)) → new.written ≡ old.written
+pub gathers-record : (contents : Option (List ℕ)) (failed : Bool) (old new : RecordWriter) (fields : List (List ℕ)) → new.written ≡ old.written
     → (fields_written old.gathered ≡ 0 → has_written old.gathered ≡ false → (writer_setup old.gathered).style ≢ NonNumeric
     → gathered_of new ≡ gathered_of old ++ row_text (writer_setup old.gathered) fields)
     → fields_written new.gathered ≡ 0 → has_written new.gathered ≡ false → writer_setup new.gathered ≡ writer_setup old.gathered

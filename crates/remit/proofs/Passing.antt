@@ -10,7 +10,7 @@ use Rattle.remit.specs.Report.{record_text, text_of}
 use Rattle.remit.specs.Rows.{Deciding, GivesAll, GivesFirst, WritesLeft, rows_text}
 use Rattle.remit.specs.Held.{At, IsNoMemory, Writes, at}
 use Rattle.remit.specs.declared.fault.WriteFault.{WriteFault}
-use Rattle.remit.specs.declared.pieces.Pieces.{Pieces}
+use Rattle.remit.specs.declared.record_writer.RecordWriter.{RecordWriter}
 use Rattle.remit.proofs.Holding.{gathers-and-hands, no-memory, writes-none, writes-then}
 
 -- the text of rows and of others behind them
@@ -113,12 +113,12 @@ rows-refused first decided provider start now next row old new newer fault so_fa
     )
 
 -- memory is wanting for the next row
-pub rows-no-memory : (decided : Deciding) (provider : ℕ) (start now : RowsLeft) (old : At) (contents : Option (List ℕ)) (failed : Bool) (pieces : Pieces) (fault : WriteFault)
-    → RowsSoFar decided provider start now old (at contents failed pieces) → IsNoMemory pieces fault
-    → WritesLeft decided provider start old (at contents failed pieces) (Err fault)
-rows-no-memory decided provider start now old contents failed pieces fault so_far none = (
+pub rows-no-memory : (decided : Deciding) (provider : ℕ) (start now : RowsLeft) (old : At) (contents : Option (List ℕ)) (failed : Bool) (writer : RecordWriter) (fault : WriteFault)
+    → RowsSoFar decided provider start now old (at contents failed writer) → IsNoMemory writer fault
+    → WritesLeft decided provider start old (at contents failed writer) (Err fault)
+rows-no-memory decided provider start now old contents failed writer fault so_far none = (
   so_far.given,
   passed-front start now so_far.given so_far.passed,
-  gathers-and-hands old (at contents failed pieces) (at contents failed pieces) (rows_text decided provider so_far.given) (Err fault) so_far.writes
-      (no-memory contents failed pieces pieces [] fault none),
+  gathers-and-hands old (at contents failed writer) (at contents failed writer) (rows_text decided provider so_far.given) (Err fault) so_far.writes
+      (no-memory contents failed writer writer [] fault none),
 )

@@ -97,9 +97,9 @@ whole-is J files =
 
 -- nothing is written yet
 pub record IsFresh (start : At) : Type 0 where
-  pub gathered : gathered_of start.pieces ≡ []
-  pub written : start.pieces.written ≡ 0
-  pub ready : IsReady start.pieces
+  pub gathered : gathered_of start.writer ≡ []
+  pub written : start.writer.written ≡ 0
+  pub ready : IsReady start.writer
 
 holds-none : (start : At) → IsFresh start → Holds start.contents [] start
 holds-none start fresh = record {
@@ -111,7 +111,7 @@ holds-none start fresh = record {
 }
 
 -- a text that is written whole, with nothing left gathered
-pub written-whole : (start end : At) (text : List ℕ) → IsFresh start → Writes start end text (Ok tt) → gathered_of end.pieces ≡ []
+pub written-whole : (start end : At) (text : List ℕ) → IsFresh start → Writes start end text (Ok tt) → gathered_of end.writer ≡ []
     → Appends start.contents end.contents text
 written-whole start end text fresh writes none =
     let held = writes.0 start.contents [] (holds-none start fresh) in
@@ -122,7 +122,7 @@ written-whole start end text fresh writes none =
 pub report-written : (parts : TermsParts) (J : List Event) (providers : ℕ) (decisions : Decisions) (a b c d e : At) → IsFinishedOver parts J → Noted providers J J decisions
     → providers ≡ length parts.files → IsFresh a → Writes a b (record_text header_fields) (Ok tt)
     → WritesFiles (looked_up decisions) parts.plan.names parts.files b c (Ok tt) → Writes c d (record_text (total_fields J)) (Ok tt) → Writes d e [] (Ok tt)
-    → gathered_of e.pieces ≡ [] → WritesReport parts J a.contents e.contents
+    → gathered_of e.writer ≡ [] → WritesReport parts J a.contents e.contents
 report-written parts J providers decisions a b c d e finished noted as_many fresh header files total end none =
     let rows = files.0 in
     let are = files.1.are_rows in
@@ -249,7 +249,7 @@ end-refused parts J providers decisions a b c d e fault finished noted as_many f
 pub ends-written : (parts : TermsParts) (J : List Event) (providers : ℕ) (decisions : Decisions) (a b c d e : At) (result : Result (Unit {0}) WriteFault)
     → Noted providers J J decisions → providers ≡ length parts.files → IsFresh a → Writes a b (record_text header_fields) (Ok tt)
     → WritesFiles (looked_up decisions) parts.plan.names parts.files b c (Ok tt) → Writes c d (record_text (total_fields J)) (Ok tt) → Writes d e [] result
-    → OnOk result (gathered_of e.pieces ≡ []) → OnOk result (IsFinishedOver parts J → WritesReport parts J a.contents e.contents)
+    → OnOk result (gathered_of e.writer ≡ []) → OnOk result (IsFinishedOver parts J → WritesReport parts J a.contents e.contents)
 ends-written parts J providers decisions a b c d e (Ok done) noted as_many fresh header files total end none =
     λ finished. report-written parts J providers decisions a b c d e finished noted as_many fresh header files total end none
 ends-written parts J providers decisions a b c d e (Err fault) noted as_many fresh header files total end none = tt

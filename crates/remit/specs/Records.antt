@@ -4,13 +4,14 @@ use Rattle.fixpoint.specs.Money.{money_text}
 use Rattle.settlement.specs.declared.outcome.Outcome.{Outcome}
 use Rattle.settlement.specs.declared.outcome.Verdict.{Verdict}
 use Rattle.settlement.specs.declared.outcome.Verdict.TheVariants.{Paid, Denied, Pended}
+use Rattle.settlement.specs.ReasonText.{reason_text}
 use Rattle.intake_csv.specs.declared.fault.RowFault.{RowFault}
 use Rattle.intake_csv.specs.declared.rows.Row.{Row}
 use Rattle.intake_csv.specs.declared.rows.Row.TheVariants.{Good, Bad}
 use Rattle.journal.specs.Events.{accepted}
 use Rattle.journal.specs.declared.event.Event.{Event}
 use Rattle.remit.specs.Decided.{paid_outcomes, sum_of}
-use Rattle.remit.specs.Texts.{fault_text, reason_text, remarks_text}
+use Rattle.remit.specs.Texts.{fault_text, remarks_text}
 
 -- the names of the fields
 abbrev pub header_fields : List (List ℕ)

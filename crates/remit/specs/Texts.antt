@@ -1,23 +1,9 @@
 -- The texts of the report's fields.
-use Rattle.std.specs.Prelude.{ℕ, ◌++◌, List, [], ◌∷◌, codes, decimal, flat_map}
-use Rattle.settlement.specs.Roles.{number_of}
-use Rattle.settlement.specs.declared.outcome.Reason.{Reason}
-use Rattle.settlement.specs.declared.outcome.Reason.TheVariants.{Outside, NoRule, Clash, Range, Term}
+use Rattle.std.specs.Prelude.{ℕ, ◌++◌, List, [], ◌∷◌, codes, flat_map}
+use Rattle.settlement.specs.ReasonText.{numbered}
 use Rattle.intake_csv.specs.declared.fault.RowCause.{RowCause}
 use Rattle.intake_csv.specs.declared.fault.RowCause.TheVariants.{FieldCount, Utf8, TooLong, EmptyId, Value, NotCents, Negative, Repeated}
 use Rattle.intake_csv.specs.declared.fault.RowFault.{RowFault}
-
--- a word, and a number behind a colon
-abbrev pub numbered : List ℕ → ℕ → List ℕ
-numbered word number = word ++ (codes ":" ++ decimal number)
-
--- why a claim is pended
-abbrev pub reason_text : Reason → List ℕ
-reason_text (Outside table column) = numbered (numbered (codes "outside") table) column
-reason_text (NoRule table) = numbered (codes "norule") table
-reason_text (Clash table) = numbered (codes "clash") table
-reason_text (Range table) = numbered (codes "range") table
-reason_text (Term role) = numbered (codes "term") (number_of role)
 
 -- why a record is refused; a fault of the number of fields is in no column
 abbrev pub cause_text : RowCause → ℕ → List ℕ

@@ -9,8 +9,8 @@
 
 mod decisions;
 mod fault;
-mod pieces;
 mod record;
+mod record_writer;
 mod report;
 mod sums;
 #[cfg(test)]

@@ -14,8 +14,8 @@ ghost use Rattle.remit.specs.declared.fault.WriteCause.TheVariants.{Device, OutO
 
 use crate::decisions::Decisions;
 use crate::fault::{WriteCause, WriteFault};
-use crate::pieces::Pieces;
 use crate::record::{fill_header, fill_row, fill_total};
+use crate::record_writer::RecordWriter;
 use crate::sums::Sums;
 use claim_gate::Batch;
 use claim_terms::Terms;
@@ -74,12 +74,12 @@ pub(crate) fn write_journal<W: Write>(
         alloc,
         decisions,
         line: ByteRecord::new(alloc),
-        pieces: Pieces::new(alloc),
+        writer: RecordWriter::new(alloc),
     };
     report.write_header(out)?;
     report.write_files(terms.plan(), files, out)?;
     report.write_total(journal, out)?;
-    report.pieces.hand_over(out)
+    report.writer.hand_over(out)
 }
 
 // A report that is being written.
@@ -89,19 +89,19 @@ struct Report<'j> {
     decisions: Decisions<'j>,
     // The record that is filled last, in memory that each record uses again.
     line: ByteRecord,
-    pieces: Pieces,
+    writer: RecordWriter,
 }
 
 impl<'j> Report<'j> {
     fn write_header<W: Write>(&mut self, out: &mut Out<W>) -> Result<(), WriteFault>
-        ensures writes { Writes (at (W.contents (writer_of out.old)) (has_failed out.old) self.old.pieces)
-            (at (W.contents (writer_of out.new)) (has_failed out.new) self.new.pieces) (record_text header_fields) result }
+        ensures writes { Writes (at (W.contents (writer_of out.old)) (has_failed out.old) self.old.writer)
+            (at (W.contents (writer_of out.new)) (has_failed out.new) self.new.writer) (record_text header_fields) result }
         ensures decisions { self.new.decisions ≡ self.old.decisions }
     {
         if fill_header(&mut self.line).is_err() {
-            return Err(self.pieces.no_memory());
+            return Err(self.writer.no_memory());
         }
-        self.pieces.write(&self.line, out)
+        self.writer.write(&self.line, out)
     }
 
     // Writes the rows of the providers' files.
@@ -112,8 +112,8 @@ impl<'j> Report<'j> {
         out: &mut Out<W>,
     ) -> Result<(), WriteFault>
         ensures writes { WritesFiles (looked_up self.old.decisions) plan.now.names (texts_of files.now)
-            (at (W.contents (writer_of out.old)) (has_failed out.old) self.old.pieces)
-            (at (W.contents (writer_of out.new)) (has_failed out.new) self.new.pieces) result }
+            (at (W.contents (writer_of out.old)) (has_failed out.old) self.old.writer)
+            (at (W.contents (writer_of out.new)) (has_failed out.new) self.new.writer) result }
         ensures decisions { self.new.decisions ≡ self.old.decisions }
     {
         for place in 0..files.len() {
@@ -132,14 +132,14 @@ impl<'j> Report<'j> {
     ) -> Result<(), WriteFault>
         requires { 1 ≤ provider }
         ensures writes { WritesFile (looked_up self.old.decisions) provider plan.now.names text.now
-            (at (W.contents (writer_of out.old)) (has_failed out.old) self.old.pieces)
-            (at (W.contents (writer_of out.new)) (has_failed out.new) self.new.pieces) result }
+            (at (W.contents (writer_of out.old)) (has_failed out.old) self.old.writer)
+            (at (W.contents (writer_of out.new)) (has_failed out.new) self.new.writer) result }
         ensures decisions { self.new.decisions ≡ self.old.decisions }
     {
         intake_csv::reader_begins_with_all_rows();
         match Rows::new(self.alloc, plan, text) {
             Ok(rows) => self.write_rows(provider, rows, out),
-            Err(_) => Err(self.pieces.no_memory()),
+            Err(_) => Err(self.writer.no_memory()),
         }
     }
 
@@ -152,8 +152,8 @@ impl<'j> Report<'j> {
     ) -> Result<(), WriteFault>
         requires { 1 ≤ provider }
         ensures writes { WritesLeft (looked_up self.old.decisions) provider rows.entry
-            (at (W.contents (writer_of out.old)) (has_failed out.old) self.old.pieces)
-            (at (W.contents (writer_of out.new)) (has_failed out.new) self.new.pieces) result }
+            (at (W.contents (writer_of out.old)) (has_failed out.old) self.old.writer)
+            (at (W.contents (writer_of out.new)) (has_failed out.new) self.new.writer) result }
         ensures decisions { self.new.decisions ≡ self.old.decisions }
     {
         intake_csv::given_row_is_the_first();
@@ -161,7 +161,7 @@ impl<'j> Report<'j> {
         let mut rows = rows;
         loop {
             let Ok(next) = rows.next() else {
-                return Err(self.pieces.no_memory());
+                return Err(self.writer.no_memory());
             };
             let Some(row) = next else {
                 return Ok(());
@@ -177,15 +177,15 @@ impl<'j> Report<'j> {
         out: &mut Out<W>,
     ) -> Result<(), WriteFault>
         requires { 1 ≤ provider }
-        ensures writes { Writes (at (W.contents (writer_of out.old)) (has_failed out.old) self.old.pieces)
-            (at (W.contents (writer_of out.new)) (has_failed out.new) self.new.pieces)
+        ensures writes { Writes (at (W.contents (writer_of out.old)) (has_failed out.old) self.old.writer)
+            (at (W.contents (writer_of out.new)) (has_failed out.new) self.new.writer)
             (record_text (record_of (looked_up self.old.decisions) provider row.now)) result }
         ensures decisions { self.new.decisions ≡ self.old.decisions }
     {
         if fill_row(self.alloc, &mut self.line, &self.decisions, provider, row).is_err() {
-            return Err(self.pieces.no_memory());
+            return Err(self.writer.no_memory());
         }
-        self.pieces.write(&self.line, out)
+        self.writer.write(&self.line, out)
     }
 
     fn write_total<W: Write>(
@@ -194,14 +194,14 @@ impl<'j> Report<'j> {
         out: &mut Out<W>,
     ) -> Result<(), WriteFault>
         requires { length self.old.decisions.decided.items ≡ accepted journal.now }
-        ensures { Writes (at (W.contents (writer_of out.old)) (has_failed out.old) self.old.pieces)
-            (at (W.contents (writer_of out.new)) (has_failed out.new) self.new.pieces) (record_text (total_fields journal.now)) result }
+        ensures { Writes (at (W.contents (writer_of out.old)) (has_failed out.old) self.old.writer)
+            (at (W.contents (writer_of out.new)) (has_failed out.new) self.new.writer) (record_text (total_fields journal.now)) result }
     {
         let accepted = self.decisions.accepted();
         let sums = Sums::over(journal);
         if fill_total(self.alloc, &mut self.line, accepted, sums).is_err() {
-            return Err(self.pieces.no_memory());
+            return Err(self.writer.no_memory());
         }
-        self.pieces.write(&self.line, out)
+        self.writer.write(&self.line, out)
     }
 }

@@ -1,7 +1,8 @@
 //! The texts of the report's fields.
 ghost use Rattle.std.specs.Prelude.{◌≡◌, ◌++◌, codes, flat_map, pos, string_bytes, IfOk, OnOk};
 ghost use Rattle.fixpoint.specs.Money.{money_text};
-ghost use Rattle.remit.specs.Texts.{fault_text, reason_text, remarks_text};
+ghost use Rattle.settlement.specs.ReasonText.{reason_text};
+ghost use Rattle.remit.specs.Texts.{fault_text, remarks_text};
 
 use feel_tests::Text;
 use intake_csv::{RowCause, RowFault};
@@ -12,12 +13,11 @@ use std::alloc::{AllocError, Global};
 pub fn reason_text(alloc: Global, reason: Reason) -> Result<String, AllocError>
     ensures { IfOk result (λ text. string_bytes text ≡ reason_text reason) }
 {
-    match reason {
-        Reason::Outside { table, column } => format!(in alloc; "outside:{table}:{column}"),
-        Reason::NoRule { table } => format!(in alloc; "norule:{table}"),
-        Reason::Clash { table } => format!(in alloc; "clash:{table}"),
-        Reason::Range { table } => format!(in alloc; "range:{table}"),
-        Reason::Term(role) => format!(in alloc; "term:{}", role.number()),
+    let word = reason.word();
+    let place = reason.place();
+    match reason.column() {
+        Some(column) => format!(in alloc; "{word}:{place}:{column}"),
+        None => format!(in alloc; "{word}:{place}"),
     }
 }
 

@@ -7,3 +7,4 @@ pub mod Roles
 pub mod Accumulators
 pub mod Settlement
 pub mod Opening
+pub mod ReasonText

@@ -1,5 +1,6 @@
 //! Outcomes of claims.
-ghost use Rattle.std.specs.Prelude.{◌≡◌, []};
+ghost use Rattle.std.specs.Prelude.{◌≡◌, ◌≤◌, [], length};
+ghost use Rattle.settlement.specs.ReasonText.{column_of, place_of, word_of};
 ghost use Rattle.settlement.specs.Settlement.{paid, unpaid, pended, denied, reason_of};
 
 use crate::amounts::Amounts;
@@ -104,7 +105,7 @@ fn unpaid(verdict: Verdict, remarks: Sequence<Text>) -> Outcome
 
 impl Reason {
     /// Why a fault of the tables makes a claim wait; none for want of memory.
-    pub(crate) fn of(fault: Fault) -> Option<Reason>
+    pub fn of(fault: Fault) -> Option<Reason>
         ensures { result ≡ reason_of fault }
     {
         match fault {
@@ -113,6 +114,42 @@ impl Reason {
             Fault::Clash { table } => Some(Reason::Clash { table }),
             Fault::Range { table } => Some(Reason::Range { table }),
             Fault::OutOfMemory => None,
+        }
+    }
+    /// The word for the kind of the reason, in reports and in a program's lines.
+    pub fn word(self) -> &'static str
+        ensures word { result.now ≡ word_of self }
+        ensures short { length result.now ≤ 7 }
+    {
+        match self {
+            Reason::Outside { .. } => "outside",
+            Reason::NoRule { .. } => "norule",
+            Reason::Clash { .. } => "clash",
+            Reason::Range { .. } => "range",
+            Reason::Term(_) => "term",
+        }
+    }
+
+    /// The number of the table, or of the role.
+    pub fn place(self) -> usize
+        ensures { result ≡ place_of self }
+    {
+        match self {
+            Reason::Outside { table, .. } => table,
+            Reason::NoRule { table } => table,
+            Reason::Clash { table } => table,
+            Reason::Range { table } => table,
+            Reason::Term(role) => usize::from(role.number()),
+        }
+    }
+
+    /// The number of the column, where the reason is in one.
+    pub fn column(self) -> Option<usize>
+        ensures { result ≡ column_of self }
+    {
+        match self {
+            Reason::Outside { column, .. } => Some(column),
+            _ => None,
         }
     }
 }

@@ -1,6 +1,7 @@
 //! A line on standard error, put together in memory of fixed size.
 
 ghost use Rattle.std.specs.Prelude.{◌≡◌, ℕ, ◌+◌, ◌<◌, ◌≤◌, ◌++◌, [], List, codes, decimal, length, take};
+ghost use Rattle.settlement.specs.ReasonText.{reason_text};
 ghost use Rattle.adjudicate.specs.Stop.{plan_fault_text, argument_fault_text, balance_fault_text, cell_fault_text, fault_text, record_fault_text, run_fault_text, terms_fault_text};
 
 use super::ArgumentFault;
@@ -10,6 +11,7 @@ use dtable::{Fault, PlanCause, PlanFault};
 use feel_tests::CellFault;
 use intake_csv::{BalanceFault, RowFault};
 use itoa::Buffer;
+use settlement::Reason;
 use std::marker::Model;
 
 /// How many bytes a refusal's line has at most, with its end.
@@ -122,17 +124,9 @@ impl Line {
         ensures short { length self.new ≤ 100 }
     {
         self.put("fault ");
-        match fault {
-            Fault::Outside { table, column } => {
-                self.put("outside:");
-                self.put_number(*table);
-                self.put(":");
-                self.put_number(*column);
-            }
-            Fault::NoRule { table } => self.put_reason("norule:", *table),
-            Fault::Clash { table } => self.put_reason("clash:", *table),
-            Fault::Range { table } => self.put_reason("range:", *table),
-            Fault::OutOfMemory => self.put("memory"),
+        match Reason::of(*fault) {
+            Some(reason) => self.put_reason(reason),
+            None => self.put("memory"),
         }
     }
 
@@ -197,14 +191,27 @@ impl Line {
         self.put_number(column);
     }
 
-    // Puts a reason and the table's number behind the line.
-    fn put_reason(&mut self, reason: &str, table: usize)
-        requires { length self.old + (length reason.now + 20) ≤ LINE_LIMIT_BYTES }
-        ensures text { self.new ≡ self.old ++ (reason.now ++ decimal table) }
-        ensures short { length self.new ≤ length self.old + (length reason.now + 20) }
+    // Puts a reason behind the line.
+    fn put_reason(&mut self, reason: Reason)
+        requires { length self.old + 49 ≤ LINE_LIMIT_BYTES }
+        ensures text { self.new ≡ self.old ++ reason_text reason }
+        ensures short { length self.new ≤ length self.old + 49 }
     {
-        self.put(reason);
-        self.put_number(table);
+        self.put(reason.word());
+        self.put_numbered(":", reason.place());
+        if let Some(column) = reason.column() {
+            self.put_numbered(":", column);
+        }
+    }
+
+    // Puts a mark and a number behind the line.
+    fn put_numbered(&mut self, mark: &str, number: usize)
+        requires { length self.old + (length mark.now + 20) ≤ LINE_LIMIT_BYTES }
+        ensures text { self.new ≡ self.old ++ (mark.now ++ decimal number) }
+        ensures short { length self.new ≤ length self.old + (length mark.now + 20) }
+    {
+        self.put(mark);
+        self.put_number(number);
     }
 
     // Puts the words of a cell's fault behind the line.

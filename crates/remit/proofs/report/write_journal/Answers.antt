@@ -14,7 +14,7 @@ returns-in_err-write_header-clause-refused g c =
     let made = c.new-3.ensures in
     rw (p.1, p.2)
     (λ finished.
-    header-refused c.args.terms.now c.args.journal.now (at _ _ c.new-3.result) (at _ _ c.write_header.new.self.pieces) c.in_err-write_header.field-0.0
+    header-refused c.args.terms.now c.args.journal.now (at _ _ c.new-3.result) (at _ _ c.write_header.new.self.writer) c.in_err-write_header.field-0.0
     (record { gathered = made.gathered; written = made.written; ready = made.ready }) c.in_err-write_header.ensures.writes)
 
 pub returns-in_err-write_files-clause-refused : goal.returns-in_err-write_files-clause-refused
@@ -28,10 +28,10 @@ returns-in_err-write_files-clause-refused g c =
     rw (p.1, p.2)
     (λ finished.
     files-refused c.args.terms.now c.args.journal.now (length c.files-files.result.now) c.in-Ok.decisions (at _ _ c.new-3.result)
-    (at _ _ c.write_header.new.self.pieces) (at _ _ c.write_files.new.self.pieces) c.in_err-write_files.field-0.0 finished c.in-Ok.ensures as_many
+    (at _ _ c.write_header.new.self.writer) (at _ _ c.write_files.new.self.writer) c.in_err-write_files.field-0.0 finished c.in-Ok.ensures as_many
     (record { gathered = made.gathered; written = made.written; ready = made.ready }) c.in_ok-write_header.ensures.writes
     (files-same c.in-Ok.decisions c.write_header.new.self.decisions c.args.terms.now.plan.names c.plan.result.now.names c.args.terms.now.files _
-    (at _ _ c.write_header.new.self.pieces) (at _ _ c.write_files.new.self.pieces) (Err c.in_err-write_files.field-0.0) c.in_ok-write_header.ensures.decisions
+    (at _ _ c.write_header.new.self.writer) (at _ _ c.write_files.new.self.writer) (Err c.in_err-write_files.field-0.0) c.in_ok-write_header.ensures.decisions
     (ap (λ p. p.names) c.plan.ensures.plan) files c.in_err-write_files.ensures.writes))
 
 pub returns-in_err-write_total-clause-refused : goal.returns-in_err-write_total-clause-refused
@@ -45,7 +45,7 @@ returns-in_err-write_total-clause-refused g c =
     rw (p.1, p.2)
     (λ finished.
     total-refused c.args.terms.now c.args.journal.now (length c.files-files.result.now) c.in-Ok.decisions (at _ _ c.new-3.result)
-    (at _ _ c.write_header.new.self.pieces) (at _ _ c.write_files.new.self.pieces) (at _ _ c.write_total.new.self.pieces) c.in_err-write_total.field-0.0 finished
+    (at _ _ c.write_header.new.self.writer) (at _ _ c.write_files.new.self.writer) (at _ _ c.write_total.new.self.writer) c.in_err-write_total.field-0.0 finished
     c.in-Ok.ensures as_many (record { gathered = made.gathered; written = made.written; ready = made.ready }) c.in_ok-write_header.ensures.writes
     (rw (c.in_ok-write_header.ensures.decisions, c.plan.ensures.plan, files) at c.in_ok-write_files.ensures.writes) c.in_err-write_total.ensures)
 
@@ -56,8 +56,8 @@ returns-clause-written g c =
     let size = length-map c.files-files.result.now (λ f. f.now) in
     let long = ap length files in
     let as_many : length c.files-files.result.now ≡ length c.args.terms.now.files = omega (arith, size, long) in
-    ends-written c.args.terms.now c.args.journal.now (length c.files-files.result.now) c.in-Ok.decisions (at _ _ c.new-3.result) (at _ _ c.write_header.new.self.pieces)
-    (at _ _ c.write_files.new.self.pieces) (at _ _ c.write_total.new.self.pieces) (at _ _ c.hand_over.new.self) c.hand_over.result c.in-Ok.ensures as_many
+    ends-written c.args.terms.now c.args.journal.now (length c.files-files.result.now) c.in-Ok.decisions (at _ _ c.new-3.result) (at _ _ c.write_header.new.self.writer)
+    (at _ _ c.write_files.new.self.writer) (at _ _ c.write_total.new.self.writer) (at _ _ c.hand_over.new.self) c.hand_over.result c.in-Ok.ensures as_many
     (record { gathered = made.gathered; written = made.written; ready = made.ready }) c.in_ok-write_header.ensures.writes
     (rw (c.in_ok-write_header.ensures.decisions, c.plan.ensures.plan, files) at c.in_ok-write_files.ensures.writes) c.in_ok-write_total.ensures c.hand_over.ensures.writes
     c.hand_over.ensures.all
@@ -69,7 +69,7 @@ returns-clause-refused g c =
     let size = length-map c.files-files.result.now (λ f. f.now) in
     let long = ap length files in
     let as_many : length c.files-files.result.now ≡ length c.args.terms.now.files = omega (arith, size, long) in
-    ends-refused c.args.terms.now c.args.journal.now (length c.files-files.result.now) c.in-Ok.decisions (at _ _ c.new-3.result) (at _ _ c.write_header.new.self.pieces)
-    (at _ _ c.write_files.new.self.pieces) (at _ _ c.write_total.new.self.pieces) (at _ _ c.hand_over.new.self) c.hand_over.result c.in-Ok.ensures as_many
+    ends-refused c.args.terms.now c.args.journal.now (length c.files-files.result.now) c.in-Ok.decisions (at _ _ c.new-3.result) (at _ _ c.write_header.new.self.writer)
+    (at _ _ c.write_files.new.self.writer) (at _ _ c.write_total.new.self.writer) (at _ _ c.hand_over.new.self) c.hand_over.result c.in-Ok.ensures as_many
     (record { gathered = made.gathered; written = made.written; ready = made.ready }) c.in_ok-write_header.ensures.writes
     (rw (c.in_ok-write_header.ensures.decisions, c.plan.ensures.plan, files) at c.in_ok-write_files.ensures.writes) c.in_ok-write_total.ensures c.hand_over.ensures.writes

@@ -9,5 +9,5 @@ returns-in-Ok-clause-writes g c =
 
 pub returns-in-Err-clause-writes : goal.returns-in-Err-clause-writes
 returns-in-Err-clause-writes g c =
-    file-no-memory (looked_up c.args.self.now.decisions) c.args.provider c.args.plan.now.names c.args.text.now _ _ c.args.self.now.pieces c.no_memory.result
+    file-no-memory (looked_up c.args.self.now.decisions) c.args.provider c.args.plan.now.names c.args.text.now _ _ c.args.self.now.writer c.no_memory.result
     (record { written = c.no_memory.ensures.written; cause = c.no_memory.ensures.cause })

@@ -15,7 +15,7 @@ returns-in_err-write_file-clause-writes g c =
     let decided = looked_up c.args.self.now.decisions in
     let so_far = c.loop-place.invariant in
     rw (p.1, p.2)
-    (files-refused decided c.args.plan.now.names c.args.files.now c.loop-place.place _ _ (at _ _ c.loop-place.self.pieces) (at _ _ c.write_file.new.self.pieces) c.in_err-write_file.field-0.0 c.loop-place-test.true so_far.so_far
+    (files-refused decided c.args.plan.now.names c.args.files.now c.loop-place.place _ _ (at _ _ c.loop-place.self.writer) (at _ _ c.write_file.new.self.writer) c.in_err-write_file.field-0.0 c.loop-place-test.true so_far.so_far
     (rw so_far.decisions at c.in_err-write_file.ensures.writes))
 
 pub loop-place-preserved : goal.loop-place-preserved
@@ -24,7 +24,7 @@ loop-place-preserved g c =
     let so_far = c.loop-place.invariant in
     record {
       so_far =
-          files-next decided c.args.plan.now.names c.args.files.now c.loop-place.place _ _ (at _ _ c.loop-place.self.pieces) (at _ _ c.write_file.new.self.pieces) c.loop-place-test.true so_far.so_far
+          files-next decided c.args.plan.now.names c.args.files.now c.loop-place.place _ _ (at _ _ c.loop-place.self.writer) (at _ _ c.write_file.new.self.writer) c.loop-place-test.true so_far.so_far
           (rw so_far.decisions at c.in_ok-write_file.ensures.writes);
       decisions = c.in_ok-write_file.ensures.decisions ∙ so_far.decisions;
     }

@@ -12,6 +12,6 @@ invariant-loop-place g l =
     let contents = g.W.Write.contents in
     record {
       so_far : FilesSoFar (looked_up l.initial.self.decisions) l.plan.names (texts_of l.files) l.place
-          (at (contents (writer_of l.initial.out)) (has_failed l.initial.out) l.initial.self.pieces) (at (contents (writer_of l.out)) (has_failed l.out) l.self.pieces);
+          (at (contents (writer_of l.initial.out)) (has_failed l.initial.out) l.initial.self.writer) (at (contents (writer_of l.out)) (has_failed l.out) l.self.writer);
       decisions : l.self.decisions ≡ l.initial.self.decisions;
     }

@@ -10,13 +10,13 @@ loop-next-init g c = record { so_far = rows-none (looked_up c.args.self.now.deci
 
 pub returns-in_default-clause-writes : goal.returns-in_default-clause-writes
 returns-in_default-clause-writes g c =
-    rows-no-memory (looked_up c.args.self.now.decisions) c.args.provider c.args.rows c.loop-next.rows _ _ _ c.loop-next.self.pieces c.no_memory.result
+    rows-no-memory (looked_up c.args.self.now.decisions) c.args.provider c.args.rows c.loop-next.rows _ _ _ c.loop-next.self.writer c.no_memory.result
     c.loop-next.invariant.so_far (record { written = c.no_memory.ensures.written; cause = c.no_memory.ensures.cause })
 
 pub returns-in_default-next-clause-writes : goal.returns-in_default-next-clause-writes
 returns-in_default-next-clause-writes g c =
     let gives = rw c.in_default-next.is at c.in-Ok.ensures.gives in
-    rows-done c.no_records_give_no_rows.ensures (looked_up c.args.self.now.decisions) c.args.provider c.args.rows c.loop-next.rows _ (at _ _ c.loop-next.self.pieces)
+    rows-done c.no_records_give_no_rows.ensures (looked_up c.args.self.now.decisions) c.args.provider c.args.rows c.loop-next.rows _ (at _ _ c.loop-next.self.writer)
     c.loop-next.invariant.so_far gives.0 (rw c.in_default-next.is at c.in-Ok.ensures.head)
 
 pub returns-in_err-write_row-clause-writes : goal.returns-in_err-write_row-clause-writes
@@ -25,7 +25,7 @@ returns-in_err-write_row-clause-writes g c =
     let so_far = c.loop-next.invariant in
     rw (p.1, p.2)
     (rows-refused c.given_row_is_the_first.ensures (looked_up c.args.self.now.decisions) c.args.provider c.args.rows c.loop-next.rows c.next.new.self c.in-Some.row
-    _ (at _ _ c.loop-next.self.pieces) (at _ _ c.write_row.new.self.pieces) c.in_err-write_row.field-0.0 so_far.so_far (rw c.in-Some.is at c.in-Ok.ensures.gives)
+    _ (at _ _ c.loop-next.self.writer) (at _ _ c.write_row.new.self.writer) c.in_err-write_row.field-0.0 so_far.so_far (rw c.in-Some.is at c.in-Ok.ensures.gives)
     (rw c.in-Some.is at c.in-Ok.ensures.head) (rw so_far.decisions at c.in_err-write_row.ensures.writes))
 
 pub loop-next-preserved-in_ok-write_row : goal.loop-next-preserved-in_ok-write_row
@@ -34,7 +34,7 @@ loop-next-preserved-in_ok-write_row g c =
     record {
       so_far =
           rows-next c.given_row_is_the_first.ensures (looked_up c.args.self.now.decisions) c.args.provider c.args.rows c.loop-next.rows c.next.new.self c.in-Some.row
-          _ (at _ _ c.loop-next.self.pieces) (at _ _ c.write_row.new.self.pieces) so_far.so_far (rw c.in-Some.is at c.in-Ok.ensures.gives)
+          _ (at _ _ c.loop-next.self.writer) (at _ _ c.write_row.new.self.writer) so_far.so_far (rw c.in-Some.is at c.in-Ok.ensures.gives)
           (rw c.in-Some.is at c.in-Ok.ensures.head) (rw so_far.decisions at c.in_ok-write_row.ensures.writes);
       decisions = c.in_ok-write_row.ensures.decisions ∙ so_far.decisions;
     }
@@ -45,7 +45,7 @@ loop-next-preserved g c =
     record {
       so_far =
           rows-next c.given_row_is_the_first.ensures (looked_up c.args.self.now.decisions) c.args.provider c.args.rows c.loop-next.rows c.next.new.self c.in-Some.row
-          _ (at _ _ c.loop-next.self.pieces) (at _ _ c.write_row.new.self.pieces) so_far.so_far (rw c.in-Some.is at c.in-Ok.ensures.gives)
+          _ (at _ _ c.loop-next.self.writer) (at _ _ c.write_row.new.self.writer) so_far.so_far (rw c.in-Some.is at c.in-Ok.ensures.gives)
           (rw c.in-Some.is at c.in-Ok.ensures.head) (rw so_far.decisions at c.in_ok-write_row.ensures.writes);
       decisions = c.in_ok-write_row.ensures.decisions ∙ so_far.decisions;
     }

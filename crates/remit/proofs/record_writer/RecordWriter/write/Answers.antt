@@ -1,7 +1,7 @@
 use Rattle.std.proofs.Common.{◌≡◌, false, is_err, refl}
 use Rattle.csv.specs.Records.{fields_of}
 use Rattle.remit.proofs.Holding.{gathers-and-hands, gathers-record, on-ok}
-use Rattle.remit.proofs.pieces.Pieces.write.Goals as goal
+use Rattle.remit.proofs.record_writer.RecordWriter.write.Goals as goal
 
 pub returns-then-len-lt-PIECE_BYTES : goal.returns-then-len-lt-PIECE_BYTES
 returns-then-len-lt-PIECE_BYTES g c =

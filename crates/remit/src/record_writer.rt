@@ -1,16 +1,14 @@
 //! Records on their way to a writer: gathered as CSV text (RFC 4180), and handed over in large pieces.
-ghost use Rattle.std.specs.Prelude.{◌≡◌, ◌<◌, ◌≤◌, ◌+◌, ◌^◌, ◌++◌, [], length, take, IfOk, IfErr, OnOk, OnErr, false, true};
-ghost use Rattle.std.specs.Io.KnownBytes.{Appends};
+ghost use Rattle.std.specs.Prelude.{◌≡◌, [], OnOk, false};
 ghost use Rattle.csv.specs.Records.{fields_of};
 ghost use Rattle.csv.specs.Writing.{fields_written, has_written, writer_pending, writer_setup, writer_under};
 ghost use Rattle.fixpoint.specs.Out.{has_failed, writer_of};
-ghost use Rattle.remit.specs.Held.{IsNoMemory, IsReady, PutsFront, Writes, at, gathered_of};
+ghost use Rattle.remit.specs.Held.{IsNoMemory, IsReady, Writes, at, gathered_of};
 ghost use Rattle.remit.specs.Report.{record_text, report_style};
-ghost use Rattle.remit.specs.declared.fault.WriteCause.TheVariants.{Device};
 
 use crate::fault::{WriteCause, WriteFault};
 use csv::{ByteRecord, Terminator, Writer, WriterBuilder};
-use fixpoint::Out;
+use fixpoint::{Out, put_all};
 use std::alloc::Global;
 use std::io::Write;
 use std::mem;
@@ -20,20 +18,20 @@ const PIECE_BYTES: usize = 65_536;
 
 /// Records that are gathered, and how many bytes were handed over before them.
 #[derive(Drop)]
-pub struct Pieces {
+pub struct RecordWriter {
     alloc: Global,
     gathered: Writer<Vec<u8>>,
     written: usize,
 }
 
-impl Pieces {
+impl RecordWriter {
     /// No records.
-    pub fn new(alloc: Global) -> Pieces
+    pub fn new(alloc: Global) -> RecordWriter
         ensures gathered { gathered_of result ≡ [] }
         ensures written { result.written ≡ 0 }
         ensures ready { IsReady result }
     {
-        Pieces {
+        RecordWriter {
             alloc,
             gathered: writer_into(Vec::new(alloc)),
             written: 0,
@@ -80,10 +78,18 @@ impl Pieces {
         if text.len() > usize::MAX - self.written {
             return Err(self.no_memory());
         }
-        self.written = put_all(text.as_slice(), self.written, out)?;
-        text.clear();
-        self.gathered = writer_into(text);
-        Ok(())
+        match put_all(text.as_slice(), out) {
+            Ok(()) => {
+                self.written += text.len();
+                text.clear();
+                self.gathered = writer_into(text);
+                Ok(())
+            }
+            Err(cut) => Err(WriteFault {
+                written: self.written + cut.written,
+                cause: WriteCause::Device,
+            }),
+        }
     }
 }
 
@@ -98,30 +104,4 @@ fn writer_into(text: Vec<u8>) -> Writer<Vec<u8>>
     WriterBuilder::new()
         .terminator(Terminator::CRLF)
         .from_writer(text)
-}
-
-// Hands the text to the writer, as many bytes at a time as it takes. So many bytes were handed over before, and with
-// these the count is given.
-fn put_all<W: Write>(text: &[u8], before: usize, out: &mut Out<W>) -> Result<usize, WriteFault>
-    requires { before + length text.now < 2 ^ 64 }
-    ensures all { IfOk result (λ written. written ≡ before + length text.now) }
-    ensures ok { OnOk result (Appends (W.contents (writer_of out.old)) (W.contents (writer_of out.new)) text.now) }
-    ensures ok_failed { OnOk result (has_failed out.new ≡ has_failed out.old) }
-    ensures front { IfErr result (λ fault. PutsFront text.now before fault.written (W.contents (writer_of out.old)) (W.contents (writer_of out.new))) }
-    ensures failed { OnErr result (has_failed out.new ≡ true) }
-    ensures cause { IfErr result (λ fault. fault.cause ≡ Device) }
-{
-    let mut put = 0;
-    while put < text.len() {
-        match out.put(&text[put..]) {
-            Ok(count) => put += count,
-            Err(_) => {
-                return Err(WriteFault {
-                    written: before + put,
-                    cause: WriteCause::Device,
-                });
-            }
-        }
-    }
-    Ok(before + put)
 }

@@ -1,7 +1,7 @@
 use Rattle.std.proofs.Common.{◌≡◌, ◌-◌, ◌≤◌, length, take}
 use Rattle.std.specs.Io.KnownBytes.{Appends}
 use Rattle.fixpoint.specs.Out.{writer_of, has_failed}
-use Rattle.adjudicate.proofs.output.put_all.Given as goal
+use Rattle.fixpoint.proofs.whole_text.put_all.Given as goal
 
 -- so many bytes of the text went out, and the writer hasn't failed
 abbrev pub invariant-loop-written : goal.invariant-loop-written
