@@ -77,6 +77,7 @@ fn write_remittance<R: Threads + Wait + Sync + AllocGlobal, W: Write>(
     ensures ok_failed { OnOk result (has_failed out.new ≡ has_failed out.old) }
     ensures failed { IfErr result (λ stop. has_failed out.new ≡ failed_after (has_failed out.old) stop) }
 {
+    // Known from here: the texts have lists of claims, so that what holds for each list says something.
     terms_are_seen(terms);
     let batch = crew::run(rt, rt.alloc(), terms, workers)?;
     write_report(rt.alloc(), terms, &batch, out)?;

@@ -46,6 +46,7 @@ where
     {
         match self.lock.lock(rt, pass) {
             Ok((state, holder)) => {
+                // Known from here: the journal that is left is lawful.
                 let _lawful = state.journal();
                 Ok(self.lock.retire(holder, state))
             }
@@ -99,6 +100,7 @@ where
     ) -> Result<(Result<Accepted, (OfferFault, Offer)>, S::Pass), (Worn, S::Pass, Offer)> {
         match self.lock.lock(rt, pass) {
             Ok((mut state, holder)) => {
+                // Known from here: the journal that is left is lawful.
                 let _lawful = state.journal();
                 let reply = state.offer(offer);
                 Ok((reply, self.lock.leave(holder, state)))
@@ -116,6 +118,7 @@ where
     ) -> Result<(Result<Ended, EndFault>, S::Pass), (Worn, S::Pass)> {
         match self.lock.lock(rt, pass) {
             Ok((mut state, holder)) => {
+                // Known from here: the journal that is left is lawful.
                 let _lawful = state.journal();
                 let reply = state.end(provider, count);
                 Ok((reply, self.lock.leave(holder, state)))
@@ -131,6 +134,7 @@ where
     ) -> Result<(Result<Taken, TakeFault>, S::Pass), (Worn, S::Pass)> {
         match self.lock.lock(rt, pass) {
             Ok((mut state, holder)) => {
+                // Known from here: the journal that is left is lawful.
                 let _lawful = state.journal();
                 let reply = state.take();
                 Ok((reply, self.lock.leave(holder, state)))
@@ -149,9 +153,11 @@ where
         (Result<Recorded, (FinishFault, Job, Outcome)>, S::Pass),
         (Worn, S::Pass, Job, Outcome),
     > {
+        // Known from here: a job stays one in each later state of the gate.
         jobs_stay();
         match self.lock.lock(rt, pass) {
             Ok((mut state, holder)) => {
+                // Known from here: the journal that is left is lawful.
                 let _lawful = state.journal();
                 let reply = state.finish(job, outcome);
                 Ok((reply, self.lock.leave(holder, state)))
@@ -163,6 +169,7 @@ where
     fn stop<R: Wait>(&self, rt: &R, pass: S::Pass) -> Result<S::Pass, (Worn, S::Pass)> {
         match self.lock.lock(rt, pass) {
             Ok((mut state, holder)) => {
+                // Known from here: the journal that is left is lawful.
                 let _lawful = state.journal();
                 state.stop();
                 Ok(self.lock.leave(holder, state))
@@ -174,6 +181,7 @@ where
     fn counts<R: Wait>(&self, rt: &R, pass: S::Pass) -> Result<(Counts, S::Pass), (Worn, S::Pass)> {
         match self.lock.lock(rt, pass) {
             Ok((state, holder)) => {
+                // Known from here: the journal that is left is lawful.
                 let _lawful = state.journal();
                 let counts = state.counts();
                 Ok((counts, self.lock.leave(holder, state)))

@@ -58,6 +58,7 @@ impl<'t> GateState<'t> {
     pub fn new(alloc: Global, terms: &'t Terms<'t>) -> Result<GateState<'t>, AllocError>
         ensures { IfOk result (λ made. made ≡ record { terms = terms.now; journal = first_journal terms.now.cutoff; stopped = false }) }
     {
+        // Known from here: the journal of no event is lawful.
         starts_lawful();
         let mut journal = Vec::new(alloc);
         journal.reserve(1)?;
@@ -129,6 +130,7 @@ impl<'t> GateState<'t> {
         ensures back { IfErr result (λ refused. refused.1 ≡ offer) }
         ensures refused { OnErr result (self.new ≡ self.old) }
     {
+        // Known from here: from a lawful journal each call goes to a lawful one.
         gate_stays_lawful();
         if self.journal.reserve(2).is_err() {
             return Err((OfferFault::OutOfMemory, offer));
@@ -165,6 +167,7 @@ impl<'t> GateState<'t> {
         ensures stays_stopped { self.old.stopped ≡ true → self.new ≡ self.old }
         ensures refused { OnErr result (self.new ≡ self.old) }
     {
+        // Known from here: from a lawful journal each call goes to a lawful one.
         gate_stays_lawful();
         if self.stopped {
             return Err(EndFault::Stopped);
@@ -198,6 +201,7 @@ impl<'t> GateState<'t> {
         ensures stays_stopped { self.old.stopped ≡ true → self.new ≡ self.old }
         ensures refused { OnErr result (self.new ≡ self.old) }
     {
+        // Known from here: from a lawful journal each call goes to a lawful one.
         gate_stays_lawful();
         if self.stopped {
             return Ok(Taken::Stopped);
@@ -264,6 +268,7 @@ impl<'t> GateState<'t> {
         ensures back { IfErr result (λ refused. (refused.1 ≡ job) × (refused.2 ≡ outcome)) }
         ensures refused { OnErr result (self.new ≡ self.old) }
     {
+        // Known from here: from a lawful journal each call goes to a lawful one.
         gate_stays_lawful();
         let left = after(job.acc, &outcome).unwrap();
         if self.journal.reserve(1).is_err() {

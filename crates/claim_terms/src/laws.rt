@@ -8,6 +8,7 @@ use intake_csv::files_have_rows;
 pub fn terms_are_seen(terms: &Terms)
     ensures { ¬ ForTerms terms.now (λ _. ⊥) }
 {
+    // Known from here: each file has its rows.
     files_have_rows();
     let _plan = terms.plan();
 }

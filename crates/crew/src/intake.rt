@@ -79,6 +79,7 @@ fn read_on<R: Wait, G: Gate>(
     ensures past { IfOk result (λ p. is_past (G.known p).seen provider ≡ true) }
     ensures fault { IfErr result (λ e. e.0 ≢ Workers) }
 {
+    // Known from here: what a reader has left is what the file has, and a row that it gives is the first of that.
     reader_begins_with_all_rows();
     no_records_give_no_rows();
     given_row_has_the_claim();
@@ -214,6 +215,7 @@ fn offer_once<R: Wait, G: Gate>(
     ensures offered { IfOk result (λ r. IsOffered (G.known r.1).seen offer r.0) }
     ensures fault { IfErr result (λ e. e.0 ≢ Workers) }
 {
+    // Known from here: the texts have lists of claims, so that what holds for each list says something.
     terms_are_seen(terms);
     let place = offer.place;
     let (accepted, pass) = match gate.offer(rt, pass, offer) {
@@ -276,6 +278,7 @@ fn end_once<R: Wait, G: Gate>(
     ensures past { IfOk result (λ p. is_past (G.known p).seen provider ≡ true) }
     ensures fault { IfErr result (λ e. e.0 ≢ Workers) }
 {
+    // Known from here: the texts have lists of claims, so that what holds for each list says something.
     terms_are_seen(terms);
     let (ended, pass) = match gate.end(rt, pass, provider, count) {
         Ok(answer) => answer,

@@ -15,6 +15,7 @@ pub(crate) fn stop<R: Wait, G: Gate>(rt: &R, terms: &Terms, gate: &G, pass: G::P
     ensures seen { LeadsTo (G.known pass).seen (G.known result).seen }
     ensures stopped { ((G.known result).seen.stopped ≡ true) ⊎ G.is_worn result }
 {
+    // Known from here: the texts have lists of claims, so that what holds for each list says something.
     terms_are_seen(terms);
     match gate.stop(rt, pass) {
         Ok(pass) => pass,

@@ -40,6 +40,7 @@ pub fn run<'t, R: Threads + Wait + Sync>(
     if !may_have(workers) {
         return Err(RunFault::Workers);
     }
+    // Known from here: the texts have lists of claims, so that what holds for each list says something.
     terms_are_seen(terms);
     // Behind a pointer the gate goes in and out of the lock as one word.
     let Ok(state) = Box::new(alloc, GateState::new(alloc, terms)?) else {
@@ -79,6 +80,7 @@ where
     ensures finished { IfOk result (λ state. ForTerms terms.now (λ T. Finished T (S.Value.shown state).journal)) }
     ensures fault { IfErr result (λ fault. fault ≢ Workers) }
 {
+    // Known from here: nothing comes behind a finished journal.
     finished_is_final();
     let gate = LockedGate::over(lock);
     let pass = match run_with(rt, alloc, terms, workers, &gate, pass) {

@@ -106,6 +106,7 @@ fn work_on<R: Wait, G: Gate>(
     ensures fault { IfErr result (λ e. e.0 ≢ Workers) }
     ensures stopped { IfErr result (λ e. e.0 ≡ Stopped → (G.known e.1).seen.stopped ≡ true) }
 {
+    // Known from here: what holds of every plan.
     let _plan = terms.plan();
     let Ok(mut adjudicator) = Adjudicator::new(alloc, plan) else {
         return Err((RunFault::OutOfMemory, pass));
@@ -184,6 +185,7 @@ fn gather<R: Wait, G: Gate>(
     ensures fault { IfErr result (λ e. e.0 ≢ Workers) }
     ensures stopped { IfErr result (λ e. e.0 ≡ Stopped → (G.known e.1).seen.stopped ≡ true) }
 {
+    // Known from here: a job stays one in each later state of the gate.
     jobs_stay();
     let mut jobs = Vec::new(alloc);
     'calls: for _ in 0..CALLS_LIMIT {
@@ -249,6 +251,7 @@ fn take_once<R: Wait, G: Gate>(
     ensures fault { IfErr result (λ e. e.0 ≢ Workers) }
     ensures stopped { IfErr result (λ e. e.0 ≡ Stopped → (G.known e.1).seen.stopped ≡ true) }
 {
+    // Known from here: the texts have lists of claims, so that what holds for each list says something.
     terms_are_seen(terms);
     claims_have_the_plan_s_fields();
     let _names = terms.plan().names();
@@ -302,6 +305,7 @@ fn record_all<R: Wait, G: Gate>(
     ensures fault { IfErr result (λ e. e.0 ≢ Workers) }
     ensures stopped { IfErr result (λ e. e.0 ≡ Stopped → (G.known e.1).seen.stopped ≡ true) }
 {
+    // Known from here: a job stays one in each later state of the gate.
     jobs_stay();
     for one in settled {
         pass = match record(rt, terms, gate, pass, one) {
@@ -332,6 +336,7 @@ fn record<R: Wait, G: Gate>(
     ensures fault { IfErr result (λ e. e.0 ≢ Workers) }
     ensures stopped { IfErr result (λ e. e.0 ≡ Stopped → (G.known e.1).seen.stopped ≡ true) }
 {
+    // Known from here: a job stays one in each later state of the gate.
     jobs_stay();
     let (handed, pass) = match hand_in(rt, terms, gate, pass, settled) {
         Ok(answer) => answer,
@@ -392,6 +397,7 @@ fn hand_in<R: Wait, G: Gate>(
     ensures fault { IfErr result (λ e. e.0 ≢ Workers) }
     ensures stopped { IfErr result (λ e. e.0 ≡ Stopped → (G.known e.1).seen.stopped ≡ true) }
 {
+    // Known from here: the texts have lists of claims, so that what holds for each list says something.
     terms_are_seen(terms);
     let Settled { job, outcome } = settled;
     let (recorded, pass) = match gate.finish(rt, pass, job, outcome) {

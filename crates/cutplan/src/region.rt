@@ -149,6 +149,7 @@ pub fn is_in_range(value: &Value) -> bool
 fn is_number(number: Fixed) -> bool
     ensures { result ≡ is_value kinds.Number (values.Number number) }
 {
+    // Known from here: the number is in its range.
     let _units = number.units();
     true
 }
@@ -156,6 +157,7 @@ fn is_number(number: Fixed) -> bool
 fn is_day(day: Day) -> bool
     ensures { result ≡ is_value kinds.Day (values.Day day) }
 {
+    // Known from here: the day is in its range.
     let _number = day.epoch_day();
     true
 }

@@ -51,6 +51,7 @@ pub fn read_plan(alloc: Global, text: &[u8]) -> Result<Plan, PlanFault>
 pub fn text_spells_at_most_one_plan()
     ensures { SpellsOnePlan }
 {
+    // Known from here: a text spells one value or cell at most, so that what was refused spells none.
     text_spells_at_most_one_cell();
     text_spells_at_most_one_value();
 }
@@ -60,6 +61,7 @@ fn plan_of(alloc: Global, document: &Value) -> Result<Plan, PlanFault>
     ensures { Reads (IsPlanDocument (view document.now)) result }
 {
     check_version(document)?;
+    // Known from here: a text spells one value or cell at most, so that what was refused spells none.
     text_spells_at_most_one_value();
     let names = read_names(alloc, document)?;
     let tables = read_tables(alloc, document, names.as_slice())?;

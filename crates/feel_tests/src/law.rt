@@ -51,6 +51,7 @@ fn number_spells(number: Fixed)
     ensures { SpellsValue kinds.Number (shortest_text number) (values.Number number) }
 {
     fixpoint::shortest_text_denotes();
+    // Known from here: the number is in its range.
     let _units = number.units();
 }
 
@@ -58,6 +59,7 @@ fn text_spells(text: &str)
     requires { length text.now ≤ text_limit_bytes }
     ensures { SpellsValue kinds.Text (quoted text.now) (values.Text text.now) }
 {
+    // Known from here: the text is UTF-8 within its limit.
     let _bytes = text.as_bytes();
 }
 

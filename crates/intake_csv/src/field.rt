@@ -52,6 +52,7 @@ fn read_money(text: &str) -> Result<Value, RowCause>
     requires { IsText text.now }
     ensures { IsFieldRead contents.Money text.now result }
 {
+    // Known from here: a text denotes one number at most.
     text_denotes_at_most_one();
     let Ok(amount) = Fixed::parse(text.as_bytes()) else {
         return Err(RowCause::Value);

@@ -43,6 +43,7 @@ impl Money {
     pub fn new(amount: Fixed) -> Option<Money>
         ensures { SomeIff result (IsMoney amount) amount }
     {
+        // Known from here: the amount is in its range.
         let _units = amount.units();
         if amount.is_money() {
             Some(Money { amount })

@@ -150,6 +150,7 @@ fn read_priority_entries(
     ensures { Reads (ArePriorityEntries kind (items_view entries.now)) result }
 {
     check_count(entries, PRIORITY_LIMIT, place)?;
+    // Known from here: a text spells one value or cell at most, so that what was refused spells none.
     text_spells_at_most_one_value();
     let mut list = Sequence::new(alloc);
     for entry in entries {
@@ -168,6 +169,7 @@ fn read_priority_entry(
 ) -> Result<Literal, PlanFault>
     ensures { Reads (IsPriority kind front.now (view entry.now)) result }
 {
+    // Known from here: a text spells one value or cell at most, so that what was refused spells none.
     text_spells_at_most_one_value();
     let value = read_literal_entry(alloc, entry, kind, place)?;
     if is_listed(front, &value) {

@@ -174,6 +174,7 @@ fn read_source(
 ) -> Result<Source, PlanFault>
     ensures { Reads (IsSource names.now (map seen_of tables.now) asked text.now) result }
 {
+    // Known from here: a text spells one value or cell at most, so that what was refused spells none.
     text_spells_at_most_one_value();
     match read_value(alloc, asked.kind(), text) {
         Ok(value) => literal_source(value, asked, place),

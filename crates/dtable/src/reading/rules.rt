@@ -140,6 +140,7 @@ fn read_then_entry(
 ) -> Result<Literal, PlanFault>
     ensures { Reads (IsEntry output.now (view entry.now)) result }
 {
+    // Known from here: a text spells one value or cell at most, so that what was refused spells none.
     text_spells_at_most_one_value();
     let value = read_literal_entry(alloc, entry, output.kind, place)?;
     if !is_ranked(&output.priority, &value) {

@@ -46,6 +46,7 @@ fn read_table_entries(
         TABLES_LIMIT,
         Place::TEXT.in_table(TABLES_LIMIT + 1),
     )?;
+    // Known from here: a text spells one value or cell at most, so that what was refused spells none.
     text_spells_at_most_one_value();
     let mut tables = Sequence::new(alloc);
     for (index, entry) in entries.iter().enumerate() {
@@ -70,6 +71,7 @@ fn read_table(
 ) -> Result<Table, PlanFault>
     ensures { Reads (IsTable names.now (map seen_of front.now) (view entry.now)) result }
 {
+    // Known from here: a text spells one value or cell at most, so that what was refused spells none.
     text_spells_at_most_one_cell();
     text_spells_at_most_one_value();
     let hit = read_hit(entry, place)?;
