@@ -102,6 +102,25 @@ pub fn next_offer(
     }
 }
 
+// Goes by so many records at the start of a provider's file, which are claims.
+fn go_by(
+    rt: &impl Abort,
+    terms: &Terms,
+    provider: usize,
+    rows: &mut Rows,
+    count: usize,
+) -> Result<(), AllocError>
+    requires reader { ForTerms terms.now (λ T. IsReader T provider rows.old) }
+    requires place { rows.old.place ≡ 0 }
+    ensures reader { OnOk result (ForTerms terms.now (λ T. IsReader T provider rows.new)) }
+    ensures place { OnOk result (rows.new.place ≡ count) }
+{
+    for _ in 0..count {
+        next_offer(rt, terms, provider, rows)?;
+    }
+    Ok(())
+}
+
 // The claim at a place of a provider's file, whose records up to it are claims, as an offer.
 pub fn offer_at(
     rt: &impl Abort,
@@ -114,9 +133,7 @@ pub fn offer_at(
     ensures { IfOk result (λ offer. ForTerms terms.now (λ T. IsFiled T offer)) }
 {
     let mut rows = open(rt, alloc, terms, provider)?;
-    for _ in 0..place {
-        next_offer(rt, terms, provider, &mut rows)?;
-    }
+    go_by(rt, terms, provider, &mut rows, place)?;
     next_offer(rt, terms, provider, &mut rows)
 }
 
@@ -133,9 +150,7 @@ pub fn read_all(
 {
     no_records_give_no_rows();
     let mut rows = open(rt, alloc, terms, provider)?;
-    for _ in 0..count {
-        next_offer(rt, terms, provider, &mut rows)?;
-    }
+    go_by(rt, terms, provider, &mut rows, count)?;
     match rows.next()? {
         None => Ok(()),
         Some(_) => panic!(rt; "the end of the file"),

@@ -250,20 +250,36 @@ where
     Ok(())
 }
 
+fn by_a_spin_lock(rt: &(impl Abort + Wait), alloc: Global, terms: &Terms) -> Result<(), AllocError>
+    requires { IsSpelled terms.now.plan }
+{
+    let (lock, pass) = SpinLock::new(alloc, GateState::new(alloc, terms)?)?;
+    calls_over(rt, alloc, terms, lock, pass)
+}
+
 fn over_a_spin_lock(rt: &(impl Abort + Wait), alloc: Global) -> Result<(), AllocError> {
     let plan = plan_of(alloc, plan_text())?;
     let files = [first_file(), second_file()];
     let terms = terms_of(alloc, &plan, &files, None)?;
-    let (lock, pass) = SpinLock::new(alloc, GateState::new(alloc, &terms)?)?;
-    calls_over(rt, alloc, &terms, lock, pass)
+    by_a_spin_lock(rt, alloc, &terms)
+}
+
+fn by_a_ticket_lock(
+    rt: &(impl Abort + Wait),
+    alloc: Global,
+    terms: &Terms,
+) -> Result<(), AllocError>
+    requires { IsSpelled terms.now.plan }
+{
+    let (lock, pass) = TicketLock::new(alloc, GateState::new(alloc, terms)?)?;
+    calls_over(rt, alloc, terms, lock, pass)
 }
 
 fn over_a_ticket_lock(rt: &(impl Abort + Wait), alloc: Global) -> Result<(), AllocError> {
     let plan = plan_of(alloc, plan_text())?;
     let files = [first_file(), second_file()];
     let terms = terms_of(alloc, &plan, &files, None)?;
-    let (lock, pass) = TicketLock::new(alloc, GateState::new(alloc, &terms)?)?;
-    calls_over(rt, alloc, &terms, lock, pass)
+    by_a_ticket_lock(rt, alloc, &terms)
 }
 
 #[test]

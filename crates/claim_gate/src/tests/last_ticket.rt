@@ -141,37 +141,48 @@ where
     worn_finish(rt, alloc, terms, &gate, pass, job)
 }
 
-fn by_one_ticket(rt: &(impl Abort + Wait), alloc: Global) -> Result<(), AllocError> {
-    let plan = plan_of(alloc, plan_text())?;
-    let files = [first_file()];
-    let terms = terms_of(alloc, &plan, &files, None)?;
-    let state = GateState::new(alloc, &terms)?;
+fn one_ticket(rt: &(impl Abort + Wait), alloc: Global, terms: &Terms) -> Result<(), AllocError>
+    requires { IsSpelled terms.now.plan }
+{
+    let state = GateState::new(alloc, terms)?;
     let (lock, pass) = TicketLock::new_at(alloc, state, u64::MAX - 1)?;
-    calls_over(rt, alloc, &terms, lock, pass)
+    calls_over(rt, alloc, terms, lock, pass)
 }
 
-fn by_no_ticket(rt: &(impl Abort + Wait), alloc: Global) -> Result<(), AllocError> {
+fn no_ticket(rt: &(impl Abort + Wait), alloc: Global, terms: &Terms) -> Result<(), AllocError>
+    requires { IsSpelled terms.now.plan }
+{
+    let state = GateState::new(alloc, terms)?;
+    let (lock, pass) = TicketLock::new_at(alloc, state, u64::MAX)?;
+    calls_without(rt, alloc, terms, lock, pass)
+}
+
+fn two_tickets(rt: &(impl Abort + Wait), alloc: Global, terms: &Terms) -> Result<(), AllocError>
+    requires { IsSpelled terms.now.plan }
+{
+    let state = GateState::new(alloc, terms)?;
+    let (lock, pass) = TicketLock::new_at(alloc, state, u64::MAX - 2)?;
+    finish_over(rt, alloc, terms, lock, pass)
+}
+
+fn by_few_tickets(rt: &(impl Abort + Wait), alloc: Global) -> Result<(), AllocError> {
     let plan = plan_of(alloc, plan_text())?;
     let files = [first_file()];
     let terms = terms_of(alloc, &plan, &files, None)?;
-    let state = GateState::new(alloc, &terms)?;
-    let (lock, pass) = TicketLock::new_at(alloc, state, u64::MAX)?;
-    calls_without(rt, alloc, &terms, lock, pass)
+    no_ticket(rt, alloc, &terms)?;
+    one_ticket(rt, alloc, &terms)
 }
 
 fn by_two_tickets(rt: &(impl Abort + Wait), alloc: Global) -> Result<(), AllocError> {
     let plan = plan_of(alloc, plan_text())?;
     let files = [first_file()];
     let terms = terms_of(alloc, &plan, &files, None)?;
-    let state = GateState::new(alloc, &terms)?;
-    let (lock, pass) = TicketLock::new_at(alloc, state, u64::MAX - 2)?;
-    finish_over(rt, alloc, &terms, lock, pass)
+    two_tickets(rt, alloc, &terms)
 }
 
 #[test]
 fn no_call_without_a_ticket(rt: HostRuntime) -> Result<(), Fail> {
-    by_no_ticket(&rt, rt.alloc())?;
-    by_one_ticket(&rt, rt.alloc())?;
+    by_few_tickets(&rt, rt.alloc())?;
     Ok(())
 }
 

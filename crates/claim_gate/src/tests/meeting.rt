@@ -50,8 +50,14 @@ fn met_passes(rt: &(impl Abort + Wait), alloc: Global) -> Result<(), AllocError>
     let plan = plan_of(alloc, plan_text())?;
     let files = [first_file(), second_file()];
     let terms = terms_of(alloc, &plan, &files, None)?;
-    let (lock, pass) = TicketLock::new(alloc, GateState::new(alloc, &terms)?)?;
-    met_calls(rt, alloc, &terms, lock, pass)
+    meet_once(rt, alloc, &terms)
+}
+
+fn meet_once(rt: &(impl Abort + Wait), alloc: Global, terms: &Terms) -> Result<(), AllocError>
+    requires { IsSpelled terms.now.plan }
+{
+    let (lock, pass) = TicketLock::new(alloc, GateState::new(alloc, terms)?)?;
+    met_calls(rt, alloc, terms, lock, pass)
 }
 
 #[test]
@@ -79,7 +85,11 @@ fn worn_passes(rt: &(impl Abort + Wait), alloc: Global) -> Result<(), AllocError
     let plan = plan_of(alloc, plan_text())?;
     let files = [first_file()];
     let terms = terms_of(alloc, &plan, &files, None)?;
-    let (lock, pass) = TicketLock::new_at(alloc, GateState::new(alloc, &terms)?, u64::MAX)?;
+    meet_without(rt, alloc, &terms)
+}
+
+fn meet_without(rt: &(impl Abort + Wait), alloc: Global, terms: &Terms) -> Result<(), AllocError> {
+    let (lock, pass) = TicketLock::new_at(alloc, GateState::new(alloc, terms)?, u64::MAX)?;
     meet_worn(rt, lock, pass);
     Ok(())
 }
