@@ -1,5 +1,5 @@
 -- The records of the report, by their fields.
-use Rattle.std.specs.Prelude.{ℕ, suc, ℤ, List, [], ◌∷◌, ◌++◌, codes, decimal, map, replicate, Option, Some, None}
+use Rattle.std.specs.Prelude.{ℕ, suc, ℤ, List, [], ◌∷◌, ◌++◌, codes, decimal, map, Option, Some, None}
 use Rattle.fixpoint.specs.Money.{money_text}
 use Rattle.settlement.specs.declared.outcome.Outcome.{Outcome}
 use Rattle.settlement.specs.declared.outcome.Verdict.{Verdict}
@@ -13,11 +13,18 @@ use Rattle.journal.specs.declared.event.Event.{Event}
 use Rattle.remit.specs.Decided.{paid_outcomes, sum_of}
 use Rattle.remit.specs.Texts.{fault_text, remarks_text}
 
+-- the amounts of a record, in order: the name of each, and what it is of an outcome. The header, the records and the totals have
+-- these amounts
+abbrev pub amount_columns : List ((List ℕ) × (Outcome → ℤ))
+amount_columns =
+    (codes "allowed", λ o. o.allowed) ∷ (codes "ded", λ o. o.ded) ∷ (codes "copay", λ o. o.copay) ∷ (codes "coins", λ o. o.coins)
+    ∷ (codes "share", λ o. o.share) ∷ (codes "paid", λ o. o.paid) ∷ []
+
 -- the names of the fields
 abbrev pub header_fields : List (List ℕ)
 header_fields =
-    codes "provider" ∷ codes "record" ∷ codes "claim" ∷ codes "member" ∷ codes "status" ∷ codes "reason" ∷ codes "allowed" ∷ codes "ded"
-    ∷ codes "copay" ∷ codes "coins" ∷ codes "share" ∷ codes "paid" ∷ codes "remarks" ∷ []
+    codes "provider" ∷ codes "record" ∷ codes "claim" ∷ codes "member" ∷ codes "status" ∷ codes "reason"
+    ∷ (map (λ column. column.0) amount_columns ++ codes "remarks" ∷ [])
 
 -- what the report tells of a record behind whose it is: the fields from the status on
 pub record Told : Type 0 where
@@ -31,17 +38,15 @@ told_fields told = told.status ∷ told.reason ∷ (told.amounts ++ told.remarks
 
 -- the amounts of an outcome, as money
 abbrev pub amounts_of : Outcome → List (List ℕ)
-amounts_of decision =
-    money_text decision.allowed ∷ money_text decision.ded ∷ money_text decision.copay ∷ money_text decision.coins ∷ money_text decision.share
-    ∷ money_text decision.paid ∷ []
+amounts_of decision = map (λ column. money_text (column.1 decision)) amount_columns
 
 -- the amounts of a claim that isn't paid
 abbrev pub zeros : List (List ℕ)
-zeros = replicate 6 (codes "0.00")
+zeros = map (λ column. codes "0.00") amount_columns
 
 -- no amounts
 abbrev pub no_amounts : List (List ℕ)
-no_amounts = replicate 6 []
+no_amounts = map (λ column. []) amount_columns
 
 -- a claim that is decided: a pended one has its reason, and no remarks
 abbrev pub told_by : Verdict → Outcome → Told
@@ -80,5 +85,4 @@ total_text J amount = money_text (sum_of amount (paid_outcomes J))
 -- the record at the end: how many claims are accepted, and the sums over the paid claims
 abbrev pub total_fields : List Event → List (List ℕ)
 total_fields J =
-    codes "total" ∷ decimal (accepted J) ∷ [] ∷ [] ∷ [] ∷ [] ∷ total_text J (λ o. o.allowed) ∷ total_text J (λ o. o.ded) ∷ total_text J (λ o. o.copay)
-    ∷ total_text J (λ o. o.coins) ∷ total_text J (λ o. o.share) ∷ total_text J (λ o. o.paid) ∷ [] ∷ []
+    codes "total" ∷ decimal (accepted J) ∷ [] ∷ [] ∷ [] ∷ [] ∷ (map (λ column. total_text J column.1) amount_columns ++ [] ∷ [])

@@ -1,5 +1,6 @@
 -- The texts of the report's fields.
-use Rattle.std.specs.Prelude.{ℕ, ◌++◌, List, [], ◌∷◌, codes, flat_map}
+use Rattle.std.specs.Prelude.{ℕ, List, codes}
+use Rattle.std.specs.List.{join_by}
 use Rattle.settlement.specs.ReasonText.{numbered}
 use Rattle.intake_csv.specs.declared.fault.RowCause.{RowCause}
 use Rattle.intake_csv.specs.declared.fault.RowCause.TheVariants.{FieldCount, Utf8, TooLong, EmptyId, Value, NotCents, Negative, Repeated}
@@ -21,5 +22,4 @@ fault_text fault = cause_text fault.cause fault.column
 
 -- the remarks, as they stand, with a semicolon between two of them
 abbrev pub remarks_text : List (List ℕ) → List ℕ
-remarks_text [] = []
-remarks_text (remark ∷ others) = remark ++ flat_map (λ other. codes ";" ++ other) others
+remarks_text remarks = join_by (λ remark. remark) (codes ";") remarks
