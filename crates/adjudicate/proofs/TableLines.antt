@@ -6,8 +6,7 @@ use Rattle.std.proofs.lemmas.List.{take_more}
 use Rattle.std.proofs.lemmas.List.Concat.{flat_map-append}
 use Rattle.std.proofs.lemmas.List.Sums.{sum_by-append}
 use Rattle.dtable.specs.Plan.{PlanParts}
-use Rattle.cutplan.specs.declared.gap.TheConstants.{CELL_LIMIT}
-use Rattle.cutplan.specs.Numbered.{cells_of, gaps_of, overlaps_of}
+use Rattle.cutplan.specs.Numbered.{cell_limit, cells_of, gaps_of, overlaps_of}
 use Rattle.adjudicate.specs.CheckText.{check_table_lines, gap_line, is_wide, overlap_line, table_numbers, told_gaps, wide_line, wide_lines}
 
 -- the lines of one item more, behind a text
@@ -63,13 +62,13 @@ told_within plan table =
     omega (arith, gaps, overlaps, length-append (flat_map (overlap_line table) (overlaps_of plan table)) (wide_lines plan table ++ gap_bytes), length-append (wide_lines plan table) gap_bytes)
 
 -- a table with no more cells than the limit is told by its gaps
-pub told_narrow : (plan : PlanParts) (table : ℕ) → length (cells_of plan table) ≤ CELL_LIMIT → (told_gaps plan table ≡ gaps_of plan table) × (wide_lines plan table ≡ [])
+pub told_narrow : (plan : PlanParts) (table : ℕ) → length (cells_of plan table) ≤ cell_limit → (told_gaps plan table ≡ gaps_of plan table) × (wide_lines plan table ≡ [])
 told_narrow plan table narrow =
-    let no : is_wide plan table ≡ false = le-ltb CELL_LIMIT (length (cells_of plan table)) narrow in
+    let no : is_wide plan table ≡ false = le-ltb cell_limit (length (cells_of plan table)) narrow in
     (ap (λ b. cond b [] (gaps_of plan table)) no, ap (λ b. cond b (wide_line table) []) no)
 
 -- one with more by its width
-pub told_wide : (plan : PlanParts) (table : ℕ) → CELL_LIMIT < length (cells_of plan table) → (told_gaps plan table ≡ []) × (wide_lines plan table ≡ wide_line table)
+pub told_wide : (plan : PlanParts) (table : ℕ) → cell_limit < length (cells_of plan table) → (told_gaps plan table ≡ []) × (wide_lines plan table ≡ wide_line table)
 told_wide plan table more =
-    let yes : is_wide plan table ≡ true = lt-ltb CELL_LIMIT (length (cells_of plan table)) more in
+    let yes : is_wide plan table ≡ true = lt-ltb cell_limit (length (cells_of plan table)) more in
     (ap (λ b. cond b [] (gaps_of plan table)) yes, ap (λ b. cond b (wide_line table) []) yes)

@@ -4,10 +4,9 @@ use Rattle.std.specs.List.{join_by, range_with_len, sum_by}
 use Rattle.feel_tests.specs.Value.{literal_text}
 use Rattle.dtable.specs.Plan.{PlanParts}
 use Rattle.dtable.specs.PlanFile.{IsPlanText}
-use Rattle.cutplan.specs.declared.gap.TheConstants.{CELL_LIMIT}
 use Rattle.cutplan.specs.declared.region.Region.{Region}
 use Rattle.cutplan.specs.declared.region.Region.TheVariants.{Below, At, Between, Above, Other, Every}
-use Rattle.cutplan.specs.Numbered.{cells_of, gaps_of, overlaps_of}
+use Rattle.cutplan.specs.Numbered.{cell_limit, cells_of, gaps_of, overlaps_of}
 use Rattle.adjudicate.specs.ValueText.{line_end}
 
 -- `<a`, `a`, `]a..b[` or `>b`; `not("A","B")` for any other text; `-` for all values of a column
@@ -37,7 +36,7 @@ wide_line table = codes "wide table " ++ (decimal table ++ line_end ∷ [])
 
 -- the check of the table has more cells than the limit
 abbrev pub is_wide : PlanParts → ℕ → Bool
-is_wide plan table = nat_lt CELL_LIMIT (length (cells_of plan table))
+is_wide plan table = nat_lt cell_limit (length (cells_of plan table))
 
 -- the gaps that are told of a table: none where it is wide
 abbrev pub told_gaps : PlanParts → ℕ → List (List Region)

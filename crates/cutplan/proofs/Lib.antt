@@ -17,3 +17,5 @@ pub mod Columnar
 pub mod Telling
 pub mod Holding
 pub mod Overlapping
+pub mod Matched
+pub mod CutOrder

@@ -25,7 +25,7 @@ abbrev asks_of : Table → ℕ → ℕ → Value → Bool
 asks_of t place column v = option_map_or (λ c. holds c v) (slice_get (rule_cells t place) column) true
 
 -- what stands at a place is among them
-among_place : {X : Type 0} (xs : List X) (n : ℕ) (x : X) → slice_get xs n ≡ Some x → Among x xs
+pub among_place : {X : Type 0} (xs : List X) (n : ℕ) (x : X) → slice_get xs n ≡ Some x → Among x xs
 among_place [] n x e = absurd cc
 among_place (y ∷ ys) zero x e = (let same : y ≡ x = cc in inl same)
 among_place (y ∷ ys) (suc n) x e = inr (among_place ys n x e)
@@ -38,7 +38,7 @@ holds_alike_at p t k i place r v at allowed inside = by_rule (slice_get t.rules 
   by_rule (Some rule) e = asks_alike p t k i rule r v (among_place t.rules place rule e) at allowed inside
 
 -- what a test finds
-any_from : {X : Type 0} (q : X → Bool) (xs : List X) → list_any q xs ≡ true → (x : X) × Among x xs × (q x ≡ true)
+pub any_from : {X : Type 0} (q : X → Bool) (xs : List X) → list_any q xs ≡ true → (x : X) × Among x xs × (q x ≡ true)
 any_from q [] e = absurd (both_ways false refl e)
 any_from q (x ∷ xs) e =
     elim (q x) as (λ b. q x ≡ b → (b || list_any q xs) ≡ true → (y : _) × Among y (x ∷ xs) × (q y ≡ true)) [
@@ -46,7 +46,7 @@ any_from q (x ∷ xs) e =
       | false ↦ λ _ more. (let rest = any_from q xs more in (rest.0, inr rest.1, rest.2))
     ] refl e
 
-any_at : {X : Type 0} (q : X → Bool) (xs : List X) (x : X) → Among x xs → q x ≡ true → list_any q xs ≡ true
+pub any_at : {X : Type 0} (q : X → Bool) (xs : List X) (x : X) → Among x xs → q x ≡ true → list_any q xs ≡ true
 any_at q [] x at e = absurd at
 any_at q (y ∷ ys) x (inl same) e = ap (λ b. b || list_any q ys) (ap q same ∙ e)
 any_at q (y ∷ ys) x (inr at) e =
@@ -104,7 +104,7 @@ meets_by p t a b k (i ∷ is) (v ∷ vs) allowed first second =
     (meets_by p t a b (k + 1) is vs parts.1 one.1 two.1)
 
 -- a pair of rules, the smaller first, is among the pairs
-among_range : (a n x : ℕ) → a ≤ x → x < a + n → Among x (range_with_len a n)
+pub among_range : (a n x : ℕ) → a ≤ x → x < a + n → Among x (range_with_len a n)
 among_range a zero x low high = absurd (omega (arith, low, high))
 among_range a (suc n) x low high =
     elim (cases_lt a x) [
@@ -130,7 +130,7 @@ among_pairs n first second low less high =
     among_flat (pairs_with n) (range_with_len 1 n) first (paired first second) (among_range 1 n first low (omega (arith, less, high)))
     (among_map (paired first) (range_with_len (first + 1) (n - first)) second (among_range (first + 1) (n - first) second (omega (arith, less)) (omega (arith, less, high))))
 
-among_kept : {X : Type 0} (q : X → Bool) (x : X) (xs : List X) → Among x xs → q x ≡ true → Among x (filter q xs)
+pub among_kept : {X : Type 0} (q : X → Bool) (x : X) (xs : List X) → Among x xs → q x ≡ true → Among x (filter q xs)
 among_kept q x [] at e = absurd at
 among_kept q x (y ∷ ys) (inl same) e = subst (λ b. Among x (cond b (y ∷ filter q ys) (filter q ys))) (sym (ap q same ∙ e)) (inl same)
 among_kept q x (y ∷ ys) (inr at) e =
@@ -139,7 +139,7 @@ among_kept q x (y ∷ ys) (inr at) e =
       | false ↦ among_kept q x ys at e
     ]
 
-contained_among : {X : Type 0} (xs : List X) (x : X) → Among x xs → Contains xs x
+pub contained_among : {X : Type 0} (xs : List X) (x : X) → Among x xs → Contains xs x
 contained_among [] x at = absurd at
 contained_among (y ∷ ys) x (inl e) = (0, omega arith, e)
 contained_among (y ∷ ys) x (inr at) = let more = contained_among ys x at in (suc more.0, omega (arith, more.1), more.2)

@@ -86,7 +86,7 @@ covers_none [] = refl
 covers_none (c ∷ cs) = refl
 
 -- a cell's first region and its rest
-among_front : (x : List Region) (rs : List Region) (cs : List (List Region)) → Among x (flat_map (λ r. map (λ cell. r ∷ cell) cs) rs) → (r : Region) × (rest : List Region) × (r ∷ rest ≡ x) × Among r rs × Among rest cs
+pub among_front : (x : List Region) (rs : List Region) (cs : List (List Region)) → Among x (flat_map (λ r. map (λ cell. r ∷ cell) cs) rs) → (r : Region) × (rest : List Region) × (r ∷ rest ≡ x) × Among r rs × Among rest cs
 among_front x [] cs at = absurd at
 among_front x (r ∷ rs) cs at =
     elim (split (map (λ cell. r ∷ cell) cs) (flat_map (λ y. map (λ cell. y ∷ cell) cs) rs) at) [
@@ -171,7 +171,7 @@ listed_is p t tuple allowed =
     ∙ ap (λ b. not (list_any (λ r. fits r.cells tuple) t.rules) && b) (has_cell p t 0 t.inputs tuple allowed)
     ∙ and_true (not (list_any (λ r. fits r.cells tuple) t.rules))
 
-not_so : (b : Bool) → not b ≡ true → b ≡ false
+pub not_so : (b : Bool) → not b ≡ true → b ≡ false
 not_so true e = sym e
 not_so false e = refl
 

@@ -1,16 +1,20 @@
 -- Laws that tie the regions of a column, gaps and overlaps to values.
-use Rattle.std.specs.Prelude.{◌≡◌, ℕ, ◌≤◌, ◌<◌, ◌↔◌, List, length, Some, slice_get, IsTrue, Contains, count_by}
-use Rattle.std.specs.List.{list_any}
+use Rattle.std.specs.Prelude.{◌≡◌, ◌≢◌, ℕ, ◌-◌, ◌≤◌, ◌<◌, ◌↔◌, Bool, List, [], length, map, filter, Some, None, slice_get, IsTrue, Contains, count_by}
+use Rattle.std.specs.List.{list_any, list_all, zip}
 use Rattle.feel_tests.specs.Holds.{holds}
 use Rattle.feel_tests.specs.declared.cell.Cell.{Cell}
+use Rattle.feel_tests.specs.declared.kind.Kind.TheVariants as kinds
 use Rattle.feel_tests.specs.declared.value.Value.{Value}
+use Rattle.dtable.specs.declared.environment.Answer.{Answer}
+use Rattle.dtable.specs.declared.inputs.Slot.{Slot}
 use Rattle.dtable.specs.declared.table.Rule.{Rule}
 use Rattle.dtable.specs.declared.table.Table.{Table}
-use Rattle.dtable.specs.Plan.{PlanParts}
+use Rattle.dtable.specs.Matching.{value_read, matching, first_outside}
+use Rattle.dtable.specs.Plan.{PlanParts, has_kind}
 use Rattle.cutplan.specs.declared.region.Region.{Region}
-use Rattle.cutplan.specs.Values.{is_value}
-use Rattle.cutplan.specs.Regions.{Column, columns, regions, is_allowed, is_in}
-use Rattle.cutplan.specs.Check.{IsGap, IsOverlap, is_allowed_tuple, lies_in, gaps, overlaps}
+use Rattle.cutplan.specs.Values.{is_value, is_before}
+use Rattle.cutplan.specs.Regions.{Column, columns, column_literals, regions, is_allowed, is_in}
+use Rattle.cutplan.specs.Check.{IsGap, IsOverlap, is_allowed_tuple, fits, rule_cells, lies_in, gaps, overlaps}
 
 -- each allowed value of a column lies in exactly one of its regions
 abbrev pub RegionsPartValues : Type 0
@@ -46,3 +50,55 @@ TellsOverlaps p t found = (first second : ℕ) → 1 ≤ first → first < secon
 -- so for the overlaps of each table
 abbrev pub OverlapsAreTold : Type 0
 OverlapsAreTold = (p : PlanParts) (t : Table) → TellsOverlaps p t (overlaps p t)
+
+-- the inputs of a table read these values, of what is given and of the answers of the tables before it
+abbrev pub ReadsTuple : List Slot → List (List Answer) → Table → List Value → Type 0
+ReadsTuple given earlier t tuple = map (λ i. value_read given earlier i.origin) t.inputs ≡ map (λ v. Some v) tuple
+
+-- each value of a tuple is of its column's kind, and in the range of that kind
+abbrev pub are_values : List Column → List Value → Bool
+are_values columns tuple = list_all (λ c. is_value c.0.kind c.1) (zip columns tuple)
+
+-- a rule fits the values that are read exactly where it is among those that match
+abbrev pub FitsAreMatches : Type 0
+FitsAreMatches = (given : List Slot) (earlier : List (List Answer)) (t : Table) (tuple : List Value) → ReadsTuple given earlier t tuple
+    → (place : ℕ) → place < length t.rules → IsTrue (fits (rule_cells t place) tuple) ↔ Contains (matching given earlier t) place
+
+-- the values that are read are allowed exactly where none is outside
+abbrev pub AllowedAreInside : Type 0
+AllowedAreInside = (p : PlanParts) (given : List Slot) (earlier : List (List Answer)) (t : Table) (tuple : List Value) → ReadsTuple given earlier t tuple
+    → IsTrue (are_values (columns p t) tuple) → IsTrue (is_allowed_tuple (columns p t) tuple) ↔ (first_outside given earlier t ≡ None)
+
+-- the values that are read lie in a cell among the gaps exactly where none of them is outside, and no rule matches
+abbrev pub GapsMatchNothing : Type 0
+GapsMatchNothing = (p : PlanParts) (given : List Slot) (earlier : List (List Answer)) (t : Table) (tuple : List Value) → ReadsTuple given earlier t tuple
+    → IsTrue (are_values (columns p t) tuple) → IsTrue (list_any (λ cell. lies_in cell tuple) (gaps p t)) ↔ ((first_outside given earlier t ≡ None) × (matching given earlier t ≡ []))
+
+-- nothing that is read is outside, and both rules, numbered from 1, match
+pub record MatchTogether (given : List Slot) (earlier : List (List Answer)) (t : Table) (first second : ℕ) : Type 0 where
+  pub inside : first_outside given earlier t ≡ None
+  pub one : Contains (matching given earlier t) (first - 1)
+  pub other : Contains (matching given earlier t) (second - 1)
+
+-- what the overlaps tell of a pair of rules: it is among them where both rules match what is read, and where it is among them there is an
+-- allowed tuple such that both rules match wherever that tuple is read
+pub record TellsMatches (p : PlanParts) (t : Table) (first second : ℕ) : Type 0 where
+  pub listed : (given : List Slot) (earlier : List (List Answer)) (tuple : List Value) → ReadsTuple given earlier t tuple → IsTrue (are_values (columns p t) tuple)
+      → MatchTogether given earlier t first second → Contains (overlaps p t) (first, second)
+  pub shared : Contains (overlaps p t) (first, second)
+      → (tuple : List Value) × IsTrue (is_allowed_tuple (columns p t) tuple)
+      × ((given : List Slot) (earlier : List (List Answer)) → ReadsTuple given earlier t tuple → MatchTogether given earlier t first second)
+
+-- so for each pair of a table's rules, the smaller first
+abbrev pub OverlapsMatchTogether : Type 0
+OverlapsMatchTogether = (p : PlanParts) (t : Table) (first second : ℕ) → 1 ≤ first → first < second → second ≤ length t.rules → TellsMatches p t first second
+
+-- of two cuts of a column of numbers, days or texts, the one in front is the smaller, texts by their bytes
+abbrev pub CutsRise : Type 0
+CutsRise = (p : PlanParts) (t : Table) (place : ℕ) (column : Column) → slice_get (columns p t) place ≡ Some column → column.kind ≢ kinds.Flag
+    → (i j : ℕ) (v w : Value) → i < j → slice_get column.cuts i ≡ Some v → slice_get column.cuts j ≡ Some w → IsTrue (is_before v w)
+
+-- the cuts of a column are the literals of its kind, in its rules' cells and in its allowed values
+abbrev pub CutsAreLiterals : Type 0
+CutsAreLiterals = (p : PlanParts) (t : Table) (place : ℕ) (column : Column) → slice_get (columns p t) place ≡ Some column
+    → (v : Value) → Contains column.cuts v ↔ Contains (filter (has_kind column.kind) (column_literals t place column.values)) v

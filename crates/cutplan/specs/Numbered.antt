@@ -4,10 +4,13 @@ use Rattle.std.specs.Option.{option_map_or}
 use Rattle.dtable.specs.Plan.{PlanParts}
 use Rattle.cutplan.specs.declared.fault.CheckFault.{CheckFault}
 use Rattle.cutplan.specs.declared.fault.CheckFault.TheVariants.{TooWide}
-use Rattle.cutplan.specs.declared.gap.TheConstants.{CELL_LIMIT}
 use Rattle.cutplan.specs.declared.region.Region.{Region}
 use Rattle.cutplan.specs.Regions.{table_regions}
 use Rattle.cutplan.specs.Check.{cells, gaps, overlaps}
+
+-- the most cells that a check has
+abbrev pub cell_limit : ℕ
+cell_limit = 65536
 
 -- the plan has a table of this number
 abbrev pub IsTableNumber : PlanParts → ℕ → Type 0
@@ -27,4 +30,4 @@ overlaps_of p number = option_map_or (overlaps p) (slice_get p.tables (number - 
 
 -- a refusal for width comes only above the limit
 abbrev pub IsWide : ℕ → CheckFault → Type 0
-IsWide count fault = fault ≡ TooWide → CELL_LIMIT < count
+IsWide count fault = fault ≡ TooWide → cell_limit < count

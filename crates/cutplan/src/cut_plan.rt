@@ -1,8 +1,7 @@
 //! A plan that can be checked.
 ghost use Rattle.std.specs.Prelude.{◌≡◌, ◌≤◌, ◌<◌, ◌-◌, ◌+◌, ◌^◌, IfOk, IfErr, OnOk, length, slice_get};
 ghost use Rattle.cutplan.specs.Check.{cells, gaps, overlaps};
-ghost use Rattle.cutplan.specs.Numbered.{IsTableNumber, cells_of, gaps_of, overlaps_of, IsWide};
-ghost use Rattle.cutplan.specs.declared.gap.TheConstants.{CELL_LIMIT};
+ghost use Rattle.cutplan.specs.Numbered.{cell_limit as CELL_LIMIT, IsTableNumber, cells_of, gaps_of, overlaps_of, IsWide};
 
 use crate::column::table_regions;
 use crate::fault::CheckFault;

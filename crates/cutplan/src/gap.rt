@@ -4,7 +4,7 @@ ghost use Rattle.std.specs.Bool.{OnTrue, OnFalse};
 ghost use Rattle.std.specs.List.{list_any, range_with_len};
 ghost use Rattle.cutplan.specs.Check.{cells, covers};
 ghost use Rattle.cutplan.specs.Parts.{uncovered, alive_in};
-ghost use Rattle.cutplan.specs.declared.gap.TheConstants.{CELL_LIMIT};
+ghost use Rattle.cutplan.specs.Numbered.{cell_limit};
 
 use crate::overlap::holds_at;
 use crate::region::Region;
@@ -16,15 +16,15 @@ pub const CELL_LIMIT: usize = 65_536;
 
 /// Whether the check of these columns has more cells than the limit.
 pub fn is_wide(columns: &[Sequence<Region>]) -> bool
-    ensures wide { OnTrue result (CELL_LIMIT < length (cells columns.now)) }
-    ensures narrow { OnFalse result (length (cells columns.now) ≤ CELL_LIMIT) }
+    ensures wide { OnTrue result (cell_limit < length (cells columns.now)) }
+    ensures narrow { OnFalse result (length (cells columns.now) ≤ cell_limit) }
 {
     cell_count(columns) > CELL_LIMIT
 }
 
 // The number of cells, or one more than the limit where it is larger.
 fn cell_count(columns: &[Sequence<Region>]) -> usize
-    ensures { result ≡ min (length (cells columns.now)) (CELL_LIMIT + 1) }
+    ensures { result ≡ min (length (cells columns.now)) (cell_limit + 1) }
 {
     let mut count = 1;
     for regions in columns {
@@ -35,7 +35,7 @@ fn cell_count(columns: &[Sequence<Region>]) -> usize
 
 // The product, or one more than the limit where it is larger.
 fn capped(count: usize, factor: usize) -> usize
-    ensures { result ≡ min (count * factor) (CELL_LIMIT + 1) }
+    ensures { result ≡ min (count * factor) (cell_limit + 1) }
 {
     count.saturating_mul(factor).min(CELL_LIMIT + 1)
 }

@@ -1,5 +1,5 @@
-//! Laws that tie the regions of a column to values. Each call does nothing.
-ghost use Rattle.cutplan.specs.Laws.{CellsHoldAlike, GapsAreTold, OverlapsAreTold, RegionsHoldValues, RegionsPartValues};
+//! Laws that tie the regions of a column to values, and the check to what matches. Each call does nothing.
+ghost use Rattle.cutplan.specs.Laws.{AllowedAreInside, CellsHoldAlike, CutsAreLiterals, CutsRise, FitsAreMatches, GapsAreTold, GapsMatchNothing, OverlapsAreTold, OverlapsMatchTogether, RegionsHoldValues, RegionsPartValues};
 
 /// A rule's cell holds of all values of a region of its column, or of none.
 pub fn cells_hold_alike()
@@ -24,4 +24,42 @@ pub fn regions_hold_values()
 /// Two rules share an allowed tuple of values exactly where their pair is among the overlaps.
 pub fn overlaps_are_told()
     ensures { OverlapsAreTold }
+{}
+
+/// A rule fits the values that a table reads exactly where it is among the rules that match. A table reads 7, and its
+/// first rule has the cell `>5`: the rule fits 7, and `matching` begins with its place, 0.
+pub fn fits_are_matches()
+    ensures { FitsAreMatches }
+{}
+
+/// The values that a table reads are allowed exactly where none of them is outside. A table reads 7, and its one input
+/// has the allowed values `[0..5]`: 7 isn't allowed, and `first_outside` is the input's place, 0; at 3 there is none.
+pub fn allowed_are_inside()
+    ensures { AllowedAreInside }
+{}
+
+/// What a table reads lies in a cell among the gaps exactly where none of it is outside, and no rule matches. The gaps
+/// of a table list `]5..7[` alone. It reads 6: nothing is outside, and `matching` is empty. It reads 7: that is outside,
+/// or some rule matches.
+pub fn gaps_match_nothing()
+    ensures { GapsMatchNothing }
+{}
+
+/// Two rules that match together are among the overlaps, and of a pair among them both match some allowed tuple of
+/// values, wherever it is read. The overlaps of a table list the rules 1 and 3 alone: there is an allowed tuple at which
+/// `matching` has both, and at no input has it the rules 1 and 2, unless something is outside.
+pub fn overlaps_match_together()
+    ensures { OverlapsMatchTogether }
+{}
+
+/// The cuts of a column of numbers, days or texts stand in rising order, each once; texts in byte order. The cells `>5`
+/// and `[2..5]` cut their column at 2 and then at 5, and the cell `"B","A"` its own at `"A"` and then at `"B"`.
+pub fn cuts_rise()
+    ensures { CutsRise }
+{}
+
+/// The cuts of a column are the literals of its kind in its rules' cells and in its allowed values. The cell `<=7` cuts
+/// its column at 7; there is a cut at 6 only where a cell, or the allowed values, name it.
+pub fn cuts_are_literals()
+    ensures { CutsAreLiterals }
 {}

@@ -26,6 +26,8 @@ pub use cut_plan::{CutPlan, compile};
 pub use fault::CheckFault;
 pub use gap::CELL_LIMIT;
 pub use law::{
-    cells_hold_alike, gaps_are_told, overlaps_are_told, regions_hold_values, regions_part_values,
+    allowed_are_inside, cells_hold_alike, cuts_are_literals, cuts_rise, fits_are_matches,
+    gaps_are_told, gaps_match_nothing, overlaps_are_told, overlaps_match_together,
+    regions_hold_values, regions_part_values,
 };
 pub use region::Region;
