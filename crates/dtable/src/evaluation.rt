@@ -49,8 +49,8 @@ fn answers_of(
     Ok(answers)
 }
 
-// The answers of a table that stands behind these.
-fn table_value(
+/// The answers of a table that stands behind the tables with these answers.
+pub fn table_value(
     alloc: Global,
     given: &Inputs,
     earlier: &[Sequence<Answer>],
@@ -69,8 +69,8 @@ fn table_value(
     answers_by_hit(alloc, number, table, rules.as_slice())
 }
 
-/// The answers of a table by its hit policy, where these rules match, in rule order, from 0. `number` is the table's own,
-/// from 1, which a fault tells.
+/// The answers of a table by its hit policy, where these rules match, in rule order, from 0. The table's number, from 1,
+/// is what a fault tells.
 pub fn answers_by_hit(
     alloc: Global,
     number: usize,
