@@ -19,3 +19,9 @@ pub mod Holding
 pub mod Overlapping
 pub mod Matched
 pub mod CutOrder
+pub mod MaskBits
+pub mod MaskRules
+pub mod Keeping
+pub mod ByMasks
+pub mod FirstRules
+pub mod MaskLists

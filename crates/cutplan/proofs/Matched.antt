@@ -84,7 +84,7 @@ first_beyond p (x ∷ xs) e =
     let rest = first_beyond p xs parts.1 in
     omega (arith, here, rest)
 
-none_first : {X : Type 0} (p : X → Bool) (xs : List X) → list_any p xs ≡ false → position p xs ≡ None
+pub none_first : {X : Type 0} (p : X → Bool) (xs : List X) → list_any p xs ≡ false → position p xs ≡ None
 none_first p xs e =
     let last = first_beyond p xs e in
     let beyond : nat_lt (position_or_len p xs) (length xs) ≡ false = le-ltb (position_or_len p xs) (length xs) (omega (arith, last)) in
@@ -106,7 +106,7 @@ neither : (a b : Bool) → not (a || b) ≡ (not a && not b)
 neither true b = refl
 neither false b = refl
 
-inside_alike : (values : Option Cell) (v : Value) → option_map_or (λ cell. holds cell v) values true ≡ not (option_map_or (λ cell. not (holds_of (Some v) cell)) values false)
+pub inside_alike : (values : Option Cell) (v : Value) → option_map_or (λ cell. holds cell v) values true ≡ not (option_map_or (λ cell. not (holds_of (Some v) cell)) values false)
 inside_alike None v = refl
 inside_alike (Some cell) v = sym (not_not (holds cell v))
 
@@ -136,7 +136,7 @@ allowed_are_inside p given earlier t tuple reads values =
     )
 
 -- a value of the kind in a region that is listed is allowed
-listed_allowed : (kind : Kind) (lits : List Value) (values : Option Cell) → ((l : Value) → Among l (option_map_or literals values []) → Among l lits) → (v : Value) → is_value kind v ≡ true
+pub listed_allowed : (kind : Kind) (lits : List Value) (values : Option Cell) → ((l : Value) → Among l (option_map_or literals values []) → Among l lits) → (v : Value) → is_value kind v ≡ true
     → (r : Region) → Among r (filter (is_listed values) (stretches kind (rising (filter (has_kind kind) lits)))) → is_in r v ≡ true → option_map_or (λ cell. holds cell v) values true ≡ true
 listed_allowed kind lits None inside v value r at in_v = refl
 listed_allowed kind lits (Some cell) inside v value r at in_v =

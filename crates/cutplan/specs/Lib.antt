@@ -4,3 +4,5 @@ pub mod Check
 pub mod Numbered
 pub mod Parts
 pub mod Laws
+pub mod Masks
+pub mod Found

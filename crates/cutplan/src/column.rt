@@ -13,15 +13,30 @@ use dtable::{Hit, Input, Origin, Output, Plan, Sequence, Table};
 use feel_tests::Kind;
 use std::alloc::{AllocError, Global};
 
+/// The regions of each column of these tables, in order.
+pub fn all_regions(
+    alloc: Global,
+    plan: &Plan,
+    tables: &[Table],
+) -> Result<Sequence<Sequence<Sequence<Region>>>, AllocError>
+    ensures { IfOk result (λ found. found ≡ map (table_regions plan.now) tables.now) }
+{
+    let mut found = Sequence::new(alloc);
+    for table in tables {
+        found.push(table_regions(alloc, plan, table)?)?;
+    }
+    Ok(found)
+}
+
 /// The regions of each column of a table.
 pub fn table_regions(
     alloc: Global,
     plan: &Plan,
     table: &Table,
-) -> Result<Vec<Sequence<Region>>, AllocError>
-    ensures { IfOk result (λ columns. columns.items ≡ table_regions plan.now table.now) }
+) -> Result<Sequence<Sequence<Region>>, AllocError>
+    ensures { IfOk result (λ columns. columns ≡ table_regions plan.now table.now) }
 {
-    let mut columns = Vec::new(alloc);
+    let mut columns = Sequence::new(alloc);
     for (place, input) in table.inputs.as_slice().iter().enumerate() {
         columns.push(column_regions(alloc, plan, table, place, input)?)?;
     }
@@ -44,8 +59,8 @@ fn column_regions(
     listed(alloc, &input.values, all)
 }
 
-// The kind of the values that an input reads. Each input of a plan reads a name or an output that there is.
-fn kind_read(plan: &Plan, origin: Origin) -> Kind
+/// The kind of the values that an input reads. Each input of a plan reads a name or an output that there is.
+pub fn kind_read(plan: &Plan, origin: Origin) -> Kind
     ensures { result ≡ kind_read plan.now origin }
 {
     match origin {

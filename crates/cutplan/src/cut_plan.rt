@@ -1,35 +1,56 @@
 //! A plan that can be checked.
-ghost use Rattle.std.specs.Prelude.{◌≡◌, ◌≤◌, ◌<◌, ◌-◌, ◌+◌, ◌^◌, IfOk, IfErr, OnOk, length, slice_get};
+ghost use Rattle.std.specs.Prelude.{◌≡◌, ◌≤◌, ◌<◌, ◌-◌, ◌+◌, ◌^◌, ℕ, [], false, Some, IfOk, IfErr, IfSome, OnOk, OnSome, length, slice_get};
+ghost use Rattle.dtable.specs.Environment.{answers_of, table_value};
+ghost use Rattle.dtable.specs.HitPolicy.{Gives, by_hit};
 ghost use Rattle.cutplan.specs.Check.{cells, gaps, overlaps};
+ghost use Rattle.cutplan.specs.Found.{IsMatchingMask};
+ghost use Rattle.cutplan.specs.Masks.{has_rule, rules_in, AreMasksOf, HasFewRules, IsColumnNumber};
+ghost use Rattle.cutplan.specs.declared.mask.TheConstants.{MASK_RULES};
 ghost use Rattle.cutplan.specs.Numbered.{cell_limit as CELL_LIMIT, IsTableNumber, cells_of, gaps_of, overlaps_of, IsWide};
 
-use crate::column::table_regions;
+use crate::column::{all_regions, table_regions};
 use crate::fault::CheckFault;
+use crate::found::matching_mask;
+use crate::kept::masks_of;
+use crate::mask::{MASK_RULES, rules_in};
 use crate::region::Region;
 use crate::{gap, overlap};
-use dtable::{Env, Fault, Inputs, Plan, Sequence, Valuer};
+use dtable::{
+    Answer, Env, Fault, Inputs, Plan, Sequence, Table, Valuer, answers_by_hit, table_value,
+};
 use std::alloc::{AllocError, Global};
 use std::marker::Model;
 
-/// A plan that can be checked, which contracts see as the plan. It borrows the plan.
+/// A plan that can be checked, which contracts see as the plan. It borrows the plan, and keeps the masks of its columns.
 #[derive(Debug, Drop)]
 pub struct CutPlan<'a> {
     plan: &'a Plan,
+    regions: Sequence<Sequence<Sequence<Region>>>,
+    masks: Sequence<Sequence<Sequence<[u64; 4]>>>,
 }
 
 impl<'a> Model for CutPlan<'a> {
     ghost use Rattle.dtable.specs.Plan.{PlanParts};
+    ghost use Rattle.cutplan.specs.Found.{IsCut};
 
     ghost Value = { PlanParts };
 
     ghost view = { λ c. c.plan.now };
+
+    ghost invariant = { λ c. IsCut c.plan.now c.regions c.masks };
 }
 
 /// Makes the plan ready for its check.
-pub fn compile(_alloc: Global, plan: &Plan) -> Result<CutPlan<'_>, AllocError>
+pub fn compile(alloc: Global, plan: &Plan) -> Result<CutPlan<'_>, AllocError>
     ensures { IfOk result (λ made. made ≡ plan.now) }
 {
-    Ok(CutPlan { plan })
+    let regions = all_regions(alloc, plan, plan.tables())?;
+    let masks = masks_of(alloc, plan, plan.tables())?;
+    Ok(CutPlan {
+        plan,
+        regions,
+        masks,
+    })
 }
 
 impl<'a> Valuer for CutPlan<'a> {
@@ -40,7 +61,8 @@ impl<'a> Valuer for CutPlan<'a> {
     }
 
     fn value<'b>(&'b self, alloc: Global, inputs: &Inputs) -> Result<Env<'b>, Fault> {
-        self.plan.value(alloc, inputs)
+        let answers = self.answers_of(alloc, inputs, self.plan.tables())?;
+        Ok(Env::new(self.plan.tables(), answers))
     }
 }
 
@@ -71,4 +93,96 @@ impl<'a> CutPlan<'a> {
         }
         Ok(gap::gaps(alloc, table, columns.as_slice())?)
     }
+
+    /// The masks of an input column, one for each of its regions, in their order: the bit `(rule - 1) % 64` of the word
+    /// `(rule - 1) / 64` is set where the rule's cell holds of the region's values. Tables, columns and rules are
+    /// numbered from 1.
+    pub fn masks(&self, table: usize, column: usize) -> &[[u64; 4]]
+        requires table { IsTableNumber self.now table }
+        requires column { IsColumnNumber self.now table column }
+        requires few { HasFewRules self.now table }
+        ensures { AreMasksOf self.now table column result.now }
+    {
+        let columns = &self.masks.as_slice()[table - 1];
+        columns.as_slice()[column - 1].as_slice()
+    }
+
+    // The answers of the plan's tables in order, or the first fault.
+    fn answers_of(
+        &self,
+        alloc: Global,
+        given: &Inputs,
+        tables: &[Table],
+    ) -> Result<Sequence<Sequence<Answer>>, Fault>
+        requires { tables.now ≡ self.now.tables }
+        ensures { Gives (answers_of given.now [] tables.now) result }
+    {
+        let mut answers = Sequence::new(alloc);
+        for (place, table) in tables.iter().enumerate() {
+            let next = self.table_value(alloc, given, answers.as_slice(), place, table)?;
+            answers.push(next)?;
+        }
+        Ok(answers)
+    }
+
+    // The answers of the table at the place, behind the tables with these answers: by masks, where they tell.
+    fn table_value(
+        &self,
+        alloc: Global,
+        given: &Inputs,
+        earlier: &[Sequence<Answer>],
+        place: usize,
+        table: &Table,
+    ) -> Result<Sequence<Answer>, Fault>
+        requires { slice_get self.now.tables place ≡ Some table.now }
+        ensures { Gives (table_value given.now earlier.now table.now) result }
+    {
+        match self.matching_mask(given, earlier, place, table) {
+            Some(mask) => value_of_mask(alloc, earlier.len() + 1, table, &mask),
+            None => table_value(alloc, given, earlier, table),
+        }
+    }
+
+    // The rules of the table at the place that match, where its masks tell.
+    fn matching_mask(
+        &self,
+        given: &Inputs,
+        earlier: &[Sequence<Answer>],
+        place: usize,
+        table: &Table,
+    ) -> Option<[u64; 4]>
+        requires { slice_get self.now.tables place ≡ Some table.now }
+        ensures few { OnSome result (length table.now.rules ≤ MASK_RULES) }
+        ensures mask { IfSome result (λ mask. IsMatchingMask given.now earlier.now table.now mask) }
+    {
+        if table.rules.len() > MASK_RULES {
+            return None;
+        }
+        let regions = self.regions.as_slice().get(place)?;
+        let masks = self.masks.as_slice().get(place)?;
+        matching_mask(
+            self.plan,
+            given,
+            earlier,
+            table,
+            regions.as_slice(),
+            masks.as_slice(),
+        )
+    }
+}
+
+// The answers of a table with this number, where a mask has the rules that match.
+fn value_of_mask(
+    alloc: Global,
+    number: usize,
+    table: &Table,
+    mask: &[u64; 4],
+) -> Result<Sequence<Answer>, Fault>
+    requires words { length mask.now ≡ 4 }
+    requires few { length table.now.rules ≤ MASK_RULES }
+    requires within { (place : ℕ) → length table.now.rules ≤ place → place < 256 → has_rule mask.now place ≡ false }
+    ensures { Gives (by_hit table.now.hit number table.now (rules_in (length table.now.rules) mask.now)) result }
+{
+    let rules = rules_in(alloc, mask, table.rules.len())?;
+    answers_by_hit(alloc, number, table, rules.as_slice())
 }

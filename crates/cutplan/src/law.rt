@@ -1,5 +1,6 @@
 //! Laws that tie the regions of a column to values, and the check to what matches. Each call does nothing.
 ghost use Rattle.cutplan.specs.Laws.{AllowedAreInside, CellsHoldAlike, CutsAreLiterals, CutsRise, FitsAreMatches, GapsAreTold, GapsMatchNothing, OverlapsAreTold, OverlapsMatchTogether, RegionsHoldValues, RegionsPartValues};
+ghost use Rattle.cutplan.specs.Masks.{MasksListMatches};
 
 /// A rule's cell holds of all values of a region of its column, or of none.
 pub fn cells_hold_alike()
@@ -62,4 +63,10 @@ pub fn cuts_rise()
 /// its column at 7; there is a cut at 6 only where a cell, or the allowed values, name it.
 pub fn cuts_are_literals()
     ensures { CutsAreLiterals }
+{}
+
+/// A mask that has exactly the rules that match lists them, in rule order. Of three rules the first and the last match:
+/// the word 0 of the mask is 5, and what it lists is 0 and 2, as `matching` is.
+pub fn masks_list_matches()
+    ensures { MasksListMatches }
 {}

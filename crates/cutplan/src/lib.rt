@@ -14,8 +14,12 @@ mod column;
 mod cut_plan;
 mod cuts;
 mod fault;
+mod found;
 mod gap;
+mod kept;
 mod law;
+mod lookup;
+mod mask;
 mod overlap;
 mod region;
 mod stretch;
@@ -27,7 +31,7 @@ pub use fault::CheckFault;
 pub use gap::CELL_LIMIT;
 pub use law::{
     allowed_are_inside, cells_hold_alike, cuts_are_literals, cuts_rise, fits_are_matches,
-    gaps_are_told, gaps_match_nothing, overlaps_are_told, overlaps_match_together,
-    regions_hold_values, regions_part_values,
+    gaps_are_told, gaps_match_nothing, masks_list_matches, overlaps_are_told,
+    overlaps_match_together, regions_hold_values, regions_part_values,
 };
 pub use region::Region;

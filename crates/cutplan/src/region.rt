@@ -1,13 +1,15 @@
 //! Regions: the stretches into which the literals of a column cut its values.
 ghost use Rattle.std.specs.Prelude.{◌≡◌, IfOk};
+ghost use Rattle.std.specs.List.{list_any};
+ghost use Rattle.feel_tests.specs.Holds.{is_equal, is_less};
 ghost use Rattle.feel_tests.specs.Value.{kind_of};
 ghost use Rattle.feel_tests.specs.declared.kind.Kind.TheVariants as kinds;
 ghost use Rattle.feel_tests.specs.declared.value.Value.TheVariants as values;
 ghost use Rattle.cutplan.specs.Values.{is_value};
-ghost use Rattle.cutplan.specs.Regions.{holds_in, holds_of, is_open, least_like, next};
+ghost use Rattle.cutplan.specs.Regions.{holds_in, holds_of, is_in, is_open, least_like, next};
 
 use dtable::Sequence;
-use feel_tests::{Cell, Day, Value};
+use feel_tests::{Cell, Day, Kind, Value};
 use fixpoint::{Fixed, MAX_UNITS};
 use std::alloc::{AllocError, Global};
 
@@ -56,6 +58,37 @@ pub fn duplicates(alloc: Global, values: &[Value]) -> Result<Sequence<Value>, Al
         copies.push(value.duplicate(alloc)?)?;
     }
     Ok(copies)
+}
+
+/// Whether the value lies in the region.
+pub fn is_in(region: &Region, value: &Value) -> bool
+    ensures { result ≡ is_in region.now value.now }
+{
+    match region {
+        Region::Below(cut) => is_less(value, cut),
+        Region::At(cut) => value == cut,
+        Region::Between(low, high) => is_less(low, value) && is_less(value, high),
+        Region::Above(cut) => is_less(cut, value),
+        Region::Other(names) => !is_among(names.as_slice(), value),
+        Region::Every => true,
+    }
+}
+
+fn is_among(names: &[Value], value: &Value) -> bool
+    ensures { result ≡ list_any (λ name. is_equal value.now name) names.now }
+{
+    names.iter().any(|name| value == name)
+}
+
+/// Whether the first number or day is smaller.
+pub fn is_less(one: &Value, other: &Value) -> bool
+    ensures { result ≡ is_less one.now other.now }
+{
+    match (one, other) {
+        (Value::Number(one), Value::Number(other)) => one < other,
+        (Value::Day(one), Value::Day(other)) => one < other,
+        _ => false,
+    }
 }
 
 // Whether the cell holds of the values of a region that has one.
@@ -132,6 +165,19 @@ fn next_day(day: Day) -> Option<Value>
     match Day::from_epoch_day(day.epoch_day() + 1) {
         Some(next) => Some(Value::Day(next)),
         None => None,
+    }
+}
+
+/// Whether the value is of the kind.
+pub fn is_value(kind: Kind, value: &Value) -> bool
+    ensures { result ≡ is_value kind value.now }
+{
+    match (kind, value) {
+        (Kind::Number, Value::Number(number)) => is_number(*number),
+        (Kind::Text, Value::Text(_)) => true,
+        (Kind::Flag, Value::Flag(_)) => true,
+        (Kind::Day, Value::Day(day)) => is_day(*day),
+        _ => false,
     }
 }
 

@@ -1,5 +1,7 @@
 //! The check of tables by worked examples, on its calls. Regions of each kind stand as text in cases of the built program's
 //! `check`.
+mod alike;
+
 use crate::{CELL_LIMIT, CheckFault, Region, compile};
 use dtable::{Answer, Inputs, Plan, PlanFault, Sequence, Valuer, read_plan};
 use feel_tests::Value;
@@ -315,4 +317,21 @@ fn gaps_and_overlaps_are_listed_or_no_memory(rt: HostRuntime) {
     if let Ok(pairs) = overlaps(&rt, rt.alloc(), FLAG_AND_CODE) {
         assert!(rt; is_pair(pairs.as_slice(), 2, 3));
     }
+}
+
+// The first words of the masks are these.
+fn have_first_words(masks: &[[u64; 4]], words: &[u64]) -> bool {
+    masks.len() == words.len() && masks.iter().zip(words).all(|(mask, word)| mask[0] == *word)
+}
+
+#[test]
+fn masks_of_two_stretches(rt: HostRuntime) -> Result<(), Fail> {
+    let plan = read(&rt, rt.alloc(), APART)?;
+    let cut = compile(rt.alloc(), &plan)?;
+    assert!(rt; plan.tables().len() == 1);
+    let table = &plan.tables()[0];
+    assert!(rt; table.inputs.len() == 1);
+    assert!(rt; table.rules.len() == 2);
+    assert!(rt; have_first_words(cut.masks(1, 1), &[1, 0, 2, 2, 2, 0]));
+    Ok(())
 }

@@ -4,7 +4,7 @@ ghost use Rattle.dtable.specs.Environment.{answers_of, table_value, number_behin
 ghost use Rattle.dtable.specs.HitPolicy.{Gives, by_hit};
 
 mod lists;
-mod matching;
+pub mod matching;
 mod numbers;
 mod priority;
 mod single;
@@ -49,8 +49,8 @@ fn answers_of(
     Ok(answers)
 }
 
-// The answers of a table that stands behind these.
-fn table_value(
+/// The answers of a table that stands behind the tables with these answers.
+pub fn table_value(
     alloc: Global,
     given: &Inputs,
     earlier: &[Sequence<Answer>],
@@ -66,11 +66,12 @@ fn table_value(
         });
     }
     let rules = matching::matching(alloc, given, earlier, table)?;
-    by_hit(alloc, number, table, rules.as_slice())
+    answers_by_hit(alloc, number, table, rules.as_slice())
 }
 
-// The answers of a table, of which these rules match, by its hit policy.
-fn by_hit(
+/// The answers of a table by its hit policy, where these rules match, in rule order, from 0. The table's number, from 1,
+/// is what a fault tells.
+pub fn answers_by_hit(
     alloc: Global,
     number: usize,
     table: &Table,

@@ -26,7 +26,8 @@ mod table;
 mod valuer;
 
 pub use environment::{Answer, Env};
-pub use evaluation::rules_have_one_priority_order;
+pub use evaluation::matching::value_read;
+pub use evaluation::{answers_by_hit, rules_have_one_priority_order, table_value};
 pub use fault::Fault;
 pub use hit::Hit;
 pub use inputs::{Inputs, Slot};

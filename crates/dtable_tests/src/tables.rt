@@ -1,6 +1,10 @@
 //! Hit policies by worked examples: what the one table of a plan answers.
 use crate::answers::{give, shown};
-use dtable::{Fault, Inputs, Plan, Valuer, read_plan};
+use dtable::{
+    Answer, Fault, Inputs, Plan, Sequence, Valuer, answers_by_hit, read_plan, table_value,
+    value_read,
+};
+use feel_tests::Value;
 use std::alloc::Global;
 use std::process::Abort;
 use std::test::Fail;
@@ -175,4 +179,38 @@ fn matches_are_aggregated(rt: HostRuntime) -> Result<(), Fail> {
 #[test]
 fn values_outside_and_defaults(rt: HostRuntime) -> Result<(), Fail> {
     are_answered(&rt, rt.alloc(), &DEFAULTS)
+}
+
+// Whether this is the one number of so many units.
+fn is_number(answers: &[Answer], units: i64) -> bool {
+    match answers {
+        [Answer::One(Value::Number(number))] => number.units() == units,
+        _ => false,
+    }
+}
+
+// What the first input of a plan's first table reads, if it is a number, in units.
+fn first_read(plan: &Plan, inputs: &Inputs, earlier: &[Sequence<Answer>]) -> Option<i64> {
+    let input = plan.tables().first()?.inputs.as_slice().first()?;
+    match value_read(inputs, earlier, input.origin)? {
+        Value::Number(number) => Some(number.units()),
+        _ => None,
+    }
+}
+
+#[test]
+fn a_table_is_answered_for_the_rules_that_match(rt: HostRuntime) -> Result<(), Fail> {
+    let alloc = rt.alloc();
+    let plan = over_x(alloc, "F", Y, OTHER)?;
+    let mut inputs = Inputs::new(alloc, &plan)?;
+    give(alloc, &mut inputs, X, "2")?;
+    let earlier = Sequence::new(alloc);
+    assert_eq!(rt; first_read(&plan, &inputs, earlier.as_slice()), Some(20_000));
+    for table in plan.tables() {
+        let answers = table_value(alloc, &inputs, earlier.as_slice(), table)?;
+        assert!(rt; is_number(answers.as_slice(), 10_000));
+        let second = answers_by_hit(alloc, 1, table, &[1])?;
+        assert!(rt; is_number(second.as_slice(), 20_000));
+    }
+    Ok(())
 }

@@ -69,8 +69,8 @@ fn is_outside(given: &Inputs, earlier: &[Sequence<Answer>], input: &Input) -> bo
     }
 }
 
-// The value that an input reads.
-fn value_read<'a>(
+/// The value that an input reads, of what is given and of the answers of the tables before its own.
+pub fn value_read<'a>(
     given: &'a Inputs,
     earlier: &'a [Sequence<Answer>],
     origin: Origin,

@@ -1,0 +1,249 @@
+-- What the masks of a table's first columns tell, column by column.
+use Rattle.std.proofs.Common.{◌≡◌, ℕ, zero, suc, ◌+◌, ◌<◌, ◌≤◌, ◌&&◌, ◌||◌, Bool, true, false, not, cond, List, [], ◌∷◌, length, get_or, map, take, Option, Some, None, refl, ap, sym, subst, ◌∙◌, add-one, arith}
+use Rattle.std.specs.Prelude.{nat_lt, Result}
+use Rattle.std.specs.List.{flat_map, list_any, list_all, zip, position, slice_get, AllZip, enumerate_from}
+use Rattle.std.specs.Option.{option_map_or}
+use Rattle.std.proofs.lemmas.Bool.{both_ways, and_from, or_parts, le-ltb}
+use Rattle.std.proofs.lemmas.List.{take_all}
+use Rattle.std.proofs.lemmas.Option.{none-some, same_Some}
+use Rattle.feel_tests.specs.Holds.{holds}
+use Rattle.feel_tests.specs.declared.cell.Cell.{Cell}
+use Rattle.feel_tests.specs.declared.value.Value.{Value}
+use Rattle.dtable.specs.declared.environment.Answer.{Answer}
+use Rattle.dtable.specs.declared.inputs.Slot.{Slot}
+use Rattle.dtable.specs.declared.table.Input.{Input}
+use Rattle.dtable.specs.declared.table.Rule.{Rule}
+use Rattle.dtable.specs.declared.table.Table.{Table}
+use Rattle.dtable.specs.declared.fault.Fault.{Fault}
+use Rattle.dtable.specs.Environment.{table_value, inside, number_behind}
+use Rattle.dtable.specs.HitPolicy.{Gives, by_hit}
+use Rattle.dtable.specs.Matching.{value_read, holds_of, cells_hold, matching, rule_matches, is_outside, first_outside}
+use Rattle.dtable.specs.Plan.{PlanParts}
+use Rattle.cutplan.specs.declared.region.Region.{Region}
+use Rattle.cutplan.specs.Values.{is_value, kind_read}
+use Rattle.cutplan.specs.Regions.{column_of, columns_from, column_literals, rule_literals, literals, regions, is_allowed, is_in, table_regions}
+use Rattle.cutplan.specs.Check.{rule_cells}
+use Rattle.cutplan.specs.Masks.{has_rule, rules_in, is_marked, Marks, AreMasks, AreTableMasks}
+use Rattle.cutplan.specs.Found.{has_at, IsMaskRead, IsMatchingMask, IsCut}
+use Rattle.cutplan.proofs.Alike.{Among, among_right}
+use Rattle.cutplan.proofs.MaskRules.{among_got, column_marks, rules_match}
+use Rattle.cutplan.proofs.FirstRules.{less_alike}
+use Rattle.cutplan.proofs.Keeping.{at_number, numbered_at}
+use Rattle.cutplan.proofs.Matched.{inside_alike, listed_allowed, none_first}
+use Rattle.cutplan.proofs.Telling.{not_so}
+
+-- what a mask tells of the first columns: none is outside, and these rules' cells hold
+pub record AreMet (given : List Slot) (earlier : List (List Answer)) (t : Table) (column : ℕ) (mask : List ℕ) : Type 0 where
+  pub inside : list_any (is_outside given earlier) (take column t.inputs) ≡ false
+  pub marks : Marks (λ place. nat_lt place (length t.rules) && cells_hold given earlier (take column t.inputs) (rule_cells t place)) mask
+
+and_true : (b : Bool) → (b && true) ≡ b
+and_true true = refl
+and_true false = refl
+
+and_all : (a b c : Bool) → ((a && b) && c) ≡ (a && (b && c))
+and_all true b c = refl
+and_all false b c = refl
+
+or_false : (b : Bool) → (b || false) ≡ b
+or_false true = refl
+or_false false = refl
+
+or_all : (a b c : Bool) → (a || (b || c)) ≡ ((a || b) || c)
+or_all true b c = refl
+or_all false b c = refl
+
+-- the cell in the next column, if there is one
+abbrev next_holds : List Slot → List (List Answer) → List Cell → ℕ → Input → Bool
+next_holds given earlier cells column input = option_map_or (λ cell. holds_of (value_read given earlier input.origin) cell) (slice_get cells column) true
+
+-- the cells of one column more
+cells_more : (given : List Slot) (earlier : List (List Answer)) (inputs : List Input) (cells : List Cell) (column : ℕ) (input : Input) → slice_get inputs column ≡ Some input
+    → cells_hold given earlier (take (suc column) inputs) cells ≡ (cells_hold given earlier (take column inputs) cells && next_holds given earlier cells column input)
+cells_more given earlier [] cells column input at = absurd (none-some input at)
+cells_more given earlier (i ∷ is) [] zero input at = refl
+cells_more given earlier (i ∷ is) (c ∷ cs) zero input at = ap (λ x. holds_of (value_read given earlier x.origin) c && true) (same_Some i input at) ∙ and_true (holds_of (value_read given earlier input.origin) c)
+cells_more given earlier (i ∷ is) [] (suc column) input at = refl
+cells_more given earlier (i ∷ is) (c ∷ cs) (suc column) input at =
+    let first = holds_of (value_read given earlier i.origin) c in
+    ap (λ b. first && b) (cells_more given earlier is cs column input at) ∙ sym (and_all first (cells_hold given earlier (take column is) cs) (next_holds given earlier cs column input))
+
+-- the columns outside, with one column more
+outside_more : (q : Input → Bool) (inputs : List Input) (column : ℕ) (input : Input) → slice_get inputs column ≡ Some input → list_any q (take (suc column) inputs) ≡ (list_any q (take column inputs) || q input)
+outside_more q [] column input at = absurd (none-some input at)
+outside_more q (i ∷ is) zero input at = or_false (q i) ∙ ap q (same_Some i input at)
+outside_more q (i ∷ is) (suc column) input at = ap (λ b. q i || b) (outside_more q is column input at) ∙ or_all (q i) (list_any q (take column is)) (q input)
+
+-- what stands at a place on either side
+zip_at : {X Y : Type 0} (R : X → Y → Type 0) (xs : List X) (ys : List Y) (i : ℕ) (x : X) (y : Y) → AllZip R xs ys → slice_get xs i ≡ Some x → slice_get ys i ≡ Some y → R x y
+zip_at R [] ys i x y all at there = absurd (none-some x at)
+zip_at R (z ∷ zs) [] i x y all at there = absurd all
+zip_at R (z ∷ zs) (w ∷ ws) zero x y all at there = subst (λ a. R a y) (same_Some z x at) (subst (λ b. R z b) (same_Some w y there) all.0)
+zip_at R (z ∷ zs) (w ∷ ws) (suc i) x y all at there = zip_at R zs ws i x y all.1 at there
+
+-- the region in which a value lies
+pub record LiesAt (regions : List Region) (place : ℕ) (v : Value) : Type 0 where
+  pub region : Region
+  pub at : slice_get regions place ≡ Some region
+  pub inside : is_in region v ≡ true
+
+lies_at : (regions : List Region) (place : ℕ) (v : Value) → has_at regions place v ≡ true → LiesAt regions place v
+lies_at [] place v has = absurd (both_ways false refl has)
+lies_at (r ∷ rs) zero v has = record { region = r; at = refl; inside = has }
+lies_at (r ∷ rs) (suc place) v has = let more = lies_at rs place v has in record { region = more.region; at = more.at; inside = more.inside }
+
+-- the value that the column reads is allowed, and its mask has the rules whose cell holds of it
+pub record IsRead (given : List Slot) (earlier : List (List Answer)) (t : Table) (column : ℕ) (input : Input) (mask : List ℕ) : Type 0 where
+  pub inside : is_outside given earlier input ≡ false
+  pub words : length mask ≡ 4
+  pub has : (place : ℕ) → place < 256 → has_rule mask place ≡ (nat_lt place (length t.rules) && next_holds given earlier (rule_cells t place) column input)
+
+one_read : (p : PlanParts) (given : List Slot) (earlier : List (List Answer)) (t : Table) (column : ℕ) (input : Input) (masks : List (List ℕ)) (mask : List ℕ)
+    → AreMasks t column (regions (column_of p t column input)) masks → IsMaskRead p given earlier input (regions (column_of p t column input)) masks mask → IsRead given earlier t column input mask
+one_read p given earlier t column input masks mask all read =
+    let v = read.value in
+    let rs = regions (column_of p t column input) in
+    let there = lies_at rs read.place v read.inside in
+    let r_at : Among there.region rs = among_got rs read.place there.region there.at in
+    let lits = column_literals t column input.values in
+    let allowed = listed_allowed (kind_read p input.origin) lits input.values (λ l l_at. among_right l (flat_map (rule_literals column) t.rules) (option_map_or literals input.values []) l_at) v read.of_kind there.region r_at there.inside in
+    let is : is_allowed (column_of p t column input) v ≡ true = and_from (is_value (kind_read p input.origin) v) (option_map_or (λ cell. holds cell v) input.values true) read.of_kind allowed in
+    let marks = zip_at (λ region mask. Marks (is_marked t column region) mask) rs masks read.place there.region mask all there.at read.mask_at in
+    record {
+      inside = ap (λ found. option_map_or (λ cell. not (holds_of found cell)) input.values false) read.read
+          ∙ not_so (option_map_or (λ cell. not (holds_of (Some v) cell)) input.values false) (sym (inside_alike input.values v) ∙ allowed);
+      words = marks.words;
+      has = λ place within.
+          column_marks p t column input there.region v mask r_at is there.inside marks place within
+          ∙ ap (λ found. nat_lt place (length t.rules) && option_map_or (λ cell. holds_of found cell) (slice_get (rule_cells t place) column) true) (sym read.read);
+    }
+
+both : (a b c : Bool) → ((a && b) && (a && c)) ≡ (a && (b && c))
+both true b c = refl
+both false b c = refl
+
+-- one column more
+pub more_met : (given : List Slot) (earlier : List (List Answer)) (t : Table) (column : ℕ) (input : Input) (mask read new : List ℕ) → slice_get t.inputs column ≡ Some input → AreMet given earlier t column mask
+    → IsRead given earlier t column input read → length new ≡ 4 → ((place : ℕ) → place < 256 → has_rule new place ≡ (has_rule mask place && has_rule read place)) → AreMet given earlier t (column + 1) new
+more_met given earlier t column input mask read new at met is words has = subst (λ n. AreMet given earlier t n new) (sym (add-one column)) met_more where
+  met_more : AreMet given earlier t (suc column) new
+  met_more = record {
+    inside = outside_more (is_outside given earlier) t.inputs column input at ∙ ap (λ b. b || is_outside given earlier input) met.inside ∙ is.inside;
+    marks = record {
+      words = words;
+      has = λ place within.
+          let few = nat_lt place (length t.rules) in
+          let so_far = cells_hold given earlier (take column t.inputs) (rule_cells t place) in
+          let next = next_holds given earlier (rule_cells t place) column input in
+          has place within ∙ ap (λ b. b && has_rule read place) (met.marks.has place within) ∙ ap (λ b. (few && so_far) && b) (is.has place within)
+          ∙ both few so_far next ∙ ap (λ b. few && b) (sym (cells_more given earlier t.inputs (rule_cells t place) column input at));
+    };
+  }
+
+-- the regions of the column at a place
+regions_at : (p : PlanParts) (t : Table) (n : ℕ) (inputs : List Input) (column : ℕ) (input : Input) → slice_get inputs column ≡ Some input
+    → slice_get (map regions (columns_from p t n inputs)) column ≡ Some (regions (column_of p t (n + column) input))
+regions_at p t n [] column input at = absurd (none-some input at)
+regions_at p t n (i ∷ is) zero input at =
+    let here : n ≡ n + 0 = omega arith in
+    ap (λ x. Some (regions (column_of p t n x))) (same_Some i input at) ∙ ap (λ k. Some (regions (column_of p t k input))) here
+regions_at p t n (i ∷ is) (suc column) input at =
+    let there : (n + 1) + column ≡ n + suc column = omega arith in
+    regions_at p t (n + 1) is column input at ∙ ap (λ k. Some (regions (column_of p t k input))) there
+
+-- the column at a place, by its regions and its masks
+pub read_at : (p : PlanParts) (given : List Slot) (earlier : List (List Answer)) (t : Table) (columns : List (List Region)) (masks : List (List (List ℕ))) (column : ℕ) (input : Input)
+    (rs : List Region) (kept : List (List ℕ)) (read : List ℕ)
+    → columns ≡ table_regions p t → AreTableMasks t columns masks → slice_get t.inputs column ≡ Some input → slice_get columns column ≡ Some rs → slice_get masks column ≡ Some kept
+    → IsMaskRead p given earlier input rs kept read → IsRead given earlier t column input read
+read_at p given earlier t columns masks column input rs kept read are all at rs_at kept_at is =
+    let zero_more : 0 + column ≡ column = omega arith in
+    let here = regions_at p t 0 t.inputs column input at ∙ ap (λ k. Some (regions (column_of p t k input))) zero_more in
+    let same : regions (column_of p t column input) ≡ rs = same_Some (regions (column_of p t column input)) rs (sym here ∙ ap (λ cs. slice_get cs column) (sym are) ∙ rs_at) in
+    let placed = numbered_at 0 columns column rs rs_at ∙ ap (λ k. Some (at_number k rs)) zero_more in
+    let marks : AreMasks t column rs kept =
+    zip_at (λ (c : ℕ × List Region) (kept : List (List ℕ)). AreMasks t c.0 c.1 kept) (enumerate_from 0 columns) masks column (at_number column rs) kept all placed kept_at in
+    one_read p given earlier t column input kept read (subst (λ x. AreMasks t column x kept) (sym same) marks) (subst (λ x. IsMaskRead p given earlier input x kept read) (sym same) is)
+
+-- before the first column
+pub none_met : (given : List Slot) (earlier : List (List Answer)) (t : Table) (mask : List ℕ) → Marks (λ place. nat_lt place (length t.rules)) mask → AreMet given earlier t 0 mask
+none_met given earlier t mask marks = record {
+  inside = refl;
+  marks = record { words = marks.words; has = λ place within. marks.has place within ∙ sym (and_true (nat_lt place (length t.rules))) };
+}
+
+-- a rule whose cells all hold matches, if there is one
+cells_match : (given : List Slot) (earlier : List (List Answer)) (t : Table) (place : ℕ)
+    → (nat_lt place (length t.rules) && cells_hold given earlier t.inputs (rule_cells t place)) ≡ (nat_lt place (length t.rules) && rule_matches given earlier t place)
+cells_match given earlier t place = by_rule t.rules place where
+  by_rule : (rules : List Rule) (place : ℕ)
+      → (nat_lt place (length rules) && cells_hold given earlier t.inputs (option_map_or (λ r. r.cells) (slice_get rules place) []))
+      ≡ (nat_lt place (length rules) && option_map_or (λ r. cells_hold given earlier t.inputs r.cells) (slice_get rules place) false)
+  by_rule [] place = ap (λ b. b && cells_hold given earlier t.inputs []) (le-ltb place 0 (omega arith)) ∙ sym (ap (λ b. b && false) (le-ltb place 0 (omega arith)))
+  by_rule (r ∷ rs) zero = refl
+  by_rule (r ∷ rs) (suc place) =
+      let less = less_alike (suc place) (suc (length rs)) place (length rs) (λ below. omega (arith, below)) (λ above. omega (arith, above)) in
+      ap (λ b. b && cells_hold given earlier t.inputs (option_map_or (λ x. x.cells) (slice_get rs place) [])) less ∙ by_rule rs place
+      ∙ sym (ap (λ b. b && option_map_or (λ x. cells_hold given earlier t.inputs x.cells) (slice_get rs place) false) less)
+
+-- behind the last column
+pub all_met : (given : List Slot) (earlier : List (List Answer)) (t : Table) (column : ℕ) (mask : List ℕ) → length t.inputs ≤ column → AreMet given earlier t column mask → IsMatchingMask given earlier t mask
+all_met given earlier t column mask last met =
+    let whole : take column t.inputs ≡ t.inputs = take_all column t.inputs last in
+    record {
+      inside = none_first (is_outside given earlier) t.inputs (ap (list_any (is_outside given earlier)) (sym whole) ∙ met.inside);
+      marks = record {
+        words = met.marks.words;
+        has = λ place within.
+            met.marks.has place within ∙ ap (λ inputs. nat_lt place (length t.rules) && cells_hold given earlier inputs (rule_cells t place)) whole ∙ cells_match given earlier t place;
+      };
+    }
+
+-- what stands at a place
+pub got_at : {X : Type 0} (xs : List X) (i : ℕ) (x : X) → i < length xs → x ≡ get_or xs i x → slice_get xs i ≡ Some x
+got_at [] i x below is = absurd (omega (arith, below))
+got_at (y ∷ ys) zero x below is = ap (λ z. Some z) (sym is)
+got_at (y ∷ ys) (suc i) x below is = got_at ys i x (omega (arith, below)) is
+
+mapped_at : {X Y : Type 0} (f : X → Y) (xs : List X) (i : ℕ) (x : X) → slice_get xs i ≡ Some x → slice_get (map f xs) i ≡ Some (f x)
+mapped_at f [] i x at = absurd (none-some x at)
+mapped_at f (y ∷ ys) zero x at = ap (λ z. Some (f z)) (same_Some y x at)
+mapped_at f (y ∷ ys) (suc i) x at = mapped_at f ys i x at
+
+-- what is found at a place
+pub found_at : {X : Type 0} (xs : List X) (i : ℕ) (x : X) → true ≡ nat_lt i (length xs) → x ≡ get_or xs i x → slice_get xs i ≡ Some x
+found_at [] i x below is = absurd (both_ways false refl (sym (below ∙ le-ltb i 0 (omega arith))))
+found_at (y ∷ ys) zero x below is = ap (λ z. Some z) (sym is)
+found_at (y ∷ ys) (suc i) x below is = found_at ys i x (below ∙ less_alike (suc i) (suc (length ys)) i (length ys) (λ less. omega (arith, less)) (λ more. omega (arith, more))) is
+
+-- the column at a place, as it is found there
+pub column_read : (p : PlanParts) (given : List Slot) (earlier : List (List Answer)) (t : Table) (items : List Input) (columns : List (List Region)) (masks : List (List (List ℕ))) (column : ℕ) (input : Input)
+    (rs listed : List Region) (kept lent : List (List ℕ)) (read : List ℕ)
+    → items ≡ t.inputs → column < length items → input ≡ get_or items column input → columns ≡ table_regions p t → AreTableMasks t columns masks
+    → true ≡ nat_lt column (length columns) → rs ≡ get_or columns column rs → true ≡ nat_lt column (length masks) → kept ≡ get_or masks column kept
+    → listed ≡ rs → lent ≡ kept → IsMaskRead p given earlier input listed lent read → IsRead given earlier t column input read
+column_read p given earlier t items columns masks column input rs listed kept lent read same below standing are all rs_below rs_is kept_below kept_is listed_is lent_is is =
+    let at : slice_get t.inputs column ≡ Some input = ap (λ xs. slice_get xs column) (sym same) ∙ got_at items column input below standing in
+    read_at p given earlier t columns masks column input rs kept read are all at (found_at columns column rs rs_below rs_is) (found_at masks column kept kept_below kept_is)
+    (subst (λ x. IsMaskRead p given earlier input x kept read) listed_is (subst (λ y. IsMaskRead p given earlier input listed y read) lent_is is))
+
+-- what a cut plan keeps at a table's place
+pub regions_kept : (p : PlanParts) (regions : List (List (List Region))) (masks : List (List (List (List ℕ)))) (place : ℕ) (t : Table) (rs : List (List Region))
+    → IsCut p regions masks → slice_get p.tables place ≡ Some t → slice_get regions place ≡ Some rs → rs ≡ table_regions p t
+regions_kept p regions masks place t rs cut at there =
+    same_Some rs (table_regions p t) (sym there ∙ ap (λ found. slice_get found place) cut.regions ∙ mapped_at (table_regions p) p.tables place t at)
+
+pub masks_kept : (p : PlanParts) (regions : List (List (List Region))) (masks : List (List (List (List ℕ)))) (place : ℕ) (t : Table) (rs : List (List Region)) (kept : List (List (List ℕ)))
+    → IsCut p regions masks → slice_get p.tables place ≡ Some t → slice_get regions place ≡ Some rs → slice_get masks place ≡ Some kept → length t.rules ≤ 256 → AreTableMasks t rs kept
+masks_kept p regions masks place t rs kept cut at rs_at kept_at few =
+    subst (λ x. AreTableMasks t x kept) (sym (regions_kept p regions masks place t rs cut at rs_at))
+    (zip_at (λ (t : Table) (kept : List (List (List ℕ))). length t.rules ≤ 256 → AreTableMasks t (table_regions p t) kept) p.tables masks place t kept cut.masks at kept_at few)
+
+-- the value of a table, where a mask has the rules that match
+pub value_by_mask : (given : List Slot) (earlier : List (List Answer)) (t : Table) (mask : List ℕ) (result : Result (List Answer) Fault) → IsMatchingMask given earlier t mask → length t.rules ≤ 256
+    → Gives (by_hit t.hit (number_behind earlier) t (rules_in (length t.rules) mask)) result → Gives (table_value given earlier t) result
+value_by_mask given earlier t mask result is few gives =
+    let value : table_value given earlier t ≡ by_hit t.hit (number_behind earlier) t (rules_in (length t.rules) mask) =
+    ap (λ found. inside found (number_behind earlier) (by_hit t.hit (number_behind earlier) t (matching given earlier t))) is.inside
+    ∙ ap (by_hit t.hit (number_behind earlier) t) (sym (rules_match mask given earlier t few is.marks.has)) in
+    subst (λ outcome. Gives outcome result) (sym value) gives

@@ -1,0 +1,121 @@
+//! Masks: the rules of a table as 256 bits in four words.
+ghost use Rattle.std.specs.Prelude.{◌≡◌, ◌<◌, ◌≤◌, ◌==◌, ◌&&◌, ◌||◌, ◌++◌, ℕ, false, length, nat_lt, IfOk, OnOk};
+ghost use Rattle.std.specs.Int.{bit_at};
+ghost use Rattle.cutplan.specs.Found.{places_set};
+ghost use Rattle.cutplan.specs.Masks.{has_rule, rules_in, is_marked, Marks};
+ghost use Rattle.cutplan.specs.declared.mask.TheConstants.{MASK_RULES};
+
+use crate::overlap::holds_at;
+use crate::region::Region;
+use dtable::Table;
+use smallvec::SmallVec;
+use std::alloc::{AllocError, Global};
+
+/// How many rules a mask has a bit for: no table has more.
+pub const MASK_RULES: usize = 256;
+
+/// How many rules are listed without memory of their own.
+const INLINE_RULES: usize = 16;
+
+/// The rules of a table whose cell in the column holds in the region.
+pub fn mask_of(table: &Table, column: usize, region: &Region) -> [u64; 4]
+    requires { length table.now.rules ≤ MASK_RULES }
+    ensures { Marks (is_marked table.now column region.now) result }
+{
+    let mut mask = [0u64; 4];
+    'rules: for place in 0..table.rules.len() {
+        if holds_at(table, place, column, region) {
+            insert(&mut mask, place);
+        }
+    }
+    mask
+}
+
+// Puts a rule into a mask.
+#[tactic(auto, using(crate::proofs::MaskBits::inserted))]
+fn insert(mask: &mut [u64; 4], place: usize)
+    requires words { length mask.old ≡ 4 }
+    requires within { place < MASK_RULES }
+    ensures words { length mask.new ≡ 4 }
+    ensures has { (other : ℕ) → other < 256 → has_rule mask.new other ≡ (has_rule mask.old other || (other == place)) }
+{
+    mask[place / 64] |= 1u64 << (place % 64);
+}
+
+/// The rules that both masks have.
+#[tactic(auto, using(crate::proofs::MaskBits::met))]
+pub fn meet(one: &[u64; 4], other: &[u64; 4]) -> [u64; 4]
+    requires words { (length one.now ≡ 4) × (length other.now ≡ 4) }
+    ensures words { length result ≡ 4 }
+    ensures has { (place : ℕ) → place < 256 → has_rule result place ≡ (has_rule one.now place && has_rule other.now place) }
+{
+    [
+        one[0] & other[0],
+        one[1] & other[1],
+        one[2] & other[2],
+        one[3] & other[3],
+    ]
+}
+
+/// The rules of a table that has so many.
+pub fn first_rules(count: usize) -> [u64; 4]
+    requires { count ≤ MASK_RULES }
+    ensures { Marks (λ place. nat_lt place count) result }
+{
+    [
+        low_bits(count),
+        low_bits(count.saturating_sub(64)),
+        low_bits(count.saturating_sub(128)),
+        low_bits(count.saturating_sub(192)),
+    ]
+}
+
+// The word of which so many of the lowest bits are set, or all.
+#[tactic(auto, using(crate::proofs::FirstRules::all_set, crate::proofs::FirstRules::low_set, crate::proofs::FirstRules::no_bits))]
+fn low_bits(count: usize) -> u64
+    ensures { (bit : ℕ) → bit < 64 → (bit_at result bit == 1) ≡ nat_lt bit count }
+{
+    if count >= 64 {
+        u64::MAX
+    } else if count == 0 {
+        0
+    } else {
+        u64::MAX >> (64 - count)
+    }
+}
+
+/// The rules of a mask, in order, which has none behind so many.
+pub fn rules_in(
+    alloc: Global,
+    mask: &[u64; 4],
+    count: usize,
+) -> Result<SmallVec<usize, INLINE_RULES>, AllocError>
+    requires words { length mask.now ≡ 4 }
+    requires few { count ≤ MASK_RULES }
+    requires within { (place : ℕ) → count ≤ place → place < 256 → has_rule mask.now place ≡ false }
+    ensures { IfOk result (λ rules. rules.items ≡ rules_in count mask.now) }
+{
+    let mut found = SmallVec::new(alloc);
+    'words: for word in 0..4 {
+        push_places(mask[word], 64 * word, &mut found)?;
+    }
+    Ok(found)
+}
+
+// Puts the places of the bits that are set in a word behind others: the places count on from the first bit's.
+fn push_places(
+    word: u64,
+    first: usize,
+    found: &mut SmallVec<usize, INLINE_RULES>,
+) -> Result<(), AllocError>
+    requires { first < MASK_RULES }
+    ensures { OnOk result ((width : ℕ) → width ≡ 64 → found.new.items ≡ found.old.items ++ places_set word first width) }
+{
+    let mut left = word;
+    'bits: while left != 0 {
+        let bit = left.trailing_zeros();
+        left &= !(1u64 << bit);
+        found.push(first + bit as usize)?;
+    }
+    Ok(())
+}

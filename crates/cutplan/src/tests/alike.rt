@@ -1,0 +1,294 @@
+//! A plan and its cut plan answer alike: at each cut, one unit below and above it, at each text that is named, and at one
+//! that isn't.
+use super::{
+    ALLOWED_CODES, APART, AT_FIVE, CODES, FLAG_AND_CODE, SIXTEEN_REGIONS, THREE_RULES, read,
+};
+use crate::column::table_regions;
+use crate::compile;
+use crate::lookup::place_of;
+use dtable::{Answer, Inputs, Plan, Valuer};
+use feel_tests::read_value;
+use std::alloc::Global;
+use std::process::Abort;
+use std::test::Fail;
+
+/// The place of the first field among the names.
+const FIRST: usize = 4;
+
+/// A plan whose output is `y`, and literals of its first field and of its second; no literal, where it has none.
+type Row = (
+    &'static [u8],
+    &'static [&'static str],
+    &'static [&'static str],
+);
+
+const NONE: &[&str] = &[""];
+
+const NUMBERS: [Row; 3] = [
+    (
+        APART,
+        &[
+            "-99999999999.9999",
+            "0.9999",
+            "1",
+            "1.0001",
+            "1.0002",
+            "4.9999",
+            "5",
+            "5.0001",
+            "99999999999.9999",
+        ],
+        NONE,
+    ),
+    (AT_FIVE, &["4.9999", "5", "5.0001"], NONE),
+    (
+        THREE_RULES,
+        &["1.9999", "2", "2.0001", "2.9999", "3", "3.0001"],
+        NONE,
+    ),
+];
+
+const MANY_COLUMNS: [Row; 1] = [(
+    SIXTEEN_REGIONS,
+    &[
+        "0.9999", "1", "1.0001", "1.0002", "2.9999", "3", "3.0001", "7.9999", "8", "8.0001",
+    ],
+    NONE,
+)];
+
+const TEXTS: [Row; 3] = [
+    (CODES, &["\"A\"", "\"B\"", "\"AB\"", "\"\""], NONE),
+    (ALLOWED_CODES, &["\"A\"", "\"B\"", "\"C\""], NONE),
+    (
+        FLAG_AND_CODE,
+        &["false", "true"],
+        &["\"A\"", "\"B\"", "\"C\""],
+    ),
+];
+
+/// Two stretches of days, the first day of all, and a default on the last day.
+const DAYS: &[u8] = br#"version = 1
+fields = [{name = "x", kind = "day"}]
+[[tables]]
+hit = "U"
+inputs = [{name = "x"}]
+outputs = [{name = "y", kind = "number", default = '7'}]
+rules = [
+  {when = ['<date("2024-02-29")'], then = ['1']},
+  {when = [']date("2024-02-29")..date("9999-12-31")['], then = ['2']},
+  {when = ['date("0001-01-01")'], then = ['3']},
+]
+"#;
+
+const OF_DAYS: [Row; 1] = [(
+    DAYS,
+    &[
+        "date(\"0001-01-01\")",
+        "date(\"0001-01-02\")",
+        "date(\"2024-02-28\")",
+        "date(\"2024-02-29\")",
+        "date(\"2024-03-01\")",
+        "date(\"9999-12-30\")",
+        "date(\"9999-12-31\")",
+    ],
+    NONE,
+)];
+
+/// Two tables, of which the second reads the first, counts and has a limit.
+const CHAIN: &[u8] = br#"version = 1
+fields = [{name = "x", kind = "number"}]
+[[tables]]
+hit = "C+"
+inputs = [{name = "x"}]
+outputs = [{name = "sum", kind = "number", default = '0'}]
+rules = [
+  {when = ['>=1'], then = ['1']},
+  {when = ['>=2'], then = ['10']},
+  {when = ['>=3'], then = ['100']},
+]
+[[tables]]
+hit = "F"
+inputs = [{name = "sum", values = '<=11'}, {name = "x"}]
+outputs = [{name = "y", kind = "number"}]
+rules = [
+  {when = ['1', '-'], then = ['1']},
+  {when = ['not(0)', '<2.5'], then = ['2']},
+]
+"#;
+
+const CHAINED: [Row; 1] = [(
+    CHAIN,
+    &[
+        "0.9999", "1", "1.0001", "1.9999", "2", "2.0001", "2.5", "2.9999", "3",
+    ],
+    NONE,
+)];
+
+/// What `y` answers at these values, or the fault, as text.
+fn told<V: Valuer>(
+    rt: &impl Abort,
+    alloc: Global,
+    valuer: &V,
+    first: &str,
+    second: &str,
+) -> Result<Vec<u8>, Fail> {
+    let mut inputs = Inputs::new(alloc, valuer.plan())?;
+    give(alloc, &mut inputs, FIRST, first)?;
+    if !second.is_empty() {
+        give(alloc, &mut inputs, FIRST + 1, second)?;
+    }
+    assert!(rt; valuer.plan().ready(&inputs));
+    let mut text = Vec::new(alloc);
+    match valuer.value(alloc, &inputs) {
+        Ok(values) => write_answer(&mut text, values.get("y"))?,
+        Err(fault) => text.extend_from_slice(format!(in alloc; "{fault}")?.as_bytes())?,
+    }
+    Ok(text)
+}
+
+// Gives the name at the place the value that the literal spells.
+fn give(alloc: Global, inputs: &mut Inputs, place: usize, literal: &str) -> Result<(), Fail> {
+    let kind = inputs.kind_at(place).ok_or("no such name")?;
+    let value = read_value(alloc, kind, literal)?;
+    inputs.set(place, value);
+    Ok(())
+}
+
+fn write_answer(text: &mut Vec<u8>, answer: Option<&Answer>) -> Result<(), Fail> {
+    match answer {
+        Some(Answer::One(value)) => value.write_text(text)?,
+        Some(Answer::Many(list)) => {
+            for value in list.as_slice() {
+                value.write_text(text)?;
+                text.push(b' ')?;
+            }
+        }
+        None => text.extend_from_slice(b"no answer")?,
+    }
+    Ok(())
+}
+
+/// The plan of the row and its cut plan answer alike.
+fn is_alike(rt: &impl Abort, alloc: Global, row: &Row) -> Result<(), Fail> {
+    let plan = read(rt, alloc, row.0)?;
+    let cut = compile(alloc, &plan)?;
+    for first in row.1 {
+        for second in row.2 {
+            let plain = told(rt, alloc, &plan, first, second)?;
+            let by_masks = told(rt, alloc, &cut, first, second)?;
+            assert_eq!(rt; plain.as_slice(), by_masks.as_slice(), "{first} {second}");
+        }
+    }
+    Ok(())
+}
+
+fn are_alike(rt: &impl Abort, alloc: Global, rows: &[Row]) -> Result<(), Fail> {
+    for row in rows {
+        is_alike(rt, alloc, row)?;
+    }
+    Ok(())
+}
+
+#[test]
+fn numbers_are_valued_alike(rt: HostRuntime) -> Result<(), Fail> {
+    are_alike(&rt, rt.alloc(), &NUMBERS)
+}
+
+#[test]
+fn four_columns_are_valued_alike(rt: HostRuntime) -> Result<(), Fail> {
+    are_alike(&rt, rt.alloc(), &MANY_COLUMNS)
+}
+
+#[test]
+fn texts_and_flags_are_valued_alike(rt: HostRuntime) -> Result<(), Fail> {
+    are_alike(&rt, rt.alloc(), &TEXTS)
+}
+
+#[test]
+fn days_are_valued_alike(rt: HostRuntime) -> Result<(), Fail> {
+    are_alike(&rt, rt.alloc(), &OF_DAYS)
+}
+
+#[test]
+fn chained_tables_are_valued_alike(rt: HostRuntime) -> Result<(), Fail> {
+    are_alike(&rt, rt.alloc(), &CHAINED)
+}
+
+/// A plan of one column, literals of its field, and the place of each one's region, from 0; none where it isn't allowed.
+type Found = (&'static [u8], &'static [(&'static str, Option<usize>)]);
+
+const FOUND: [Found; 4] = [
+    (
+        APART,
+        &[
+            ("-99999999999.9999", Some(0)),
+            ("0.9999", Some(0)),
+            ("1", Some(1)),
+            ("1.0001", Some(2)),
+            ("1.0002", Some(3)),
+            ("4.9999", Some(3)),
+            ("5", Some(4)),
+            ("5.0001", Some(5)),
+        ],
+    ),
+    (
+        CODES,
+        &[
+            ("\"A\"", Some(0)),
+            ("\"B\"", Some(1)),
+            ("\"AB\"", Some(2)),
+            ("\"\"", Some(2)),
+        ],
+    ),
+    (
+        ALLOWED_CODES,
+        &[("\"A\"", Some(0)), ("\"B\"", Some(1)), ("\"C\"", None)],
+    ),
+    (
+        DAYS,
+        &[
+            ("date(\"0001-01-01\")", Some(0)),
+            ("date(\"2024-02-28\")", Some(1)),
+            ("date(\"2024-02-29\")", Some(2)),
+            ("date(\"2024-03-01\")", Some(3)),
+            ("date(\"9999-12-31\")", Some(4)),
+        ],
+    ),
+];
+
+/// The field's value is found in the region at its place.
+fn is_found(
+    rt: &impl Abort,
+    alloc: Global,
+    plan: &Plan,
+    literal: &str,
+    place: Option<usize>,
+) -> Result<(), Fail> {
+    let kind = Inputs::new(alloc, plan)?
+        .kind_at(FIRST)
+        .ok_or("no such name")?;
+    let value = read_value(alloc, kind, literal)?;
+    for table in plan.tables() {
+        let columns = table_regions(alloc, plan, table)?;
+        for regions in columns.as_slice() {
+            assert_eq!(rt; place_of(regions.as_slice(), &value), place, "{literal}");
+        }
+    }
+    Ok(())
+}
+
+fn are_found(rt: &impl Abort, alloc: Global, row: &Found) -> Result<(), Fail> {
+    let plan = read(rt, alloc, row.0)?;
+    for (literal, place) in row.1 {
+        is_found(rt, alloc, &plan, literal, *place)?;
+    }
+    Ok(())
+}
+
+#[test]
+fn values_are_found_in_their_regions(rt: HostRuntime) -> Result<(), Fail> {
+    for row in &FOUND {
+        are_found(&rt, rt.alloc(), row)?;
+    }
+    Ok(())
+}
