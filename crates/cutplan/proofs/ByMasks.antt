@@ -1,9 +1,9 @@
 -- What the masks of a table's first columns tell, column by column.
-use Rattle.std.proofs.Common.{◌≡◌, ℕ, zero, suc, ◌+◌, ◌<◌, ◌≤◌, ◌&&◌, ◌||◌, Bool, true, false, not, cond, List, [], ◌∷◌, length, get_or, map, take, Option, Some, None, refl, ap, sym, subst, ◌∙◌, add-one, arith}
+use Rattle.std.proofs.Common.{◌≡◌, ℕ, zero, suc, ◌+◌, ◌<◌, ◌≤◌, ◌&&◌, ◌||◌, Bool, true, false, not, List, [], ◌∷◌, length, get_or, map, take, Some, refl, ap, sym, subst, ◌∙◌, add-one, arith}
 use Rattle.std.specs.Prelude.{nat_lt, Result}
-use Rattle.std.specs.List.{flat_map, list_any, list_all, zip, position, slice_get, AllZip, enumerate_from}
+use Rattle.std.specs.List.{flat_map, list_any, slice_get, AllZip, enumerate_from}
 use Rattle.std.specs.Option.{option_map_or}
-use Rattle.std.proofs.lemmas.Bool.{both_ways, and_from, or_parts, le-ltb}
+use Rattle.std.proofs.lemmas.Bool.{both_ways, and_from, le-ltb}
 use Rattle.std.proofs.lemmas.List.{take_all}
 use Rattle.std.proofs.lemmas.Option.{none-some, same_Some}
 use Rattle.feel_tests.specs.Holds.{holds}
@@ -17,7 +17,7 @@ use Rattle.dtable.specs.declared.table.Table.{Table}
 use Rattle.dtable.specs.declared.fault.Fault.{Fault}
 use Rattle.dtable.specs.Environment.{table_value, inside, number_behind}
 use Rattle.dtable.specs.HitPolicy.{Gives, by_hit}
-use Rattle.dtable.specs.Matching.{value_read, holds_of, cells_hold, matching, rule_matches, is_outside, first_outside}
+use Rattle.dtable.specs.Matching.{value_read, holds_of, cells_hold, matching, rule_matches, is_outside}
 use Rattle.dtable.specs.Plan.{PlanParts}
 use Rattle.cutplan.specs.declared.region.Region.{Region}
 use Rattle.cutplan.specs.Values.{is_value, kind_read}

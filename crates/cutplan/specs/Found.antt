@@ -1,5 +1,5 @@
 -- What is found of a table's rules by the masks of its columns. Tables, rules, columns and regions count from 0 here.
-use Rattle.std.specs.Prelude.{◌≡◌, ℕ, ◌-◌, ◌==◌, ◌<◌, nat_lt, Bool, false, ◌&&◌, List, length, filter, map, Some, None, slice_get, IsTrue}
+use Rattle.std.specs.Prelude.{◌≡◌, ℕ, ◌-◌, ◌==◌, nat_lt, Bool, false, ◌&&◌, List, length, filter, map, Some, None, slice_get, IsTrue}
 use Rattle.std.specs.List.{range_with_len}
 use Rattle.std.specs.Int.{bit_at}
 use Rattle.std.specs.Option.{option_map_or}

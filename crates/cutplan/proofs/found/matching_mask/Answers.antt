@@ -1,4 +1,4 @@
-use Rattle.std.proofs.Common.{◌≤◌, length, get_or, subst, ap, sym, ◌∙◌}
+use Rattle.std.proofs.Common.{◌≤◌, length, subst, ap, sym, ◌∙◌}
 use Rattle.std.specs.Prelude.{slice_get}
 use Rattle.cutplan.proofs.ByMasks.{got_at, column_read, more_met, all_met}
 use Rattle.cutplan.proofs.found.matching_mask.Goals as goal
