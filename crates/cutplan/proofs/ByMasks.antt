@@ -1,9 +1,9 @@
 -- What the masks of a table's first columns tell, column by column.
-use Rattle.std.proofs.Common.{◌≡◌, ℕ, zero, suc, ◌+◌, ◌<◌, ◌≤◌, ◌&&◌, ◌||◌, Bool, true, false, not, cond, List, [], ◌∷◌, length, get_or, map, take, Option, Some, None, refl, ap, sym, subst, ◌∙◌, add-one, arith}
+use Rattle.std.proofs.Common.{◌≡◌, ℕ, zero, suc, ◌+◌, ◌<◌, ◌≤◌, ◌&&◌, ◌||◌, Bool, true, false, not, List, [], ◌∷◌, length, get_or, map, take, Some, refl, ap, sym, subst, ◌∙◌, add-one, arith}
 use Rattle.std.specs.Prelude.{nat_lt, Result}
-use Rattle.std.specs.List.{flat_map, list_any, list_all, zip, position, slice_get, AllZip, enumerate_from}
+use Rattle.std.specs.List.{flat_map, list_any, slice_get, AllZip, enumerate_from}
 use Rattle.std.specs.Option.{option_map_or}
-use Rattle.std.proofs.lemmas.Bool.{both_ways, and_from, or_parts, le-ltb}
+use Rattle.std.proofs.lemmas.Bool.{both_ways, and_from, le-ltb}
 use Rattle.std.proofs.lemmas.List.{take_all}
 use Rattle.std.proofs.lemmas.Option.{none-some, same_Some}
 use Rattle.feel_tests.specs.Holds.{holds}
@@ -17,7 +17,7 @@ use Rattle.dtable.specs.declared.table.Table.{Table}
 use Rattle.dtable.specs.declared.fault.Fault.{Fault}
 use Rattle.dtable.specs.Environment.{table_value, inside, number_behind}
 use Rattle.dtable.specs.HitPolicy.{Gives, by_hit}
-use Rattle.dtable.specs.Matching.{value_read, holds_of, cells_hold, matching, rule_matches, is_outside, first_outside}
+use Rattle.dtable.specs.Matching.{value_read, holds_of, cells_hold, matching, rule_matches, is_outside}
 use Rattle.dtable.specs.Plan.{PlanParts}
 use Rattle.cutplan.specs.declared.region.Region.{Region}
 use Rattle.cutplan.specs.Values.{is_value, kind_read}
@@ -151,6 +151,14 @@ regions_at p t n (i ∷ is) (suc column) input at =
     let there : (n + 1) + column ≡ n + suc column = omega arith in
     regions_at p t (n + 1) is column input at ∙ ap (λ k. Some (regions (column_of p t k input))) there
 
+-- they stand at its place
+pub column_regions : (p : PlanParts) (t : Table) (columns : List (List Region)) (column : ℕ) (input : Input) (rs : List Region) → columns ≡ table_regions p t → slice_get t.inputs column ≡ Some input → slice_get columns column ≡ Some rs
+    → regions (column_of p t column input) ≡ rs
+column_regions p t columns column input rs are at rs_at =
+    let zero_more : 0 + column ≡ column = omega arith in
+    let here = regions_at p t 0 t.inputs column input at ∙ ap (λ k. Some (regions (column_of p t k input))) zero_more in
+    same_Some (regions (column_of p t column input)) rs (sym here ∙ ap (λ cs. slice_get cs column) (sym are) ∙ rs_at)
+
 -- the column at a place, by its regions and its masks
 pub read_at : (p : PlanParts) (given : List Slot) (earlier : List (List Answer)) (t : Table) (columns : List (List Region)) (masks : List (List (List ℕ))) (column : ℕ) (input : Input)
     (rs : List Region) (kept : List (List ℕ)) (read : List ℕ)
@@ -158,8 +166,7 @@ pub read_at : (p : PlanParts) (given : List Slot) (earlier : List (List Answer))
     → IsMaskRead p given earlier input rs kept read → IsRead given earlier t column input read
 read_at p given earlier t columns masks column input rs kept read are all at rs_at kept_at is =
     let zero_more : 0 + column ≡ column = omega arith in
-    let here = regions_at p t 0 t.inputs column input at ∙ ap (λ k. Some (regions (column_of p t k input))) zero_more in
-    let same : regions (column_of p t column input) ≡ rs = same_Some (regions (column_of p t column input)) rs (sym here ∙ ap (λ cs. slice_get cs column) (sym are) ∙ rs_at) in
+    let same = column_regions p t columns column input rs are at rs_at in
     let placed = numbered_at 0 columns column rs rs_at ∙ ap (λ k. Some (at_number k rs)) zero_more in
     let marks : AreMasks t column rs kept =
     zip_at (λ (c : ℕ × List Region) (kept : List (List ℕ)). AreMasks t c.0 c.1 kept) (enumerate_from 0 columns) masks column (at_number column rs) kept all placed kept_at in

@@ -143,8 +143,8 @@ impl<'a> CutPlan<'a> {
         }
     }
 
-    // The rules of the table at the place that match, where its masks tell.
-    fn matching_mask(
+    /// The rules of the table at the place that match, where its masks tell.
+    pub(crate) fn matching_mask(
         &self,
         given: &Inputs,
         earlier: &[Sequence<Answer>],

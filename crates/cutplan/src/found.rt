@@ -1,6 +1,6 @@
 //! The rules of a table that match, found by the masks of its columns.
 ghost use Rattle.std.specs.Prelude.{◌≡◌, ◌≤◌, IfSome, length};
-ghost use Rattle.cutplan.specs.Found.{IsMaskRead, IsMatchingMask};
+ghost use Rattle.cutplan.specs.Found.{IsMaskRead, IsMatchingMask, OthersRise};
 ghost use Rattle.cutplan.specs.Masks.{AreTableMasks};
 ghost use Rattle.cutplan.specs.Regions.{table_regions};
 ghost use Rattle.cutplan.specs.declared.mask.TheConstants.{MASK_RULES};
@@ -52,6 +52,7 @@ fn mask_read<'m>(
     regions: &[Region],
     masks: &'m [[u64; 4]],
 ) -> Option<&'m [u64; 4]>
+    requires { OthersRise regions.now }
     ensures { IfSome result (λ mask. IsMaskRead plan.now given.now earlier.now input.now regions.now masks.now mask.now) }
 {
     let value = value_read(given, earlier, input.origin)?;

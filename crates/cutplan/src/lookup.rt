@@ -1,14 +1,23 @@
 //! The region of a value.
-ghost use Rattle.std.specs.Prelude.{◌≡◌, IfSome, IsTrue};
-ghost use Rattle.cutplan.specs.Found.{has_at};
+ghost use Rattle.std.specs.Prelude.{◌≡◌, List, IfSome, IsTrue};
+ghost use Rattle.std.specs.Cmp.Lexicographic.{slice_cmp};
+ghost use Rattle.std.specs.List.{list_any};
+ghost use Rattle.std.specs.Ordering.{nat_cmp};
+ghost use Rattle.feel_tests.specs.Holds.{is_equal};
+ghost use Rattle.feel_tests.specs.declared.value.Value.{Value};
+ghost use Rattle.feel_tests.specs.declared.value.Value.TheVariants as values;
+ghost use Rattle.cutplan.specs.declared.region.Region.TheVariants.{Other};
+ghost use Rattle.cutplan.specs.Regions.{is_in};
+ghost use Rattle.cutplan.specs.Found.{bytes_of, has_at, AreRisingTexts, OthersRise};
 
-use crate::region::{Region, is_in, is_less};
-use feel_tests::Value;
+use crate::region::{Region, is_among, is_in, is_less};
+use feel_tests::{Text, Value};
 use std::cmp::Ordering;
 
 /// The place of a region that has the value, if one has it. The regions of a column stand in rising order, so that it is
 /// sought by halves; what is found is asked, and so nothing rests on the search. Any other text is in the last.
 pub fn place_of(regions: &[Region], value: &Value) -> Option<usize>
+    requires { OthersRise regions.now }
     ensures { IfSome result (λ place. IsTrue (has_at regions.now place value.now)) }
 {
     let place = sought(regions, value);
@@ -28,11 +37,54 @@ fn sought(regions: &[Region], value: &Value) -> usize {
 }
 
 fn has_at(regions: &[Region], place: usize, value: &Value) -> bool
+    requires { OthersRise regions.now }
     ensures { result ≡ has_at regions.now place value.now }
 {
     match regions.get(place) {
-        Some(region) => is_in(region, value),
+        Some(region) => has(region, value),
         None => false,
+    }
+}
+
+// Whether the value lies in the region: of other texts, by a search, since a walk over all that are named would cost most.
+fn has(region: &Region, value: &Value) -> bool
+    requires { (names : List Value) → region.now ≡ Other names → AreRisingTexts names }
+    ensures { result ≡ is_in region.now value.now }
+{
+    match region {
+        Region::Other(names) => !is_one_of(names.as_slice(), value),
+        _ => is_in(region, value),
+    }
+}
+
+fn is_one_of(names: &[Value], value: &Value) -> bool
+    requires { AreRisingTexts names.now }
+    ensures { result ≡ list_any (λ name. is_equal value.now name) names.now }
+{
+    match value {
+        Value::Text(text) => is_named(names, text),
+        _ => is_among(names, value),
+    }
+}
+
+// Whether the text is one of those named.
+fn is_named(names: &[Value], text: &Text) -> bool
+    requires { AreRisingTexts names.now }
+    ensures { result ≡ list_any (λ name. is_equal (values.Text text.now) name) names.now }
+{
+    match names.binary_search_by(|name| order_to(name, text)) {
+        Ok(_) => true,
+        Err(_) => false,
+    }
+}
+
+// How a text that is named stands to another.
+fn order_to(name: &Value, text: &Text) -> Ordering
+    ensures { result ≡ slice_cmp nat_cmp (bytes_of name.now) text.now }
+{
+    match name {
+        Value::Text(name) => name.as_str().cmp(text.as_str()),
+        _ => "".cmp(text.as_str()),
     }
 }
 

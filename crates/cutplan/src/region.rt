@@ -74,7 +74,8 @@ pub fn is_in(region: &Region, value: &Value) -> bool
     }
 }
 
-fn is_among(names: &[Value], value: &Value) -> bool
+/// Whether the value is one of these.
+pub fn is_among(names: &[Value], value: &Value) -> bool
     ensures { result ≡ list_any (λ name. is_equal value.now name) names.now }
 {
     names.iter().any(|name| value == name)

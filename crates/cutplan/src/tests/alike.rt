@@ -1,12 +1,12 @@
 //! A plan and its cut plan answer alike: at each cut, one unit below and above it, at each text that is named, and at one
 //! that isn't.
+ghost use Rattle.std.specs.Prelude.{◌≡◌};
+
 use super::{
     ALLOWED_CODES, APART, AT_FIVE, CODES, FLAG_AND_CODE, SIXTEEN_REGIONS, THREE_RULES, read,
 };
-use crate::column::table_regions;
-use crate::compile;
-use crate::lookup::place_of;
-use dtable::{Answer, Inputs, Plan, Valuer};
+use crate::{CutPlan, compile};
+use dtable::{Answer, Inputs, Plan, Sequence, Valuer};
 use feel_tests::read_value;
 use std::alloc::Global;
 use std::process::Abort;
@@ -214,81 +214,66 @@ fn chained_tables_are_valued_alike(rt: HostRuntime) -> Result<(), Fail> {
     are_alike(&rt, rt.alloc(), &CHAINED)
 }
 
-/// A plan of one column, literals of its field, and the place of each one's region, from 0; none where it isn't allowed.
-type Found = (&'static [u8], &'static [(&'static str, Option<usize>)]);
+/// A plan of one table that reads one field, and literals of the field.
+type Known = (&'static [u8], &'static [&'static str]);
 
-const FOUND: [Found; 4] = [
+/// The masks tell of each of these values.
+const KNOWN: [Known; 4] = [
     (
         APART,
         &[
-            ("-99999999999.9999", Some(0)),
-            ("0.9999", Some(0)),
-            ("1", Some(1)),
-            ("1.0001", Some(2)),
-            ("1.0002", Some(3)),
-            ("4.9999", Some(3)),
-            ("5", Some(4)),
-            ("5.0001", Some(5)),
+            "-99999999999.9999",
+            "0.9999",
+            "1",
+            "1.0001",
+            "1.0002",
+            "5",
+            "99999999999.9999",
         ],
     ),
-    (
-        CODES,
-        &[
-            ("\"A\"", Some(0)),
-            ("\"B\"", Some(1)),
-            ("\"AB\"", Some(2)),
-            ("\"\"", Some(2)),
-        ],
-    ),
-    (
-        ALLOWED_CODES,
-        &[("\"A\"", Some(0)), ("\"B\"", Some(1)), ("\"C\"", None)],
-    ),
+    (CODES, &["\"A\"", "\"B\"", "\"AB\"", "\"\""]),
+    (ALLOWED_CODES, &["\"A\"", "\"B\""]),
     (
         DAYS,
         &[
-            ("date(\"0001-01-01\")", Some(0)),
-            ("date(\"2024-02-28\")", Some(1)),
-            ("date(\"2024-02-29\")", Some(2)),
-            ("date(\"2024-03-01\")", Some(3)),
-            ("date(\"9999-12-31\")", Some(4)),
+            "date(\"0001-01-01\")",
+            "date(\"2024-02-28\")",
+            "date(\"2024-02-29\")",
+            "date(\"9999-12-31\")",
         ],
     ),
 ];
 
-/// The field's value is found in the region at its place.
-fn is_found(
-    rt: &impl Abort,
-    alloc: Global,
-    plan: &Plan,
-    literal: &str,
-    place: Option<usize>,
-) -> Result<(), Fail> {
-    let kind = Inputs::new(alloc, plan)?
-        .kind_at(FIRST)
-        .ok_or("no such name")?;
-    let value = read_value(alloc, kind, literal)?;
-    for table in plan.tables() {
-        let columns = table_regions(alloc, plan, table)?;
-        for regions in columns.as_slice() {
-            assert_eq!(rt; place_of(regions.as_slice(), &value), place, "{literal}");
+/// Whether the masks of the one table tell which rules match.
+fn is_told(alloc: Global, plan: &Plan, cut: &CutPlan, literal: &str) -> Result<bool, Fail>
+    requires { cut.now ≡ plan.now }
+{
+    let mut inputs = Inputs::new(alloc, plan)?;
+    give(alloc, &mut inputs, FIRST, literal)?;
+    let earlier = Sequence::new(alloc);
+    for (place, table) in plan.tables().iter().enumerate() {
+        let mask = cut.matching_mask(&inputs, earlier.as_slice(), place, table);
+        if mask.is_none() {
+            return Ok(false);
         }
     }
-    Ok(())
+    Ok(true)
 }
 
-fn are_found(rt: &impl Abort, alloc: Global, row: &Found) -> Result<(), Fail> {
+fn are_told(rt: &impl Abort, alloc: Global, row: &Known) -> Result<(), Fail> {
     let plan = read(rt, alloc, row.0)?;
-    for (literal, place) in row.1 {
-        is_found(rt, alloc, &plan, literal, *place)?;
+    let cut = compile(alloc, &plan)?;
+    for literal in row.1 {
+        let told = is_told(alloc, &plan, &cut, literal)?;
+        assert!(rt; told, "{literal}");
     }
     Ok(())
 }
 
 #[test]
-fn values_are_found_in_their_regions(rt: HostRuntime) -> Result<(), Fail> {
-    for row in &FOUND {
-        are_found(&rt, rt.alloc(), row)?;
+fn masks_tell_of_allowed_values(rt: HostRuntime) -> Result<(), Fail> {
+    for row in &KNOWN {
+        are_told(&rt, rt.alloc(), row)?;
     }
     Ok(())
 }

@@ -1,6 +1,7 @@
-use Rattle.std.proofs.Common.{◌≤◌, length, get_or, subst, ap, sym, ◌∙◌}
+use Rattle.std.proofs.Common.{◌≤◌, length, subst, ap, sym, ◌∙◌}
 use Rattle.std.specs.Prelude.{slice_get}
 use Rattle.cutplan.proofs.ByMasks.{got_at, column_read, more_met, all_met}
+use Rattle.cutplan.proofs.TextSearch.{column_others}
 use Rattle.cutplan.proofs.found.matching_mask.Goals as goal
 
 pub meet-mask-requires : goal.meet-mask-requires
@@ -31,3 +32,9 @@ pub returns : goal.returns
 returns c =
     let listed = c.as_slice-input-items.ensures in
     all_met c.args.given.now c.args.earlier.now c.args.table.now c.loop-column.column c.loop-column.mask (subst (λ inputs. length inputs ≤ c.loop-column.column) listed c.loop-column-test.false) c.loop-column.invariant
+
+pub mask_read-requires : goal.mask_read-requires
+mask_read-requires c =
+    let regions = c.in_ok-regions.ensures.lookup in
+    column_others c.args.plan.now c.args.table.now c.as_slice-input-items.result.now c.args.regions.now c.loop-column.column c.input-item.result c.in_ok-regions.regions.now c.as_slice.result.now
+    c.as_slice-input-items.ensures c.loop-column-test.true c.input-item.is c.requires.regions regions.0 regions.1 c.as_slice.ensures

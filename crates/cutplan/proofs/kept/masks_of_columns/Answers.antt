@@ -1,4 +1,4 @@
-use Rattle.std.proofs.Common.{subst, ap, ◌∙◌}
+use Rattle.std.proofs.Common.{subst}
 use Rattle.cutplan.specs.Masks.{AreMasks}
 use Rattle.cutplan.proofs.Keeping.{all_columns, more_columns}
 use Rattle.cutplan.proofs.kept.masks_of_columns.Goals as goal
