@@ -1,5 +1,5 @@
 -- What a worker holds: claims in work stay so wherever the gate that it has seen leads.
-use Rattle.std.proofs.Common.{◌≡◌, ℕ, true, List, [], ◌∷◌, ◌++◌, map, refl, sym, ap, subst, ◌∙◌, append_assoc}
+use Rattle.std.proofs.Common.{◌≡◌, ℕ, true, List, [], ◌∷◌, ◌++◌, map, sym, ap, subst, ◌∙◌, append_assoc}
 use Rattle.std.specs.List.{All}
 use Rattle.std.proofs.lemmas.Bool.{or_left}
 use Rattle.std.proofs.lemmas.List.Elements.{All-map, All-weaker}
@@ -14,7 +14,6 @@ use Rattle.journal.specs.Laws.{JobsStay}
 use Rattle.journal.specs.Settled.{outcome_of}
 use Rattle.journal.specs.declared.event.Event.{Event}
 use Rattle.journal.specs.Leading.{leads_further}
-use Rattle.claim_terms.specs.Terms.{ForTerms}
 use Rattle.claim_gate.specs.Parts.{GateParts}
 use Rattle.claim_gate.specs.declared.job.Job.{Job}
 use Rattle.claim_gate.proofs.Sharing.{job_stays}

@@ -3,3 +3,4 @@ pub mod Journals
 pub mod Claims
 pub mod Lefts
 pub mod Held
+pub mod Passes

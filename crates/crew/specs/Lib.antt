@@ -1,3 +1,4 @@
 pub mod FaultNumber
 pub mod Workers
 pub mod Sharing
+pub mod Passes

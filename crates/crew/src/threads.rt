@@ -3,6 +3,7 @@ ghost use Rattle.std.specs.Prelude.{◌≡◌, ◌≢◌, ◌↔◌, ◌<◌, �
 ghost use Rattle.journal.specs.Lawful.{Finished};
 ghost use Rattle.claim_terms.specs.Terms.{ForTerms};
 ghost use Rattle.journal.specs.Gate.{LeadsTo};
+ghost use Rattle.crew.specs.Passes.{GoesOn, LeavesWith};
 ghost use Rattle.crew.specs.Workers.{IsWorkerCount};
 ghost use Rattle.crew.specs.declared.fault.RunFault.TheVariants.{Workers, Stopped};
 
@@ -144,13 +145,9 @@ fn in_threads<R: Threads + Wait + Sync, G: Gate + Sync>(
     requires terms { (G.known pass).seen.terms ≡ terms.now }
     requires workers { IsWorkerCount workers }
     requires plan { plan.now ≡ terms.now.plan }
-    ensures own { IfOk result (λ p. G.has_pass gate.now p) }
-    ensures back { IfErr result (λ e. G.has_pass gate.now e.1) }
-    ensures seen { IfOk result (λ p. LeadsTo (G.known pass).seen (G.known p).seen) }
-    ensures seen_back { IfErr result (λ e. LeadsTo (G.known pass).seen (G.known e.1).seen) }
+    ensures goes_on { IfOk result (GoesOn (G.has_pass gate.now) G.known pass) }
     ensures finished { IfOk result (λ p. ForTerms terms.now (λ T. Finished T (G.known p).seen.journal)) }
-    ensures fault { IfErr result (λ e. e.0 ≢ Workers) }
-    ensures stopped { IfErr result (λ e. e.0 ≡ Stopped → (G.known e.1).seen.stopped ≡ true) }
+    ensures leaves { IfErr result (LeavesWith (G.has_pass gate.now) G.known pass) }
 {
     let threads = terms.files().len() + workers;
     thread::scope(
@@ -158,13 +155,9 @@ fn in_threads<R: Threads + Wait + Sync, G: Gate + Sync>(
         rt,
         |scope| -> Result<G::Pass, (RunFault, G::Pass)>
             requires { G.has_pass gate.now pass × ((G.known pass).seen.terms ≡ terms.now) × (plan.now ≡ terms.now.plan) }
-            ensures own { IfOk result (λ p. G.has_pass gate.entry.now p) }
-            ensures back { IfErr result (λ e. G.has_pass gate.entry.now e.1) }
-            ensures seen { IfOk result (λ p. LeadsTo (G.known pass).seen (G.known p).seen) }
-            ensures seen_back { IfErr result (λ e. LeadsTo (G.known pass).seen (G.known e.1).seen) }
+            ensures goes_on { IfOk result (GoesOn (G.has_pass gate.entry.now) G.known pass) }
             ensures finished { IfOk result (λ p. ForTerms terms.entry.now (λ T. Finished T (G.known p).seen.journal)) }
-            ensures fault { IfErr result (λ e. e.0 ≢ Workers) }
-            ensures stopped { IfErr result (λ e. e.0 ≡ Stopped → (G.known e.1).seen.stopped ≡ true) }
+            ensures leaves { IfErr result (LeavesWith (G.has_pass gate.entry.now) G.known pass) }
         {
             let mut own = pass;
             'threads: for number in 0..threads {

@@ -1,13 +1,12 @@
 //! What a worker of a run does.
-ghost use Rattle.std.specs.Prelude.{◌≡◌, ◌≢◌, true, map, IsSome, IfOk, IfErr};
+ghost use Rattle.std.specs.Prelude.{◌≡◌, true, map, IsSome, IfOk, IfErr};
 ghost use Rattle.std.specs.List.{All};
 ghost use Rattle.settlement.specs.Claim.{IsClaimOf};
 ghost use Rattle.journal.specs.Events.{decided};
 ghost use Rattle.journal.specs.Lawful.{Finished};
 ghost use Rattle.claim_terms.specs.Terms.{ForTerms};
-ghost use Rattle.journal.specs.Gate.{LeadsTo};
+ghost use Rattle.crew.specs.Passes.{GoesOn, LeavesWith};
 ghost use Rattle.crew.specs.Sharing.{IsGathered, IsHanded, IsInWork, IsSettledIn, IsTask, settled_by};
-ghost use Rattle.crew.specs.declared.fault.RunFault.TheVariants.{Workers, Stopped};
 
 use crate::fault::RunFault;
 use crate::stopping::stop;
@@ -67,13 +66,9 @@ pub(crate) fn work<R: Wait, G: Gate>(
     requires plan { plan.now ≡ terms.now.plan }
     requires own { G.has_pass gate.now pass }
     requires terms { (G.known pass).seen.terms ≡ terms.now }
-    ensures own { IfOk result (λ p. G.has_pass gate.now p) }
-    ensures back { IfErr result (λ e. G.has_pass gate.now e.1) }
-    ensures seen { IfOk result (λ p. LeadsTo (G.known pass).seen (G.known p).seen) }
-    ensures seen_back { IfErr result (λ e. LeadsTo (G.known pass).seen (G.known e.1).seen) }
+    ensures goes_on { IfOk result (GoesOn (G.has_pass gate.now) G.known pass) }
     ensures finished { IfOk result (λ p. ForTerms terms.now (λ T. Finished T (G.known p).seen.journal)) }
-    ensures fault { IfErr result (λ e. e.0 ≢ Workers) }
-    ensures stopped { IfErr result (λ e. e.0 ≡ Stopped → (G.known e.1).seen.stopped ≡ true) }
+    ensures leaves { IfErr result (LeavesWith (G.has_pass gate.now) G.known pass) }
 {
     match work_on(rt, alloc, terms, plan, gate, pass, turns) {
         Ok(pass) => Ok(pass),
@@ -98,13 +93,9 @@ fn work_on<R: Wait, G: Gate>(
     requires plan { plan.now ≡ terms.now.plan }
     requires own { G.has_pass gate.now pass }
     requires terms { (G.known pass).seen.terms ≡ terms.now }
-    ensures own { IfOk result (λ p. G.has_pass gate.now p) }
-    ensures back { IfErr result (λ e. G.has_pass gate.now e.1) }
-    ensures seen { IfOk result (λ p. LeadsTo (G.known pass).seen (G.known p).seen) }
-    ensures seen_back { IfErr result (λ e. LeadsTo (G.known pass).seen (G.known e.1).seen) }
+    ensures goes_on { IfOk result (GoesOn (G.has_pass gate.now) G.known pass) }
     ensures finished { IfOk result (λ p. ForTerms terms.now (λ T. Finished T (G.known p).seen.journal)) }
-    ensures fault { IfErr result (λ e. e.0 ≢ Workers) }
-    ensures stopped { IfErr result (λ e. e.0 ≡ Stopped → (G.known e.1).seen.stopped ≡ true) }
+    ensures leaves { IfErr result (LeavesWith (G.has_pass gate.now) G.known pass) }
 {
     // Known from here: what holds of every plan.
     let _plan = terms.plan();
@@ -137,7 +128,7 @@ fn work_on<R: Wait, G: Gate>(
 }
 
 // A row of calls: records what is settled, and takes as many claims as there are to be had.
-#[tactic(auto, using(crate::proofs::Held::led_on))]
+#[tactic(auto, using(crate::proofs::Passes::further, crate::proofs::Passes::leaves_later))]
 fn take_turn<R: Wait, G: Gate>(
     rt: &R,
     alloc: Global,
@@ -150,13 +141,9 @@ fn take_turn<R: Wait, G: Gate>(
     requires own { G.has_pass gate.now pass }
     requires terms { (G.known pass).seen.terms ≡ terms.now }
     requires settled { All (IsSettledIn (G.known pass).seen) settled.items }
-    ensures own { IfOk result (λ r. G.has_pass gate.now r.1) }
-    ensures back { IfErr result (λ e. G.has_pass gate.now e.1) }
-    ensures seen { IfOk result (λ r. LeadsTo (G.known pass).seen (G.known r.1).seen) }
-    ensures seen_back { IfErr result (λ e. LeadsTo (G.known pass).seen (G.known e.1).seen) }
+    ensures goes_on { IfOk result (λ r. GoesOn (G.has_pass gate.now) G.known pass r.1) }
     ensures gathered { IfOk result (λ r. IsGathered (G.known r.1).seen r.0) }
-    ensures fault { IfErr result (λ e. e.0 ≢ Workers) }
-    ensures stopped { IfErr result (λ e. e.0 ≡ Stopped → (G.known e.1).seen.stopped ≡ true) }
+    ensures leaves { IfErr result (LeavesWith (G.has_pass gate.now) G.known pass) }
 {
     let turn = turns.begin(rt);
     let pass = match record_all(rt, terms, gate, pass, settled) {
@@ -177,13 +164,9 @@ fn gather<R: Wait, G: Gate>(
 ) -> Result<(Gathered, G::Pass), (RunFault, G::Pass)>
     requires own { G.has_pass gate.now pass }
     requires terms { (G.known pass).seen.terms ≡ terms.now }
-    ensures own { IfOk result (λ r. G.has_pass gate.now r.1) }
-    ensures back { IfErr result (λ e. G.has_pass gate.now e.1) }
-    ensures seen { IfOk result (λ r. LeadsTo (G.known pass).seen (G.known r.1).seen) }
-    ensures seen_back { IfErr result (λ e. LeadsTo (G.known pass).seen (G.known e.1).seen) }
+    ensures goes_on { IfOk result (λ r. GoesOn (G.has_pass gate.now) G.known pass r.1) }
     ensures gathered { IfOk result (λ r. IsGathered (G.known r.1).seen r.0) }
-    ensures fault { IfErr result (λ e. e.0 ≢ Workers) }
-    ensures stopped { IfErr result (λ e. e.0 ≡ Stopped → (G.known e.1).seen.stopped ≡ true) }
+    ensures leaves { IfErr result (LeavesWith (G.has_pass gate.now) G.known pass) }
 {
     // Known from here: a job stays one in each later state of the gate.
     jobs_stay();
@@ -209,7 +192,7 @@ fn gather<R: Wait, G: Gate>(
 }
 
 // Asks the gate what there is to do, and once more where memory is wanting.
-#[tactic(auto, using(crate::proofs::Held::led_on))]
+#[tactic(auto, using(crate::proofs::Passes::further, crate::proofs::Passes::leaves_later))]
 fn take<R: Wait, G: Gate>(
     rt: &R,
     terms: &Terms,
@@ -218,13 +201,9 @@ fn take<R: Wait, G: Gate>(
 ) -> Result<(Task, G::Pass), (RunFault, G::Pass)>
     requires own { G.has_pass gate.now pass }
     requires terms { (G.known pass).seen.terms ≡ terms.now }
-    ensures own { IfOk result (λ r. G.has_pass gate.now r.1) }
-    ensures back { IfErr result (λ e. G.has_pass gate.now e.1) }
-    ensures seen { IfOk result (λ r. LeadsTo (G.known pass).seen (G.known r.1).seen) }
-    ensures seen_back { IfErr result (λ e. LeadsTo (G.known pass).seen (G.known e.1).seen) }
+    ensures goes_on { IfOk result (λ r. GoesOn (G.has_pass gate.now) G.known pass r.1) }
     ensures task { IfOk result (λ r. IsTask (G.known r.1).seen r.0) }
-    ensures fault { IfErr result (λ e. e.0 ≢ Workers) }
-    ensures stopped { IfErr result (λ e. e.0 ≡ Stopped → (G.known e.1).seen.stopped ≡ true) }
+    ensures leaves { IfErr result (LeavesWith (G.has_pass gate.now) G.known pass) }
 {
     match take_once(rt, terms, gate, pass) {
         Ok(taken) => Ok(taken),
@@ -234,7 +213,6 @@ fn take<R: Wait, G: Gate>(
 }
 
 // One call.
-#[tactic(auto, using(crate::proofs::Sections::led))]
 fn take_once<R: Wait, G: Gate>(
     rt: &R,
     terms: &Terms,
@@ -243,13 +221,9 @@ fn take_once<R: Wait, G: Gate>(
 ) -> Result<(Task, G::Pass), (RunFault, G::Pass)>
     requires own { G.has_pass gate.now pass }
     requires terms { (G.known pass).seen.terms ≡ terms.now }
-    ensures own { IfOk result (λ r. G.has_pass gate.now r.1) }
-    ensures back { IfErr result (λ e. G.has_pass gate.now e.1) }
-    ensures seen { IfOk result (λ r. LeadsTo (G.known pass).seen (G.known r.1).seen) }
-    ensures seen_back { IfErr result (λ e. LeadsTo (G.known pass).seen (G.known e.1).seen) }
+    ensures goes_on { IfOk result (λ r. GoesOn (G.has_pass gate.now) G.known pass r.1) }
     ensures task { IfOk result (λ r. IsTask (G.known r.1).seen r.0) }
-    ensures fault { IfErr result (λ e. e.0 ≢ Workers) }
-    ensures stopped { IfErr result (λ e. e.0 ≡ Stopped → (G.known e.1).seen.stopped ≡ true) }
+    ensures leaves { IfErr result (LeavesWith (G.has_pass gate.now) G.known pass) }
 {
     // Known from here: the texts have lists of claims, so that what holds for each list says something.
     terms_are_seen(terms);
@@ -298,12 +272,8 @@ fn record_all<R: Wait, G: Gate>(
     requires own { G.has_pass gate.now pass }
     requires terms { (G.known pass).seen.terms ≡ terms.now }
     requires settled { All (IsSettledIn (G.known pass).seen) settled.items }
-    ensures own { IfOk result (λ p. G.has_pass gate.now p) }
-    ensures back { IfErr result (λ e. G.has_pass gate.now e.1) }
-    ensures seen { IfOk result (λ p. LeadsTo (G.known pass).seen (G.known p).seen) }
-    ensures seen_back { IfErr result (λ e. LeadsTo (G.known pass).seen (G.known e.1).seen) }
-    ensures fault { IfErr result (λ e. e.0 ≢ Workers) }
-    ensures stopped { IfErr result (λ e. e.0 ≡ Stopped → (G.known e.1).seen.stopped ≡ true) }
+    ensures goes_on { IfOk result (GoesOn (G.has_pass gate.now) G.known pass) }
+    ensures leaves { IfErr result (LeavesWith (G.has_pass gate.now) G.known pass) }
 {
     // Known from here: a job stays one in each later state of the gate.
     jobs_stay();
@@ -317,7 +287,7 @@ fn record_all<R: Wait, G: Gate>(
 }
 
 // Hands an outcome in, and once more where memory is wanting. Another worker may have done so already.
-#[tactic(auto, using(crate::proofs::Held::led_on))]
+#[tactic(auto, using(crate::proofs::Passes::further, crate::proofs::Passes::leaves_later))]
 fn record<R: Wait, G: Gate>(
     rt: &R,
     terms: &Terms,
@@ -328,13 +298,9 @@ fn record<R: Wait, G: Gate>(
     requires own { G.has_pass gate.now pass }
     requires terms { (G.known pass).seen.terms ≡ terms.now }
     requires settled { IsSettledIn (G.known pass).seen settled }
-    ensures own { IfOk result (λ p. G.has_pass gate.now p) }
-    ensures back { IfErr result (λ e. G.has_pass gate.now e.1) }
-    ensures seen { IfOk result (λ p. LeadsTo (G.known pass).seen (G.known p).seen) }
-    ensures seen_back { IfErr result (λ e. LeadsTo (G.known pass).seen (G.known e.1).seen) }
+    ensures goes_on { IfOk result (GoesOn (G.has_pass gate.now) G.known pass) }
     ensures decided { IfOk result (λ p. decided (G.known p).seen.journal settled.job.position ≡ true) }
-    ensures fault { IfErr result (λ e. e.0 ≢ Workers) }
-    ensures stopped { IfErr result (λ e. e.0 ≡ Stopped → (G.known e.1).seen.stopped ≡ true) }
+    ensures leaves { IfErr result (LeavesWith (G.has_pass gate.now) G.known pass) }
 {
     // Known from here: a job stays one in each later state of the gate.
     jobs_stay();
@@ -359,13 +325,9 @@ fn record_again<R: Wait, G: Gate>(
     requires own { G.has_pass gate.now pass }
     requires terms { (G.known pass).seen.terms ≡ terms.now }
     requires settled { IsSettledIn (G.known pass).seen settled }
-    ensures own { IfOk result (λ p. G.has_pass gate.now p) }
-    ensures back { IfErr result (λ e. G.has_pass gate.now e.1) }
-    ensures seen { IfOk result (λ p. LeadsTo (G.known pass).seen (G.known p).seen) }
-    ensures seen_back { IfErr result (λ e. LeadsTo (G.known pass).seen (G.known e.1).seen) }
+    ensures goes_on { IfOk result (GoesOn (G.has_pass gate.now) G.known pass) }
     ensures decided { IfOk result (λ p. decided (G.known p).seen.journal settled.job.position ≡ true) }
-    ensures fault { IfErr result (λ e. e.0 ≢ Workers) }
-    ensures stopped { IfErr result (λ e. e.0 ≡ Stopped → (G.known e.1).seen.stopped ≡ true) }
+    ensures leaves { IfErr result (LeavesWith (G.has_pass gate.now) G.known pass) }
 {
     let (handed, pass) = match hand_in(rt, terms, gate, pass, settled) {
         Ok(answer) => answer,
@@ -378,7 +340,6 @@ fn record_again<R: Wait, G: Gate>(
 }
 
 // One call. The claim comes back with its outcome where there is no memory.
-#[tactic(auto, using(crate::proofs::Sections::led))]
 fn hand_in<R: Wait, G: Gate>(
     rt: &R,
     terms: &Terms,
@@ -389,13 +350,9 @@ fn hand_in<R: Wait, G: Gate>(
     requires own { G.has_pass gate.now pass }
     requires terms { (G.known pass).seen.terms ≡ terms.now }
     requires settled { IsSettledIn (G.known pass).seen settled }
-    ensures own { IfOk result (λ r. G.has_pass gate.now r.1) }
-    ensures back { IfErr result (λ e. G.has_pass gate.now e.1) }
-    ensures seen { IfOk result (λ r. LeadsTo (G.known pass).seen (G.known r.1).seen) }
-    ensures seen_back { IfErr result (λ e. LeadsTo (G.known pass).seen (G.known e.1).seen) }
+    ensures goes_on { IfOk result (λ r. GoesOn (G.has_pass gate.now) G.known pass r.1) }
     ensures handed { IfOk result (λ r. IsHanded (G.known r.1).seen settled r.0) }
-    ensures fault { IfErr result (λ e. e.0 ≢ Workers) }
-    ensures stopped { IfErr result (λ e. e.0 ≡ Stopped → (G.known e.1).seen.stopped ≡ true) }
+    ensures leaves { IfErr result (LeavesWith (G.has_pass gate.now) G.known pass) }
 {
     // Known from here: the texts have lists of claims, so that what holds for each list says something.
     terms_are_seen(terms);

@@ -1,4 +1,4 @@
-use Rattle.std.proofs.Common.{◌∷◌, ◌++◌, [], map, sym, ap, ◌∙◌, refl}
+use Rattle.std.proofs.Common.{◌++◌, map, ap, ◌∙◌, refl}
 use Rattle.std.proofs.lemmas.List.Elements.{All-rest}
 use Rattle.std.specs.Vec.Iter.{into_iter_items}
 use Rattle.settlement.specs.Claim.{IsClaimOf}

@@ -1,10 +1,10 @@
 use Rattle.std.proofs.Common.{◌≡◌}
 use Rattle.std.specs.List.{All}
-use Rattle.journal.specs.Gate.{LeadsTo}
+use Rattle.crew.specs.Passes.{GoesOn}
 use Rattle.crew.specs.Sharing.{IsInWork}
 use Rattle.crew.proofs.worker.gather.Given as goal
 
 abbrev pub invariant-calls : goal.invariant-calls
 invariant-calls g l =
-    g.G.Gate.has_pass l.gate l.pass × LeadsTo (g.G.Gate.known l.initial.pass).seen (g.G.Gate.known l.pass).seen
+    GoesOn (g.G.Gate.has_pass l.gate) g.G.Gate.known l.initial.pass l.pass
     × ((g.G.Gate.known l.pass).seen.terms ≡ l.terms) × All (IsInWork (g.G.Gate.known l.pass).seen) l.jobs.items

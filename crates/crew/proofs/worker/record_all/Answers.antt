@@ -1,16 +1,16 @@
 use Rattle.std.proofs.Common.{◌∷◌, sym, ◌∙◌}
 use Rattle.std.proofs.lemmas.List.Elements.{All-head, All-same, All-tail}
 use Rattle.std.specs.Vec.Iter.{into_iter_items}
-use Rattle.journal.specs.Leading.{leads_further}
 use Rattle.crew.specs.Sharing.{IsSettledIn}
 use Rattle.crew.proofs.Held.{all_settled_stay}
+use Rattle.crew.proofs.Passes.{further}
 use Rattle.crew.proofs.worker.record_all.Goals as goal
 
 pub record-requires-clause-settled : goal.record-requires-clause-settled
 record-requires-clause-settled g c κs within =
     let P = IsSettledIn (g.G.Gate.known c.loop-one.pass).seen in
     let rest = into_iter_items c.next.new.self in
-    All-head P c.in-Some.one rest (All-same P (c.in-Some.one ∷ rest) (into_iter_items c.loop-one.one-iterator) (sym c.in-Some.ensures.steps.0) c.loop-one.invariant.3)
+    All-head P c.in-Some.one rest (All-same P (c.in-Some.one ∷ rest) (into_iter_items c.loop-one.one-iterator) (sym c.in-Some.ensures.steps.0) c.loop-one.invariant.2)
 
 pub loop-one-preserved : goal.loop-one-preserved
 loop-one-preserved g c =
@@ -19,9 +19,8 @@ loop-one-preserved g c =
     let P = IsSettledIn before in
     let rest = into_iter_items c.next.new.self in
     let on = c.in-Ok.ensures in (
-      on.own,
-      leads_further (g.G.Gate.known c.args.pass).seen before after c.loop-one.invariant.1 on.seen,
-      on.seen.terms ∙ c.loop-one.invariant.2,
-      all_settled_stay c.jobs_stay.ensures before after rest on.seen
-          (All-tail P c.in-Some.one rest (All-same P (c.in-Some.one ∷ rest) (into_iter_items c.loop-one.one-iterator) (sym c.in-Some.ensures.steps.0) c.loop-one.invariant.3)),
+      further (g.G.Gate.has_pass c.args.gate.now) g.G.Gate.known c.args.pass c.loop-one.pass c.in-Ok.pass c.loop-one.invariant.0 on.goes_on,
+      on.goes_on.seen.terms ∙ c.loop-one.invariant.1,
+      all_settled_stay c.jobs_stay.ensures before after rest on.goes_on.seen
+          (All-tail P c.in-Some.one rest (All-same P (c.in-Some.one ∷ rest) (into_iter_items c.loop-one.one-iterator) (sym c.in-Some.ensures.steps.0) c.loop-one.invariant.2)),
     )

@@ -1,0 +1,52 @@
+-- How passes go on, one after another, up to where a thread leaves a run.
+use Rattle.std.proofs.Common.{◌≡◌, ◌≢◌, true, Result, Ok, Err, subst, sym}
+use Rattle.std.specs.Prelude.{IfOk, IfErr}
+use Rattle.journal.specs.Gate.{LeadsTo}
+use Rattle.journal.specs.Leading.{leads_further, leads_itself}
+use Rattle.claim_gate.specs.Shared.{Known, HadSection}
+use Rattle.crew.specs.Passes.{GoesOn, LeavesWith}
+use Rattle.crew.specs.declared.fault.RunFault.{RunFault}
+use Rattle.crew.specs.declared.fault.RunFault.TheVariants.{Workers, OutOfMemory, Worn, Stopped}
+
+module _ {P : Type 0} (has_pass : P → Type 0) (known : P → Known) where
+  -- a pass that has had a section
+  pub after_section : (old new : P) → has_pass new → HadSection (known old) (known new) → GoesOn has_pass known old new
+  after_section old new own h = record { own = own; seen = leads_further (known old).seen (known new).found (known new).seen h.fresh h.grown }
+
+  -- a pass that knows what the old one did
+  pub unchanged : (old new : P) → has_pass new → known new ≡ known old → GoesOn has_pass known old new
+  unchanged old new own same = record { own = own; seen = subst (λ k. LeadsTo (known old).seen k.seen) (sym same) (leads_itself (known old).seen) }
+
+  -- one behind another
+  pub further : (a b c : P) → GoesOn has_pass known a b → GoesOn has_pass known b c → GoesOn has_pass known a c
+  further a b c first second = record { own = second.own; seen = leads_further (known a).seen (known b).seen (known c).seen first.seen second.seen }
+
+  -- a thread that goes on with a pass, and leaves with what comes of it
+  pub leaves_later : (a b : P) (left : RunFault × P) → GoesOn has_pass known a b → LeavesWith has_pass known b left → LeavesWith has_pass known a left
+  leaves_later a b left first later = record { goes_on = further a b left.1 first later.goes_on; fault = later.fault; stopped = later.stopped }
+
+  -- by a fault of its own
+  pub leaves_by : (a b : P) (fault : RunFault) → GoesOn has_pass known a b → fault ≢ Workers → fault ≢ Stopped → LeavesWith has_pass known a (fault, b)
+  leaves_by a b fault on other own = record { goes_on = on; fault = other; stopped = λ is. absurd (own is) }
+
+  -- for want of memory
+  pub leaves_for_memory : (a b : P) → GoesOn has_pass known a b → LeavesWith has_pass known a (OutOfMemory, b)
+  leaves_for_memory a b on = leaves_by a b OutOfMemory on (λ other. cc) (λ other. cc)
+
+  -- since the gate is stopped
+  pub leaves_stopped : (a b : P) → GoesOn has_pass known a b → (known b).seen.stopped ≡ true → LeavesWith has_pass known a (Stopped, b)
+  leaves_stopped a b on is = record { goes_on = on; fault = λ other. cc; stopped = λ _. is }
+
+  -- since the lock has no ticket left
+  pub leaves_worn : (a b : P) → has_pass b → known b ≡ known a → LeavesWith has_pass known a (Worn, b)
+  leaves_worn a b own same = leaves_by a b Worn (unchanged a b own same) (λ other. cc) (λ other. cc)
+
+  -- the same of an answer
+  pub further_where_ok : {E : Type 0} (a b : P) (answer : Result P E) → GoesOn has_pass known a b → IfOk answer (GoesOn has_pass known b) → IfOk answer (GoesOn has_pass known a)
+  further_where_ok a b (Ok pass) first later = further a b pass first later
+  further_where_ok a b (Err left) first later = tt
+
+  pub leaves_later_where_err : {A : Type 0} (a b : P) (answer : Result A (RunFault × P)) → GoesOn has_pass known a b
+      → IfErr answer (LeavesWith has_pass known b) → IfErr answer (LeavesWith has_pass known a)
+  leaves_later_where_err a b (Ok value) first later = tt
+  leaves_later_where_err a b (Err left) first later = leaves_later a b left first later
