@@ -2,7 +2,7 @@
 use Rattle.std.proofs.Common.{◌≡◌, ℕ, zero, suc, ◌+◌, ◌-◌, ◌<◌, ◌≤◌, List, [], ◌∷◌, ◌++◌, length, get_or, take, map, Some, refl, ap, sym, ◌∙◌, subst, arith}
 use Rattle.std.specs.List.{AllZip, enumerate_from, slice_get}
 use Rattle.std.specs.Option.{option_map_or}
-use Rattle.std.proofs.lemmas.List.{take_all, take_more}
+use Rattle.std.proofs.lemmas.List.{map-append, take_all, take_more}
 use Rattle.std.proofs.lemmas.List.FromFn.{length-enumerate_from, get_or-enumerate_from}
 use Rattle.std.proofs.lemmas.Option.{none-some, same_Some}
 use Rattle.dtable.specs.declared.table.Input.{Input}
@@ -61,6 +61,12 @@ pub more_tables : (p : PlanParts) (tables : List Table) (masks new : List (List 
     → AreKept p (take i tables) masks → (length t.rules ≤ 256 → AreTableMasks t (table_regions p t) kept) → new ≡ masks ++ kept ∷ [] → AreKept p (take (i + 1) tables) new
 more_tables p tables masks new i t kept below is all here pushed =
     one_more (λ (t : Table) (kept : List (List (List ℕ))). length t.rules ≤ 256 → AreTableMasks t (table_regions p t) kept) tables masks new i t kept below is all here pushed
+
+-- what a function makes of one thing more
+pub more_mapped : {X Y : Type 0} (f : X → Y) (xs : List X) (ys new : List Y) (i : ℕ) (x : X) (y : Y) → i < length xs → x ≡ get_or xs i x → ys ≡ map f (take i xs) → y ≡ f x → new ≡ ys ++ y ∷ [] → new ≡ map f (take (i + 1) xs)
+more_mapped f xs ys new i x y below is all at pushed =
+    pushed ∙ ap (λ zs. zs ++ y ∷ []) all ∙ ap (λ z. map f (take i xs) ++ z ∷ []) at ∙ sym (map-append f (take i xs) (x ∷ []))
+    ∙ ap (map f) (sym (take_more xs i x below ∙ ap (λ z. take i xs ++ z ∷ []) (sym is)))
 
 -- what stands at a place on one side has its other at that place
 other_at : {X Y : Type 0} (R : X → Y → Type 0) (xs : List X) (ys : List Y) (i : ℕ) (x : X) (y : Y) → AllZip R xs ys → slice_get xs i ≡ Some x → y ≡ get_or ys i y → R x y

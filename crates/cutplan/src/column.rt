@@ -13,21 +13,6 @@ use dtable::{Hit, Input, Origin, Output, Plan, Sequence, Table};
 use feel_tests::Kind;
 use std::alloc::{AllocError, Global};
 
-/// The regions of each column of these tables, in order.
-pub fn all_regions(
-    alloc: Global,
-    plan: &Plan,
-    tables: &[Table],
-) -> Result<Sequence<Sequence<Sequence<Region>>>, AllocError>
-    ensures { IfOk result (λ found. found ≡ map (table_regions plan.now) tables.now) }
-{
-    let mut found = Sequence::new(alloc);
-    for table in tables {
-        found.push(table_regions(alloc, plan, table)?)?;
-    }
-    Ok(found)
-}
-
 /// The regions of each column of a table.
 pub fn table_regions(
     alloc: Global,

@@ -1,4 +1,4 @@
-//! A plan that can be checked.
+//! A plan that can be checked, and is valued by masks.
 ghost use Rattle.std.specs.Prelude.{◌≡◌, ◌≤◌, ◌<◌, ◌-◌, ◌+◌, ◌^◌, ℕ, [], false, Some, IfOk, IfErr, IfSome, OnOk, OnSome, length, slice_get};
 ghost use Rattle.dtable.specs.Environment.{answers_of, table_value};
 ghost use Rattle.dtable.specs.HitPolicy.{Gives, by_hit};
@@ -8,10 +8,10 @@ ghost use Rattle.cutplan.specs.Masks.{has_rule, rules_in, AreMasksOf, HasFewRule
 ghost use Rattle.cutplan.specs.declared.mask.TheConstants.{MASK_RULES};
 ghost use Rattle.cutplan.specs.Numbered.{cell_limit as CELL_LIMIT, IsTableNumber, cells_of, gaps_of, overlaps_of, IsWide};
 
-use crate::column::{all_regions, table_regions};
+use crate::column::table_regions;
 use crate::fault::CheckFault;
 use crate::found::matching_mask;
-use crate::kept::masks_of;
+use crate::kept::regions_and_masks;
 use crate::mask::{MASK_RULES, rules_in};
 use crate::region::Region;
 use crate::{gap, overlap};
@@ -21,7 +21,8 @@ use dtable::{
 use std::alloc::{AllocError, Global};
 use std::marker::Model;
 
-/// A plan that can be checked, which contracts see as the plan. It borrows the plan, and keeps the masks of its columns.
+/// A plan that can be checked, which contracts see as the plan. It borrows the plan, and keeps the regions of its columns and
+/// their masks.
 #[derive(Debug, Drop)]
 pub struct CutPlan<'a> {
     plan: &'a Plan,
@@ -40,12 +41,11 @@ impl<'a> Model for CutPlan<'a> {
     ghost invariant = { λ c. IsCut c.plan.now c.regions c.masks };
 }
 
-/// Makes the plan ready for its check.
+/// Makes the plan ready for its check and for values by masks.
 pub fn compile(alloc: Global, plan: &Plan) -> Result<CutPlan<'_>, AllocError>
     ensures { IfOk result (λ made. made ≡ plan.now) }
 {
-    let regions = all_regions(alloc, plan, plan.tables())?;
-    let masks = masks_of(alloc, plan, plan.tables())?;
+    let (regions, masks) = regions_and_masks(alloc, plan, plan.tables())?;
     Ok(CutPlan {
         plan,
         regions,
@@ -125,7 +125,8 @@ impl<'a> CutPlan<'a> {
         Ok(answers)
     }
 
-    // The answers of the table at the place, behind the tables with these answers: by masks, where they tell.
+    // The answers of the table at the place, behind the tables with these answers: by masks, where they tell, and else as
+    // `dtable` values it. They don't where a value is missing, of another kind, or not allowed.
     fn table_value(
         &self,
         alloc: Global,

@@ -1,5 +1,5 @@
 //! The masks that a plan keeps: of each table, of each of its input columns, one for each region.
-ghost use Rattle.std.specs.Prelude.{◌≡◌, ◌≤◌, IfOk, length};
+ghost use Rattle.std.specs.Prelude.{◌≡◌, ◌≤◌, IfOk, length, map};
 ghost use Rattle.cutplan.specs.Masks.{AreKept, AreMasks, AreTableMasks};
 ghost use Rattle.cutplan.specs.Regions.{table_regions};
 ghost use Rattle.cutplan.specs.declared.mask.TheConstants.{MASK_RULES};
@@ -10,34 +10,42 @@ use crate::region::Region;
 use dtable::{Plan, Sequence, Table};
 use std::alloc::{AllocError, Global};
 
-/// The masks of these tables of a plan, in order.
-pub fn masks_of(
+/// The regions of these tables of a plan, and their masks, in order.
+pub fn regions_and_masks(
     alloc: Global,
     plan: &Plan,
     tables: &[Table],
-) -> Result<Sequence<Sequence<Sequence<[u64; 4]>>>, AllocError>
-    ensures { IfOk result (λ masks. AreKept plan.now tables.now masks) }
+) -> Result<
+    (
+        Sequence<Sequence<Sequence<Region>>>,
+        Sequence<Sequence<Sequence<[u64; 4]>>>,
+    ),
+    AllocError,
+>
+    ensures { IfOk result (λ kept. (kept.0 ≡ map (table_regions plan.now) tables.now) × AreKept plan.now tables.now kept.1) }
 {
+    let mut regions = Sequence::new(alloc);
     let mut masks = Sequence::new(alloc);
     for table in tables {
-        masks.push(masks_of_table(alloc, plan, table)?)?;
+        let columns = table_regions(alloc, plan, table)?;
+        masks.push(masks_of_table(alloc, table, columns.as_slice())?)?;
+        regions.push(columns)?;
     }
-    Ok(masks)
+    Ok((regions, masks))
 }
 
 // The masks of a table's columns; none where it has more rules than a mask has bits.
 fn masks_of_table(
     alloc: Global,
-    plan: &Plan,
     table: &Table,
+    columns: &[Sequence<Region>],
 ) -> Result<Sequence<Sequence<[u64; 4]>>, AllocError>
-    ensures { IfOk result (λ masks. length table.now.rules ≤ MASK_RULES → AreTableMasks table.now (table_regions plan.now table.now) masks) }
+    ensures { IfOk result (λ masks. length table.now.rules ≤ MASK_RULES → AreTableMasks table.now columns.now masks) }
 {
     if table.rules.len() > MASK_RULES {
         return Ok(Sequence::new(alloc));
     }
-    let columns = table_regions(alloc, plan, table)?;
-    masks_of_columns(alloc, table, columns.as_slice())
+    masks_of_columns(alloc, table, columns)
 }
 
 // The masks of these columns, which are a table's first.

@@ -1,12 +1,15 @@
-//! The check of decision tables (DMN 1.4): which inputs no rule covers, and which pairs of rules can match together.
+//! The check of decision tables (DMN 1.4): which inputs no rule covers, and which pairs of rules can match together; and
+//! their value by masks.
 //!
 //! `compile` makes a `CutPlan`, which borrows its plan and values it as the plan does. The literals of a column cut its
 //! values into `Region`s, within which each cell holds of all values or of none; so `gaps` tries one value of each.
-//! `overlaps` lists the pairs of rules that share an allowed input. Tables come from `dtable`, cells and values from
-//! `feel_tests`.
+//! `overlaps` lists the pairs of rules that share an allowed input. A region's mask has the rules whose cell holds in it:
+//! the rules of a table that match are those that the masks of the regions of what it reads have all. Tables, and their
+//! answers once the rules are known, come from `dtable`, cells and values from `feel_tests`, the list of rules from `smallvec`.
 //!
 //! Begin with `specs/Regions.antt`, which says what the regions of a column are, and `specs/Check.antt`, which says what
-//! gaps and overlaps are; then read `cut_plan.rt`, whose calls carry the promises, and `law.rt`.
+//! gaps and overlaps are; `specs/Masks.antt` and `specs/Found.antt` say what masks are, and what they tell. Then read
+//! `cut_plan.rt`, whose calls carry the promises, and `law.rt`.
 #![tactic(auto)]
 
 mod candidate;
