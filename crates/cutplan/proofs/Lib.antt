@@ -25,3 +25,4 @@ pub mod Keeping
 pub mod ByMasks
 pub mod FirstRules
 pub mod MaskLists
+pub mod Sought
