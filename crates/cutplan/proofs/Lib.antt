@@ -26,3 +26,4 @@ pub mod ByMasks
 pub mod FirstRules
 pub mod MaskLists
 pub mod TextSearch
+pub mod Sought

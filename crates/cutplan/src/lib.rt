@@ -25,6 +25,7 @@ mod lookup;
 mod mask;
 mod overlap;
 mod region;
+mod rising;
 mod stretch;
 #[cfg(test)]
 mod tests;
