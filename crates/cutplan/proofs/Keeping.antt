@@ -1,7 +1,7 @@
 -- Masks are kept one by one: of regions, of columns, of tables; and each is found at its place.
-use Rattle.std.proofs.Common.{◌≡◌, ℕ, zero, suc, ◌+◌, ◌-◌, ◌<◌, ◌≤◌, List, [], ◌∷◌, ◌++◌, length, get_or, take, map, Some, refl, ap, sym, ◌∙◌, subst, arith}
+use Rattle.std.proofs.Common.{◌≡◌, ℕ, zero, suc, ◌+◌, ◌-◌, ◌<◌, ◌≤◌, List, [], ◌∷◌, ◌++◌, length, get_or, take, map, Option, Some, None, refl, ap, sym, ◌∙◌, subst, arith}
 use Rattle.std.specs.List.{All, AllZip, enumerate_from, slice_get}
-use Rattle.std.specs.Option.{option_map_or}
+use Rattle.std.specs.Option.{OnSome, option_map_or}
 use Rattle.std.proofs.lemmas.List.{map-append, take_all, take_more}
 use Rattle.std.proofs.lemmas.List.FromFn.{length-enumerate_from, get_or-enumerate_from}
 use Rattle.std.proofs.lemmas.Option.{none-some, same_Some}
@@ -97,6 +97,14 @@ few_at (t ∷ ts) (suc k) all = few_at ts k (λ i d below. all (suc i) d (omega 
 
 pub has_few : (p : PlanParts) (number : ℕ) → All (λ t. length t.rules ≤ 256) p.tables → HasFewRules p number
 has_few p number all = few_at p.tables (number - 1) all
+
+pub few_of : (tables : List Table) (k : ℕ) (t : Table) → All (λ t. length t.rules ≤ 256) tables → slice_get tables k ≡ Some t → length t.rules ≤ 256
+few_of tables k t all at = subst (λ found. option_map_or (λ x. length x.rules) found 0 ≤ 256) at (few_at tables k all)
+
+-- what holds in any case holds on an answer
+pub on_some : {X : Type 0} (o : Option X) (P : Type 0) → P → OnSome o P
+on_some (Some x) P holds = holds
+on_some None P holds = tt
 
 -- what is kept of a plan
 pub cut_of : (p : PlanParts) (regions_kept : List (List (List Region))) (masks_kept : List (List (List (List ℕ)))) → regions_kept ≡ map (table_regions p) p.tables → AreKept p p.tables masks_kept → IsPlan p → IsCut p regions_kept masks_kept

@@ -12,7 +12,7 @@ use crate::column::table_regions;
 use crate::fault::CheckFault;
 use crate::found::matching_mask;
 use crate::kept::regions_and_masks;
-use crate::mask::{MASK_RULES, rules_in};
+use crate::mask::rules_in;
 use crate::region::Region;
 use crate::{gap, overlap};
 use dtable::{
@@ -156,9 +156,6 @@ impl<'a> CutPlan<'a> {
         ensures few { OnSome result (length table.now.rules ≤ MASK_RULES) }
         ensures mask { IfSome result (λ mask. IsMatchingMask given.now earlier.now table.now mask) }
     {
-        if table.rules.len() > MASK_RULES {
-            return None;
-        }
         let regions = self.regions.as_slice().get(place)?;
         let masks = self.masks.as_slice().get(place)?;
         matching_mask(
