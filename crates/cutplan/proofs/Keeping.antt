@@ -1,16 +1,17 @@
 -- Masks are kept one by one: of regions, of columns, of tables; and each is found at its place.
-use Rattle.std.proofs.Common.{◌≡◌, ℕ, zero, suc, ◌+◌, ◌-◌, ◌<◌, ◌≤◌, List, [], ◌∷◌, ◌++◌, length, get_or, take, map, Some, refl, ap, sym, ◌∙◌, subst, arith}
-use Rattle.std.specs.List.{AllZip, enumerate_from, slice_get}
-use Rattle.std.specs.Option.{option_map_or}
+use Rattle.std.proofs.Common.{◌≡◌, ℕ, zero, suc, ◌+◌, ◌-◌, ◌<◌, ◌≤◌, List, [], ◌∷◌, ◌++◌, length, get_or, take, map, Option, Some, None, refl, ap, sym, ◌∙◌, subst, arith}
+use Rattle.std.specs.List.{All, AllZip, enumerate_from, slice_get}
+use Rattle.std.specs.Option.{OnSome, option_map_or}
 use Rattle.std.proofs.lemmas.List.{map-append, take_all, take_more}
 use Rattle.std.proofs.lemmas.List.FromFn.{length-enumerate_from, get_or-enumerate_from}
 use Rattle.std.proofs.lemmas.Option.{none-some, same_Some}
 use Rattle.dtable.specs.declared.table.Input.{Input}
 use Rattle.dtable.specs.declared.table.Table.{Table}
-use Rattle.dtable.specs.Plan.{PlanParts}
+use Rattle.dtable.specs.Plan.{PlanParts, IsPlan}
 use Rattle.cutplan.specs.declared.region.Region.{Region}
 use Rattle.cutplan.specs.Regions.{columns, columns_from, regions, table_regions}
-use Rattle.cutplan.specs.Masks.{is_marked, Marks, AreMasks, AreTableMasks, AreKept, HasFewRules, IsColumnNumber, AreMasksOf}
+use Rattle.cutplan.specs.Masks.{is_marked, Marks, AreMasks, AreTableMasks, AreKept, IsColumnNumber, AreMasksOf}
+use Rattle.cutplan.specs.Found.{IsCut}
 
 all_push : {X Y : Type 0} (R : X → Y → Type 0) (xs : List X) (ys : List Y) (x : X) (y : Y) → AllZip R xs ys → R x y → AllZip R (xs ++ x ∷ []) (ys ++ y ∷ [])
 all_push R [] [] x y all r = (r, tt)
@@ -84,6 +85,30 @@ at_place (y ∷ ys) (suc n) below = at_place ys n (omega (arith, below))
 columns_long : (p : PlanParts) (t : Table) (k : ℕ) (inputs : List Input) → length (map regions (columns_from p t k inputs)) ≡ length inputs
 columns_long p t k [] = refl
 columns_long p t k (i ∷ is) = ap suc (columns_long p t (k + 1) is)
+
+-- the table of this number has no more rules than a mask has bits
+abbrev pub HasFewRules : PlanParts → ℕ → Type 0
+HasFewRules p table = option_map_or (λ t. length t.rules) (slice_get p.tables (table - 1)) 0 ≤ 256
+
+few_at : (tables : List Table) (k : ℕ) → All (λ t. length t.rules ≤ 256) tables → option_map_or (λ t. length t.rules) (slice_get tables k) 0 ≤ 256
+few_at [] k all = omega arith
+few_at (t ∷ ts) zero all = all 0 t (omega arith)
+few_at (t ∷ ts) (suc k) all = few_at ts k (λ i d below. all (suc i) d (omega (arith, below)))
+
+pub has_few : (p : PlanParts) (number : ℕ) → All (λ t. length t.rules ≤ 256) p.tables → HasFewRules p number
+has_few p number all = few_at p.tables (number - 1) all
+
+pub few_of : (tables : List Table) (k : ℕ) (t : Table) → All (λ t. length t.rules ≤ 256) tables → slice_get tables k ≡ Some t → length t.rules ≤ 256
+few_of tables k t all at = subst (λ found. option_map_or (λ x. length x.rules) found 0 ≤ 256) at (few_at tables k all)
+
+-- what holds in any case holds on an answer
+pub on_some : {X : Type 0} (o : Option X) (P : Type 0) → P → OnSome o P
+on_some (Some x) P holds = holds
+on_some None P holds = tt
+
+-- what is kept of a plan
+pub cut_of : (p : PlanParts) (regions_kept : List (List (List Region))) (masks_kept : List (List (List (List ℕ)))) → regions_kept ≡ map (table_regions p) p.tables → AreKept p p.tables masks_kept → IsPlan p → IsCut p regions_kept masks_kept
+cut_of p regions_kept masks_kept regions masks plan = record { regions = regions; masks = masks; few = λ k d below. (plan.limits.each_table k d below).rules }
 
 -- a table's masks are kept at its place
 pub table_within : (p : PlanParts) (masks : List (List (List (List ℕ)))) (number : ℕ) → AreKept p p.tables masks → 1 ≤ number → number ≤ length p.tables → number - 1 < length masks

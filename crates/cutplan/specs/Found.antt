@@ -1,5 +1,5 @@
 -- What is found of a table's rules by the masks of its columns. Tables, rules, columns and regions count from 0 here.
-use Rattle.std.specs.Prelude.{◌≡◌, ℕ, ◌-◌, ◌==◌, nat_lt, Bool, false, ◌&&◌, List, length, [], filter, map, Some, None, Contains, slice_get, IsTrue}
+use Rattle.std.specs.Prelude.{◌≡◌, ℕ, ◌-◌, ◌≤◌, ◌==◌, nat_lt, Bool, false, ◌&&◌, List, length, [], filter, map, Some, None, All, Contains, slice_get, IsTrue}
 use Rattle.std.specs.List.{range_with_len}
 use Rattle.std.specs.Int.{bit_at}
 use Rattle.std.specs.List.Sorted.{IsSortedBy}
@@ -57,7 +57,8 @@ pub record IsMatchingMask (given : List Slot) (earlier : List (List Answer)) (t 
 abbrev pub places_set : ℕ → ℕ → ℕ → List ℕ
 places_set word first width = filter (λ place. bit_at word (place - first) == 1) (range_with_len first width)
 
--- what a cut plan keeps: the regions of each column of each table, and their masks
+-- what a cut plan keeps: the regions of each column of each table, and their masks; no table has more rules than a mask has bits
 pub record IsCut (p : PlanParts) (regions_kept : List (List (List Region))) (masks_kept : List (List (List (List ℕ)))) : Type 0 where
   pub regions : regions_kept ≡ map (table_regions p) p.tables
   pub masks : AreKept p p.tables masks_kept
+  pub few : All (λ t. length t.rules ≤ 256) p.tables

@@ -47,10 +47,6 @@ AreTableMasks t columns masks = AllZip (λ (c : ℕ × List Region) (kept : List
 abbrev pub AreKept : PlanParts → List Table → List (List (List (List ℕ))) → Type 0
 AreKept p tables masks = AllZip (λ (t : Table) (kept : List (List (List ℕ))). length t.rules ≤ 256 → AreTableMasks t (table_regions p t) kept) tables masks
 
--- the table of this number has no more rules than a mask has bits
-abbrev pub HasFewRules : PlanParts → ℕ → Type 0
-HasFewRules p table = option_map_or (λ t. length t.rules) (slice_get p.tables (table - 1)) 0 ≤ 256
-
 -- the table of this number has an input column of this number, from 1
 abbrev pub IsColumnNumber : PlanParts → ℕ → ℕ → Type 0
 IsColumnNumber p table column = (1 ≤ column) × (column ≤ option_map_or (λ t. length t.inputs) (slice_get p.tables (table - 1)) 0)

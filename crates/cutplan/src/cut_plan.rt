@@ -4,7 +4,7 @@ ghost use Rattle.dtable.specs.Environment.{answers_of, table_value};
 ghost use Rattle.dtable.specs.HitPolicy.{Gives, by_hit};
 ghost use Rattle.cutplan.specs.Check.{cells, gaps, overlaps};
 ghost use Rattle.cutplan.specs.Found.{IsMatchingMask};
-ghost use Rattle.cutplan.specs.Masks.{has_rule, rules_in, AreMasksOf, HasFewRules, IsColumnNumber};
+ghost use Rattle.cutplan.specs.Masks.{has_rule, rules_in, AreMasksOf, IsColumnNumber};
 ghost use Rattle.cutplan.specs.declared.mask.TheConstants.{MASK_RULES};
 ghost use Rattle.cutplan.specs.Numbered.{cell_limit as CELL_LIMIT, IsTableNumber, cells_of, gaps_of, overlaps_of, IsWide};
 
@@ -12,7 +12,7 @@ use crate::column::table_regions;
 use crate::fault::CheckFault;
 use crate::found::matching_mask;
 use crate::kept::regions_and_masks;
-use crate::mask::{MASK_RULES, rules_in};
+use crate::mask::rules_in;
 use crate::region::Region;
 use crate::{gap, overlap};
 use dtable::{
@@ -42,6 +42,7 @@ impl<'a> Model for CutPlan<'a> {
 }
 
 /// Makes the plan ready for its check and for values by masks.
+#[tactic(auto, using(crate::proofs::Keeping::cut_of))]
 pub fn compile(alloc: Global, plan: &Plan) -> Result<CutPlan<'_>, AllocError>
     ensures { IfOk result (λ made. made ≡ plan.now) }
 {
@@ -100,7 +101,6 @@ impl<'a> CutPlan<'a> {
     pub fn masks(&self, table: usize, column: usize) -> &[[u64; 4]]
         requires table { IsTableNumber self.now table }
         requires column { IsColumnNumber self.now table column }
-        requires few { HasFewRules self.now table }
         ensures { AreMasksOf self.now table column result.now }
     {
         let columns = &self.masks.as_slice()[table - 1];
@@ -156,9 +156,6 @@ impl<'a> CutPlan<'a> {
         ensures few { OnSome result (length table.now.rules ≤ MASK_RULES) }
         ensures mask { IfSome result (λ mask. IsMatchingMask given.now earlier.now table.now mask) }
     {
-        if table.rules.len() > MASK_RULES {
-            return None;
-        }
         let regions = self.regions.as_slice().get(place)?;
         let masks = self.masks.as_slice().get(place)?;
         matching_mask(
