@@ -205,7 +205,10 @@ fn a_table_is_answered_for_the_rules_that_match(rt: HostRuntime) -> Result<(), F
     let mut inputs = Inputs::new(alloc, &plan)?;
     give(alloc, &mut inputs, X, "2")?;
     let earlier = Sequence::new(alloc);
-    assert_eq!(rt; first_read(&plan, &inputs, earlier.as_slice()), Some(20_000));
+    assert_eq!(rt;
+        first_read(&plan, &inputs, earlier.as_slice()),
+        Some(20_000)
+    );
     for table in plan.tables() {
         let answers = table_value(alloc, &inputs, earlier.as_slice(), table)?;
         assert!(rt; is_number(answers.as_slice(), 10_000));
