@@ -5,7 +5,6 @@ pub mod Counting
 pub mod Pairing
 pub mod Integers
 pub mod Alike
-pub mod Marking
 pub mod Ordered
 pub mod CutLists
 pub mod Regionwise
@@ -26,3 +25,4 @@ pub mod ByMasks
 pub mod FirstRules
 pub mod MaskLists
 pub mod Sought
+pub mod Partners

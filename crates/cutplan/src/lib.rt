@@ -9,7 +9,6 @@
 //! gaps and overlaps are; then read `cut_plan.rt`, whose calls carry the promises, and `law.rt`.
 #![tactic(auto)]
 
-mod candidate;
 mod column;
 mod cut_plan;
 mod cuts;
@@ -23,6 +22,7 @@ mod mask;
 mod overlap;
 mod region;
 mod rising;
+mod sharing;
 mod stretch;
 #[cfg(test)]
 mod tests;
