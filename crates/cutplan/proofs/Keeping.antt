@@ -77,7 +77,7 @@ other_at R (z ∷ zs) (w ∷ ws) zero x y all at is = subst (λ a. R a y) (same_
 other_at R (z ∷ zs) (w ∷ ws) (suc i) x y all at is = other_at R zs ws i x y all.1 at is
 
 -- there is something at each place
-at_place : {X : Type 0} (xs : List X) (n : ℕ) → n < length xs → (x : X) × (slice_get xs n ≡ Some x)
+pub at_place : {X : Type 0} (xs : List X) (n : ℕ) → n < length xs → (x : X) × (slice_get xs n ≡ Some x)
 at_place [] n below = absurd (omega (arith, below))
 at_place (y ∷ ys) zero below = (y, refl)
 at_place (y ∷ ys) (suc n) below = at_place ys n (omega (arith, below))

@@ -5,7 +5,6 @@ pub mod Counting
 pub mod Pairing
 pub mod Integers
 pub mod Alike
-pub mod Marking
 pub mod Ordered
 pub mod CutLists
 pub mod Regionwise
@@ -27,3 +26,4 @@ pub mod FirstRules
 pub mod MaskLists
 pub mod TextSearch
 pub mod Sought
+pub mod Partners

@@ -60,7 +60,7 @@ least_bit (suc zero) (suc (suc y)) a b = absurd (omega (arith, b))
 least_bit (suc (suc x)) y a b = absurd (omega (arith, a))
 
 -- a list of four, by a function
-four : (f : ℕ → ℕ) (k : ℕ) → k < 4 → get_or (f 0 ∷ f 1 ∷ f 2 ∷ f 3 ∷ []) k 0 ≡ f k
+pub four : (f : ℕ → ℕ) (k : ℕ) → k < 4 → get_or (f 0 ∷ f 1 ∷ f 2 ∷ f 3 ∷ []) k 0 ≡ f k
 four f zero small = refl
 four f (suc zero) small = refl
 four f (suc (suc zero)) small = refl

@@ -1,19 +1,17 @@
 -- What the private functions of the check compute.
-use Rattle.std.specs.Prelude.{ℕ, ◌-◌, ◌==◌, Bool, true, false, not, ◌&&◌, ◌||◌, List, [], ◌∷◌, filter, drop, slice_get, unwrap_or, if◌then◌else◌}
+use Rattle.std.specs.Prelude.{ℕ, ◌-◌, ◌==◌, Bool, true, false, not, ◌&&◌, ◌||◌, List, [], ◌∷◌, filter, length, drop, slice_get, if◌then◌else◌}
 use Rattle.std.specs.List.{list_any, list_all}
 use Rattle.std.specs.Option.{option_map_or}
 use Rattle.feel_tests.specs.Holds.{is_equal}
 use Rattle.feel_tests.specs.declared.kind.Kind.{Kind}
 use Rattle.feel_tests.specs.declared.kind.Kind.TheVariants as kinds
 use Rattle.feel_tests.specs.declared.value.Value.{Value}
-use Rattle.dtable.specs.declared.table.Rule.{Rule}
 use Rattle.dtable.specs.declared.table.Table.{Table}
-use Rattle.cutplan.specs.declared.candidate.Candidate.{Candidate}
 use Rattle.cutplan.specs.declared.region.Region.{Region}
 use Rattle.dtable.specs.Plan.{has_kind}
-use Rattle.cutplan.specs.Regions.{holds_in}
+use Rattle.cutplan.specs.Masks.{has_rule}
 use Rattle.cutplan.specs.Values.{is_before, with_value}
-use Rattle.cutplan.specs.Check.{covers, holds_at, meet_in, rule_cells}
+use Rattle.cutplan.specs.Check.{covers, holds_at, rule_cells}
 
 -- one literal more, if it is of the kind
 abbrev pub with_literal : Kind → List Value → Value → List Value
@@ -51,22 +49,17 @@ uncovered t column rules cell = not (list_any (λ rule. covers (drop column (rul
 abbrev pub alive_in : Table → ℕ → Region → List ℕ → List ℕ
 alive_in t column region rules = filter (λ rule. holds_at t rule column region) rules
 
--- the rule's cell in the column, if it has one, holds in the region
-abbrev pub rule_holds : ℕ → Region → Rule → Bool
-rule_holds column region rule = option_map_or (λ cell. holds_in cell region) (slice_get rule.cells column) true
+-- masks of four words
+abbrev pub is_whole : List ℕ → Bool
+is_whole mask = length mask == 4
 
--- a pair before any region
-abbrev pub candidate_of : ℕ × ℕ → Candidate
-candidate_of pair = record { rules = pair; meets = false }
+abbrev pub are_whole : List (List ℕ) → Bool
+are_whole masks = list_all is_whole masks
 
--- a pair, and whether its rules hold in one of these regions of the column
-abbrev pub candidate_in : Table → ℕ → List Region → ℕ × ℕ → Candidate
-candidate_in t column regions pair = record { rules = pair; meets = meet_in t (pair.0 - 1) (pair.1 - 1) column regions }
+-- one of the masks has both rules
+abbrev pub share : List (List ℕ) → ℕ → ℕ → Bool
+share masks first second = list_any (λ mask. has_rule mask first && has_rule mask second) masks
 
--- what is listed of the rule with this number
-abbrev pub is_held : List Bool → ℕ → Bool
-is_held holds rule = unwrap_or (slice_get holds (rule - 1)) true
-
--- a pair, which meets also where both of its rules are held
-abbrev pub marked : List Bool → Candidate → Candidate
-marked holds candidate = record candidate { meets = candidate.meets || (is_held holds candidate.rules.0 && is_held holds candidate.rules.1) }
+-- of each column, one of the masks has both rules
+abbrev pub share_all : List (List (List ℕ)) → ℕ → ℕ → Bool
+share_all columns first second = list_all (λ masks. share masks first second) columns

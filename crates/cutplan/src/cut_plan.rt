@@ -74,9 +74,9 @@ impl<'a> CutPlan<'a> {
         requires { IsTableNumber self.now table }
         ensures { IfOk result (λ found. found.items ≡ overlaps_of self.now table) }
     {
+        let masks = &self.masks.as_slice()[table - 1];
         let table = &self.plan.tables()[table - 1];
-        let columns = table_regions(alloc, self.plan, table)?;
-        overlap::overlaps(alloc, table, columns.as_slice())
+        overlap::overlaps(alloc, table.rules.len(), masks.as_slice())
     }
 
     /// The cells of a table's check that no rule covers, in order: column by column from the left, the last changing

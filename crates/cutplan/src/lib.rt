@@ -12,7 +12,6 @@
 //! `cut_plan.rt`, whose calls carry the promises, and `law.rt`.
 #![tactic(auto)]
 
-mod candidate;
 mod column;
 mod cut_plan;
 mod cuts;
@@ -26,6 +25,7 @@ mod mask;
 mod overlap;
 mod region;
 mod rising;
+mod sharing;
 mod stretch;
 #[cfg(test)]
 mod tests;

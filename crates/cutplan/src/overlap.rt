@@ -1,109 +1,71 @@
 //! Overlaps: pairs of rules that share an allowed input.
 //!
-//! Column by column, the pairs that hold in none of its regions drop out. Each rule's cell is asked once in each region,
-//! and not once for each pair: lists of some thousands of codes, of which each rule names a few, take seconds.
-ghost use Rattle.std.specs.Prelude.{◌≡◌, ◌+◌, ◌-◌, ◌<◌, ◌++◌, IfOk, OnOk, filter, map, length};
-ghost use Rattle.cutplan.specs.Check.{pairs, pairs_with, meet, meet_in, holds_at, rule_cells};
-ghost use Rattle.cutplan.specs.Parts.{candidate_in, rule_holds};
+//! Of each rule, the rules that it shares a region of a column with are those of the masks that have it. So a rule is
+//! asked of each mask once, and not each pair in each region.
+ghost use Rattle.std.specs.Prelude.{◌≡◌, ◌+◌, ◌-◌, ◌<◌, ◌≤◌, ◌++◌, ◌∷◌, [], IfOk, IsTrue, OnOk, filter, length, if◌then◌else◌};
+ghost use Rattle.std.specs.List.{list_all};
+ghost use Rattle.cutplan.specs.Check.{pairs, pairs_with, holds_at, rule_cells};
+ghost use Rattle.cutplan.specs.Masks.{has_rule};
+ghost use Rattle.cutplan.specs.Parts.{are_whole, share_all};
+ghost use Rattle.cutplan.specs.declared.mask.TheConstants.{MASK_RULES};
 
-use crate::candidate::{Candidate, kept, mark, unmet};
 use crate::region::{Region, holds_in};
-use dtable::{Rule, Sequence, Table};
+use crate::sharing::{has_rule, partners};
+use dtable::{Sequence, Table};
 use feel_tests::Cell;
 use std::alloc::{AllocError, Global};
 
-/// The pairs of rules, numbered from 1, that hold in a region of each column: the smaller first, in order.
+/// The pairs of so many rules, numbered from 1, that have a mask of each column in common: the smaller first, in order.
 pub fn overlaps(
     alloc: Global,
-    table: &Table,
-    columns: &[Sequence<Region>],
+    count: usize,
+    columns: &[Sequence<[u64; 4]>],
 ) -> Result<Vec<(usize, usize)>, AllocError>
-    ensures { IfOk result (λ found. found.items ≡ filter (λ pair. meet columns.now table.now (pair.0 - 1) (pair.1 - 1)) (pairs (length table.now.rules))) }
-{
-    let mut found = pairs(alloc, table.rules.len())?;
-    for (column, regions) in columns.iter().enumerate() {
-        found = meeting(alloc, table, column, regions.as_slice(), found.as_slice())?;
-    }
-    Ok(found)
-}
-
-// The pairs of so many rules, the smaller first, in order.
-fn pairs(alloc: Global, count: usize) -> Result<Vec<(usize, usize)>, AllocError>
-    ensures { IfOk result (λ found. found.items ≡ pairs count) }
+    requires few { count ≤ MASK_RULES }
+    requires whole { IsTrue (list_all are_whole columns.now) }
+    ensures { IfOk result (λ found. found.items ≡ filter (λ pair. share_all columns.now (pair.0 - 1) (pair.1 - 1)) (pairs count)) }
 {
     let mut found = Vec::new(alloc);
-    for first in 0..count {
-        push_pairs(count, first, &mut found)?;
+    'rules: for first in 0..count {
+        let others = partners(columns, first);
+        push_pairs(count, first, &others, &mut found)?;
     }
     Ok(found)
 }
 
-// The pairs whose smaller rule is the one at this place.
-fn push_pairs(count: usize, first: usize, found: &mut Vec<(usize, usize)>) -> Result<(), AllocError>
-    requires { first < count }
-    ensures { OnOk result (found.new.items ≡ found.old.items ++ pairs_with count (first + 1)) }
+// The pairs whose smaller rule is the one at this place, and whose larger rule is one of the others.
+fn push_pairs(
+    count: usize,
+    first: usize,
+    others: &[u64; 4],
+    found: &mut Vec<(usize, usize)>,
+) -> Result<(), AllocError>
+    requires within { first < count }
+    requires few { count ≤ MASK_RULES }
+    requires words { length others.now ≡ 4 }
+    ensures { OnOk result (found.new.items ≡ found.old.items ++ filter (λ pair. has_rule others.now (pair.1 - 1)) (pairs_with count (first + 1))) }
 {
-    for second in first + 1..count {
-        found.push((first + 1, second + 1))?;
+    'seconds: for second in first + 1..count {
+        push_pair(first, second, others, found)?;
     }
     Ok(())
 }
 
-// Those of the pairs that hold in a region of the column.
-fn meeting(
-    alloc: Global,
-    table: &Table,
-    column: usize,
-    regions: &[Region],
-    pairs: &[(usize, usize)],
-) -> Result<Vec<(usize, usize)>, AllocError>
-    ensures { IfOk result (λ found. found.items ≡ filter (λ pair. meet_in table.now (pair.0 - 1) (pair.1 - 1) column regions.now) pairs.now) }
+// The pair of the rules at these places, if the second is one of the others.
+fn push_pair(
+    first: usize,
+    second: usize,
+    others: &[u64; 4],
+    found: &mut Vec<(usize, usize)>,
+) -> Result<(), AllocError>
+    requires within { (first < MASK_RULES) × (second < MASK_RULES) }
+    requires words { length others.now ≡ 4 }
+    ensures { OnOk result (found.new.items ≡ found.old.items ++ (if has_rule others.now second then (first + 1, second + 1) ∷ [] else [])) }
 {
-    let candidates = candidates_in(alloc, table, column, regions, pairs)?;
-    kept(alloc, candidates.as_slice())
-}
-
-// The pairs, each with whether both rules hold in a region of the column.
-fn candidates_in(
-    alloc: Global,
-    table: &Table,
-    column: usize,
-    regions: &[Region],
-    pairs: &[(usize, usize)],
-) -> Result<Vec<Candidate>, AllocError>
-    ensures { IfOk result (λ found. found.items ≡ map (candidate_in table.now column regions.now) pairs.now) }
-{
-    let mut candidates = unmet(alloc, pairs)?;
-    for region in regions {
-        let holds = holding(alloc, table.rules.as_slice(), column, region)?;
-        mark(holds.as_slice(), &mut candidates);
+    if has_rule(others, second) {
+        found.push((first + 1, second + 1))?;
     }
-    Ok(candidates)
-}
-
-// Of each rule, whether its cell in the column holds in the region.
-fn holding(
-    alloc: Global,
-    rules: &[Rule],
-    column: usize,
-    region: &Region,
-) -> Result<Vec<bool>, AllocError>
-    ensures { IfOk result (λ holds. holds.items ≡ map (rule_holds column region.now) rules.now) }
-{
-    let mut holds = Vec::with_capacity(alloc, rules.len())?;
-    for rule in rules {
-        holds.push(rule_holds(column, region, rule))?;
-    }
-    Ok(holds)
-}
-
-fn rule_holds(column: usize, region: &Region, rule: &Rule) -> bool
-    ensures { result ≡ rule_holds column region.now rule.now }
-{
-    match rule.cells.as_slice().get(column) {
-        Some(cell) => holds_in(cell, region),
-        None => true,
-    }
+    Ok(())
 }
 
 /// Whether a rule's cell in a column, if it has one, holds in the region.

@@ -1,6 +1,8 @@
-use Rattle.std.proofs.Common.{◌≡◌, ◌-◌, filter, length, take}
-use Rattle.cutplan.specs.Check.{meet, pairs}
+use Rattle.std.proofs.Common.{◌≡◌, ◌-◌, filter}
+use Rattle.std.specs.List.{flat_map, range_with_len}
+use Rattle.cutplan.specs.Check.{pairs_with}
+use Rattle.cutplan.specs.Parts.{share_all}
 use Rattle.cutplan.proofs.overlap.overlaps.Given as goal
 
-abbrev pub invariant-loop-column : goal.invariant-loop-column
-invariant-loop-column l = l.found.items ≡ filter (λ pair. meet (take l.column l.columns) l.table (pair.0 - 1) (pair.1 - 1)) (pairs (length l.table.rules))
+abbrev pub invariant-rules : goal.invariant-rules
+invariant-rules l = l.found.items ≡ filter (λ pair. share_all l.columns (pair.0 - 1) (pair.1 - 1)) (flat_map (pairs_with l.count) (range_with_len 1 l.first))

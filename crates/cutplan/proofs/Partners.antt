@@ -1,0 +1,179 @@
+-- The rules that share a region of each column, by masks.
+use Rattle.std.proofs.Common.{◌≡◌, ℕ, zero, suc, ◌+◌, ◌-◌, ◌/◌, ◌%◌, ◌<◌, ◌≤◌, ◌&&◌, ◌||◌, Bool, true, false, cond, List, [], ◌∷◌, ◌++◌, length, get_or, take, map, filter, Option, Some, None, refl, ap, sym, ◌∙◌, subst, add-one, arith}
+use Rattle.std.specs.Prelude.{bit_or, max, nat_lt, ◌==◌}
+use Rattle.std.specs.Int.{bit_at}
+use Rattle.std.specs.List.{AllZip, flat_map, list_any, list_all, range_with_len, enumerate_from, slice_get}
+use Rattle.std.specs.Option.{option_map_or}
+use Rattle.std.proofs.lemmas.Bool.{and_parts, lt-ltb, eq-eqb}
+use Rattle.std.proofs.lemmas.List.{take_more}
+use Rattle.std.proofs.lemmas.List.Elements.{filter-append}
+use Rattle.std.proofs.lemmas.List.Folds.{list_any-append, list_all-append}
+use Rattle.std.proofs.lemmas.Option.{same_Some}
+use Rattle.std.proofs.lemmas.Nat.Bits.{bit_at_or, bit_at-lt}
+use Rattle.dtable.specs.declared.table.Table.{Table}
+use Rattle.dtable.specs.Plan.{PlanParts, IsPlan, IsTableWithin}
+use Rattle.cutplan.specs.declared.region.Region.{Region}
+use Rattle.cutplan.specs.Check.{holds_at, meet, meet_in, pairs, pairs_with}
+use Rattle.cutplan.specs.Regions.{table_regions}
+use Rattle.cutplan.specs.Masks.{has_rule, Marks, AreMasks, AreTableMasks, AreKept, HasFewRules}
+use Rattle.cutplan.specs.Parts.{is_whole, are_whole, share, share_all}
+use Rattle.cutplan.proofs.MaskBits.{four}
+use Rattle.cutplan.proofs.ByMasks.{got_at}
+use Rattle.cutplan.proofs.Keeping.{at_place, table_kept}
+use Rattle.cutplan.proofs.Pairing.{pairs_more, pair_more}
+
+-- the greater of two bits
+greatest_bit : (x y : ℕ) → x < 2 → y < 2 → (max x y == 1) ≡ ((x == 1) || (y == 1))
+greatest_bit zero zero a b = refl
+greatest_bit zero (suc zero) a b = refl
+greatest_bit zero (suc (suc y)) a b = absurd (omega (arith, b))
+greatest_bit (suc zero) zero a b = refl
+greatest_bit (suc zero) (suc zero) a b = refl
+greatest_bit (suc zero) (suc (suc y)) a b = absurd (omega (arith, b))
+greatest_bit (suc (suc x)) y a b = absurd (omega (arith, a))
+
+-- what one of two masks has
+pub joined : (a b new : List ℕ) (place : ℕ) → place < 256
+    → new ≡ bit_or (get_or a 0 0) (get_or b 0 0) ∷ bit_or (get_or a 1 0) (get_or b 1 0) ∷ bit_or (get_or a 2 0) (get_or b 2 0) ∷ bit_or (get_or a 3 0) (get_or b 3 0) ∷ []
+    → has_rule new place ≡ (has_rule a place || has_rule b place)
+joined a b new place within is =
+    let word : ℕ → ℕ = λ i. bit_or (get_or a i 0) (get_or b i 0) in
+    let here : get_or new (place / 64) 0 ≡ word (place / 64) = ap (λ w. get_or w (place / 64) 0) is ∙ four word (place / 64) (omega arith) in
+    let x = get_or a (place / 64) 0 in
+    let y = get_or b (place / 64) 0 in
+    ap (λ w. bit_at w (place % 64) == 1) here ∙ ap (λ n. n == 1) (bit_at_or x y (place % 64))
+    ∙ greatest_bit (bit_at x (place % 64)) (bit_at y (place % 64)) (bit_at-lt x (place % 64)) (bit_at-lt y (place % 64))
+
+or_false : (b : Bool) → (b || false) ≡ b
+or_false true = refl
+or_false false = refl
+
+and_true : (b : Bool) → (b && true) ≡ b
+and_true true = refl
+and_true false = refl
+
+-- before the first column
+pub share_none : (rule : ℕ) (mask : List ℕ) → Marks (λ place. nat_lt place 256) mask → Marks (share_all [] rule) mask
+share_none rule mask marks = record { words = marks.words; has = λ place within. marks.has place within ∙ lt-ltb place 256 within }
+
+-- a pair of places
+abbrev pub pair_at : ℕ → ℕ → ℕ × ℕ
+pair_at first second = (first, second)
+
+-- the pairs of one smaller rule, with one more larger rule, those that pass
+pub pair_kept : (others : List ℕ) (first second : ℕ) → first + 1 ≤ second
+    → filter (λ (pair : ℕ × ℕ). has_rule others (pair.1 - 1)) (map {B = ℕ × ℕ} (λ s. (first + 1, s)) (range_with_len (first + 1 + 1) (second + 1 - (first + 1))))
+    ≡ filter (λ (pair : ℕ × ℕ). has_rule others (pair.1 - 1)) (map {B = ℕ × ℕ} (λ s. (first + 1, s)) (range_with_len (first + 1 + 1) (second - (first + 1)))) ++ cond (has_rule others second) (pair_at (first + 1) (second + 1) ∷ []) []
+pair_kept others first second below =
+    let test = λ (pair : ℕ × ℕ). has_rule others (pair.1 - 1) in
+    let front = map {B = ℕ × ℕ} (λ s. (first + 1, s)) (range_with_len (first + 1 + 1) (second - (first + 1))) in
+    let back : second + 1 - 1 ≡ second = omega arith in
+    ap (filter test) (pair_more first second below) ∙ filter-append test front (pair_at (first + 1) (second + 1) ∷ [])
+    ∙ ap (λ s. filter test front ++ cond (has_rule others s) (pair_at (first + 1) (second + 1) ∷ []) []) back
+
+-- the pairs of one smaller rule, by two tests that agree on them
+range_kept : (p q : ℕ × ℕ → Bool) (first a n : ℕ) → ((s : ℕ) → a ≤ s → s < a + n → p (first, s) ≡ q (first, s))
+    → filter p (map {B = ℕ × ℕ} (λ s. (first, s)) (range_with_len a n)) ≡ filter q (map {B = ℕ × ℕ} (λ s. (first, s)) (range_with_len a n))
+range_kept p q first a zero agree = refl
+range_kept p q first a (suc n) agree =
+    let rest = map {B = ℕ × ℕ} (λ s. (first, s)) (range_with_len (a + 1) n) in
+    ap (λ b. cond b (pair_at first a ∷ filter p rest) (filter p rest)) (agree a (omega arith) (omega arith))
+    ∙ ap (λ xs. cond (q (first, a)) (pair_at first a ∷ xs) xs) (range_kept p q first (a + 1) n (λ s low high. agree s (omega (arith, low)) (omega (arith, high))))
+
+-- those of one smaller rule more
+pub pairs_kept : (columns : List (List (List ℕ))) (count first : ℕ) (others : List ℕ) → first < count → count ≤ 256 → Marks (share_all columns first) others
+    → filter (λ (pair : ℕ × ℕ). share_all columns (pair.0 - 1) (pair.1 - 1)) (flat_map (pairs_with count) (range_with_len 1 first)) ++ filter (λ (pair : ℕ × ℕ). has_rule others (pair.1 - 1)) (pairs_with count (first + 1))
+    ≡ filter (λ (pair : ℕ × ℕ). share_all columns (pair.0 - 1) (pair.1 - 1)) (flat_map (pairs_with count) (range_with_len 1 (first + 1)))
+pairs_kept columns count first others below few marks =
+    let test = λ (pair : ℕ × ℕ). share_all columns (pair.0 - 1) (pair.1 - 1) in
+    let front = flat_map (pairs_with count) (range_with_len 1 first) in
+    let back : first + 1 - 1 ≡ first = omega arith in
+    ap (λ last. filter test front ++ last)
+    (range_kept (λ pair. has_rule others (pair.1 - 1)) test (first + 1) (first + 1 + 1) (count - (first + 1))
+    (λ s low high. marks.has (s - 1) (omega (arith, low, high, few)) ∙ ap (λ k. share_all columns k (s - 1)) (sym back)))
+    ∙ sym (filter-append test front (pairs_with count (first + 1))) ∙ ap (filter test) (sym (pairs_more count first))
+
+-- two rules have a mask of a column in common exactly where they hold in one of its regions
+shared_is : (t : Table) (first second column : ℕ) (regions : List Region) (masks : List (List ℕ)) → length t.rules ≤ 256 → first < length t.rules → second < length t.rules → AreMasks t column regions masks
+    → share masks first second ≡ meet_in t first second column regions
+shared_is t first second column [] [] few one other all = refl
+shared_is t first second column [] (m ∷ ms) few one other all = absurd all
+shared_is t first second column (r ∷ rs) [] few one other all = absurd all
+shared_is t first second column (r ∷ rs) (m ∷ ms) few one other all =
+    let a = all.0.has first (omega (arith, one, few)) ∙ ap (λ b. b && holds_at t first column r) (lt-ltb first (length t.rules) one) in
+    let b = all.0.has second (omega (arith, other, few)) ∙ ap (λ b. b && holds_at t second column r) (lt-ltb second (length t.rules) other) in
+    ap (λ x. (x && has_rule m second) || share ms first second) a ∙ ap (λ y. (holds_at t first column r && y) || share ms first second) b
+    ∙ ap (λ rest. (holds_at t first column r && holds_at t second column r) || rest) (shared_is t first second column rs ms few one other all.1)
+
+all_shared : (t : Table) (first second : ℕ) (columns : List (ℕ × List Region)) (masks : List (List (List ℕ))) → length t.rules ≤ 256 → first < length t.rules → second < length t.rules
+    → AllZip (λ (c : ℕ × List Region) (kept : List (List ℕ)). AreMasks t c.0 c.1 kept) columns masks → share_all masks first second ≡ list_all (λ (c : ℕ × List Region). meet_in t first second c.0 c.1) columns
+all_shared t first second [] [] few one other all = refl
+all_shared t first second [] (m ∷ ms) few one other all = absurd all
+all_shared t first second (c ∷ cs) [] few one other all = absurd all
+all_shared t first second (c ∷ cs) (m ∷ ms) few one other all =
+    ap (λ b. b && share_all ms first second) (shared_is t first second c.0 c.1 m few one other all.0)
+    ∙ ap (λ b. meet_in t first second c.0 c.1 && b) (all_shared t first second cs ms few one other all.1)
+
+-- all pairs of rules, by two tests that agree on them
+each_kept : (p q : ℕ × ℕ → Bool) (n a k : ℕ) → 1 ≤ a → ((first second : ℕ) → 1 ≤ first → first < second → second ≤ n → p (first, second) ≡ q (first, second)) → a + k ≤ n + 1
+    → filter p (flat_map (pairs_with n) (range_with_len a k)) ≡ filter q (flat_map (pairs_with n) (range_with_len a k))
+each_kept p q n a zero low agree high = refl
+each_kept p q n a (suc k) low agree high =
+    let rest = flat_map (pairs_with n) (range_with_len (a + 1) k) in
+    filter-append p (pairs_with n a) rest
+    ∙ ap (λ front. front ++ filter p rest) (range_kept p q a (a + 1) (n - a) (λ s more less. agree a s low (omega (arith, more)) (omega (arith, less, high))))
+    ∙ ap (λ last. filter q (pairs_with n a) ++ last) (each_kept p q n (a + 1) k (omega (arith, low)) agree (omega (arith, high)))
+    ∙ sym (filter-append q (pairs_with n a) rest)
+
+-- the pairs that have masks in common are those that meet
+pub shared_meet : (t : Table) (columns : List (List Region)) (masks : List (List (List ℕ))) → length t.rules ≤ 256 → AreTableMasks t columns masks
+    → filter (λ (pair : ℕ × ℕ). share_all masks (pair.0 - 1) (pair.1 - 1)) (pairs (length t.rules)) ≡ filter (λ (pair : ℕ × ℕ). meet columns t (pair.0 - 1) (pair.1 - 1)) (pairs (length t.rules))
+shared_meet t columns masks few all =
+    each_kept (λ (pair : ℕ × ℕ). share_all masks (pair.0 - 1) (pair.1 - 1)) (λ (pair : ℕ × ℕ). meet columns t (pair.0 - 1) (pair.1 - 1)) (length t.rules) 1 (length t.rules) (omega arith)
+    (λ first second low less high. all_shared t (first - 1) (second - 1) (enumerate_from 0 columns) masks few (omega (arith, low, less, high)) (omega (arith, low, less, high)) all) (omega arith)
+
+-- masks are of four words
+whole_masks : (t : Table) (column : ℕ) (regions : List Region) (masks : List (List ℕ)) → AreMasks t column regions masks → are_whole masks ≡ true
+whole_masks t column [] [] all = refl
+whole_masks t column [] (m ∷ ms) all = absurd all
+whole_masks t column (r ∷ rs) [] all = absurd all
+whole_masks t column (r ∷ rs) (m ∷ ms) all = ap (λ b. b && are_whole ms) (eq-eqb (length m) 4 all.0.words) ∙ whole_masks t column rs ms all.1
+
+pub all_whole : (t : Table) (columns : List (ℕ × List Region)) (masks : List (List (List ℕ))) → AllZip (λ (c : ℕ × List Region) (kept : List (List ℕ)). AreMasks t c.0 c.1 kept) columns masks → list_all are_whole masks ≡ true
+all_whole t [] [] all = refl
+all_whole t [] (m ∷ ms) all = absurd all
+all_whole t (c ∷ cs) [] all = absurd all
+all_whole t (c ∷ cs) (m ∷ ms) all = ap (λ b. b && list_all are_whole ms) (whole_masks t c.0 c.1 m all.0) ∙ all_whole t cs ms all.1
+
+-- what stands at a place, by either word
+got : {X : Type 0} (xs : List X) (i : ℕ) (x : X) → slice_get xs i ≡ Some x → get_or xs i x ≡ x
+got [] i x at = refl
+got (y ∷ ys) zero x at = same_Some y x at
+got (y ∷ ys) (suc i) x at = got ys i x at
+
+-- a plan's tables have no more rules than a mask has bits
+pub few_rules : (p : PlanParts) (number : ℕ) → IsPlan p → 1 ≤ number → number ≤ length p.tables → HasFewRules p number
+few_rules p number is low high =
+    let below : number - 1 < length p.tables = omega (arith, low, high) in
+    let table = at_place p.tables (number - 1) below in
+    let t = table.0 in
+    let within = subst IsTableWithin (got p.tables (number - 1) t table.1) (is.limits.each_table (number - 1) t below) in
+    let few : length t.rules ≤ 256 = within.rules in
+    subst (λ found. option_map_or (λ t. length t.rules) found 0 ≤ 256) (sym table.1) few
+
+-- what is kept of the table of a number
+pub record IsKept (p : PlanParts) (number : ℕ) (t : Table) (kept : List (List (List ℕ))) : Type 0 where
+  pub few : length t.rules ≤ 256
+  pub masks : AreTableMasks t (table_regions p t) kept
+  pub at : slice_get p.tables (number - 1) ≡ Some t
+
+pub kept_masks : (p : PlanParts) (masks : List (List (List (List ℕ)))) (number : ℕ) (kept : List (List (List ℕ))) (tables : List Table) (t : Table)
+    → IsPlan p → AreKept p p.tables masks → 1 ≤ number → number ≤ length p.tables → kept ≡ get_or masks (number - 1) kept → tables ≡ p.tables → t ≡ get_or tables (number - 1) t → IsKept p number t kept
+kept_masks p masks number kept tables t plan all low high is same standing =
+    let few = few_rules p number plan low high in
+    let at : slice_get p.tables (number - 1) ≡ Some t = got_at p.tables (number - 1) t (omega (arith, low, high)) (standing ∙ ap (λ ts. get_or ts (number - 1) t) same) in
+    record {
+      few = subst (λ found. option_map_or (λ x. length x.rules) found 0 ≤ 256) at few;
+      masks = table_kept p masks number kept all few is t at;
+      at = at;
+    }
