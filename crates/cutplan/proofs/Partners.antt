@@ -15,11 +15,11 @@ use Rattle.dtable.specs.Plan.{PlanParts, IsPlan, IsTableWithin}
 use Rattle.cutplan.specs.declared.region.Region.{Region}
 use Rattle.cutplan.specs.Check.{holds_at, meet, meet_in, pairs, pairs_with}
 use Rattle.cutplan.specs.Regions.{table_regions}
-use Rattle.cutplan.specs.Masks.{has_rule, Marks, AreMasks, AreTableMasks, AreKept, HasFewRules}
+use Rattle.cutplan.specs.Masks.{has_rule, Marks, AreMasks, AreTableMasks, AreKept}
 use Rattle.cutplan.specs.Parts.{is_whole, are_whole, share, share_all}
 use Rattle.cutplan.proofs.MaskBits.{four}
 use Rattle.cutplan.proofs.ByMasks.{got_at}
-use Rattle.cutplan.proofs.Keeping.{at_place, table_kept}
+use Rattle.cutplan.proofs.Keeping.{at_place, table_kept, HasFewRules}
 use Rattle.cutplan.proofs.Pairing.{pairs_more, pair_more}
 
 -- the greater of two bits
