@@ -3,7 +3,7 @@ use crate::report::write_journal;
 use crate::{WriteCause, WriteFault, write_report};
 use claim_gate::{Batch, GateState};
 use claim_terms::Terms;
-use dtable::{Plan, Sequence, read_plan};
+use dtable::{Sequence, read_plan};
 use feel_tests::{TEXT_LIMIT_BYTES, Text};
 use fixpoint::{Fixed, Out};
 use journal::{Decision, Event};
@@ -361,29 +361,10 @@ fn write_late<W: Write>(
     out: &mut Out<W>,
 ) -> Option<Result<(), WriteFault>> {
     let plan = read_plan(alloc, PLAN).ok()?;
-    write_late_under(alloc, &plan, files, out)
-}
-
-// The same, under this plan.
-fn write_late_under<W: Write>(
-    alloc: Global,
-    plan: &Plan,
-    files: &[&[u8]],
-    out: &mut Out<W>,
-) -> Option<Result<(), WriteFault>> {
-    let terms = Terms::new(alloc, plan, files, None, Some(0)).ok()?;
-    write_late_over(alloc, &terms, out)
-}
-
-// The same, over these terms.
-fn write_late_over<W: Write>(
-    alloc: Global,
-    terms: &Terms,
-    out: &mut Out<W>,
-) -> Option<Result<(), WriteFault>> {
-    let gate = GateState::new(alloc, terms).ok()?;
-    let batch = Batch::from_state(gate, terms).ok()?;
-    Some(write_report(alloc, terms, &batch, out))
+    let terms = Terms::new(alloc, &plan, files, None, Some(0)).ok()?;
+    let gate = GateState::new(alloc, &terms).ok()?;
+    let batch = Batch::from_state(gate, &terms).ok()?;
+    Some(write_report(alloc, &terms, &batch, out))
 }
 
 // A run that admits no claim of these files has this report.
