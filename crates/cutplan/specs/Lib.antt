@@ -6,3 +6,4 @@ pub mod Parts
 pub mod Laws
 pub mod Masks
 pub mod Found
+pub mod Lent

@@ -4,6 +4,7 @@ ghost use Rattle.dtable.specs.Environment.{answers_of, table_value};
 ghost use Rattle.dtable.specs.HitPolicy.{Gives, by_hit};
 ghost use Rattle.cutplan.specs.Check.{cells, gaps, overlaps};
 ghost use Rattle.cutplan.specs.Found.{IsMatchingMask};
+ghost use Rattle.cutplan.specs.Lent.{kept_answers};
 ghost use Rattle.cutplan.specs.Masks.{has_rule, rules_in, AreMasksOf, IsColumnNumber};
 ghost use Rattle.cutplan.specs.declared.mask.TheConstants.{MASK_RULES};
 ghost use Rattle.cutplan.specs.Numbered.{cell_limit as CELL_LIMIT, IsTableNumber, cells_of, gaps_of, overlaps_of, IsWide};
@@ -12,33 +13,36 @@ use crate::column::table_regions;
 use crate::fault::CheckFault;
 use crate::found::matching_mask;
 use crate::kept::regions_and_masks;
+use crate::lent::{KeptAnswers, answers_of_tables, lent};
 use crate::mask::rules_in;
 use crate::region::Region;
 use crate::{gap, overlap};
 use dtable::{
-    Answer, Env, Fault, Inputs, Plan, Sequence, Table, Valuer, answers_by_hit, table_value,
+    Answers, AnswersByTable, Env, Fault, Inputs, Plan, Sequence, Table, Valuer, answers_by_hit,
+    table_value,
 };
 use std::alloc::{AllocError, Global};
 use std::marker::Model;
 
 /// A plan that can be checked, which contracts see as the plan. It borrows the plan, and keeps the regions of its columns and
-/// their masks.
+/// their masks, and answers of its tables, which it lends.
 #[derive(Debug, Drop)]
 pub struct CutPlan<'a> {
     plan: &'a Plan,
     regions: Sequence<Sequence<Sequence<Region>>>,
     masks: Sequence<Sequence<Sequence<[u64; 4]>>>,
+    answers: Sequence<KeptAnswers>,
 }
 
 impl<'a> Model for CutPlan<'a> {
     ghost use Rattle.dtable.specs.Plan.{PlanParts};
-    ghost use Rattle.cutplan.specs.Found.{IsCut};
+    ghost use Rattle.cutplan.specs.Lent.{IsLending};
 
     ghost Value = { PlanParts };
 
     ghost view = { λ c. c.plan.now };
 
-    ghost invariant = { λ c. IsCut c.plan.now c.regions c.masks };
+    ghost invariant = { λ c. IsLending c.plan.now c.regions c.masks c.answers };
 }
 
 /// Makes the plan ready for its check and for values by masks.
@@ -47,10 +51,12 @@ pub fn compile(alloc: Global, plan: &Plan) -> Result<CutPlan<'_>, AllocError>
     ensures { IfOk result (λ made. made ≡ plan.now) }
 {
     let (regions, masks) = regions_and_masks(alloc, plan, plan.tables())?;
+    let answers = answers_of_tables(alloc, plan.tables())?;
     Ok(CutPlan {
         plan,
         regions,
         masks,
+        answers,
     })
 }
 
@@ -108,16 +114,16 @@ impl<'a> CutPlan<'a> {
     }
 
     // The answers of the plan's tables in order, or the first fault.
-    fn answers_of(
-        &self,
+    fn answers_of<'b>(
+        &'b self,
         alloc: Global,
         given: &Inputs,
         tables: &[Table],
-    ) -> Result<Sequence<Sequence<Answer>>, Fault>
+    ) -> Result<AnswersByTable<'b>, Fault>
         requires { tables.now ≡ self.now.tables }
         ensures { Gives (answers_of given.now [] tables.now) result }
     {
-        let mut answers = Sequence::new(alloc);
+        let mut answers = AnswersByTable::new(alloc);
         for (place, table) in tables.iter().enumerate() {
             let next = self.table_value(alloc, given, answers.as_slice(), place, table)?;
             answers.push(next)?;
@@ -127,28 +133,39 @@ impl<'a> CutPlan<'a> {
 
     // The answers of the table at the place, behind the tables with these answers: by masks, where they tell, and else as
     // `dtable` values it. They don't where a value is missing, of another kind, or not allowed.
-    fn table_value(
-        &self,
+    fn table_value<'b>(
+        &'b self,
         alloc: Global,
         given: &Inputs,
-        earlier: &[Sequence<Answer>],
+        earlier: &[Answers<'_>],
         place: usize,
         table: &Table,
-    ) -> Result<Sequence<Answer>, Fault>
+    ) -> Result<Answers<'b>, Fault>
         requires { slice_get self.now.tables place ≡ Some table.now }
         ensures { Gives (table_value given.now earlier.now table.now) result }
     {
         match self.matching_mask(given, earlier, place, table) {
-            Some(mask) => value_of_mask(alloc, earlier.len() + 1, table, &mask),
-            None => table_value(alloc, given, earlier, table),
+            Some(mask) => {
+                let kept = self.kept_answers(place, table);
+                value_of_mask(alloc, earlier.len() + 1, table, kept, &mask)
+            }
+            None => Ok(Answers::made(table_value(alloc, given, earlier, table)?)),
         }
+    }
+
+    // The kept answers of the table at the place.
+    fn kept_answers(&self, place: usize, table: &Table) -> &KeptAnswers
+        requires { slice_get self.now.tables place ≡ Some table.now }
+        ensures { result.now ≡ kept_answers table.now }
+    {
+        &self.answers.as_slice()[place]
     }
 
     /// The rules of the table at the place that match, where its masks tell.
     pub(crate) fn matching_mask(
         &self,
         given: &Inputs,
-        earlier: &[Sequence<Answer>],
+        earlier: &[Answers<'_>],
         place: usize,
         table: &Table,
     ) -> Option<[u64; 4]>
@@ -169,18 +186,28 @@ impl<'a> CutPlan<'a> {
     }
 }
 
-// The answers of a table with this number, where a mask has the rules that match.
-fn value_of_mask(
+// The answers of a table with this number, where a mask has the rules that match: lent, where they are kept.
+fn value_of_mask<'k>(
     alloc: Global,
     number: usize,
     table: &Table,
+    kept: &'k KeptAnswers,
     mask: &[u64; 4],
-) -> Result<Sequence<Answer>, Fault>
+) -> Result<Answers<'k>, Fault>
+    requires kept { kept.now ≡ kept_answers table.now }
     requires words { length mask.now ≡ 4 }
     requires few { length table.now.rules ≤ MASK_RULES }
     requires within { (place : ℕ) → length table.now.rules ≤ place → place < 256 → has_rule mask.now place ≡ false }
     ensures { Gives (by_hit table.now.hit number table.now (rules_in (length table.now.rules) mask.now)) result }
 {
     let rules = rules_in(alloc, mask, table.rules.len())?;
-    answers_by_hit(alloc, number, table, rules.as_slice())
+    match lent(table, kept, rules.as_slice()) {
+        Some(answers) => Ok(Answers::lent(answers)),
+        None => Ok(Answers::made(answers_by_hit(
+            alloc,
+            number,
+            table,
+            rules.as_slice(),
+        )?)),
+    }
 }

@@ -9,14 +9,14 @@ use crate::column::kind_read;
 use crate::lookup::place_of;
 use crate::mask::{MASK_RULES, first_rules, meet};
 use crate::region::{Region, is_value};
-use dtable::{Answer, Input, Inputs, Plan, Sequence, Table, value_read};
+use dtable::{Answers, Input, Inputs, Plan, Sequence, Table, value_read};
 
 /// The rules of a table that match, where each of its inputs reads a value of its column's kind that lies in a region.
 /// These are the regions of its columns and their masks.
 pub fn matching_mask(
     plan: &Plan,
     given: &Inputs,
-    earlier: &[Sequence<Answer>],
+    earlier: &[Answers<'_>],
     table: &Table,
     regions: &[Sequence<Region>],
     masks: &[Sequence<[u64; 4]>],
@@ -47,7 +47,7 @@ pub fn matching_mask(
 fn mask_read<'m>(
     plan: &Plan,
     given: &Inputs,
-    earlier: &[Sequence<Answer>],
+    earlier: &[Answers<'_>],
     input: &Input,
     regions: &[Region],
     masks: &'m [[u64; 4]],

@@ -20,6 +20,7 @@ mod found;
 mod gap;
 mod kept;
 mod law;
+mod lent;
 mod lookup;
 mod mask;
 mod overlap;

@@ -4,6 +4,7 @@ pub mod FoundOutput
 pub mod Matches
 pub mod Named
 pub mod OnlyOrder
+pub mod OutputPlaces
 pub mod PlanLimits
 pub mod PriorityOrder
 pub mod ReadNames
@@ -13,4 +14,5 @@ pub mod ReadPlan
 pub mod ReadRoles
 pub mod ReadTables
 pub mod Ready
+pub mod SlotKinds
 pub mod Steps

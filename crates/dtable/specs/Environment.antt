@@ -6,6 +6,7 @@ use Rattle.dtable.specs.declared.environment.Answer.{Answer}
 use Rattle.dtable.specs.declared.fault.Fault.{Fault}
 use Rattle.dtable.specs.declared.fault.Fault.TheVariants.{Outside}
 use Rattle.dtable.specs.declared.inputs.Slot.{Slot}
+use Rattle.dtable.specs.declared.output_place.OutputPlace.{OutputPlace}
 use Rattle.dtable.specs.declared.table.Output.{Output}
 use Rattle.dtable.specs.declared.table.Table.{Table}
 use Rattle.dtable.specs.Plan.{PlanParts}
@@ -61,3 +62,7 @@ or_else None other = other
 abbrev pub answer_of : List Table → List (List Answer) → List ℕ → Option Answer
 answer_of (t ∷ ts) (answers ∷ more) name = or_else (answer_in t.outputs answers name) (answer_of ts more name)
 answer_of _ _ name = None
+
+-- the answer at the place of an output
+abbrev pub answer_at : List (List Answer) → OutputPlace → Option Answer
+answer_at answers place = option_and_then (λ a. slice_get a place.column) (slice_get answers place.table)

@@ -2,8 +2,10 @@
 ghost use Rattle.std.specs.Prelude.{◌≡◌, position, slice_get};
 ghost use Rattle.std.specs.Str.{bytes_eq};
 ghost use Rattle.std.specs.Option.{option_copied, option_and_then};
-ghost use Rattle.dtable.specs.Environment.{answer_of, answer_in};
+ghost use Rattle.dtable.specs.Environment.{answer_of, answer_in, answer_at};
 
+use crate::answers::{Answers, AnswersByTable};
+use crate::output_place::OutputPlace;
 use crate::sequence::Sequence;
 use crate::table::{Output, Table};
 use feel_tests::Value;
@@ -22,7 +24,7 @@ pub enum Answer {
 #[derive(Debug, Drop)]
 pub struct Env<'a> {
     tables: &'a [Table],
-    answers: Sequence<Sequence<Answer>>,
+    answers: AnswersByTable<'a>,
 }
 
 impl<'a> Model for Env<'a> {
@@ -35,8 +37,8 @@ impl<'a> Model for Env<'a> {
 
 impl<'a> Env<'a> {
     /// These answers, table by table and output by output.
-    pub fn new(tables: &'a [Table], answers: Sequence<Sequence<Answer>>) -> Env<'a>
-        ensures { result ≡ record { tables = tables.now; answers = answers } }
+    pub fn new(tables: &'a [Table], answers: AnswersByTable<'a>) -> Env<'a>
+        ensures { result ≡ record { tables = tables.now; answers = answers.entry } }
     {
         Env { tables, answers }
     }
@@ -47,12 +49,20 @@ impl<'a> Env<'a> {
     {
         find_answer(self.tables, self.answers.as_slice(), name)
     }
+
+    /// The answer of the output at the place.
+    pub fn at(&self, place: OutputPlace) -> Option<&Answer>
+        ensures { option_copied result ≡ answer_at self.now.answers place }
+    {
+        let answers = self.answers.as_slice().get(place.table)?;
+        answers.as_slice().get(place.column)
+    }
 }
 
 // The answer of the first output with this name.
 fn find_answer<'a>(
     tables: &[Table],
-    answers: &'a [Sequence<Answer>],
+    answers: &'a [Answers<'_>],
     name: &str,
 ) -> Option<&'a Answer>
     ensures { option_copied result ≡ answer_of tables.now answers.now name.now }
@@ -91,8 +101,8 @@ fn answer_in<'a>(outputs: &[Output], answers: &'a [Answer], name: &str) -> Optio
     }
 }
 
-// The place of the first output that has the name.
-fn place_of(outputs: &[Output], name: &str) -> Option<usize>
+/// The place of the first output that has the name.
+pub fn place_of(outputs: &[Output], name: &str) -> Option<usize>
     ensures { result ≡ position (λ o. bytes_eq o.name name.now) outputs.now }
 {
     outputs

@@ -9,6 +9,7 @@ mod numbers;
 mod priority;
 mod single;
 
+use crate::answers::{Answers, AnswersByTable};
 use crate::environment::{Answer, Env};
 use crate::fault::Fault;
 use crate::hit::Hit;
@@ -17,7 +18,9 @@ use crate::plan::Plan;
 use crate::sequence::Sequence;
 use crate::table::Table;
 use crate::valuer::Valuer;
-pub use priority::rules_have_one_priority_order;
+pub use lists::lists_of;
+pub use priority::{in_priority_order, rules_have_one_priority_order};
+pub use single::rules_agree;
 use std::alloc::Global;
 
 impl Valuer for Plan {
@@ -34,17 +37,17 @@ impl Valuer for Plan {
 }
 
 // The answers of tables in order, or the first fault.
-fn answers_of(
+fn answers_of<'a>(
     alloc: Global,
     given: &Inputs,
     tables: &[Table],
-) -> Result<Sequence<Sequence<Answer>>, Fault>
+) -> Result<AnswersByTable<'a>, Fault>
     ensures { Gives (answers_of given.now [] tables.now) result }
 {
-    let mut answers = Sequence::new(alloc);
+    let mut answers = AnswersByTable::new(alloc);
     for table in tables {
         let next = table_value(alloc, given, answers.as_slice(), table)?;
-        answers.push(next)?;
+        answers.push(Answers::made(next))?;
     }
     Ok(answers)
 }
@@ -53,7 +56,7 @@ fn answers_of(
 pub fn table_value(
     alloc: Global,
     given: &Inputs,
-    earlier: &[Sequence<Answer>],
+    earlier: &[Answers<'_>],
     table: &Table,
 ) -> Result<Sequence<Answer>, Fault>
     ensures { Gives (table_value given.now earlier.now table.now) result }

@@ -1,11 +1,13 @@
 //! What is given for the names that tables read.
-ghost use Rattle.std.specs.Prelude.{◌≡◌, IfOk};
+ghost use Rattle.std.specs.Prelude.{◌≡◌, map, Some, IfOk, OnOk};
 ghost use Rattle.std.specs.Option.{option_copied};
+ghost use Rattle.feel_tests.specs.declared.kind.Kind.TheVariants as kinds;
+ghost use Rattle.feel_tests.specs.declared.value.Value.TheVariants as values;
 ghost use Rattle.feel_tests.specs.Value.{kind_of};
 ghost use Rattle.dtable.specs.Inputs.{empty_slots, filled, kind_at, value_at, Takes};
 
 use crate::plan::Plan;
-use feel_tests::{Kind, Value};
+use feel_tests::{Kind, Text, Value};
 use std::alloc::{AllocError, Global};
 use std::marker::Model;
 
@@ -14,6 +16,20 @@ use std::marker::Model;
 pub struct Slot {
     pub kind: Kind,
     pub value: Option<Value>,
+}
+
+impl Slot {
+    // Its value is this text then, in the memory of the text that stands there, if one does.
+    fn set_text(&mut self, alloc: Global, text: &Text) -> Result<(), AllocError>
+        ensures set { OnOk result (self.new.value ≡ Some (values.Text text.now)) }
+        ensures kind { self.new.kind ≡ self.old.kind }
+    {
+        match &mut self.value {
+            Some(Value::Text(standing)) => standing.copy_from(text)?,
+            _ => self.value = Some(Value::Text(Text::new(alloc, text.as_str())?)),
+        }
+        Ok(())
+    }
 }
 
 /// A place for each name of a plan, in order.
@@ -67,6 +83,16 @@ impl Inputs {
             kind,
             value: Some(value),
         };
+    }
+
+    /// Gives the name at the place this text, in the memory of the text that stands there, if one does. Where memory is refused,
+    /// the names keep their kinds.
+    pub fn set_text(&mut self, alloc: Global, place: usize, text: &Text) -> Result<(), AllocError>
+        requires { Takes self.old place kinds.Text }
+        ensures set { OnOk result (self.new ≡ filled self.old place (values.Text text.now)) }
+        ensures kinds { map (λ s. s.kind) self.new ≡ map (λ s. s.kind) self.old }
+    {
+        self.slots[place].set_text(alloc, text)
     }
 
     /// The value of the name at the place, if it is given.

@@ -10,6 +10,7 @@
 //! `valuer.rt`, whose `value` carries the promise, and the files of `evaluation/`, one for each group of policies.
 #![tactic(auto)]
 
+mod answers;
 mod demands;
 mod environment;
 mod evaluation;
@@ -17,6 +18,7 @@ mod fault;
 mod hit;
 mod inputs;
 mod name;
+mod output_place;
 mod plan;
 mod plan_fault;
 mod reading;
@@ -25,13 +27,18 @@ mod sequence;
 mod table;
 mod valuer;
 
+pub use answers::{Answers, AnswersByTable};
 pub use environment::{Answer, Env};
 pub use evaluation::matching::value_read;
-pub use evaluation::{answers_by_hit, rules_have_one_priority_order, table_value};
+pub use evaluation::{
+    answers_by_hit, in_priority_order, lists_of, rules_agree, rules_have_one_priority_order,
+    table_value,
+};
 pub use fault::Fault;
 pub use hit::Hit;
 pub use inputs::{Inputs, Slot};
 pub use name::{NAME_LIMIT_BYTES, Name};
+pub use output_place::OutputPlace;
 pub use plan::{Plan, all_names};
 pub use plan_fault::{PlanCause, PlanFault};
 pub use reading::{PLAN_LIMIT_BYTES, read_plan, text_spells_at_most_one_plan};

@@ -1,7 +1,9 @@
 //! Plans: names, decision tables in order of evaluation, and roles.
-ghost use Rattle.std.specs.Prelude.{◌≡◌, ◌≤◌, ◌++◌, ◌↔◌, length, IsTrue, IfOk, OnOk};
+ghost use Rattle.std.specs.Prelude.{◌≡◌, ◌≤◌, ◌++◌, ◌↔◌, List, length, IsTrue, IfOk, OnOk};
 ghost use Rattle.std.specs.List.{list_all};
-ghost use Rattle.std.specs.Option.{option_copied};
+ghost use Rattle.std.specs.Option.{option_copied, option_and_then};
+ghost use Rattle.dtable.specs.declared.environment.Answer.{Answer};
+ghost use Rattle.dtable.specs.Environment.{answer_of, answer_at};
 ghost use Rattle.dtable.specs.Limits.{name_limit_bytes};
 ghost use Rattle.dtable.specs.Inputs.{needs, is_served, IsReady};
 ghost use Rattle.dtable.specs.Names.{named, claim_names, accumulator_names, names_of};
@@ -9,6 +11,7 @@ ghost use Rattle.dtable.specs.Plan.{IsPlan};
 
 use crate::inputs::Inputs;
 use crate::name::Name;
+use crate::output_place::{OutputPlace, place_named};
 use crate::roles::Roles;
 use crate::sequence::Sequence;
 use crate::table::{InputData, Table};
@@ -70,6 +73,14 @@ impl Plan {
         ensures sound { IsPlan self.now }
     {
         self.roles.as_ref()
+    }
+
+    /// Where the output with this name is answered, if there is one: the answer there is that by the name, whatever the
+    /// tables answer.
+    pub fn output_place(&self, name: &str) -> Option<OutputPlace>
+        ensures { (answers : List (List Answer)) → answer_of self.now.tables answers name.now ≡ option_and_then (answer_at answers) result }
+    {
+        place_named(self.tables.as_slice(), name)
     }
 
     /// Whether some table reads the name at the place, from 0.

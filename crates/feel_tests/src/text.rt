@@ -1,5 +1,5 @@
 //! Texts as values: UTF-8 of a limited length, equal where their bytes are.
-ghost use Rattle.std.specs.Prelude.{◌≡◌, ◌≤◌, length, IfOk, IfSome, IfNone, OnSome};
+ghost use Rattle.std.specs.Prelude.{◌≡◌, ◌≤◌, [], length, IfOk, IfSome, IfNone, OnOk, OnErr, OnSome};
 ghost use Rattle.feel_tests.specs.TextBytes.{IsText};
 ghost use Rattle.feel_tests.specs.Limits.{text_limit_bytes};
 
@@ -50,6 +50,16 @@ impl Text {
             Ok(text) => Some(Text { text }),
             Err(_) => None,
         }
+    }
+
+    /// Becomes a copy of another text, in the memory that it has where that is enough. Where memory is refused it is empty.
+    pub fn copy_from(&mut self, other: &Text) -> Result<(), AllocError>
+        ensures copied { OnOk result (self.new ≡ other.now) }
+        ensures emptied { OnErr result (self.new ≡ []) }
+    {
+        self.text.clear();
+        self.text.push_str(other.as_str())?;
+        Ok(())
     }
 
     /// The text as a slice.

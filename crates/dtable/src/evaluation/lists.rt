@@ -19,7 +19,7 @@ pub fn in_rule_order(
 ) -> Result<Sequence<Answer>, Fault>
     ensures { Gives (Ok (lists table.now rules.now)) result }
 {
-    Ok(lists(alloc, table, rules)?)
+    Ok(lists_of(alloc, table, rules)?)
 }
 
 /// Output order: for each output its entries, in falling priority.
@@ -31,10 +31,11 @@ pub fn in_output_order(
     ensures { Gives (Ok (lists table.now (in_priority_order table.now rules.now))) result }
 {
     let ordered = priority::in_priority_order(alloc, table, rules)?;
-    Ok(lists(alloc, table, ordered.as_slice())?)
+    Ok(lists_of(alloc, table, ordered.as_slice())?)
 }
 
-fn lists(alloc: Global, table: &Table, rules: &[usize]) -> Result<Sequence<Answer>, AllocError>
+/// For each output the list of the entries of these rules, in this order.
+pub fn lists_of(alloc: Global, table: &Table, rules: &[usize]) -> Result<Sequence<Answer>, AllocError>
     ensures { IfOk result (λ answers. answers ≡ lists table.now rules.now) }
 {
     let mut answers = Sequence::new(alloc);

@@ -3,6 +3,7 @@ ghost use Rattle.std.specs.Prelude.{◌≡◌, ◌+◌, ◌<◌, ◌^◌, IfOk, 
 ghost use Rattle.std.specs.Option.{option_copied};
 ghost use Rattle.dtable.specs.Matching.{value_read, earlier_value, single, holds_of, cells_hold, matching, is_outside, first_outside};
 
+use crate::answers::Answers;
 use crate::environment::Answer;
 use crate::inputs::Inputs;
 use crate::sequence::Sequence;
@@ -14,7 +15,7 @@ use std::alloc::{AllocError, Global};
 pub fn matching(
     alloc: Global,
     given: &Inputs,
-    earlier: &[Sequence<Answer>],
+    earlier: &[Answers<'_>],
     table: &Table,
 ) -> Result<Sequence<usize>, AllocError>
     ensures { IfOk result (λ rules. rules ≡ matching given.now earlier.now table.now) }
@@ -36,7 +37,7 @@ pub fn matching(
 // Whether each cell holds of what its input reads. The first that doesn't ends the search.
 fn cells_hold(
     given: &Inputs,
-    earlier: &[Sequence<Answer>],
+    earlier: &[Answers<'_>],
     inputs: &[Input],
     cells: &[Cell],
 ) -> bool
@@ -49,7 +50,7 @@ fn cells_hold(
 }
 
 /// The first column, from 0, whose value is none of its allowed values.
-pub fn first_outside(given: &Inputs, earlier: &[Sequence<Answer>], table: &Table) -> Option<usize>
+pub fn first_outside(given: &Inputs, earlier: &[Answers<'_>], table: &Table) -> Option<usize>
     ensures value { result ≡ first_outside given.now earlier.now table.now }
     ensures countable { IfSome result (λ column. column + 1 < 2 ^ 64) }
 {
@@ -60,7 +61,7 @@ pub fn first_outside(given: &Inputs, earlier: &[Sequence<Answer>], table: &Table
         .position(|input| is_outside(given, earlier, input))
 }
 
-fn is_outside(given: &Inputs, earlier: &[Sequence<Answer>], input: &Input) -> bool
+fn is_outside(given: &Inputs, earlier: &[Answers<'_>], input: &Input) -> bool
     ensures { result ≡ is_outside given.now earlier.now input.now }
 {
     match &input.values {
@@ -72,7 +73,7 @@ fn is_outside(given: &Inputs, earlier: &[Sequence<Answer>], input: &Input) -> bo
 /// The value that an input reads, of what is given and of the answers of the tables before its own.
 pub fn value_read<'a>(
     given: &'a Inputs,
-    earlier: &'a [Sequence<Answer>],
+    earlier: &'a [Answers<'_>],
     origin: Origin,
 ) -> Option<&'a Value>
     ensures { option_copied result ≡ value_read given.now earlier.now origin }
@@ -84,7 +85,11 @@ pub fn value_read<'a>(
 }
 
 // The single value of an output of an earlier table.
-fn earlier_value(earlier: &[Sequence<Answer>], table: usize, column: usize) -> Option<&Value>
+fn earlier_value<'a>(
+    earlier: &'a [Answers<'_>],
+    table: usize,
+    column: usize,
+) -> Option<&'a Value>
     ensures { option_copied result ≡ earlier_value earlier.now table column }
 {
     match earlier.get(table)?.as_slice().get(column)? {

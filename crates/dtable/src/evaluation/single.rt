@@ -62,7 +62,7 @@ pub fn any(
     match rules {
         [] => unmatched(alloc, number, table),
         [rule, others @ ..] => {
-            if all_agree(table, *rule, others) {
+            if rules_agree(table, *rule, others) {
                 Ok(ones(alloc, table.entries(*rule))?)
             } else {
                 Err(Fault::Clash { table: number })
@@ -71,8 +71,8 @@ pub fn any(
     }
 }
 
-// Whether these rules have the entries of the first one.
-fn all_agree(table: &Table, rule: usize, others: &[usize]) -> bool
+/// Whether these rules have the entries of the first one.
+pub fn rules_agree(table: &Table, rule: usize, others: &[usize]) -> bool
     ensures { result ≡ list_all (agree table.now rule) others.now }
 {
     others.iter().all(|other| agree(table, rule, *other))

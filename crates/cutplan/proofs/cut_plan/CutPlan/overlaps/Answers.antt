@@ -15,7 +15,7 @@ use Rattle.cutplan.proofs.cut_plan.CutPlan.overlaps.Goals as goal
 pub bounds-as_slice-table : goal.bounds-as_slice-table
 bounds-as_slice-table c =
     let view : c.self.inside.plan.now ≡ c.args.self.now = c.self.view_is in
-    let all : AreKept c.args.self.now c.args.self.now.tables c.self.inside.masks = subst (λ p. AreKept p p.tables c.self.inside.masks) view c.self.invariant.masks in
+    let all : AreKept c.args.self.now c.args.self.now.tables c.self.inside.masks = subst (λ p. AreKept p p.tables c.self.inside.masks) view c.self.invariant.cut.masks in
     subst (λ ms. c.args.table - 1 < length ms) (sym c.as_slice.ensures) (table_within c.args.self.now c.self.inside.masks c.args.table all c.requires.0 c.requires.1)
 
 pub offset_bounds-as_slice-table : goal.offset_bounds-as_slice-table
@@ -28,7 +28,7 @@ overlaps-requires-clause-whole c =
     let t = c.index-tables-table.result in
     let kept = c.index-as_slice-table.result in
     let view : c.self.inside.plan.now ≡ p = c.self.view_is in
-    let all : AreKept p p.tables c.self.inside.masks = subst (λ q. AreKept q q.tables c.self.inside.masks) view c.self.invariant.masks in
+    let all : AreKept p p.tables c.self.inside.masks = subst (λ q. AreKept q q.tables c.self.inside.masks) view c.self.invariant.cut.masks in
     let is : kept ≡ get_or c.self.inside.masks (number - 1) kept = c.index-as_slice-table.is ∙ ap (λ ms. get_or ms (number - 1) kept) c.as_slice.ensures in
     let k = kept_masks p c.self.inside.masks number kept c.tables.result.now t (subst IsPlan view c.tables.ensures.sound) all c.requires.0 c.requires.1 is (c.tables.ensures.tables ∙ ap (λ q. q.tables) view) c.index-tables-table.is in
     subst (λ ms. IsTrue (list_all are_whole ms)) (sym c.as_slice-2.ensures) (all_whole t (enumerate_from 0 (table_regions p t)) kept k.masks)
@@ -40,7 +40,7 @@ returns c =
     let t = c.index-tables-table.result in
     let kept = c.index-as_slice-table.result in
     let view : c.self.inside.plan.now ≡ p = c.self.view_is in
-    let all : AreKept p p.tables c.self.inside.masks = subst (λ q. AreKept q q.tables c.self.inside.masks) view c.self.invariant.masks in
+    let all : AreKept p p.tables c.self.inside.masks = subst (λ q. AreKept q q.tables c.self.inside.masks) view c.self.invariant.cut.masks in
     let is : kept ≡ get_or c.self.inside.masks (number - 1) kept = c.index-as_slice-table.is ∙ ap (λ ms. get_or ms (number - 1) kept) c.as_slice.ensures in
     let k = kept_masks p c.self.inside.masks number kept c.tables.result.now t (subst IsPlan view c.tables.ensures.sound) all c.requires.0 c.requires.1 is (c.tables.ensures.tables ∙ ap (λ q. q.tables) view) c.index-tables-table.is in
     let told =

@@ -2,7 +2,7 @@ use Rattle.std.proofs.Common.{arith}
 use Rattle.std.proofs.lemmas.List.FromFn.{map-range_with_len_more}
 use Rattle.dtable.specs.declared.environment.Answer.TheVariants.{Many}
 use Rattle.dtable.specs.HitPolicy.{column_of}
-use Rattle.dtable.proofs.evaluation.lists.lists.Goals as goal
+use Rattle.dtable.proofs.evaluation.lists.lists_of.Goals as goal
 
 pub loop-column-preserved : goal.loop-column-preserved
 loop-column-preserved c =
