@@ -21,6 +21,8 @@ pub mod CutOrder
 pub mod MaskBits
 pub mod MaskRules
 pub mod Keeping
+pub mod Lending
+pub mod Valuing
 pub mod ByMasks
 pub mod FirstRules
 pub mod MaskLists

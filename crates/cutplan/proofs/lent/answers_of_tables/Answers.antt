@@ -1,0 +1,8 @@
+use Rattle.cutplan.specs.Lent.{kept_answers}
+use Rattle.cutplan.proofs.Keeping.{more_mapped}
+use Rattle.cutplan.proofs.lent.answers_of_tables.Goals as goal
+
+pub loop-table-preserved : goal.loop-table-preserved
+loop-table-preserved c =
+    more_mapped kept_answers c.args.tables.now c.loop-table.all _ c.loop-table.table-index c.table-item.result c.in_ok-kept_answers.field-0 c.loop-table-test.true c.table-item.is
+    c.loop-table.invariant c.in_ok-kept_answers.ensures c.in_ok-push.ensures.ok
