@@ -5,12 +5,14 @@ use Rattle.std.specs.Option.{OnSome, option_map_or}
 use Rattle.std.proofs.lemmas.List.{map-append, take_all, take_more}
 use Rattle.std.proofs.lemmas.List.FromFn.{length-enumerate_from, get_or-enumerate_from}
 use Rattle.std.proofs.lemmas.Option.{none-some, same_Some}
+use Rattle.feel_tests.specs.declared.cell.Cell.{Cell}
 use Rattle.dtable.specs.declared.table.Input.{Input}
 use Rattle.dtable.specs.declared.table.Table.{Table}
 use Rattle.dtable.specs.Plan.{PlanParts, IsPlan}
 use Rattle.cutplan.specs.declared.region.Region.{Region}
 use Rattle.cutplan.specs.Regions.{columns, columns_from, regions, table_regions}
-use Rattle.cutplan.specs.Masks.{is_marked, Marks, AreMasks, AreTableMasks, AreKept, IsColumnNumber, AreMasksOf}
+use Rattle.cutplan.specs.Parts.{holds_among, AreMasksBy}
+use Rattle.cutplan.specs.Masks.{Marks, AreMasks, AreTableMasks, AreKept, IsColumnNumber, AreMasksOf}
 use Rattle.cutplan.specs.Found.{IsCut}
 
 all_push : {X Y : Type 0} (R : X → Y → Type 0) (xs : List X) (ys : List Y) (x : X) (y : Y) → AllZip R xs ys → R x y → AllZip R (xs ++ x ∷ []) (ys ++ y ∷ [])
@@ -32,10 +34,10 @@ one_more R xs ys new i x y below is all r pushed =
     subst (λ zs. AllZip R (take (i + 1) xs) zs) (sym pushed) (subst (λ zs. AllZip R zs (ys ++ y ∷ [])) (sym front) (all_push R (take i xs) ys x y all r))
 
 -- the masks of one region more
-pub more_regions : (t : Table) (column : ℕ) (regions : List Region) (masks new : List (List ℕ)) (i : ℕ) (region : Region) (mask : List ℕ) → i < length regions → region ≡ get_or regions i region
-    → AreMasks t column (take i regions) masks → Marks (is_marked t column region) mask → new ≡ masks ++ mask ∷ [] → AreMasks t column (take (i + 1) regions) new
-more_regions t column regions masks new i region mask below is all marks pushed =
-    one_more (λ region mask. Marks (is_marked t column region) mask) regions masks new i region mask below is all marks pushed
+pub more_regions : (cells : List (Option Cell)) (regions : List Region) (masks new : List (List ℕ)) (i : ℕ) (region : Region) (mask : List ℕ) → i < length regions → region ≡ get_or regions i region
+    → AreMasksBy cells (take i regions) masks → Marks (holds_among cells region) mask → new ≡ masks ++ mask ∷ [] → AreMasksBy cells (take (i + 1) regions) new
+more_regions cells regions masks new i region mask below is all marks pushed =
+    one_more (λ region mask. Marks (holds_among cells region) mask) regions masks new i region mask below is all marks pushed
 
 abbrev pub at_number : {X : Type 0} → ℕ → X → ℕ × X
 at_number n x = (n, x)
@@ -106,9 +108,13 @@ pub on_some : {X : Type 0} (o : Option X) (P : Type 0) → P → OnSome o P
 on_some (Some x) P holds = holds
 on_some None P holds = tt
 
+-- no table of a plan has more rules than a mask has bits
+pub few_rules : (p : PlanParts) → IsPlan p → All (λ t. length t.rules ≤ 256) p.tables
+few_rules p plan k d below = (plan.limits.each_table k d below).rules
+
 -- what is kept of a plan
 pub cut_of : (p : PlanParts) (regions_kept : List (List (List Region))) (masks_kept : List (List (List (List ℕ)))) → regions_kept ≡ map (table_regions p) p.tables → AreKept p p.tables masks_kept → IsPlan p → IsCut p regions_kept masks_kept
-cut_of p regions_kept masks_kept regions masks plan = record { regions = regions; masks = masks; few = λ k d below. (plan.limits.each_table k d below).rules }
+cut_of p regions_kept masks_kept regions masks plan = record { regions = regions; masks = masks; few = few_rules p plan }
 
 -- a table's masks are kept at its place
 pub table_within : (p : PlanParts) (masks : List (List (List (List ℕ)))) (number : ℕ) → AreKept p p.tables masks → 1 ≤ number → number ≤ length p.tables → number - 1 < length masks

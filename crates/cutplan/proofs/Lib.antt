@@ -29,3 +29,5 @@ pub mod MaskLists
 pub mod TextSearch
 pub mod Sought
 pub mod Partners
+pub mod Between
+pub mod Asking

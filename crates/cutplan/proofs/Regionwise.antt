@@ -95,16 +95,16 @@ day_flag a b = record { equal = refl; less = refl; more = refl; at_most = refl; 
 pub day_number : (a d : ℤ) → Apart (Day a) (Number d)
 day_number a d = record { equal = refl; less = refl; more = refl; at_most = refl; at_least = refl }
 
-text_number : (t : List ℕ) (a : ℤ) → Apart (Text t) (Number a)
+pub text_number : (t : List ℕ) (a : ℤ) → Apart (Text t) (Number a)
 text_number t a = record { equal = refl; less = refl; more = refl; at_most = refl; at_least = refl }
 
-text_flag : (t : List ℕ) (b : Bool) → Apart (Text t) (Flag b)
+pub text_flag : (t : List ℕ) (b : Bool) → Apart (Text t) (Flag b)
 text_flag t b = record { equal = refl; less = refl; more = refl; at_most = refl; at_least = refl }
 
-text_day : (t : List ℕ) (d : ℤ) → Apart (Text t) (Day d)
+pub text_day : (t : List ℕ) (d : ℤ) → Apart (Text t) (Day d)
 text_day t d = record { equal = refl; less = refl; more = refl; at_most = refl; at_least = refl }
 
-text_text : (t u : List ℕ) → is_equal (Text t) (Text u) ≡ false → Apart (Text t) (Text u)
+pub text_text : (t u : List ℕ) → is_equal (Text t) (Text u) ≡ false → Apart (Text t) (Text u)
 text_text t u e = record { equal = e; less = refl; more = refl; at_most = refl; at_least = refl }
 
 flag_number : (b : Bool) (a : ℤ) → Apart (Flag b) (Number a)

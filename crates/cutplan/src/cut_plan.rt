@@ -46,7 +46,7 @@ impl<'a> Model for CutPlan<'a> {
 }
 
 /// Makes the plan ready for its check and for values by masks.
-#[tactic(auto, using(crate::proofs::Keeping::cut_of))]
+#[tactic(auto, using(crate::proofs::Keeping::cut_of, crate::proofs::Keeping::few_rules))]
 pub fn compile(alloc: Global, plan: &Plan) -> Result<CutPlan<'_>, AllocError>
     ensures { IfOk result (λ made. made ≡ plan.now) }
 {

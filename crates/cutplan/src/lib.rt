@@ -12,6 +12,7 @@
 //! `cut_plan.rt`, whose calls carry the promises, and `law.rt`.
 #![tactic(auto)]
 
+mod asked;
 mod column;
 mod cut_plan;
 mod cuts;

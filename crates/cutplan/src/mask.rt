@@ -2,12 +2,13 @@
 ghost use Rattle.std.specs.Prelude.{◌≡◌, ◌<◌, ◌≤◌, ◌==◌, ◌&&◌, ◌||◌, ◌++◌, ℕ, false, length, nat_lt, IfOk, OnOk};
 ghost use Rattle.std.specs.Int.{bit_at};
 ghost use Rattle.cutplan.specs.Found.{places_set};
-ghost use Rattle.cutplan.specs.Masks.{has_rule, rules_in, is_marked, Marks};
+ghost use Rattle.cutplan.specs.Masks.{has_rule, rules_in, Marks};
+ghost use Rattle.cutplan.specs.Parts.{first_value, holds_among};
 ghost use Rattle.cutplan.specs.declared.mask.TheConstants.{MASK_RULES};
 
-use crate::overlap::holds_at;
+use crate::asked::Asked;
 use crate::region::Region;
-use dtable::Table;
+use feel_tests::Value;
 use smallvec::SmallVec;
 use std::alloc::{AllocError, Global};
 
@@ -17,18 +18,32 @@ pub const MASK_RULES: usize = 256;
 /// How many rules are listed without memory of their own.
 const INLINE_RULES: usize = 16;
 
-/// The rules of a table whose cell in the column holds in the region.
-pub fn mask_of(table: &Table, column: usize, region: &Region) -> [u64; 4]
-    requires { length table.now.rules ≤ MASK_RULES }
-    ensures { Marks (is_marked table.now column region.now) result }
+/// The rules whose cell holds in the region, of which this is the first value: each of the cells is that of a rule.
+pub fn mask_of(asked: &mut [Asked<'_>], region: &Region, first: &Option<Value>) -> [u64; 4]
+    requires few { length asked.old ≤ MASK_RULES }
+    requires first { first.now ≡ first_value region.now }
+    ensures marks { Marks (holds_among asked.old region.now) result }
+    ensures same { asked.new ≡ asked.old }
 {
     let mut mask = [0u64; 4];
-    'rules: for place in 0..table.rules.len() {
-        if holds_at(table, place, column, region) {
-            insert(&mut mask, place);
-        }
+    'rules: for place in 0..asked.len() {
+        let cell = &mut asked[place];
+        let holds = cell.holds_in(region, first);
+        insert_if(&mut mask, place, holds);
     }
     mask
+}
+
+// Puts a rule into a mask, if it is to be there.
+fn insert_if(mask: &mut [u64; 4], place: usize, is_wanted: bool)
+    requires words { length mask.old ≡ 4 }
+    requires within { place < MASK_RULES }
+    ensures words { length mask.new ≡ 4 }
+    ensures has { (other : ℕ) → other < 256 → has_rule mask.new other ≡ (has_rule mask.old other || (is_wanted && (other == place))) }
+{
+    if is_wanted {
+        insert(mask, place);
+    }
 }
 
 // Puts a rule into a mask.

@@ -1,7 +1,14 @@
-use Rattle.cutplan.proofs.Keeping.{more_regions}
+use Rattle.std.proofs.Common.{ap, subst, sym, ◌∙◌}
+use Rattle.std.proofs.lemmas.Result.{IfOk-weaker}
+use Rattle.cutplan.specs.Masks.{AreMasks}
+use Rattle.cutplan.specs.Parts.{AreMasksBy}
+use Rattle.cutplan.proofs.Asking.{masks_of}
 use Rattle.cutplan.proofs.kept.masks_of_column.Goals as goal
 
-pub loop-region-preserved : goal.loop-region-preserved
-loop-region-preserved c =
-    more_regions c.args.table.now c.args.column c.args.regions.now c.loop-region.masks _ c.loop-region.region-index c.region-item.result c.mask_of.result c.loop-region-test.true c.region-item.is c.loop-region.invariant
-    c.mask_of.ensures c.in_ok-push.ensures.ok
+pub returns : goal.returns
+returns c =
+    let t = c.args.table.now in
+    let regions = c.args.regions.now in
+    let cells = c.as_mut_slice.result.now in
+    IfOk-weaker c.masks_by_cells.result (AreMasksBy cells regions) (AreMasks t c.args.column regions)
+    (λ masks all. masks_of t c.args.column cells regions masks (c.as_mut_slice.ensures.value ∙ c.in_ok-asked.ensures) all) c.masks_by_cells.ensures

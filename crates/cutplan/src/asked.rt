@@ -1,0 +1,186 @@
+//! The rules' cells of a column, asked of one value after another.
+//!
+//! Between two of its own literals that stand side by side a cell holds of all values or of none. So there it is asked
+//! once, and its answer is kept for the values that follow: of a column's regions, which rise, each cell is asked about
+//! those of its own literals, and about one between two of them.
+ghost use Rattle.std.specs.Prelude.{◌≡◌, IfOk, IfSome, false, slice_get, true};
+ghost use Rattle.std.specs.Option.{option_map_or};
+ghost use Rattle.cutplan.specs.Regions.{holds_of, is_open};
+ghost use Rattle.cutplan.specs.Parts.{cell_holds, cell_holds_in, column_cells, first_value};
+
+use crate::cuts::own_cuts;
+use crate::region::{Region, is_open, least_like, next};
+use crate::rising::{sought, stands_at};
+use dtable::{Rule, Sequence, Table};
+use feel_tests::{Kind, Value};
+use std::alloc::{AllocError, Global};
+use std::marker::Model;
+
+/// A rule's cell in a column, which contracts see as that cell, if the rule has one. It keeps the cell's literals of the
+/// column's kind in rising order, and what was answered of a value that stood in front of the literal at the place.
+#[derive(Debug, Drop)]
+pub struct Asked<'a> {
+    rule: &'a Rule,
+    column: usize,
+    kind: Kind,
+    cuts: Sequence<Value>,
+    place: usize,
+    answer: Option<bool>,
+}
+
+impl<'a> Model for Asked<'a> {
+    ghost use Rattle.std.specs.Prelude.{Option, slice_get};
+    ghost use Rattle.feel_tests.specs.declared.cell.Cell.{Cell};
+    ghost use Rattle.cutplan.specs.Parts.{IsAsked};
+
+    ghost Value = { Option Cell };
+
+    ghost view = { λ a. slice_get a.rule.now.cells a.column };
+
+    ghost invariant = { λ a. IsAsked a.rule.now a.column a.kind a.cuts a.place a.answer };
+}
+
+impl<'a> Asked<'a> {
+    /// The rule's cell in the column, whose values are of the kind; nothing is asked yet.
+    #[tactic(auto, using(crate::proofs::Between::none_asked))]
+    pub fn new(
+        alloc: Global,
+        kind: Kind,
+        rule: &'a Rule,
+        column: usize,
+    ) -> Result<Asked<'a>, AllocError>
+        ensures { IfOk result (λ made. made ≡ slice_get rule.now.cells column) }
+    {
+        let cuts = own_cuts(alloc, kind, rule, column)?;
+        Ok(Asked {
+            rule,
+            column,
+            kind,
+            cuts,
+            place: 0,
+            answer: None,
+        })
+    }
+
+    /// Whether the cell, if there is one, holds in the region, of which this is the first value.
+    pub fn holds_in(&mut self, region: &Region, first: &Option<Value>) -> bool
+        requires { first.now ≡ first_value region.now }
+        ensures answer { result ≡ cell_holds_in self.old region.now }
+        ensures same { self.new ≡ self.old }
+    {
+        match region {
+            Region::Below(_) => self.holds_of(first),
+            Region::At(_) => self.holds_of(first),
+            Region::Between(_, _) => self.holds_of(first),
+            Region::Above(_) => self.holds_of(first),
+            Region::Other(_) => self.is_open(),
+            Region::Every => self.is_open(),
+        }
+    }
+
+    fn is_open(&self) -> bool
+        ensures { result ≡ option_map_or is_open self.now true }
+    {
+        match self.rule.cells.as_slice().get(self.column) {
+            Some(cell) => is_open(cell),
+            None => true,
+        }
+    }
+
+    fn holds_of(&mut self, value: &Option<Value>) -> bool
+        ensures answer { result ≡ option_map_or (λ cell. holds_of cell value.now) self.old true }
+        ensures same { self.new ≡ self.old }
+    {
+        match value {
+            Some(value) => self.holds(value),
+            None => self.is_missing(),
+        }
+    }
+
+    fn is_missing(&self) -> bool
+        ensures { result ≡ option_map_or (λ cell. false) self.now true }
+    {
+        match self.rule.cells.as_slice().get(self.column) {
+            Some(_) => false,
+            None => true,
+        }
+    }
+
+    // Whether the cell holds of the value: as it did of the last one, if no literal stands between the two.
+    fn holds(&mut self, value: &Value) -> bool
+        ensures answer { result ≡ cell_holds self.old value.now }
+        ensures same { self.new ≡ self.old }
+    {
+        match self.kept(value) {
+            Some(answer) => answer,
+            None => self.ask(value),
+        }
+    }
+
+    // What is kept, if the value stands where that was asked.
+    fn kept(&self, value: &Value) -> Option<bool>
+        ensures { IfSome result (λ answer. answer ≡ cell_holds self.now value.now) }
+    {
+        let answer = self.answer?;
+        if stands_at(self.kind, self.cuts.as_slice(), self.place, value) {
+            Some(answer)
+        } else {
+            None
+        }
+    }
+
+    // Asks the cell, and keeps what it answers of a value that is none of its literals.
+    #[tactic(auto, using(crate::proofs::Between::asked_at))]
+    fn ask(&mut self, value: &Value) -> bool
+        ensures answer { result ≡ cell_holds self.old value.now }
+        ensures same { self.new ≡ self.old }
+    {
+        let answer = holds(self.rule, self.column, value);
+        let place = sought(self.cuts.as_slice(), value);
+        if stands_at(self.kind, self.cuts.as_slice(), place, value) {
+            self.place = place;
+            self.answer = Some(answer);
+        }
+        answer
+    }
+}
+
+// Whether the rule's cell in the column, if it has one, holds of the value.
+fn holds(rule: &Rule, column: usize, value: &Value) -> bool
+    ensures { result ≡ cell_holds (slice_get rule.now.cells column) value.now }
+{
+    match rule.cells.as_slice().get(column) {
+        Some(cell) => cell.holds(value),
+        None => true,
+    }
+}
+
+/// The cells of a table's rules in the column, whose values are of the kind.
+pub fn asked_rules<'a>(
+    alloc: Global,
+    kind: Kind,
+    table: &'a Table,
+    column: usize,
+) -> Result<Vec<Asked<'a>>, AllocError>
+    ensures { IfOk result (λ asked. asked.items ≡ column_cells table.now column) }
+{
+    let mut asked = Vec::new(alloc);
+    for rule in table.rules.as_slice() {
+        asked.push(Asked::new(alloc, kind, rule, column)?)?;
+    }
+    Ok(asked)
+}
+
+/// The first value of a region, but of one of other texts, or of all values.
+pub fn first_value(alloc: Global, region: &Region) -> Result<Option<Value>, AllocError>
+    ensures { IfOk result (λ first. first ≡ first_value region.now) }
+{
+    match region {
+        Region::Below(cut) => Ok(least_like(cut)),
+        Region::At(value) => Ok(Some(value.duplicate(alloc)?)),
+        Region::Between(low, _) => Ok(next(low)),
+        Region::Above(cut) => Ok(next(cut)),
+        Region::Other(_) => Ok(None),
+        Region::Every => Ok(None),
+    }
+}
