@@ -4,9 +4,8 @@ ghost use Rattle.std.specs.Str.{bytes_eq};
 ghost use Rattle.std.specs.Option.{option_copied, option_and_then};
 ghost use Rattle.dtable.specs.Environment.{answer_of, answer_in};
 
-use crate::sequence::Sequence;
 use crate::table::{Output, Table};
-use feel_tests::Value;
+use feel_tests::{Sequence, Value};
 use std::marker::Model;
 
 /// What a table answers for one output.

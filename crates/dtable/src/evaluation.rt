@@ -14,9 +14,9 @@ use crate::fault::Fault;
 use crate::hit::Hit;
 use crate::inputs::Inputs;
 use crate::plan::Plan;
-use crate::sequence::Sequence;
 use crate::table::Table;
 use crate::valuer::Valuer;
+use feel_tests::Sequence;
 pub use priority::rules_have_one_priority_order;
 use std::alloc::Global;
 

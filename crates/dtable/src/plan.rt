@@ -10,9 +10,8 @@ ghost use Rattle.dtable.specs.Plan.{IsPlan};
 use crate::inputs::Inputs;
 use crate::name::Name;
 use crate::roles::Roles;
-use crate::sequence::Sequence;
 use crate::table::{InputData, Table};
-use feel_tests::Kind;
+use feel_tests::{Kind, Sequence};
 use std::alloc::{AllocError, Global};
 use std::marker::Model;
 
@@ -76,10 +75,7 @@ impl Plan {
     pub fn needs(&self, place: usize) -> bool
         ensures { result ≡ needs self.now.tables place }
     {
-        self.tables
-            .as_slice()
-            .iter()
-            .any(|table| table.reads(place))
+        self.tables.iter().any(|table| table.reads(place))
     }
 
     /// Whether every name that a table reads has a value.

@@ -6,9 +6,8 @@ ghost use Rattle.dtable.specs.Priority.{in_priority_order};
 use super::priority;
 use crate::environment::Answer;
 use crate::fault::Fault;
-use crate::sequence::Sequence;
 use crate::table::Table;
-use feel_tests::Value;
+use feel_tests::{Sequence, Value};
 use std::alloc::{AllocError, Global};
 
 /// Rule order, and Collect in this profile: for each output its entries, in rule order.

@@ -5,9 +5,8 @@ ghost use Rattle.dtable.specs.Matching.{value_read, earlier_value, single, holds
 
 use crate::environment::Answer;
 use crate::inputs::Inputs;
-use crate::sequence::Sequence;
 use crate::table::{Input, Origin, Table};
-use feel_tests::{Cell, Value};
+use feel_tests::{Cell, Sequence, Value};
 use std::alloc::{AllocError, Global};
 
 /// The places of the rules that match, in rule order, from 0.
