@@ -19,7 +19,7 @@ use Rattle.dtable.specs.Plan.{PlanParts, seen_kind}
 
 -- the kind of the values of an output of an earlier table; each input of a plan reads one that there is
 abbrev pub kind_of_output : List Table → ℕ → ℕ → Kind
-kind_of_output tables table column = option_map_or (λ t. option_map_or (seen_kind t.hit) (slice_get t.outputs column) kinds.Number) (slice_get tables table) kinds.Number
+kind_of_output tables table column = option_map_or (λ t. option_map_or (λ o. seen_kind t.hit o.kind) (slice_get t.outputs column) kinds.Number) (slice_get tables table) kinds.Number
 
 -- the kind of the values that an input reads
 abbrev pub kind_read : PlanParts → Origin → Kind

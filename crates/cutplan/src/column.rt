@@ -9,7 +9,7 @@ ghost use Rattle.std.specs.Option.{option_map_or};
 use crate::cuts::cuts_of;
 use crate::region::Region;
 use crate::stretch::{listed, stretches};
-use dtable::{Hit, Input, Origin, Output, Plan, Sequence, Table};
+use dtable::{Input, Origin, Plan, Sequence, Table};
 use feel_tests::Kind;
 use std::alloc::{AllocError, Global};
 
@@ -67,19 +67,10 @@ fn kind_of_output(tables: &[Table], table: usize, column: usize) -> Kind
 }
 
 fn kind_in(table: &Table, column: usize) -> Kind
-    ensures { result ≡ option_map_or (seen_kind table.now.hit) (slice_get table.now.outputs column) kinds.Number }
+    ensures { result ≡ option_map_or (λ o. seen_kind table.now.hit o.kind) (slice_get table.now.outputs column) kinds.Number }
 {
     match table.outputs.as_slice().get(column) {
-        Some(output) => seen_kind(table.hit, output),
+        Some(output) => table.hit.seen_kind(output.kind),
         None => Kind::Number,
-    }
-}
-
-fn seen_kind(hit: Hit, output: &Output) -> Kind
-    ensures { result ≡ seen_kind hit output.now }
-{
-    match hit {
-        Hit::Count => Kind::Number,
-        _ => output.kind,
     }
 }

@@ -8,8 +8,7 @@ ghost use Rattle.feel_tests.specs.declared.value.Value.TheVariants as values;
 ghost use Rattle.cutplan.specs.Values.{is_value};
 ghost use Rattle.cutplan.specs.Regions.{holds_in, holds_of, is_in, is_open, least_like, next};
 
-use dtable::Sequence;
-use feel_tests::{Cell, Day, Kind, Value};
+use feel_tests::{Cell, Day, FIRST_DAY, Kind, Sequence, Value, duplicates};
 use fixpoint::{Fixed, MAX_UNITS};
 use std::alloc::{AllocError, Global};
 
@@ -47,17 +46,6 @@ impl Region {
             Region::Every => Ok(Region::Every),
         }
     }
-}
-
-// Copies of values, in order.
-pub fn duplicates(alloc: Global, values: &[Value]) -> Result<Sequence<Value>, AllocError>
-    ensures { IfOk result (λ copies. copies ≡ values.now) }
-{
-    let mut copies = Sequence::new(alloc);
-    for value in values {
-        copies.push(value.duplicate(alloc)?)?;
-    }
-    Ok(copies)
 }
 
 /// Whether the value lies in the region.
@@ -134,9 +122,6 @@ pub fn least_like(value: &Value) -> Option<Value>
         Value::Text(_) | Value::Flag(_) => None,
     }
 }
-
-/// The number of 1 January of the year 1, counted from 1 January 1970.
-const FIRST_DAY: i32 = -719_162;
 
 // The number or day right behind, if there is one.
 pub fn next(value: &Value) -> Option<Value>

@@ -8,9 +8,9 @@ ghost use Rattle.feel_tests.specs.Holds.{is_less};
 ghost use Rattle.feel_tests.specs.declared.value.Value.TheVariants.{Flag};
 ghost use Rattle.cutplan.specs.Regions.{holds_in};
 
-use crate::region::{Region, duplicates, holds_in, is_in_range, least_like, next};
+use crate::region::{Region, holds_in, is_in_range, least_like, next};
 use dtable::Sequence;
-use feel_tests::{Cell, Kind, Value};
+use feel_tests::{Cell, Kind, Value, duplicates};
 use std::alloc::{AllocError, Global};
 
 /// All regions of a kind by the cuts, also those that hold no value.

@@ -11,8 +11,8 @@ use Rattle.dtable.specs.declared.table.InputData.{InputData}
 use Rattle.dtable.specs.declared.table.Output.{Output}
 use Rattle.dtable.specs.declared.table.Table.{Table}
 use Rattle.dtable.specs.NameForm.{is_among, reserved_names, has_name_form, is_name_start, is_name_byte}
-use Rattle.dtable.specs.Plan.{gives_one, same_kind}
-use Rattle.dtable.specs.Scope.{SeenOutput, seen_as, seen_output, seen_of, data_names, output_names, seen_names, taken_names, is_single_of}
+use Rattle.dtable.specs.Plan.{gives_one, same_kind, seen_kind}
+use Rattle.dtable.specs.Scope.{SeenOutput, seen_output, seen_of, data_names, output_names, seen_names, taken_names, is_single_of}
 
 or_assoc : (a b c : Bool) → (a || (b || c)) ≡ ((a || b) || c)
 or_assoc true b c = refl
@@ -94,18 +94,18 @@ pub position-given : (name : List ℕ) (t : Table) → gives_one t.hit ≡ true 
 position-given name t one = rw (position-single name t, one)
 
 -- the kind that is seen of an output that is a list is the written one
-pub seen_as-listed : (hit : Hit) (kind : Kind) → gives_one hit ≡ false → seen_as hit kind ≡ kind
-seen_as-listed hits.U kind list = refl
-seen_as-listed hits.A kind list = refl
-seen_as-listed hits.P kind list = refl
-seen_as-listed hits.F kind list = refl
-seen_as-listed hits.O kind list = refl
-seen_as-listed hits.R kind list = refl
-seen_as-listed hits.C kind list = refl
-seen_as-listed hits.Sum kind list = refl
-seen_as-listed hits.Min kind list = refl
-seen_as-listed hits.Max kind list = refl
-seen_as-listed hits.Count kind list = cc
+pub seen_kind-listed : (hit : Hit) (kind : Kind) → gives_one hit ≡ false → seen_kind hit kind ≡ kind
+seen_kind-listed hits.U kind list = refl
+seen_kind-listed hits.A kind list = refl
+seen_kind-listed hits.P kind list = refl
+seen_kind-listed hits.F kind list = refl
+seen_kind-listed hits.O kind list = refl
+seen_kind-listed hits.R kind list = refl
+seen_kind-listed hits.C kind list = refl
+seen_kind-listed hits.Sum kind list = refl
+seen_kind-listed hits.Min kind list = refl
+seen_kind-listed hits.Max kind list = refl
+seen_kind-listed hits.Count kind list = cc
 
 -- the outputs of a table that list texts under a name
 abbrev pub lists_text_as : List ℕ → SeenOutput → Bool
@@ -114,7 +114,7 @@ lists_text_as name o = bytes_eq o.name name && (not o.is_single && same_kind kin
 pub texts-listed : (name : List ℕ) (hit : Hit) (os : List Output) → gives_one hit ≡ false
     → list_any (λ o. bytes_eq o.name name && same_kind kinds.Text o.kind) os ≡ list_any (lists_text_as name) (map (seen_output hit) os)
 texts-listed name hit [] list = refl
-texts-listed name hit (o ∷ os) list = rw (list, seen_as-listed hit o.kind list, texts-listed name hit os list)
+texts-listed name hit (o ∷ os) list = rw (list, seen_kind-listed hit o.kind list, texts-listed name hit os list)
 
 and_false : (b : Bool) → (b && false) ≡ false
 and_false true = refl

@@ -20,10 +20,10 @@ use Rattle.dtable.specs.Document.{Optionally}
 use Rattle.dtable.specs.NameForm.{is_among, reserved_names}
 use Rattle.dtable.specs.Names.{names_of}
 use Rattle.dtable.specs.declared.plan_fault.PlanFault.{PlanFault}
-use Rattle.dtable.specs.Plan.{is_ranked}
+use Rattle.dtable.specs.Plan.{is_ranked, seen_kind}
 use Rattle.dtable.specs.Reading.{Reads}
 use Rattle.dtable.specs.PlanFile.{IsEntry, is_listed, kind_word, hit_word, IsNamed, IsNewlyNamed, IsOfKind, IsLiteral, IsCellOf, IsCell, IsField, AreFields, IsInput, IsPriority, ArePriorities, IsOutput, IsHit, AreInputs, AreOutputs, IsTable, AreTables, AreNames, AreTablesOf}
-use Rattle.dtable.specs.Scope.{SeenOutput, seen_as, seen_of, seen_output, origin_of, kind_at, taken_names}
+use Rattle.dtable.specs.Scope.{SeenOutput, seen_of, seen_output, origin_of, kind_at, taken_names}
 use Rattle.dtable.proofs.Entries.{Optionally-same, Each-same, EachBehind-same, EachBehind-seen}
 
 -- words stand for one kind, and for one hit policy
@@ -123,7 +123,7 @@ module _ (once : SpellsOneValue) where
       let names : o.name ≡ p.name = IsNamed-same d o.name p.name h.name.named k.name.named in
       let kinds : o.kind ≡ p.kind = IsOfKind-same d o.kind p.kind h.kind k.kind in
       let lists : o.priority ≡ p.priority = Optionally-same (ArePriorities p.kind) (ArePriorities-same p.kind) (get (codes "priority") d) o.priority p.priority (rw kinds at h.priority) k.priority in
-      let defaults : o.fallback ≡ p.fallback = Optionally-same (IsLiteral (seen_as hit p.kind)) (IsLiteral-same (seen_as hit p.kind)) (get (codes "default") d) o.fallback p.fallback (rw kinds at h.fallback) k.fallback in
+      let defaults : o.fallback ≡ p.fallback = Optionally-same (IsLiteral (seen_kind hit p.kind)) (IsLiteral-same (seen_kind hit p.kind)) (get (codes "default") d) o.fallback p.fallback (rw kinds at h.fallback) k.fallback in
       let made : List ℕ → Kind → Option (List Value) → Option Value → Output = λ n j l f. record { name = n; kind = j; priority = l; fallback = f } in
       ap (λ n. made n o.kind o.priority o.fallback) names ∙ ap (λ j. made p.name j o.priority o.fallback) kinds
       ∙ ap (λ l. made p.name p.kind l o.fallback) lists ∙ ap (made p.name p.kind p.priority) defaults
@@ -214,7 +214,7 @@ IsOutput-no_priority hit taken d kind known none o h =
     let same : o.kind ≡ kind = IsOfKind-same d o.kind kind h.kind known in
     none o.priority (rw same at h.priority)
 
-pub IsOutput-no_fallback : (hit : Hit) (taken : List (List ℕ)) (d : Data) (kind : Kind) → IsOfKind d kind → ((f : Option Value) → ¬ Optionally (IsLiteral (seen_as hit kind)) (get (codes "default") d) f) → (o : Output) → ¬ IsOutput hit taken d o
+pub IsOutput-no_fallback : (hit : Hit) (taken : List (List ℕ)) (d : Data) (kind : Kind) → IsOfKind d kind → ((f : Option Value) → ¬ Optionally (IsLiteral (seen_kind hit kind)) (get (codes "default") d) f) → (o : Output) → ¬ IsOutput hit taken d o
 IsOutput-no_fallback hit taken d kind known none o h =
     let same : o.kind ≡ kind = IsOfKind-same d o.kind kind h.kind known in
     none o.fallback (rw same at h.fallback)

@@ -22,7 +22,6 @@ use Rattle.feel_tests.specs.declared.kind.Kind.TheVariants as kinds
 use Rattle.feel_tests.specs.declared.value.Value.{Value}
 use Rattle.feel_tests.specs.Value.{kind_of}
 use Rattle.dtable.specs.declared.hit.Hit.{Hit}
-use Rattle.dtable.specs.declared.hit.Hit.TheVariants as hits
 use Rattle.dtable.specs.declared.roles.Roles.{Roles}
 use Rattle.dtable.specs.declared.roles.Source.{Source}
 use Rattle.dtable.specs.declared.roles.Source.TheVariants.{Literal, Input as InputSource, Output as OutputSource}
@@ -40,11 +39,11 @@ use Rattle.dtable.specs.Environment.{or_else}
 use Rattle.dtable.specs.Plan.{PlanParts, IsPlan, same_kind, has_kind, gives_one, seen_kind, is_known, are_known, entry_fits, rule_fits, is_ranked, meets_demands, default_fits, some_output, source_fits, remarks_fit, roles_fit}
 use Rattle.dtable.specs.PlanFile.{IsLiteral, IsEntry, IsInput, IsOutput, IsRule, IsCellUnder, AreFields, AreNames, IsTable, AreTables, AreTablesOf, IsPlanDocument, IsPlanText}
 use Rattle.dtable.specs.RoleFile.{IsSource, IsRole, AreRoles, AreRemarks, asked_kind, lists_texts}
-use Rattle.dtable.specs.Scope.{SeenOutput, seen_as, seen_output, seen_of, earlier_origin, kind_at}
+use Rattle.dtable.specs.Scope.{SeenOutput, seen_output, seen_of, earlier_origin, kind_at}
 use Rattle.dtable.proofs.DistinctNames.{distinct-document}
 use Rattle.dtable.proofs.FoundOutput.{IsFound, found}
 use Rattle.dtable.proofs.PlanLimits.{within-document}
-use Rattle.dtable.proofs.ReadNames.{seen_as-listed}
+use Rattle.dtable.proofs.ReadNames.{seen_kind-listed}
 use Rattle.dtable.proofs.ReadParts.{AreNames-same, AreTablesOf-seen}
 
 is_true : (b : Bool) → b ≡ true → IsTrue b
@@ -70,19 +69,6 @@ same_kind-refl kinds.Day = refl
 
 has_kind-of : (k : Kind) (v : Value) → kind_of v ≡ k → has_kind k v ≡ true
 has_kind-of k v e = rw e (same_kind-refl k)
-
-seen_kind-as : (hit : Hit) (o : Output) → seen_kind hit o ≡ seen_as hit o.kind
-seen_kind-as hits.U o = refl
-seen_kind-as hits.A o = refl
-seen_kind-as hits.P o = refl
-seen_kind-as hits.F o = refl
-seen_kind-as hits.O o = refl
-seen_kind-as hits.R o = refl
-seen_kind-as hits.C o = refl
-seen_kind-as hits.Sum o = refl
-seen_kind-as hits.Min o = refl
-seen_kind-as hits.Max o = refl
-seen_kind-as hits.Count o = refl
 
 -- what each entry spells passes a test, so all do
 each_all : {A : Type 0} (R : Data → A → Type 0) (test : A → Bool) → ((d : Data) (x : A) → R d x → test x ≡ true) → (ds : Items) (xs : List A) → Each R ds xs → list_all test xs ≡ true
@@ -140,7 +126,7 @@ default_ok k (Some d) None h = absurd h
 default_ok k (Some d) (Some v) h = has_kind-of k v h.of_kind
 
 default_fits-of : (hit : Hit) (taken : List (List ℕ)) (d : Data) (o : Output) → IsOutput hit taken d o → default_fits hit o ≡ true
-default_fits-of hit taken d o h = rw (seen_kind-as hit o) (default_ok (seen_as hit o.kind) (get (codes "default") d) o.fallback h.fallback)
+default_fits-of hit taken d o h = default_ok (seen_kind hit o.kind) (get (codes "default") d) o.fallback h.fallback
 
 defaults_fit : (names : List InputData) (earlier : List (List SeenOutput)) (d : Data) (t : Table) → IsTable names earlier d t → list_all (default_fits t.hit) t.outputs ≡ true
 defaults_fit names earlier d t h = each_behind_all (λ o. o.name) (IsOutput t.hit) (default_fits t.hit) (default_fits-of t.hit) _ h.outputs.entries t.outputs h.outputs.each
@@ -190,29 +176,29 @@ given_fits : (kind : Kind) (o : Option InputData) → option_map (λ d. d.kind) 
 given_fits kind None e = cc
 given_fits kind (Some d) e = rw (same_Some d.kind kind e) (same_kind-refl kind)
 
-found_kind : (names : List InputData) (ts : List Table) (name : List ℕ) (origin : Origin) (kind : Kind) → (f : IsFound name 0 ts origin) → kind_at names (map seen_of ts) (Earlier f.table f.column) ≡ Some kind → seen_as f.t.hit f.output.kind ≡ kind
+found_kind : (names : List InputData) (ts : List Table) (name : List ℕ) (origin : Origin) (kind : Kind) → (f : IsFound name 0 ts origin) → kind_at names (map seen_of ts) (Earlier f.table f.column) ≡ Some kind → seen_kind f.t.hit f.output.kind ≡ kind
 found_kind names ts name origin kind f k =
     let tables : slice_get (map seen_of ts) f.table ≡ Some (seen_of f.t) = slice_get-map seen_of ts f.table ∙ ap (option_map seen_of) f.t_at in
     let outputs : slice_get (seen_of f.t) f.column ≡ Some (seen_output f.t.hit f.output) = slice_get-map (seen_output f.t.hit) f.t.outputs f.column ∙ ap (option_map (seen_output f.t.hit)) f.output_at in
-    same_Some (seen_as f.t.hit f.output.kind) kind (rw (tables, outputs) at k)
+    same_Some (seen_kind f.t.hit f.output.kind) kind (rw (tables, outputs) at k)
 
 found_fits : (names : List InputData) (ts : List Table) (name : List ℕ) (kind : Kind) (table column : ℕ) → IsFound name 0 ts (Earlier table column) → kind_at names (map seen_of ts) (Earlier table column) ≡ Some kind
-    → some_output (λ hit o. gives_one hit && same_kind kind (seen_kind hit o)) ts name ≡ true
+    → some_output (λ hit o. gives_one hit && same_kind kind (seen_kind hit o.kind)) ts name ≡ true
 found_fits names ts name kind table column f k =
     let there = f.there in
     let tables : table ≡ 0 + f.table = cc in
     let columns : column ≡ f.column = cc in
     let place : table ≡ f.table = omega (arith, tables) in
-    let kinds_same : seen_as f.t.hit f.output.kind ≡ kind = found_kind names ts name (Earlier table column) kind f (rw (place, columns) at k) in
-    let fits : same_kind kind (seen_kind f.t.hit f.output) ≡ true = rw (seen_kind-as f.t.hit f.output, kinds_same) (same_kind-refl kind) in
-    any_at (λ t. list_any (λ o. bytes_eq o.name name && (gives_one t.hit && same_kind kind (seen_kind t.hit o))) t.outputs) ts f.table f.t f.t_at
-    (any_at (λ o. bytes_eq o.name name && (gives_one f.t.hit && same_kind kind (seen_kind f.t.hit o))) f.t.outputs f.column f.output f.output_at
-    (both (bytes_eq f.output.name name) (gives_one f.t.hit && same_kind kind (seen_kind f.t.hit f.output)) f.named
-    (both (gives_one f.t.hit) (same_kind kind (seen_kind f.t.hit f.output)) f.one fits)))
+    let kinds_same : seen_kind f.t.hit f.output.kind ≡ kind = found_kind names ts name (Earlier table column) kind f (rw (place, columns) at k) in
+    let fits : same_kind kind (seen_kind f.t.hit f.output.kind) ≡ true = rw kinds_same (same_kind-refl kind) in
+    any_at (λ t. list_any (λ o. bytes_eq o.name name && (gives_one t.hit && same_kind kind (seen_kind t.hit o.kind))) t.outputs) ts f.table f.t f.t_at
+    (any_at (λ o. bytes_eq o.name name && (gives_one f.t.hit && same_kind kind (seen_kind f.t.hit o.kind))) f.t.outputs f.column f.output f.output_at
+    (both (bytes_eq f.output.name name) (gives_one f.t.hit && same_kind kind (seen_kind f.t.hit f.output.kind)) f.named
+    (both (gives_one f.t.hit) (same_kind kind (seen_kind f.t.hit f.output.kind)) f.one fits)))
 
 output_fits_by : (names : List InputData) (ts : List Table) (name : List ℕ) (kind : Kind) (table column : ℕ) (p : Option ℕ)
     → or_else (option_map Given p) (earlier_origin 0 (map seen_of ts) name) ≡ Some (Earlier table column) → kind_at names (map seen_of ts) (Earlier table column) ≡ Some kind
-    → some_output (λ hit o. gives_one hit && same_kind kind (seen_kind hit o)) ts name ≡ true
+    → some_output (λ hit o. gives_one hit && same_kind kind (seen_kind hit o.kind)) ts name ≡ true
 output_fits_by names ts name kind table column (Some place) e k = cc
 output_fits_by names ts name kind table column None e k = found_fits names ts name kind table column (found name 0 ts (Earlier table column) e) k
 
@@ -226,11 +212,11 @@ source_ok : (p : PlanParts) (ask : Asked) (key : List ℕ) (d : Data) (source : 
 source_ok p ask key d source h = source_by p ask h.text source h.spelled
 
 -- remarks fit
-text_same : (hit : Hit) (kind : Kind) → (not (gives_one hit) && same_kind kinds.Text (seen_as hit kind)) ≡ (not (gives_one hit) && same_kind kinds.Text kind)
+text_same : (hit : Hit) (kind : Kind) → (not (gives_one hit) && same_kind kinds.Text (seen_kind hit kind)) ≡ (not (gives_one hit) && same_kind kinds.Text kind)
 text_same hit kind =
     elim (cases_Bool (gives_one hit)) [
       | inl one ↦ rw one
-      | inr list ↦ rw (seen_as-listed hit kind list)
+      | inr list ↦ rw (seen_kind-listed hit kind list)
     ]
 
 texts_same : (name : List ℕ) (hit : Hit) (os : List Output)

@@ -1,8 +1,6 @@
 -- What a role's string spells, and what leaves no source.
-use Rattle.std.proofs.Common.{◌≡◌, ℕ, ℤ, pos, ◌≤ℤ◌, ◌*◌, ◌/◌, ◌%◌, eqb, true, false, List, Some, None, Result, Ok, Err, IfOk, OnOk, OnErr, is_some, subst, sym, ap, ◌∙◌, arith}
-use Rattle.std.proofs.lemmas.Bool.{false≢true, eqb-true, eq-eqb}
-use Rattle.std.proofs.lemmas.Int.{ints}
-use Rattle.std.specs.Int.RustNames.{unsigned_abs}
+use Rattle.std.proofs.Common.{◌≡◌, ℕ, false, List, Some, None, Result, Ok, Err, IfOk, OnOk, OnErr, is_some, subst, sym, ◌∙◌}
+use Rattle.std.proofs.lemmas.Bool.{false≢true}
 use Rattle.std.proofs.lemmas.Option.{same_Some}
 use Rattle.toml.specs.Data.{Data, string, integer, float, boolean, datetime, array, table, as_table}
 use Rattle.feel_tests.specs.declared.kind.Kind.{Kind}
@@ -19,7 +17,7 @@ use Rattle.dtable.specs.declared.table.Origin.{Origin}
 use Rattle.dtable.specs.declared.table.Origin.TheVariants.{Given, Earlier}
 use Rattle.dtable.specs.Document.{string_at}
 use Rattle.dtable.specs.Reading.{Reads}
-use Rattle.dtable.specs.RoleFile.{IsSource, IsNamedSource, SpellsNone, IsRole, AreRoles, IsMoney, Meets, asked_kind}
+use Rattle.dtable.specs.RoleFile.{IsSource, IsNamedSource, SpellsNone, IsRole, AreRoles, Meets, asked_kind}
 use Rattle.dtable.specs.Scope.{SeenOutput, origin_of, kind_at}
 
 module _ (names : List InputData) (earlier : List (List SeenOutput)) where
@@ -80,16 +78,3 @@ module _ (names : List InputData) (earlier : List (List SeenOutput)) where
   no_table (datetime t) none r h = let clash = h.cover.written in cc
   no_table (array ds) none r h = let clash = h.cover.written in cc
   no_table (table ms) none r h = false≢true (sym none)
-
--- whole cents that are not negative are those whose count is a multiple of 100
-multiple : (n m cents : ℕ) → n ≡ m → m ≡ cents * 100 → n % 100 ≡ 0
-multiple n m cents e f = omega arith
-
-pub money_iff : (u : ℤ) (n : ℕ) → pos 0 ≤ℤ u → n ≡ unsigned_abs u → (eqb (n % 100) 0 ≡ true → IsMoney u) × (IsMoney u → eqb (n % 100) 0 ≡ true)
-money_iff (ℤ.pos m) n above same = (
-  λ e. let none : n % 100 ≡ 0 = eqb-true (n % 100) 0 e in
-      let whole : m ≡ (n / 100) * 100 = omega (arith, none) in
-      (n / 100, ap pos whole),
-  λ money. let whole : m ≡ money.0 * 100 = let e = money.1 in cc in eq-eqb (n % 100) 0 (multiple n m money.0 same whole),
-)
-money_iff (ℤ.negsuc m) n above same = absurd (omega (arith, ints))

@@ -47,10 +47,10 @@ gives_one R = false
 gives_one C = false
 gives_one _ = true
 
--- the kind of the values that later tables and roles see in an output: a number where rules are counted
-abbrev pub seen_kind : Hit → TableOutput → Kind
-seen_kind Count output = kinds.Number
-seen_kind _ output = output.kind
+-- the kind of the values that later tables and roles see in an output of this written kind: a number where rules are counted
+abbrev pub seen_kind : Hit → Kind → Kind
+seen_kind Count written = kinds.Number
+seen_kind _ written = written
 
 -- the origin is one of the names, or an output of an earlier table with one value
 abbrev pub is_known : List InputData → List Table → Origin → Bool
@@ -89,7 +89,7 @@ meets_demands _ outputs = true
 
 -- the default, if there is one, has the kind that is seen of its output
 abbrev pub default_fits : Hit → TableOutput → Bool
-default_fits hit output = option_map_or (has_kind (seen_kind hit output)) output.fallback true
+default_fits hit output = option_map_or (has_kind (seen_kind hit output.kind)) output.fallback true
 
 -- some output of some table has the name, and passes the test
 abbrev pub some_output : (Hit → TableOutput → Bool) → List Table → List ℕ → Bool
@@ -99,7 +99,7 @@ some_output test tables name = list_any (λ t. list_any (λ o. bytes_eq o.name n
 abbrev pub source_fits : List InputData → List Table → Kind → Source → Bool
 source_fits names tables kind (Literal value) = has_kind kind value
 source_fits names tables kind (Input place) = option_map_or (λ d. same_kind kind d.kind) (slice_get names place) false
-source_fits names tables kind (Output name) = some_output (λ hit o. gives_one hit && same_kind kind (seen_kind hit o)) tables name
+source_fits names tables kind (Output name) = some_output (λ hit o. gives_one hit && same_kind kind (seen_kind hit o.kind)) tables name
 
 -- an output that lists texts has the name, if there is one
 abbrev pub remarks_fit : List Table → Option (List ℕ) → Bool

@@ -20,9 +20,9 @@ use Rattle.dtable.specs.Document.{string_at, array_at, optional_array_at, item_c
 use Rattle.dtable.specs.Limits.{plan_limit_bytes, fields_limit, tables_limit, inputs_limit, outputs_limit, rules_limit, priority_limit, name_limit_bytes}
 use Rattle.dtable.specs.NameForm.{has_name_form, is_among, reserved_names}
 use Rattle.dtable.specs.Names.{names_of}
-use Rattle.dtable.specs.Plan.{PlanParts, is_ranked, meets_demands}
+use Rattle.dtable.specs.Plan.{PlanParts, is_ranked, meets_demands, seen_kind}
 use Rattle.dtable.specs.RoleFile.{AreRoles}
-use Rattle.dtable.specs.Scope.{SeenOutput, seen_of, seen_as, origin_of, kind_at, taken_names}
+use Rattle.dtable.specs.Scope.{SeenOutput, seen_of, origin_of, kind_at, taken_names}
 
 -- the word of a kind
 abbrev pub kind_word : Kind → List ℕ
@@ -121,7 +121,7 @@ pub record IsOutput (hit : Hit) (taken : List (List ℕ)) (entry : Data) (output
   pub name : IsNewlyNamed taken entry output.name
   pub kind : IsOfKind entry output.kind
   pub priority : Optionally (ArePriorities output.kind) (get (codes "priority") entry) output.priority
-  pub fallback : Optionally (IsLiteral (seen_as hit output.kind)) (get (codes "default") entry) output.fallback
+  pub fallback : Optionally (IsLiteral (seen_kind hit output.kind)) (get (codes "default") entry) output.fallback
 
 -- an entry of `then` under its output: a literal of the written kind, which is in the priority list, if there is one
 pub record IsEntry (output : Output) (entry : Data) (value : Value) : Type 0 where

@@ -1,8 +1,9 @@
 -- The roles that the key `roles` of a plan's document spells.
-use Rattle.std.specs.Prelude.{◌≡◌, ℕ, ◌*◌, ◌≤◌, ℤ, pos, Bool, not, ◌&&◌, List, codes, Some, IsTrue}
+use Rattle.std.specs.Prelude.{◌≡◌, ℕ, Bool, not, ◌&&◌, List, codes, Some, IsTrue}
 use Rattle.std.specs.List.{list_any}
 use Rattle.std.specs.Str.{bytes_eq}
 use Rattle.toml.specs.Data.{Data, string, get}
+use Rattle.fixpoint.specs.Money.{IsMoney, IsRate}
 use Rattle.feel_tests.specs.declared.kind.Kind.{Kind}
 use Rattle.feel_tests.specs.declared.kind.Kind.TheVariants as kinds
 use Rattle.feel_tests.specs.declared.value.Value.{Value}
@@ -19,14 +20,6 @@ use Rattle.dtable.specs.declared.table.Origin.TheVariants.{Given, Earlier}
 use Rattle.dtable.specs.Document.{string_at, Optionally}
 use Rattle.dtable.specs.Plan.{same_kind}
 use Rattle.dtable.specs.Scope.{SeenOutput, origin_of, kind_at}
-
--- the units of an amount of money: whole cents, and not negative
-abbrev pub IsMoney : ℤ → Type 0
-IsMoney units = (cents : ℕ) × (units ≡ pos (cents * 100))
-
--- the units of a rate: a number from 0 to 1
-abbrev pub IsRate : ℤ → Type 0
-IsRate units = (part : ℕ) × (units ≡ pos part) × (part ≤ 10000)
 
 -- the kind of what is asked
 abbrev pub asked_kind : Asked → Kind

@@ -3,9 +3,7 @@ use Rattle.std.specs.Prelude.{ℕ, zero, suc, Bool, ◌&&◌, List, [], ◌∷�
 use Rattle.std.specs.Option.{option_and_then}
 use Rattle.std.specs.Str.{bytes_eq}
 use Rattle.feel_tests.specs.declared.kind.Kind.{Kind}
-use Rattle.feel_tests.specs.declared.kind.Kind.TheVariants.{Number}
 use Rattle.dtable.specs.declared.hit.Hit.{Hit}
-use Rattle.dtable.specs.declared.hit.Hit.TheVariants.{Count}
 use Rattle.dtable.specs.declared.table.InputData.{InputData}
 use Rattle.dtable.specs.declared.table.Origin.{Origin}
 use Rattle.dtable.specs.declared.table.Origin.TheVariants.{Given, Earlier}
@@ -13,12 +11,7 @@ use Rattle.dtable.specs.declared.table.Output.{Output}
 use Rattle.dtable.specs.declared.table.Table.{Table}
 use Rattle.dtable.specs.Environment.{or_else}
 use Rattle.dtable.specs.NameForm.{reserved_names}
-use Rattle.dtable.specs.Plan.{gives_one}
-
--- the kind that is seen of an output's written one: a number where rules are counted
-abbrev pub seen_as : Hit → Kind → Kind
-seen_as Count kind = Number
-seen_as _ kind = kind
+use Rattle.dtable.specs.Plan.{gives_one, seen_kind}
 
 -- what is seen of an output: its name, the kind of its values, and whether it has one value, and no list
 pub record SeenOutput : Type 0 where
@@ -28,7 +21,7 @@ pub record SeenOutput : Type 0 where
 
 -- what is seen of an output of a table with this hit policy
 abbrev pub seen_output : Hit → Output → SeenOutput
-seen_output hit output = record { name = output.name; kind = seen_as hit output.kind; is_single = gives_one hit }
+seen_output hit output = record { name = output.name; kind = seen_kind hit output.kind; is_single = gives_one hit }
 
 -- what is seen of a table: its outputs
 abbrev pub seen_of : Table → List SeenOutput

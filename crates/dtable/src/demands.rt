@@ -3,12 +3,11 @@ ghost use Rattle.std.specs.Prelude.{◌≡◌, is_some};
 ghost use Rattle.std.specs.List.{list_all, list_any};
 ghost use Rattle.feel_tests.specs.Holds.{is_equal};
 ghost use Rattle.feel_tests.specs.declared.kind.Kind.TheVariants as kinds;
-ghost use Rattle.dtable.specs.Plan.{same_kind, is_ranked, meets_demands};
+ghost use Rattle.dtable.specs.Plan.{same_kind, has_kind, is_ranked, meets_demands};
 
 use crate::hit::Hit;
-use crate::sequence::Sequence;
 use crate::table::Output;
-use feel_tests::{Kind, Value};
+use feel_tests::{Kind, Sequence, Value};
 
 /// Whether the outputs are what the policy asks for.
 pub fn meets_demands(hit: Hit, outputs: &[Output]) -> bool
@@ -46,6 +45,13 @@ fn same_kind(one: Kind, other: Kind) -> bool
         (Kind::Day, Kind::Day) => true,
         _ => false,
     }
+}
+
+/// Whether the value is of the kind.
+pub fn has_kind(kind: Kind, value: &Value) -> bool
+    ensures { result ≡ has_kind kind value.now }
+{
+    same_kind(kind, value.kind())
 }
 
 /// Whether the entry is in the priority list, if there is one.

@@ -6,9 +6,8 @@ ghost use Rattle.dtable.specs.Environment.{answer_of, answer_in, answer_at};
 
 use crate::answers::{Answers, AnswersByTable};
 use crate::output_place::OutputPlace;
-use crate::sequence::Sequence;
 use crate::table::{Output, Table};
-use feel_tests::Value;
+use feel_tests::{Sequence, Value};
 use std::marker::Model;
 
 /// What a table answers for one output.
@@ -60,11 +59,7 @@ impl<'a> Env<'a> {
 }
 
 // The answer of the first output with this name.
-fn find_answer<'a>(
-    tables: &[Table],
-    answers: &'a [Answers<'_>],
-    name: &str,
-) -> Option<&'a Answer>
+fn find_answer<'a>(tables: &[Table], answers: &'a [Answers<'_>], name: &str) -> Option<&'a Answer>
     ensures { option_copied result ≡ answer_of tables.now answers.now name.now }
 {
     for (place, answers) in answers.iter().enumerate() {

@@ -1,6 +1,8 @@
 //! Hit policies.
 ghost use Rattle.std.specs.Prelude.{◌≡◌};
-ghost use Rattle.dtable.specs.Plan.{gives_one};
+ghost use Rattle.dtable.specs.Plan.{gives_one, seen_kind};
+
+use feel_tests::Kind;
 
 /// A hit policy: what a table's value is where several rules match (DMN 1.4, hit policies).
 #[derive(Clone, Copy, Debug, PartialEq, Eq, Hash)]
@@ -35,5 +37,15 @@ impl Hit {
         ensures { result ≡ gives_one self }
     {
         !matches!(self, Hit::O | Hit::R | Hit::C)
+    }
+
+    /// The kind of the values that are seen of an output of this written kind.
+    pub fn seen_kind(self, written: Kind) -> Kind
+        ensures { result ≡ seen_kind self written }
+    {
+        match self {
+            Hit::Count => Kind::Number,
+            _ => written,
+        }
     }
 }

@@ -23,11 +23,11 @@ mod plan;
 mod plan_fault;
 mod reading;
 mod roles;
-mod sequence;
 mod table;
 mod valuer;
 
 pub use answers::{Answers, AnswersByTable};
+pub use demands::has_kind;
 pub use environment::{Answer, Env};
 pub use evaluation::matching::value_read;
 pub use evaluation::{
@@ -35,6 +35,7 @@ pub use evaluation::{
     table_value,
 };
 pub use fault::Fault;
+pub use feel_tests::Sequence;
 pub use hit::Hit;
 pub use inputs::{Inputs, Slot};
 pub use name::{NAME_LIMIT_BYTES, Name};
@@ -43,6 +44,5 @@ pub use plan::{Plan, all_names};
 pub use plan_fault::{PlanCause, PlanFault};
 pub use reading::{PLAN_LIMIT_BYTES, read_plan, text_spells_at_most_one_plan};
 pub use roles::{Roles, Source};
-pub use sequence::Sequence;
 pub use table::{Input, InputData, Origin, Output, Rule, Table};
 pub use valuer::Valuer;

@@ -13,9 +13,8 @@ use crate::inputs::Inputs;
 use crate::name::Name;
 use crate::output_place::{OutputPlace, place_named};
 use crate::roles::Roles;
-use crate::sequence::Sequence;
 use crate::table::{InputData, Table};
-use feel_tests::Kind;
+use feel_tests::{Kind, Sequence};
 use std::alloc::{AllocError, Global};
 use std::marker::Model;
 
@@ -87,10 +86,7 @@ impl Plan {
     pub fn needs(&self, place: usize) -> bool
         ensures { result ≡ needs self.now.tables place }
     {
-        self.tables
-            .as_slice()
-            .iter()
-            .any(|table| table.reads(place))
+        self.tables.iter().any(|table| table.reads(place))
     }
 
     /// Whether every name that a table reads has a value.

@@ -9,8 +9,7 @@ ghost use Rattle.dtable.specs.Priority.{entries_of};
 use crate::hit::Hit;
 use crate::inputs::Inputs;
 use crate::name::Name;
-use crate::sequence::Sequence;
-use feel_tests::{Cell, Kind, Value};
+use feel_tests::{Cell, Kind, Sequence, Value};
 
 /// Input data (DMN 1.4): a name that tables may read from outside, and the kind of its value.
 #[derive(Debug, Drop)]
@@ -66,10 +65,7 @@ impl Table {
     pub fn reads(&self, place: usize) -> bool
         ensures { result ≡ list_any (λ i. reads place i.origin) self.now.inputs }
     {
-        self.inputs
-            .as_slice()
-            .iter()
-            .any(|input| input.origin.reads(place))
+        self.inputs.iter().any(|input| input.origin.reads(place))
     }
 
     /// Whether each input that reads input data finds a value there.
@@ -77,7 +73,6 @@ impl Table {
         ensures { result ≡ is_served inputs.now self.now }
     {
         self.inputs
-            .as_slice()
             .iter()
             .all(|input| input.origin.is_served(inputs))
     }

@@ -24,8 +24,8 @@ impl Model for Day {
     ghost inverse = { λ number. record { epoch_day = number } };
 }
 
-/// The number of 1 January of the year 1.
-const FIRST_DAY: i32 = -719_162;
+/// The number of 1 January of the year 1, counted from 1 January 1970.
+pub const FIRST_DAY: i32 = -719_162;
 
 /// The number of 31 December of the year 9999.
 const LAST_DAY: i32 = 2_932_896;

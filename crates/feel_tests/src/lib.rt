@@ -13,6 +13,7 @@ mod cell;
 mod dates;
 mod day;
 mod fault;
+mod joined;
 mod kind;
 mod law;
 mod literal;
@@ -20,6 +21,7 @@ mod literals;
 mod plain;
 mod reading;
 mod refusal;
+mod sequence;
 mod strings;
 mod symbol;
 #[cfg(test)]
@@ -30,8 +32,9 @@ mod value;
 mod word;
 
 pub use cell::{Cell, Op, TEST_LIMIT, Test, Tests};
-pub use day::Day;
+pub use day::{Day, FIRST_DAY};
 pub use fault::{CellCause, CellFault};
+pub use joined::{Bytes, Literals, Spelling, append_joined};
 pub use kind::Kind;
 pub use law::{
     field_spells_at_most_one_value, literal_spells_its_value, text_spells_at_most_one_cell,
@@ -39,5 +42,6 @@ pub use law::{
 };
 pub use plain::{PlainFault, read_plain};
 pub use reading::{read_cell, read_value};
+pub use sequence::{Sequence, duplicates};
 pub use text::{TEXT_LIMIT_BYTES, Text};
 pub use value::Value;

@@ -3,6 +3,7 @@
 //! What a text has for an answer is asked by one small function each, so that the loops over the tables hold no values.
 mod examples;
 mod limits;
+mod lists;
 mod memory;
 mod table;
 

@@ -1,5 +1,5 @@
 -- Money: whole cents, products rounded to whole cents, and the text of money.
-use Rattle.std.specs.Prelude.{◌≡◌, ◌≢◌, ℕ, ℤ, pos, ◌+◌, ◌*◌, ◌/◌, ◌%◌, ◌≤◌, ◌-ℤ◌, ◌*ℤ◌, ◌≤ℤ◌, unsigned_abs, if◌then◌else◌, nat_lt, List, [], ◌∷◌, ◌++◌, decimal}
+use Rattle.std.specs.Prelude.{◌≡◌, ◌≢◌, ℕ, ℤ, pos, ◌+◌, ◌*◌, ◌/◌, ◌%◌, ◌≤◌, ◌-ℤ◌, ◌*ℤ◌, ◌≤ℤ◌, unsigned_abs, if◌then◌else◌, nat_lt, Bool, ◌==◌, ◌&&◌, int_le, IsTrue, List, [], ◌∷◌, ◌++◌, decimal}
 use Rattle.std.specs.Fmt.{sign_text}
 use Rattle.fixpoint.specs.Number.{IsInRange, signed, is_negative}
 use Rattle.fixpoint.specs.NumberText.{Denotes}
@@ -11,6 +11,17 @@ IsCents units = unsigned_abs units % 100 ≡ 0
 -- the units are money: whole cents, and not below zero
 abbrev pub IsMoney : ℤ → Type 0
 IsMoney units = IsCents units × (pos 0 ≤ℤ units)
+
+-- the same as a test
+abbrev pub is_money : ℤ → Bool
+is_money units = (unsigned_abs units % 100 == 0) && int_le (pos 0) units
+
+-- the units are a rate: a number from 0 to 1
+abbrev pub is_rate : ℤ → Bool
+is_rate units = int_le (pos 0) units && int_le units (pos 10000)
+
+abbrev pub IsRate : ℤ → Type 0
+IsRate units = IsTrue (is_rate units)
 
 -- how far so many whole ones are from so many millionths
 abbrev pub distance : ℤ → ℤ → ℕ

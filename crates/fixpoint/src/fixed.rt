@@ -2,7 +2,7 @@
 ghost use Rattle.std.specs.Prelude.{◌≡◌, ◌≤◌, ◌↔◌, ℤ, ◌+ℤ◌, ◌-ℤ◌, take, IsTrue, IfSome, OnErr};
 ghost use Rattle.std.specs.Int.{int_max, int_min};
 ghost use Rattle.std.specs.Option.{SomeIff};
-ghost use Rattle.fixpoint.specs.Money.{cents_of_product, money_text, IsCents, IsCentsOfProduct, IsMoney};
+ghost use Rattle.fixpoint.specs.Money.{cents_of_product, is_money, is_rate, money_text, IsCents, IsCentsOfProduct, IsMoney};
 ghost use Rattle.fixpoint.specs.Number.{IsInRange};
 ghost use Rattle.fixpoint.specs.NumberText.{Denotes, IsAnswer, shortest_text};
 
@@ -10,6 +10,9 @@ use crate::fault::NumFault;
 use crate::rounding::cents_of_product;
 use crate::{reading, writing};
 use std::marker::Model;
+
+/// How many units one is.
+pub const UNITS_PER_ONE: i64 = 10_000;
 
 /// The greatest count of units, on either side of zero.
 pub const MAX_UNITS: i64 = 999_999_999_999_999;
@@ -104,9 +107,17 @@ impl Fixed {
 
     /// Whether the number is a whole count of cents and not below zero.
     pub fn is_money(self) -> bool
-        ensures { IsTrue result ↔ IsMoney self }
+        ensures money { IsTrue result ↔ IsMoney self }
+        ensures value { result ≡ is_money self }
     {
         self.is_cents() && self.units >= 0
+    }
+
+    /// Whether the number is one from 0 to 1.
+    pub fn is_rate(self) -> bool
+        ensures { result ≡ is_rate self }
+    {
+        0 <= self.units && self.units <= UNITS_PER_ONE
     }
 
     /// The smaller of the two.

@@ -23,7 +23,7 @@ mod whole_text;
 mod writing;
 
 pub use fault::NumFault;
-pub use fixed::{Fixed, MAX_UNITS};
+pub use fixed::{Fixed, MAX_UNITS, UNITS_PER_ONE};
 pub use laws::{
     money_text_denotes, products_are_rounded, shortest_text_denotes, text_denotes_at_most_one,
 };

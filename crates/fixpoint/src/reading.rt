@@ -6,13 +6,10 @@ ghost use Rattle.fixpoint.specs.NumberText.{IsNumberText, without_end_zeros};
 ghost use Rattle.fixpoint.specs.Reading.{BeginsWithDigits, HasParts, IsCountAnswer, IsDotTextOf, IsNoDotText};
 
 use crate::fault::NumFault;
-use crate::fixed::MAX_UNITS;
+use crate::fixed::{MAX_UNITS, UNITS_PER_ONE};
 
 /// One beyond the greatest whole part.
 const WHOLE_LIMIT: u64 = 100_000_000_000;
-
-/// How many units one is.
-const UNITS_PER_ONE: u64 = 10_000;
 
 /// The sign, the digits before the dot and the digits behind it.
 pub fn parts(text: &[u8]) -> Option<(bool, &[u8], &[u8])>
@@ -80,7 +77,7 @@ pub fn ten_thousandths(whole: &[u8], fraction: &[u8]) -> Result<u64, NumFault>
     }
     let ones = capped_value(whole);
     let rest = capped_value(decimals) * 10u64.pow(4 - decimals.len() as u32);
-    let count = ones * UNITS_PER_ONE + rest;
+    let count = ones * UNITS_PER_ONE as u64 + rest;
     if count > MAX_UNITS as u64 {
         Err(NumFault::TooLarge)
     } else {

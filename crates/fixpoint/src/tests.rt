@@ -157,6 +157,14 @@ fn tells_and_writes_money(rt: HostRuntime) -> Result<(), Fail> {
         assert_eq!(rt; number.is_cents(), is_cents, "{text}");
         assert_eq!(rt; number.is_money(), is_money, "{text}");
     }
+    for (text, is_rate) in [
+        ("-0.0001", false),
+        ("0", true),
+        ("1", true),
+        ("1.0001", false),
+    ] {
+        assert_eq!(rt; Fixed::parse(text.as_bytes())?.is_rate(), is_rate, "{text}");
+    }
     for (text, money) in [
         ("5.02", "5.02"),
         ("-.5", "-0.50"),

@@ -6,7 +6,8 @@ use Rattle.std.proofs.lemmas.Int.{ints, clamps}
 use Rattle.std.proofs.lemmas.Bool.Decides.{nat_tests}
 use Rattle.fixpoint.specs.Money.{half_even, cents_of_product}
 use Rattle.fixpoint.specs.Number.{IsInRange}
-use Rattle.settlement.specs.Amount.{IsAmount, IsRate}
+use Rattle.fixpoint.specs.Money.{IsRate}
+use Rattle.settlement.specs.Amount.{IsAmount}
 
 pub sum_is_amount : (one other : ℤ) → IsAmount one → IsAmount other → IsInRange (one +ℤ other) → IsAmount (one +ℤ other)
 sum_is_amount one other a b fits = record { money = (omega (arith, ints), omega (arith, ints)); in_range = fits }

@@ -2,6 +2,7 @@
 use Rattle.std.specs.Prelude.{ℕ, ℤ, Bool, false, if◌then◌else◌, List, [], Option, Some, None, Result, Ok, Err}
 use Rattle.std.specs.List.{filter_map}
 use Rattle.std.specs.Option.{option_and_then}
+use Rattle.fixpoint.specs.Money.{is_money, is_rate}
 use Rattle.feel_tests.specs.declared.value.Value.{Value}
 use Rattle.feel_tests.specs.declared.value.Value.TheVariants.{Number, Text, Flag}
 use Rattle.dtable.specs.declared.environment.Answer.{Answer}
@@ -16,7 +17,6 @@ use Rattle.dtable.specs.Matching.{single}
 use Rattle.settlement.specs.declared.role.Role.{Role}
 use Rattle.settlement.specs.declared.role.Role.TheVariants.{Fee, Deductible, Copay, Rate, OopMax}
 use Rattle.settlement.specs.declared.terms.Terms.{Terms}
-use Rattle.settlement.specs.Amount.{is_money, is_rate}
 
 -- the number of a role in a program's messages
 abbrev pub number_of : Role → ℕ

@@ -7,8 +7,8 @@ ghost use Rattle.dtable.specs.Plan.{has_kind};
 ghost use Rattle.settlement.specs.Fields.{have_kinds};
 
 use crate::money::Money;
-use dtable::{InputData, Plan, Sequence};
-use feel_tests::{Day, Kind, Text, Value};
+use dtable::{InputData, Plan, has_kind};
+use feel_tests::{Day, Sequence, Text, Value, duplicates};
 use std::alloc::{AllocError, Global};
 
 /// How many of a plan's names stand in front of its fields, and behind them.
@@ -50,19 +50,9 @@ impl Claim {
             member: Text::new(alloc, self.member.as_str())?,
             service: self.service,
             billed: self.billed,
-            fields: copies(alloc, self.fields.as_slice())?,
+            fields: duplicates(alloc, self.fields.as_slice())?,
         })
     }
-}
-
-fn copies(alloc: Global, values: &[Value]) -> Result<Sequence<Value>, AllocError>
-    ensures { IfOk result (λ copies. copies ≡ values.now) }
-{
-    let mut copies = Sequence::new(alloc);
-    for value in values {
-        copies.push(value.duplicate(alloc)?)?;
-    }
-    Ok(copies)
 }
 
 /// The fields of a plan, in order: its names without those of every claim and of the accumulators.
@@ -87,16 +77,4 @@ fn are_of_kinds(values: &[Value], fields: &[InputData]) -> bool
         .iter()
         .zip(fields)
         .all(|(value, data)| has_kind(data.kind, value))
-}
-
-fn has_kind(kind: Kind, value: &Value) -> bool
-    ensures { result ≡ has_kind kind value.now }
-{
-    matches!(
-        (kind, value),
-        (Kind::Number, Value::Number(_))
-            | (Kind::Text, Value::Text(_))
-            | (Kind::Flag, Value::Flag(_))
-            | (Kind::Day, Value::Day(_))
-    )
 }

@@ -1,13 +1,10 @@
 //! Rates.
 ghost use Rattle.std.specs.Prelude.{◌≡◌};
 ghost use Rattle.std.specs.Option.{SomeIff};
-ghost use Rattle.settlement.specs.Amount.{IsRate};
+ghost use Rattle.fixpoint.specs.Money.{IsRate};
 
 use fixpoint::Fixed;
 use std::marker::Model;
-
-/// How many units the rate 1 has.
-const WHOLE_UNITS: i64 = 10_000;
 
 /// A number from 0 to 1. Contracts see its units.
 #[derive(Clone, Copy, Debug)]
@@ -17,7 +14,7 @@ pub struct Rate {
 
 impl Model for Rate {
     ghost use Rattle.std.specs.Prelude.{ℤ};
-    ghost use Rattle.settlement.specs.Amount.{IsRate};
+    ghost use Rattle.fixpoint.specs.Money.{IsRate};
 
     ghost Value = { ℤ };
 
@@ -33,8 +30,7 @@ impl Rate {
     pub fn new(number: Fixed) -> Option<Rate>
         ensures { SomeIff result (IsRate number) number }
     {
-        let units = number.units();
-        if 0 <= units && units <= WHOLE_UNITS {
+        if number.is_rate() {
             Some(Rate { number })
         } else {
             None

@@ -2,7 +2,7 @@
 ghost use Rattle.std.specs.Prelude.{◌≡◌, IfOk};
 ghost use Rattle.std.specs.List.{filter_map};
 ghost use Rattle.std.specs.Option.{option_copied};
-ghost use Rattle.settlement.specs.Amount.{is_money, is_rate};
+ghost use Rattle.fixpoint.specs.Money.{is_money, is_rate};
 ghost use Rattle.settlement.specs.Roles.{value_of, is_true_flag, units_where, terms, remarks_of, text_of, texts_of};
 
 use crate::money::Money;

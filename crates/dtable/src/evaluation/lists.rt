@@ -6,9 +6,8 @@ ghost use Rattle.dtable.specs.Priority.{in_priority_order};
 use super::priority;
 use crate::environment::Answer;
 use crate::fault::Fault;
-use crate::sequence::Sequence;
 use crate::table::Table;
-use feel_tests::Value;
+use feel_tests::{Sequence, Value};
 use std::alloc::{AllocError, Global};
 
 /// Rule order, and Collect in this profile: for each output its entries, in rule order.
@@ -35,7 +34,11 @@ pub fn in_output_order(
 }
 
 /// For each output the list of the entries of these rules, in this order.
-pub fn lists_of(alloc: Global, table: &Table, rules: &[usize]) -> Result<Sequence<Answer>, AllocError>
+pub fn lists_of(
+    alloc: Global,
+    table: &Table,
+    rules: &[usize],
+) -> Result<Sequence<Answer>, AllocError>
     ensures { IfOk result (λ answers. answers ≡ lists table.now rules.now) }
 {
     let mut answers = Sequence::new(alloc);

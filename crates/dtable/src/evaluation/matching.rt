@@ -6,9 +6,8 @@ ghost use Rattle.dtable.specs.Matching.{value_read, earlier_value, single, holds
 use crate::answers::Answers;
 use crate::environment::Answer;
 use crate::inputs::Inputs;
-use crate::sequence::Sequence;
 use crate::table::{Input, Origin, Table};
-use feel_tests::{Cell, Value};
+use feel_tests::{Cell, Sequence, Value};
 use std::alloc::{AllocError, Global};
 
 /// The places of the rules that match, in rule order, from 0.
@@ -35,12 +34,7 @@ pub fn matching(
 }
 
 // Whether each cell holds of what its input reads. The first that doesn't ends the search.
-fn cells_hold(
-    given: &Inputs,
-    earlier: &[Answers<'_>],
-    inputs: &[Input],
-    cells: &[Cell],
-) -> bool
+fn cells_hold(given: &Inputs, earlier: &[Answers<'_>], inputs: &[Input], cells: &[Cell]) -> bool
     ensures { result ≡ cells_hold given.now earlier.now inputs.now cells.now }
 {
     inputs.iter().zip(cells).all(|(input, cell)| holds_of(
@@ -85,11 +79,7 @@ pub fn value_read<'a>(
 }
 
 // The single value of an output of an earlier table.
-fn earlier_value<'a>(
-    earlier: &'a [Answers<'_>],
-    table: usize,
-    column: usize,
-) -> Option<&'a Value>
+fn earlier_value<'a>(earlier: &'a [Answers<'_>], table: usize, column: usize) -> Option<&'a Value>
     ensures { option_copied result ≡ earlier_value earlier.now table column }
 {
     match earlier.get(table)?.as_slice().get(column)? {

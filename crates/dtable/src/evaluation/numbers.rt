@@ -9,14 +9,10 @@ ghost use Rattle.dtable.specs.HitPolicy.{Gives, joined, IsFarFromOverflow, aggre
 use super::single;
 use crate::environment::Answer;
 use crate::fault::Fault;
-use crate::sequence::Sequence;
 use crate::table::Table;
-use feel_tests::Value;
-use fixpoint::Fixed;
+use feel_tests::{Sequence, Value};
+use fixpoint::{Fixed, UNITS_PER_ONE};
 use std::alloc::Global;
-
-/// How many units the number 1 has.
-const ONE_UNITS: i128 = 10_000;
 
 /// `C+`: the sum. It is formed whole before its range is looked at.
 pub fn sum(
@@ -71,7 +67,7 @@ pub fn counted(
     if rules.is_empty() {
         return single::unmatched(alloc, number, table);
     }
-    number_answer(alloc, number, rules.len() as i128 * ONE_UNITS)
+    number_answer(alloc, number, rules.len() as i128 * UNITS_PER_ONE as i128)
 }
 
 fn aggregated(

@@ -5,9 +5,8 @@ ghost use Rattle.dtable.specs.HitPolicy.{Gives, ones, unmatched, unique, agree, 
 
 use crate::environment::Answer;
 use crate::fault::Fault;
-use crate::sequence::Sequence;
 use crate::table::{Output, Table};
-use feel_tests::Value;
+use feel_tests::{Sequence, Value};
 use std::alloc::{AllocError, Global};
 
 /// The value where no rule matches: the defaults, where every output has one.

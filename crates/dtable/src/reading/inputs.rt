@@ -14,9 +14,8 @@ use super::names::read_name;
 use super::place::Place;
 use super::scope::{kind_at, origin_of};
 use crate::plan_fault::{PlanCause, PlanFault};
-use crate::sequence::Sequence;
 use crate::table::{Input, InputData, Origin, Table};
-use feel_tests::Cell;
+use feel_tests::{Cell, Sequence};
 use std::alloc::Global;
 use toml::Value;
 

@@ -13,9 +13,8 @@ use super::scope::is_taken_field;
 use crate::name::{NAME_LIMIT_BYTES, Name};
 use crate::plan::all_names;
 use crate::plan_fault::{PlanCause, PlanFault};
-use crate::sequence::Sequence;
 use crate::table::InputData;
-use feel_tests::Kind;
+use feel_tests::{Kind, Sequence};
 use std::alloc::Global;
 use toml::Value;
 

@@ -5,21 +5,20 @@ ghost use Rattle.toml.specs.View.{view, items_view};
 ghost use Rattle.dtable.specs.Document.{Optionally};
 ghost use Rattle.dtable.specs.PlanFile.{IsLiteral, IsPriority, ArePriorityEntries, ArePriorities, IsOutput, AreOutputs, IsNewlyNamed};
 ghost use Rattle.dtable.specs.Reading.{Reads};
-ghost use Rattle.dtable.specs.Scope.{seen_of, taken_names, output_names, seen_as};
+ghost use Rattle.dtable.specs.Scope.{seen_of, taken_names, output_names};
 
 use super::document::{check_count, required_array};
 use super::limits::{OUTPUTS_LIMIT, PRIORITY_LIMIT};
 use super::literals::read_literal_entry;
 use super::names::{read_kind, read_name};
 use super::place::Place;
-use super::scope::{is_taken_output, seen_kind};
+use super::scope::is_taken_output;
 use crate::demands::is_listed;
 use crate::hit::Hit;
 use crate::name::Name;
 use crate::plan_fault::{PlanCause, PlanFault};
-use crate::sequence::Sequence;
 use crate::table::{Input, InputData, Output, Table};
-use feel_tests::{Kind, Value as Literal, text_spells_at_most_one_value};
+use feel_tests::{Kind, Sequence, Value as Literal, text_spells_at_most_one_value};
 use std::alloc::Global;
 use toml::Value;
 
@@ -67,7 +66,7 @@ fn read_output(
     let name = read_new_name(alloc, entry, names, tables, front, place)?;
     let kind = read_kind(entry, place)?;
     let priority = read_priority(alloc, entry, kind, place)?;
-    let fallback = read_fallback(alloc, entry, seen_kind(hit, kind), place)?;
+    let fallback = read_fallback(alloc, entry, hit.seen_kind(kind), place)?;
     Ok(Output {
         name,
         kind,

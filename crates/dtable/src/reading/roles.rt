@@ -10,7 +10,7 @@ ghost use Rattle.dtable.specs.Document.{string_at, Optionally};
 ghost use Rattle.dtable.specs.Limits.{name_limit_bytes};
 ghost use Rattle.dtable.specs.Plan.{same_kind};
 ghost use Rattle.dtable.specs.Reading.{Reads};
-ghost use Rattle.dtable.specs.RoleFile.{AreRoles, AreRemarks, IsRole, IsSource, IsNamedSource, IsLiteralSource, IsMoney, IsRate, Meets, asked_kind, lists_texts};
+ghost use Rattle.dtable.specs.RoleFile.{AreRoles, AreRemarks, IsRole, IsSource, IsNamedSource, IsLiteralSource, Meets, asked_kind, lists_texts};
 ghost use Rattle.dtable.specs.Scope.{seen_of};
 
 use super::place::Place;
@@ -20,7 +20,6 @@ use crate::plan_fault::{PlanCause, PlanFault};
 use crate::roles::{Roles, Source};
 use crate::table::{InputData, Origin, Output, Table};
 use feel_tests::{CellCause, Kind, Value as Literal, read_value, text_spells_at_most_one_value};
-use fixpoint::Fixed;
 use std::alloc::{AllocError, Global};
 use toml::Value;
 
@@ -34,12 +33,6 @@ pub enum Asked {
     /// A number from 0 to 1.
     Rate,
 }
-
-/// How many ten-thousandths a cent has.
-const UNITS_PER_CENT: u64 = 100;
-
-/// How many ten-thousandths 1 has.
-const UNITS_PER_ONE: i64 = 10_000;
 
 /// Reads the roles of a document, if it has any.
 pub fn read_roles(
@@ -309,23 +302,9 @@ impl Asked {
     {
         match (self, value) {
             (Asked::Flag, _) => true,
-            (Asked::Money, Literal::Number(number)) => is_money(*number),
-            (Asked::Rate, Literal::Number(number)) => is_rate(*number),
+            (Asked::Money, Literal::Number(number)) => number.is_money(),
+            (Asked::Rate, Literal::Number(number)) => number.is_rate(),
             _ => false,
         }
     }
-}
-
-fn is_money(number: Fixed) -> bool
-    ensures { IsTrue result ↔ IsMoney number }
-{
-    let units = number.units();
-    units >= 0 && units.unsigned_abs() % UNITS_PER_CENT == 0
-}
-
-fn is_rate(number: Fixed) -> bool
-    ensures { IsTrue result ↔ IsRate number }
-{
-    let units = number.units();
-    units >= 0 && units <= UNITS_PER_ONE
 }

@@ -14,9 +14,8 @@ use super::literals::read_literal_entry;
 use super::place::Place;
 use crate::demands::is_ranked;
 use crate::plan_fault::{PlanCause, PlanFault};
-use crate::sequence::Sequence;
 use crate::table::{Input, InputData, Output, Rule, Table};
-use feel_tests::{Cell, Value as Literal, text_spells_at_most_one_value};
+use feel_tests::{Cell, Sequence, Value as Literal, text_spells_at_most_one_value};
 use std::alloc::Global;
 use toml::Value;
 

@@ -2,10 +2,9 @@
 ghost use Rattle.std.specs.Prelude.{◌≡◌, ◌++◌, map, position, slice_get, option_map};
 ghost use Rattle.std.specs.Str.{bytes_eq};
 ghost use Rattle.dtable.specs.NameForm.{is_among, reserved_names};
-ghost use Rattle.dtable.specs.Scope.{data_names, output_names, seen_names, taken_names, seen_of, seen_as, is_single_of, origin_of, earlier_origin, kind_at};
+ghost use Rattle.dtable.specs.Scope.{data_names, output_names, seen_names, taken_names, seen_of, is_single_of, origin_of, earlier_origin, kind_at};
 
 use super::names::is_reserved;
-use crate::hit::Hit;
 use crate::table::{InputData, Origin, Output, Table};
 use feel_tests::Kind;
 
@@ -39,7 +38,6 @@ fn single_column(table: &Table, name: &str) -> Option<usize>
     }
     table
         .outputs
-        .as_slice()
         .iter()
         .position(|output| output.name.as_str() == name)
 }
@@ -64,18 +62,8 @@ fn column_kind(table: &Table, column: usize) -> Option<Kind>
     ensures { result ≡ option_map (λ o. o.kind) (slice_get (seen_of table.now) column) }
 {
     match table.outputs.as_slice().get(column) {
-        Some(output) => Some(seen_kind(table.hit, output.kind)),
+        Some(output) => Some(table.hit.seen_kind(output.kind)),
         None => None,
-    }
-}
-
-/// The kind of the values that are seen of an output of this written kind.
-pub fn seen_kind(hit: Hit, written: Kind) -> Kind
-    ensures { result ≡ seen_as hit written }
-{
-    match hit {
-        Hit::Count => Kind::Number,
-        _ => written,
     }
 }
 

@@ -15,9 +15,8 @@ use super::rules::read_rules;
 use crate::demands::meets_demands;
 use crate::hit::Hit;
 use crate::plan_fault::{PlanCause, PlanFault};
-use crate::sequence::Sequence;
 use crate::table::{InputData, Table};
-use feel_tests::{text_spells_at_most_one_cell, text_spells_at_most_one_value};
+use feel_tests::{Sequence, text_spells_at_most_one_cell, text_spells_at_most_one_value};
 use std::alloc::Global;
 use toml::Value;
 

@@ -1,9 +1,12 @@
 //! A list in order: a `Vec` that contracts see, and compare, as the list of its items.
 
-ghost use Rattle.std.specs.Prelude.{◌≡◌, ◌≤◌, ◌++◌, [], ◌∷◌, List, length, insert, OnOk, OnErr};
+ghost use Rattle.std.specs.Prelude.{◌≡◌, ◌≤◌, ◌++◌, ◌==◌, [], ◌∷◌, List, length, insert, IfOk, OnOk, OnErr};
+ghost use Rattle.std.specs.Slice.Iter.{iter_rest};
 
+use crate::value::Value;
 use std::alloc::{AllocError, Global};
 use std::marker::Model;
+use std::slice;
 
 /// Items in order.
 #[derive(Debug, Drop)]
@@ -40,6 +43,32 @@ impl<T> Sequence<T> {
     {
         self.items.len()
     }
+
+    /// Whether there is none.
+    pub fn is_empty(&self) -> bool
+        ensures { result ≡ (length self.now == 0) }
+    {
+        self.items.is_empty()
+    }
+
+    /// The items, one after another.
+    pub fn iter(&self) -> slice::Iter<'_, T>
+        ensures { iter_rest result ≡ self.now }
+    {
+        self.items.iter()
+    }
+}
+
+impl<'a, T> IntoIterator for &'a Sequence<T> {
+    type Item = &'a T;
+
+    type IntoIter = slice::Iter<'a, T>;
+
+    ghost into_iter_gives = { λ list it. iter_rest it ≡ list.now };
+
+    fn into_iter(self) -> Self::IntoIter {
+        self.iter()
+    }
 }
 
 impl<T: Drop> Sequence<T> {
@@ -61,4 +90,15 @@ impl<T: Drop> Sequence<T> {
         self.items.insert(place, item)?;
         Ok(())
     }
+}
+
+/// Copies of values, in order.
+pub fn duplicates(alloc: Global, values: &[Value]) -> Result<Sequence<Value>, AllocError>
+    ensures { IfOk result (λ copies. copies ≡ values.now) }
+{
+    let mut copies = Sequence::new(alloc);
+    for value in values {
+        copies.push(value.duplicate(alloc)?)?;
+    }
+    Ok(copies)
 }

@@ -1,5 +1,5 @@
 use Rattle.std.proofs.Common.{◌≡◌, take}
-use Rattle.cutplan.proofs.region.duplicates.Given as goal
+use Rattle.feel_tests.proofs.sequence.duplicates.Given as goal
 
 abbrev pub invariant-loop-value : goal.invariant-loop-value
 invariant-loop-value l = l.copies ≡ take l.value-index l.values
