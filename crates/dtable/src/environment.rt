@@ -60,11 +60,7 @@ impl<'a> Env<'a> {
 }
 
 // The answer of the first output with this name.
-fn find_answer<'a>(
-    tables: &[Table],
-    answers: &'a [Answers<'_>],
-    name: &str,
-) -> Option<&'a Answer>
+fn find_answer<'a>(tables: &[Table], answers: &'a [Answers<'_>], name: &str) -> Option<&'a Answer>
     ensures { option_copied result ≡ answer_of tables.now answers.now name.now }
 {
     for (place, answers) in answers.iter().enumerate() {

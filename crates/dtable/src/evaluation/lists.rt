@@ -35,7 +35,11 @@ pub fn in_output_order(
 }
 
 /// For each output the list of the entries of these rules, in this order.
-pub fn lists_of(alloc: Global, table: &Table, rules: &[usize]) -> Result<Sequence<Answer>, AllocError>
+pub fn lists_of(
+    alloc: Global,
+    table: &Table,
+    rules: &[usize],
+) -> Result<Sequence<Answer>, AllocError>
     ensures { IfOk result (λ answers. answers ≡ lists table.now rules.now) }
 {
     let mut answers = Sequence::new(alloc);

@@ -35,12 +35,7 @@ pub fn matching(
 }
 
 // Whether each cell holds of what its input reads. The first that doesn't ends the search.
-fn cells_hold(
-    given: &Inputs,
-    earlier: &[Answers<'_>],
-    inputs: &[Input],
-    cells: &[Cell],
-) -> bool
+fn cells_hold(given: &Inputs, earlier: &[Answers<'_>], inputs: &[Input], cells: &[Cell]) -> bool
     ensures { result ≡ cells_hold given.now earlier.now inputs.now cells.now }
 {
     inputs.iter().zip(cells).all(|(input, cell)| holds_of(
@@ -85,11 +80,7 @@ pub fn value_read<'a>(
 }
 
 // The single value of an output of an earlier table.
-fn earlier_value<'a>(
-    earlier: &'a [Answers<'_>],
-    table: usize,
-    column: usize,
-) -> Option<&'a Value>
+fn earlier_value<'a>(earlier: &'a [Answers<'_>], table: usize, column: usize) -> Option<&'a Value>
     ensures { option_copied result ≡ earlier_value earlier.now table column }
 {
     match earlier.get(table)?.as_slice().get(column)? {
