@@ -203,11 +203,6 @@ fn value_of_mask<'k>(
     let rules = rules_in(alloc, mask, table.rules.len())?;
     match lent(table, kept, rules.as_slice()) {
         Some(answers) => Ok(Answers::lent(answers)),
-        None => Ok(Answers::made(answers_by_hit(
-            alloc,
-            number,
-            table,
-            rules.as_slice(),
-        )?)),
+        None => Ok(Answers::made(answers_by_hit(alloc, number, table, rules.as_slice())?)),
     }
 }

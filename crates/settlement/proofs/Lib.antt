@@ -5,3 +5,4 @@ pub mod AllGiven
 pub mod Fields
 pub mod Outcomes
 pub mod Texts
+pub mod PlacedRoles

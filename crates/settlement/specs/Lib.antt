@@ -3,6 +3,7 @@ pub mod Claim
 pub mod Fields
 pub mod Given
 pub mod Reads
+pub mod Placed
 pub mod Roles
 pub mod Accumulators
 pub mod Settlement

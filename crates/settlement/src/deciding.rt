@@ -7,6 +7,7 @@ ghost use Rattle.dtable.specs.Plan.{PlanParts};
 ghost use Rattle.settlement.specs.declared.claim.Claim.{Claim};
 ghost use Rattle.settlement.specs.Accumulators.{after, AreInRange};
 ghost use Rattle.settlement.specs.Claim.{IsClaimOf};
+ghost use Rattle.settlement.specs.Placed.{ArePlaced, ArePlacedFor};
 ghost use Rattle.settlement.specs.Settlement.{outcome, by_roles, by_tables};
 
 use crate::acc::Acc;
@@ -15,6 +16,7 @@ use crate::claim::Claim;
 use crate::given::{give, places_read};
 use crate::money::Money;
 use crate::outcome::{Outcome, Reason};
+use crate::placed::{RolePlaces, role_places};
 use crate::terms::{is_covered, remarks, terms_of};
 use dtable::{Env, Inputs, Roles, Sequence, Valuer};
 use std::alloc::{AllocError, Global};
@@ -26,17 +28,19 @@ pub struct Adjudicator<'v, V: Valuer> {
     valuer: &'v V,
     places: Sequence<usize>,
     inputs: Inputs,
+    roles: RolePlaces,
 }
 
 impl<'v, V: Valuer> Model for Adjudicator<'v, V> {
     ghost use Rattle.dtable.specs.Plan.{PlanParts};
+    ghost use Rattle.settlement.specs.Placed.{ArePlacedFor};
     ghost use Rattle.settlement.specs.Reads.{IsLaidOut};
 
     ghost Value = { PlanParts };
 
     ghost view = { λ a. V.plan_of a.valuer.now };
 
-    ghost invariant = { λ a. IsLaidOut (V.plan_of a.valuer.now) a.places a.inputs };
+    ghost invariant = { λ a. IsLaidOut (V.plan_of a.valuer.now) a.places a.inputs × ArePlacedFor (V.plan_of a.valuer.now) a.roles };
 }
 
 impl<'v, V: Valuer> Adjudicator<'v, V> {
@@ -47,10 +51,12 @@ impl<'v, V: Valuer> Adjudicator<'v, V> {
         let plan = valuer.plan();
         let places = places_read(alloc, plan)?;
         let inputs = Inputs::new(alloc, plan)?;
+        let roles = role_places(plan);
         Ok(Adjudicator {
             valuer,
             places,
             inputs,
+            roles,
         })
     }
 
@@ -62,7 +68,14 @@ impl<'v, V: Valuer> Adjudicator<'v, V> {
         ensures plan { self.new ≡ self.old }
     {
         give(alloc, &mut self.inputs, self.places.as_slice(), claim, &acc)?;
-        let decided = settled(alloc, self.valuer, &self.inputs, claim.billed, acc)?;
+        let decided = settled(
+            alloc,
+            self.valuer,
+            &self.inputs,
+            &self.roles,
+            claim.billed,
+            acc,
+        )?;
         Ok(decided)
     }
 }
@@ -88,17 +101,19 @@ fn settled<V: Valuer>(
     alloc: Global,
     valuer: &V,
     inputs: &Inputs,
+    places: &RolePlaces,
     billed: Money,
     acc: Acc,
 ) -> Result<Outcome, AllocError>
     requires roles { IsSome (V.plan_of valuer.now).roles }
+    requires placed { ArePlacedFor (V.plan_of valuer.now) places.now }
     requires ready { IsReady (V.plan_of valuer.now).tables inputs.now }
     ensures { let plan = V.plan_of valuer.now in IfOk result (λ decided. decided ≡ by_tables plan.roles billed acc inputs.now (env plan inputs.now)) }
 {
     let roles = valuer.plan().roles().unwrap();
     match valuer.value(alloc, inputs) {
         Ok(env) => {
-            let decided = by_roles(alloc, inputs, &env, roles, billed, acc)?;
+            let decided = by_roles(alloc, inputs, &env, roles, places, billed, acc)?;
             Ok(decided)
         }
         Err(fault) => {
@@ -114,15 +129,17 @@ fn by_roles(
     inputs: &Inputs,
     env: &Env,
     roles: &Roles,
+    places: &RolePlaces,
     billed: Money,
     acc: Acc,
 ) -> Result<Outcome, AllocError>
+    requires { ArePlaced env.now.tables roles.now places.now }
     ensures { IfOk result (λ decided. decided ≡ by_roles roles.now billed acc inputs.now env.now) }
 {
-    if !is_covered(inputs, env, roles) {
-        return Ok(Outcome::denied(remarks(alloc, env, &roles.remarks)?));
+    if !is_covered(inputs, env, roles, places) {
+        return Ok(Outcome::denied(remarks(alloc, env, &roles.remarks, places.remarks)?));
     }
-    let terms = match terms_of(inputs, env, roles) {
+    let terms = match terms_of(inputs, env, roles, places) {
         Ok(terms) => terms,
         Err(role) => return Ok(Outcome::pended(alloc, Reason::Term(role))),
     };
@@ -130,7 +147,10 @@ fn by_roles(
     if acc.plus(amounts.ded, amounts.share, amounts.paid).is_none() {
         return Ok(Outcome::pended(alloc, Reason::Range { table: 0 }));
     }
-    Ok(Outcome::paid(amounts, remarks(alloc, env, &roles.remarks)?))
+    Ok(Outcome::paid(
+        amounts,
+        remarks(alloc, env, &roles.remarks, places.remarks)?,
+    ))
 }
 
 /// The accumulators after an outcome, where each is in the number range. After a settlement's outcome each is.

@@ -89,7 +89,7 @@ pub fn give(
     Ok(())
 }
 
-// Gives one place its value. A text that stands there already stays, and takes no memory.
+// Gives one place its value. A text is written over the one that stands there, and takes no memory where it has the room.
 fn give_at(
     alloc: Global,
     inputs: &mut Inputs,
@@ -103,20 +103,11 @@ fn give_at(
     ensures given { OnOk result (HasItsValue claim.now acc.now inputs.new place) }
     ensures others { OnOk result ((other : ℕ) → HasItsValue claim.now acc.now inputs.old other → HasItsValue claim.now acc.now inputs.new other) }
 {
-    if !has_text(inputs, place, claim) {
-        inputs.set(place, value_given(alloc, claim, acc, place)?);
+    match text_given(claim, place) {
+        Some(text) => inputs.set_text(alloc, place, text)?,
+        None => inputs.set(place, value_given(alloc, claim, acc, place)?),
     }
     Ok(())
-}
-
-// Whether the claim gives the place a text that stands there already.
-fn has_text(inputs: &Inputs, place: usize, claim: &Claim) -> bool
-    ensures { IsTrue result → (acc : Acc) → HasItsValue claim.now acc inputs.now place }
-{
-    match (text_given(claim, place), inputs.get(place)) {
-        (Some(text), Some(Value::Text(standing))) => standing == text,
-        _ => false,
-    }
 }
 
 // The text that the claim gives the place, if it gives one.

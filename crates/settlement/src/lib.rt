@@ -16,6 +16,7 @@ mod deciding;
 mod given;
 mod money;
 mod outcome;
+mod placed;
 mod rate;
 mod role;
 mod terms;

@@ -1,14 +1,17 @@
 //! What a plan's roles say of a claim.
 ghost use Rattle.std.specs.Prelude.{◌≡◌, IfOk};
 ghost use Rattle.std.specs.List.{filter_map};
-ghost use Rattle.std.specs.Option.{option_copied};
+ghost use Rattle.std.specs.Option.{option_and_then, option_copied};
 ghost use Rattle.fixpoint.specs.Money.{is_money, is_rate};
+ghost use Rattle.dtable.specs.Environment.{answer_at};
+ghost use Rattle.settlement.specs.Placed.{IsPlaced, AreRemarksPlaced, ArePlaced};
 ghost use Rattle.settlement.specs.Roles.{value_of, is_true_flag, units_where, terms, remarks_of, text_of, texts_of};
 
 use crate::money::Money;
+use crate::placed::RolePlaces;
 use crate::rate::Rate;
 use crate::role::Role;
-use dtable::{Answer, Env, Inputs, Name, Roles, Sequence, Source};
+use dtable::{Answer, Env, Inputs, Name, OutputPlace, Roles, Sequence, Source};
 use feel_tests::{Text, Value};
 use std::alloc::{AllocError, Global};
 
@@ -22,25 +25,36 @@ pub struct Terms {
     pub oop_max: Money,
 }
 
-/// Whether the claim is covered.
-pub fn is_covered(inputs: &Inputs, env: &Env, roles: &Roles) -> bool
+/// Whether the claim is covered. The roles' outputs stand at these places.
+pub fn is_covered(inputs: &Inputs, env: &Env, roles: &Roles, places: &RolePlaces) -> bool
+    requires { ArePlaced env.now.tables roles.now places.now }
     ensures { result ≡ is_true_flag (value_of inputs.now env.now roles.now.cover) }
 {
-    match value_of(inputs, env, &roles.cover) {
+    match value_of(inputs, env, &roles.cover, places.cover) {
         Some(Value::Flag(flag)) => *flag,
         _ => false,
     }
 }
 
-/// The number roles, or the first that isn't what it must be.
-pub fn terms_of(inputs: &Inputs, env: &Env, roles: &Roles) -> Result<Terms, Role>
+/// The number roles, or the first that isn't what it must be. The roles' outputs stand at these places.
+pub fn terms_of(
+    inputs: &Inputs,
+    env: &Env,
+    roles: &Roles,
+    places: &RolePlaces,
+) -> Result<Terms, Role>
+    requires { ArePlaced env.now.tables roles.now places.now }
     ensures { result ≡ terms inputs.now env.now roles.now }
 {
-    let fee = money_of(value_of(inputs, env, &roles.fee)).ok_or(Role::Fee)?;
-    let deductible = money_of(value_of(inputs, env, &roles.deductible)).ok_or(Role::Deductible)?;
-    let copay = money_of(value_of(inputs, env, &roles.copay)).ok_or(Role::Copay)?;
-    let rate = rate_of(value_of(inputs, env, &roles.rate)).ok_or(Role::Rate)?;
-    let oop_max = money_of(value_of(inputs, env, &roles.oop_max)).ok_or(Role::OopMax)?;
+    let fee = money_of(value_of(inputs, env, &roles.fee, places.fee)).ok_or(Role::Fee)?;
+    let deductible = money_of(value_of(inputs, env, &roles.deductible, places.deductible)).ok_or(
+        Role::Deductible,
+    )?;
+    let copay = money_of(value_of(inputs, env, &roles.copay, places.copay)).ok_or(Role::Copay)?;
+    let rate = rate_of(value_of(inputs, env, &roles.rate, places.rate)).ok_or(Role::Rate)?;
+    let oop_max = money_of(value_of(inputs, env, &roles.oop_max, places.oop_max)).ok_or(
+        Role::OopMax,
+    )?;
     Ok(Terms {
         fee,
         deductible,
@@ -50,12 +64,18 @@ pub fn terms_of(inputs: &Inputs, env: &Env, roles: &Roles) -> Result<Terms, Role
     })
 }
 
-/// The remarks of the tables' output of this name, if the plan names one.
-pub fn remarks(alloc: Global, env: &Env, name: &Option<Name>) -> Result<Sequence<Text>, AllocError>
+/// The remarks of the tables' output of this name, which stands at the place, if the plan names one.
+pub fn remarks(
+    alloc: Global,
+    env: &Env,
+    name: &Option<Name>,
+    place: Option<OutputPlace>,
+) -> Result<Sequence<Text>, AllocError>
+    requires { AreRemarksPlaced env.now.tables name.now place }
     ensures { IfOk result (λ remarks. remarks ≡ remarks_of env.now name.now) }
 {
     match name {
-        Some(name) => texts(alloc, env.get(name.as_str())),
+        Some(_) => texts(alloc, answered(env, place)),
         None => Ok(Sequence::new(alloc)),
     }
 }
@@ -92,18 +112,34 @@ fn text_of(value: &Value) -> Option<&Text>
     }
 }
 
-// The value of a role, if it has a single one.
-fn value_of<'a>(inputs: &'a Inputs, env: &'a Env, source: &'a Source) -> Option<&'a Value>
+// The value of a role, if it has a single one. Its output stands at the place.
+fn value_of<'a>(
+    inputs: &'a Inputs,
+    env: &'a Env,
+    source: &'a Source,
+    place: Option<OutputPlace>,
+) -> Option<&'a Value>
+    requires { IsPlaced env.now.tables source.now place }
     ensures { option_copied result ≡ value_of inputs.now env.now source.now }
 {
     match source {
         Source::Literal(value) => Some(value),
         Source::Input(place) => inputs.get(*place),
-        Source::Output(name) => match env.get(name.as_str()) {
+        Source::Output(_) => match answered(env, place) {
             Some(Answer::One(value)) => Some(value),
             Some(Answer::Many(_)) => None,
             None => None,
         },
+    }
+}
+
+// The answer at the place, if there is one.
+fn answered<'a>(env: &'a Env, place: Option<OutputPlace>) -> Option<&'a Answer>
+    ensures { option_copied result ≡ option_and_then (answer_at env.now.answers) place }
+{
+    match place {
+        Some(place) => env.at(place),
+        None => None,
     }
 }
 

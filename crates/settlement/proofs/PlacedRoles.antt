@@ -1,0 +1,23 @@
+-- The places of a plan's roles among what its tables answer.
+use Rattle.std.proofs.Common.{◌≡◌, List, [], Option, Some, Result, Ok, Err, refl, sym, ap, subst, ◌∙◌}
+use Rattle.dtable.specs.declared.environment.Answer.{Answer}
+use Rattle.dtable.specs.declared.fault.Fault.{Fault}
+use Rattle.dtable.specs.declared.inputs.Slot.{Slot}
+use Rattle.dtable.specs.declared.roles.Roles.{Roles}
+use Rattle.dtable.specs.Environment.{Environment, answers_of, env}
+use Rattle.dtable.specs.Plan.{PlanParts}
+use Rattle.settlement.specs.declared.placed.RolePlaces.{RolePlaces}
+use Rattle.settlement.specs.Placed.{ArePlaced, ArePlacedFor}
+
+tables_by : (plan : PlanParts) (given : List Slot) (e : Environment) (answers : Result (List (List Answer)) Fault) → answers_of given [] plan.tables ≡ answers → env plan given ≡ Ok e → plan.tables ≡ e.tables
+tables_by plan given e (Ok answers) is made = cc
+tables_by plan given e (Err fault) is made = cc
+
+-- what a plan's tables answer is over its tables, so that the roles' places are places there
+pub placed_in : (plan : PlanParts) (given : List Slot) (e : Environment) (roles : Roles) (places : RolePlaces) → env plan given ≡ Ok e → plan.roles ≡ Some roles → ArePlacedFor plan places → ArePlaced e.tables roles places
+placed_in plan given e roles places made has placed =
+    subst (λ tables. ArePlaced tables roles places) (tables_by plan given e (answers_of given [] plan.tables) refl made) (placed roles has)
+
+-- a plan that is seen so has its roles placed
+pub placed_as : (plan seen : PlanParts) (places : RolePlaces) → seen ≡ plan → ArePlacedFor seen places → ArePlacedFor plan places
+placed_as plan seen places same placed = subst (λ (p : PlanParts). ArePlacedFor p places) same placed

@@ -1,0 +1,41 @@
+-- Where a plan's tables answer its roles.
+use Rattle.std.specs.Prelude.{◌≡◌, ℕ, List, Option, Some, None}
+use Rattle.std.specs.Option.{option_and_then}
+use Rattle.dtable.specs.declared.environment.Answer.{Answer}
+use Rattle.dtable.specs.declared.output_place.OutputPlace.{OutputPlace}
+use Rattle.dtable.specs.declared.roles.Roles.{Roles}
+use Rattle.dtable.specs.declared.roles.Source.{Source}
+use Rattle.dtable.specs.declared.roles.Source.TheVariants.{Literal, Input, Output}
+use Rattle.dtable.specs.declared.table.Table.{Table}
+use Rattle.dtable.specs.Environment.{answer_of, answer_at}
+use Rattle.dtable.specs.Plan.{PlanParts}
+use Rattle.settlement.specs.declared.placed.RolePlaces.{RolePlaces}
+
+-- the answer at the place, if there is one, is the answer of the output with the name, whatever the tables answer
+abbrev pub IsPlaceOf : List Table → List ℕ → Option OutputPlace → Type 0
+IsPlaceOf tables name place = (answers : List (List Answer)) → answer_of tables answers name ≡ option_and_then (answer_at answers) place
+
+-- so for the output that a source names
+abbrev pub IsPlaced : List Table → Source → Option OutputPlace → Type 0
+IsPlaced tables (Literal value) place = Unit {0}
+IsPlaced tables (Input p) place = Unit {0}
+IsPlaced tables (Output name) place = IsPlaceOf tables name place
+
+-- and for that of the remarks, if there is one
+abbrev pub AreRemarksPlaced : List Table → Option (List ℕ) → Option OutputPlace → Type 0
+AreRemarksPlaced tables None place = Unit {0}
+AreRemarksPlaced tables (Some name) place = IsPlaceOf tables name place
+
+-- so for each role
+pub record ArePlaced (tables : List Table) (roles : Roles) (places : RolePlaces) : Type 0 where
+  pub cover : IsPlaced tables roles.cover places.cover
+  pub fee : IsPlaced tables roles.fee places.fee
+  pub deductible : IsPlaced tables roles.deductible places.deductible
+  pub copay : IsPlaced tables roles.copay places.copay
+  pub rate : IsPlaced tables roles.rate places.rate
+  pub oop_max : IsPlaced tables roles.oop_max places.oop_max
+  pub remarks : AreRemarksPlaced tables roles.remarks places.remarks
+
+-- so for the roles of a plan, if it has them
+abbrev pub ArePlacedFor : PlanParts → RolePlaces → Type 0
+ArePlacedFor plan places = (roles : Roles) → plan.roles ≡ Some roles → ArePlaced plan.tables roles places
