@@ -11,8 +11,10 @@ use std::sync::Wait;
 use std::test::Fail;
 use std::thread::Threads;
 
+mod hostile;
 mod meeting;
 mod stopping;
+mod watched;
 
 /// A plan with a table of fees and one of remarks.
 const PLAN: &[u8] = br#"

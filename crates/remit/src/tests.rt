@@ -13,6 +13,8 @@ use std::io;
 use std::io::{ErrorKind, Write};
 use std::test::Fail;
 
+mod lengths;
+
 /// A plan with one field. The journals are given, so that its roles decide nothing here.
 const PLAN: &[u8] = br#"
 version = 1

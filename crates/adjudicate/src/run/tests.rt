@@ -300,6 +300,18 @@ fn a_full_writer_has_the_first_bytes(rt: HostRuntime) -> Result<(), Fail> {
 }
 
 #[test]
+fn a_writer_is_full_at_each_length(rt: HostRuntime) -> Result<(), Fail> {
+    for limit in 0..REPORT.len() {
+        assert!(rt; fills(&rt, limit, 1_024, WhenFull::Fails)?, "{limit}");
+        assert!(rt;
+            fills(&rt, limit, 1_024, WhenFull::TakesNothing)?,
+            "{limit}"
+        );
+    }
+    Ok(())
+}
+
+#[test]
 fn a_write_fault_has_its_line(rt: HostRuntime) -> Result<(), Fail> {
     let mut out = Out::new(Narrow::new(rt.alloc(), 37, 1_024, WhenFull::Fails)?);
     let stop = do_run(&rt, run_of(BOTH), &mut out).expect_err(&rt, "a refusal");
