@@ -1,6 +1,6 @@
 //! What the tables of a plan answer, as text.
-use dtable::{Answer, Env, Inputs};
-use feel_tests::{Value, read_value};
+use dtable::{Answer, Env, Inputs, Plan};
+use feel_tests::{Kind, TEXT_LIMIT_BYTES, Text, Value, read_value};
 use std::alloc::{AllocError, Global};
 use std::test::Fail;
 
@@ -12,11 +12,45 @@ pub fn give(alloc: Global, inputs: &mut Inputs, place: usize, literal: &str) -> 
     Ok(())
 }
 
+/// Gives the name at the place a text, over the one that stands there. Whether it is one of texts, and the text is short.
+pub fn give_text(
+    alloc: Global,
+    inputs: &mut Inputs,
+    place: usize,
+    text: &str,
+) -> Result<bool, AllocError> {
+    match inputs.kind_at(place) {
+        Some(Kind::Text) if text.len() <= TEXT_LIMIT_BYTES => {
+            inputs.set_text(alloc, place, &Text::new(alloc, text)?)?;
+            Ok(true)
+        }
+        _ => Ok(false),
+    }
+}
+
 /// What each of these outputs answers, a line for each.
 pub fn shown(alloc: Global, values: &Env, outputs: &[&str]) -> Result<Vec<u8>, AllocError> {
     let mut text = Vec::new(alloc);
     for output in outputs {
         write_answer(&mut text, values.get(output))?;
+        text.push(b'\n')?;
+    }
+    Ok(text)
+}
+
+/// The same, each output found by its place in the plan.
+pub fn shown_by_place(
+    alloc: Global,
+    plan: &Plan,
+    values: &Env,
+    outputs: &[&str],
+) -> Result<Vec<u8>, AllocError> {
+    let mut text = Vec::new(alloc);
+    for output in outputs {
+        match plan.output_place(output) {
+            Some(place) => write_answer(&mut text, values.at(place))?,
+            None => write_answer(&mut text, None)?,
+        }
         text.push(b'\n')?;
     }
     Ok(text)

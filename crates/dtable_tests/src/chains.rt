@@ -1,5 +1,5 @@
 //! Whole plans, from their texts to their values: chains of tables, lists, and want of memory.
-use crate::answers::{give, shown};
+use crate::answers::{give, give_text, shown, shown_by_place};
 use crate::plans::{CHAIN, HEALTH, SUM_AND_LEVEL};
 use crate::tables::told;
 use dtable::{
@@ -52,6 +52,8 @@ fn is_answered(rt: &impl Abort, alloc: Global, plan: &Plan, claim: &Claim) -> Re
     let values = plan.value(alloc, &inputs)?;
     let text = shown(alloc, &values, &["covered", "fee", "note"])?;
     assert_eq!(rt; text.as_slice(), claim.3.as_bytes());
+    let placed = shown_by_place(alloc, plan, &values, &["covered", "fee", "note"])?;
+    assert_eq!(rt; placed.as_slice(), claim.3.as_bytes());
     Ok(())
 }
 
@@ -66,6 +68,26 @@ fn are_answered(rt: &impl Abort, alloc: Global, plan: &Plan) -> Result<(), Fail>
 fn the_health_plan_has_its_values(rt: HostRuntime) -> Result<(), Fail> {
     let plan = read_plan(rt.alloc(), HEALTH.as_bytes())?;
     are_answered(&rt, rt.alloc(), &plan)
+}
+
+/// Texts that are given one over the other, a shorter one and a longer one in turn.
+#[test]
+fn a_text_is_given_over_another(rt: HostRuntime) -> Result<(), Fail> {
+    let alloc = rt.alloc();
+    let plan = read_plan(alloc, HEALTH.as_bytes())?;
+    let mut inputs = Inputs::new(alloc, &plan)?;
+    for given in &["LONGER", "A", "", "THE LONGEST"] {
+        assert!(rt; give_text(alloc, &mut inputs, CODE, given)?);
+        assert!(rt; has_text(&inputs, given), "{given}");
+    }
+    Ok(())
+}
+
+fn has_text(inputs: &Inputs, text: &str) -> bool {
+    match inputs.get(CODE) {
+        Some(Value::Text(standing)) => standing.as_str() == text,
+        _ => false,
+    }
 }
 
 #[test]

@@ -1,8 +1,8 @@
 //! Hit policies by worked examples: what the one table of a plan answers.
 use crate::answers::{give, shown};
 use dtable::{
-    Answer, Fault, Inputs, Plan, Sequence, Valuer, answers_by_hit, read_plan, table_value,
-    value_read,
+    Answer, Answers, AnswersByTable, Fault, Inputs, Plan, Valuer, answers_by_hit, read_plan,
+    table_value, value_read,
 };
 use feel_tests::Value;
 use std::alloc::Global;
@@ -190,7 +190,7 @@ fn is_number(answers: &[Answer], units: i64) -> bool {
 }
 
 // What the first input of a plan's first table reads, if it is a number, in units.
-fn first_read(plan: &Plan, inputs: &Inputs, earlier: &[Sequence<Answer>]) -> Option<i64> {
+fn first_read(plan: &Plan, inputs: &Inputs, earlier: &[Answers<'_>]) -> Option<i64> {
     let input = plan.tables().first()?.inputs.as_slice().first()?;
     match value_read(inputs, earlier, input.origin)? {
         Value::Number(number) => Some(number.units()),
@@ -204,7 +204,7 @@ fn a_table_is_answered_for_the_rules_that_match(rt: HostRuntime) -> Result<(), F
     let plan = over_x(alloc, "F", Y, OTHER)?;
     let mut inputs = Inputs::new(alloc, &plan)?;
     give(alloc, &mut inputs, X, "2")?;
-    let earlier = Sequence::new(alloc);
+    let earlier = AnswersByTable::new(alloc);
     assert_eq!(rt;
         first_read(&plan, &inputs, earlier.as_slice()),
         Some(20_000)

@@ -6,7 +6,7 @@ use super::{
     ALLOWED_CODES, APART, AT_FIVE, CODES, FLAG_AND_CODE, SIXTEEN_REGIONS, THREE_RULES, read,
 };
 use crate::{CutPlan, compile};
-use dtable::{Answer, Inputs, Plan, Sequence, Valuer};
+use dtable::{Answer, AnswersByTable, Env, Inputs, Plan, Valuer};
 use feel_tests::read_value;
 use std::alloc::Global;
 use std::process::Abort;
@@ -124,26 +124,88 @@ const CHAINED: [Row; 1] = [(
     NONE,
 )];
 
-/// What `y` answers at these values, or the fault, as text.
+/// A claim is paid by its code, and remarked on where it is large or the deductible is met.
+const REMARKS: &[u8] = br#"version = 1
+fields = [{name = "code", kind = "text"}]
+[[tables]]
+inputs = [{name = "code"}]
+outputs = [{name = "covered", kind = "flag"}, {name = "fee", kind = "number"}]
+rules = [
+  {when = ['"A"'], then = ['true', '100']},
+  {when = ['"B"'], then = ['true', '40']},
+  {when = ['"X"'], then = ['false', '0']},
+]
+[[tables]]
+hit = "R"
+inputs = [{name = "billed"}, {name = "met"}]
+outputs = [{name = "note", kind = "text"}]
+rules = [
+  {when = ['>100', '-'], then = ['"OVER"']},
+  {when = ['-', '>=50'], then = ['"MET"']},
+]
+"#;
+
+/// The places of the amount billed and of what was met among its names.
+const BILLED: usize = 3;
+
+const MET: usize = 5;
+
+const REMARK_CODES: [&str; 4] = ["\"A\"", "\"B\"", "\"X\"", "\"C\""];
+
+const REMARK_AMOUNTS: [(&str, &str); 6] = [
+    ("99.9999", "0"),
+    ("100", "49.9999"),
+    ("100.0001", "49.9999"),
+    ("100", "50"),
+    ("100.0001", "50"),
+    ("100.0001", "50.0001"),
+];
+
+/// Two stretches of numbers side by side.
+const STRETCHES: &[u8] = br#"version = 1
+fields = [{name = "x", kind = "number"}]
+[[tables]]
+inputs = [{name = "x"}]
+outputs = [{name = "y", kind = "number"}]
+rules = [{when = ['[0..10['], then = ['1']}, {when = ['>=10'], then = ['2.5']}]
+"#;
+
+const SIDE_BY_SIDE: [Row; 1] = [(
+    STRETCHES,
+    &["-0.0001", "0", "0.0001", "9.9999", "10", "10.0001"],
+    NONE,
+)];
+
+/// What the plan's outputs answer at these values, each with its place, or the fault, as text.
 fn told<V: Valuer>(
     rt: &impl Abort,
     alloc: Global,
     valuer: &V,
-    first: &str,
-    second: &str,
+    given: &[(usize, &str)],
 ) -> Result<Vec<u8>, Fail> {
     let mut inputs = Inputs::new(alloc, valuer.plan())?;
-    give(alloc, &mut inputs, FIRST, first)?;
-    if !second.is_empty() {
-        give(alloc, &mut inputs, FIRST + 1, second)?;
+    for (place, literal) in given {
+        if !literal.is_empty() {
+            give(alloc, &mut inputs, *place, literal)?;
+        }
     }
     assert!(rt; valuer.plan().ready(&inputs));
     let mut text = Vec::new(alloc);
     match valuer.value(alloc, &inputs) {
-        Ok(values) => write_answer(&mut text, values.get("y"))?,
+        Ok(values) => write_answers(&mut text, valuer.plan(), &values)?,
         Err(fault) => text.extend_from_slice(format!(in alloc; "{fault}")?.as_bytes())?,
     }
     Ok(text)
+}
+
+fn write_answers(text: &mut Vec<u8>, plan: &Plan, values: &Env) -> Result<(), Fail> {
+    for table in plan.tables() {
+        for output in table.outputs.as_slice() {
+            write_answer(text, values.get(output.name.as_str()))?;
+            text.push(b'\n')?;
+        }
+    }
+    Ok(())
 }
 
 // Gives the name at the place the value that the literal spells.
@@ -168,15 +230,33 @@ fn write_answer(text: &mut Vec<u8>, answer: Option<&Answer>) -> Result<(), Fail>
     Ok(())
 }
 
+/// The plan and its cut plan answer alike at these values.
+fn is_alike_at(
+    rt: &impl Abort,
+    alloc: Global,
+    plan: &Plan,
+    cut: &CutPlan,
+    given: &[(usize, &str)],
+) -> Result<(), Fail> {
+    let plain = told(rt, alloc, plan, given)?;
+    let by_masks = told(rt, alloc, cut, given)?;
+    assert_eq!(rt; plain.as_slice(), by_masks.as_slice());
+    Ok(())
+}
+
 /// The plan of the row and its cut plan answer alike.
 fn is_alike(rt: &impl Abort, alloc: Global, row: &Row) -> Result<(), Fail> {
     let plan = read(rt, alloc, row.0)?;
     let cut = compile(alloc, &plan)?;
     for first in row.1 {
         for second in row.2 {
-            let plain = told(rt, alloc, &plan, first, second)?;
-            let by_masks = told(rt, alloc, &cut, first, second)?;
-            assert_eq!(rt; plain.as_slice(), by_masks.as_slice(), "{first} {second}");
+            is_alike_at(
+                rt,
+                alloc,
+                &plan,
+                &cut,
+                &[(FIRST, *first), (FIRST + 1, *second)],
+            )?;
         }
     }
     Ok(())
@@ -212,6 +292,24 @@ fn days_are_valued_alike(rt: HostRuntime) -> Result<(), Fail> {
 #[test]
 fn chained_tables_are_valued_alike(rt: HostRuntime) -> Result<(), Fail> {
     are_alike(&rt, rt.alloc(), &CHAINED)
+}
+
+#[test]
+fn stretches_side_by_side_are_valued_alike(rt: HostRuntime) -> Result<(), Fail> {
+    are_alike(&rt, rt.alloc(), &SIDE_BY_SIDE)
+}
+
+#[test]
+fn remarks_are_valued_alike(rt: HostRuntime) -> Result<(), Fail> {
+    let plan = read(&rt, rt.alloc(), REMARKS)?;
+    let cut = compile(rt.alloc(), &plan)?;
+    for code in &REMARK_CODES {
+        for (billed, met) in &REMARK_AMOUNTS {
+            let given = [(FIRST, *code), (BILLED, *billed), (MET, *met)];
+            is_alike_at(&rt, rt.alloc(), &plan, &cut, &given)?;
+        }
+    }
+    Ok(())
 }
 
 /// A plan of one table that reads one field, and literals of the field.
@@ -250,7 +348,7 @@ fn is_told(alloc: Global, plan: &Plan, cut: &CutPlan, literal: &str) -> Result<b
 {
     let mut inputs = Inputs::new(alloc, plan)?;
     give(alloc, &mut inputs, FIRST, literal)?;
-    let earlier = Sequence::new(alloc);
+    let earlier = AnswersByTable::new(alloc);
     for (place, table) in plan.tables().iter().enumerate() {
         let mask = cut.matching_mask(&inputs, earlier.as_slice(), place, table);
         if mask.is_none() {

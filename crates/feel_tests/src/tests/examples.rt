@@ -200,13 +200,16 @@ fn literals_have_their_days(rt: HostRuntime) -> Result<(), Fail> {
     Ok(())
 }
 
-// Whether a text shows its bytes, and is the value that its literal spells, also once copied.
+// Whether a text shows its bytes, and is the value that its literal spells, also once copied, and written over a longer one.
 fn is_text(alloc: Global) -> Option<bool> {
     let made = Text::new(alloc, "a\"b").ok()?;
     let is_shown = made.as_str() == "a\"b" && made.as_bytes() == b"a\"b".as_slice();
+    let mut over = Text::new(alloc, "longer").ok()?;
+    over.copy_from(&made).ok()?;
+    let is_over = over == made;
     let copy = Value::Text(made).duplicate(alloc).ok()?;
     let is_read = is_read_as(alloc, Kind::Text, "\"a\\\"b\"", &copy)?;
-    Some(is_shown && is_read && copy.kind() == Kind::Text)
+    Some(is_shown && is_over && is_read && copy.kind() == Kind::Text)
 }
 
 #[test]
