@@ -8,6 +8,7 @@ mod hostile;
 mod in_turn;
 mod last_ticket;
 mod meeting;
+mod rivals;
 mod shared;
 mod worked;
 
