@@ -27,7 +27,7 @@ pub struct RunInput<'a> {
     pub files: &'a [&'a [u8]],
     /// How many claims are accepted at most, or `None` for all.
     pub cutoff: Option<u64>,
-    /// How many threads decide claims, 1 to `WORKERS_LIMIT`.
+    /// How many threads decide claims, 1 to `WORKERS_LIMIT`, beside the caller's, which helps.
     pub workers: usize,
 }
 

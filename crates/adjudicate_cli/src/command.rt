@@ -117,7 +117,7 @@ fn run_command<'a>(alloc: Global) -> Result<Command<'a>, Error> {
         .value_name("N")
         .value_parser(ValueParser::unsigned(1, WORKERS_LIMIT as u64))
         .default_value("4")
-        .help("How many threads decide claims, from 1 to 64");
+        .help("How many threads decide claims, from 1 to 64, beside the program's own, which helps");
     let files = Arg::new(alloc, FILE)
         .help("The providers' files of claims, as CSV")
         .required(true)

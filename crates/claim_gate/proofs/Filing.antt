@@ -16,7 +16,7 @@ use Rattle.journal.specs.Gate.{GateAt, Continues, TakeReply, Takes, LeadsTo}
 use Rattle.journal.specs.Laws.{JobsStay}
 use Rattle.journal.specs.declared.event.Event.{Event}
 use Rattle.journal.specs.declared.event.Event.TheVariants.{Take}
-use Rattle.claim_gate.specs.Parts.{GateParts}
+use Rattle.claim_gate.specs.Parts.{GateParts, at}
 use Rattle.claim_gate.specs.Replies.{HasClaims, IsWorkOf}
 use Rattle.claim_gate.specs.Shared.{Known, Went}
 use Rattle.claim_gate.specs.Worked.{IsReader, IsAtWork, WorkStays}
@@ -152,3 +152,8 @@ work_found law known job went work = at_work law known.found known.seen job (λ 
 -- what is in work stays so where the state that was seen leads to another one
 pub stays_at_work : JobsStay → (earlier later : GateParts) (job : Job) → LeadsTo earlier later → IsAtWork earlier job → IsAtWork later job
 stays_at_work law earlier later job leads work = goes_on law earlier later leads.terms leads.journal job work
+
+-- so is one that a call of the gate of one thread has taken
+pub work_taken : JobsStay → (old new : GateParts) (job : Job) → ForTerms old.terms (λ T. Takes (at T old) (TakeReply.Work job.position job.claim job.acc) (at T new))
+    → IsWorkOf old new (Work job) → IsAtWork new job
+work_taken law old new job went work = at_work law old new job (λ T is. (went T is).2.job) work

@@ -1,10 +1,14 @@
 //! The gate by worked examples.
 
+mod again;
+mod again_shared;
 mod calls;
 mod filing;
+mod hostile;
 mod in_turn;
 mod last_ticket;
 mod meeting;
+mod rivals;
 mod shared;
 mod worked;
 

@@ -14,7 +14,7 @@ use std::thread::Threads;
 mod hostile;
 mod meeting;
 mod stopping;
-mod watched;
+pub mod watched;
 
 /// A plan with a table of fees and one of remarks.
 const PLAN: &[u8] = br#"

@@ -5,6 +5,7 @@ ghost use Rattle.claim_terms.specs.Terms.{ForTerms};
 ghost use Rattle.claim_gate.specs.Replies.{HasClaims, IsFiled};
 ghost use Rattle.claim_gate.specs.Worked.{IsAtWork, IsSpelled, WorkStays};
 
+use super::again;
 use super::filing::offer_at;
 use crate::{EndFault, FinishFault, GateState, Job, Offer, OfferFault, TakeFault, Taken, Terms};
 use journal::jobs_stay;
@@ -27,7 +28,7 @@ fn accept<'t>(
 {
     jobs_stay();
     let _plan = terms.plan();
-    match gate.offer(offer) {
+    match again::offer(rt, gate, offer) {
         Ok(accepted) => {
             assert!(rt; accepted.position == position);
             Ok(())
@@ -115,7 +116,7 @@ pub fn take_job<'t>(
 {
     jobs_stay();
     let _plan = terms.plan();
-    match gate.take() {
+    match again::take(rt, gate) {
         Ok(Taken::Work(job)) => {
             assert!(rt; job.position == position);
             Ok(job)
@@ -137,7 +138,7 @@ pub fn find_nothing<'t>(
 {
     let _plan = terms.plan();
     let length = gate.journal().len();
-    match gate.take() {
+    match again::take(rt, gate) {
         Ok(Taken::NothingReady) => {
             assert!(rt; gate.journal().len() == length);
             Ok(())
@@ -177,7 +178,7 @@ pub fn record<'t>(
 {
     jobs_stay();
     let outcome = settled(rt, alloc, terms, &job)?;
-    match gate.finish(job, outcome) {
+    match again::finish(rt, gate, job, outcome) {
         Ok(_) => Ok(()),
         Err((FinishFault::OutOfMemory, _, _)) => Err(AllocError),
         Err(_) => panic!(rt; "a recorded outcome"),
@@ -222,7 +223,7 @@ pub fn end<'t>(
     ensures terms { gate.new.terms ≡ terms.now }
 {
     let _plan = terms.plan();
-    match gate.end(provider, count) {
+    match again::end(rt, gate, provider, count) {
         Ok(_) => Ok(()),
         Err(EndFault::OutOfMemory) => Err(AllocError),
         Err(_) => panic!(rt; "an end"),

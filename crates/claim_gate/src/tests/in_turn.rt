@@ -275,7 +275,7 @@ fn by_a_ticket_lock(
     calls_over(rt, alloc, terms, lock, pass)
 }
 
-fn over_a_ticket_lock(rt: &(impl Abort + Wait), alloc: Global) -> Result<(), AllocError> {
+pub fn over_a_ticket_lock(rt: &(impl Abort + Wait), alloc: Global) -> Result<(), AllocError> {
     let plan = plan_of(alloc, plan_text())?;
     let files = [first_file(), second_file()];
     let terms = terms_of(alloc, &plan, &files, None)?;

@@ -7,7 +7,7 @@ use super::calls::settled;
 use super::filing::{is_offer, offer_at, plan_of, read_all, terms_of};
 use super::shared::{accept_at, take_job};
 use super::worked::{is_job, is_paid_40};
-use super::{first_file, plan_text};
+use super::{first_file, plan_text, second_file};
 use crate::{Gate, GateState, Job, LockedGate, SerialGate, Terms};
 use std::alloc::{AllocError, Global};
 use std::process::Abort;
@@ -167,7 +167,7 @@ fn two_tickets(rt: &(impl Abort + Wait), alloc: Global, terms: &Terms) -> Result
 
 fn by_few_tickets(rt: &(impl Abort + Wait), alloc: Global) -> Result<(), AllocError> {
     let plan = plan_of(alloc, plan_text())?;
-    let files = [first_file()];
+    let files = [first_file(), second_file()];
     let terms = terms_of(alloc, &plan, &files, None)?;
     no_ticket(rt, alloc, &terms)?;
     one_ticket(rt, alloc, &terms)
@@ -175,7 +175,7 @@ fn by_few_tickets(rt: &(impl Abort + Wait), alloc: Global) -> Result<(), AllocEr
 
 fn by_two_tickets(rt: &(impl Abort + Wait), alloc: Global) -> Result<(), AllocError> {
     let plan = plan_of(alloc, plan_text())?;
-    let files = [first_file()];
+    let files = [first_file(), second_file()];
     let terms = terms_of(alloc, &plan, &files, None)?;
     two_tickets(rt, alloc, &terms)
 }

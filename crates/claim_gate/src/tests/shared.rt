@@ -5,6 +5,7 @@ ghost use Rattle.claim_gate.specs.Replies.{HasClaims, IsFiled};
 ghost use Rattle.journal.specs.Gate.{LeadsTo};
 ghost use Rattle.claim_gate.specs.Worked.{IsAtWork, IsCaller, IsSpelled};
 
+use super::again_shared;
 use super::calls::settled;
 use super::filing::offer_at;
 use crate::{EndFault, FinishFault, Gate, Job, Offer, OfferFault, TakeFault, Taken, Terms};
@@ -29,6 +30,7 @@ fn accept<G: Gate>(
     ensures leads { IfOk result (λ p. LeadsTo (G.known pass).seen (G.known p).seen) }
 {
     let _plan = terms.plan();
+    let filed = (offer.provider, offer.place);
     let Ok((reply, pass)) = gate.offer(rt, pass, offer) else {
         panic!(rt; "a reply");
     };
@@ -37,7 +39,10 @@ fn accept<G: Gate>(
             assert!(rt; accepted.position == position);
             Ok(pass)
         }
-        Err((OfferFault::OutOfMemory, _)) => Err(AllocError),
+        Err((OfferFault::OutOfMemory, back)) => {
+            assert!(rt; (back.provider, back.place) == filed);
+            Ok(again_shared::accept(rt, terms, gate, pass, back, position))
+        }
         Err(_) => panic!(rt; "an accepted claim"),
     }
 }
@@ -133,7 +138,9 @@ pub fn take_job<G: Gate>(
             assert!(rt; job.position == position);
             Ok((pass, job))
         }
-        Err(TakeFault::OutOfMemory) => Err(AllocError),
+        Err(TakeFault::OutOfMemory) => {
+            Ok(again_shared::take_job(rt, terms, gate, pass, position))
+        }
         Ok(_) => panic!(rt; "work"),
     }
 }
@@ -155,7 +162,7 @@ pub fn find_nothing<G: Gate>(
     };
     match reply {
         Ok(Taken::NothingReady) => Ok(pass),
-        Err(TakeFault::OutOfMemory) => Err(AllocError),
+        Err(TakeFault::OutOfMemory) => Ok(again_shared::find_nothing(rt, terms, gate, pass)),
         Ok(_) => panic!(rt; "nothing ready"),
     }
 }
@@ -175,12 +182,16 @@ pub fn record<G: Gate>(
     ensures leads { IfOk result (λ p. LeadsTo (G.known pass).seen (G.known p).seen) }
 {
     let outcome = settled(rt, alloc, terms, &job)?;
+    let given = (job.position, outcome.paid);
     let Ok((reply, pass)) = gate.finish(rt, pass, job, outcome) else {
         panic!(rt; "a reply");
     };
     match reply {
         Ok(_) => Ok(pass),
-        Err((FinishFault::OutOfMemory, _, _)) => Err(AllocError),
+        Err((FinishFault::OutOfMemory, job, outcome)) => {
+            assert!(rt; (job.position, outcome.paid) == given);
+            Ok(again_shared::record(rt, terms, gate, pass, job, outcome))
+        }
         Err(_) => panic!(rt; "a recorded outcome"),
     }
 }

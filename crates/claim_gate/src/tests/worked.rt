@@ -7,7 +7,7 @@ use super::calls::{
     refuse_outcome, take_job,
 };
 use super::filing::{is_offer, plan_of, read_all, terms_of};
-use super::{counts, first_file, is_over, plan_text, second_file};
+use super::{again, counts, first_file, is_over, plan_text, second_file};
 use crate::{Batch, EndFault, Event, FinishFault, GateState, Job, Offer, OfferFault, Terms};
 use settlement::{Acc, Outcome, Verdict};
 use std::alloc::{AllocError, Global};
@@ -24,7 +24,7 @@ fn header() -> &'static [u8] {
     HEADER
 }
 
-fn one_claim() -> &'static [u8] {
+pub fn one_claim() -> &'static [u8] {
     ONE_CLAIM
 }
 
@@ -238,7 +238,7 @@ fn decide_copy<'t>(
     requires terms { gate.old.terms ≡ terms.now }
     requires at_work { IsAtWork gate.old job }
 {
-    let copy = job.again(alloc)?;
+    let copy = again::copy(rt, alloc, &job)?;
     assert!(rt; is_job(&copy, 0, "c1"));
     assert!(rt; is_at(copy.acc, 0, 0, 0));
     record(rt, alloc, terms, gate, job)?;
@@ -366,7 +366,7 @@ fn end_first<'t>(
 }
 
 // Whether a journal is a claim's accept, the provider's end and the close.
-fn is_closed(journal: &[Event]) -> bool {
+pub fn is_closed(journal: &[Event]) -> bool {
     matches!(
         journal,
         [

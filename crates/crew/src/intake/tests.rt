@@ -6,6 +6,7 @@ ghost use Rattle.claim_terms.specs.Terms.{ForTerms};
 ghost use Rattle.crew.specs.Sharing.{HasTaken};
 
 use super::{offer, open};
+use crate::tests::watched::{WatchedGate, nothing};
 use crate::tests::{both_files, comes_to, file_one, file_two, plan, terms};
 use crate::{RunFault, run_with};
 use claim_gate::{Gate, GateState, LockedGate, Offer, SerialGate, Terms};
@@ -88,7 +89,10 @@ where
 {
     let files = terms.files().len();
     assert!(rt; 1 <= files);
-    let gate = LockedGate::over(lock);
+    // A run without end is stopped, and then it isn't Ok.
+    let mut watch = nothing();
+    watch.stop_at_take = 100_000_000;
+    let gate = WatchedGate::over(LockedGate::over(lock), watch);
     let (mine, theirs) = gate.split(pass);
     let (first, second) = first_two(rt, alloc, terms);
     let theirs = accept(rt, terms, &gate, theirs, 0, first);
@@ -96,7 +100,7 @@ where
     let Ok(mine) = run_with(rt, alloc, terms, 2, &gate, mine) else {
         panic!(rt; "a run behind others");
     };
-    match gate.retire(rt, mine) {
+    match gate.inner().retire(rt, mine) {
         Ok(state) => comes_to(rt, alloc, state.journal(), files, both_files()),
         Err(_) => panic!(rt; "the gate of the run"),
     }

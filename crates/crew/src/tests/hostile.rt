@@ -8,45 +8,82 @@ use crate::{RunFault, run, run_with};
 use claim_gate::{Gate, GateState, LockedGate, SerialGate};
 use claim_terms::Terms;
 use journal::Event;
-use std::alloc::{AllocError, Global};
+use std::alloc::Global;
 use std::process::Abort;
 use std::sync::Wait;
 use std::thread;
 use std::thread::Threads;
 use turn_lock::{Section, TicketLock};
 
-// Whether a run has so many threads that decide, with the caller, and an intake for each of both files.
-fn has_threads<S: Section + Drop + Sync, R: Threads + Wait + Sync>(
+/// What came of a run on a watched gate.
+#[derive(Clone, Copy)]
+struct Met {
+    /// Its fault, if there is one.
+    fault: Option<RunFault>,
+    /// How many `take`s there were at once, and how many `offer`s.
+    takes: u64,
+    offers: u64,
+    /// How many outcomes came back.
+    handed_back: u64,
+}
+
+// A run on a watched gate.
+fn run_watched<S: Section + Drop + Sync, R: Threads + Wait + Sync>(
     rt: &R,
     alloc: Global,
     terms: &Terms,
     workers: usize,
+    watch: Watch,
     lock: S,
     pass: S::Pass,
-) -> bool
+) -> Met
 where
     S::Value: SerialGate + Drop + Send + Sync,
     S::Pass: Send + Drop,
     requires own { S.has_pass lock pass }
     requires terms { (S.Value.shown (S.seen pass)).terms ≡ terms.now }
 {
-    let callers = (workers as u64).saturating_add(1);
-    let mut watch = nothing();
-    watch.takes = callers;
-    watch.offers = 2;
     let gate = WatchedGate::over(LockedGate::over(lock), watch);
-    let has_run = run_with(rt, alloc, terms, workers, &gate, pass).is_ok();
-    has_run && gate.takes.most() == callers && gate.offers.most() == 2
+    let fault = match run_with(rt, alloc, terms, workers, &gate, pass) {
+        Ok(_) => None,
+        Err((fault, _)) => Some(fault),
+    };
+    Met {
+        fault,
+        takes: gate.takes.most(),
+        offers: gate.offers.most(),
+        handed_back: gate.handed_back(),
+    }
 }
 
-fn count_threads<R: Threads + Wait + Sync>(
+fn watched<R: Threads + Wait + Abort + Sync>(
     rt: &R,
     alloc: Global,
     terms: &Terms,
     workers: usize,
-) -> Result<bool, AllocError> {
-    let (lock, pass) = TicketLock::new(alloc, GateState::new(alloc, terms)?)?;
-    Ok(has_threads(rt, alloc, terms, workers, lock, pass))
+    watch: Watch,
+) -> Met {
+    let state = GateState::new(alloc, terms).expect(rt, "a gate");
+    let (lock, pass) = TicketLock::new(alloc, state).expect(rt, "a lock");
+    run_watched(rt, alloc, terms, workers, watch, lock, pass)
+}
+
+// A run has so many workers, its caller, and an intake for each of both files.
+fn check_threads<R: Threads + Wait + Abort + Sync>(
+    rt: &R,
+    alloc: Global,
+    terms: &Terms,
+    workers: usize,
+) {
+    let callers = (workers as u64).saturating_add(1);
+    let mut watch = nothing();
+    watch.takes = callers;
+    watch.offers = 2;
+    let met = watched(rt, alloc, terms, workers, watch);
+    assert!(rt;
+        met.fault.is_none() && met.takes == callers && met.offers == 2,
+        "{workers}"
+    );
 }
 
 #[test]
@@ -55,68 +92,36 @@ fn a_run_has_an_intake_a_file_and_its_workers(rt: HostRuntime) {
     let files = [file_one(), file_two()];
     let terms = terms(&rt, rt.alloc(), &plan, &files);
     for workers in [1, 4, 64] {
-        assert!(rt;
-            count_threads(&rt, rt.alloc(), &terms, workers) == Ok(true),
-            "{workers}"
-        );
+        check_threads(&rt, rt.alloc(), &terms, workers);
     }
 }
 
-// The fault of a run by two workers on a watched gate, if there is one, and how many outcomes came back to it.
-fn run_watched<S: Section + Drop + Sync, R: Threads + Wait + Sync>(
-    rt: &R,
-    alloc: Global,
-    terms: &Terms,
-    watch: Watch,
-    lock: S,
-    pass: S::Pass,
-) -> (Option<RunFault>, u64)
-where
-    S::Value: SerialGate + Drop + Send + Sync,
-    S::Pass: Send + Drop,
-    requires own { S.has_pass lock pass }
-    requires terms { (S.Value.shown (S.seen pass)).terms ≡ terms.now }
-{
-    let gate = WatchedGate::over(LockedGate::over(lock), watch);
-    match run_with(rt, alloc, terms, 2, &gate, pass) {
-        Ok(_) => (None, gate.handed_back()),
-        Err((fault, _)) => (Some(fault), gate.handed_back()),
-    }
-}
-
-fn watched<R: Threads + Wait + Sync>(
-    rt: &R,
-    alloc: Global,
-    terms: &Terms,
-    watch: Watch,
-) -> Result<(Option<RunFault>, u64), AllocError> {
-    let (lock, pass) = TicketLock::new(alloc, GateState::new(alloc, terms)?)?;
-    Ok(run_watched(rt, alloc, terms, watch, lock, pass))
-}
-
-#[test]
-fn a_finished_run_is_ok_whatever_an_intake_met(rt: HostRuntime) {
-    let plan = plan(&rt, rt.alloc());
-    let files = [file_one(), file_two()];
-    let terms = terms(&rt, rt.alloc(), &plan, &files);
+// An intake that is refused memory twice stops the gate, once the caller and both workers know that the run is over.
+fn check_finished<R: Threads + Wait + Abort + Sync>(rt: &R, alloc: Global, terms: &Terms) {
     let mut watch = nothing();
     watch.overs = 3;
-    assert!(rt; watched(&rt, rt.alloc(), &terms, watch) == Ok((None, 0)));
+    assert!(rt; watched(rt, alloc, terms, 2, watch).fault.is_none());
 }
 
-// Whether a run was stopped, and each outcome that was handed in behind the stop came back with its job.
-fn is_handed_back(met: Result<(Option<RunFault>, u64), AllocError>) -> bool {
-    matches!(met, Ok((Some(RunFault::Stopped), 1..=3)))
+// Each outcome that is handed in behind a stop comes back with its job, and the run is stopped.
+fn check_stopped_outcomes<R: Threads + Wait + Abort + Sync>(rt: &R, alloc: Global, terms: &Terms) {
+    let mut watch = nothing();
+    watch.stops_outcomes = true;
+    let met = watched(rt, alloc, terms, 2, watch);
+    assert!(rt; met.fault == Some(RunFault::Stopped) && met.handed_back > 0);
 }
 
 #[test]
-fn a_stopped_outcome_comes_back_with_its_job(rt: HostRuntime) {
+fn runs_that_are_called_off_late_or_in_the_midst(rt: HostRuntime) {
     let plan = plan(&rt, rt.alloc());
     let files = [file_one(), file_two()];
     let terms = terms(&rt, rt.alloc(), &plan, &files);
-    let mut watch = nothing();
-    watch.stops_outcomes = true;
-    assert!(rt; is_handed_back(watched(&rt, rt.alloc(), &terms, watch)));
+    check_finished(&rt, rt.alloc(), &terms);
+    check_stopped_outcomes(&rt, rt.alloc(), &terms);
+    check_worn(&rt, rt.alloc(), &terms);
+    for _ in 0..20 {
+        check_third_caller(&rt, rt.alloc(), &terms);
+    }
 }
 
 // Whether a run by four workers wears out the lock, and its pass comes back worn.
@@ -141,21 +146,10 @@ where
 }
 
 // The same with two tickets left.
-fn wears_out_behind<R: Threads + Wait + Sync>(
-    rt: &R,
-    alloc: Global,
-    terms: &Terms,
-) -> Result<bool, AllocError> {
-    let (lock, pass) = TicketLock::new_at(alloc, GateState::new(alloc, terms)?, u64::MAX - 2)?;
-    Ok(wears_out(rt, alloc, terms, lock, pass))
-}
-
-#[test]
-fn a_run_wears_out_the_lock(rt: HostRuntime) {
-    let plan = plan(&rt, rt.alloc());
-    let files = [file_one(), file_two()];
-    let terms = terms(&rt, rt.alloc(), &plan, &files);
-    assert!(rt; wears_out_behind(&rt, rt.alloc(), &terms) == Ok(true));
+fn check_worn<R: Threads + Wait + Abort + Sync>(rt: &R, alloc: Global, terms: &Terms) {
+    let state = GateState::new(alloc, terms).expect(rt, "a gate");
+    let (lock, pass) = TicketLock::new_at(alloc, state, u64::MAX - 2).expect(rt, "a lock");
+    assert!(rt; wears_out(rt, alloc, terms, lock, pass));
 }
 
 // The fault of a run beside a third caller that stops the gate, if there is one.
@@ -211,25 +205,12 @@ where
     run_beside_a_stop(rt, alloc, terms, &gate, pass)
 }
 
-// Whether such a run is stopped, or Ok where its caller was told first that it is over.
-fn is_stopped_or_over<R: Threads + Wait + Sync>(
-    rt: &R,
-    alloc: Global,
-    terms: &Terms,
-) -> Result<bool, AllocError> {
-    let (lock, pass) = TicketLock::new(alloc, GateState::new(alloc, terms)?)?;
+// Such a run is stopped, or Ok where its caller was told first that it is over.
+fn check_third_caller<R: Threads + Wait + Abort + Sync>(rt: &R, alloc: Global, terms: &Terms) {
+    let state = GateState::new(alloc, terms).expect(rt, "a gate");
+    let (lock, pass) = TicketLock::new(alloc, state).expect(rt, "a lock");
     let fault = run_stopped_over(rt, alloc, terms, lock, pass);
-    Ok(fault.is_none() || fault == Some(RunFault::Stopped))
-}
-
-#[test]
-fn a_third_caller_stops_a_run(rt: HostRuntime) {
-    let plan = plan(&rt, rt.alloc());
-    let files = [file_one(), file_two()];
-    let terms = terms(&rt, rt.alloc(), &plan, &files);
-    for _ in 0..20 {
-        assert!(rt; is_stopped_or_over(&rt, rt.alloc(), &terms) == Ok(true));
-    }
+    assert!(rt; fault.is_none() || fault == Some(RunFault::Stopped));
 }
 
 // How often a journal has the end of a provider.
