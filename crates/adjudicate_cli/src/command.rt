@@ -32,6 +32,12 @@ pub const WORKERS: &str = "WORKERS";
 /// The name of the providers' files.
 pub const FILE: &str = "FILE";
 
+/// The name of the file that the results go to.
+pub const OUTPUT: &str = "OUTPUT";
+
+/// What stands for standard input, in place of a file's name, and for standard output.
+pub const STREAM: &str = "-";
+
 /// The greatest cutoff that can be given.
 const CUTOFF_LIMIT: u64 = 1_000_000_000;
 
@@ -58,7 +64,9 @@ The first file is provider 1, the second provider 2, and so on, up to 64. The
 remittance goes to standard output as CSV: a record for each record of each
 file (paid, denied, pended, refused or late), and one with the totals.";
 
-const STATUSES: &str = "Exit status: 0 done, 1 input refused, 2 usage,
+const STATUSES: &str = "In place of a file `-` is standard input, in one place of a command.
+
+Exit status: 0 done, 1 input refused, 2 usage,
 3 a file, a stream, memory or a thread is wanting.";
 
 /// The whole command line of the program.
@@ -71,13 +79,15 @@ pub fn command_line<'a>(alloc: Global) -> Result<Command<'a>, Error> {
         .about("Evaluate the plan's decision tables at given values, and print their outputs")
         .after_help(VALUE_EXAMPLE)
         .arg(plan_argument(alloc))?
-        .arg(assignments)?;
+        .arg(assignments)?
+        .arg(output_argument(alloc))?;
     let check = Command::new(alloc, CHECK)
         .about(
             "List the inputs that no rule of a table covers, and the pairs of rules that overlap",
         )
         .after_help(CHECK_EXAMPLE)
-        .arg(plan_argument(alloc))?;
+        .arg(plan_argument(alloc))?
+        .arg(output_argument(alloc))?;
     let run = run_command(alloc)?;
     let line = Command::new(alloc, "adjudicate")
         .bin_name("adjudicate")?
@@ -120,6 +130,7 @@ fn run_command<'a>(alloc: Global) -> Result<Command<'a>, Error> {
         .arg(balances)?
         .arg(cutoff)?
         .arg(workers)?
+        .arg(output_argument(alloc))?
         .arg(files)?;
     Ok(run)
 }
@@ -129,4 +140,12 @@ fn plan_argument<'a>(alloc: Global) -> Arg<'a> {
     Arg::new(alloc, PLAN)
         .help("The plan file, in TOML")
         .required(true)
+}
+
+/// The file that the results go to.
+fn output_argument<'a>(alloc: Global) -> Arg<'a> {
+    Arg::new(alloc, OUTPUT)
+        .long("output")
+        .value_name("FILE")
+        .help("Put the results into this file, once they are whole")
 }

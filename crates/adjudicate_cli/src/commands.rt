@@ -1,31 +1,35 @@
 //! One command, from the words of the command line to the exit status.
 
 ghost use Rattle.std.specs.Prelude.{◌≡◌, ◌≢◌, ◌≤◌};
+ghost use Rattle.std.specs.Io.KnownBytes.{Keeps};
 ghost use Rattle.adjudicate.specs.Arguments.{texts_of};
 ghost use Rattle.adjudicate.specs.CheckText.{IsCheckText};
 ghost use Rattle.adjudicate.specs.Stop.{IsPlanReason, IsReason};
 ghost use Rattle.adjudicate.specs.ValueText.{IsValueText};
-ghost use Rattle.adjudicate_cli.specs.Ends.{HasText, IsStatusOfRefusal};
+ghost use Rattle.adjudicate_cli.specs.Ends.{HasText, IsStatusOfRefusal, PutsText};
 
 use crate::command::{ASSIGNMENT, CHECK, RUN, VALUE, command_line};
 use crate::files::plan_of;
+use crate::output::{output_of, placed, unwritable};
 use crate::run::run_of;
 use crate::telling::{DONE, RESOURCE, USAGE, ended, no_memory, told};
 use adjudicate::{do_check, do_value};
 use clap::ArgMatches;
 use clap::error::ErrorKind;
 use fixpoint::Out;
+use std::io::Input;
 use std::rt::{Env, Files};
 use std::sync::Wait;
 use std::thread::Threads;
 use std::time::Clock;
 use std::{env, io};
+use whole_file::Place;
 
 /// Does what the command line says, and answers the exit status.
 /// Where somebody watches standard error, a run that takes long shows signs of life there.
 pub fn status<R>(rt: &R, is_watched: bool) -> u8
 where
-    R: Env + Files + Print + Eprint + AllocGlobal,
+    R: Env + Files + Input + Print + Eprint + AllocGlobal,
     R: Clock + Threads + Wait + Clone + Drop + Send + Sync + 'static,
     ensures known { result ≤ RESOURCE }
 {
@@ -51,7 +55,7 @@ where
 /// The command that the words name. `clap` lets no other through.
 fn command<R>(rt: &R, matches: &ArgMatches<'_>, is_watched: bool) -> u8
 where
-    R: Files + Print + Eprint + AllocGlobal,
+    R: Files + Input + Print + Eprint + AllocGlobal,
     R: Clock + Threads + Wait + Clone + Drop + Send + Sync + 'static,
     ensures known { result ≤ RESOURCE }
 {
@@ -68,7 +72,7 @@ where
 }
 
 /// The command `value`.
-fn value_of<R: Files + Print + Eprint + AllocGlobal>(rt: &R, matches: &ArgMatches<'_>) -> u8
+fn value_of<R: Files + Input + Print + Eprint + AllocGlobal>(rt: &R, matches: &ArgMatches<'_>) -> u8
     ensures known { result ≤ RESOURCE }
 {
     let plan = match plan_of(rt, matches) {
@@ -76,7 +80,11 @@ fn value_of<R: Files + Print + Eprint + AllocGlobal>(rt: &R, matches: &ArgMatche
         Err(status) => return status,
     };
     let assignments = matches.get_strs(ASSIGNMENT).unwrap_or(&[]);
-    value(rt, plan.as_slice(), assignments)
+    match output_of(rt, matches) {
+        Ok(Some(mut file)) => value_into(rt, plan.as_slice(), assignments, &mut file),
+        Ok(None) => value(rt, plan.as_slice(), assignments),
+        Err(status) => status,
+    }
 }
 
 /// The command `value` over the text of a plan.
@@ -91,15 +99,41 @@ fn value<R: Print + Eprint + AllocGlobal>(rt: &R, plan: &[u8], assignments: &[&s
     ended(rt, &answer)
 }
 
+/// The same into a place, which has the whole text then or what stood there before.
+#[tactic(auto, using(crate::proofs::Ends::placed_done, crate::proofs::Ends::kept_twice))]
+fn value_into<R: Eprint + AllocGlobal, P: Place>(
+    rt: &R,
+    plan: &[u8],
+    assignments: &[&str],
+    place: &mut P,
+) -> u8
+    ensures known { result ≤ RESOURCE }
+    ensures done { result ≡ DONE → PutsText (IsValueText plan.now (texts_of assignments.now)) (P.stands place.old) (P.stands place.new) }
+    ensures kept { result ≢ DONE → Keeps (P.stands place.old) (P.stands place.new) }
+    ensures refused { result ≢ DONE → IsStatusOfRefusal (IsReason plan.now (texts_of assignments.now)) result }
+{
+    let text = match place.begin() {
+        Ok(text) => text,
+        Err(fault) => return unwritable(rt, &fault),
+    };
+    let mut out = Out::new(text);
+    let outcome = do_value(rt.alloc(), plan, assignments, &mut out);
+    placed(rt, place, out.into_inner(), &outcome)
+}
+
 /// The command `check`.
-fn check_of<R: Files + Print + Eprint + AllocGlobal>(rt: &R, matches: &ArgMatches<'_>) -> u8
+fn check_of<R: Files + Input + Print + Eprint + AllocGlobal>(rt: &R, matches: &ArgMatches<'_>) -> u8
     ensures known { result ≤ RESOURCE }
 {
     let plan = match plan_of(rt, matches) {
         Ok(plan) => plan,
         Err(status) => return status,
     };
-    check(rt, plan.as_slice())
+    match output_of(rt, matches) {
+        Ok(Some(mut file)) => check_into(rt, plan.as_slice(), &mut file),
+        Ok(None) => check(rt, plan.as_slice()),
+        Err(status) => status,
+    }
 }
 
 /// The command `check` over the text of a plan.
@@ -112,6 +146,23 @@ fn check<R: Print + Eprint + AllocGlobal>(rt: &R, plan: &[u8]) -> u8
     let mut out = Out::new(io::writer(rt));
     let answer = do_check(rt.alloc(), plan, &mut out);
     ended(rt, &answer)
+}
+
+/// The same into a place, which has the whole text then or what stood there before.
+#[tactic(auto, using(crate::proofs::Ends::placed_done, crate::proofs::Ends::kept_twice))]
+fn check_into<R: Eprint + AllocGlobal, P: Place>(rt: &R, plan: &[u8], place: &mut P) -> u8
+    ensures known { result ≤ RESOURCE }
+    ensures done { result ≡ DONE → PutsText (IsCheckText plan.now) (P.stands place.old) (P.stands place.new) }
+    ensures kept { result ≢ DONE → Keeps (P.stands place.old) (P.stands place.new) }
+    ensures refused { result ≢ DONE → IsStatusOfRefusal (IsPlanReason plan.now) result }
+{
+    let text = match place.begin() {
+        Ok(text) => text,
+        Err(fault) => return unwritable(rt, &fault),
+    };
+    let mut out = Out::new(text);
+    let outcome = do_check(rt.alloc(), plan, &mut out);
+    placed(rt, place, out.into_inner(), &outcome)
 }
 
 /// Tells a fault of the command line, or the help or the version that was asked for.

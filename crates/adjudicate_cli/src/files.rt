@@ -1,12 +1,13 @@
-//! Files, read whole.
+//! Files and standard input, read whole.
 
 ghost use Rattle.std.specs.Prelude.{◌≤◌, IfErr};
 
-use crate::command::PLAN;
+use crate::command::{PLAN, STREAM};
 use crate::telling::{RESOURCE, USAGE, no_memory, told};
 use adjudicate::PLAN_LIMIT_BYTES;
 use clap::ArgMatches;
-use std::io::Read;
+use std::alloc::Global;
+use std::io::{Input, Read};
 use std::rt::Files;
 use std::{fs, io};
 
@@ -17,18 +18,29 @@ enum ReadFault {
     OutOfMemory,
 }
 
-/// The bytes of a file, at most one beyond the limit: whoever reads the text sees that it is too long.
-fn read_file<R: Files + AllocGlobal>(
+/// The bytes of a file, or of standard input.
+fn read_file<R: Files + Input + AllocGlobal>(
     rt: &R,
     path: &str,
     limit_bytes: usize,
 ) -> Result<Vec<u8>, ReadFault> {
-    let mut bytes = Vec::new(rt.alloc());
-    let file = match fs::open(rt, path) {
-        Ok(file) => file,
-        Err(fault) => return Err(read_fault(&fault)),
-    };
-    match file
+    if path == STREAM {
+        return read_source(rt.alloc(), rt.reader(), limit_bytes);
+    }
+    match fs::open(rt, path) {
+        Ok(file) => read_source(rt.alloc(), file, limit_bytes),
+        Err(fault) => Err(read_fault(&fault)),
+    }
+}
+
+/// The bytes of a source, at most one beyond the limit: whoever reads the text sees that it is too long.
+fn read_source<S: Read + Drop>(
+    alloc: Global,
+    source: S,
+    limit_bytes: usize,
+) -> Result<Vec<u8>, ReadFault> {
+    let mut bytes = Vec::new(alloc);
+    match source
         .take((limit_bytes as u64).saturating_add(1))
         .read_to_end(&mut bytes)
     {
@@ -38,7 +50,7 @@ fn read_file<R: Files + AllocGlobal>(
 }
 
 /// The text of the plan file that the command line names; where it can't be read, that is told, and its status answered.
-pub fn plan_of<R: Files + Eprint + AllocGlobal>(
+pub fn plan_of<R: Files + Input + Eprint + AllocGlobal>(
     rt: &R,
     matches: &ArgMatches<'_>,
 ) -> Result<Vec<u8>, u8>
@@ -51,7 +63,7 @@ pub fn plan_of<R: Files + Eprint + AllocGlobal>(
 }
 
 /// The bytes of a file; where it can't be read, the line is told, and its status answered.
-pub fn read_or_tell<R: Files + Eprint + AllocGlobal>(
+pub fn read_or_tell<R: Files + Input + Eprint + AllocGlobal>(
     rt: &R,
     path: &str,
     limit_bytes: usize,

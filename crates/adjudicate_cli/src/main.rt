@@ -1,7 +1,7 @@
 //! The program `adjudicate`: it reads its command line, its files and its streams, and leaves all else to the
 //! library of that name.
 //!
-//! `command` is the command line, by `clap`. `files` reads texts whole. `commands` is what happens between the two: one command of
+//! `command` is the command line, by `clap`. `files` reads texts whole, `output` puts results into a file. `commands` is what happens between the two: one command of
 //! the library over standard output, its line on standard error, its exit status; `run` is that for the command `run`,
 //! `telling` what a person is told, and `pulse` the signs of life while a run takes long.
 #![tactic(auto)]
@@ -9,6 +9,7 @@
 mod command;
 mod commands;
 mod files;
+mod output;
 mod pulse;
 mod run;
 mod telling;

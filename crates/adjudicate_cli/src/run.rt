@@ -1,23 +1,27 @@
 //! The command `run`: its options and files, and the remittance on standard output.
 
 ghost use Rattle.std.specs.Prelude.{◌≡◌, ◌≢◌, ◌≤◌, IfErr};
+ghost use Rattle.std.specs.Io.KnownBytes.{Keeps};
 ghost use Rattle.adjudicate.specs.RunStop.{IsRunReason};
 ghost use Rattle.adjudicate.specs.RunText.{IsRemittance, run_texts};
-ghost use Rattle.adjudicate_cli.specs.Ends.{HasText, IsStatusOfRefusal};
+ghost use Rattle.adjudicate_cli.specs.Ends.{HasText, IsStatusOfRefusal, PutsText};
 
-use crate::command::{BALANCES, CUTOFF, FILE, WORKERS};
+use crate::command::{BALANCES, CUTOFF, FILE, PLAN, STREAM, WORKERS};
 use crate::files::{plan_of, read_or_tell};
+use crate::output::{output_of, placed, unwritable};
 use crate::pulse::Pulse;
-use crate::telling::{DONE, RESOURCE, USAGE, ended, no_memory};
+use crate::telling::{DONE, RESOURCE, USAGE, ended, no_memory, told};
 use adjudicate::{FILE_LIMIT_BYTES, RunInput, do_run};
 use clap::ArgMatches;
 use fixpoint::Out;
 use std::alloc::{AllocError, Global};
 use std::io;
+use std::io::Input;
 use std::rt::Files;
 use std::sync::Wait;
 use std::thread::Threads;
 use std::time::Clock;
+use whole_file::Place;
 
 /// The texts of a run, in the order in which they are read.
 #[derive(Drop)]
@@ -30,7 +34,7 @@ struct Texts {
 /// The command `run`. Where somebody watches standard error, a run that takes long shows signs of life there.
 pub fn run_of<R>(rt: &R, matches: &ArgMatches<'_>, is_watched: bool) -> u8
 where
-    R: Files + Print + Eprint + AllocGlobal,
+    R: Files + Input + Print + Eprint + AllocGlobal,
     R: Clock + Threads + Wait + Clone + Drop + Send + Sync + 'static,
     ensures known { result ≤ RESOURCE }
 {
@@ -48,7 +52,7 @@ where
 /// Settles the claims of the texts.
 fn settle<R>(rt: &R, matches: &ArgMatches<'_>, texts: &Texts) -> u8
 where
-    R: Print + Eprint + AllocGlobal + Threads + Wait + Sync,
+    R: Files + Print + Eprint + AllocGlobal + Threads + Wait + Sync,
     ensures known { result ≤ RESOURCE }
 {
     let Some(workers) = matches.get_one::<usize>(WORKERS) else {
@@ -64,7 +68,11 @@ where
         cutoff: matches.get_one::<u64>(CUTOFF),
         workers,
     };
-    run(rt, input)
+    match output_of(rt, matches) {
+        Ok(Some(mut file)) => run_into(rt, input, &mut file),
+        Ok(None) => run(rt, input),
+        Err(status) => status,
+    }
 }
 
 /// The command `run` over its texts.
@@ -81,6 +89,25 @@ where
     ended(rt, &answer)
 }
 
+/// The same into a place, which has the whole remittance then or what stood there before.
+#[tactic(auto, using(crate::proofs::Ends::placed_done, crate::proofs::Ends::kept_twice))]
+fn run_into<R, P: Place>(rt: &R, input: RunInput, place: &mut P) -> u8
+where
+    R: Eprint + AllocGlobal + Threads + Wait + Sync,
+    ensures known { result ≤ RESOURCE }
+    ensures done { result ≡ DONE → PutsText (IsRemittance (run_texts input.entry)) (P.stands place.old) (P.stands place.new) }
+    ensures kept { result ≢ DONE → Keeps (P.stands place.old) (P.stands place.new) }
+    ensures refused { result ≢ DONE → IsStatusOfRefusal (IsRunReason (run_texts input.entry) input.entry.workers) result }
+{
+    let text = match place.begin() {
+        Ok(text) => text,
+        Err(fault) => return unwritable(rt, &fault),
+    };
+    let mut out = Out::new(text);
+    let outcome = do_run(rt, input, &mut out);
+    placed(rt, place, out.into_inner(), &outcome)
+}
+
 /// The files' texts, as a run borrows them.
 fn slices_of(alloc: Global, files: &[Vec<u8>]) -> Result<Vec<&[u8]>, AllocError> {
     let mut slices = Vec::with_capacity(alloc, files.len())?;
@@ -91,9 +118,19 @@ fn slices_of(alloc: Global, files: &[Vec<u8>]) -> Result<Vec<&[u8]>, AllocError>
 }
 
 /// The texts that the command line names. The first that can't be read is told, and its status answered.
-fn texts_of<R: Files + Eprint + AllocGlobal>(rt: &R, matches: &ArgMatches<'_>) -> Result<Texts, u8>
+fn texts_of<R: Files + Input + Eprint + AllocGlobal>(
+    rt: &R,
+    matches: &ArgMatches<'_>,
+) -> Result<Texts, u8>
     ensures known { IfErr result (λ status. status ≤ RESOURCE) }
 {
+    if times_of_input(matches) > 1 {
+        return Err(told(
+            rt,
+            "error: standard input can stand in one place of a command",
+            USAGE,
+        ));
+    }
     Ok(Texts {
         plan: plan_of(rt, matches)?,
         balances: balances_of(rt, matches)?,
@@ -101,7 +138,15 @@ fn texts_of<R: Files + Eprint + AllocGlobal>(rt: &R, matches: &ArgMatches<'_>) -
     })
 }
 
-fn balances_of<R: Files + Eprint + AllocGlobal>(
+/// In how many places standard input is named.
+fn times_of_input(matches: &ArgMatches<'_>) -> usize {
+    let others = [matches.get_str(PLAN), matches.get_str(BALANCES)];
+    let files = matches.get_strs(FILE).unwrap_or(&[]);
+    let named = others.iter().filter(|path| **path == Some(STREAM)).count();
+    named.saturating_add(files.iter().filter(|path| **path == STREAM).count())
+}
+
+fn balances_of<R: Files + Input + Eprint + AllocGlobal>(
     rt: &R,
     matches: &ArgMatches<'_>,
 ) -> Result<Option<Vec<u8>>, u8>
@@ -116,7 +161,7 @@ fn balances_of<R: Files + Eprint + AllocGlobal>(
     }
 }
 
-fn files_of<R: Files + Eprint + AllocGlobal>(
+fn files_of<R: Files + Input + Eprint + AllocGlobal>(
     rt: &R,
     matches: &ArgMatches<'_>,
 ) -> Result<Vec<Vec<u8>>, u8>

@@ -1,0 +1,67 @@
+//! The file that a command's results go to, if there is one: they are put into it once they are whole.
+
+ghost use Rattle.std.specs.Prelude.{◌≡◌, ◌≢◌, ◌≤◌, ◌⊎◌, IfErr, IsOk, MatchResult};
+ghost use Rattle.std.specs.Io.KnownBytes.{Keeps};
+ghost use Rattle.whole_file.specs.Place.{Becomes};
+ghost use Rattle.adjudicate.specs.Stop.{status_of};
+
+use crate::command::{OUTPUT, STREAM};
+use crate::telling::{DONE, RESOURCE, no_memory, tell, told};
+use adjudicate::Stop;
+use clap::ArgMatches;
+use std::io;
+use std::rt::Files;
+use whole_file::{FilePlace, Place, finish};
+
+/// The file that the command line names for the results, if it does. Where they can't be put there, that is told, and its status
+/// answered.
+pub fn output_of<'a, R: Files + Eprint + AllocGlobal>(
+    rt: &'a R,
+    matches: &ArgMatches<'_>,
+) -> Result<Option<FilePlace<'a, R>>, u8>
+    ensures known { IfErr result (λ status. status ≤ RESOURCE) }
+{
+    match matches.get_str(OUTPUT) {
+        None | Some(STREAM) => Ok(None),
+        Some(path) => match FilePlace::new(rt, path) {
+            Ok(place) => Ok(Some(place)),
+            Err(fault) => Err(unwritable(rt, &fault)),
+        },
+    }
+}
+
+/// Ends the writing of a command's text: it is put into its place where the command is done, and given up where it is refused, or can't be
+/// put there. Answers the command's status.
+#[tactic(auto, using(crate::proofs::Ends::no_refusal_is_done))]
+pub fn placed<R: Eprint, P: Place>(
+    rt: &R,
+    place: &mut P,
+    text: P::Text,
+    answer: &Result<(), Stop>,
+) -> u8
+    ensures status { MatchResult answer.now (λ _. (result ≡ DONE) ⊎ (result ≡ RESOURCE)) (λ stop. result ≡ status_of stop) }
+    ensures put { result ≡ DONE → Becomes (P.stands place.old) (P.stands place.new) (P.Text.contents text) }
+    ensures kept { result ≢ DONE → Keeps (P.stands place.old) (P.stands place.new) }
+{
+    match answer {
+        Ok(()) => match finish(place, text, true) {
+            Ok(()) => DONE,
+            Err(fault) => unwritable(rt, &fault),
+        },
+        Err(stop) => {
+            let _ = finish(place, text, false);
+            tell(rt, stop)
+        }
+    }
+}
+
+/// Tells that the results can't be put into the file.
+pub fn unwritable<R: Eprint>(rt: &R, fault: &io::Error) -> u8
+    ensures { result ≡ RESOURCE }
+{
+    if fault.kind() == io::ErrorKind::OutOfMemory {
+        no_memory(rt)
+    } else {
+        told(rt, "cannot write output", RESOURCE)
+    }
+}
