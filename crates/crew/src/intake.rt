@@ -15,7 +15,7 @@ use claim_terms::{Terms, terms_are_seen};
 use intake_csv::{
     Row, Rows, given_row_has_the_claim, no_records_give_no_rows, reader_begins_with_all_rows,
 };
-use std::alloc::Global;
+use std::alloc::{AllocError, Global};
 use std::sync::Wait;
 
 #[cfg(test)]
@@ -126,9 +126,9 @@ fn open<'t>(alloc: Global, terms: &'t Terms, provider: usize) -> Result<Rows<'t>
     ensures rows { IfOk result (IsAtStart terms.now.plan.names (get_or terms.now.files (provider - 1) [])) }
     ensures fault { IfErr result (λ fault. fault ≡ OutOfMemory) }
 {
-    match Rows::new(alloc, terms.plan(), terms.files()[provider - 1]) {
+    match terms.rows(alloc, provider) {
         Ok(rows) => Ok(rows),
-        Err(_) => Err(RunFault::OutOfMemory),
+        Err(AllocError) => Err(RunFault::OutOfMemory),
     }
 }
 

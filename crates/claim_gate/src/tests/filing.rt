@@ -1,7 +1,5 @@
 //! The claims of providers' files, one after another, as who reads the files offers them.
-ghost use Rattle.std.specs.Prelude.{◌≡◌, ◌≤◌, ◌+◌, ◌-◌, [], get_or, length, IfOk, OnOk};
-ghost use Rattle.intake_csv.specs.Laws.{StandApart};
-ghost use Rattle.intake_csv.specs.Rows.{IsAtStart};
+ghost use Rattle.std.specs.Prelude.{◌≡◌, ◌+◌, IfOk, OnOk};
 ghost use Rattle.claim_terms.specs.Terms.{ForTerms};
 ghost use Rattle.claim_gate.specs.Replies.{HasClaims, IsFiled};
 ghost use Rattle.claim_gate.specs.Worked.{IsReader, IsSpelled};
@@ -9,8 +7,7 @@ ghost use Rattle.claim_gate.specs.Worked.{IsReader, IsSpelled};
 use crate::{Offer, Terms};
 use dtable::{Plan, read_plan};
 use intake_csv::{
-    FileFault, Row, Rows, given_row_is_the_first, no_records_give_no_rows,
-    reader_begins_with_all_rows,
+    Row, Rows, given_row_is_the_first, no_records_give_no_rows, reader_begins_with_all_rows,
 };
 use std::alloc::{AllocError, Global};
 use std::process::Abort;
@@ -41,25 +38,6 @@ pub fn terms_of<'a>(
     Ok(terms)
 }
 
-// The rows of a provider's file.
-fn start<'t>(
-    rt: &impl Abort,
-    alloc: Global,
-    terms: &'t Terms,
-    provider: usize,
-) -> Result<Rows<'t>, AllocError>
-    requires least { 1 ≤ provider }
-    requires most { provider ≤ length terms.now.files }
-    ensures start { IfOk result (IsAtStart terms.now.plan.names (get_or terms.now.files (provider - 1) [])) }
-    ensures apart { IfOk result (λ rows. StandApart rows.layout.columns) }
-{
-    match Rows::new(alloc, terms.plan(), terms.files()[provider - 1]) {
-        Ok(rows) => Ok(rows),
-        Err(FileFault::OutOfMemory) => Err(AllocError),
-        Err(_) => panic!(rt; "a file of claims"),
-    }
-}
-
 // A reader at the start of a provider's file.
 pub fn open<'t>(
     rt: &impl Abort,
@@ -74,7 +52,7 @@ pub fn open<'t>(
     reader_begins_with_all_rows();
     let files = terms.files();
     assert!(rt; 1 <= provider && provider <= files.len());
-    let rows = start(rt, alloc, terms, provider)?;
+    let rows = terms.rows(alloc, provider)?;
     Ok(rows)
 }
 
