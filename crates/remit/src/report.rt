@@ -136,6 +136,7 @@ impl<'j> Report<'j> {
             (at (W.contents (writer_of out.new)) (has_failed out.new) self.new.writer) result }
         ensures decisions { self.new.decisions ≡ self.old.decisions }
     {
+        // Known from here: what a reader at its start has left is what the file has.
         intake_csv::reader_begins_with_all_rows();
         match terms.rows(self.alloc, provider) {
             Ok(rows) => self.write_rows(provider, rows, out),
@@ -156,6 +157,7 @@ impl<'j> Report<'j> {
             (at (W.contents (writer_of out.new)) (has_failed out.new) self.new.writer) result }
         ensures decisions { self.new.decisions ≡ self.old.decisions }
     {
+        // Known from here: a row that a reader gives is the first of those left, and behind the last there is none.
         intake_csv::given_row_is_the_first();
         intake_csv::no_records_give_no_rows();
         let mut rows = rows;

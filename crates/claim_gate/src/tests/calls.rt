@@ -3,7 +3,7 @@ ghost use Rattle.std.specs.Prelude.{◌≡◌, IfOk, OnOk};
 ghost use Rattle.journal.specs.Settled.{outcome_of};
 ghost use Rattle.claim_terms.specs.Terms.{ForTerms};
 ghost use Rattle.claim_gate.specs.Replies.{HasClaims, IsFiled};
-ghost use Rattle.claim_gate.specs.Worked.{IsAtWork, IsSpelled, WorkStays};
+ghost use Rattle.claim_gate.specs.Worked.{IsAtWork, WorkStays};
 
 use super::filing::offer_at;
 use crate::{EndFault, FinishFault, GateState, Job, Offer, OfferFault, TakeFault, Taken, Terms};
@@ -47,7 +47,6 @@ pub fn accept_at<'t>(
     place: usize,
     position: usize,
 ) -> Result<(), AllocError>
-    requires plan { IsSpelled terms.now.plan }
     requires terms { gate.old.terms ≡ terms.now }
     ensures terms { gate.new.terms ≡ terms.now }
     ensures stays { OnOk result (WorkStays gate.old gate.new) }
@@ -92,7 +91,6 @@ pub fn refuse_at<'t>(
     place: usize,
     fault: OfferFault,
 ) -> Result<Offer, AllocError>
-    requires plan { IsSpelled terms.now.plan }
     requires terms { gate.old.terms ≡ terms.now }
     ensures terms { gate.new.terms ≡ terms.now }
     ensures stays { OnOk result (WorkStays gate.old gate.new) }

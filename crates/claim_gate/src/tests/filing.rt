@@ -2,7 +2,7 @@
 ghost use Rattle.std.specs.Prelude.{◌≡◌, ◌+◌, IfOk, OnOk};
 ghost use Rattle.claim_terms.specs.Terms.{ForTerms};
 ghost use Rattle.claim_gate.specs.Replies.{HasClaims, IsFiled};
-ghost use Rattle.claim_gate.specs.Worked.{IsReader, IsSpelled};
+ghost use Rattle.claim_gate.specs.Worked.{IsReader};
 
 use crate::{Offer, Terms};
 use dtable::{Plan, read_plan};
@@ -13,9 +13,7 @@ use std::alloc::{AllocError, Global};
 use std::process::Abort;
 
 // The plan of a text.
-pub fn plan_of(alloc: Global, text: &[u8]) -> Result<Plan, AllocError>
-    ensures { IfOk result IsSpelled }
-{
+pub fn plan_of(alloc: Global, text: &[u8]) -> Result<Plan, AllocError> {
     let Ok(plan) = read_plan(alloc, text) else {
         return Err(AllocError);
     };
@@ -28,10 +26,7 @@ pub fn terms_of<'a>(
     plan: &'a Plan,
     files: &'a [&'a [u8]],
     cutoff: Option<u64>,
-) -> Result<Terms<'a>, AllocError>
-    requires { IsSpelled plan.now }
-    ensures { IfOk result (λ terms. IsSpelled terms.plan) }
-{
+) -> Result<Terms<'a>, AllocError> {
     let Ok(terms) = Terms::new(alloc, plan, files, None, cutoff) else {
         return Err(AllocError);
     };
@@ -45,7 +40,6 @@ pub fn open<'t>(
     terms: &'t Terms,
     provider: usize,
 ) -> Result<Rows<'t>, AllocError>
-    requires { IsSpelled terms.now.plan }
     ensures reader { IfOk result (λ rows. ForTerms terms.now (λ T. IsReader T provider rows)) }
     ensures place { IfOk result (λ rows. rows.place ≡ 0) }
 {
@@ -107,7 +101,6 @@ pub fn offer_at(
     provider: usize,
     place: usize,
 ) -> Result<Offer, AllocError>
-    requires { IsSpelled terms.now.plan }
     ensures { IfOk result (λ offer. ForTerms terms.now (λ T. IsFiled T offer)) }
 {
     let mut rows = open(rt, alloc, terms, provider)?;
@@ -123,7 +116,6 @@ pub fn read_all(
     provider: usize,
     count: usize,
 ) -> Result<(), AllocError>
-    requires { IsSpelled terms.now.plan }
     ensures { OnOk result (ForTerms terms.now (λ T. HasClaims T provider count)) }
 {
     no_records_give_no_rows();

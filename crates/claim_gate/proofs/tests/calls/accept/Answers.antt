@@ -4,6 +4,6 @@ use Rattle.claim_gate.proofs.tests.calls.accept.Goals.{in-Ok+else-assert, in-Err
 
 pub returns-clause-stays : goal.returns-clause-stays
 returns-clause-stays g c = elim c.match-offer.branch [
-  | in-Ok+else-assert w ↦ rw w.result-is (goes_on c.jobs_stay.ensures c.args.gate.now c.offer.new.self c.offer.ensures.terms w.in-Ok.ensures.goes_on)
+  | in-Ok+else-assert w ↦ rw w.result-is (goes_on c.jobs_stay.ensures c.args.gate.now c.offer.new.self c.offer.ensures.leads.terms w.in-Ok.ensures.leads.journal)
   | in-Err-OutOfMemory-default w ↦ rw w.result-is tt
 ]
