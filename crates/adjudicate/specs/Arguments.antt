@@ -1,11 +1,10 @@
 -- The arguments `NAME=LITERAL` of the command `value`, and what they give.
-use Rattle.std.specs.Prelude.{◌≡◌, ℕ, ◌<◌, ◌≤◌, ◌++◌, ◌==◌, cond, List, [], ◌∷◌, length, map, Option, Some, None, option_map, Contains, slice_get, IsTrue, IsSome}
+use Rattle.std.specs.Prelude.{◌≡◌, ℕ, ◌<◌, ◌++◌, ◌==◌, cond, List, [], ◌∷◌, map, Option, Some, None, option_map, Contains, slice_get, IsTrue, IsSome}
 use Rattle.std.specs.Borrow.{Bor}
 use Rattle.feel_tests.specs.declared.value.Value.{Value}
 use Rattle.feel_tests.specs.Cell.{SpellsValue}
 use Rattle.feel_tests.specs.Value.{kind_of}
 use Rattle.dtable.specs.declared.inputs.Slot.{Slot}
-use Rattle.dtable.specs.Limits.{name_limit_bytes}
 use Rattle.dtable.specs.declared.table.InputData.{InputData}
 use Rattle.dtable.specs.declared.table.Table.{Table}
 use Rattle.dtable.specs.Inputs.{needs, value_at, kind_at}
@@ -78,7 +77,3 @@ pub record IsFirstMissing (names : List InputData) (tables : List Table) (given 
   pub read : IsTrue (needs tables place)
   pub missing : value_at given place ≡ None
   pub first : IsReadyBelow place tables given
-
--- each name has at most as many bytes as the names of plans may have
-abbrev pub AreShort : List InputData → Type 0
-AreShort names = (place : ℕ) (input : InputData) → slice_get names place ≡ Some input → length input.name ≤ name_limit_bytes

@@ -2,7 +2,7 @@
 
 ghost use Rattle.std.specs.Prelude.{◌≡◌, IfOk, IfErr, OnOk};
 ghost use Rattle.fixpoint.specs.Out.{writer_of, has_failed};
-ghost use Rattle.adjudicate.specs.Arguments.{texts_of, AreShort};
+ghost use Rattle.adjudicate.specs.Arguments.{texts_of};
 ghost use Rattle.adjudicate.specs.ValueText.{IsTextOf, IsValueText};
 ghost use Rattle.adjudicate.specs.Stop.{WritesText, WritesUntil, IsReason, failed_after, RefusesText, RefusesValue};
 
@@ -52,7 +52,6 @@ fn value_text(alloc: Global, plan: &[u8], arguments: &[&str]) -> Result<Vec<u8>,
 
 // The text that the command prints for a plan.
 fn plan_text(alloc: Global, plan: &Plan, arguments: &[&str]) -> Result<Vec<u8>, Stop>
-    requires short { AreShort plan.now.names }
     ensures text { IfOk result (λ text. IsTextOf plan.now (texts_of arguments.now) text.items) }
     ensures refused { IfErr result (RefusesValue plan.now (texts_of arguments.now)) }
 {

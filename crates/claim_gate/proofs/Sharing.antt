@@ -1,6 +1,5 @@
 -- Calls of a gate behind a lock, by those of the gate of one thread.
-use Rattle.std.proofs.Common.{◌≡◌, ◌+◌, ℕ, max, true, ◌∷◌, [], ◌++◌, Result, Ok, Err, refl, sym, ap, inl, inr, ◌∙◌, subst}
-use Rattle.std.specs.Result.{OnOk, OnErr}
+use Rattle.std.proofs.Common.{◌≡◌, ◌+◌, ℕ, max, refl, sym, ap, inl, inr, ◌∙◌, subst}
 use Rattle.claim_terms.specs.Terms.{ForTerms, IsTermsOf, TermsParts}
 use Rattle.settlement.specs.declared.acc.Acc.{Acc}
 use Rattle.settlement.specs.declared.claim.Claim.{Claim}
@@ -8,11 +7,9 @@ use Rattle.journal.specs.Terms.{Terms}
 use Rattle.journal.specs.Events.{IsJob}
 use Rattle.journal.specs.Gate.{LeadsTo}
 use Rattle.journal.specs.Laws.{JobsStay}
-use Rattle.journal.specs.declared.event.Event.{Event}
 use Rattle.turn_lock.specs.Ticket.{last_word}
 use Rattle.turn_lock.specs.TicketShown.{HasMet}
 use Rattle.turn_lock.specs.declared.ticket.view.Known.{Known as Seen}
-use Rattle.journal.specs.Leading.{leads_itself}
 use Rattle.claim_gate.specs.Parts.{GateParts, at}
 use Rattle.claim_gate.specs.Shared.{HadSection, HaveMet, IsLawful, Known}
 
@@ -26,14 +23,6 @@ pub job_stays :
     → ForTerms seen.terms (λ T. IsJob T seen.journal position claim acc) → ForTerms found.terms (λ T. IsJob T found.journal position claim acc)
 job_stays stay seen found position claim acc leads job =
     λ T is. stay (at T seen) (at T found) position claim acc (leads_at T seen found leads) (job T (subst (λ terms. IsTermsOf terms T) leads.terms is))
-
--- a call that puts an event behind the journal, or changes nothing, leads on
-pub recorded_leads :
-    {X Y : Type 0} (old new : GateParts) (event : Event) (reply : Result X Y) → new.terms ≡ old.terms
-    → OnOk reply (new ≡ record old { journal = old.journal ++ event ∷ [] }) → OnErr reply (new ≡ old) → (old.stopped ≡ true → new ≡ old) → LeadsTo old new
-recorded_leads old new event (Ok x) terms recorded refused stays =
-    record { terms = terms; journal = record { rest = event ∷ []; whole = ap (λ gate. gate.journal) recorded }; stop = stays }
-recorded_leads old new event (Err y) terms recorded refused stays = subst (λ gate. LeadsTo old gate) (sym refused) (leads_itself old)
 
 -- a section, from what it found and what it left
 pub had_section :

@@ -32,6 +32,17 @@ pub record HadSection (before after : Known) : Type 0 where
   pub left_lawful : IsLawful after.seen
   pub tally : after.tally ≡ before.tally + 1
 
+-- the pass that comes back from a call is one of the gate, and has had one section
+pub record IsServed {P : Type 0} (has_pass : P → Type 0) (known : P → Known) (before : Known) (pass : P) : Type 0 where
+  pub own : has_pass pass
+  pub section : HadSection before (known pass)
+
+-- the pass that comes back from a call is one of the gate, has seen that no ticket is left, and knows what it knew
+pub record IsWornOut {P : Type 0} (has_pass is_worn : P → Type 0) (known : P → Known) (before : Known) (pass : P) : Type 0 where
+  pub own : has_pass pass
+  pub worn : is_worn pass
+  pub same : known pass ≡ before
+
 -- the section's state, from the one found to the one left, went as a call of the gate of one thread goes
 abbrev pub Went : (GateAt → GateAt → Type 0) → Known → Type 0
 Went Goes known = ForTerms known.found.terms (λ T. Goes (at T known.found) (at T known.seen))

@@ -1,7 +1,5 @@
 -- Words of the tests: how far a provider's file is read, and what is in work.
 use Rattle.std.specs.Prelude.{◌≡◌, ℕ, true, List, ◌++◌, length}
-use Rattle.dtable.specs.Plan.{PlanParts}
-use Rattle.dtable.specs.PlanFile.{IsPlanText}
 use Rattle.settlement.specs.declared.claim.Claim.{Claim}
 use Rattle.intake_csv.specs.Laws.{StandApart}
 use Rattle.intake_csv.specs.Rows.{AreRowsLeft, RowsLeft, claims_among}
@@ -12,11 +10,6 @@ use Rattle.journal.specs.Events.{taken, IsJob}
 use Rattle.claim_gate.specs.Parts.{GateParts}
 use Rattle.claim_gate.specs.Shared.{Known}
 use Rattle.claim_gate.specs.declared.job.Job.{Job}
-
--- the plan is that of a text
-pub record IsSpelled (plan : PlanParts) : Type 0 where
-  pub text : List ℕ
-  pub spells : IsPlanText text plan
 
 -- the reader has left so many of the provider's claims behind
 pub record IsReader (T : Terms) (provider : ℕ) (left : RowsLeft) : Type 0 where

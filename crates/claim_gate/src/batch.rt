@@ -29,10 +29,7 @@ impl<'t> Model for Batch<'t> {
 
 impl<'t> Batch<'t> {
     /// The run of a gate, where its journal is finished; the gate comes back where it isn't.
-    pub fn from_state(
-        state: GateState<'t>,
-        terms: &'t Terms<'t>,
-    ) -> Result<Batch<'t>, GateState<'t>>
+    pub fn from_state(state: GateState<'t>, terms: &'t Terms) -> Result<Batch<'t>, GateState<'t>>
         requires { state.terms ≡ terms.now }
         ensures batch { IfOk result (λ batch. (batch.terms ≡ terms.now) × (batch.journal ≡ state.entry.journal)) }
         ensures finished { IfOk result (λ batch. ForTerms terms.now (λ T. Finished T batch.journal)) }

@@ -22,7 +22,7 @@ pub trait Gate {
     ghost use Rattle.claim_terms.specs.Terms.{ForTerms};
     ghost use Rattle.claim_gate.specs.Parts.{at};
     ghost use Rattle.claim_gate.specs.Replies.{offer_reply, end_reply, take_reply, finish_reply, IsFiled, HasClaims, IsWorkOf};
-    ghost use Rattle.claim_gate.specs.Shared.{Known, HadSection, Went};
+    ghost use Rattle.claim_gate.specs.Shared.{Known, IsServed, IsWornOut, Went};
 
     type Pass: Send + Drop;
 
@@ -51,11 +51,11 @@ pub trait Gate {
     ) -> Result<(Result<Accepted, (OfferFault, Offer)>, Self::Pass), (Worn, Self::Pass, Offer)>
         requires own { has_pass self.now pass }
         requires filed { ForTerms (known pass).seen.terms (λ T. IsFiled T offer) }
-        ensures own { IfOk result (λ r. has_pass self.now r.1) }
-        ensures section { IfOk result (λ r. HadSection (known pass) (known r.1)) }
+        ensures served { IfOk result (λ r. IsServed (has_pass self.now) known (known pass) r.1) }
         ensures reply { IfOk result (λ r. Went (λ old new. Offers old offer.provider offer.place (offer_reply r.0) new) (known r.1)) }
         ensures back { IfOk result (λ r. IfErr r.0 (λ refused. refused.1 ≡ offer)) }
-        ensures worn { IfErr result (λ e. is_worn e.1 × has_pass self.now e.1 × (known e.1 ≡ known pass) × (e.2 ≡ offer)) }
+        ensures worn { IfErr result (λ e. IsWornOut (has_pass self.now) is_worn known (known pass) e.1) }
+        ensures worn_back { IfErr result (λ e. e.2 ≡ offer) }
         ensures late { is_worn pass → IsErr result };
 
     /// Ends a provider whose claims, so many, are all accepted.
@@ -68,10 +68,9 @@ pub trait Gate {
     ) -> Result<(Result<Ended, EndFault>, Self::Pass), (Worn, Self::Pass)>
         requires own { has_pass self.now pass }
         requires claims { ForTerms (known pass).seen.terms (λ T. HasClaims T provider count) }
-        ensures own { IfOk result (λ r. has_pass self.now r.1) }
-        ensures section { IfOk result (λ r. HadSection (known pass) (known r.1)) }
+        ensures served { IfOk result (λ r. IsServed (has_pass self.now) known (known pass) r.1) }
         ensures reply { IfOk result (λ r. Went (λ old new. Ends old provider count (end_reply r.0) new) (known r.1)) }
-        ensures worn { IfErr result (λ e. is_worn e.1 × has_pass self.now e.1 × (known e.1 ≡ known pass)) }
+        ensures worn { IfErr result (λ e. IsWornOut (has_pass self.now) is_worn known (known pass) e.1) }
         ensures late { is_worn pass → IsErr result };
 
     /// Takes a claim whose member's earlier claims are all decided.
@@ -81,11 +80,10 @@ pub trait Gate {
         pass: Self::Pass,
     ) -> Result<(Result<Taken, TakeFault>, Self::Pass), (Worn, Self::Pass)>
         requires { has_pass self.now pass }
-        ensures own { IfOk result (λ r. has_pass self.now r.1) }
-        ensures section { IfOk result (λ r. HadSection (known pass) (known r.1)) }
+        ensures served { IfOk result (λ r. IsServed (has_pass self.now) known (known pass) r.1) }
         ensures reply { IfOk result (λ r. Went (λ old new. Takes old (take_reply r.0) new) (known r.1)) }
         ensures work { IfOk result (λ r. IfOk r.0 (IsWorkOf (known r.1).found (known r.1).seen)) }
-        ensures worn { IfErr result (λ e. is_worn e.1 × has_pass self.now e.1 × (known e.1 ≡ known pass)) }
+        ensures worn { IfErr result (λ e. IsWornOut (has_pass self.now) is_worn known (known pass) e.1) }
         ensures late { is_worn pass → IsErr result };
 
     /// Records the outcome of a job. Both come back where it is refused.
@@ -103,20 +101,19 @@ pub trait Gate {
         requires in_work { taken (known pass).seen.journal job.position ≡ true }
         requires job { ForTerms (known pass).seen.terms (λ T. IsJob T (known pass).seen.journal job.position job.claim job.acc) }
         requires settled { outcome ≡ outcome_of (known pass).seen.terms.plan job.claim job.acc }
-        ensures own { IfOk result (λ r. has_pass self.now r.1) }
-        ensures section { IfOk result (λ r. HadSection (known pass) (known r.1)) }
+        ensures served { IfOk result (λ r. IsServed (has_pass self.now) known (known pass) r.1) }
         ensures reply { IfOk result (λ r. Went (λ old new. Finishes old job.position outcome (finish_reply r.0) new) (known r.1)) }
         ensures back { IfOk result (λ r. IfErr r.0 (λ refused. (refused.1 ≡ job) × (refused.2 ≡ outcome))) }
-        ensures worn { IfErr result (λ e. is_worn e.1 × has_pass self.now e.1 × (known e.1 ≡ known pass) × (e.2 ≡ job) × (e.3 ≡ outcome)) }
+        ensures worn { IfErr result (λ e. IsWornOut (has_pass self.now) is_worn known (known pass) e.1) }
+        ensures worn_back { IfErr result (λ e. (e.2 ≡ job) × (e.3 ≡ outcome)) }
         ensures late { is_worn pass → IsErr result };
 
     /// Stops the gate: from then on each call answers so. The journal stays as it is.
     fn stop<R: Wait>(&self, rt: &R, pass: Self::Pass) -> Result<Self::Pass, (Worn, Self::Pass)>
         requires { has_pass self.now pass }
-        ensures own { IfOk result (λ p. has_pass self.now p) }
-        ensures section { IfOk result (λ p. HadSection (known pass) (known p)) }
+        ensures served { IfOk result (IsServed (has_pass self.now) known (known pass)) }
         ensures stopped { IfOk result (λ p. Went Stops (known p)) }
-        ensures worn { IfErr result (λ e. is_worn e.1 × has_pass self.now e.1 × (known e.1 ≡ known pass)) }
+        ensures worn { IfErr result (λ e. IsWornOut (has_pass self.now) is_worn known (known pass) e.1) }
         ensures late { is_worn pass → IsErr result };
 
     /// How far the gate is.
@@ -126,9 +123,8 @@ pub trait Gate {
         pass: Self::Pass,
     ) -> Result<(Counts, Self::Pass), (Worn, Self::Pass)>
         requires { has_pass self.now pass }
-        ensures own { IfOk result (λ r. has_pass self.now r.1) }
-        ensures section { IfOk result (λ r. HadSection (known pass) (known r.1)) }
+        ensures served { IfOk result (λ r. IsServed (has_pass self.now) known (known pass) r.1) }
         ensures reply { IfOk result (λ r. Went (λ old new. (new ≡ old) × AreCounts old r.0.accepted r.0.ended r.0.decided r.0.closed r.0.stopped) (known r.1)) }
-        ensures worn { IfErr result (λ e. is_worn e.1 × has_pass self.now e.1 × (known e.1 ≡ known pass)) }
+        ensures worn { IfErr result (λ e. IsWornOut (has_pass self.now) is_worn known (known pass) e.1) }
         ensures late { is_worn pass → IsErr result };
 }

@@ -3,8 +3,7 @@ ghost use Rattle.std.specs.Prelude.{◌≡◌, ◌+◌, ◌<◌, ◌≤◌, ◌�
 ghost use Rattle.settlement.specs.Opening.{opening};
 ghost use Rattle.journal.specs.Terms.{Terms as AnyTerms};
 ghost use Rattle.journal.specs.Events.{places, ended, closed, taken, decided, reached, IsJob};
-ghost use Rattle.journal.specs.Gate.{Continues, Offers, Ends, Takes, Finishes, Stops, Counts as AreCounts};
-ghost use Rattle.journal.specs.Lawful.{Lawful};
+ghost use Rattle.journal.specs.Gate.{LeadsTo, Offers, Ends, Takes, Finishes, Stops, Counts as AreCounts};
 ghost use Rattle.journal.specs.Settled.{outcome_of};
 ghost use Rattle.journal.specs.declared.event.Event.TheVariants as events;
 ghost use Rattle.lanes.specs.Calls.{place_behind};
@@ -12,6 +11,7 @@ ghost use Rattle.claim_gate.specs.Kept.{is_due};
 ghost use Rattle.claim_terms.specs.Terms.{ForTerms};
 ghost use Rattle.claim_gate.specs.Parts.{at};
 ghost use Rattle.claim_gate.specs.Replies.{offer_reply, end_reply, take_reply, finish_reply, IsFiled, HasClaims, IsOver, IsWorkOf, first_journal};
+ghost use Rattle.claim_gate.specs.Shared.{IsLawful};
 
 use crate::counts::Counts;
 use crate::fault::{EndFault, FinishFault, OfferFault, TakeFault};
@@ -55,7 +55,7 @@ impl<'t> Model for GateState<'t> {
 
 impl<'t> GateState<'t> {
     /// A gate that nothing was offered yet. With cutoff 0 it is closed at once.
-    pub fn new(alloc: Global, terms: &'t Terms<'t>) -> Result<GateState<'t>, AllocError>
+    pub fn new(alloc: Global, terms: &'t Terms) -> Result<GateState<'t>, AllocError>
         ensures { IfOk result (λ made. made ≡ record { terms = terms.now; journal = first_journal terms.now.cutoff; stopped = false }) }
     {
         // Known from here: the journal of no event is lawful.
@@ -79,7 +79,7 @@ impl<'t> GateState<'t> {
     /// The journal.
     pub fn journal(&self) -> &[Event]
         ensures journal { result.now ≡ self.now.journal }
-        ensures lawful { ForTerms self.now.terms (λ T. Lawful T self.now.journal) }
+        ensures lawful { IsLawful self.now }
     {
         &self.journal
     }
@@ -87,7 +87,7 @@ impl<'t> GateState<'t> {
     /// The journal alone.
     pub fn into_journal(self) -> Vec<Event>
         ensures journal { result.items ≡ self.entry.journal }
-        ensures lawful { ForTerms self.entry.terms (λ T. Lawful T self.entry.journal) }
+        ensures lawful { IsLawful self.entry }
     {
         let GateState { journal, .. } = self;
         journal
@@ -97,10 +97,8 @@ impl<'t> GateState<'t> {
     pub fn offer(&mut self, offer: Offer) -> Result<Accepted, (OfferFault, Offer)>
         requires { ForTerms self.old.terms (λ T. IsFiled T offer) }
         ensures reply { ForTerms self.old.terms (λ T. Offers (at T self.old) offer.provider offer.place (offer_reply result) (at T self.new)) }
-        ensures lawful { ForTerms self.new.terms (λ T. Lawful T self.new.journal) }
-        ensures terms { self.new.terms ≡ self.old.terms }
-        ensures goes_on { OnOk result (Continues self.old.journal self.new.journal) }
-        ensures stays_stopped { self.old.stopped ≡ true → self.new ≡ self.old }
+        ensures lawful { IsLawful self.new }
+        ensures leads { LeadsTo self.old self.new }
         ensures back { IfErr result (λ refused. refused.1 ≡ offer) }
         ensures refused { OnErr result (self.new ≡ self.old) }
     {
@@ -124,9 +122,8 @@ impl<'t> GateState<'t> {
         requires filed { ForTerms self.old.terms (λ T. IsFiled T offer) }
         requires in_turn { ForTerms self.old.terms (λ T. offer.place ≡ length (places self.old.journal offer.provider)) }
         ensures reply { ForTerms self.old.terms (λ T. Offers (at T self.old) offer.provider offer.place (offer_reply result) (at T self.new)) }
-        ensures lawful { ForTerms self.new.terms (λ T. Lawful T self.new.journal) }
-        ensures terms { self.new.terms ≡ self.old.terms }
-        ensures goes_on { OnOk result (Continues self.old.journal self.new.journal) }
+        ensures lawful { IsLawful self.new }
+        ensures leads { LeadsTo self.old self.new }
         ensures back { IfErr result (λ refused. refused.1 ≡ offer) }
         ensures refused { OnErr result (self.new ≡ self.old) }
     {
@@ -161,10 +158,8 @@ impl<'t> GateState<'t> {
     pub fn end(&mut self, provider: usize, count: usize) -> Result<Ended, EndFault>
         requires { ForTerms self.old.terms (λ T. HasClaims T provider count) }
         ensures reply { ForTerms self.old.terms (λ T. Ends (at T self.old) provider count (end_reply result) (at T self.new)) }
-        ensures lawful { ForTerms self.new.terms (λ T. Lawful T self.new.journal) }
-        ensures terms { self.new.terms ≡ self.old.terms }
-        ensures goes_on { OnOk result (Continues self.old.journal self.new.journal) }
-        ensures stays_stopped { self.old.stopped ≡ true → self.new ≡ self.old }
+        ensures lawful { IsLawful self.new }
+        ensures leads { LeadsTo self.old self.new }
         ensures refused { OnErr result (self.new ≡ self.old) }
     {
         // Known from here: from a lawful journal each call goes to a lawful one.
@@ -196,9 +191,8 @@ impl<'t> GateState<'t> {
     pub fn take(&mut self) -> Result<Taken, TakeFault>
         ensures reply { ForTerms self.old.terms (λ T. Takes (at T self.old) (take_reply result) (at T self.new)) }
         ensures work { IfOk result (IsWorkOf self.old self.new) }
-        ensures lawful { ForTerms self.new.terms (λ T. Lawful T self.new.journal) }
-        ensures terms { self.new.terms ≡ self.old.terms }
-        ensures stays_stopped { self.old.stopped ≡ true → self.new ≡ self.old }
+        ensures lawful { IsLawful self.new }
+        ensures leads { LeadsTo self.old self.new }
         ensures refused { OnErr result (self.new ≡ self.old) }
     {
         // Known from here: from a lawful journal each call goes to a lawful one.
@@ -234,10 +228,9 @@ impl<'t> GateState<'t> {
         requires job { ForTerms self.old.terms (λ T. IsJob T self.old.journal job.position job.claim job.acc) }
         requires settled { outcome ≡ outcome_of self.old.terms.plan job.claim job.acc }
         ensures reply { ForTerms self.old.terms (λ T. Finishes (at T self.old) job.position outcome (finish_reply result) (at T self.new)) }
-        ensures lawful { ForTerms self.new.terms (λ T. Lawful T self.new.journal) }
-        ensures terms { self.new.terms ≡ self.old.terms }
+        ensures lawful { IsLawful self.new }
+        ensures leads { LeadsTo self.old self.new }
         ensures recorded { OnOk result (self.new ≡ record self.old { journal = self.old.journal ++ events.Decide job.position outcome ∷ [] }) }
-        ensures stays_stopped { self.old.stopped ≡ true → self.new ≡ self.old }
         ensures back { IfErr result (λ refused. (refused.1 ≡ job) × (refused.2 ≡ outcome)) }
         ensures refused { OnErr result (self.new ≡ self.old) }
     {
@@ -262,8 +255,8 @@ impl<'t> GateState<'t> {
         requires job { ForTerms self.old.terms (λ T. IsJob T self.old.journal job.position job.claim job.acc) }
         requires settled { outcome ≡ outcome_of self.old.terms.plan job.claim job.acc }
         ensures reply { ForTerms self.old.terms (λ T. Finishes (at T self.old) job.position outcome (finish_reply result) (at T self.new)) }
-        ensures lawful { ForTerms self.new.terms (λ T. Lawful T self.new.journal) }
-        ensures terms { self.new.terms ≡ self.old.terms }
+        ensures lawful { IsLawful self.new }
+        ensures leads { LeadsTo self.old self.new }
         ensures recorded { OnOk result (self.new ≡ record self.old { journal = self.old.journal ++ events.Decide job.position outcome ∷ [] }) }
         ensures back { IfErr result (λ refused. (refused.1 ≡ job) × (refused.2 ≡ outcome)) }
         ensures refused { OnErr result (self.new ≡ self.old) }
@@ -291,7 +284,7 @@ impl<'t> GateState<'t> {
     /// Stops the gate: from now on each call answers so. The journal stays as it is.
     pub fn stop(&mut self)
         ensures stopped { self.new ≡ record self.old { stopped = true } }
-        ensures lawful { ForTerms self.new.terms (λ T. Lawful T self.new.journal) }
+        ensures lawful { IsLawful self.new }
     {
         self.stopped = true;
     }

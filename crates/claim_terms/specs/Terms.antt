@@ -6,6 +6,7 @@ use Rattle.dtable.specs.Plan.{PlanParts}
 use Rattle.dtable.specs.declared.table.InputData.{InputData}
 use Rattle.settlement.specs.declared.claim.Claim.{Claim}
 use Rattle.intake_csv.specs.Records.{Fields}
+use Rattle.intake_csv.specs.ClaimFile.{FileParts, IsFileOf}
 use Rattle.intake_csv.specs.Columns.{IsSheet, claim_columns}
 use Rattle.intake_csv.specs.Rows.{AreRowsOf, claims_among}
 use Rattle.intake_csv.specs.Balances.{AreBalances, Entry}
@@ -59,6 +60,10 @@ pub record IsClaimFile (names : List InputData) (text : List ℕ) : Type 0 where
   pub layout : Layout
   pub records : List Fields
   pub sheet : IsSheet (claim_columns names) text layout records
+
+-- these are the files of the texts
+abbrev pub AreFilesOf : List InputData → List (List ℕ) → List FileParts → Type 0
+AreFilesOf names = AllZip (IsFileOf names)
 
 -- a run has one file at least
 pub record IsFileCount (count : ℕ) : Type 0 where

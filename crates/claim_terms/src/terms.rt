@@ -1,16 +1,19 @@
 //! Terms: what a run is fixed over.
-ghost use Rattle.std.specs.Prelude.{◌≡◌, [], length, IfOk, IfErr, OnOk};
-ghost use Rattle.std.specs.List.{All};
+ghost use Rattle.std.specs.Prelude.{◌≡◌, ◌≤◌, ◌-◌, [], List, get_or, length, IfOk, IfErr};
 ghost use Rattle.std.specs.Option.{unwrap_or};
 ghost use Rattle.claim_terms.specs.Fault.{HasTermsFault, IsFaultOfBalances, IsFaultOfFile, IsFaultOfFiles};
 ghost use Rattle.settlement.specs.Opening.{opening};
-ghost use Rattle.claim_terms.specs.Terms.{AreBalancesOf, AreTerms, AreTermsOf, IsClaimFile, text_in, texts_of};
+ghost use Rattle.intake_csv.specs.ClaimFile.{IsFileOf};
+ghost use Rattle.intake_csv.specs.Laws.{StandApart};
+ghost use Rattle.intake_csv.specs.Rows.{AreRowsLeft, AreRowsOf, IsAtStart};
+ghost use Rattle.intake_csv.specs.declared.rows.Row.{Row as AnyRow};
+ghost use Rattle.claim_terms.specs.Terms.{AreBalancesOf, AreFilesOf, AreTerms, AreTermsOf, text_in, texts_of};
 
 use crate::fault::TermsFault;
-use dtable::Plan;
-use intake_csv::{BalanceFault, Balances, FileFault, Rows, read_balances};
+use dtable::{Plan, Sequence};
+use intake_csv::{BalanceFault, Balances, ClaimFile, FileFault, Rows, read_balances};
 use settlement::Acc;
-use std::alloc::Global;
+use std::alloc::{AllocError, Global};
 use std::marker::Model;
 
 /// How many providers' files a run has at most.
@@ -22,6 +25,7 @@ pub const FILES_LIMIT: usize = 64;
 pub struct Terms<'a> {
     plan: &'a Plan,
     files: &'a [&'a [u8]],
+    judged: Sequence<ClaimFile<'a>>,
     balances: Option<Balances>,
     cutoff: Option<u64>,
 }
@@ -29,13 +33,13 @@ pub struct Terms<'a> {
 impl<'a> Model for Terms<'a> {
     ghost use Rattle.std.specs.Prelude.{[]};
     ghost use Rattle.std.specs.Option.{unwrap_or};
-    ghost use Rattle.claim_terms.specs.Terms.{AreTerms, TermsParts, texts_of};
+    ghost use Rattle.claim_terms.specs.Terms.{AreFilesOf, AreTerms, TermsParts, texts_of};
 
     ghost Value = { TermsParts };
 
     ghost view = { λ t. record { plan = t.plan.now; files = texts_of t.files.now; balances = unwrap_or t.balances []; cutoff = t.cutoff } };
 
-    ghost invariant = { λ t. AreTerms (record { plan = t.plan.now; files = texts_of t.files.now; balances = unwrap_or t.balances []; cutoff = t.cutoff }) };
+    ghost invariant = { λ t. AreTerms (record { plan = t.plan.now; files = texts_of t.files.now; balances = unwrap_or t.balances []; cutoff = t.cutoff }) × AreFilesOf t.plan.now.names (texts_of t.files.now) t.judged };
 }
 
 impl<'a> Terms<'a> {
@@ -57,10 +61,10 @@ impl<'a> Terms<'a> {
         if files.is_empty() || files.len() > FILES_LIMIT {
             return Err(TermsFault::Files);
         }
-        check_files(alloc, plan, files)?;
         Ok(Terms {
             plan,
             files,
+            judged: judge_files(alloc, plan, files)?,
             balances: balances_of(alloc, balances)?,
             cutoff,
         })
@@ -82,6 +86,17 @@ impl<'a> Terms<'a> {
         self.files
     }
 
+    /// The reader of a provider's file, at its first row. Providers count from 1.
+    pub fn rows(&self, alloc: Global, provider: usize) -> Result<Rows<'a>, AllocError>
+        requires least { 1 ≤ provider }
+        requires most { provider ≤ length self.now.files }
+        ensures start { IfOk result (IsAtStart self.now.plan.names (get_or self.now.files (provider - 1) [])) }
+        ensures apart { IfOk result (λ rows. StandApart rows.layout.columns) }
+        ensures rows { IfOk result (λ rows. (all : List AnyRow) → AreRowsLeft rows all → AreRowsOf self.now.plan.names (get_or self.now.files (provider - 1) []) all) }
+    {
+        self.judged.as_slice()[provider - 1].rows(alloc)
+    }
+
     /// How many claims are accepted at most, if that is limited.
     pub fn cutoff(&self) -> Option<u64>
         ensures { result ≡ self.now.cutoff }
@@ -100,24 +115,34 @@ impl<'a> Terms<'a> {
     }
 }
 
-// Each file has the columns that claims need under the plan; or the first that has not.
-fn check_files(alloc: Global, plan: &Plan, files: &[&[u8]]) -> Result<(), TermsFault>
-    ensures ok { OnOk result (All (IsClaimFile plan.now.names) (texts_of files.now)) }
+// The files, whose headers have the columns that claims need under the plan; or the first that has not.
+fn judge_files<'t>(
+    alloc: Global,
+    plan: &Plan,
+    files: &[&'t [u8]],
+) -> Result<Sequence<ClaimFile<'t>>, TermsFault>
+    ensures ok { IfOk result (AreFilesOf plan.now.names (texts_of files.now)) }
     ensures fault { IfErr result (IsFaultOfFiles plan.now.names (texts_of files.now)) }
 {
+    let mut judged = Sequence::new(alloc);
     for place in 0..files.len() {
-        check_file(alloc, plan, place + 1, files[place])?;
+        judged.push(judge_file(alloc, plan, place + 1, files[place])?)?;
     }
-    Ok(())
+    Ok(judged)
 }
 
-// The provider's file has the columns that claims need under the plan.
-fn check_file(alloc: Global, plan: &Plan, provider: usize, text: &[u8]) -> Result<(), TermsFault>
-    ensures ok { OnOk result (IsClaimFile plan.now.names text.now) }
+// The provider's file, whose header has the columns that claims need under the plan.
+fn judge_file<'t>(
+    alloc: Global,
+    plan: &Plan,
+    provider: usize,
+    text: &'t [u8],
+) -> Result<ClaimFile<'t>, TermsFault>
+    ensures ok { IfOk result (IsFileOf plan.now.names text.now) }
     ensures fault { IfErr result (IsFaultOfFile plan.now.names provider text.now) }
 {
-    match Rows::new(alloc, plan, text) {
-        Ok(_) => Ok(()),
+    match ClaimFile::new(alloc, plan, text) {
+        Ok(file) => Ok(file),
         Err(FileFault::OutOfMemory) => Err(TermsFault::OutOfMemory),
         Err(fault) => Err(TermsFault::File { provider, fault }),
     }

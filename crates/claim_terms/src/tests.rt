@@ -1,7 +1,7 @@
 //! Terms by worked examples.
 use crate::{FILES_LIMIT, Terms, TermsFault};
 use dtable::{Plan, read_plan};
-use intake_csv::{BalanceFault, FILE_LIMIT_BYTES, FileFault, RowCause, RowFault};
+use intake_csv::{BalanceFault, FILE_LIMIT_BYTES, FileFault, Row, RowCause, RowFault};
 use settlement::Acc;
 use std::alloc::{AllocError, Global};
 use std::fmt::Write;
@@ -239,4 +239,32 @@ fn check_terms_or_no_memory(rt: &impl Abort, alloc: Global, plan: &Plan, files: 
         Ok(terms) => opens(rt, &terms, &[("M1", 500_000, 100_000, 50_000)]),
         Err(fault) => assert!(rt; fault == TermsFault::OutOfMemory),
     }
+}
+
+// Compares how many rows each provider's file has.
+fn has_rows(
+    rt: &impl Abort,
+    alloc: Global,
+    terms: &Terms,
+    wanted: &[usize],
+) -> Result<(), AllocError> {
+    assert!(rt; terms.files().len() == wanted.len());
+    for place in 0..wanted.len() {
+        assert!(rt; place < terms.files().len());
+        let mut rows = terms.rows(alloc, place + 1)?;
+        for _ in 0..wanted[place] {
+            assert!(rt; matches!(rows.next()?, Some(Row::Good { .. })));
+        }
+        assert!(rt; rows.next()?.is_none());
+    }
+    Ok(())
+}
+
+#[test]
+fn rows_of_each_file_begin_anew(rt: HostRuntime) {
+    let plan = plan(&rt, rt.alloc(), PLAN);
+    let files = [CLAIMS, OTHER_CLAIMS];
+    let terms = terms(&rt, rt.alloc(), &plan, &files, None, None);
+    assert!(rt; has_rows(&rt, rt.alloc(), &terms, &[1, 0]).is_ok());
+    assert!(rt; has_rows(&rt, rt.alloc(), &terms, &[1, 0]).is_ok());
 }

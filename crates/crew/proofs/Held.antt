@@ -13,7 +13,6 @@ use Rattle.journal.specs.Gate.{Continues, LeadsTo}
 use Rattle.journal.specs.Laws.{JobsStay}
 use Rattle.journal.specs.Settled.{outcome_of}
 use Rattle.journal.specs.declared.event.Event.{Event}
-use Rattle.journal.specs.Leading.{leads_further}
 use Rattle.claim_gate.specs.Parts.{GateParts}
 use Rattle.claim_gate.specs.declared.job.Job.{Job}
 use Rattle.claim_gate.proofs.Sharing.{job_stays}
@@ -58,10 +57,6 @@ all_settled gate plan jobs is all =
 pub all_have_fields : (gate : GateParts) (plan : PlanParts) (jobs : List Job) → plan ≡ gate.terms.plan → All (IsInWork gate) jobs → All (λ job. IsClaimOf plan job.claim) jobs
 all_have_fields gate plan jobs is all =
     All-weaker (IsInWork gate) (λ job. IsClaimOf plan job.claim) (λ job w. subst (λ p. IsClaimOf p job.claim) (sym is) w.fields) jobs all
-
--- what was seen leads on
-pub led_on : (a b c : GateParts) → LeadsTo a b → LeadsTo b c → LeadsTo a c
-led_on a b c first second = leads_further a b c first second
 
 -- a list that is mapped one by one, with one item more
 pub one_more : {X Y : Type 0} (f : X → Y) (done : List Y) (items rest : List X) (x : X) (y : Y) (all : List Y) → items ≡ x ∷ rest → y ≡ f x

@@ -3,15 +3,18 @@ use Rattle.std.proofs.Common.{◌≡◌, ◌≢◌, true, Result, Ok, Err, subst
 use Rattle.std.specs.Prelude.{IfOk, IfErr}
 use Rattle.journal.specs.Gate.{LeadsTo}
 use Rattle.journal.specs.Leading.{leads_further, leads_itself}
-use Rattle.claim_gate.specs.Shared.{Known, HadSection}
+use Rattle.claim_gate.specs.Shared.{IsServed, IsWornOut, Known}
 use Rattle.crew.specs.Passes.{GoesOn, LeavesWith}
 use Rattle.crew.specs.declared.fault.RunFault.{RunFault}
 use Rattle.crew.specs.declared.fault.RunFault.TheVariants.{Workers, OutOfMemory, Worn, Stopped}
 
 module _ {P : Type 0} (has_pass : P → Type 0) (known : P → Known) where
   -- a pass that has had a section
-  pub after_section : (old new : P) → has_pass new → HadSection (known old) (known new) → GoesOn has_pass known old new
-  after_section old new own h = record { own = own; seen = leads_further (known old).seen (known new).found (known new).seen h.fresh h.grown }
+  pub after_section : (old new : P) → IsServed has_pass known (known old) new → GoesOn has_pass known old new
+  after_section old new h = record {
+    own = h.own;
+    seen = leads_further (known old).seen (known new).found (known new).seen h.section.fresh h.section.grown;
+  }
 
   -- a pass that knows what the old one did
   pub unchanged : (old new : P) → has_pass new → known new ≡ known old → GoesOn has_pass known old new
@@ -38,13 +41,18 @@ module _ {P : Type 0} (has_pass : P → Type 0) (known : P → Known) where
   leaves_stopped a b on is = record { goes_on = on; fault = λ other. cc; stopped = λ _. is }
 
   -- since the lock has no ticket left
-  pub leaves_worn : (a b : P) → has_pass b → known b ≡ known a → LeavesWith has_pass known a (Worn, b)
-  leaves_worn a b own same = leaves_by a b Worn (unchanged a b own same) (λ other. cc) (λ other. cc)
+  pub leaves_worn : (is_worn : P → Type 0) (a b : P) → IsWornOut has_pass is_worn known (known a) b → LeavesWith has_pass known a (Worn, b)
+  leaves_worn is_worn a b h = leaves_by a b Worn (unchanged a b h.own h.same) (λ other. cc) (λ other. cc)
 
   -- the same of an answer
   pub further_where_ok : {E : Type 0} (a b : P) (answer : Result P E) → GoesOn has_pass known a b → IfOk answer (GoesOn has_pass known b) → IfOk answer (GoesOn has_pass known a)
   further_where_ok a b (Ok pass) first later = further a b pass first later
   further_where_ok a b (Err left) first later = tt
+
+  pub further_where_told : {A E : Type 0} (a b : P) (answer : Result (A × P) E) → GoesOn has_pass known a b → IfOk answer (λ told. GoesOn has_pass known b told.1)
+      → IfOk answer (λ told. GoesOn has_pass known a told.1)
+  further_where_told a b (Ok told) first later = further a b told.1 first later
+  further_where_told a b (Err left) first later = tt
 
   pub leaves_later_where_err : {A : Type 0} (a b : P) (answer : Result A (RunFault × P)) → GoesOn has_pass known a b
       → IfErr answer (LeavesWith has_pass known b) → IfErr answer (LeavesWith has_pass known a)

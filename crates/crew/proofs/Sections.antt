@@ -16,7 +16,7 @@ use Rattle.journal.specs.declared.event.Event.TheVariants.{Accept, End, Take, De
 use Rattle.journal.specs.Leading.{leads_further}
 use Rattle.claim_gate.specs.Parts.{at}
 use Rattle.claim_gate.specs.Shared.{Known, HadSection, Went}
-use Rattle.claim_gate.specs.Replies.{end_reply, finish_reply, offer_reply}
+use Rattle.claim_gate.specs.Replies.{end_reply, finish_reply, offer_refusal, offer_reply}
 use Rattle.claim_gate.specs.declared.fault.EndFault.{EndFault}
 use Rattle.claim_gate.specs.declared.fault.EndFault.TheVariants as end
 use Rattle.claim_gate.specs.declared.fault.FinishFault.{FinishFault}
@@ -48,9 +48,9 @@ end_told : (reply : Result Ended EndFault) (fault : EndFault) (expected : ℕ) �
     → end_reply reply ≡ EndReply.OutOfTurn expected
 end_told reply fault expected err is = ap end_reply err ∙ ap (λ f. end_reply (Err f)) is
 
-offer_told : (reply : Result Accepted (OfferFault × Offer)) (fault : OfferFault) (back : Offer) (expected : ℕ) → reply ≡ Err (fault, back)
-    → fault ≡ offer.OutOfTurn expected → offer_reply reply ≡ OfferReply.OutOfTurn expected
-offer_told reply fault back expected err is = ap offer_reply err ∙ ap (λ f. offer_reply (Err (f, back))) is
+offer_told : (reply : Result Accepted (OfferFault × Offer)) (fault same : OfferFault) (back : Offer) → reply ≡ Err (fault, back)
+    → fault ≡ same → offer_reply reply ≡ offer_refusal same
+offer_told reply fault same back err is = ap offer_reply err ∙ ap offer_refusal is
 
 decided_told : (reply : Result Recorded (FinishFault × Job × Outcome)) (fault : FinishFault) (job : Job) (o : Outcome) → reply ≡ Err (fault, job, o)
     → fault ≡ finish.AlreadyDecided → finish_reply reply ≡ FinishReply.AlreadyDecided
@@ -145,7 +145,7 @@ module _ (parts : TermsParts) (there : ¬ ForTerms parts (λ T. ⊥)) where
         → (place < expected) × HasTaken after.seen provider expected
     goes_on provider place expected reply fault back err is_fault has w =
         let all : ForTerms parts (λ T. Offers (at T after.found) provider place (OfferReply.OutOfTurn expected) (at T after.seen)) = λ T is.
-        subst (λ r. Offers (at T after.found) provider place r (at T after.seen)) (offer_told reply fault back expected err is_fault)
+        subst (λ r. Offers (at T after.found) provider place r (at T after.seen)) (offer_told reply fault (offer.OutOfTurn expected) back err is_fault)
         (went (λ old new. Offers old provider place (offer_reply reply) new) w T is) in
         let later = lies_below place expected (λ T is.
         let r = all T is in
@@ -154,6 +154,17 @@ module _ (parts : TermsParts) (there : ¬ ForTerms parts (λ T. ⊥)) where
         let r = all T is in
         omega (arith, r.1, ap (λ (g : GateAt). length (places g.journal provider)) r.3)) in
         (later, omega (arith, within))
+
+    -- no more is accepted, since the journal is closed, or the gate stopped
+    pub closed_to : (provider place : ℕ) (reply : Result Accepted (OfferFault × Offer)) (fault : OfferFault) (back : Offer) → reply ≡ Err (fault, back)
+        → fault ≡ offer.Closed → Went (λ old new. Offers old provider place (offer_reply reply) new) after → is_shut after.seen ≡ true
+    closed_to provider place reply fault back err is_fault w = closed_shut (λ T is.
+        subst (λ r. Offers (at T after.found) provider place r (at T after.seen)) (offer_told reply fault offer.Closed back err is_fault) (w T is))
+
+    pub stopped_to : (provider place : ℕ) (reply : Result Accepted (OfferFault × Offer)) (fault : OfferFault) (back : Offer) → reply ≡ Err (fault, back)
+        → fault ≡ offer.Stopped → Went (λ old new. Offers old provider place (offer_reply reply) new) after → is_shut after.seen ≡ true
+    stopped_to provider place reply fault back err is_fault w = stopped_shut (λ T is.
+        subst (λ r. Offers (at T after.found) provider place r (at T after.seen)) (offer_told reply fault offer.Stopped back err is_fault) (w T is))
 
     -- the work is over
     pub over_seen : Went (λ old new. Takes old TakeReply.Over new) after → ForTerms after.seen.terms (λ T. Finished T after.seen.journal)

@@ -1,11 +1,11 @@
 //! What an intake of a run does: it reads a provider's file.
-ghost use Rattle.std.specs.Prelude.{◌≡◌, ◌≢◌, ◌<◌, ◌≤◌, ◌+◌, ◌-◌, ◌^◌, true, [], length, get_or, slice_get, Some, IfOk, IfErr};
+ghost use Rattle.std.specs.Prelude.{◌≡◌, ◌<◌, ◌≤◌, ◌+◌, ◌-◌, ◌^◌, true, [], length, get_or, slice_get, Some, IfOk, IfErr};
 ghost use Rattle.intake_csv.specs.Rows.{IsAtStart};
 ghost use Rattle.claim_terms.specs.Terms.{ForTerms};
 ghost use Rattle.claim_gate.specs.Replies.{HasClaims, IsFiled};
-ghost use Rattle.journal.specs.Gate.{LeadsTo};
+ghost use Rattle.crew.specs.Passes.{GoesOn, LeavesWith};
 ghost use Rattle.crew.specs.Sharing.{GoesOnAt, HasTaken, IsOffered, is_past};
-ghost use Rattle.crew.specs.declared.fault.RunFault.TheVariants.{OutOfMemory, Workers};
+ghost use Rattle.crew.specs.declared.fault.RunFault.TheVariants.{OutOfMemory};
 
 use crate::fault::RunFault;
 use crate::stopping::stop;
@@ -15,7 +15,7 @@ use claim_terms::{Terms, terms_are_seen};
 use intake_csv::{
     Row, Rows, given_row_has_the_claim, no_records_give_no_rows, reader_begins_with_all_rows,
 };
-use std::alloc::Global;
+use std::alloc::{AllocError, Global};
 use std::sync::Wait;
 
 #[cfg(test)]
@@ -44,10 +44,9 @@ pub(crate) fn take_in<R: Wait, G: Gate>(
     requires terms { (G.known pass).seen.terms ≡ terms.now }
     requires least { 1 ≤ provider }
     requires most { provider ≤ length terms.now.files }
-    ensures own { IfOk result (λ p. G.has_pass gate.now p) }
-    ensures back { IfErr result (λ e. G.has_pass gate.now e.1) }
+    ensures goes_on { IfOk result (GoesOn (G.has_pass gate.now) G.known pass) }
     ensures past { IfOk result (λ p. is_past (G.known p).seen provider ≡ true) }
-    ensures fault { IfErr result (λ e. e.0 ≢ Workers) }
+    ensures leaves { IfErr result (LeavesWith (G.has_pass gate.now) G.known pass) }
 {
     match read_on(rt, alloc, terms, gate, pass, provider, turns) {
         Ok(pass) => Ok(pass),
@@ -73,11 +72,9 @@ fn read_on<R: Wait, G: Gate>(
     requires terms { (G.known pass).seen.terms ≡ terms.now }
     requires least { 1 ≤ provider }
     requires most { provider ≤ length terms.now.files }
-    ensures own { IfOk result (λ p. G.has_pass gate.now p) }
-    ensures back { IfErr result (λ e. G.has_pass gate.now e.1) }
-    ensures terms { IfErr result (λ e. (G.known e.1).seen.terms ≡ terms.now) }
+    ensures goes_on { IfOk result (GoesOn (G.has_pass gate.now) G.known pass) }
     ensures past { IfOk result (λ p. is_past (G.known p).seen provider ≡ true) }
-    ensures fault { IfErr result (λ e. e.0 ≢ Workers) }
+    ensures leaves { IfErr result (LeavesWith (G.has_pass gate.now) G.known pass) }
 {
     // Known from here: what a reader has left is what the file has, and a row that it gives is the first of that.
     reader_begins_with_all_rows();
@@ -126,15 +123,15 @@ fn open<'t>(alloc: Global, terms: &'t Terms, provider: usize) -> Result<Rows<'t>
     ensures rows { IfOk result (IsAtStart terms.now.plan.names (get_or terms.now.files (provider - 1) [])) }
     ensures fault { IfErr result (λ fault. fault ≡ OutOfMemory) }
 {
-    match Rows::new(alloc, terms.plan(), terms.files()[provider - 1]) {
+    match terms.rows(alloc, provider) {
         Ok(rows) => Ok(rows),
-        Err(_) => Err(RunFault::OutOfMemory),
+        Err(AllocError) => Err(RunFault::OutOfMemory),
     }
 }
 
 // Offers a claim, and once more where memory is wanting. Gives the place of the provider's next one; none where no more claims
 // are accepted.
-#[tactic(auto, using(crate::proofs::Held::led_on))]
+#[tactic(auto, using(crate::proofs::Passes::further, crate::proofs::Passes::leaves_later))]
 fn offer<R: Wait, G: Gate>(
     rt: &R,
     terms: &Terms,
@@ -147,12 +144,9 @@ fn offer<R: Wait, G: Gate>(
     requires filed { ForTerms terms.now (λ T. IsFiled T offer) }
     requires taken { HasTaken (G.known pass).seen offer.provider offer.place }
     requires room { offer.place + 1 < 2 ^ 64 }
-    ensures own { IfOk result (λ r. G.has_pass gate.now r.1) }
-    ensures back { IfErr result (λ e. G.has_pass gate.now e.1) }
-    ensures seen { IfOk result (λ r. LeadsTo (G.known pass).seen (G.known r.1).seen) }
-    ensures seen_back { IfErr result (λ e. LeadsTo (G.known pass).seen (G.known e.1).seen) }
+    ensures goes_on { IfOk result (λ r. GoesOn (G.has_pass gate.now) G.known pass r.1) }
     ensures next { IfOk result (λ r. GoesOnAt (G.known r.1).seen offer.provider offer.place r.0) }
-    ensures fault { IfErr result (λ e. e.0 ≢ Workers) }
+    ensures leaves { IfErr result (LeavesWith (G.has_pass gate.now) G.known pass) }
 {
     let (offered, pass) = match offer_once(rt, terms, gate, pass, offer) {
         Ok(answer) => answer,
@@ -177,12 +171,9 @@ fn offer_again<R: Wait, G: Gate>(
     requires filed { ForTerms terms.now (λ T. IsFiled T offer) }
     requires taken { HasTaken (G.known pass).seen offer.provider offer.place }
     requires room { offer.place + 1 < 2 ^ 64 }
-    ensures own { IfOk result (λ r. G.has_pass gate.now r.1) }
-    ensures back { IfErr result (λ e. G.has_pass gate.now e.1) }
-    ensures seen { IfOk result (λ r. LeadsTo (G.known pass).seen (G.known r.1).seen) }
-    ensures seen_back { IfErr result (λ e. LeadsTo (G.known pass).seen (G.known e.1).seen) }
+    ensures goes_on { IfOk result (λ r. GoesOn (G.has_pass gate.now) G.known pass r.1) }
     ensures next { IfOk result (λ r. GoesOnAt (G.known r.1).seen offer.provider offer.place r.0) }
-    ensures fault { IfErr result (λ e. e.0 ≢ Workers) }
+    ensures leaves { IfErr result (LeavesWith (G.has_pass gate.now) G.known pass) }
 {
     let (offered, pass) = match offer_once(rt, terms, gate, pass, offer) {
         Ok(answer) => answer,
@@ -195,7 +186,6 @@ fn offer_again<R: Wait, G: Gate>(
 }
 
 // One call. The offer comes back where there is no memory.
-#[tactic(auto, using(crate::proofs::Sections::led))]
 fn offer_once<R: Wait, G: Gate>(
     rt: &R,
     terms: &Terms,
@@ -208,12 +198,9 @@ fn offer_once<R: Wait, G: Gate>(
     requires filed { ForTerms terms.now (λ T. IsFiled T offer) }
     requires taken { HasTaken (G.known pass).seen offer.provider offer.place }
     requires room { offer.place + 1 < 2 ^ 64 }
-    ensures own { IfOk result (λ r. G.has_pass gate.now r.1) }
-    ensures back { IfErr result (λ e. G.has_pass gate.now e.1) }
-    ensures seen { IfOk result (λ r. LeadsTo (G.known pass).seen (G.known r.1).seen) }
-    ensures seen_back { IfErr result (λ e. LeadsTo (G.known pass).seen (G.known e.1).seen) }
+    ensures goes_on { IfOk result (λ r. GoesOn (G.has_pass gate.now) G.known pass r.1) }
     ensures offered { IfOk result (λ r. IsOffered (G.known r.1).seen offer r.0) }
-    ensures fault { IfErr result (λ e. e.0 ≢ Workers) }
+    ensures leaves { IfErr result (LeavesWith (G.has_pass gate.now) G.known pass) }
 {
     // Known from here: the texts have lists of claims, so that what holds for each list says something.
     terms_are_seen(terms);
@@ -232,7 +219,7 @@ fn offer_once<R: Wait, G: Gate>(
 }
 
 // Ends a provider whose claims, so many, are all accepted, and tries once more where memory is wanting.
-#[tactic(auto, using(crate::proofs::Held::led_on))]
+#[tactic(auto, using(crate::proofs::Passes::further, crate::proofs::Passes::leaves_later))]
 fn end<R: Wait, G: Gate>(
     rt: &R,
     terms: &Terms,
@@ -245,11 +232,9 @@ fn end<R: Wait, G: Gate>(
     requires terms { (G.known pass).seen.terms ≡ terms.now }
     requires claims { ForTerms terms.now (λ T. HasClaims T provider count) }
     requires taken { HasTaken (G.known pass).seen provider count }
-    ensures own { IfOk result (λ p. G.has_pass gate.now p) }
-    ensures back { IfErr result (λ e. G.has_pass gate.now e.1) }
-    ensures seen_back { IfErr result (λ e. LeadsTo (G.known pass).seen (G.known e.1).seen) }
+    ensures goes_on { IfOk result (GoesOn (G.has_pass gate.now) G.known pass) }
     ensures past { IfOk result (λ p. is_past (G.known p).seen provider ≡ true) }
-    ensures fault { IfErr result (λ e. e.0 ≢ Workers) }
+    ensures leaves { IfErr result (LeavesWith (G.has_pass gate.now) G.known pass) }
 {
     match end_once(rt, terms, gate, pass, provider, count) {
         Ok(pass) => Ok(pass),
@@ -259,7 +244,6 @@ fn end<R: Wait, G: Gate>(
 }
 
 // One call.
-#[tactic(auto, using(crate::proofs::Sections::led))]
 fn end_once<R: Wait, G: Gate>(
     rt: &R,
     terms: &Terms,
@@ -272,11 +256,9 @@ fn end_once<R: Wait, G: Gate>(
     requires terms { (G.known pass).seen.terms ≡ terms.now }
     requires claims { ForTerms terms.now (λ T. HasClaims T provider count) }
     requires taken { HasTaken (G.known pass).seen provider count }
-    ensures own { IfOk result (λ p. G.has_pass gate.now p) }
-    ensures back { IfErr result (λ e. G.has_pass gate.now e.1) }
-    ensures seen_back { IfErr result (λ e. LeadsTo (G.known pass).seen (G.known e.1).seen) }
+    ensures goes_on { IfOk result (GoesOn (G.has_pass gate.now) G.known pass) }
     ensures past { IfOk result (λ p. is_past (G.known p).seen provider ≡ true) }
-    ensures fault { IfErr result (λ e. e.0 ≢ Workers) }
+    ensures leaves { IfErr result (LeavesWith (G.has_pass gate.now) G.known pass) }
 {
     // Known from here: the texts have lists of claims, so that what holds for each list says something.
     terms_are_seen(terms);

@@ -30,7 +30,7 @@ pub const WORKERS_LIMIT: usize = 64;
 pub fn run<'t, R: Threads + Wait + Sync>(
     rt: &R,
     alloc: Global,
-    terms: &'t Terms<'t>,
+    terms: &'t Terms,
     workers: usize,
 ) -> Result<Batch<'t>, RunFault>
     ensures terms { IfOk result (λ batch. batch.terms ≡ terms.now) }

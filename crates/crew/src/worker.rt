@@ -225,7 +225,8 @@ fn take_once<R: Wait, G: Gate>(
     ensures task { IfOk result (λ r. IsTask (G.known r.1).seen r.0) }
     ensures leaves { IfErr result (LeavesWith (G.has_pass gate.now) G.known pass) }
 {
-    // Known from here: the texts have lists of claims, so that what holds for each list says something.
+    // Known from here: the texts have lists of claims, so that what holds for each list says something, and these have the
+    // plan's fields.
     terms_are_seen(terms);
     claims_have_the_plan_s_fields();
     let _names = terms.plan().names();

@@ -36,7 +36,8 @@ records-one cfg s s2 s3 xs ys zs (r ∷ rs) (q ∷ qs) h end k stop =
     let others = records-one cfg h.0.1 s2 s3 h.0.2 ys zs rs qs h.3 end behind stop in
     rw (first, others) refl
 
-file-one : (text : List ℕ) (one other : List Fields) → AreRecordsOf text one → AreRecordsOf text other → one ≡ other
+-- a text has one list of records
+pub file-one : (text : List ℕ) (one other : List Fields) → AreRecordsOf text one → AreRecordsOf text other → one ≡ other
 file-one text one other h k =
     records-one default_config state.StartRecord h.0 k.0 (strip_bom text) h.1 k.1 one other h.2 h.3 k.2 k.3
 

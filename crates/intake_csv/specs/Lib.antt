@@ -6,6 +6,7 @@ pub mod Header
 pub mod Sheet
 pub mod Fields
 pub mod Rows
+pub mod ClaimFile
 pub mod Record
 pub mod Values
 pub mod Balances

@@ -93,3 +93,19 @@ pub struct Layout {
     pub width: usize,
     pub columns: Sequence<Column>,
 }
+
+impl Layout {
+    /// The same once more.
+    pub fn duplicate(&self, alloc: Global) -> Result<Layout, AllocError>
+        ensures { IfOk result (λ copy. copy ≡ self.now) }
+    {
+        let mut columns = Sequence::new(alloc);
+        for column in self.columns.as_slice() {
+            columns.push(*column)?;
+        }
+        Ok(Layout {
+            width: self.width,
+            columns,
+        })
+    }
+}

@@ -1,7 +1,7 @@
 //! Claims and opening balances from CSV files (RFC 4180, as `csv` reads it).
 //!
-//! `Rows` reads a provider's file: it gives its records one after another, each as a claim or as the first fault
-//! that refuses it. `read_balances` reads the file of opening balances, and `Balances::of` finds a member's.
+//! `ClaimFile` is a provider's file whose header was judged, and `Rows` reads it: it gives its records one after another, each
+//! as a claim or as the first fault that refuses it. `read_balances` reads the file of opening balances, and `Balances::of` finds a member's.
 //! The records come from `csv`, values from `feel_tests`, claims and accumulators from `settlement`.
 //!
 //! Begin with `specs/Records.antt` and `specs/Columns.antt`, which say what a file is, go on with `specs/Fields.antt`,
@@ -10,6 +10,7 @@
 
 mod balances;
 mod claim;
+mod claim_file;
 mod column;
 mod fault;
 mod field;
@@ -24,6 +25,7 @@ mod tests;
 mod values;
 
 pub use balances::{Balances, read_balances};
+pub use claim_file::ClaimFile;
 pub use fault::{BalanceFault, FileFault, RowCause, RowFault};
 pub use laws::{
     claims_have_the_plan_s_fields, files_have_rows, given_row_has_the_claim,

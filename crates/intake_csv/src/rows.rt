@@ -1,20 +1,18 @@
 //! The rows of a provider's file of claims.
-ghost use Rattle.std.specs.Prelude.{◌≡◌, true, List, Ok, None, IfOk, IfErr, OnErr, is_err};
+ghost use Rattle.std.specs.Prelude.{◌≡◌, ◌≤◌, true, Ok, None, IfOk, IfErr, OnErr, drop, is_err, length};
 ghost use Rattle.csv.specs.Records.{fields_of};
-ghost use Rattle.dtable.specs.declared.table.InputData.{InputData};
-ghost use Rattle.intake_csv.specs.Columns.{HasFileFault, claim_columns};
-ghost use Rattle.intake_csv.specs.Laws.{StandApart};
-ghost use Rattle.intake_csv.specs.Rows.{AreRowsLeft, AreRowsOf, Gives, IsAtStart, IsHead, RowsLeft};
-ghost use Rattle.intake_csv.specs.declared.records.Stage.TheVariants.{Over, Failed};
-ghost use Rattle.intake_csv.specs.declared.rows.Row.{Row as AnyRow};
+ghost use Rattle.intake_csv.specs.Rows.{Gives, IsHead};
+ghost use Rattle.intake_csv.specs.Record.{IsClaimLayout};
+ghost use Rattle.intake_csv.specs.Records.{records_of};
+ghost use Rattle.intake_csv.specs.Sheet.{IsWithin};
+ghost use Rattle.intake_csv.specs.declared.records.Stage.TheVariants.{Reading, Over, Failed};
+ghost use Rattle.intake_csv.specs.declared.sheet.TheConstants.{FILE_LIMIT_BYTES};
 
-use crate::claim::{claim_columns, read_claim};
+use crate::claim::read_claim;
 use crate::column::Layout;
-use crate::fault::{FileFault, RowFault};
+use crate::fault::RowFault;
 use crate::records::Records;
-use crate::sheet::read_sheet;
 use csv::ByteRecord;
-use dtable::Plan;
 use settlement::Claim;
 use std::alloc::{AllocError, Global};
 use std::marker::Model;
@@ -62,24 +60,22 @@ impl<'t> Model for Rows<'t> {
 }
 
 impl<'t> Rows<'t> {
-    /// Reads the header of a file of claims under a plan.
-    pub fn new(alloc: Global, plan: &Plan, text: &'t [u8]) -> Result<Rows<'t>, FileFault>
-        ensures ok { IfOk result (IsAtStart plan.now.names text.now) }
-        ensures apart { IfOk result (λ rows. StandApart rows.layout.columns) }
-        ensures rows { IfOk result (λ rows. (all : List AnyRow) → AreRowsLeft rows all → AreRowsOf plan.now.names text.now all) }
-        ensures fault { IfErr result (HasFileFault (claim_columns plan.now.names) text.now) }
+    /// The rows behind a header that was judged.
+    pub(crate) fn behind_header(alloc: Global, layout: Layout, records: Records<'t>) -> Rows<'t>
+        requires within { IsWithin layout }
+        requires columns { IsClaimLayout layout }
+        requires small { length records.text ≤ FILE_LIMIT_BYTES }
+        requires records { records ≡ record { text = records.text; given = 1; stage = Reading } }
+        ensures { result ≡ record { layout = layout; number = 1; place = 0; records = drop 1 (records_of records.entry.text); stage = Reading } }
     {
-        let _names = plan.names();
-        let needed = claim_columns(alloc, plan)?;
-        let sheet = read_sheet(alloc, needed.as_slice(), text)?;
-        Ok(Rows {
+        Rows {
             alloc,
-            layout: sheet.layout,
-            records: sheet.records,
+            layout,
+            records,
             current: ByteRecord::new(alloc),
             next: 1,
             claims: 0,
-        })
+        }
     }
 
     /// The next row, or none behind the last, at each later call too. After want of memory each later call answers it again.

@@ -1,6 +1,6 @@
 //! Files by worked examples.
 use crate::{
-    BalanceFault, FILE_LIMIT_BYTES, FileFault, Row, RowCause, RowFault, Rows,
+    BalanceFault, ClaimFile, FILE_LIMIT_BYTES, FileFault, Row, RowCause, RowFault, Rows,
     claims_have_the_plan_s_fields, given_row_is_the_first, no_records_give_no_rows, read_balances,
     reader_begins_with_all_rows,
 };
@@ -38,7 +38,8 @@ fn plan(rt: &impl Abort, alloc: Global, text: &[u8]) -> Plan {
 
 // Each row in short: `number.place id member day units values;`, or `number!column.cause;`.
 fn told(rt: &impl Abort, alloc: Global, plan: &Plan, text: &[u8]) -> Result<String, AllocError> {
-    let mut rows = Rows::new(alloc, plan, text).expect(rt, "a file of claims");
+    let file = ClaimFile::new(alloc, plan, text).expect(rt, "a file of claims");
+    let mut rows = file.rows(alloc)?;
     let mut told = String::new(alloc);
     for _ in 0..u64::MAX {
         if !tell_next(&mut told, &mut rows)? {
@@ -203,7 +204,7 @@ const REFUSED_FILES: [(&[u8], FileFault); 6] = [
 ];
 
 fn refused(alloc: Global, plan: &Plan, text: &[u8]) -> Option<FileFault> {
-    Rows::new(alloc, plan, text).err()
+    ClaimFile::new(alloc, plan, text).err()
 }
 
 #[test]
@@ -326,9 +327,11 @@ fn check_prefixes(
     text: &[u8],
 ) -> Result<(), AllocError> {
     for length in 0..text.len() {
-        match Rows::new(alloc, plan, &text[..length]) {
-            Ok(mut rows) => {
+        match ClaimFile::new(alloc, plan, &text[..length]) {
+            Ok(file) => {
                 assert!(rt; length >= 32);
+                assert!(rt; file.text().len() == length);
+                let mut rows = file.rows(alloc)?;
                 check_numbers(rt, &mut rows)?;
             }
             Err(FileFault::NoHeader) => assert!(rt; length == 0),
@@ -512,8 +515,12 @@ fn claims_or_no_memory(rt: HostRuntime) {
 }
 
 fn check_claims_or_no_memory(rt: &impl Abort, alloc: Global, plan: &Plan, text: &[u8]) {
-    match Rows::new(alloc, plan, text) {
-        Ok(mut rows) => check_rows_or_no_memory(rt, &mut rows),
+    match ClaimFile::new(alloc, plan, text) {
+        Ok(file) => {
+            if let Ok(mut rows) = file.rows(alloc) {
+                check_rows_or_no_memory(rt, &mut rows);
+            }
+        }
         Err(fault) => assert!(rt; fault == FileFault::OutOfMemory),
     }
 }

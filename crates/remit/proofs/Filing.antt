@@ -1,8 +1,8 @@
 -- The rows of files, read one file after another, and their text.
-use Rattle.std.proofs.Common.{◌≡◌, ◌<◌, ◌≤◌, ◌+◌, ℕ, suc, Bool, Option, Result, Ok, Err, Bor, List, [], ◌∷◌, ◌++◌, length, length-take-le, map, take, drop, get_or, ap, ap₂, sym, subst, ◌∙◌, refl, append_assoc, append-nil, take-append-drop, drop-cons, arith}
+use Rattle.std.proofs.Common.{◌≡◌, ◌<◌, ◌≤◌, ◌+◌, ◌-◌, ℕ, suc, Bool, Option, Result, Ok, Err, List, [], ◌∷◌, ◌++◌, length, length-take-le, map, take, drop, get_or, ap, ap₂, sym, subst, ◌∙◌, refl, append_assoc, append-nil, take-append-drop, drop-cons, arith}
 use Rattle.std.specs.List.{AllZip}
 use Rattle.std.proofs.lemmas.Grind.{flat_map-append}
-use Rattle.std.proofs.lemmas.List.{get_or-map, length-map, take_all, take_more}
+use Rattle.std.proofs.lemmas.List.{take_all, take_more}
 use Rattle.std.proofs.lemmas.Slice.Zip.{AllZip-long, all_zipped_more}
 use Rattle.dtable.specs.declared.table.InputData.{InputData}
 use Rattle.intake_csv.specs.Laws.{StandApart, StartHasTheRows}
@@ -10,7 +10,6 @@ use Rattle.intake_csv.specs.Rows.{AreRowsLeft, AreRowsOf, IsAtStart, RowsLeft}
 use Rattle.intake_csv.specs.declared.rows.Row.{Row}
 use Rattle.remit.specs.Records.{record_of, records_of}
 use Rattle.remit.specs.Report.{record_text, text_of}
-use Rattle.claim_terms.specs.Terms.{texts_of}
 use Rattle.remit.specs.Held.{At, IsNoMemory, Writes, at}
 use Rattle.remit.specs.Rows.{AreRead, Begin, Deciding, GivesAll, GivesFirst, IsRead, IsReadFirst, WritesFile, WritesFiles, WritesLeft, files_text, rows_text}
 use Rattle.remit.specs.declared.fault.WriteFault.{WriteFault}
@@ -187,49 +186,44 @@ pub record FilesSoFar (decided : Deciding) (names : List InputData) (texts : Lis
 pub files-none : (decided : Deciding) (names : List InputData) (texts : List (List ℕ)) (old : At) → FilesSoFar decided names texts 0 old old
 files-none decided names texts old = record { files = []; read = none-read names; writes = writes-none old }
 
--- the text at a place is behind the reference at that place
-text-at : (texts : List (Bor (List ℕ))) (place : ℕ) (d : Bor (List ℕ)) → place < length texts → (get_or texts place d).now ≡ get_or (texts_of texts) place d.now
-text-at texts place d within = sym (get_or-map (λ f. f.now) texts place d d.now within)
-
 -- there are as many files as texts in front of the place
 so-long : (names : List InputData) (texts : List (List ℕ)) (place : ℕ) (files : List (List Row)) → place ≤ length texts → AreRead names (take place texts) files
     → length files ≡ place
 so-long names texts place files within read = AllZip-long (AreRowsOf names) (take place texts) files read.are_rows ∙ length-take-le place texts within
 
-pub files-next : (decided : Deciding) (names : List InputData) (texts : List (Bor (List ℕ))) (place : ℕ) (d : Bor (List ℕ)) (old new newer : At) → place < length texts
-    → FilesSoFar decided names (texts_of texts) place old new → WritesFile decided (place + 1) names (get_or texts place d).now new newer (Ok tt)
-    → FilesSoFar decided names (texts_of texts) (place + 1) old newer
-files-next decided names texts place d old new newer within so_far writes =
-    let size = length-map texts (λ f. f.now) in
-    let inside : place < length (texts_of texts) = omega (arith, size, within) in
-    let long = so-long names (texts_of texts) place so_far.files (omega (arith, inside)) so_far.read in
-    let read = subst (λ text. IsRead names text writes.0) (text-at texts place d within) writes.1 in
+-- the text at a place, by the provider's number
+by-number : (texts : List (List ℕ)) (place : ℕ) → get_or texts ((place + 1) - 1) [] ≡ get_or texts place []
+by-number texts place = let same : (place + 1) - 1 ≡ place = omega arith in ap (λ n. get_or texts n []) same
+
+pub files-next : (decided : Deciding) (names : List InputData) (texts : List (List ℕ)) (place : ℕ) (old new newer : At) → place < length texts
+    → FilesSoFar decided names texts place old new → WritesFile decided (place + 1) names (get_or texts ((place + 1) - 1) []) new newer (Ok tt)
+    → FilesSoFar decided names texts (place + 1) old newer
+files-next decided names texts place old new newer within so_far writes =
+    let long = so-long names texts place so_far.files (omega (arith, within)) so_far.read in
+    let read = subst (λ text. IsRead names text writes.0) (by-number texts place) writes.1 in
     record {
       files = so_far.files ++ writes.0 ∷ [];
-      read = read-next names (texts_of texts) place d.now so_far.files writes.0 inside so_far.read read;
+      read = read-next names texts place [] so_far.files writes.0 within so_far.read read;
       writes =
           subst (λ text. Writes old newer text (Ok tt)) (sym (files-push decided so_far.files writes.0 place long))
           (writes-then old new newer (files_text decided 1 so_far.files) (rows_text decided (place + 1) writes.0) tt (Ok tt) so_far.writes writes.2);
     }
 
 -- the writing is refused within the next file
-pub files-refused : (decided : Deciding) (names : List InputData) (texts : List (Bor (List ℕ))) (place : ℕ) (d : Bor (List ℕ)) (old new newer : At) (fault : WriteFault)
-    → place < length texts → FilesSoFar decided names (texts_of texts) place old new
-    → WritesFile decided (place + 1) names (get_or texts place d).now new newer (Err fault) → WritesFiles decided names (texts_of texts) old newer (Err fault)
-files-refused decided names texts place d old new newer fault within so_far writes =
-    let size = length-map texts (λ f. f.now) in
-    let inside : place < length (texts_of texts) = omega (arith, size, within) in
-    let long = so-long names (texts_of texts) place so_far.files (omega (arith, inside)) so_far.read in
-    let first = subst (λ text. IsReadFirst names text writes.0) (text-at texts place d within) writes.1 in (
+pub files-refused : (decided : Deciding) (names : List InputData) (texts : List (List ℕ)) (place : ℕ) (old new newer : At) (fault : WriteFault)
+    → place < length texts → FilesSoFar decided names texts place old new
+    → WritesFile decided (place + 1) names (get_or texts ((place + 1) - 1) []) new newer (Err fault) → WritesFiles decided names texts old newer (Err fault)
+files-refused decided names texts place old new newer fault within so_far writes =
+    let long = so-long names texts place so_far.files (omega (arith, within)) so_far.read in
+    let first = subst (λ text. IsReadFirst names text writes.0) (by-number texts place) writes.1 in (
       files_text decided 1 so_far.files ++ rows_text decided (place + 1) writes.0,
-      begin-next decided names (texts_of texts) place d.now so_far.files writes.0 inside long so_far.read first,
+      begin-next decided names texts place [] so_far.files writes.0 within long so_far.read first,
       writes-then old new newer (files_text decided 1 so_far.files) (rows_text decided (place + 1) writes.0) tt (Err fault) so_far.writes writes.2,
     )
 
 -- all files are written
-pub files-done : (decided : Deciding) (names : List InputData) (texts : List (Bor (List ℕ))) (place : ℕ) (old new : At) → length texts ≤ place
-    → FilesSoFar decided names (texts_of texts) place old new → WritesFiles decided names (texts_of texts) old new (Ok tt)
+pub files-done : (decided : Deciding) (names : List InputData) (texts : List (List ℕ)) (place : ℕ) (old new : At) → length texts ≤ place
+    → FilesSoFar decided names texts place old new → WritesFiles decided names texts old new (Ok tt)
 files-done decided names texts place old new past so_far =
-    let size = length-map texts (λ f. f.now) in
-    let all = take_all place (texts_of texts) (omega (arith, size, past)) in
+    let all = take_all place texts past in
     (so_far.files, subst (λ ts. AreRead names ts so_far.files) all so_far.read, so_far.writes)

@@ -172,11 +172,9 @@ begins-header parts J report is = record {
 }
 
 -- what is written of files, by the same decisions and over the same names and texts
-pub files-same : (old new : Decisions) (names others : List InputData) (texts same : List (List ℕ)) (a b : At) (result : Result (Unit {0}) WriteFault) → new ≡ old
-    → others ≡ names → same ≡ texts → WritesFiles (looked_up new) others same a b result → WritesFiles (looked_up old) names texts a b result
-files-same old new names others texts same a b result kept named alike writes =
-    subst (λ d. WritesFiles (looked_up d) names texts a b result) kept
-    (subst (λ ns. WritesFiles (looked_up new) ns texts a b result) named (subst (λ ts. WritesFiles (looked_up new) others ts a b result) alike writes))
+pub files-same : (old new : Decisions) (names : List InputData) (texts : List (List ℕ)) (a b : At) (result : Result (Unit {0}) WriteFault) → new ≡ old
+    → WritesFiles (looked_up new) names texts a b result → WritesFiles (looked_up old) names texts a b result
+files-same old new names texts a b result kept writes = subst (λ d. WritesFiles (looked_up d) names texts a b result) kept writes
 
 -- refused in the header
 pub header-refused : (parts : TermsParts) (J : List Event) (a b : At) (fault : WriteFault) → IsFresh a → Writes a b (record_text header_fields) (Err fault)

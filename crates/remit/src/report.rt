@@ -1,9 +1,9 @@
 //! The report of a run: one record for each record of the providers' files, and one with the totals.
-ghost use Rattle.std.specs.Prelude.{◌≡◌, ◌≤◌, ℕ, [], ◌∷◌, List, length, IfErr, OnOk, true};
+ghost use Rattle.std.specs.Prelude.{◌≡◌, ◌≤◌, ◌-◌, ℕ, [], ◌∷◌, List, get_or, length, IfErr, OnOk, true};
 ghost use Rattle.dtable.specs.Plan.{PlanParts};
 ghost use Rattle.fixpoint.specs.Out.{has_failed, writer_of};
 ghost use Rattle.journal.specs.Events.{accepted};
-ghost use Rattle.claim_terms.specs.Terms.{IsFinishedOver, texts_of};
+ghost use Rattle.claim_terms.specs.Terms.{IsFinishedOver};
 ghost use Rattle.remit.specs.Held.{Writes, at};
 ghost use Rattle.remit.specs.Looked.{looked_up};
 ghost use Rattle.remit.specs.Records.{header_fields, record_of, total_fields};
@@ -20,11 +20,10 @@ use crate::sums::Sums;
 use claim_gate::Batch;
 use claim_terms::Terms;
 use csv::ByteRecord;
-use dtable::Plan;
 use fixpoint::Out;
 use intake_csv::{Row, Rows};
 use journal::Event;
-use std::alloc::Global;
+use std::alloc::{AllocError, Global};
 use std::io::Write;
 
 /// Writes the report of a finished run as CSV (RFC 4180): a header, a record for each record of the providers' files,
@@ -77,7 +76,7 @@ pub(crate) fn write_journal<W: Write>(
         writer: RecordWriter::new(alloc),
     };
     report.write_header(out)?;
-    report.write_files(terms.plan(), files, out)?;
+    report.write_files(terms, files.len(), out)?;
     report.write_total(journal, out)?;
     report.writer.hand_over(out)
 }
@@ -107,39 +106,41 @@ impl<'j> Report<'j> {
     // Writes the rows of the providers' files.
     fn write_files<W: Write>(
         &mut self,
-        plan: &Plan,
-        files: &[&[u8]],
+        terms: &Terms,
+        providers: usize,
         out: &mut Out<W>,
     ) -> Result<(), WriteFault>
-        ensures writes { WritesFiles (looked_up self.old.decisions) plan.now.names (texts_of files.now)
+        requires { providers ≡ length terms.now.files }
+        ensures writes { WritesFiles (looked_up self.old.decisions) terms.now.plan.names terms.now.files
             (at (W.contents (writer_of out.old)) (has_failed out.old) self.old.writer)
             (at (W.contents (writer_of out.new)) (has_failed out.new) self.new.writer) result }
         ensures decisions { self.new.decisions ≡ self.old.decisions }
     {
-        for place in 0..files.len() {
-            self.write_file(plan, place + 1, files[place], out)?;
+        for place in 0..providers {
+            self.write_file(terms, place + 1, out)?;
         }
         Ok(())
     }
 
-    // Writes the rows of a provider's file. It is a file of claims, as the terms say, so that only memory can be wanting.
+    // Writes the rows of a provider's file.
     fn write_file<W: Write>(
         &mut self,
-        plan: &Plan,
+        terms: &Terms,
         provider: usize,
-        text: &[u8],
         out: &mut Out<W>,
     ) -> Result<(), WriteFault>
-        requires { 1 ≤ provider }
-        ensures writes { WritesFile (looked_up self.old.decisions) provider plan.now.names text.now
+        requires least { 1 ≤ provider }
+        requires most { provider ≤ length terms.now.files }
+        ensures writes { WritesFile (looked_up self.old.decisions) provider terms.now.plan.names (get_or terms.now.files (provider - 1) [])
             (at (W.contents (writer_of out.old)) (has_failed out.old) self.old.writer)
             (at (W.contents (writer_of out.new)) (has_failed out.new) self.new.writer) result }
         ensures decisions { self.new.decisions ≡ self.old.decisions }
     {
+        // Known from here: what a reader at its start has left is what the file has.
         intake_csv::reader_begins_with_all_rows();
-        match Rows::new(self.alloc, plan, text) {
+        match terms.rows(self.alloc, provider) {
             Ok(rows) => self.write_rows(provider, rows, out),
-            Err(_) => Err(self.writer.no_memory()),
+            Err(AllocError) => Err(self.writer.no_memory()),
         }
     }
 
@@ -156,6 +157,7 @@ impl<'j> Report<'j> {
             (at (W.contents (writer_of out.new)) (has_failed out.new) self.new.writer) result }
         ensures decisions { self.new.decisions ≡ self.old.decisions }
     {
+        // Known from here: a row that a reader gives is the first of those left, and behind the last there is none.
         intake_csv::given_row_is_the_first();
         intake_csv::no_records_give_no_rows();
         let mut rows = rows;

@@ -3,7 +3,7 @@ ghost use Rattle.std.specs.Prelude.{◌≡◌, IfOk, OnOk};
 ghost use Rattle.journal.specs.Settled.{outcome_of};
 ghost use Rattle.claim_terms.specs.Terms.{ForTerms};
 ghost use Rattle.claim_gate.specs.Replies.{HasClaims, IsFiled};
-ghost use Rattle.claim_gate.specs.Worked.{IsAtWork, IsSpelled, WorkStays};
+ghost use Rattle.claim_gate.specs.Worked.{IsAtWork, WorkStays};
 
 use super::again;
 use super::filing::offer_at;
@@ -48,7 +48,6 @@ pub fn accept_at<'t>(
     place: usize,
     position: usize,
 ) -> Result<(), AllocError>
-    requires plan { IsSpelled terms.now.plan }
     requires terms { gate.old.terms ≡ terms.now }
     ensures terms { gate.new.terms ≡ terms.now }
     ensures stays { OnOk result (WorkStays gate.old gate.new) }
@@ -93,7 +92,6 @@ pub fn refuse_at<'t>(
     place: usize,
     fault: OfferFault,
 ) -> Result<Offer, AllocError>
-    requires plan { IsSpelled terms.now.plan }
     requires terms { gate.old.terms ≡ terms.now }
     ensures terms { gate.new.terms ≡ terms.now }
     ensures stays { OnOk result (WorkStays gate.old gate.new) }

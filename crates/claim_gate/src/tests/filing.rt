@@ -1,24 +1,19 @@
 //! The claims of providers' files, one after another, as who reads the files offers them.
-ghost use Rattle.std.specs.Prelude.{◌≡◌, ◌≤◌, ◌+◌, ◌-◌, [], get_or, length, IfOk, OnOk};
-ghost use Rattle.intake_csv.specs.Laws.{StandApart};
-ghost use Rattle.intake_csv.specs.Rows.{IsAtStart};
+ghost use Rattle.std.specs.Prelude.{◌≡◌, ◌+◌, IfOk, OnOk};
 ghost use Rattle.claim_terms.specs.Terms.{ForTerms};
 ghost use Rattle.claim_gate.specs.Replies.{HasClaims, IsFiled};
-ghost use Rattle.claim_gate.specs.Worked.{IsReader, IsSpelled};
+ghost use Rattle.claim_gate.specs.Worked.{IsReader};
 
 use crate::{Offer, Terms};
 use dtable::{Plan, read_plan};
 use intake_csv::{
-    FileFault, Row, Rows, given_row_is_the_first, no_records_give_no_rows,
-    reader_begins_with_all_rows,
+    Row, Rows, given_row_is_the_first, no_records_give_no_rows, reader_begins_with_all_rows,
 };
 use std::alloc::{AllocError, Global};
 use std::process::Abort;
 
 // The plan of a text.
-pub fn plan_of(alloc: Global, text: &[u8]) -> Result<Plan, AllocError>
-    ensures { IfOk result IsSpelled }
-{
+pub fn plan_of(alloc: Global, text: &[u8]) -> Result<Plan, AllocError> {
     let Ok(plan) = read_plan(alloc, text) else {
         return Err(AllocError);
     };
@@ -31,33 +26,11 @@ pub fn terms_of<'a>(
     plan: &'a Plan,
     files: &'a [&'a [u8]],
     cutoff: Option<u64>,
-) -> Result<Terms<'a>, AllocError>
-    requires { IsSpelled plan.now }
-    ensures { IfOk result (λ terms. IsSpelled terms.plan) }
-{
+) -> Result<Terms<'a>, AllocError> {
     let Ok(terms) = Terms::new(alloc, plan, files, None, cutoff) else {
         return Err(AllocError);
     };
     Ok(terms)
-}
-
-// The rows of a provider's file.
-fn start<'t>(
-    rt: &impl Abort,
-    alloc: Global,
-    terms: &'t Terms,
-    provider: usize,
-) -> Result<Rows<'t>, AllocError>
-    requires least { 1 ≤ provider }
-    requires most { provider ≤ length terms.now.files }
-    ensures start { IfOk result (IsAtStart terms.now.plan.names (get_or terms.now.files (provider - 1) [])) }
-    ensures apart { IfOk result (λ rows. StandApart rows.layout.columns) }
-{
-    match Rows::new(alloc, terms.plan(), terms.files()[provider - 1]) {
-        Ok(rows) => Ok(rows),
-        Err(FileFault::OutOfMemory) => Err(AllocError),
-        Err(_) => panic!(rt; "a file of claims"),
-    }
 }
 
 // A reader at the start of a provider's file.
@@ -67,14 +40,13 @@ pub fn open<'t>(
     terms: &'t Terms,
     provider: usize,
 ) -> Result<Rows<'t>, AllocError>
-    requires { IsSpelled terms.now.plan }
     ensures reader { IfOk result (λ rows. ForTerms terms.now (λ T. IsReader T provider rows)) }
     ensures place { IfOk result (λ rows. rows.place ≡ 0) }
 {
     reader_begins_with_all_rows();
     let files = terms.files();
     assert!(rt; 1 <= provider && provider <= files.len());
-    let rows = start(rt, alloc, terms, provider)?;
+    let rows = terms.rows(alloc, provider)?;
     Ok(rows)
 }
 
@@ -129,7 +101,6 @@ pub fn offer_at(
     provider: usize,
     place: usize,
 ) -> Result<Offer, AllocError>
-    requires { IsSpelled terms.now.plan }
     ensures { IfOk result (λ offer. ForTerms terms.now (λ T. IsFiled T offer)) }
 {
     let mut rows = open(rt, alloc, terms, provider)?;
@@ -145,7 +116,6 @@ pub fn read_all(
     provider: usize,
     count: usize,
 ) -> Result<(), AllocError>
-    requires { IsSpelled terms.now.plan }
     ensures { OnOk result (ForTerms terms.now (λ T. HasClaims T provider count)) }
 {
     no_records_give_no_rows();

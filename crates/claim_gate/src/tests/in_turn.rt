@@ -1,7 +1,7 @@
 //! The worked calls on a gate behind a lock, by two passes in turn: the answers are those of the gate of one thread.
 ghost use Rattle.std.specs.Prelude.{◌≡◌, IfOk};
 ghost use Rattle.journal.specs.Gate.{LeadsTo};
-ghost use Rattle.claim_gate.specs.Worked.{AreCallers, IsAtWork, IsCaller, IsSpelled};
+ghost use Rattle.claim_gate.specs.Worked.{AreCallers, IsAtWork, IsCaller};
 
 use super::filing::{is_offer, plan_of, read_all, terms_of};
 use super::shared::{
@@ -27,7 +27,6 @@ fn accept_first<G: Gate>(
     gate: &G,
     passes: (G::Pass, G::Pass),
 ) -> Result<(G::Pass, G::Pass), AllocError>
-    requires plan { IsSpelled terms.now.plan }
     requires callers { AreCallers (G.has_pass gate.now) G.known terms.now passes }
     ensures callers { IfOk result (AreCallers (G.has_pass gate.now) G.known terms.now) }
 {
@@ -47,7 +46,6 @@ fn take_first<G: Gate>(
     gate: &G,
     passes: (G::Pass, G::Pass),
 ) -> Result<(G::Pass, G::Pass, Job), AllocError>
-    requires plan { IsSpelled terms.now.plan }
     requires callers { AreCallers (G.has_pass gate.now) G.known terms.now passes }
     ensures callers { IfOk result (λ r. AreCallers (G.has_pass gate.now) G.known terms.now (r.0, r.1)) }
     ensures at_work { IfOk result (λ r. IsAtWork (G.known r.0).seen r.2) }
@@ -67,7 +65,6 @@ fn second_waits<G: Gate>(
     gate: &G,
     passes: (G::Pass, G::Pass),
 ) -> Result<(G::Pass, G::Pass), AllocError>
-    requires plan { IsSpelled terms.now.plan }
     requires callers { AreCallers (G.has_pass gate.now) G.known terms.now passes }
     ensures callers { IfOk result (AreCallers (G.has_pass gate.now) G.known terms.now) }
     ensures leads { IfOk result (λ r. LeadsTo (G.known passes.0).seen (G.known r.0).seen) }
@@ -87,7 +84,6 @@ fn take_other<G: Gate>(
     gate: &G,
     passes: (G::Pass, G::Pass),
 ) -> Result<(G::Pass, G::Pass), AllocError>
-    requires plan { IsSpelled terms.now.plan }
     requires callers { AreCallers (G.has_pass gate.now) G.known terms.now passes }
     ensures callers { IfOk result (AreCallers (G.has_pass gate.now) G.known terms.now) }
     ensures leads { IfOk result (λ r. LeadsTo (G.known passes.0).seen (G.known r.0).seen) }
@@ -130,7 +126,6 @@ fn turn_calls<G: Gate>(
     gate: &G,
     passes: (G::Pass, G::Pass),
 ) -> Result<(G::Pass, G::Pass, Job), AllocError>
-    requires plan { IsSpelled terms.now.plan }
     requires callers { AreCallers (G.has_pass gate.now) G.known terms.now passes }
     ensures callers { IfOk result (λ r. AreCallers (G.has_pass gate.now) G.known terms.now (r.0, r.1)) }
     ensures at_work { IfOk result (λ r. IsAtWork (G.known r.1).seen r.2) }
@@ -151,7 +146,6 @@ fn refuse_first_end<G: Gate>(
     pass: G::Pass,
     fault: EndFault,
 ) -> Result<G::Pass, AllocError>
-    requires plan { IsSpelled terms.now.plan }
     requires caller { IsCaller (G.has_pass gate.now) G.known terms.now pass }
     ensures caller { IfOk result (IsCaller (G.has_pass gate.now) G.known terms.now) }
     ensures leads { IfOk result (λ p. LeadsTo (G.known pass).seen (G.known p).seen) }
@@ -168,7 +162,6 @@ fn stopped_calls<G: Gate>(
     gate: &G,
     pass: G::Pass,
 ) -> Result<G::Pass, AllocError>
-    requires plan { IsSpelled terms.now.plan }
     requires caller { IsCaller (G.has_pass gate.now) G.known terms.now pass }
     ensures caller { IfOk result (IsCaller (G.has_pass gate.now) G.known terms.now) }
     ensures leads { IfOk result (λ p. LeadsTo (G.known pass).seen (G.known p).seen) }
@@ -189,7 +182,6 @@ fn finish_stopped<G: Gate>(
     pass: G::Pass,
     job: Job,
 ) -> Result<G::Pass, AllocError>
-    requires plan { IsSpelled terms.now.plan }
     requires caller { IsCaller (G.has_pass gate.now) G.known terms.now pass }
     requires at_work { IsAtWork (G.known pass).seen job }
     ensures caller { IfOk result (IsCaller (G.has_pass gate.now) G.known terms.now) }
@@ -210,7 +202,6 @@ fn all_calls<G: Gate>(
     gate: &G,
     passes: (G::Pass, G::Pass),
 ) -> Result<G::Pass, AllocError>
-    requires plan { IsSpelled terms.now.plan }
     requires callers { AreCallers (G.has_pass gate.now) G.known terms.now passes }
     ensures caller { IfOk result (IsCaller (G.has_pass gate.now) G.known terms.now) }
 {
@@ -232,7 +223,6 @@ fn calls_over<S: Section + Drop>(
 where
     S::Value: SerialGate + Drop,
     S::Pass: Send + Drop,
-    requires plan { IsSpelled terms.now.plan }
     requires own { S.has_pass lock pass }
     requires terms { (S.Value.shown (S.seen pass)).terms ≡ terms.now }
 {
@@ -250,9 +240,11 @@ where
     Ok(())
 }
 
-fn by_a_spin_lock(rt: &(impl Abort + Wait), alloc: Global, terms: &Terms) -> Result<(), AllocError>
-    requires { IsSpelled terms.now.plan }
-{
+fn by_a_spin_lock(
+    rt: &(impl Abort + Wait),
+    alloc: Global,
+    terms: &Terms,
+) -> Result<(), AllocError> {
     let (lock, pass) = SpinLock::new(alloc, GateState::new(alloc, terms)?)?;
     calls_over(rt, alloc, terms, lock, pass)
 }
@@ -268,9 +260,7 @@ fn by_a_ticket_lock(
     rt: &(impl Abort + Wait),
     alloc: Global,
     terms: &Terms,
-) -> Result<(), AllocError>
-    requires { IsSpelled terms.now.plan }
-{
+) -> Result<(), AllocError> {
     let (lock, pass) = TicketLock::new(alloc, GateState::new(alloc, terms)?)?;
     calls_over(rt, alloc, terms, lock, pass)
 }

@@ -1,7 +1,7 @@
 //! A gate behind a lock of which two tickets are left, one, or none: each call behind the last one is answered so, and the pass
 //! and the values come back.
 ghost use Rattle.std.specs.Prelude.{◌≡◌, IfOk, IfErr};
-ghost use Rattle.claim_gate.specs.Worked.{IsAtWork, IsCaller, IsSpelled};
+ghost use Rattle.claim_gate.specs.Worked.{IsAtWork, IsCaller};
 
 use super::calls::settled;
 use super::filing::{is_offer, offer_at, plan_of, read_all, terms_of};
@@ -23,7 +23,6 @@ fn worn_intake<G: Gate>(
     gate: &G,
     pass: G::Pass,
 ) -> Result<G::Pass, AllocError>
-    requires plan { IsSpelled terms.now.plan }
     requires caller { IsCaller (G.has_pass gate.now) G.known terms.now pass }
     ensures caller { IfOk result (IsCaller (G.has_pass gate.now) G.known terms.now) }
 {
@@ -67,7 +66,6 @@ fn calls_over<S: Section + Drop>(
 where
     S::Value: SerialGate + Drop,
     S::Pass: Send + Drop,
-    requires plan { IsSpelled terms.now.plan }
     requires own { S.has_pass lock pass }
     requires terms { (S.Value.shown (S.seen pass)).terms ≡ terms.now }
 {
@@ -90,7 +88,6 @@ fn calls_without<S: Section + Drop>(
 where
     S::Value: SerialGate + Drop,
     S::Pass: Send + Drop,
-    requires plan { IsSpelled terms.now.plan }
     requires own { S.has_pass lock pass }
     requires terms { (S.Value.shown (S.seen pass)).terms ≡ terms.now }
 {
@@ -131,7 +128,6 @@ fn finish_over<S: Section + Drop>(
 where
     S::Value: SerialGate + Drop,
     S::Pass: Send + Drop,
-    requires plan { IsSpelled terms.now.plan }
     requires own { S.has_pass lock pass }
     requires terms { (S.Value.shown (S.seen pass)).terms ≡ terms.now }
 {
@@ -141,25 +137,19 @@ where
     worn_finish(rt, alloc, terms, &gate, pass, job)
 }
 
-fn one_ticket(rt: &(impl Abort + Wait), alloc: Global, terms: &Terms) -> Result<(), AllocError>
-    requires { IsSpelled terms.now.plan }
-{
+fn one_ticket(rt: &(impl Abort + Wait), alloc: Global, terms: &Terms) -> Result<(), AllocError> {
     let state = GateState::new(alloc, terms)?;
     let (lock, pass) = TicketLock::new_at(alloc, state, u64::MAX - 1)?;
     calls_over(rt, alloc, terms, lock, pass)
 }
 
-fn no_ticket(rt: &(impl Abort + Wait), alloc: Global, terms: &Terms) -> Result<(), AllocError>
-    requires { IsSpelled terms.now.plan }
-{
+fn no_ticket(rt: &(impl Abort + Wait), alloc: Global, terms: &Terms) -> Result<(), AllocError> {
     let state = GateState::new(alloc, terms)?;
     let (lock, pass) = TicketLock::new_at(alloc, state, u64::MAX)?;
     calls_without(rt, alloc, terms, lock, pass)
 }
 
-fn two_tickets(rt: &(impl Abort + Wait), alloc: Global, terms: &Terms) -> Result<(), AllocError>
-    requires { IsSpelled terms.now.plan }
-{
+fn two_tickets(rt: &(impl Abort + Wait), alloc: Global, terms: &Terms) -> Result<(), AllocError> {
     let state = GateState::new(alloc, terms)?;
     let (lock, pass) = TicketLock::new_at(alloc, state, u64::MAX - 2)?;
     finish_over(rt, alloc, terms, lock, pass)

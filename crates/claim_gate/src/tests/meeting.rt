@@ -2,7 +2,6 @@
 
 ghost use Rattle.std.specs.Prelude.{◌≡◌};
 ghost use Rattle.turn_lock.specs.TicketShown.{IsPassOf, pass_knows};
-ghost use Rattle.claim_gate.specs.Worked.{IsSpelled};
 
 use super::filing::{is_offer, plan_of, terms_of};
 use super::shared::{accept_at, find_stopped, refuse_at};
@@ -23,7 +22,6 @@ fn met_calls<V: SerialGate + Send + Drop>(
     lock: TicketLock<V>,
     pass: Pass<V>,
 ) -> Result<(), AllocError>
-    requires plan { IsSpelled terms.now.plan }
     requires own { IsPassOf lock pass }
     requires terms { (V.shown (pass_knows pass).seen).terms ≡ terms.now }
 {
@@ -53,9 +51,7 @@ fn met_passes(rt: &(impl Abort + Wait), alloc: Global) -> Result<(), AllocError>
     meet_once(rt, alloc, &terms)
 }
 
-fn meet_once(rt: &(impl Abort + Wait), alloc: Global, terms: &Terms) -> Result<(), AllocError>
-    requires { IsSpelled terms.now.plan }
-{
+fn meet_once(rt: &(impl Abort + Wait), alloc: Global, terms: &Terms) -> Result<(), AllocError> {
     let (lock, pass) = TicketLock::new(alloc, GateState::new(alloc, terms)?)?;
     met_calls(rt, alloc, terms, lock, pass)
 }

@@ -3,7 +3,7 @@ ghost use Rattle.std.specs.Prelude.{◌≡◌, IfOk};
 ghost use Rattle.claim_terms.specs.Terms.{ForTerms};
 ghost use Rattle.claim_gate.specs.Replies.{HasClaims, IsFiled};
 ghost use Rattle.journal.specs.Gate.{LeadsTo};
-ghost use Rattle.claim_gate.specs.Worked.{IsAtWork, IsCaller, IsSpelled};
+ghost use Rattle.claim_gate.specs.Worked.{IsAtWork, IsCaller};
 
 use super::again_shared;
 use super::calls::settled;
@@ -85,7 +85,6 @@ pub fn accept_at<G: Gate>(
     filed: (usize, usize),
     position: usize,
 ) -> Result<G::Pass, AllocError>
-    requires plan { IsSpelled terms.now.plan }
     requires caller { IsCaller (G.has_pass gate.now) G.known terms.now pass }
     ensures caller { IfOk result (IsCaller (G.has_pass gate.now) G.known terms.now) }
     ensures leads { IfOk result (λ p. LeadsTo (G.known pass).seen (G.known p).seen) }
@@ -105,7 +104,6 @@ pub fn refuse_at<G: Gate>(
     filed: (usize, usize),
     fault: OfferFault,
 ) -> Result<(G::Pass, Offer), AllocError>
-    requires plan { IsSpelled terms.now.plan }
     requires caller { IsCaller (G.has_pass gate.now) G.known terms.now pass }
     ensures caller { IfOk result (λ r. IsCaller (G.has_pass gate.now) G.known terms.now r.0) }
     ensures leads { IfOk result (λ r. LeadsTo (G.known pass).seen (G.known r.0).seen) }

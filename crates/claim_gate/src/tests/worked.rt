@@ -1,6 +1,6 @@
 //! Calls of a gate that were worked by hand, each also with an allocation refused. Amounts are in ten-thousandths.
 ghost use Rattle.std.specs.Prelude.{◌≡◌, IfOk, OnOk};
-ghost use Rattle.claim_gate.specs.Worked.{IsAtWork, IsSpelled, WorkStays};
+ghost use Rattle.claim_gate.specs.Worked.{IsAtWork, WorkStays};
 
 use super::calls::{
     accept_at, end, find_nothing, find_stopped, halt, record, refuse_at, refuse_end,
@@ -48,7 +48,6 @@ fn begin<'t>(
     alloc: Global,
     terms: &'t Terms<'t>,
 ) -> Result<GateState<'t>, AllocError>
-    requires { IsSpelled terms.now.plan }
     ensures { IfOk result (λ gate. gate.terms ≡ terms.now) }
 {
     let mut gate = GateState::new(alloc, terms)?;
@@ -63,7 +62,6 @@ fn take_first<'t>(
     terms: &'t Terms<'t>,
     gate: &mut GateState<'t>,
 ) -> Result<Job, AllocError>
-    requires plan { IsSpelled terms.now.plan }
     requires terms { gate.old.terms ≡ terms.now }
     ensures terms { gate.new.terms ≡ terms.now }
     ensures at_work { IfOk result (λ job. IsAtWork gate.new job) }
@@ -84,7 +82,6 @@ fn second_waits<'t>(
     terms: &'t Terms<'t>,
     gate: &mut GateState<'t>,
 ) -> Result<(), AllocError>
-    requires plan { IsSpelled terms.now.plan }
     requires terms { gate.old.terms ≡ terms.now }
     ensures terms { gate.new.terms ≡ terms.now }
     ensures stays { OnOk result (WorkStays gate.old gate.new) }
@@ -102,7 +99,6 @@ fn take_other<'t>(
     terms: &'t Terms<'t>,
     gate: &mut GateState<'t>,
 ) -> Result<(), AllocError>
-    requires plan { IsSpelled terms.now.plan }
     requires terms { gate.old.terms ≡ terms.now }
     ensures terms { gate.new.terms ≡ terms.now }
     ensures stays { OnOk result (WorkStays gate.old gate.new) }
@@ -141,7 +137,6 @@ fn calls_in_turn<'t>(
     terms: &'t Terms<'t>,
     gate: &mut GateState<'t>,
 ) -> Result<Job, AllocError>
-    requires plan { IsSpelled terms.now.plan }
     requires terms { gate.old.terms ≡ terms.now }
     ensures terms { gate.new.terms ≡ terms.now }
     ensures at_work { IfOk result (λ next. IsAtWork gate.new next) }
@@ -159,7 +154,6 @@ fn end_early<'t>(
     terms: &'t Terms<'t>,
     gate: &mut GateState<'t>,
 ) -> Result<(), AllocError>
-    requires plan { IsSpelled terms.now.plan }
     requires terms { gate.old.terms ≡ terms.now }
     ensures terms { gate.new.terms ≡ terms.now }
 {
@@ -195,9 +189,7 @@ pub fn is_worked(journal: &[Event]) -> bool {
 }
 
 // The calls in turn, and a run that isn't finished: the gate comes back.
-fn turn_calls<'t>(rt: &impl Abort, alloc: Global, terms: &'t Terms<'t>) -> Result<(), AllocError>
-    requires { IsSpelled terms.now.plan }
-{
+fn turn_calls(rt: &impl Abort, alloc: Global, terms: &Terms) -> Result<(), AllocError> {
     let mut gate = begin(rt, alloc, terms)?;
     let _next = calls_in_turn(rt, alloc, terms, &mut gate)?;
     end_early(rt, alloc, terms, &mut gate)?;
@@ -257,9 +249,7 @@ fn decide_twice(rt: &impl Abort, alloc: Global) -> Result<(), AllocError> {
     copy_calls(rt, alloc, &terms)
 }
 
-fn copy_calls<'t>(rt: &impl Abort, alloc: Global, terms: &'t Terms<'t>) -> Result<(), AllocError>
-    requires { IsSpelled terms.now.plan }
-{
+fn copy_calls(rt: &impl Abort, alloc: Global, terms: &Terms) -> Result<(), AllocError> {
     let mut gate = begin(rt, alloc, terms)?;
     let job = take_first(rt, alloc, terms, &mut gate)?;
     decide_copy(rt, alloc, terms, &mut gate, job)
@@ -285,7 +275,6 @@ fn refuse_intake<'t>(
     place: usize,
     faults: (OfferFault, EndFault),
 ) -> Result<Offer, AllocError>
-    requires plan { IsSpelled terms.now.plan }
     requires terms { gate.old.terms ≡ terms.now }
     ensures terms { gate.new.terms ≡ terms.now }
     ensures stays { OnOk result (WorkStays gate.old gate.new) }
@@ -305,7 +294,6 @@ fn call_stopped<'t>(
     gate: &mut GateState<'t>,
     job: Job,
 ) -> Result<(), AllocError>
-    requires plan { IsSpelled terms.now.plan }
     requires terms { gate.old.terms ≡ terms.now }
     requires at_work { IsAtWork gate.old job }
     ensures { gate.new.terms ≡ terms.now }
@@ -321,9 +309,7 @@ fn call_stopped<'t>(
 }
 
 // The calls in turn, a stop, and each call again.
-fn stop_calls<'t>(rt: &impl Abort, alloc: Global, terms: &'t Terms<'t>) -> Result<(), AllocError>
-    requires { IsSpelled terms.now.plan }
-{
+fn stop_calls(rt: &impl Abort, alloc: Global, terms: &Terms) -> Result<(), AllocError> {
     let mut gate = begin(rt, alloc, terms)?;
     let job = calls_in_turn(rt, alloc, terms, &mut gate)?;
     halt(terms, &mut gate);
@@ -356,7 +342,6 @@ fn end_first<'t>(
     alloc: Global,
     terms: &'t Terms<'t>,
 ) -> Result<GateState<'t>, AllocError>
-    requires { IsSpelled terms.now.plan }
     ensures { IfOk result (λ gate. gate.terms ≡ terms.now) }
 {
     let mut gate = begin(rt, alloc, terms)?;
@@ -398,9 +383,7 @@ fn decide_only<'t>(
 }
 
 // A run of one claim, to its end.
-fn end_calls<'t>(rt: &impl Abort, alloc: Global, terms: &'t Terms<'t>) -> Result<(), AllocError>
-    requires { IsSpelled terms.now.plan }
-{
+fn end_calls(rt: &impl Abort, alloc: Global, terms: &Terms) -> Result<(), AllocError> {
     let mut gate = end_first(rt, alloc, terms)?;
     assert!(rt; is_closed(gate.journal()));
     assert!(rt; gate.counts() == counts(1, 1, 0, true));
@@ -432,9 +415,7 @@ fn a_run_of_one_claim_or_no_memory(rt: HostRuntime) {
 }
 
 // A provider ends once, also while another one is still open.
-fn end_again<'t>(rt: &impl Abort, alloc: Global, terms: &'t Terms<'t>) -> Result<(), AllocError>
-    requires { IsSpelled terms.now.plan }
-{
+fn end_again(rt: &impl Abort, alloc: Global, terms: &Terms) -> Result<(), AllocError> {
     let mut gate = end_first(rt, alloc, terms)?;
     read_all(rt, alloc, terms, 1, 1)?;
     refuse_end(rt, terms, &mut gate, 1, 1, EndFault::AlreadyEnded);
@@ -457,9 +438,7 @@ fn a_provider_ends_once(rt: HostRuntime) -> Result<(), Fail> {
 }
 
 // Each call where no claim is admitted.
-fn closed_calls<'t>(rt: &impl Abort, alloc: Global, terms: &'t Terms<'t>) -> Result<(), AllocError>
-    requires { IsSpelled terms.now.plan }
-{
+fn closed_calls(rt: &impl Abort, alloc: Global, terms: &Terms) -> Result<(), AllocError> {
     let mut gate = GateState::new(alloc, terms)?;
     let faults = (OfferFault::Closed, EndFault::Closed);
     let back = refuse_intake(rt, alloc, terms, &mut gate, 0, faults)?;

@@ -1,7 +1,6 @@
 use Rattle.std.proofs.lemmas.Result.{err_from_is_err_and}
 use Rattle.adjudicate.specs.Arguments.{texts_of}
 use Rattle.adjudicate.proofs.Answered.{AreAnswered-from_env}
-use Rattle.adjudicate.proofs.ReadNames.{missing_short}
 use Rattle.adjudicate.proofs.Refusals.{refuses_arguments, refuses_tables}
 use Rattle.adjudicate.proofs.value.plan_text.Goals as goal
 
@@ -11,9 +10,7 @@ returns-in_err-inputs-clause-refused c =
     rw (stopped.1, stopped.2) (refuses_arguments (texts_of c.args.arguments.now) c.args.plan.now _ c.in_err-inputs.ensures.refused)
 
 pub new-requires : goal.new-requires
-new-requires c =
-    let plan = c.args.plan.now in
-    rw c.as_str.ensures.text (missing_short plan.names plan.tables _ _ c.requires.short c.in-Some.ensures.missing)
+new-requires c = rw c.as_str.ensures.text c.as_str.ensures.short
 
 pub returns-in_err-values-clause-refused : goal.returns-in_err-values-clause-refused
 returns-in_err-values-clause-refused c =

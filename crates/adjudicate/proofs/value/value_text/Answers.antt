@@ -1,5 +1,4 @@
 use Rattle.std.proofs.lemmas.Result.{err_from_is_err_and, IfOk-weaker, IfErr-weaker}
-use Rattle.adjudicate.proofs.ReadNames.{AreShort-from_text}
 use Rattle.adjudicate.proofs.Refusals.{refuses_plan, refuses_spelled}
 use Rattle.adjudicate.proofs.value.value_text.Goals as goal
 
@@ -7,9 +6,6 @@ pub returns-in_err-plan-clause-refused : goal.returns-in_err-plan-clause-refused
 returns-in_err-plan-clause-refused c =
     let stopped = err_from_is_err_and c.from_residual.result c.from_residual.ensures.1 in
     rw stopped.1 (refuses_plan _ _ _ _ c.in_err-plan.ensures.refused stopped.2)
-
-pub plan_text-requires : goal.plan_text-requires
-plan_text-requires c = record { short = AreShort-from_text _ _ c.in_ok-plan.ensures.plan }
 
 pub returns-clause-text : goal.returns-clause-text
 returns-clause-text c =

@@ -1,10 +1,11 @@
-use Rattle.std.proofs.Common.{arith, ◌∙◌}
+use Rattle.std.proofs.Common.{refl, arith, ◌∙◌}
 use Rattle.crew.proofs.Lefts.{first_offer, left_none, next_claim, next_offer, refused_offer}
+use Rattle.crew.proofs.Passes.{further, further_where_ok, leaves_later_where_err, unchanged}
 use Rattle.crew.proofs.intake.read_on.Goals as goal
 
 pub loop-next-init : goal.loop-next-init
 loop-next-init g c = (
-  c.requires.own,
+  unchanged (g.G.Gate.has_pass c.args.gate.now) g.G.Gate.known c.args.pass c.args.pass c.requires.own refl,
   first_offer c.reader_begins_with_all_rows.ensures c.args.terms.now (g.G.Gate.known c.args.pass).seen c.args.provider c.in-Ok.rows c.requires.terms c.requires.least
       c.requires.most c.in-Ok.ensures.rows,
 )
@@ -47,9 +48,17 @@ loop-next-preserved g c =
     let some = rw c.in-Some.is at c.in-Ok-next.ensures.gives in
     let gives = rw c.in-Good.is at some in
     let on = c.in-Ok-Some-default.ensures in (
-      on.own,
+      further (g.G.Gate.has_pass c.args.gate.now) g.G.Gate.known c.args.pass c.loop-next.pass c.in-Ok-Some-default.pass c.loop-next.invariant.0 on.goes_on,
       next_offer c.given_row_has_the_claim.ensures c.args.terms.now (g.G.Gate.known c.loop-next.pass).seen
           (g.G.Gate.known c.in-Ok-Some-default.pass).seen c.args.provider c.loop-next.count c.loop-next.expected c.in-Ok-Some-default.next c.loop-next.rows c.next.new.self
-          c.in-Good.number c.in-Good.place c.in-Good.claim c.loop-next.invariant.1 gives (on.seen.terms ∙ c.loop-next.invariant.1.of_terms)
+          c.in-Good.number c.in-Good.place c.in-Good.claim c.loop-next.invariant.1 gives (on.goes_on.seen.terms ∙ c.loop-next.invariant.1.of_terms)
           (rw c.in-Ok-Some-default.field-0-0-is at on.next).0 (rw c.in-Ok-Some-default.field-0-0-is at on.next).1,
     )
+
+pub returns-in_default-next-clause-goes_on : goal.returns-in_default-next-clause-goes_on
+returns-in_default-next-clause-goes_on g c =
+    further_where_ok (g.G.Gate.has_pass c.args.gate.now) g.G.Gate.known c.args.pass c.loop-next.pass c.end.result c.loop-next.invariant.0 c.end.ensures.goes_on
+
+pub returns-in_default-next-clause-leaves : goal.returns-in_default-next-clause-leaves
+returns-in_default-next-clause-leaves g c =
+    leaves_later_where_err (g.G.Gate.has_pass c.args.gate.now) g.G.Gate.known c.args.pass c.loop-next.pass c.end.result c.loop-next.invariant.0 c.end.ensures.leaves

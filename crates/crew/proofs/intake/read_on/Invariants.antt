@@ -1,10 +1,11 @@
 use Rattle.std.proofs.Common.{length}
+use Rattle.crew.specs.Passes.{GoesOn}
 use Rattle.crew.proofs.Lefts.{IsAtOffer}
 use Rattle.crew.proofs.intake.read_on.Given as goal
 
 abbrev pub invariant-loop-next : goal.invariant-loop-next
 invariant-loop-next g l =
-    g.G.Gate.has_pass l.gate l.pass × IsAtOffer l.terms (g.G.Gate.known l.pass).seen l.provider l.count l.expected l.rows
+    GoesOn (g.G.Gate.has_pass l.gate) g.G.Gate.known l.initial.pass l.pass × IsAtOffer l.terms (g.G.Gate.known l.pass).seen l.provider l.count l.expected l.rows
 
 -- the records that are left
 abbrev pub decreases-loop-next : goal.decreases-loop-next

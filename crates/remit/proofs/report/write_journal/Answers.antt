@@ -17,6 +17,12 @@ returns-in_err-write_header-clause-refused g c =
     header-refused c.args.terms.now c.args.journal.now (at _ _ c.new-3.result) (at _ _ c.write_header.new.self.writer) c.in_err-write_header.field-0.0
     (record { gathered = made.gathered; written = made.written; ready = made.ready }) c.in_err-write_header.ensures.writes)
 
+pub write_files-requires : goal.write_files-requires
+write_files-requires g c =
+    let size = length-map c.files-files.result.now (λ f. f.now) in
+    let long = ap length c.files-files.ensures.files in
+    omega (arith, size, long)
+
 pub returns-in_err-write_files-clause-refused : goal.returns-in_err-write_files-clause-refused
 returns-in_err-write_files-clause-refused g c =
     let p = err_from_is_err_and c.from_residual-in_err-write_files.result c.from_residual-in_err-write_files.ensures.1 in
@@ -30,9 +36,9 @@ returns-in_err-write_files-clause-refused g c =
     files-refused c.args.terms.now c.args.journal.now (length c.files-files.result.now) c.in-Ok.decisions (at _ _ c.new-3.result)
     (at _ _ c.write_header.new.self.writer) (at _ _ c.write_files.new.self.writer) c.in_err-write_files.field-0.0 finished c.in-Ok.ensures as_many
     (record { gathered = made.gathered; written = made.written; ready = made.ready }) c.in_ok-write_header.ensures.writes
-    (files-same c.in-Ok.decisions c.write_header.new.self.decisions c.args.terms.now.plan.names c.plan.result.now.names c.args.terms.now.files _
+    (files-same c.in-Ok.decisions c.write_header.new.self.decisions c.args.terms.now.plan.names c.args.terms.now.files
     (at _ _ c.write_header.new.self.writer) (at _ _ c.write_files.new.self.writer) (Err c.in_err-write_files.field-0.0) c.in_ok-write_header.ensures.decisions
-    (ap (λ p. p.names) c.plan.ensures.plan) files c.in_err-write_files.ensures.writes))
+    c.in_err-write_files.ensures.writes))
 
 pub returns-in_err-write_total-clause-refused : goal.returns-in_err-write_total-clause-refused
 returns-in_err-write_total-clause-refused g c =
@@ -47,7 +53,7 @@ returns-in_err-write_total-clause-refused g c =
     total-refused c.args.terms.now c.args.journal.now (length c.files-files.result.now) c.in-Ok.decisions (at _ _ c.new-3.result)
     (at _ _ c.write_header.new.self.writer) (at _ _ c.write_files.new.self.writer) (at _ _ c.write_total.new.self.writer) c.in_err-write_total.field-0.0 finished
     c.in-Ok.ensures as_many (record { gathered = made.gathered; written = made.written; ready = made.ready }) c.in_ok-write_header.ensures.writes
-    (rw (c.in_ok-write_header.ensures.decisions, c.plan.ensures.plan, files) at c.in_ok-write_files.ensures.writes) c.in_err-write_total.ensures)
+    (rw c.in_ok-write_header.ensures.decisions at c.in_ok-write_files.ensures.writes) c.in_err-write_total.ensures)
 
 pub returns-clause-written : goal.returns-clause-written
 returns-clause-written g c =
@@ -59,7 +65,7 @@ returns-clause-written g c =
     ends-written c.args.terms.now c.args.journal.now (length c.files-files.result.now) c.in-Ok.decisions (at _ _ c.new-3.result) (at _ _ c.write_header.new.self.writer)
     (at _ _ c.write_files.new.self.writer) (at _ _ c.write_total.new.self.writer) (at _ _ c.hand_over.new.self) c.hand_over.result c.in-Ok.ensures as_many
     (record { gathered = made.gathered; written = made.written; ready = made.ready }) c.in_ok-write_header.ensures.writes
-    (rw (c.in_ok-write_header.ensures.decisions, c.plan.ensures.plan, files) at c.in_ok-write_files.ensures.writes) c.in_ok-write_total.ensures c.hand_over.ensures.writes
+    (rw c.in_ok-write_header.ensures.decisions at c.in_ok-write_files.ensures.writes) c.in_ok-write_total.ensures c.hand_over.ensures.writes
     c.hand_over.ensures.all
 
 pub returns-clause-refused : goal.returns-clause-refused
@@ -72,4 +78,4 @@ returns-clause-refused g c =
     ends-refused c.args.terms.now c.args.journal.now (length c.files-files.result.now) c.in-Ok.decisions (at _ _ c.new-3.result) (at _ _ c.write_header.new.self.writer)
     (at _ _ c.write_files.new.self.writer) (at _ _ c.write_total.new.self.writer) (at _ _ c.hand_over.new.self) c.hand_over.result c.in-Ok.ensures as_many
     (record { gathered = made.gathered; written = made.written; ready = made.ready }) c.in_ok-write_header.ensures.writes
-    (rw (c.in_ok-write_header.ensures.decisions, c.plan.ensures.plan, files) at c.in_ok-write_files.ensures.writes) c.in_ok-write_total.ensures c.hand_over.ensures.writes
+    (rw c.in_ok-write_header.ensures.decisions at c.in_ok-write_files.ensures.writes) c.in_ok-write_total.ensures c.hand_over.ensures.writes

@@ -1,6 +1,7 @@
 use Rattle.std.proofs.Common.{rules, ◌≤◌, length, refl, arith}
 use Rattle.settlement.specs.Opening.{opening}
 use Rattle.claim_gate.specs.Intakes.{intake_of}
+use Rattle.journal.specs.Leading.{running_leads}
 use Rattle.claim_gate.proofs.Replying.{IsAccepted, accepts, accepted_within}
 use Rattle.claim_gate.proofs.state.GateState.accept.Goals as goal
 
@@ -25,5 +26,5 @@ returns-clause-reply c = (done c).reply
 pub returns-clause-lawful : goal.returns-clause-lawful
 returns-clause-lawful c = (done c).keeps.lawful
 
-pub returns-clause-goes_on : goal.returns-clause-goes_on
-returns-clause-goes_on c = (done c).goes_on
+pub returns-clause-leads : goal.returns-clause-leads
+returns-clause-leads c = running_leads c.args.self.now _ c.requires.runs (search rules) (done c).goes_on

@@ -1,4 +1,5 @@
 use Rattle.std.proofs.Common.{rules}
+use Rattle.journal.specs.Leading.{running_leads}
 use Rattle.claim_gate.proofs.Replying.{IsEnded, ends, ended_before, too_few}
 use Rattle.claim_gate.proofs.state.GateState.end.Goals as goal
 
@@ -25,5 +26,5 @@ returns-clause-reply c = (done c).reply
 pub returns-clause-lawful : goal.returns-clause-lawful
 returns-clause-lawful c = (done c).keeps.lawful
 
-pub returns-clause-goes_on : goal.returns-clause-goes_on
-returns-clause-goes_on c = (done c).goes_on
+pub returns-clause-leads : goal.returns-clause-leads
+returns-clause-leads c = running_leads c.args.self.now _ (search rules) (search rules) (done c).goes_on

@@ -2,8 +2,8 @@ use Rattle.std.proofs.Common.{rules}
 use Rattle.claim_gate.proofs.Filing.{among_texts, reads}
 use Rattle.claim_gate.proofs.tests.filing.open.Goals as goal
 
-pub start-requires-clause-most : goal.start-requires-clause-most
-start-requires-clause-most g c = among_texts c.files-files.result.now c.args.terms.now.files c.args.provider c.files-files.ensures.files (search rules)
+pub rows-requires-clause-most : goal.rows-requires-clause-most
+rows-requires-clause-most g c = among_texts c.files-files.result.now c.args.terms.now.files c.args.provider c.files-files.ensures.files (search rules)
 
 pub returns-clause-reader : goal.returns-clause-reader
 returns-clause-reader g c =

@@ -1,13 +1,12 @@
-use Rattle.std.proofs.Common.{refl, ◌∙◌}
+use Rattle.std.proofs.Common.{◌<◌, refl, ◌∙◌, subst}
 use Rattle.std.proofs.lemmas.Result.{err_from_is_err_and}
-use Rattle.claim_terms.specs.Terms.{texts_of}
 use Rattle.remit.specs.Held.{at}
 use Rattle.remit.specs.Looked.{looked_up}
 use Rattle.remit.proofs.Filing.{files-next, files-none, files-refused}
 use Rattle.remit.proofs.report.Report.write_files.Goals as goal
 
 pub loop-place-init : goal.loop-place-init
-loop-place-init g c = record { so_far = files-none (looked_up c.args.self.now.decisions) c.args.plan.now.names (texts_of c.args.files.now) _; decisions = refl }
+loop-place-init g c = record { so_far = files-none (looked_up c.args.self.now.decisions) c.args.terms.now.plan.names c.args.terms.now.files _; decisions = refl }
 
 pub returns-in_err-write_file-clause-writes : goal.returns-in_err-write_file-clause-writes
 returns-in_err-write_file-clause-writes g c =
@@ -15,7 +14,7 @@ returns-in_err-write_file-clause-writes g c =
     let decided = looked_up c.args.self.now.decisions in
     let so_far = c.loop-place.invariant in
     rw (p.1, p.2)
-    (files-refused decided c.args.plan.now.names c.args.files.now c.loop-place.place _ _ (at _ _ c.loop-place.self.writer) (at _ _ c.write_file.new.self.writer) c.in_err-write_file.field-0.0 c.loop-place-test.true so_far.so_far
+    (files-refused decided c.args.terms.now.plan.names c.args.terms.now.files c.loop-place.place _ (at _ _ c.loop-place.self.writer) (at _ _ c.write_file.new.self.writer) c.in_err-write_file.field-0.0 (subst (λ n. c.loop-place.place < n) c.requires c.loop-place-test.true) so_far.so_far
     (rw so_far.decisions at c.in_err-write_file.ensures.writes))
 
 pub loop-place-preserved : goal.loop-place-preserved
@@ -24,7 +23,7 @@ loop-place-preserved g c =
     let so_far = c.loop-place.invariant in
     record {
       so_far =
-          files-next decided c.args.plan.now.names c.args.files.now c.loop-place.place _ _ (at _ _ c.loop-place.self.writer) (at _ _ c.write_file.new.self.writer) c.loop-place-test.true so_far.so_far
+          files-next decided c.args.terms.now.plan.names c.args.terms.now.files c.loop-place.place _ (at _ _ c.loop-place.self.writer) (at _ _ c.write_file.new.self.writer) (subst (λ n. c.loop-place.place < n) c.requires c.loop-place-test.true) so_far.so_far
           (rw so_far.decisions at c.in_ok-write_file.ensures.writes);
       decisions = c.in_ok-write_file.ensures.decisions ∙ so_far.decisions;
     }

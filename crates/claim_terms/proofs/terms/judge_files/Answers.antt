@@ -1,0 +1,16 @@
+use Rattle.std.proofs.lemmas.Result.{err_from_is_err_and}
+use Rattle.claim_terms.proofs.Files.{judged-more, refused-first}
+use Rattle.claim_terms.proofs.terms.judge_files.Goals as goal
+
+pub loop-place-preserved : goal.loop-place-preserved
+loop-place-preserved c =
+    rw c.in_ok-push.ensures.ok
+    (judged-more c.args.plan.now.names c.args.files.now c.loop-place.place _ c.loop-place.judged c.in_ok-judge_file.field-0 c.loop-place-test.true
+    c.loop-place.invariant c.in_ok-judge_file.ensures.ok)
+
+pub returns-in_err-judge_file-clause-fault : goal.returns-in_err-judge_file-clause-fault
+returns-in_err-judge_file-clause-fault c =
+    let p = err_from_is_err_and c.from_residual.result c.from_residual.ensures.1 in
+    rw (p.1, p.2)
+    (refused-first c.args.plan.now.names c.args.files.now c.loop-place.place _ c.loop-place.judged c.in_err-judge_file.field-0.0 c.loop-place-test.true
+    c.loop-place.invariant c.in_err-judge_file.ensures.fault)
