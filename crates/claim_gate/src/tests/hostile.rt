@@ -1,7 +1,7 @@
 //! A gate behind a lock whose calls are each refused memory once, an outcome that is handed in twice, and two threads that offer the same
 //! file.
 ghost use Rattle.std.specs.Prelude.{◌≡◌, IfOk};
-ghost use Rattle.claim_gate.specs.Worked.{IsAtWork, IsCaller, IsSpelled};
+ghost use Rattle.claim_gate.specs.Worked.{IsAtWork, IsCaller};
 
 use super::filing::{offer_at, plan_of, read_all, terms_of};
 use super::in_turn::over_a_ticket_lock;
@@ -52,7 +52,6 @@ fn decide_only<G: Gate>(
     gate: &G,
     pass: G::Pass,
 ) -> Result<G::Pass, AllocError>
-    requires plan { IsSpelled terms.now.plan }
     requires caller { IsCaller (G.has_pass gate.now) G.known terms.now pass }
     ensures caller { IfOk result (IsCaller (G.has_pass gate.now) G.known terms.now) }
 {
@@ -86,7 +85,6 @@ fn run_of_one<S: Section + Drop>(
 where
     S::Value: SerialGate + Drop,
     S::Pass: Send + Drop,
-    requires plan { IsSpelled terms.now.plan }
     requires own { S.has_pass lock pass }
     requires terms { (S.Value.shown (S.seen pass)).terms ≡ terms.now }
 {
@@ -99,9 +97,11 @@ where
     Ok(())
 }
 
-fn by_a_spin_lock(rt: &(impl Abort + Wait), alloc: Global, terms: &Terms) -> Result<(), AllocError>
-    requires { IsSpelled terms.now.plan }
-{
+fn by_a_spin_lock(
+    rt: &(impl Abort + Wait),
+    alloc: Global,
+    terms: &Terms,
+) -> Result<(), AllocError> {
     let (lock, pass) = SpinLock::new(alloc, GateState::new(alloc, terms)?)?;
     run_of_one(rt, alloc, terms, lock, pass)
 }
@@ -110,9 +110,7 @@ fn by_a_ticket_lock(
     rt: &(impl Abort + Wait),
     alloc: Global,
     terms: &Terms,
-) -> Result<(), AllocError>
-    requires { IsSpelled terms.now.plan }
-{
+) -> Result<(), AllocError> {
     let (lock, pass) = TicketLock::new(alloc, GateState::new(alloc, terms)?)?;
     run_of_one(rt, alloc, terms, lock, pass)
 }

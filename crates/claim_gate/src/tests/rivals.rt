@@ -2,7 +2,7 @@
 ghost use Rattle.std.specs.Prelude.{◌≡◌, IfOk};
 ghost use Rattle.claim_terms.specs.Terms.{ForTerms};
 ghost use Rattle.claim_gate.specs.Replies.{IsFiled};
-ghost use Rattle.claim_gate.specs.Worked.{IsCaller, IsSpelled};
+ghost use Rattle.claim_gate.specs.Worked.{IsCaller};
 
 use super::filing::{offer_at, plan_of, terms_of};
 use super::{first_file, plan_text, second_file};
@@ -103,7 +103,6 @@ fn offer_all<R: Wait + Abort, G: Gate>(
     mut pass: G::Pass,
     told: &Told,
 )
-    requires plan { IsSpelled terms.now.plan }
     requires caller { IsCaller (G.has_pass gate.now) G.known terms.now pass }
 {
     let mut place = 0;
@@ -125,7 +124,6 @@ fn offer_by_two<R: Threads + Wait + Abort + Sync, G: Gate + Sync>(
     pass: G::Pass,
     told: &Told,
 )
-    requires plan { IsSpelled terms.now.plan }
     requires caller { IsCaller (G.has_pass gate.now) G.known terms.now pass }
 {
     let (mine, theirs) = gate.split(pass);
@@ -133,10 +131,10 @@ fn offer_by_two<R: Threads + Wait + Abort + Sync, G: Gate + Sync>(
         thread::scope_env(),
         rt,
         |scope|
-            requires { IsSpelled terms.now.plan × IsCaller (G.has_pass gate.now) G.known terms.now mine × IsCaller (G.has_pass gate.now) G.known terms.now theirs }
+            requires { IsCaller (G.has_pass gate.now) G.known terms.now mine × IsCaller (G.has_pass gate.now) G.known terms.now theirs }
         {
             let job = move ||
-                requires { IsSpelled terms.now.plan × IsCaller (G.has_pass gate.now) G.known terms.now theirs }
+                requires { IsCaller (G.has_pass gate.now) G.known terms.now theirs }
             { offer_all(rt, alloc, terms, gate, theirs, told) };
             let started = scope.spawn(job).is_ok();
             offer_all(rt, alloc, terms, gate, mine, told);
@@ -155,7 +153,6 @@ fn rivals_over<S: Section + Drop + Sync, R: Threads + Wait + Abort + Sync>(
 where
     S::Value: SerialGate + Drop + Send + Sync,
     S::Pass: Send + Drop,
-    requires plan { IsSpelled terms.now.plan }
     requires own { S.has_pass lock pass }
     requires terms { (S.Value.shown (S.seen pass)).terms ≡ terms.now }
 {
@@ -173,9 +170,7 @@ fn rivals<R: Threads + Wait + Abort + Sync>(
     rt: &R,
     alloc: Global,
     terms: &Terms,
-) -> Result<(), AllocError>
-    requires { IsSpelled terms.now.plan }
-{
+) -> Result<(), AllocError> {
     let (lock, pass) = TicketLock::new(alloc, GateState::new(alloc, terms)?)?;
     rivals_over(rt, alloc, terms, lock, pass);
     Ok(())
