@@ -28,13 +28,13 @@ fn texts_are_joined_by_a_mark(rt: HostRuntime) -> Result<(), Fail> {
     let copies = duplicates(alloc, values.as_slice())?;
     let mut text = Vec::new(alloc);
     append_joined::<Value, Literals>(&mut text, " ; ", copies.as_slice())?;
-    assert_eq!(rt; text.as_slice(), b"true ; \"a;b\"");
+    assert_eq!(rt; text.as_slice(), b"true ; \"a;b\"".as_slice());
     text.clear();
     append_joined::<Text, Bytes>(
         &mut text,
         ";",
         &[Text::new(alloc, "one")?, Text::new(alloc, "")?],
     )?;
-    assert_eq!(rt; text.as_slice(), b"one;");
+    assert_eq!(rt; text.as_slice(), b"one;".as_slice());
     Ok(())
 }
