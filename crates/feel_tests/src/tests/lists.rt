@@ -10,11 +10,10 @@ fn items_are_listed_in_order(rt: HostRuntime) -> Result<(), Fail> {
     days.insert(0, 5)?;
     assert!(rt; !days.is_empty());
     assert_eq!(rt; days.len(), 2);
-    let mut sum = 0;
-    for day in &days {
-        sum = sum * 10 + day % 10;
-    }
-    assert_eq!(rt; sum, 53);
+    let mut order = (&days).into_iter();
+    assert_eq!(rt; order.next().copied(), Some(5));
+    assert_eq!(rt; order.next().copied(), Some(3));
+    assert!(rt; order.next().is_none());
     assert!(rt; days.iter().any(|day| *day == 3));
     Ok(())
 }
