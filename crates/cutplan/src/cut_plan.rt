@@ -1,7 +1,8 @@
 //! A plan that can be checked, and is valued by masks.
 ghost use Rattle.std.specs.Prelude.{◌≡◌, ◌≤◌, ◌<◌, ◌-◌, ◌+◌, ◌^◌, ℕ, [], false, Some, IfOk, IfErr, IfSome, OnOk, OnSome, length, slice_get};
 ghost use Rattle.dtable.specs.Environment.{answers_of, table_value};
-ghost use Rattle.dtable.specs.HitPolicy.{Gives, by_hit};
+ghost use Rattle.dtable.specs.HitPolicy.{Gives, by_hit, lists};
+ghost use Rattle.dtable.specs.Priority.{all_ranked, in_priority_order};
 ghost use Rattle.cutplan.specs.Check.{cells, gaps, overlaps};
 ghost use Rattle.cutplan.specs.Found.{IsMatchingMask};
 ghost use Rattle.cutplan.specs.Lent.{kept_answers};
@@ -13,13 +14,13 @@ use crate::column::table_regions;
 use crate::fault::CheckFault;
 use crate::found::matching_mask;
 use crate::kept::regions_and_masks;
-use crate::lent::{KeptAnswers, answers_of_tables, lent};
+use crate::lent::{KeptAnswers, answers_of_tables, lent, ranked_in};
 use crate::mask::rules_in;
 use crate::region::Region;
 use crate::{gap, overlap};
 use dtable::{
-    Answers, AnswersByTable, Env, Fault, Inputs, Plan, Sequence, Table, Valuer, answers_by_hit,
-    table_value,
+    Answer, Answers, AnswersByTable, Env, Fault, Hit, Inputs, Plan, Sequence, Table, Valuer,
+    answers_by_hit, lists_of, table_value,
 };
 use std::alloc::{AllocError, Global};
 use std::marker::Model;
@@ -201,8 +202,28 @@ fn value_of_mask<'k>(
     ensures { Gives (by_hit table.now.hit number table.now (rules_in (length table.now.rules) mask.now)) result }
 {
     let rules = rules_in(alloc, mask, table.rules.len())?;
-    match lent(table, kept, rules.as_slice()) {
-        Some(answers) => Ok(Answers::lent(answers)),
-        None => Ok(Answers::made(answers_by_hit(alloc, number, table, rules.as_slice())?)),
+    if let Some(answers) = lent(table, kept, mask, rules.as_slice()) {
+        return Ok(Answers::lent(answers));
     }
+    let answers = match table.hit {
+        Hit::O => in_output_order(alloc, table, kept.order.as_slice(), mask)?,
+        _ => answers_by_hit(alloc, number, table, rules.as_slice())?,
+    };
+    Ok(Answers::made(answers))
+}
+
+// The lists of a table's entries in falling priority, of the rules that a mask has. This is the order of all.
+fn in_output_order(
+    alloc: Global,
+    table: &Table,
+    order: &[usize],
+    mask: &[u64; 4],
+) -> Result<Sequence<Answer>, AllocError>
+    requires ranked { order.now ≡ all_ranked table.now }
+    requires few { length table.now.rules ≤ MASK_RULES }
+    requires words { length mask.now ≡ 4 }
+    ensures { IfOk result (λ answers. answers ≡ lists table.now (in_priority_order table.now (rules_in (length table.now.rules) mask.now))) }
+{
+    let ranked = ranked_in(alloc, table, order, mask)?;
+    lists_of(alloc, table, ranked.as_slice())
 }

@@ -1,16 +1,27 @@
 //! The answers of tables that a plan keeps, so that a value lends them and makes none.
-ghost use Rattle.std.specs.Prelude.{◌≡◌, ◌∷◌, [], ℕ, Ok, IfOk, IfSome, map};
+ghost use Rattle.std.specs.Prelude.{◌≡◌, ◌≤◌, ◌∷◌, [], ℕ, Ok, IfOk, IfSome, find, length, map};
 ghost use Rattle.dtable.specs.HitPolicy.{by_hit};
-ghost use Rattle.cutplan.specs.Lent.{answered, kept_answers};
+ghost use Rattle.dtable.specs.Priority.{all_ranked, in_priority_order};
+ghost use Rattle.cutplan.specs.Lent.{answered, is_in_mask, kept_answers, ordered};
+ghost use Rattle.cutplan.specs.Masks.{has_rule, rules_in};
+ghost use Rattle.cutplan.specs.declared.mask.TheConstants.{MASK_RULES};
 
-use dtable::{Answer, Fault, Hit, Sequence, Table, answers_by_hit, rules_agree};
+use crate::mask::MASK_RULES;
+use crate::sharing::has_rule;
+use dtable::{
+    Answer, Fault, Hit, Sequence, Table, answers_by_hit, in_priority_order, rules_agree,
+    rules_are_ranked_once,
+};
 use std::alloc::{AllocError, Global};
 
-/// What a table answers where no rule matches, and where one rule alone does, for each rule; nothing where that is a fault.
+/// What a table answers where no rule matches, and where one rule alone does, for each rule; nothing where that is a fault. And how
+/// its rules are ranked.
 #[derive(Debug, Drop)]
 pub struct KeptAnswers {
     pub unmatched: Option<Sequence<Answer>>,
     pub alone: Sequence<Option<Sequence<Answer>>>,
+    /// All rules in falling priority, where the policy ranks them.
+    pub order: Sequence<usize>,
 }
 
 /// The kept answers of these tables, in order.
@@ -37,6 +48,7 @@ fn kept_answers(alloc: Global, table: &Table) -> Result<KeptAnswers, AllocError>
     Ok(KeptAnswers {
         unmatched: answered(alloc, table, &[])?,
         alone,
+        order: ordered(alloc, table)?,
     })
 }
 
@@ -58,15 +70,45 @@ fn answered(
     }
 }
 
-/// The answers of a table where these rules match, if they are kept: a table's number is told in faults alone.
-pub fn lent<'k>(table: &Table, kept: &'k KeptAnswers, rules: &[usize]) -> Option<&'k [Answer]>
-    requires { kept.now ≡ kept_answers table.now }
+// All rules in falling priority, where the policy ranks them; none elsewhere.
+fn ordered(alloc: Global, table: &Table) -> Result<Sequence<usize>, AllocError>
+    ensures { IfOk result (λ order. order ≡ ordered table.now) }
+{
+    match table.hit {
+        Hit::P => all_ranked(alloc, table),
+        Hit::O => all_ranked(alloc, table),
+        _ => Ok(Sequence::new(alloc)),
+    }
+}
+
+fn all_ranked(alloc: Global, table: &Table) -> Result<Sequence<usize>, AllocError>
+    ensures { IfOk result (λ order. order ≡ all_ranked table.now) }
+{
+    let mut all = Sequence::new(alloc);
+    for rule in 0..table.rules.len() {
+        all.push(rule)?;
+    }
+    in_priority_order(alloc, table, all.as_slice())
+}
+
+/// The answers of a table where these rules match, which the mask has, if they are kept: a table's number is told in faults alone.
+pub fn lent<'k>(
+    table: &Table,
+    kept: &'k KeptAnswers,
+    mask: &[u64; 4],
+    rules: &[usize],
+) -> Option<&'k [Answer]>
+    requires kept { kept.now ≡ kept_answers table.now }
+    requires few { length table.now.rules ≤ MASK_RULES }
+    requires words { length mask.now ≡ 4 }
+    requires rules { rules.now ≡ rules_in (length table.now.rules) mask.now }
     ensures { IfSome result (λ answers. (number : ℕ) → by_hit table.now.hit number table.now rules.now ≡ Ok answers.now) }
 {
     let found = if rules.is_empty() {
         &kept.unmatched
     } else {
-        kept.alone.as_slice().get(stand_in(table, rules)?)?
+        let rule = stand_in(table, kept.order.as_slice(), mask, rules)?;
+        kept.alone.as_slice().get(rule)?
     };
     match found {
         Some(answers) => Some(answers.as_slice()),
@@ -74,15 +116,21 @@ pub fn lent<'k>(table: &Table, kept: &'k KeptAnswers, rules: &[usize]) -> Option
     }
 }
 
-// A rule that alone answers what these do together, if there is one.
-fn stand_in(table: &Table, rules: &[usize]) -> Option<usize>
+// A rule that alone answers what these do together, if there is one. The mask has them; this is the order of all.
+fn stand_in(table: &Table, order: &[usize], mask: &[u64; 4], rules: &[usize]) -> Option<usize>
+    requires order { order.now ≡ ordered table.now }
+    requires few { length table.now.rules ≤ MASK_RULES }
+    requires words { length mask.now ≡ 4 }
+    requires rules { rules.now ≡ rules_in (length table.now.rules) mask.now }
     ensures { IfSome result (λ rule. (number : ℕ) → by_hit table.now.hit number table.now rules.now ≡ by_hit table.now.hit number table.now (rule ∷ [])) }
 {
+    rules_are_ranked_once();
     match rules {
         [] => None,
         [rule] => Some(*rule),
         [rule, others @ ..] => match table.hit {
             Hit::F => Some(*rule),
+            Hit::P => first_in(order, mask),
             Hit::A => {
                 if rules_agree(table, *rule, others) {
                     Some(*rule)
@@ -93,4 +141,46 @@ fn stand_in(table: &Table, rules: &[usize]) -> Option<usize>
             _ => None,
         },
     }
+}
+
+// The first of these rules that the mask has.
+fn first_in(order: &[usize], mask: &[u64; 4]) -> Option<usize>
+    requires { length mask.now ≡ 4 }
+    ensures { result ≡ find (is_in_mask mask.now) order.now }
+{
+    for rule in order {
+        if is_in_mask(mask, *rule) {
+            return Some(*rule);
+        }
+    }
+    None
+}
+
+/// Those of all rules in falling priority that the mask has.
+pub fn ranked_in(
+    alloc: Global,
+    table: &Table,
+    order: &[usize],
+    mask: &[u64; 4],
+) -> Result<Sequence<usize>, AllocError>
+    requires ranked { order.now ≡ all_ranked table.now }
+    requires few { length table.now.rules ≤ MASK_RULES }
+    requires words { length mask.now ≡ 4 }
+    ensures { IfOk result (λ ranked. ranked ≡ in_priority_order table.now (rules_in (length table.now.rules) mask.now)) }
+{
+    rules_are_ranked_once();
+    let mut ranked = Sequence::new(alloc);
+    for rule in order {
+        if is_in_mask(mask, *rule) {
+            ranked.push(*rule)?;
+        }
+    }
+    Ok(ranked)
+}
+
+fn is_in_mask(mask: &[u64; 4], rule: usize) -> bool
+    requires { length mask.now ≡ 4 }
+    ensures { result ≡ is_in_mask mask.now rule }
+{
+    rule < MASK_RULES && has_rule(mask, rule)
 }

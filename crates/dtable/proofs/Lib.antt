@@ -7,6 +7,7 @@ pub mod OnlyOrder
 pub mod OutputPlaces
 pub mod PlanLimits
 pub mod PriorityOrder
+pub mod RankedOnce
 pub mod ReadNames
 pub mod ReadOnce
 pub mod ReadParts

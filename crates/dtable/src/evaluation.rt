@@ -19,7 +19,7 @@ use crate::table::Table;
 use crate::valuer::Valuer;
 use feel_tests::Sequence;
 pub use lists::lists_of;
-pub use priority::{in_priority_order, rules_have_one_priority_order};
+pub use priority::{in_priority_order, rules_are_ranked_once, rules_have_one_priority_order};
 pub use single::rules_agree;
 use std::alloc::Global;
 

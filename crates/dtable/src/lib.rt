@@ -31,8 +31,8 @@ pub use demands::has_kind;
 pub use environment::{Answer, Env};
 pub use evaluation::matching::value_read;
 pub use evaluation::{
-    answers_by_hit, in_priority_order, lists_of, rules_agree, rules_have_one_priority_order,
-    table_value,
+    answers_by_hit, in_priority_order, lists_of, rules_agree, rules_are_ranked_once,
+    rules_have_one_priority_order, table_value,
 };
 pub use fault::Fault;
 pub use feel_tests::Sequence;
