@@ -14,11 +14,12 @@ use Rattle.journal.specs.Terms.{Terms, claims_of}
 use Rattle.journal.specs.Events.{is_take, taken, IsJob}
 use Rattle.journal.specs.Gate.{GateAt, Continues, TakeReply, Takes, LeadsTo}
 use Rattle.journal.specs.Laws.{JobsStay}
+use Rattle.journal.specs.Leading.{leads_further}
 use Rattle.journal.specs.declared.event.Event.{Event}
 use Rattle.journal.specs.declared.event.Event.TheVariants.{Take}
 use Rattle.claim_gate.specs.Parts.{GateParts, at}
 use Rattle.claim_gate.specs.Replies.{HasClaims, IsWorkOf}
-use Rattle.claim_gate.specs.Shared.{Known, Went}
+use Rattle.claim_gate.specs.Shared.{HadSection, Known, Went}
 use Rattle.claim_gate.specs.Worked.{IsReader, IsAtWork, WorkStays}
 use Rattle.claim_gate.specs.declared.job.Job.{Job}
 use Rattle.claim_gate.specs.declared.reply.Taken.TheVariants.{Work}
@@ -157,3 +158,10 @@ stays_at_work law earlier later job leads work = goes_on law earlier later leads
 pub work_taken : JobsStay → (old new : GateParts) (job : Job) → ForTerms old.terms (λ T. Takes (at T old) (TakeReply.Work job.position job.claim job.acc) (at T new))
     → IsWorkOf old new (Work job) → IsAtWork new job
 work_taken law old new job went work = at_work law old new job (λ T is. (went T is).2.job) work
+
+-- a job that a section has handed back is in work still
+pub back_at_work : JobsStay → (before after : Known) (given back : Job) → HadSection before after → back ≡ given → IsAtWork before.seen given
+    → IsAtWork after.seen back
+back_at_work law before after given back section same work =
+    subst (IsAtWork after.seen) (sym same)
+    (stays_at_work law before.seen after.seen given (leads_further before.seen after.found after.seen section.fresh section.grown) work)

@@ -11,7 +11,7 @@ use std::sync::Wait;
 use std::test::Fail;
 use std::thread::Threads;
 
-mod hostile;
+pub mod hostile;
 mod meeting;
 mod stopping;
 pub mod watched;

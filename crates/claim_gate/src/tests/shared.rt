@@ -179,6 +179,7 @@ pub fn record<G: Gate>(
     ensures caller { IfOk result (IsCaller (G.has_pass gate.now) G.known terms.now) }
     ensures leads { IfOk result (λ p. LeadsTo (G.known pass).seen (G.known p).seen) }
 {
+    jobs_stay();
     let outcome = settled(rt, alloc, terms, &job)?;
     let given = (job.position, outcome.paid);
     let Ok((reply, pass)) = gate.finish(rt, pass, job, outcome) else {

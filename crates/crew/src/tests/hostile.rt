@@ -17,14 +17,14 @@ use turn_lock::{Section, TicketLock};
 
 /// What came of a run on a watched gate.
 #[derive(Clone, Copy)]
-struct Met {
+pub struct Met {
     /// Its fault, if there is one.
-    fault: Option<RunFault>,
+    pub fault: Option<RunFault>,
     /// How many `take`s there were at once, and how many `offer`s.
-    takes: u64,
-    offers: u64,
+    pub takes: u64,
+    pub offers: u64,
     /// How many outcomes came back.
-    handed_back: u64,
+    pub handed_back: u64,
 }
 
 // A run on a watched gate.
@@ -56,7 +56,7 @@ where
     }
 }
 
-fn watched<R: Threads + Wait + Abort + Sync>(
+pub fn watched<R: Threads + Wait + Abort + Sync>(
     rt: &R,
     alloc: Global,
     terms: &Terms,
@@ -103,21 +103,12 @@ fn check_finished<R: Threads + Wait + Abort + Sync>(rt: &R, alloc: Global, terms
     assert!(rt; watched(rt, alloc, terms, 2, watch).fault.is_none());
 }
 
-// Each outcome that is handed in behind a stop comes back with its job, and the run is stopped.
-fn check_stopped_outcomes<R: Threads + Wait + Abort + Sync>(rt: &R, alloc: Global, terms: &Terms) {
-    let mut watch = nothing();
-    watch.stops_outcomes = true;
-    let met = watched(rt, alloc, terms, 2, watch);
-    assert!(rt; met.fault == Some(RunFault::Stopped) && met.handed_back > 0);
-}
-
 #[test]
-fn runs_that_are_called_off_late_or_in_the_midst(rt: HostRuntime) {
+fn runs_that_others_call_off(rt: HostRuntime) {
     let plan = plan(&rt, rt.alloc());
     let files = [file_one(), file_two()];
     let terms = terms(&rt, rt.alloc(), &plan, &files);
     check_finished(&rt, rt.alloc(), &terms);
-    check_stopped_outcomes(&rt, rt.alloc(), &terms);
     check_worn(&rt, rt.alloc(), &terms);
     for _ in 0..20 {
         check_third_caller(&rt, rt.alloc(), &terms);
