@@ -84,3 +84,8 @@ pub placed_through : {W : Type 0} (contents : W → Option (List ℕ)) (IsText :
 placed_through contents IsText first second third begun held gone ended answer status kept writes told becomes same_begun same_gone empty is_done =
     placed_done IsText first second third (contents held) (contents gone) answer status (subst (λ w. BeginsEmpty first (contents w)) (sym same_begun) empty) kept writes told
     (λ done. subst (λ w. Becomes second third (contents w)) same_gone (becomes done)) is_done
+
+-- a text that was put into a place is one that the command may print
+pub put_is_text : (IsText : List ℕ → Type 0) (first third : Option (List ℕ)) → PutsText IsText first third → HasText IsText
+put_is_text IsText None third put = put
+put_is_text IsText (Some old) third (text, is_text, stands) = record { text = text; is_text = is_text }

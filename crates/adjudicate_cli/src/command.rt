@@ -35,6 +35,9 @@ pub const FILE: &str = "FILE";
 /// The name of the file that the results go to.
 pub const OUTPUT: &str = "OUTPUT";
 
+/// The name of the flag for a line of what a run did.
+pub const SUMMARY: &str = "SUMMARY";
+
 /// What stands for standard input, in place of a file's name, and for standard output.
 pub const STREAM: &str = "-";
 
@@ -118,6 +121,10 @@ fn run_command<'a>(alloc: Global) -> Result<Command<'a>, Error> {
         .value_parser(ValueParser::unsigned(1, WORKERS_LIMIT as u64))
         .default_value("4")
         .help("How many threads decide claims, from 1 to 64");
+    let summary = Arg::new(alloc, SUMMARY)
+        .long("summary")
+        .action(ArgAction::SetTrue)
+        .help("Say on standard error what became of the records, as on a terminal");
     let files = Arg::new(alloc, FILE)
         .help("The providers' files of claims, as CSV")
         .required(true)
@@ -131,6 +138,7 @@ fn run_command<'a>(alloc: Global) -> Result<Command<'a>, Error> {
         .arg(cutoff)?
         .arg(workers)?
         .arg(output_argument(alloc))?
+        .arg(summary)?
         .arg(files)?;
     Ok(run)
 }

@@ -6,7 +6,7 @@ ghost use Rattle.adjudicate.specs.RunStop.{IsRunReason};
 ghost use Rattle.adjudicate.specs.RunText.{IsRemittance, run_texts};
 ghost use Rattle.adjudicate_cli.specs.Ends.{HasText, IsStatusOfRefusal, PutsText};
 
-use crate::command::{BALANCES, CUTOFF, FILE, PLAN, STREAM, WORKERS};
+use crate::command::{BALANCES, CUTOFF, FILE, PLAN, STREAM, SUMMARY, WORKERS};
 use crate::files::{plan_of, read_or_tell};
 use crate::output::{output_of, placed, unwritable};
 use crate::pulse::Pulse;
@@ -21,6 +21,7 @@ use std::rt::Files;
 use std::sync::Wait;
 use std::thread::Threads;
 use std::time::Clock;
+use summary::{Stream, Tallied};
 use whole_file::Place;
 
 /// The texts of a run, in the order in which they are read.
@@ -40,7 +41,7 @@ where
 {
     let pulse = if is_watched { Pulse::start(rt) } else { None };
     let status = match texts_of(rt, matches) {
-        Ok(texts) => settle(rt, matches, &texts),
+        Ok(texts) => settle(rt, matches, &texts, is_watched),
         Err(status) => status,
     };
     if let Some(pulse) = pulse {
@@ -50,7 +51,7 @@ where
 }
 
 /// Settles the claims of the texts.
-fn settle<R>(rt: &R, matches: &ArgMatches<'_>, texts: &Texts) -> u8
+fn settle<R>(rt: &R, matches: &ArgMatches<'_>, texts: &Texts, is_watched: bool) -> u8
 where
     R: Files + Print + Eprint + AllocGlobal + Threads + Wait + Sync,
     ensures known { result ≤ RESOURCE }
@@ -68,11 +69,34 @@ where
         cutoff: matches.get_one::<u64>(CUTOFF),
         workers,
     };
+    let has_summary = is_watched || matches.get_flag(SUMMARY);
     match output_of(rt, matches) {
+        Ok(Some(file)) if has_summary => run_tallied(rt, input, file),
         Ok(Some(mut file)) => run_into(rt, input, &mut file),
+        Ok(None) if has_summary => run_tallied(rt, input, Stream::new(rt)),
         Ok(None) => run(rt, input),
         Err(status) => status,
     }
+}
+
+/// Runs into a place, and tells what became of the records.
+#[tactic(auto, using(crate::proofs::Ends::put_is_text))]
+fn run_tallied<R, P: Place + Drop>(rt: &R, input: RunInput, place: P) -> u8
+where
+    R: Eprint + AllocGlobal + Threads + Wait + Sync,
+    ensures known { result ≤ RESOURCE }
+    ensures done { result ≡ DONE → HasText (IsRemittance (run_texts input.entry)) }
+    ensures refused { result ≢ DONE → IsStatusOfRefusal (IsRunReason (run_texts input.entry) input.entry.workers) result }
+{
+    let mut tallied = Tallied::new(rt.alloc(), place);
+    let status = run_into(rt, input, &mut tallied);
+    if status == DONE {
+        // Where there is no memory for the lines, the remittance stands all the same.
+        if let Ok(lines) = tallied.tally().lines(rt.alloc()) {
+            let _ = rt.eprint(lines.as_str());
+        }
+    }
+    status
 }
 
 /// The command `run` over its texts.
