@@ -15,7 +15,6 @@
 #![tactic(auto)]
 
 mod check;
-mod literals;
 mod output;
 mod run;
 mod stop;
