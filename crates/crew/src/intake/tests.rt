@@ -7,7 +7,7 @@ ghost use Rattle.crew.specs.Sharing.{HasTaken};
 
 use super::{offer, open};
 use crate::tests::watched::{WatchedGate, nothing};
-use crate::tests::{both_files, comes_to, file_one, file_two, plan, terms};
+use crate::tests::{both_files, comes_to, plan, terms};
 use crate::{RunFault, run_with};
 use claim_gate::{Gate, GateState, LockedGate, Offer, SerialGate, Terms};
 use intake_csv::{Row, given_row_has_the_claim, reader_begins_with_all_rows};
@@ -17,6 +17,7 @@ use std::process::Abort;
 use std::sync::Wait;
 use std::thread::Threads;
 use turn_lock::{Section, SpinLock};
+use worked_examples::{first_file, second_file};
 
 // Offers the first provider's claim at a place, which is accepted.
 fn accept<R: Wait + Abort, G: Gate>(
@@ -143,7 +144,7 @@ fn goes_on<R: Threads + Wait + Abort + Sync>(
 #[test]
 fn intakes_go_on_where_others_are(rt: HostRuntime) {
     let plan = plan(&rt, rt.alloc());
-    let files = [file_one(), file_two()];
+    let files = [first_file(), second_file()];
     let terms = terms(&rt, rt.alloc(), &plan, &files);
     assert!(rt; goes_on(&rt, rt.alloc(), &terms).is_ok());
 }
@@ -161,7 +162,7 @@ fn is_stopped<R: Threads + Wait + Sync>(
 #[test]
 fn a_run_on_a_stopped_gate(rt: HostRuntime) {
     let plan = plan(&rt, rt.alloc());
-    let files = [file_one(), file_two()];
+    let files = [first_file(), second_file()];
     let terms = terms(&rt, rt.alloc(), &plan, &files);
     assert!(rt; is_stopped(&rt, rt.alloc(), &terms) == Ok(true));
 }

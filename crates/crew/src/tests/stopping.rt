@@ -2,7 +2,7 @@
 
 ghost use Rattle.std.specs.Prelude.{◌≡◌};
 
-use super::{file_one, file_two, plan, terms};
+use super::{plan, terms};
 use crate::{RunFault, run_with};
 use claim_gate::{
     Accepted, Counts, EndFault, Ended, FinishFault, Gate, GateState, Job, LockedGate, Offer,
@@ -14,6 +14,7 @@ use std::alloc::{AllocError, Global};
 use std::sync::Wait;
 use std::thread::Threads;
 use turn_lock::{Section, TicketLock, Worn};
+use worked_examples::{first_file, second_file};
 
 /// A gate that is stopped before each outcome is handed in, by a pass split off the caller's.
 #[derive(Drop)]
@@ -127,7 +128,7 @@ fn stops<R: Threads + Wait + Sync>(
 #[test]
 fn a_work_s_finish_is_stopped(rt: HostRuntime) {
     let plan = plan(&rt, rt.alloc());
-    let files = [file_one(), file_two()];
+    let files = [first_file(), second_file()];
     let terms = terms(&rt, rt.alloc(), &plan, &files);
     assert!(rt; stops(&rt, rt.alloc(), &terms) == Ok(true));
 }
