@@ -25,7 +25,7 @@ use Rattle.dtable.specs.Plan.{PlanParts}
 use Rattle.settlement.specs.declared.acc.Acc.{Acc}
 use Rattle.settlement.specs.declared.claim.Claim.{Claim}
 use Rattle.settlement.specs.declared.role.Role.{Role}
-use Rattle.settlement.specs.declared.terms.Terms.{Terms}
+use Rattle.settlement.specs.declared.terms.RoleTerms.{RoleTerms}
 use Rattle.settlement.specs.Given.{given_by, values_given}
 use Rattle.settlement.specs.Reads.{source_reads, roles_read, is_read, Serves}
 use Rattle.settlement.specs.Roles.{value_of, is_true_flag, terms, remarks_of}
@@ -163,7 +163,7 @@ roles_alike :
 roles_alike roles billed acc given other answers same =
     let remarks = remarks_of answers roles.remarks in
     ap (λ (cover : Option Value). if is_true_flag cover then by_terms billed acc remarks (terms given answers roles) else denied remarks) same.cover
-    ∙ ap (λ (found : Result Terms Role). if is_true_flag (value_of other answers roles.cover) then by_terms billed acc remarks found else denied remarks)
+    ∙ ap (λ (found : Result RoleTerms Role). if is_true_flag (value_of other answers roles.cover) then by_terms billed acc remarks found else denied remarks)
     (terms_alike given other answers roles same)
 
 tables_alike :

@@ -3,7 +3,7 @@
 ghost use Rattle.std.specs.Prelude.{◌≡◌, ◌≤◌, ◌+◌, ◌<◌, ◌^◌, length, slice_get, Some, IfOk};
 ghost use Rattle.journal.specs.Terms.{claims_of};
 ghost use Rattle.claim_terms.specs.Terms.{ForTerms};
-ghost use Rattle.crew.specs.Sharing.{HasTaken};
+ghost use Rattle.crew.specs.Sharing.{HasAccepted};
 
 use super::{offer, open};
 use crate::tests::watched::{WatchedGate, nothing};
@@ -31,11 +31,11 @@ fn accept<R: Wait + Abort, G: Gate>(
     requires own { G.has_pass gate.now pass }
     requires terms { (G.known pass).seen.terms ≡ terms.now }
     requires filed { ForTerms terms.now (λ T. slice_get (claims_of T 1) place ≡ Some claim) }
-    requires taken { HasTaken (G.known pass).seen 1 place }
+    requires taken { HasAccepted (G.known pass).seen 1 place }
     requires few { place < 2 }
     ensures own { G.has_pass gate.now result }
     ensures terms { (G.known result).seen.terms ≡ terms.now }
-    ensures taken { HasTaken (G.known result).seen 1 (place + 1) }
+    ensures taken { HasAccepted (G.known result).seen 1 (place + 1) }
 {
     let offered = Offer {
         provider: 1,
