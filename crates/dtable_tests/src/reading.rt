@@ -1,10 +1,11 @@
 //! The plan reader: a plan with every key, broken plans with the fault of each, and each prefix of a plan.
-use crate::plans::{HEALTH, PLAN, ROLES, SCORE};
+use crate::plans::{PLAN, ROLES, SCORE};
 use dtable::{Hit, InputData, PlanCause, Source, Table, read_plan};
 use feel_tests::Kind;
 use std::alloc::Global;
 use std::process::Abort;
 use std::test::Fail;
+use worked_examples::health_plan;
 
 /// The names of the plan with every key, and their kinds.
 const NAMES: [(&str, Kind); 9] = [
@@ -137,7 +138,7 @@ fn faults_of_roles(rt: HostRuntime) -> Result<(), Fail> {
 
 #[test]
 fn each_prefix_is_answered(rt: HostRuntime) -> Result<(), Fail> {
-    let bytes = HEALTH.as_bytes();
+    let bytes = health_plan().as_bytes();
     for length in 0..=bytes.len() {
         if let Err(fault) = read_plan(rt.alloc(), &bytes[..length]) {
             assert!(rt;
