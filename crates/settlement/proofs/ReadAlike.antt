@@ -18,7 +18,7 @@ use Rattle.dtable.specs.declared.table.Origin.TheVariants.{Given, Earlier}
 use Rattle.dtable.specs.declared.table.Rule.{Rule}
 use Rattle.dtable.specs.declared.table.Table.{Table}
 use Rattle.dtable.specs.Environment.{Environment, answers_of, and_then, env, table_value, inside, number_behind}
-use Rattle.dtable.specs.HitPolicy.{Outcome, by_hit}
+use Rattle.dtable.specs.HitPolicy.{TableValue, by_hit}
 use Rattle.dtable.specs.Inputs.{value_at, reads, needs}
 use Rattle.dtable.specs.Matching.{value_read, holds_of, cells_hold, rule_matches, matching, is_outside, first_outside}
 use Rattle.dtable.specs.Plan.{PlanParts}
@@ -101,7 +101,7 @@ table_alike given other earlier t alike =
     ∙ ap (λ rules. inside (first_outside other earlier t) (number_behind earlier) (by_hit t.hit (number_behind earlier) t rules)) rules
 
 next_alike :
-    {X : Type 0} (here : Outcome) (next more : List Answer → Result X Fault) → ((answers : List Answer) → next answers ≡ more answers)
+    {X : Type 0} (here : TableValue) (next more : List Answer → Result X Fault) → ((answers : List Answer) → next answers ≡ more answers)
     → and_then here next ≡ and_then here more
 next_alike (Ok answers) next more same = same answers
 next_alike (Err fault) next more same = refl
@@ -116,7 +116,7 @@ answers_alike given other earlier (t ∷ ts) alike =
     let more = λ (answers : List Answer). answers_of other (earlier ++ answers ∷ []) ts in
     let rest : (answers : List Answer) → next answers ≡ more answers =
     λ answers. answers_alike given other (earlier ++ answers ∷ []) ts (λ place e. alike place (or_right (any_reads t.inputs place) (needs ts place) e)) in
-    ap (λ (value : Outcome). and_then value next) here ∙ next_alike (table_value other earlier t) next more rest
+    ap (λ (value : TableValue). and_then value next) here ∙ next_alike (table_value other earlier t) next more rest
 
 -- a plan's tables answer the same
 env_alike : (plan : PlanParts) (given other : List Slot) → AlikeWhere (needs plan.tables) given other → env plan given ≡ env plan other
