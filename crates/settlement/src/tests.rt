@@ -113,7 +113,7 @@ fn told(alloc: Global, outcome: &Outcome, before: Acc) -> Result<String, AllocEr
     let mut told = String::new(alloc);
     write!(told, "{:?}", outcome.verdict)?;
     tell_amounts(&mut told, outcome)?;
-    for remark in outcome.remarks.as_slice() {
+    for remark in &outcome.remarks {
         write!(told, " {}", remark.as_str())?;
     }
     tell_left(&mut told, after(before, outcome))?;
