@@ -3,14 +3,14 @@ use Rattle.std.specs.Prelude.{◌≡◌, ℕ, List, [], ◌∷◌, length, map, 
 use Rattle.std.specs.List.{range_with_len}
 use Rattle.dtable.specs.declared.environment.Answer.{Answer}
 use Rattle.dtable.specs.declared.table.Table.{Table}
-use Rattle.dtable.specs.HitPolicy.{Outcome, by_hit}
+use Rattle.dtable.specs.HitPolicy.{TableValue, by_hit}
 use Rattle.dtable.specs.Plan.{PlanParts}
 use Rattle.cutplan.specs.declared.lent.KeptAnswers.{KeptAnswers}
 use Rattle.cutplan.specs.declared.region.Region.{Region}
 use Rattle.cutplan.specs.Found.{IsCut}
 
 -- the answers of an outcome that is no fault
-abbrev pub answers_in : Outcome → Option (List Answer)
+abbrev pub answers_in : TableValue → Option (List Answer)
 answers_in (Ok answers) = Some answers
 answers_in (Err fault) = None
 
