@@ -24,14 +24,14 @@ use Rattle.dtable.specs.declared.table.Output.{Output}
 use Rattle.dtable.specs.declared.table.Rule.{Rule}
 use Rattle.dtable.specs.declared.table.Table.{Table}
 use Rattle.dtable.specs.Environment.{Environment, env, answers_of, and_then, inside, number_behind, table_value, answer_in, answer_of, or_else}
-use Rattle.dtable.specs.HitPolicy.{Outcome, ones, lists, column_of, unmatched, unique, any, agree, of_rule, numbers_of, number_answer, aggregated, count_units, counted, by_hit}
+use Rattle.dtable.specs.HitPolicy.{TableValue, ones, lists, column_of, unmatched, unique, any, agree, of_rule, numbers_of, number_answer, aggregated, count_units, counted, by_hit}
 use Rattle.dtable.specs.Matching.{matching, rule_matches, cells_hold, first_outside}
 use Rattle.dtable.specs.Plan.{PlanParts, IsPlan, rule_fits, meets_demands, same_kind}
 use Rattle.dtable.specs.Priority.{entries_of, highest, in_priority_order, precedes}
 use Rattle.adjudicate.specs.ValueText.{AreAnswered}
 
 -- these answers, as the value of a table
-abbrev value_of : List Answer → Outcome
+abbrev value_of : List Answer → TableValue
 value_of answers = Ok answers
 
 -- the answers of an environment, as the value of its tables
@@ -168,7 +168,7 @@ by_hit_whole hits.Min number t rules answers whole demand same = aggregated_whol
 by_hit_whole hits.Max number t rules answers whole demand same = aggregated_whole number t (reduce int_max (numbers_of t rules)) answers (one_output t (are_numbers t) demand) same
 by_hit_whole hits.Count number t rules answers whole demand same = counted_whole number t rules answers (eqb-true (length t.outputs) 1 demand) same
 
-inside_value : (outside : Option ℕ) (number : ℕ) (value : Outcome) (answers : List Answer) → inside outside number value ≡ Ok answers → value ≡ Ok answers
+inside_value : (outside : Option ℕ) (number : ℕ) (value : TableValue) (answers : List Answer) → inside outside number value ≡ Ok answers → value ≡ Ok answers
 inside_value None number value answers same = same
 inside_value (Some column) number value answers same = absurd (cc)
 
@@ -184,7 +184,7 @@ AllWhole [] [] = Unit {0}
 AllWhole (t ∷ ts) (answers ∷ more) = IsWhole t answers × AllWhole ts more
 AllWhole _ _ = ⊥
 
-step_value : {X : Type 0} (outcome : Outcome) (next : List Answer → Result X Fault) (x : X) → and_then outcome next ≡ Ok x → (answers : List Answer) × (outcome ≡ Ok answers) × (next answers ≡ Ok x)
+step_value : {X : Type 0} (outcome : TableValue) (next : List Answer → Result X Fault) (x : X) → and_then outcome next ≡ Ok x → (answers : List Answer) × (outcome ≡ Ok answers) × (next answers ≡ Ok x)
 step_value (Ok answers) next x same = (answers, refl, same)
 step_value (Err fault) next x same = absurd (cc)
 

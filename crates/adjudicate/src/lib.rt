@@ -15,7 +15,6 @@
 #![tactic(auto)]
 
 mod check;
-mod literals;
 mod output;
 mod run;
 mod stop;
@@ -25,8 +24,8 @@ mod value;
 
 pub use check::do_check;
 pub use crew::WORKERS_LIMIT;
-pub use dtable::PLAN_LIMIT_BYTES;
+pub use dtable::{Name, PLAN_LIMIT_BYTES};
 pub use intake_csv::FILE_LIMIT_BYTES;
 pub use run::{RunInput, do_run};
-pub use stop::{ArgumentFault, LINE_LIMIT_BYTES, MissingName, Stop};
+pub use stop::{ArgumentFault, LINE_LIMIT_BYTES, Stop};
 pub use value::do_value;

@@ -4,15 +4,13 @@ ghost use Rattle.std.specs.Prelude.{◌≡◌, ◌<◌, ◌≤◌, take};
 ghost use Rattle.adjudicate.specs.Stop.{IsStopOfArgument, argument_fault_number, status_of, stop_line};
 
 pub mod line;
-pub mod missing;
 
 use claim_terms::TermsFault;
 use crew::RunFault;
-use dtable::{Fault, PlanCause, PlanFault};
+use dtable::{Fault, Name, PlanCause, PlanFault};
 use feel_tests::{CellCause, CellFault};
 pub use line::LINE_LIMIT_BYTES;
 use line::Line;
-pub use missing::MissingName;
 use remit::{WriteCause, WriteFault};
 use std::alloc::{AllocError, AllocFailed};
 use thiserror::Error;
@@ -60,7 +58,7 @@ pub enum Stop {
     Argument { number: usize, fault: ArgumentFault },
     /// A table reads this name, and no argument gives it.
     #[error("a value is missing")]
-    Missing(MissingName),
+    Missing(Name),
     /// The tables have no value at what is given.
     #[error("tables: {0}")]
     Tables(Fault),

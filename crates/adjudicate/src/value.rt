@@ -10,9 +10,9 @@ pub mod arguments;
 pub mod text;
 
 use crate::output::put_text;
-use crate::stop::{MissingName, Stop};
+use crate::stop::Stop;
 use arguments::{first_missing, read_arguments};
-use dtable::{Plan, Valuer, read_plan};
+use dtable::{Name, Plan, Valuer, read_plan};
 use fixpoint::Out;
 use std::alloc::Global;
 use std::io::Write;
@@ -57,7 +57,7 @@ fn plan_text(alloc: Global, plan: &Plan, arguments: &[&str]) -> Result<Vec<u8>, 
 {
     let inputs = read_arguments(alloc, plan, arguments)?;
     if let Some(input) = first_missing(plan, &inputs) {
-        return Err(Stop::Missing(MissingName::new(alloc, input.name.as_str())?));
+        return Err(Stop::Missing(Name::new(alloc, input.name.as_str())?));
     }
     let values = plan.value(alloc, &inputs)?;
     Ok(value_lines(alloc, plan.tables(), &values)?)

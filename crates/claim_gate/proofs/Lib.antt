@@ -1,3 +1,4 @@
+pub mod TestWords
 pub mod Tallies
 pub mod Journals
 pub mod Providers

@@ -19,67 +19,10 @@ use dtable::{Plan, read_plan};
 use std::alloc::Global;
 use std::process::Abort;
 use std::test::Fail;
-
-/// A plan with a deductible, a copay, a coinsurance and a limit.
-const PLAN: &[u8] = br#"version = 1
-fields = [{name = "code", kind = "text"}]
-
-[roles]
-cover = "covered"
-fee = "fee"
-deductible = "50"
-copay = "10"
-rate = "0.2"
-oop_max = "60"
-remarks = "note"
-
-[[tables]]
-inputs = [{name = "code"}]
-outputs = [{name = "covered", kind = "flag"}, {name = "fee", kind = "number"}]
-rules = [
-  {when = ['"A"'], then = ['true', '100']},
-  {when = ['"B"'], then = ['true', '40']},
-  {when = ['"X"'], then = ['false', '0']},
-]
-
-[[tables]]
-hit = "R"
-inputs = [{name = "billed"}, {name = "met"}]
-outputs = [{name = "note", kind = "text"}]
-rules = [
-  {when = ['>100', '-'], then = ['"OVER"']},
-  {when = ['-', '>=50'], then = ['"MET"']},
-]
-"#;
-
-const FIRST_FILE: &[u8] = b"claim,member,service,billed,code
-c1,M1,2024-01-05,120.00,A
-c2,M1,2024-02-01,40.00,B
-c3,M1,2024-02-02,40.00,Z
-c4,M1,2024-03-01,100.00,A
-";
-
-const SECOND_FILE: &[u8] = b"claim,member,service,billed,code
-d1,M2,2024-01-09,30.00,B
-d2,M2,2024-01-10,9.999,B
-d3,M2,2024-01-11,10.00,X
-";
-
-// A function for each text: what calls it is proved without the text.
-fn plan_text() -> &'static [u8] {
-    PLAN
-}
-
-fn first_file() -> &'static [u8] {
-    FIRST_FILE
-}
-
-fn second_file() -> &'static [u8] {
-    SECOND_FILE
-}
+use worked_examples::{first_file, health_plan, second_file};
 
 fn plan(rt: &impl Abort, alloc: Global) -> Plan {
-    read_plan(alloc, plan_text()).expect(rt, "a plan")
+    read_plan(alloc, health_plan().as_bytes()).expect(rt, "a plan")
 }
 
 // Whether the answer of `take` is that nothing is left to do.
@@ -152,7 +95,7 @@ fn a_stopped_gate_hands_nothing_out(rt: HostRuntime) -> Result<(), Fail> {
 
 #[test]
 fn a_gate_is_made_or_no_memory(rt: HostRuntime) -> Result<(), Fail> {
-    let Ok(plan) = read_plan(rt.alloc(), plan_text()) else {
+    let Ok(plan) = read_plan(rt.alloc(), health_plan().as_bytes()) else {
         return Ok(());
     };
     let files = [first_file(), second_file()];

@@ -12,7 +12,7 @@ use Rattle.claim_terms.specs.Terms.{AreClaimsOf, IsTermsOf, TermsParts, ForTerms
 use Rattle.journal.specs.Terms.{Terms, claims_of}
 use Rattle.claim_gate.specs.Parts.{GateParts}
 use Rattle.claim_gate.specs.Replies.{HasClaims}
-use Rattle.crew.specs.Sharing.{HasTaken}
+use Rattle.crew.specs.Sharing.{HasAccepted}
 
 -- behind so many claims of a provider, those among the rows that are left are its other ones
 pub record AreLeft (T : Terms) (provider count : ℕ) (left : RowsLeft) : Type 0 where
@@ -115,7 +115,7 @@ left_none law parts T provider count left terms least most none h =
 pub record IsAtOffer (terms : TermsParts) (seen : GateParts) (provider count expected : ℕ) (left : RowsLeft) : Type 0 where
   pub of_terms : seen.terms ≡ terms
   pub claims : ForTerms terms (λ T. AreLeft T provider count left)
-  pub has_taken : HasTaken seen provider expected
+  pub has_taken : HasAccepted seen provider expected
   pub reached : count ≤ expected
   pub place : left.place ≡ count
   pub fewer : left.place < left.number
@@ -147,7 +147,7 @@ module _ (law : GivenRowHasTheClaim) where
   -- behind a claim, once all in front of a later place are accepted
   pub next_offer : (terms : TermsParts) (seen later : GateParts) (provider count expected next : ℕ) (old new : RowsLeft) (number place : ℕ) (claim : Claim)
       → IsAtOffer terms seen provider count expected old → GivesRow old new (Good number place claim) → later.terms ≡ terms → count < next
-      → HasTaken later provider next → IsAtOffer terms later provider (count + 1) next new
+      → HasAccepted later provider next → IsAtOffer terms later provider (count + 1) next new
   next_offer terms seen later provider count expected next old new number place claim h gives of_terms behind has_taken = record {
     of_terms = of_terms;
     claims = λ T is. left_behind law T provider count old new number place claim (h.claims T is) gives;

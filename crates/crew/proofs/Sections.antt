@@ -28,7 +28,7 @@ use Rattle.claim_gate.specs.declared.offer.Offer.{Offer}
 use Rattle.claim_gate.specs.declared.reply.Accepted.{Accepted}
 use Rattle.claim_gate.specs.declared.reply.Ended.{Ended}
 use Rattle.claim_gate.specs.declared.reply.Recorded.{Recorded}
-use Rattle.crew.specs.Sharing.{HasTaken, IsInWork, is_past, is_shut}
+use Rattle.crew.specs.Sharing.{HasAccepted, IsInWork, is_past, is_shut}
 use Rattle.crew.proofs.Claims.{accepted-of, fields-decided}
 use Rattle.crew.proofs.Journals.{Tell, any_now, closing_tells, ended_now, job_stays, now_taken, places_more}
 
@@ -120,7 +120,7 @@ module _ (parts : TermsParts) (there : ¬ ForTerms parts (λ T. ⊥)) where
 
     -- a provider of which so many claims are accepted doesn't lack one of them
     pub none_lacks : (provider count expected : ℕ) (reply : Result Ended EndFault) (fault : EndFault) → reply ≡ Err fault → fault ≡ end.OutOfTurn expected
-        → HasTaken before.seen provider count → ¬ Went (λ old new. Ends old provider count (end_reply reply) new) after
+        → HasAccepted before.seen provider count → ¬ Went (λ old new. Ends old provider count (end_reply reply) new) after
     none_lacks provider count expected reply fault err is_fault has w = there (λ T is.
         let r : Ends (at T after.found) provider count (EndReply.OutOfTurn expected) (at T after.seen) =
         subst (λ r. Ends (at T after.found) provider count r (at T after.seen)) (end_told reply fault expected err is_fault)
@@ -129,7 +129,7 @@ module _ (parts : TermsParts) (there : ¬ ForTerms parts (λ T. ⊥)) where
 
     -- a claim is accepted
     pub accepts_on : (provider place position : ℕ) → Went (λ old new. Offers old provider place (OfferReply.Accepted position) new) after
-        → (place < place + 1) × HasTaken after.seen provider (place + 1)
+        → (place < place + 1) × HasAccepted after.seen provider (place + 1)
     accepts_on provider place position w =
         let more = lies_below place (length (places after.seen.journal provider)) (λ T is.
         let r = went (λ old new. Offers old provider place (OfferReply.Accepted position) new) w T is in
@@ -141,8 +141,8 @@ module _ (parts : TermsParts) (there : ¬ ForTerms parts (λ T. ⊥)) where
 
     -- another one is the provider's next, and that is a later one
     pub goes_on : (provider place expected : ℕ) (reply : Result Accepted (OfferFault × Offer)) (fault : OfferFault) (back : Offer) → reply ≡ Err (fault, back)
-        → fault ≡ offer.OutOfTurn expected → HasTaken before.seen provider place → Went (λ old new. Offers old provider place (offer_reply reply) new) after
-        → (place < expected) × HasTaken after.seen provider expected
+        → fault ≡ offer.OutOfTurn expected → HasAccepted before.seen provider place → Went (λ old new. Offers old provider place (offer_reply reply) new) after
+        → (place < expected) × HasAccepted after.seen provider expected
     goes_on provider place expected reply fault back err is_fault has w =
         let all : ForTerms parts (λ T. Offers (at T after.found) provider place (OfferReply.OutOfTurn expected) (at T after.seen)) = λ T is.
         subst (λ r. Offers (at T after.found) provider place r (at T after.seen)) (offer_told reply fault (offer.OutOfTurn expected) back err is_fault)

@@ -21,8 +21,8 @@ use Rattle.crew.specs.declared.worker.Task.{Task}
 use Rattle.crew.specs.declared.worker.Task.TheVariants.{Over, Work, NothingReady}
 
 -- so many claims of the provider are accepted at least
-abbrev pub HasTaken : GateParts → ℕ → ℕ → Type 0
-HasTaken gate provider count = count ≤ length (places gate.journal provider)
+abbrev pub HasAccepted : GateParts → ℕ → ℕ → Type 0
+HasAccepted gate provider count = count ≤ length (places gate.journal provider)
 
 -- no claim and no end is accepted any more: the gate is stopped, or its journal is closed
 abbrev pub is_shut : GateParts → Bool
@@ -34,7 +34,7 @@ is_past gate provider = is_shut gate || ended gate.journal provider
 
 -- what a provider is to offer behind the claim at a place: all in front of this later place are accepted, or no more is
 abbrev pub GoesOnAt : GateParts → ℕ → ℕ → Option ℕ → Type 0
-GoesOnAt gate provider place (Some next) = (place < next) × HasTaken gate provider next
+GoesOnAt gate provider place (Some next) = (place < next) × HasAccepted gate provider next
 GoesOnAt gate provider place None = is_shut gate ≡ true
 
 -- the claim is taken, the job is its, and it has the fields that the plan decides by

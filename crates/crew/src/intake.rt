@@ -4,7 +4,7 @@ ghost use Rattle.intake_csv.specs.Rows.{IsAtStart};
 ghost use Rattle.claim_terms.specs.Terms.{ForTerms};
 ghost use Rattle.claim_gate.specs.Replies.{HasClaims, IsFiled};
 ghost use Rattle.crew.specs.Passes.{GoesOn, LeavesWith};
-ghost use Rattle.crew.specs.Sharing.{GoesOnAt, HasTaken, IsOffered, is_past};
+ghost use Rattle.crew.specs.Sharing.{GoesOnAt, HasAccepted, IsOffered, is_past};
 ghost use Rattle.crew.specs.declared.fault.RunFault.TheVariants.{OutOfMemory};
 
 use crate::fault::RunFault;
@@ -142,7 +142,7 @@ fn offer<R: Wait, G: Gate>(
     requires own { G.has_pass gate.now pass }
     requires terms { (G.known pass).seen.terms ≡ terms.now }
     requires filed { ForTerms terms.now (λ T. IsFiled T offer) }
-    requires taken { HasTaken (G.known pass).seen offer.provider offer.place }
+    requires taken { HasAccepted (G.known pass).seen offer.provider offer.place }
     requires room { offer.place + 1 < 2 ^ 64 }
     ensures goes_on { IfOk result (λ r. GoesOn (G.has_pass gate.now) G.known pass r.1) }
     ensures next { IfOk result (λ r. GoesOnAt (G.known r.1).seen offer.provider offer.place r.0) }
@@ -169,7 +169,7 @@ fn offer_again<R: Wait, G: Gate>(
     requires own { G.has_pass gate.now pass }
     requires terms { (G.known pass).seen.terms ≡ terms.now }
     requires filed { ForTerms terms.now (λ T. IsFiled T offer) }
-    requires taken { HasTaken (G.known pass).seen offer.provider offer.place }
+    requires taken { HasAccepted (G.known pass).seen offer.provider offer.place }
     requires room { offer.place + 1 < 2 ^ 64 }
     ensures goes_on { IfOk result (λ r. GoesOn (G.has_pass gate.now) G.known pass r.1) }
     ensures next { IfOk result (λ r. GoesOnAt (G.known r.1).seen offer.provider offer.place r.0) }
@@ -196,7 +196,7 @@ fn offer_once<R: Wait, G: Gate>(
     requires own { G.has_pass gate.now pass }
     requires terms { (G.known pass).seen.terms ≡ terms.now }
     requires filed { ForTerms terms.now (λ T. IsFiled T offer) }
-    requires taken { HasTaken (G.known pass).seen offer.provider offer.place }
+    requires taken { HasAccepted (G.known pass).seen offer.provider offer.place }
     requires room { offer.place + 1 < 2 ^ 64 }
     ensures goes_on { IfOk result (λ r. GoesOn (G.has_pass gate.now) G.known pass r.1) }
     ensures offered { IfOk result (λ r. IsOffered (G.known r.1).seen offer r.0) }
@@ -231,7 +231,7 @@ fn end<R: Wait, G: Gate>(
     requires own { G.has_pass gate.now pass }
     requires terms { (G.known pass).seen.terms ≡ terms.now }
     requires claims { ForTerms terms.now (λ T. HasClaims T provider count) }
-    requires taken { HasTaken (G.known pass).seen provider count }
+    requires taken { HasAccepted (G.known pass).seen provider count }
     ensures goes_on { IfOk result (GoesOn (G.has_pass gate.now) G.known pass) }
     ensures past { IfOk result (λ p. is_past (G.known p).seen provider ≡ true) }
     ensures leaves { IfErr result (LeavesWith (G.has_pass gate.now) G.known pass) }
@@ -255,7 +255,7 @@ fn end_once<R: Wait, G: Gate>(
     requires own { G.has_pass gate.now pass }
     requires terms { (G.known pass).seen.terms ≡ terms.now }
     requires claims { ForTerms terms.now (λ T. HasClaims T provider count) }
-    requires taken { HasTaken (G.known pass).seen provider count }
+    requires taken { HasAccepted (G.known pass).seen provider count }
     ensures goes_on { IfOk result (GoesOn (G.has_pass gate.now) G.known pass) }
     ensures past { IfOk result (λ p. is_past (G.known p).seen provider ≡ true) }
     ensures leaves { IfErr result (LeavesWith (G.has_pass gate.now) G.known pass) }

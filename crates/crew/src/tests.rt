@@ -10,60 +10,12 @@ use std::process::Abort;
 use std::sync::Wait;
 use std::test::Fail;
 use std::thread::Threads;
+use worked_examples::{first_file, header, health_plan, second_file};
 
 pub mod hostile;
 mod meeting;
 mod stopping;
 pub mod watched;
-
-/// A plan with a table of fees and one of remarks.
-const PLAN: &[u8] = br#"
-version = 1
-fields = [{name = "code", kind = "text"}]
-
-[roles]
-cover = "covered"
-fee = "fee"
-deductible = "50"
-copay = "10"
-rate = "0.2"
-oop_max = "60"
-remarks = "note"
-
-[[tables]]
-inputs = [{name = "code"}]
-outputs = [{name = "covered", kind = "flag"}, {name = "fee", kind = "number"}]
-rules = [
-  {when = ['"A"'], then = ['true', '100']},
-  {when = ['"B"'], then = ['true', '40']},
-  {when = ['"X"'], then = ['false', '0']},
-]
-
-[[tables]]
-hit = "R"
-inputs = [{name = "billed"}, {name = "met"}]
-outputs = [{name = "note", kind = "text"}]
-rules = [
-  {when = ['>100', '-'], then = ['"OVER"']},
-  {when = ['-', '>=50'], then = ['"MET"']},
-]
-"#;
-
-const ONE: &[u8] = b"claim,member,service,billed,code
-c1,M1,2024-01-05,120.00,A
-c2,M1,2024-02-01,40.00,B
-c3,M1,2024-02-02,40.00,Z
-c4,M1,2024-03-01,100.00,A
-";
-
-/// The second record is refused: it isn't in whole cents.
-const TWO: &[u8] = b"claim,member,service,billed,code
-d1,M2,2024-01-09,30.00,B
-d2,M2,2024-01-10,9.999,B
-d3,M2,2024-01-11,10.00,X
-";
-
-const HEADER: &[u8] = b"claim,member,service,billed,code\n";
 
 const THREE: &[u8] = b"claim,member,service,billed,code
 e1,M3,2024-01-05,120.00,A
@@ -112,28 +64,12 @@ accepts 2 takes 2 decides 2 ends 2 closes 1
 ";
 
 // A function for each text: what calls it is proved without the text.
-fn plan_text() -> &'static [u8] {
-    PLAN
-}
-
-pub fn file_one() -> &'static [u8] {
-    ONE
-}
-
-pub fn file_two() -> &'static [u8] {
-    TWO
-}
-
 fn file_three() -> &'static [u8] {
     THREE
 }
 
 fn refused() -> &'static [u8] {
     REFUSED
-}
-
-fn header() -> &'static [u8] {
-    HEADER
 }
 
 fn balances() -> &'static [u8] {
@@ -153,7 +89,7 @@ fn between_refused() -> &'static str {
 }
 
 pub fn plan(rt: &impl Abort, alloc: Global) -> Plan {
-    read_plan(alloc, plan_text()).expect(rt, "a plan")
+    read_plan(alloc, health_plan().as_bytes()).expect(rt, "a plan")
 }
 
 pub fn terms<'a>(
@@ -309,7 +245,7 @@ fn runs_over<R: Threads + Wait + Abort + Sync>(
 
 #[test]
 fn runs_over_two_files(rt: HostRuntime) {
-    let files = [file_one(), file_two()];
+    let files = [first_file(), second_file()];
     runs_over(&rt, rt.alloc(), &files, None, both_files());
     let balances = Some(balances());
     runs_over(&rt, rt.alloc(), &files, balances, from_balances());
@@ -369,7 +305,7 @@ fn run_fault<R: Threads + Wait + Abort + Sync>(
 #[test]
 fn a_run_refuses_no_worker_and_too_many(rt: HostRuntime) {
     let plan = plan(&rt, rt.alloc());
-    let files = [file_two()];
+    let files = [second_file()];
     let terms = terms(&rt, rt.alloc(), &plan, &files);
     for workers in [0, WORKERS_LIMIT + 1, usize::MAX] {
         let fault = run_fault(&rt, rt.alloc(), &terms, workers);
@@ -406,8 +342,8 @@ fn runs_or_not<R: Threads + Wait + Abort + Sync>(rt: &R, alloc: Global, terms: &
 
 #[test]
 fn a_run_or_no_memory(rt: HostRuntime) {
-    if let Ok(plan) = read_plan(rt.alloc(), plan_text()) {
-        let files = [file_one(), file_two()];
+    if let Ok(plan) = read_plan(rt.alloc(), health_plan().as_bytes()) {
+        let files = [first_file(), second_file()];
         if let Ok(terms) = Terms::new(rt.alloc(), &plan, &files, None, None) {
             runs_or_not(&rt, rt.alloc(), &terms);
         }

@@ -12,14 +12,14 @@ use Rattle.dtable.specs.declared.fault.Fault.{Fault}
 use Rattle.dtable.specs.declared.hit.Hit.{Hit}
 use Rattle.dtable.specs.declared.hit.Hit.TheVariants as hits
 use Rattle.dtable.specs.declared.table.Table.{Table}
-use Rattle.dtable.specs.HitPolicy.{Outcome, unmatched, unique, any, agree, of_rule, first, aggregated, number_answer, numbers_of, counted, count_units, by_hit}
+use Rattle.dtable.specs.HitPolicy.{TableValue, unmatched, unique, any, agree, of_rule, first, aggregated, number_answer, numbers_of, counted, count_units, by_hit}
 use Rattle.dtable.specs.Priority.{highest}
 use Rattle.cutplan.specs.declared.lent.KeptAnswers.{KeptAnswers}
 use Rattle.cutplan.specs.Lent.{answers_in, answered, kept_answers}
 use Rattle.cutplan.proofs.ByMasks.{found_at}
 
 -- two outcomes have the same answers, and are alike but for a fault's number
-abbrev AreAlike : Outcome → Outcome → Type 0
+abbrev AreAlike : TableValue → TableValue → Type 0
 AreAlike one other = answers_in one ≡ answers_in other
 
 unmatched_alike : (n m : ℕ) (t : Table) (all : Bool) → list_all (λ o. is_some o.fallback) t.outputs ≡ all → AreAlike (unmatched n t) (unmatched m t)
@@ -69,7 +69,7 @@ hit_alike hits.Min n m t rules = aggregated_alike n m t (reduce int_min (numbers
 hit_alike hits.Max n m t rules = aggregated_alike n m t (reduce int_max (numbers_of t rules))
 hit_alike hits.Count n m t rules = counted_alike n m t rules
 
-answers_are : (outcome : Outcome) (answers : List Answer) → answers_in outcome ≡ Some answers → outcome ≡ Ok answers
+answers_are : (outcome : TableValue) (answers : List Answer) → answers_in outcome ≡ Some answers → outcome ≡ Ok answers
 answers_are (Ok made) answers is = ap (λ a. Ok a) (same_Some made answers is)
 answers_are (Err fault) answers is = absurd (none-some answers is)
 

@@ -7,7 +7,7 @@ use Rattle.dtable.specs.declared.fault.Fault.TheVariants.{OutOfMemory}
 use Rattle.dtable.specs.declared.inputs.Slot.{Slot}
 use Rattle.dtable.specs.declared.table.Table.{Table}
 use Rattle.dtable.specs.Environment.{answers_of, table_value, and_then}
-use Rattle.dtable.specs.HitPolicy.{Outcome}
+use Rattle.dtable.specs.HitPolicy.{TableValue}
 
 -- the tables from one on
 from_table : (given : List Slot) (answers : List (List Answer)) (tables : List Table) (i : ℕ) (t : Table) → i < length tables → t ≡ get_or tables i t
@@ -21,7 +21,7 @@ one_more_answers given answers shown new tables i t next whole below is seen val
     let here : table_value given answers t ≡ Ok next = ap (λ a. table_value given a t) (sym seen) ∙ value in
     let step = from_table given answers tables i t below is in
     let rest = λ (more : List Answer). answers_of given (answers ++ more ∷ []) (drop (i + 1) tables) in
-    ap (λ a. answers_of given a (drop (i + 1) tables)) pushed ∙ sym (ap (λ (o : Outcome). and_then o rest) here) ∙ sym step ∙ so_far
+    ap (λ a. answers_of given a (drop (i + 1) tables)) pushed ∙ sym (ap (λ (o : TableValue). and_then o rest) here) ∙ sym step ∙ so_far
 
 pub fault_of_table : (given : List Slot) (answers shown : List (List Answer)) (tables : List Table) (i : ℕ) (t : Table) (fault : Fault) (whole : Result (List (List Answer)) Fault) → i < length tables → t ≡ get_or tables i t
     → shown ≡ answers → (fault ≢ OutOfMemory → table_value given shown t ≡ Err fault) → answers_of given answers (drop i tables) ≡ whole → fault ≢ OutOfMemory → whole ≡ Err fault
@@ -29,4 +29,4 @@ fault_of_table given answers shown tables i t fault whole below is seen value so
     let here : table_value given answers t ≡ Err fault = ap (λ a. table_value given a t) (sym seen) ∙ value told in
     let step = from_table given answers tables i t below is in
     let rest = λ (more : List Answer). answers_of given (answers ++ more ∷ []) (drop (i + 1) tables) in
-    sym so_far ∙ step ∙ ap (λ (o : Outcome). and_then o rest) here
+    sym so_far ∙ step ∙ ap (λ (o : TableValue). and_then o rest) here

@@ -5,7 +5,7 @@ use Rattle.dtable.specs.declared.environment.Answer.{Answer}
 use Rattle.dtable.specs.declared.hit.Hit.{Hit}
 use Rattle.dtable.specs.declared.hit.Hit.TheVariants.{O, P}
 use Rattle.dtable.specs.declared.table.Table.{Table}
-use Rattle.dtable.specs.HitPolicy.{Outcome, by_hit}
+use Rattle.dtable.specs.HitPolicy.{TableValue, by_hit}
 use Rattle.dtable.specs.Plan.{PlanParts}
 use Rattle.dtable.specs.Priority.{all_ranked}
 use Rattle.cutplan.specs.declared.lent.KeptAnswers.{KeptAnswers}
@@ -14,7 +14,7 @@ use Rattle.cutplan.specs.Found.{IsCut}
 use Rattle.cutplan.specs.Masks.{has_rule}
 
 -- the answers of an outcome that is no fault
-abbrev pub answers_in : Outcome → Option (List Answer)
+abbrev pub answers_in : TableValue → Option (List Answer)
 answers_in (Ok answers) = Some answers
 answers_in (Err fault) = None
 

@@ -11,24 +11,24 @@ use Rattle.dtable.specs.declared.table.Output.{Output}
 use Rattle.dtable.specs.declared.table.Table.{Table}
 use Rattle.dtable.specs.Plan.{PlanParts}
 use Rattle.dtable.specs.Matching.{matching, first_outside}
-use Rattle.dtable.specs.HitPolicy.{Outcome, by_hit}
+use Rattle.dtable.specs.HitPolicy.{TableValue, by_hit}
 
 -- the number of a table that stands behind these
 abbrev pub number_behind : List (List Answer) → ℕ
 number_behind earlier = length earlier + 1
 
 -- the value of a table where this is the first column outside its allowed values: that comes before all else
-abbrev pub inside : Option ℕ → ℕ → Outcome → Outcome
+abbrev pub inside : Option ℕ → ℕ → TableValue → TableValue
 inside None number value = value
 inside (Some column) number value = Err (Outside number (column + 1))
 
 -- the value of a table, with the answers of those before it
-abbrev pub table_value : List Slot → List (List Answer) → Table → Outcome
+abbrev pub table_value : List Slot → List (List Answer) → Table → TableValue
 table_value given earlier t =
     inside (first_outside given earlier t) (number_behind earlier) (by_hit t.hit (number_behind earlier) t (matching given earlier t))
 
 -- what a table's answers lead to; its fault is the result
-abbrev pub and_then : {X : Type 0} → Outcome → (List Answer → Result X Fault) → Result X Fault
+abbrev pub and_then : {X : Type 0} → TableValue → (List Answer → Result X Fault) → Result X Fault
 and_then (Ok answers) next = next answers
 and_then (Err fault) next = Err fault
 

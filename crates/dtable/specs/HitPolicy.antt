@@ -23,8 +23,8 @@ abbrev pub IsFaultOf : {X : Type 0} → Result X Fault → Fault → Type 0
 IsFaultOf expected fault = fault ≢ OutOfMemory → expected ≡ Err fault
 
 -- an answer for each output of a table, or why there is none
-abbrev pub Outcome : Type 0
-Outcome = Result (List Answer) Fault
+abbrev pub TableValue : Type 0
+TableValue = Result (List Answer) Fault
 
 -- these values, one for each output
 abbrev pub ones : List Value → List Answer
@@ -39,12 +39,12 @@ abbrev pub lists : Table → List ℕ → List Answer
 lists t rules = map (λ column. Many (column_of t rules column)) (range_with_len 0 (length t.outputs))
 
 -- no rule matches: the defaults where every output has one, and no value where not
-abbrev pub unmatched : ℕ → Table → Outcome
+abbrev pub unmatched : ℕ → Table → TableValue
 unmatched number t =
     if list_all (λ o. is_some o.fallback) t.outputs then Ok (ones (filter_map (λ o. o.fallback) t.outputs)) else Err (NoRule number)
 
 -- Unique: the entries of the one match; two or more clash
-abbrev pub unique : ℕ → Table → List ℕ → Outcome
+abbrev pub unique : ℕ → Table → List ℕ → TableValue
 unique number t [] = unmatched number t
 unique number t (rule ∷ []) = Ok (ones (entries_of t rule))
 unique number t (rule ∷ other ∷ others) = Err (Clash number)
@@ -54,17 +54,17 @@ abbrev pub agree : Table → ℕ → ℕ → Bool
 agree t rule other = pointwise is_equal (entries_of t rule) (entries_of t other)
 
 -- Any: the entries of the matches where all agree; matches that disagree clash
-abbrev pub any : ℕ → Table → List ℕ → Outcome
+abbrev pub any : ℕ → Table → List ℕ → TableValue
 any number t [] = unmatched number t
 any number t (rule ∷ others) = if list_all (agree t rule) others then Ok (ones (entries_of t rule)) else Err (Clash number)
 
 -- the entries of one rule, if there is one
-abbrev pub of_rule : ℕ → Table → Option ℕ → Outcome
+abbrev pub of_rule : ℕ → Table → Option ℕ → TableValue
 of_rule number t None = unmatched number t
 of_rule number t (Some rule) = Ok (ones (entries_of t rule))
 
 -- First: the entries of the first match
-abbrev pub first : ℕ → Table → List ℕ → Outcome
+abbrev pub first : ℕ → Table → List ℕ → TableValue
 first number t rules = of_rule number t (slice_get rules 0)
 
 -- the units of a number
@@ -81,7 +81,7 @@ abbrev pub numbers_of : Table → List ℕ → List ℤ
 numbers_of t rules = filter_map (number_in t) rules
 
 -- a number as the one answer, if it is in the number range
-abbrev pub number_answer : ℕ → ℤ → Outcome
+abbrev pub number_answer : ℕ → ℤ → TableValue
 number_answer number units = if nat_le (unsigned_abs units) greatest_units then Ok (One (Number units) ∷ []) else Err (Range number)
 
 -- what an aggregator makes of what it has so far and one number more, where there is one
@@ -95,7 +95,7 @@ abbrev pub IsFarFromOverflow : ℤ → Type 0
 IsFarFromOverflow sum = (neg_ℤ (pos (2 ^ 126)) ≤ℤ sum) × (sum ≤ℤ pos (2 ^ 126))
 
 -- what an aggregator makes of the the matches' numbers, if there are any
-abbrev pub aggregated : ℕ → Table → Option ℤ → Outcome
+abbrev pub aggregated : ℕ → Table → Option ℤ → TableValue
 aggregated number t None = unmatched number t
 aggregated number t (Some units) = number_answer number units
 
@@ -104,12 +104,12 @@ abbrev pub count_units : ℕ → ℤ
 count_units count = pos (count * 10000)
 
 -- `C#`: how many rules match
-abbrev pub counted : ℕ → Table → List ℕ → Outcome
+abbrev pub counted : ℕ → Table → List ℕ → TableValue
 counted number t [] = unmatched number t
 counted number t (rule ∷ others) = number_answer number (count_units (length (rule ∷ others)))
 
 -- the value of a table by its hit policy, from the rules that match
-abbrev pub by_hit : Hit → ℕ → Table → List ℕ → Outcome
+abbrev pub by_hit : Hit → ℕ → Table → List ℕ → TableValue
 by_hit hits.U number t rules = unique number t rules
 by_hit hits.A number t rules = any number t rules
 by_hit hits.P number t rules = of_rule number t (highest t rules)

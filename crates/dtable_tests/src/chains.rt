@@ -1,6 +1,6 @@
 //! Whole plans, from their texts to their values: chains of tables, lists, and want of memory.
 use crate::answers::{give, give_text, shown, shown_by_place};
-use crate::plans::{CHAIN, HEALTH, SUM_AND_LEVEL};
+use crate::plans::{CHAIN, SUM_AND_LEVEL};
 use crate::tables::told;
 use dtable::{
     Env, Fault, InputData, Inputs, Name, Plan, PlanFault, Sequence, Valuer, all_names, read_plan,
@@ -11,6 +11,7 @@ use fixpoint::Fixed;
 use std::alloc::{AllocError, Global};
 use std::process::Abort;
 use std::test::Fail;
+use worked_examples::health_plan;
 
 /// The places of some names in the health plan.
 const BILLED: usize = 3;
@@ -66,7 +67,7 @@ fn are_answered(rt: &impl Abort, alloc: Global, plan: &Plan) -> Result<(), Fail>
 
 #[test]
 fn the_health_plan_has_its_values(rt: HostRuntime) -> Result<(), Fail> {
-    let plan = read_plan(rt.alloc(), HEALTH.as_bytes())?;
+    let plan = read_plan(rt.alloc(), health_plan().as_bytes())?;
     are_answered(&rt, rt.alloc(), &plan)
 }
 
@@ -74,7 +75,7 @@ fn the_health_plan_has_its_values(rt: HostRuntime) -> Result<(), Fail> {
 #[test]
 fn a_text_is_given_over_another(rt: HostRuntime) -> Result<(), Fail> {
     let alloc = rt.alloc();
-    let plan = read_plan(alloc, HEALTH.as_bytes())?;
+    let plan = read_plan(alloc, health_plan().as_bytes())?;
     let mut inputs = Inputs::new(alloc, &plan)?;
     for given in &["LONGER", "A", "", "THE LONGEST"] {
         assert!(rt; give_text(alloc, &mut inputs, CODE, given)?);
@@ -92,7 +93,7 @@ fn has_text(inputs: &Inputs, text: &str) -> bool {
 
 #[test]
 fn what_a_plan_needs(rt: HostRuntime) -> Result<(), Fail> {
-    let plan = read_plan(rt.alloc(), HEALTH.as_bytes())?;
+    let plan = read_plan(rt.alloc(), health_plan().as_bytes())?;
     let plan = plan.plan();
     assert!(rt; plan.needs(BILLED) && plan.needs(CODE) && plan.needs(MET));
     assert!(rt; !plan.needs(0) && !plan.needs(7) && !plan.needs(99));

@@ -55,38 +55,6 @@ rate = "0"
 oop_max = "1000"
 "#;
 
-/// The health plan of the formats page.
-pub const HEALTH: &str = r#"version = 1
-fields = [{name = "code", kind = "text"}]
-
-[roles]
-cover = "covered"
-fee = "fee"
-deductible = "50"
-copay = "10"
-rate = "0.2"
-oop_max = "60"
-remarks = "note"
-
-[[tables]]
-inputs = [{name = "code"}]
-outputs = [{name = "covered", kind = "flag"}, {name = "fee", kind = "number"}]
-rules = [
-  {when = ['"A"'], then = ['true', '100']},
-  {when = ['"B"'], then = ['true', '40']},
-  {when = ['"X"'], then = ['false', '0']},
-]
-
-[[tables]]
-hit = "R"
-inputs = [{name = "billed"}, {name = "met"}]
-outputs = [{name = "note", kind = "text"}]
-rules = [
-  {when = ['>100', '-'], then = ['"OVER"']},
-  {when = ['-', '>=50'], then = ['"MET"']},
-]
-"#;
-
 /// Tables in a chain, under five policies: a sum, the risk of highest priority, and lists that read both.
 pub const CHAIN: &str = r#"version = 1
 [[tables]]

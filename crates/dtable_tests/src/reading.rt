@@ -1,10 +1,11 @@
 //! The plan reader: a plan with every key, broken plans with the fault of each, and each prefix of a plan.
-use crate::plans::{HEALTH, PLAN, ROLES, SCORE};
+use crate::plans::{PLAN, ROLES, SCORE};
 use dtable::{Hit, InputData, Source, Table, read_plan};
 use feel_tests::Kind;
 use std::alloc::Global;
 use std::process::Abort;
 use std::test::Fail;
+use worked_examples::health_plan;
 
 /// The names of the plan with every key, and their kinds.
 const NAMES: [(&str, Kind); 9] = [
@@ -173,11 +174,15 @@ fn answer_to(length: usize) -> &'static str {
 
 #[test]
 fn each_prefix_is_answered(rt: HostRuntime) -> Result<(), Fail> {
-    let bytes = HEALTH.as_bytes();
+    let bytes = health_plan().as_bytes();
     assert_eq!(rt; bytes.len(), 640);
     for length in 0..=bytes.len() {
         let fault = fault_of(rt.alloc(), &bytes[..length])?;
-        assert_eq!(rt; fault.as_str(), answer_to(length), "a prefix of {length} bytes");
+        assert_eq!(rt;
+            fault.as_str(),
+            answer_to(length),
+            "a prefix of {length} bytes"
+        );
     }
     Ok(())
 }

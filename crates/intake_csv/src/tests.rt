@@ -100,7 +100,7 @@ fn tell_claim(told: &mut String, claim: &Claim) -> Result<(), AllocError> {
         claim.id.as_str(),
         claim.member.as_str()
     )?;
-    for value in claim.fields.as_slice() {
+    for value in &claim.fields {
         match value {
             Value::Number(number) => write!(told, " {}", number.units())?,
             Value::Text(text) => write!(told, " {}", text.as_str())?,

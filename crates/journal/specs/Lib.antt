@@ -5,5 +5,4 @@ pub mod Lawful
 pub mod Gate
 pub mod Leading
 pub mod Laws
-pub mod Worked
 pub mod Turns

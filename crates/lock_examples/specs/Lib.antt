@@ -1,3 +1,3 @@
 pub mod Counts
 pub mod Names
-pub mod Notes
+pub mod Lists

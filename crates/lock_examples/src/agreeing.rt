@@ -3,7 +3,7 @@
 //! both places are places of that list, and two names stand at two places, which no section alone could tell.
 
 ghost use Rattle.std.specs.Prelude.{◌≡◌, ◌≢◌, ◌<◌, IfSome};
-ghost use Rattle.turn_lock.specs.Toy.{GoesOn, same_list, longer_list, either_list};
+ghost use Rattle.lock_examples.specs.Lists.{GoesOn, same_list, longer_list, either_list};
 ghost use Rattle.turn_lock.specs.TicketShown.{IsPassOf, pass_knows};
 ghost use Rattle.lock_examples.specs.Names.{HasName};
 

@@ -1,17 +1,11 @@
-//! What the two small worlds show when they run.
+//! What the two small worlds show when they run, and the locks themselves.
+mod locks;
 
 use crate::{
-    Copies, CopyPass, Names, Visitors, agree, earlier, note, noted_by_two,
-    second_finds_what_the_first_left,
+    Copies, CopyPass, Names, Visitors, agree, earlier, note, second_finds_what_the_first_left,
 };
 use std::test::Fail;
 use turn_lock::{SpinLock, TicketLock};
-
-#[test]
-fn two_threads_note_each_term(rt: HostRuntime) -> Result<(), Fail> {
-    assert_eq!(rt; noted_by_two(&rt, rt.alloc(), &[5, 6, 7])?, 6);
-    Ok(())
-}
 
 #[test]
 fn a_lock_of_copies_loses_what_another_pass_left(rt: HostRuntime) -> Result<(), Fail> {

@@ -7,7 +7,8 @@ use Rattle.fixpoint.specs.Number.{greatest_units}
 use Rattle.settlement.specs.declared.outcome.Outcome.{Outcome}
 use Rattle.journal.specs.declared.event.Event.{Event}
 use Rattle.remit.specs.Decided.{paid_in, paid_outcomes, sum_of}
-use Rattle.remit.specs.Looked.{AreGrown, AreSums, HaveRoom, IsGrown, IsSum}
+use Rattle.remit.specs.Amounts.{amount_of}
+use Rattle.remit.specs.Looked.{AreGrown, AreSums, HaveRoom, IsGrown, IsSum, sum_in}
 use Rattle.remit.specs.declared.sums.Sums.{Sums}
 
 -- the sum over outcomes and others behind them
@@ -33,14 +34,7 @@ sum-more amount J event count old new before grown = record {
 -- the sums with one event more
 sums-more : (J : List Event) (event : Event) (count : ℕ) (old new : Sums) → AreSums J count old → AreGrown (paid_in event) old new
     → AreSums (J ++ event ∷ []) (count + 1) new
-sums-more J event count old new before grown = record {
-  allowed = sum-more (λ o. o.allowed) J event count old.allowed new.allowed before.allowed grown.allowed;
-  ded = sum-more (λ o. o.ded) J event count old.ded new.ded before.ded grown.ded;
-  copay = sum-more (λ o. o.copay) J event count old.copay new.copay before.copay grown.copay;
-  coins = sum-more (λ o. o.coins) J event count old.coins new.coins before.coins grown.coins;
-  share = sum-more (λ o. o.share) J event count old.share new.share before.share grown.share;
-  paid = sum-more (λ o. o.paid) J event count old.paid new.paid before.paid grown.paid;
-}
+sums-more J event count old new before grown = λ amount. sum-more (amount_of amount) J event count (sum_in old amount) (sum_in new amount) (before amount) (grown amount)
 
 -- the sums over the events of a journal up to a place, with the one at that place
 pub sums-next : (J : List Event) (place : ℕ) (event : Event) (old new : Sums) → place < length J → event ≡ get_or J place event → AreSums (take place J) place old
@@ -54,11 +48,4 @@ sum-room count sum few bound = omega (arith, few, bound)
 
 -- the sums over no more events than a journal can have leave room
 pub sums-room : (J : List Event) (count : ℕ) (sums : Sums) → count < 2 ^ 64 → AreSums J count sums → HaveRoom sums
-sums-room J count sums few are = record {
-  allowed = sum-room count sums.allowed few are.allowed.bound;
-  ded = sum-room count sums.ded few are.ded.bound;
-  copay = sum-room count sums.copay few are.copay.bound;
-  coins = sum-room count sums.coins few are.coins.bound;
-  share = sum-room count sums.share few are.share.bound;
-  paid = sum-room count sums.paid few are.paid.bound;
-}
+sums-room J count sums few are = λ amount. sum-room count (sum_in sums amount) few (are amount).bound

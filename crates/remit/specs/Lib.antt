@@ -1,3 +1,4 @@
+pub mod Amounts
 pub mod Decided
 pub mod Texts
 pub mod Records

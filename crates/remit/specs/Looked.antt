@@ -1,5 +1,5 @@
 -- What a journal tells, laid out so that a claim's decision is found at once, and its sums.
-use Rattle.std.specs.Prelude.{◌≡◌, ◌<◌, ◌≤◌, ◌+◌, ◌-◌, ◌*◌, ◌^◌, ◌+ℤ◌, ℕ, suc, ℤ, pos, ◌==◌, cond, List, [], ◌∷◌, get_or, length, ◌++◌, slice_get, Option, Some, None, option_map}
+use Rattle.std.specs.Prelude.{◌≡◌, ◌<◌, ◌≤◌, ◌+◌, ◌-◌, ◌*◌, ◌^◌, ◌+ℤ◌, ℕ, suc, ℤ, pos, ◌==◌, cond, List, [], ◌∷◌, get_or, length, ◌++◌, slice_get, Option, Some, None, option_map, map}
 use Rattle.std.specs.Global.{Vec}
 use Rattle.std.specs.Borrow.{Bor}
 use Rattle.std.specs.Option.{option_and_then}
@@ -8,6 +8,9 @@ use Rattle.fixpoint.specs.Number.{greatest_units}
 use Rattle.settlement.specs.declared.outcome.Outcome.{Outcome}
 use Rattle.journal.specs.Events.{Filed, accepted, accepts}
 use Rattle.journal.specs.declared.event.Event.{Event}
+use Rattle.remit.specs.declared.amount.Amount.{Amount}
+use Rattle.remit.specs.declared.amount.Amount.TheVariants.{Allowed, Deductible, Copay, Coinsurance, Share, Paid}
+use Rattle.remit.specs.Amounts.{amounts, amount_of}
 use Rattle.remit.specs.Decided.{decision_at, paid_outcomes, sum_of}
 use Rattle.remit.specs.declared.decisions.Decisions.{Decisions}
 use Rattle.remit.specs.declared.sums.Sums.{Sums}
@@ -60,23 +63,22 @@ pub record IsSum (amount : Outcome → ℤ) (outcomes : List Outcome) (count sum
   pub value : pos sum ≡ sum_of amount outcomes
   pub bound : sum ≤ count * greatest_units
 
+-- the sum of an amount among the sums
+abbrev pub sum_in : Sums → Amount → ℕ
+sum_in sums Allowed = sums.allowed
+sum_in sums Deductible = sums.ded
+sum_in sums Copay = sums.copay
+sum_in sums Coinsurance = sums.coins
+sum_in sums Share = sums.share
+sum_in sums Paid = sums.paid
+
 -- the sums of the amounts over the paid claims of a journal of no more than so many events
-pub record AreSums (J : List Event) (count : ℕ) (sums : Sums) : Type 0 where
-  pub allowed : IsSum (λ o. o.allowed) (paid_outcomes J) count sums.allowed
-  pub ded : IsSum (λ o. o.ded) (paid_outcomes J) count sums.ded
-  pub copay : IsSum (λ o. o.copay) (paid_outcomes J) count sums.copay
-  pub coins : IsSum (λ o. o.coins) (paid_outcomes J) count sums.coins
-  pub share : IsSum (λ o. o.share) (paid_outcomes J) count sums.share
-  pub paid : IsSum (λ o. o.paid) (paid_outcomes J) count sums.paid
+abbrev pub AreSums : List Event → ℕ → Sums → Type 0
+AreSums J count sums = (amount : Amount) → IsSum (amount_of amount) (paid_outcomes J) count (sum_in sums amount)
 
 -- one amount more fits in 128 bits behind each sum
-pub record HaveRoom (sums : Sums) : Type 0 where
-  pub allowed : sums.allowed + greatest_units < 2 ^ 128
-  pub ded : sums.ded + greatest_units < 2 ^ 128
-  pub copay : sums.copay + greatest_units < 2 ^ 128
-  pub coins : sums.coins + greatest_units < 2 ^ 128
-  pub share : sums.share + greatest_units < 2 ^ 128
-  pub paid : sums.paid + greatest_units < 2 ^ 128
+abbrev pub HaveRoom : Sums → Type 0
+HaveRoom sums = (amount : Amount) → sum_in sums amount + greatest_units < 2 ^ 128
 
 -- the sum has grown by the amount of these outcomes, and by no more than the greatest number
 pub record IsGrown (amount : Outcome → ℤ) (outcomes : List Outcome) (old new : ℕ) : Type 0 where
@@ -84,16 +86,9 @@ pub record IsGrown (amount : Outcome → ℤ) (outcomes : List Outcome) (old new
   pub bound : new ≤ old + greatest_units
 
 -- each sum has grown by its amount of these outcomes
-pub record AreGrown (outcomes : List Outcome) (old new : Sums) : Type 0 where
-  pub allowed : IsGrown (λ o. o.allowed) outcomes old.allowed new.allowed
-  pub ded : IsGrown (λ o. o.ded) outcomes old.ded new.ded
-  pub copay : IsGrown (λ o. o.copay) outcomes old.copay new.copay
-  pub coins : IsGrown (λ o. o.coins) outcomes old.coins new.coins
-  pub share : IsGrown (λ o. o.share) outcomes old.share new.share
-  pub paid : IsGrown (λ o. o.paid) outcomes old.paid new.paid
+abbrev pub AreGrown : List Outcome → Sums → Sums → Type 0
+AreGrown outcomes old new = (amount : Amount) → IsGrown (amount_of amount) outcomes (sum_in old amount) (sum_in new amount)
 
 -- the texts of sums
 abbrev pub sum_texts : Sums → List (List ℕ)
-sum_texts sums =
-    money_text (pos sums.allowed) ∷ money_text (pos sums.ded) ∷ money_text (pos sums.copay) ∷ money_text (pos sums.coins)
-    ∷ money_text (pos sums.share) ∷ money_text (pos sums.paid) ∷ []
+sum_texts sums = map (λ amount. money_text (pos (sum_in sums amount))) amounts

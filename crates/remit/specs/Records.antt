@@ -10,21 +10,16 @@ use Rattle.intake_csv.specs.declared.rows.Row.{Row}
 use Rattle.intake_csv.specs.declared.rows.Row.TheVariants.{Good, Bad}
 use Rattle.journal.specs.Events.{accepted}
 use Rattle.journal.specs.declared.event.Event.{Event}
+use Rattle.remit.specs.declared.amount.Amount.{Amount}
+use Rattle.remit.specs.Amounts.{amounts, name_of, amount_of}
 use Rattle.remit.specs.Decided.{paid_outcomes, sum_of}
 use Rattle.remit.specs.Texts.{fault_text, remarks_text}
-
--- the amounts of a record, in order: the name of each, and what it is of an outcome. The header, the records and the totals have
--- these amounts
-abbrev pub amount_columns : List ((List ℕ) × (Outcome → ℤ))
-amount_columns =
-    (codes "allowed", λ o. o.allowed) ∷ (codes "ded", λ o. o.ded) ∷ (codes "copay", λ o. o.copay) ∷ (codes "coins", λ o. o.coins)
-    ∷ (codes "share", λ o. o.share) ∷ (codes "paid", λ o. o.paid) ∷ []
 
 -- the names of the fields
 abbrev pub header_fields : List (List ℕ)
 header_fields =
     codes "provider" ∷ codes "record" ∷ codes "claim" ∷ codes "member" ∷ codes "status" ∷ codes "reason"
-    ∷ (map (λ column. column.0) amount_columns ++ codes "remarks" ∷ [])
+    ∷ (map name_of amounts ++ codes "remarks" ∷ [])
 
 -- what the report tells of a record behind whose it is: the fields from the status on
 pub record Told : Type 0 where
@@ -38,15 +33,15 @@ told_fields told = told.status ∷ told.reason ∷ (told.amounts ++ told.remarks
 
 -- the amounts of an outcome, as money
 abbrev pub amounts_of : Outcome → List (List ℕ)
-amounts_of decision = map (λ column. money_text (column.1 decision)) amount_columns
+amounts_of decision = map (λ amount. money_text (amount_of amount decision)) amounts
 
 -- the amounts of a claim that isn't paid
 abbrev pub zeros : List (List ℕ)
-zeros = map (λ column. codes "0.00") amount_columns
+zeros = map (λ amount. codes "0.00") amounts
 
 -- no amounts
 abbrev pub no_amounts : List (List ℕ)
-no_amounts = map (λ column. []) amount_columns
+no_amounts = map (λ amount. []) amounts
 
 -- a claim that is decided: a pended one has its reason, and no remarks
 abbrev pub told_by : Verdict → Outcome → Told
@@ -79,10 +74,10 @@ records_of decided provider [] = []
 records_of decided provider (rows ∷ rest) = map (record_of decided provider) rows ++ records_of decided (suc provider) rest
 
 -- the sum of an amount over the paid claims of a journal, as money
-abbrev pub total_text : List Event → (Outcome → ℤ) → List ℕ
-total_text J amount = money_text (sum_of amount (paid_outcomes J))
+abbrev pub total_text : List Event → Amount → List ℕ
+total_text J amount = money_text (sum_of (amount_of amount) (paid_outcomes J))
 
 -- the record at the end: how many claims are accepted, and the sums over the paid claims
 abbrev pub total_fields : List Event → List (List ℕ)
 total_fields J =
-    codes "total" ∷ decimal (accepted J) ∷ [] ∷ [] ∷ [] ∷ [] ∷ (map (λ column. total_text J column.1) amount_columns ++ [] ∷ [])
+    codes "total" ∷ decimal (accepted J) ∷ [] ∷ [] ∷ [] ∷ [] ∷ (map (total_text J) amounts ++ [] ∷ [])

@@ -7,6 +7,7 @@
 //! says what a writer has got of it; then read `report.rt`.
 #![tactic(auto)]
 
+mod amount;
 mod decisions;
 mod fault;
 mod record;

@@ -1,15 +1,17 @@
 //! The fields of the report's records.
-ghost use Rattle.std.specs.Prelude.{◌≡◌, ◌≤◌, ℕ, pos, List, [], ◌∷◌, decimal, replicate, OnOk};
+ghost use Rattle.std.specs.Prelude.{◌≡◌, ◌≤◌, ℕ, pos, List, [], ◌∷◌, decimal, map, replicate, OnOk};
 ghost use Rattle.csv.specs.Records.{fields_of};
 ghost use Rattle.fixpoint.specs.Money.{money_text};
 ghost use Rattle.journal.specs.Events.{accepted as accepted_in};
 ghost use Rattle.journal.specs.declared.event.Event.{Event as AnyEvent};
 ghost use Rattle.claim_terms.specs.Terms.{texts_of};
+ghost use Rattle.remit.specs.Amounts.{amount_of, name_of};
 ghost use Rattle.remit.specs.Held.{Pushes};
-ghost use Rattle.remit.specs.Looked.{AreSums, looked_up, outcome_in, sum_texts};
+ghost use Rattle.remit.specs.Looked.{AreSums, looked_up, outcome_in, sum_in, sum_texts};
 ghost use Rattle.remit.specs.Texts.{remarks_text};
-ghost use Rattle.remit.specs.Records.{amounts_of, header_fields, record_of, told_by, told_fields, told_of, told_refused, total_fields};
+ghost use Rattle.remit.specs.Records.{header_fields, record_of, told_by, told_fields, told_of, told_refused, total_fields};
 
+use crate::amount::{AMOUNTS, Amount};
 use crate::decisions::Decisions;
 use crate::sums::Sums;
 use crate::texts::{fault_text, reason_text, remarks_text, sum_text};
@@ -19,35 +21,24 @@ use itoa::Buffer;
 use settlement::{Money, Outcome, Verdict};
 use std::alloc::{AllocError, Global};
 
-/// How many amounts a record has.
-const AMOUNTS: usize = 6;
-
-/// How many fields of the record with the totals are empty in front of the sums.
-const EMPTY_IN_TOTAL: usize = 4;
+/// The names of the fields in front of the amounts. The record with the totals fills the first two of them.
+const FIELDS_BEFORE: [&[u8]; 6] = [
+    b"provider",
+    b"record",
+    b"claim",
+    b"member",
+    b"status",
+    b"reason",
+];
 
 /// Fills the record with the names of the fields.
 pub fn fill_header(line: &mut ByteRecord) -> Result<(), AllocError>
     ensures { OnOk result (fields_of line.new ≡ header_fields) }
 {
     line.clear();
-    push_all(
-        line,
-        &[
-            b"provider",
-            b"record",
-            b"claim",
-            b"member",
-            b"status",
-            b"reason",
-            b"allowed",
-            b"ded",
-            b"copay",
-            b"coins",
-            b"share",
-            b"paid",
-            b"remarks",
-        ],
-    )
+    push_all(line, &FIELDS_BEFORE)?;
+    push_names(line, &AMOUNTS)?;
+    line.push_field(b"remarks")
 }
 
 /// Fills the record with a row of a provider's file.
@@ -94,8 +85,8 @@ pub fn fill_total(
     line.clear();
     line.push_field(b"total")?;
     push_number(line, accepted)?;
-    push_repeated(line, b"", EMPTY_IN_TOTAL)?;
-    push_sums(alloc, line, sums)?;
+    push_repeated(line, b"", FIELDS_BEFORE.len() - 2)?;
+    push_sums(alloc, line, sums, &AMOUNTS)?;
     line.push_field(b"")
 }
 
@@ -111,7 +102,7 @@ fn push_claim(
         Some(decision) => push_decision(alloc, line, decision),
         None => {
             line.push_field(b"late")?;
-            push_repeated(line, b"", 1 + AMOUNTS + 1)
+            push_repeated(line, b"", 1 + AMOUNTS.len() + 1)
         }
     }
 }
@@ -123,19 +114,19 @@ fn push_decision(alloc: Global, line: &mut ByteRecord, decision: &Outcome) -> Re
         Verdict::Paid => {
             line.push_field(b"paid")?;
             line.push_field(b"")?;
-            push_amounts(line, decision)?;
+            push_amounts(line, decision, &AMOUNTS)?;
             push_remarks(alloc, line, decision)
         }
         Verdict::Denied => {
             line.push_field(b"denied")?;
             line.push_field(b"")?;
-            push_repeated(line, b"0.00", AMOUNTS)?;
+            push_repeated(line, b"0.00", AMOUNTS.len())?;
             push_remarks(alloc, line, decision)
         }
         Verdict::Pended(reason) => {
             line.push_field(b"pended")?;
             line.push_field(reason_text(alloc, reason)?.as_bytes())?;
-            push_repeated(line, b"0.00", AMOUNTS)?;
+            push_repeated(line, b"0.00", AMOUNTS.len())?;
             line.push_field(b"")
         }
     }
@@ -147,29 +138,46 @@ fn push_refused(alloc: Global, line: &mut ByteRecord, fault: RowFault) -> Result
 {
     line.push_field(b"refused")?;
     line.push_field(fault_text(alloc, fault)?.as_bytes())?;
-    push_repeated(line, b"", AMOUNTS + 1)
+    push_repeated(line, b"", AMOUNTS.len() + 1)
 }
 
-fn push_amounts(line: &mut ByteRecord, decision: &Outcome) -> Result<(), AllocError>
-    ensures { OnOk result (Pushes line.old line.new (amounts_of decision.now)) }
+// The names of these amounts.
+fn push_names(line: &mut ByteRecord, amounts: &[Amount]) -> Result<(), AllocError>
+    ensures { OnOk result (Pushes line.old line.new (map name_of amounts.now)) }
 {
-    push_money(line, decision.allowed)?;
-    push_money(line, decision.ded)?;
-    push_money(line, decision.copay)?;
-    push_money(line, decision.coins)?;
-    push_money(line, decision.share)?;
-    push_money(line, decision.paid)
+    for amount in amounts {
+        line.push_field(amount.name().as_bytes())?;
+    }
+    Ok(())
 }
 
-fn push_sums(alloc: Global, line: &mut ByteRecord, sums: Sums) -> Result<(), AllocError>
-    ensures { OnOk result (Pushes line.old line.new (sum_texts sums)) }
+// These amounts of an outcome.
+fn push_amounts(
+    line: &mut ByteRecord,
+    decision: &Outcome,
+    amounts: &[Amount],
+) -> Result<(), AllocError>
+    ensures { OnOk result (Pushes line.old line.new (map (λ amount. money_text (amount_of amount decision.now)) amounts.now)) }
 {
-    push_sum(alloc, line, sums.allowed)?;
-    push_sum(alloc, line, sums.ded)?;
-    push_sum(alloc, line, sums.copay)?;
-    push_sum(alloc, line, sums.coins)?;
-    push_sum(alloc, line, sums.share)?;
-    push_sum(alloc, line, sums.paid)
+    for amount in amounts {
+        push_money(line, amount.of(decision))?;
+    }
+    Ok(())
+}
+
+// The sums of these amounts.
+fn push_sums(
+    alloc: Global,
+    line: &mut ByteRecord,
+    sums: Sums,
+    amounts: &[Amount],
+) -> Result<(), AllocError>
+    ensures { OnOk result (Pushes line.old line.new (map (λ amount. money_text (pos (sum_in sums amount))) amounts.now)) }
+{
+    for amount in amounts {
+        push_sum(alloc, line, sums.of(*amount))?;
+    }
+    Ok(())
 }
 
 fn push_remarks(alloc: Global, line: &mut ByteRecord, decision: &Outcome) -> Result<(), AllocError>

@@ -2,8 +2,9 @@
 ghost use Rattle.std.specs.Prelude.{◌≡◌, ◌≤◌, ◌<◌, ◌+◌, ◌^◌, pos, ◌+ℤ◌, length};
 ghost use Rattle.fixpoint.specs.Number.{greatest_units};
 ghost use Rattle.remit.specs.Decided.{paid_by, paid_in};
-ghost use Rattle.remit.specs.Looked.{AreGrown, AreSums, HaveRoom};
+ghost use Rattle.remit.specs.Looked.{AreGrown, AreSums, HaveRoom, sum_in};
 
+use crate::amount::Amount;
 use journal::Event;
 use settlement::{Money, Outcome, Verdict};
 
@@ -35,6 +36,20 @@ impl Sums {
             sums = sums.with(event);
         }
         sums
+    }
+
+    /// The sum of an amount.
+    pub fn of(self, amount: Amount) -> u128
+        ensures { result ≡ sum_in self amount }
+    {
+        match amount {
+            Amount::Allowed => self.allowed,
+            Amount::Deductible => self.ded,
+            Amount::Copay => self.copay,
+            Amount::Coinsurance => self.coins,
+            Amount::Share => self.share,
+            Amount::Paid => self.paid,
+        }
     }
 
     // With the amounts of what the event decides, if that is paid.

@@ -12,74 +12,17 @@ use std::alloc::{AllocError, Global};
 use std::io;
 use std::io::{ErrorKind, Write};
 use std::test::Fail;
+use worked_examples::{
+    both_files, empty_remittance, header, health_plan, late_remittance, remittance,
+};
 
 mod lengths;
-
-/// A plan with one field. The journals are given, so that its roles decide nothing here.
-const PLAN: &[u8] = br#"
-version = 1
-fields = [{name = "code", kind = "text"}]
-[roles]
-cover = "true"
-fee = "100"
-deductible = "50"
-copay = "10"
-rate = "0.2"
-oop_max = "60"
-"#;
-
-const HEADER: &[u8] = b"claim,member,service,billed,code\n";
-
-const FIRST: &[u8] = b"claim,member,service,billed,code
-c1,M1,2024-01-05,120.00,A
-c2,M1,2024-02-01,40.00,B
-c3,M1,2024-02-02,40.00,Z
-c4,M1,2024-03-01,100.00,A
-";
-
-const SECOND: &[u8] = b"claim,member,service,billed,code
-d1,M2,2024-01-09,30.00,B
-d2,M2,2024-01-10,9.999,B
-d3,M2,2024-01-11,10.00,X
-";
-
-const BOTH: &[&[u8]] = &[FIRST, SECOND];
-
-const REPORT: &[u8] =
-    b"provider,record,claim,member,status,reason,allowed,ded,copay,coins,share,paid,remarks\r
-1,1,c1,M1,paid,,100.00,50.00,10.00,8.00,60.00,40.00,OVER\r
-1,2,c2,M1,paid,,40.00,0.00,10.00,6.00,0.00,40.00,MET\r
-1,3,c3,M1,pended,norule:1,0.00,0.00,0.00,0.00,0.00,0.00,\r
-1,4,c4,M1,paid,,100.00,0.00,10.00,18.00,0.00,100.00,MET\r
-2,1,d1,M2,paid,,30.00,30.00,0.00,0.00,30.00,0.00,\r
-2,2,,,refused,notcents:4,,,,,,,\r
-2,3,d3,M2,denied,,0.00,0.00,0.00,0.00,0.00,0.00,\r
-total,6,,,,,270.00,80.00,30.00,32.00,90.00,180.00,\r
-";
 
 const HEADER_RECORD: &str =
     "provider,record,claim,member,status,reason,allowed,ded,copay,coins,share,paid,remarks\r\n";
 
 /// The first 37 bytes of each report.
 const FIRST_BYTES: &[u8] = b"provider,record,claim,member,status,r";
-
-const NO_CLAIMS: &[u8] =
-    b"provider,record,claim,member,status,reason,allowed,ded,copay,coins,share,paid,remarks\r
-total,0,,,,,0.00,0.00,0.00,0.00,0.00,0.00,\r
-";
-
-/// Both files where no claim is admitted.
-const LATE_REPORT: &[u8] =
-    b"provider,record,claim,member,status,reason,allowed,ded,copay,coins,share,paid,remarks\r
-1,1,c1,M1,late,,,,,,,,\r
-1,2,c2,M1,late,,,,,,,,\r
-1,3,c3,M1,late,,,,,,,,\r
-1,4,c4,M1,late,,,,,,,,\r
-2,1,d1,M2,late,,,,,,,,\r
-2,2,,,refused,notcents:4,,,,,,,\r
-2,3,d3,M2,late,,,,,,,,\r
-total,0,,,,,0.00,0.00,0.00,0.00,0.00,0.00,\r
-";
 
 const QUOTED: &[u8] =
     b"claim,member,service,billed,code\na,\"M\"\"1\",2024-02-29,1.00,A\n\"b,2\",M2,2024-02-29,1.00,A\n";
@@ -243,7 +186,7 @@ fn write_over<W: Write>(
     journal: &[Event],
     out: &mut Out<W>,
 ) -> Option<Result<(), WriteFault>> {
-    let plan = read_plan(alloc, PLAN).ok()?;
+    let plan = read_plan(alloc, health_plan().as_bytes()).ok()?;
     let terms = Terms::new(alloc, &plan, files, None, cutoff).ok()?;
     Some(write_journal(alloc, &terms, journal, out))
 }
@@ -287,14 +230,30 @@ const DECISIONS: &[(usize, Verdict, [i64; 6], &[&str])] = &[
 fn the_report_of_two_files(rt: HostRuntime) -> Result<(), Fail> {
     let alloc = rt.alloc();
     let journal = journal_of(alloc, ACCEPTS, 2, DECISIONS)?;
-    assert!(rt; reports(alloc, BOTH, None, journal.as_slice(), REPORT));
+    assert!(rt;
+        reports(
+            alloc,
+            both_files(),
+            None,
+            journal.as_slice(),
+            remittance().as_bytes()
+        )
+    );
     Ok(())
 }
 
 #[test]
 fn the_report_of_no_claims(rt: HostRuntime) {
     let journal = [Event::End { provider: 1 }, Event::Close];
-    assert!(rt; reports(rt.alloc(), &[HEADER], None, &journal, NO_CLAIMS));
+    assert!(rt;
+        reports(
+            rt.alloc(),
+            &[header()],
+            None,
+            &journal,
+            empty_remittance().as_bytes()
+        )
+    );
 }
 
 const WITH_REMARKS: &[(usize, Verdict, [i64; 6], &[&str])] = &[(
@@ -362,7 +321,7 @@ fn write_late<W: Write>(
     files: &[&[u8]],
     out: &mut Out<W>,
 ) -> Option<Result<(), WriteFault>> {
-    let plan = read_plan(alloc, PLAN).ok()?;
+    let plan = read_plan(alloc, health_plan().as_bytes()).ok()?;
     let terms = Terms::new(alloc, &plan, files, None, Some(0)).ok()?;
     let gate = GateState::new(alloc, &terms).ok()?;
     let batch = Batch::from_state(gate, &terms).ok()?;
@@ -378,7 +337,7 @@ fn reports_late(alloc: Global, files: &[&[u8]], report: &[u8]) -> bool {
 
 #[test]
 fn the_report_of_a_run_that_admits_nothing(rt: HostRuntime) {
-    assert!(rt; reports_late(rt.alloc(), BOTH, LATE_REPORT));
+    assert!(rt; reports_late(rt.alloc(), both_files(), late_remittance().as_bytes()));
 }
 
 // A file with one record whose member is a text of 257 bytes.
@@ -437,7 +396,7 @@ fn a_full_writer_has_the_first_bytes(rt: HostRuntime) -> Result<(), Fail> {
         taken: Vec::new(alloc),
         limit: 37,
     });
-    let answer = write_over(alloc, BOTH, None, journal.as_slice(), &mut out);
+    let answer = write_over(alloc, both_files(), None, journal.as_slice(), &mut out);
     assert!(rt; is_cut_at(answer, 37) && out.failed());
     assert!(rt; out.into_inner().taken.as_slice() == FIRST_BYTES);
     Ok(())
@@ -461,7 +420,7 @@ impl Write for Closed {
 fn a_writer_that_takes_nothing(rt: HostRuntime) {
     let journal = [Event::End { provider: 1 }, Event::Close];
     let mut out = Out::new(Closed);
-    let answer = write_over(rt.alloc(), &[HEADER], None, &journal, &mut out);
+    let answer = write_over(rt.alloc(), &[header()], None, &journal, &mut out);
     assert!(rt; is_cut_at(answer, 0) && out.failed());
 }
 
@@ -491,7 +450,7 @@ fn one_field_records(alloc: Global, count: usize) -> Result<String, AllocError> 
 #[test]
 fn bytes_are_counted_over_pieces(rt: HostRuntime) -> Result<(), Fail> {
     let alloc = rt.alloc();
-    let file = repeated(alloc, HEADER, b"x\n", 3_000)?;
+    let file = repeated(alloc, header(), b"x\n", 3_000)?;
     let mut out = Out::new(Bounded {
         taken: Vec::new(alloc),
         limit: 66_000,
@@ -529,14 +488,20 @@ fn a_report_or_no_memory(rt: HostRuntime) {
         return;
     };
     let mut out = Out::new(Vec::new(alloc));
-    let answer = write_over(alloc, BOTH, None, journal.as_slice(), &mut out);
-    assert!(rt; whole_or_front(answer, out.into_inner().as_slice(), REPORT));
+    let answer = write_over(alloc, both_files(), None, journal.as_slice(), &mut out);
+    assert!(rt; whole_or_front(answer, out.into_inner().as_slice(), remittance().as_bytes()));
 }
 
 #[test]
 fn the_report_of_a_run_or_no_memory(rt: HostRuntime) {
     let alloc = rt.alloc();
     let mut out = Out::new(Vec::new(alloc));
-    let answer = write_late(alloc, BOTH, &mut out);
-    assert!(rt; whole_or_front(answer, out.into_inner().as_slice(), LATE_REPORT));
+    let answer = write_late(alloc, both_files(), &mut out);
+    assert!(rt;
+        whole_or_front(
+            answer,
+            out.into_inner().as_slice(),
+            late_remittance().as_bytes()
+        )
+    );
 }

@@ -1,10 +1,10 @@
 //! The texts of the report's fields.
-ghost use Rattle.std.specs.Prelude.{◌≡◌, ◌++◌, codes, flat_map, pos, string_bytes, IfOk, OnOk};
+ghost use Rattle.std.specs.Prelude.{◌≡◌, pos, string_bytes, IfOk};
 ghost use Rattle.fixpoint.specs.Money.{money_text};
 ghost use Rattle.settlement.specs.ReasonText.{reason_text};
 ghost use Rattle.remit.specs.Texts.{fault_text, remarks_text};
 
-use feel_tests::Text;
+use feel_tests::{Bytes, Text, append_joined};
 use intake_csv::{RowCause, RowFault};
 use settlement::Reason;
 use std::alloc::{AllocError, Global};
@@ -43,22 +43,8 @@ pub fn remarks_text(alloc: Global, remarks: &[Text]) -> Result<Vec<u8>, AllocErr
     ensures { IfOk result (λ text. text.items ≡ remarks_text remarks.now) }
 {
     let mut text = Vec::new(alloc);
-    if let [first, others @ ..] = remarks {
-        text.extend_from_slice(first.as_str().as_bytes())?;
-        append_others(&mut text, others)?;
-    }
+    append_joined::<Text, Bytes>(&mut text, ";", remarks)?;
     Ok(text)
-}
-
-// The remarks, with a semicolon in front of each.
-fn append_others(text: &mut Vec<u8>, remarks: &[Text]) -> Result<(), AllocError>
-    ensures { OnOk result (text.new.items ≡ text.old.items ++ flat_map (λ remark. codes ";" ++ remark) remarks.now) }
-{
-    for remark in remarks {
-        text.push(b';')?;
-        text.extend_from_slice(remark.as_str().as_bytes())?;
-    }
-    Ok(())
 }
 
 /// The text of a sum of money, which has more digits than a number can have.

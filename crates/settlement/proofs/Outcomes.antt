@@ -14,7 +14,7 @@ use Rattle.settlement.specs.declared.outcome.Outcome.{Outcome}
 use Rattle.settlement.specs.declared.outcome.Reason.{Reason}
 use Rattle.settlement.specs.declared.outcome.Reason.TheVariants.{Range}
 use Rattle.settlement.specs.declared.role.Role.{Role}
-use Rattle.settlement.specs.declared.terms.Terms.{Terms}
+use Rattle.settlement.specs.declared.terms.RoleTerms.{RoleTerms}
 use Rattle.settlement.specs.Accumulators.{added, after, are_in_range, AreInRange}
 use Rattle.settlement.specs.Given.{given_by}
 use Rattle.settlement.specs.Roles.{value_of, is_true_flag, terms, remarks_of}
@@ -32,13 +32,13 @@ range_kept : (acc : Acc) (o : Outcome) (fits : Bool) → are_in_range (after acc
 range_kept acc o true is ranges = is
 range_kept acc o false is ranges = nothing_added acc ranges
 
-range_by_terms : (billed : ℤ) (acc : Acc) (remarks : List (List ℕ)) (found : Result Terms Role) → AreInRange acc → AreInRange (after acc (by_terms billed acc remarks found))
+range_by_terms : (billed : ℤ) (acc : Acc) (remarks : List (List ℕ)) (found : Result RoleTerms Role) → AreInRange acc → AreInRange (after acc (by_terms billed acc remarks found))
 range_by_terms billed acc remarks (Err role) ranges = nothing_added acc ranges
 range_by_terms billed acc remarks (Ok terms) ranges =
     let o = paid (amounts billed terms acc) remarks in
     range_kept acc o (are_in_range (after acc o)) refl ranges
 
-range_by_cover : (covered : Bool) (billed : ℤ) (acc : Acc) (remarks : List (List ℕ)) (found : Result Terms Role) → AreInRange acc → AreInRange (after acc (if covered then by_terms billed acc remarks found else denied remarks))
+range_by_cover : (covered : Bool) (billed : ℤ) (acc : Acc) (remarks : List (List ℕ)) (found : Result RoleTerms Role) → AreInRange acc → AreInRange (after acc (if covered then by_terms billed acc remarks found else denied remarks))
 range_by_cover true billed acc remarks found ranges = range_by_terms billed acc remarks found ranges
 range_by_cover false billed acc remarks found ranges = nothing_added acc ranges
 

@@ -18,14 +18,14 @@ use Rattle.dtable.specs.declared.table.Origin.TheVariants.{Given, Earlier}
 use Rattle.dtable.specs.declared.table.Rule.{Rule}
 use Rattle.dtable.specs.declared.table.Table.{Table}
 use Rattle.dtable.specs.Environment.{Environment, answers_of, and_then, env, table_value, inside, number_behind}
-use Rattle.dtable.specs.HitPolicy.{Outcome, by_hit}
+use Rattle.dtable.specs.HitPolicy.{TableValue, by_hit}
 use Rattle.dtable.specs.Inputs.{value_at, reads, needs}
 use Rattle.dtable.specs.Matching.{value_read, holds_of, cells_hold, rule_matches, matching, is_outside, first_outside}
 use Rattle.dtable.specs.Plan.{PlanParts}
 use Rattle.settlement.specs.declared.acc.Acc.{Acc}
 use Rattle.settlement.specs.declared.claim.Claim.{Claim}
 use Rattle.settlement.specs.declared.role.Role.{Role}
-use Rattle.settlement.specs.declared.terms.Terms.{Terms}
+use Rattle.settlement.specs.declared.terms.RoleTerms.{RoleTerms}
 use Rattle.settlement.specs.Given.{given_by, values_given}
 use Rattle.settlement.specs.Reads.{source_reads, roles_read, is_read, Serves}
 use Rattle.settlement.specs.Roles.{value_of, is_true_flag, terms, remarks_of}
@@ -101,7 +101,7 @@ table_alike given other earlier t alike =
     ∙ ap (λ rules. inside (first_outside other earlier t) (number_behind earlier) (by_hit t.hit (number_behind earlier) t rules)) rules
 
 next_alike :
-    {X : Type 0} (here : Outcome) (next more : List Answer → Result X Fault) → ((answers : List Answer) → next answers ≡ more answers)
+    {X : Type 0} (here : TableValue) (next more : List Answer → Result X Fault) → ((answers : List Answer) → next answers ≡ more answers)
     → and_then here next ≡ and_then here more
 next_alike (Ok answers) next more same = same answers
 next_alike (Err fault) next more same = refl
@@ -116,7 +116,7 @@ answers_alike given other earlier (t ∷ ts) alike =
     let more = λ (answers : List Answer). answers_of other (earlier ++ answers ∷ []) ts in
     let rest : (answers : List Answer) → next answers ≡ more answers =
     λ answers. answers_alike given other (earlier ++ answers ∷ []) ts (λ place e. alike place (or_right (any_reads t.inputs place) (needs ts place) e)) in
-    ap (λ (value : Outcome). and_then value next) here ∙ next_alike (table_value other earlier t) next more rest
+    ap (λ (value : TableValue). and_then value next) here ∙ next_alike (table_value other earlier t) next more rest
 
 -- a plan's tables answer the same
 env_alike : (plan : PlanParts) (given other : List Slot) → AlikeWhere (needs plan.tables) given other → env plan given ≡ env plan other
@@ -163,7 +163,7 @@ roles_alike :
 roles_alike roles billed acc given other answers same =
     let remarks = remarks_of answers roles.remarks in
     ap (λ (cover : Option Value). if is_true_flag cover then by_terms billed acc remarks (terms given answers roles) else denied remarks) same.cover
-    ∙ ap (λ (found : Result Terms Role). if is_true_flag (value_of other answers roles.cover) then by_terms billed acc remarks found else denied remarks)
+    ∙ ap (λ (found : Result RoleTerms Role). if is_true_flag (value_of other answers roles.cover) then by_terms billed acc remarks found else denied remarks)
     (terms_alike given other answers roles same)
 
 tables_alike :

@@ -16,7 +16,7 @@ use Rattle.dtable.specs.Inputs.{value_at}
 use Rattle.dtable.specs.Matching.{single}
 use Rattle.settlement.specs.declared.role.Role.{Role}
 use Rattle.settlement.specs.declared.role.Role.TheVariants.{Fee, Deductible, Copay, Rate, OopMax}
-use Rattle.settlement.specs.declared.terms.Terms.{Terms}
+use Rattle.settlement.specs.declared.terms.RoleTerms.{RoleTerms}
 
 -- the number of a role in a program's messages
 abbrev pub number_of : Role → ℕ
@@ -52,7 +52,7 @@ with_role role None next = Err role
 with_role role (Some units) next = next units
 
 -- the number roles, in order: amounts of money and a rate, or the first role that isn't what it must be
-abbrev pub terms : List Slot → Environment → Roles → Result Terms Role
+abbrev pub terms : List Slot → Environment → Roles → Result RoleTerms Role
 terms given env roles =
     with_role Fee (units_where is_money (value_of given env roles.fee)) (λ fee.
     with_role Deductible (units_where is_money (value_of given env roles.deductible)) (λ deductible.

@@ -17,7 +17,7 @@ use Rattle.settlement.specs.declared.outcome.Reason.TheVariants.{Outside, NoRule
 use Rattle.settlement.specs.declared.outcome.Verdict.{Verdict}
 use Rattle.settlement.specs.declared.outcome.Verdict.TheVariants.{Paid, Denied, Pended}
 use Rattle.settlement.specs.declared.role.Role.{Role}
-use Rattle.settlement.specs.declared.terms.Terms.{Terms}
+use Rattle.settlement.specs.declared.terms.RoleTerms.{RoleTerms}
 use Rattle.settlement.specs.Accumulators.{after, are_in_range}
 use Rattle.settlement.specs.Given.{given_by}
 use Rattle.settlement.specs.Roles.{value_of, is_true_flag, terms, remarks_of}
@@ -27,7 +27,7 @@ abbrev pub left_of : ℤ → ℤ → ℤ
 left_of limit used = int_max (pos 0) (limit -ℤ used)
 
 -- the amounts of a covered claim that is billed at so much
-abbrev pub amounts : ℤ → Terms → Acc → Amounts
+abbrev pub amounts : ℤ → RoleTerms → Acc → Amounts
 amounts billed terms acc =
     -- allowed is what is billed, and no more than the fee
     let allowed = int_min billed terms.fee in
@@ -89,7 +89,7 @@ abbrev pub within_range : Acc → Outcome → Outcome
 within_range acc outcome = if are_in_range (after acc outcome) then outcome else pended (Range 0)
 
 -- a covered claim: a role that isn't what it must be pends it
-abbrev pub by_terms : ℤ → Acc → List (List ℕ) → Result Terms Role → Outcome
+abbrev pub by_terms : ℤ → Acc → List (List ℕ) → Result RoleTerms Role → Outcome
 by_terms billed acc remarks (Err role) = pended (Term role)
 by_terms billed acc remarks (Ok terms) = within_range acc (paid (amounts billed terms acc) remarks)
 

@@ -4,7 +4,7 @@ ghost use Rattle.settlement.specs.Settlement.{amounts};
 
 use crate::acc::Acc;
 use crate::money::Money;
-use crate::terms::Terms;
+use crate::terms::RoleTerms;
 
 /// What is allowed of what is billed, and who pays it.
 #[derive(Clone, Copy, Debug)]
@@ -18,7 +18,7 @@ pub struct Amounts {
 }
 
 /// The amounts of a claim that is billed at so much.
-pub fn amounts_of(billed: Money, terms: Terms, acc: Acc) -> Amounts
+pub fn amounts_of(billed: Money, terms: RoleTerms, acc: Acc) -> Amounts
     ensures { result ≡ amounts billed terms acc }
 {
     let allowed = billed.min(terms.fee);

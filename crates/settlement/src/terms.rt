@@ -17,7 +17,7 @@ use std::alloc::{AllocError, Global};
 
 /// The number roles of a claim: amounts of money and a rate.
 #[derive(Clone, Copy, Debug)]
-pub struct Terms {
+pub struct RoleTerms {
     pub fee: Money,
     pub deductible: Money,
     pub copay: Money,
@@ -42,7 +42,7 @@ pub fn terms_of(
     env: &Env,
     roles: &Roles,
     places: &RolePlaces,
-) -> Result<Terms, Role>
+) -> Result<RoleTerms, Role>
     requires { ArePlaced env.now.tables roles.now places.now }
     ensures { result ≡ terms inputs.now env.now roles.now }
 {
@@ -55,7 +55,7 @@ pub fn terms_of(
     let oop_max = money_of(value_of(inputs, env, &roles.oop_max, places.oop_max)).ok_or(
         Role::OopMax,
     )?;
-    Ok(Terms {
+    Ok(RoleTerms {
         fee,
         deductible,
         copay,

@@ -12,11 +12,12 @@ use examples::{
 };
 use feel_tests::{Day, PlainFault, TEXT_LIMIT_BYTES, Text, Value, read_plain};
 use fixpoint::Fixed;
-use plans::{CHAINED, FAULTY, FLAT, HEALTH, NAMED, OPEN, RATE_OF_CLAIM};
+use plans::{CHAINED, FAULTY, FLAT, NAMED, OPEN, RATE_OF_CLAIM};
 use std::alloc::{AllocError, Global};
 use std::fmt::Write;
 use std::process::Abort;
 use std::test::Fail;
+use worked_examples::health_plan;
 
 fn money(rt: &impl Abort, cents: i64) -> Money {
     let amount = Fixed::from_units(cents.saturating_mul(100)).expect(rt, "a number");
@@ -112,7 +113,7 @@ fn told(alloc: Global, outcome: &Outcome, before: Acc) -> Result<String, AllocEr
     let mut told = String::new(alloc);
     write!(told, "{:?}", outcome.verdict)?;
     tell_amounts(&mut told, outcome)?;
-    for remark in outcome.remarks.as_slice() {
+    for remark in &outcome.remarks {
         write!(told, " {}", remark.as_str())?;
     }
     tell_left(&mut told, after(before, outcome))?;
@@ -204,7 +205,7 @@ fn faults_of_the_tables(rt: HostRuntime) {
 
 #[test]
 fn tables_give_cover_fee_and_remarks(rt: HostRuntime) {
-    decides(&rt, rt.alloc(), HEALTH, &TREATED);
+    decides(&rt, rt.alloc(), health_plan(), &TREATED);
 }
 
 #[test]
@@ -247,12 +248,12 @@ fn decides_both(rt: &impl Abort, alloc: Global, text: &str, examples: &[Example;
 
 #[test]
 fn one_adjudicator_decides_claims_of_two_codes(rt: HostRuntime) {
-    decides_both(&rt, rt.alloc(), HEALTH, &[FIRST, SECOND]);
+    decides_both(&rt, rt.alloc(), health_plan(), &[FIRST, SECOND]);
 }
 
 #[test]
 fn one_adjudicator_decides_after_a_pended_claim(rt: HostRuntime) {
-    decides_both(&rt, rt.alloc(), HEALTH, &BEHIND_A_PENDED);
+    decides_both(&rt, rt.alloc(), health_plan(), &BEHIND_A_PENDED);
 }
 
 #[test]
@@ -296,7 +297,7 @@ fn settles_after_a_refusal(rt: &impl Abort, alloc: Global, plan: &Plan) {
 
 #[test]
 fn a_claim_is_copied_or_no_memory(rt: HostRuntime) {
-    if let Some(plan) = plan_or_no_memory(&rt, rt.alloc(), HEALTH) {
+    if let Some(plan) = plan_or_no_memory(&rt, rt.alloc(), health_plan()) {
         let _copied = copies(&rt, rt.alloc(), &plan);
     }
 }
@@ -364,7 +365,7 @@ fn fits_not(rt: &impl Abort, alloc: Global, claim: &Claim) {
 
 #[test]
 fn claims_have_the_fields_of_their_plan(rt: HostRuntime) {
-    let health = plan(&rt, rt.alloc(), HEALTH);
+    let health = plan(&rt, rt.alloc(), health_plan());
     assert!(rt; fields_of(&health).len() == 1);
     assert!(rt; fits_one(&rt, rt.alloc(), &health).is_ok());
 }
@@ -385,7 +386,7 @@ fn is_that_claim(rt: &impl Abort, plan: &Plan, claim: &Claim) {
 
 #[test]
 fn a_copy_of_a_claim(rt: HostRuntime) {
-    let plan = plan(&rt, rt.alloc(), HEALTH);
+    let plan = plan(&rt, rt.alloc(), health_plan());
     assert!(rt; copies(&rt, rt.alloc(), &plan).is_ok());
 }
 

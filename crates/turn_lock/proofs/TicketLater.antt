@@ -5,7 +5,7 @@ use mathlib.Core.Option.{some}
 use native.Mathlib.Decide.{ℕ_discrete}
 use lib.Seq.{set-get_or}
 use prog.Atomic.{either}
-use Rattle.turn_lock.specs.declared.ticket.view.Known.{Known}
+use Rattle.turn_lock.specs.declared.ticket.view.LiveView.{LiveView}
 use Rattle.turn_lock.specs.Ticket.{TicketState, TicketSeat, HasTicket, Has, last_word, next_of, TicketLockRule}
 use Rattle.turn_lock.specs.Later.{next_word, served_word, GoesToDraw, DrawsTicket, GoesToLeave, LeavesTicket, Next, splits, joins, settles, looks, draws, serves, leaves, Later, here, onward}
 use Rattle.turn_lock.proofs.TicketViews.{up_one, holds_ticket}
@@ -57,7 +57,7 @@ module _ {T : Type 0} (leads : T → T → Type 0) (first : ℕ) where
   leave_raises : (s s' : TicketState T) (r : Rule s) (id : ℕ) (me me' : TicketSeat T) → GoesToLeave leads s s' id me me' → (served_word s' ≡ served_word s + 1) × (next_word s' ≡ next_word s)
   leave_raises s s' r id me me' goes =
       let is = served_is s s' r _ goes.0.words in
-      let k : Known T = goes.1.0 in
+      let k : LiveView T = goes.1.0 in
       let there : Has s id k = goes.0.is_there ∙ ap some goes.1.2 in
       let turn = r.words.tickets_in_turn id k (served_word s) there (holds_ticket k (served_word s) goes.1.3) in
       let low : served_word s < r.words.next = turn.1 in
@@ -92,7 +92,7 @@ module _ {T : Type 0} (leads : T → T → Type 0) (first : ℕ) where
       let low : next_word b ≤ next_word c = (words_rise b c later).0 in
       let found : next_word c ≡ u = again.5 in omega arith
 
-  pub left_for_good : (a b c : TicketState T) (t u : ℕ) → Rule a → LeavesTicket leads t a b → Later leads first b c → Rule c → (i : ℕ) (k : Known T) → Has c i k → HasTicket u k.stage → t < u
+  pub left_for_good : (a b c : TicketState T) (t u : ℕ) → Rule a → LeavesTicket leads t a b → Later leads first b c → Rule c → (i : ℕ) (k : LiveView T) → Has c i k → HasTicket u k.stage → t < u
   left_for_good a b c t u r left later r' i k there has =
       let raised : served_word b ≡ served_word a + 1 = (leave_raises a b r left.0 left.1 left.2 left.3).0 in
       let was : served_word a ≡ t = left.4 in

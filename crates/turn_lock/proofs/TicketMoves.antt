@@ -10,7 +10,7 @@ use prog.Atomic.{either}
 use Rattle.atomic_table.specs.Table.{Step, opening, step, keeps, takes, gives, stepped, put_back, rest, Allows, Splits, Joins}
 use Rattle.atomic_table.proofs.Lists.{set_again, set_else}
 use Rattle.turn_lock.specs.declared.ticket.view.Stage.TheVariants.{Idle, Looked, Waiting, Holding}
-use Rattle.turn_lock.specs.declared.ticket.view.Known.{Known}
+use Rattle.turn_lock.specs.declared.ticket.view.LiveView.{LiveView}
 use Rattle.turn_lock.specs.declared.ticket.view.TicketView.{TicketView}
 use Rattle.turn_lock.specs.declared.ticket.view.TicketView.TheVariants.{Spent, Live}
 use Rattle.turn_lock.specs.Ticket.{last_word, TicketState, TicketSeat, newcomer, idle_at, looked_at, waiting_for, in_section, after_section, both_known, beside, seen_alone, stage_of, next_of, known, Has, IsHome, IsOut, TicketLockRule}
@@ -24,7 +24,7 @@ module _ {T : Type 0} (leads : T → T → Type 0) (first : ℕ) where
   Rule = TicketLockRule leads first
 
   -- a pass with no ticket gets another view with none, and no word changes; what it has seen leads to the current value
-  freely : (s : TicketState T) (r : Rule s) (id : ℕ) (k l : Known T) (words : List ℕ) → Has s id k → Free k → Free l → leads l.seen r.values.current × leads l.also r.values.current → l.next ≤ r.words.next → words ≡ s.words
+  freely : (s : TicketState T) (r : Rule s) (id : ℕ) (k l : LiveView T) (words : List ℕ) → Has s id k → Free k → Free l → leads l.seen r.values.current × leads l.also r.values.current → l.next ≤ r.words.next → words ≡ s.words
       → Rule (with_view s words s.homes id l)
   freely s r id k l words at free free' seen word same = record {
     words = on_words.freely first s r.words id k l words at free free' word same;
@@ -33,7 +33,7 @@ module _ {T : Type 0} (leads : T → T → Type 0) (first : ℕ) where
 
   pub looks_allowed : (slots id : ℕ) (me : TicketSeat T) → stage_of me.0 ≡ Some Idle → Allows Rule slots id me 0 (λ n. n) (Looks (step slots 0 0 0 none) me)
   looks_allowed slots id me is s r _ at _ =
-      let k : Known T = known me.0 Idle is in
+      let k : LiveView T = known me.0 Idle is in
       let live : me.0 ≡ Live k = known_live me.0 Idle is in
       let here : Has s id k = at ∙ ap some live in
       let word : ℕ = get_or s.words 0 0 in
@@ -57,7 +57,7 @@ module _ {T : Type 0} (leads : T → T → Type 0) (first : ℕ) where
       ))
 
   -- the exchange found the word that the pass had looked at, which is now its ticket
-  draws_hit : (s : TicketState T) (r : Rule s) (id old : ℕ) (k : Known T) → Has s id k → k.stage ≡ Looked → r.words.next ≡ old → old < last_word → Rule (with_view s (set s.words 0 (old + 1)) s.homes id (waiting_for k old))
+  draws_hit : (s : TicketState T) (r : Rule s) (id old : ℕ) (k : LiveView T) → Has s id k → k.stage ≡ Looked → r.words.next ≡ old → old < last_word → Rule (with_view s (set s.words 0 (old + 1)) s.homes id (waiting_for k old))
   draws_hit s r id old k at stage is left = record {
     words = on_words.drawn first s r.words id old k at stage is left;
     values = on_values.stays leads s r.values id (waiting_for k old) (set s.words 0 (old + 1)) (λ ticket holds. cc) (r.values.values_seen id k at);
@@ -66,7 +66,7 @@ module _ {T : Type 0} (leads : T → T → Type 0) (first : ℕ) where
   pub draws_allowed : (slots id : ℕ) (me : TicketSeat T) (old : ℕ) → stage_of me.0 ≡ Some Looked → next_of me.0 ≡ old → old < last_word
       → Allows Rule slots id me 0 (λ n. either (eqb n old) (old + 1) n) (Draws (step slots 0 old (old + 1) none) me)
   draws_allowed slots id me old is saw left s r _ at _ =
-      let k : Known T = known me.0 Looked is in
+      let k : LiveView T = known me.0 Looked is in
       let live : me.0 ≡ Live k = known_live me.0 Looked is in
       let stage : k.stage ≡ Looked = known_stage me.0 Looked is in
       let here : Has s id k = at ∙ ap some live in
@@ -93,7 +93,7 @@ module _ {T : Type 0} (leads : T → T → Type 0) (first : ℕ) where
       ))
 
   -- the word served is the pass's ticket: the slot is at home, and comes to the pass
-  serves_home : (s : TicketState T) (r : Rule s) (id ticket : ℕ) (k : Known T) → Has s id k → k.stage ≡ Waiting ticket → r.words.serving ≡ ticket → ((x : T) → leads x x) → IsHome s
+  serves_home : (s : TicketState T) (r : Rule s) (id ticket : ℕ) (k : LiveView T) → Has s id k → k.stage ≡ Waiting ticket → r.words.serving ≡ ticket → ((x : T) → leads x x) → IsHome s
       → Rule (with_view s s.words (set s.homes 0 none) id (in_section k ticket r.values.current))
   serves_home s r id ticket k at stage is same h = record {
     words = on_words.entered first s r.words id ticket k r.values.current at stage is h;
@@ -103,7 +103,7 @@ module _ {T : Type 0} (leads : T → T → Type 0) (first : ℕ) where
   pub serves_allowed : (slots id : ℕ) (me : TicketSeat T) (ticket : ℕ) → me.1 ≡ [] → stage_of me.0 ≡ Some (Waiting ticket) → ((x : T) → leads x x)
       → Allows Rule slots id me 1 (λ n. n) (Serves leads (step slots 1 0 0 none) me)
   serves_allowed slots id me ticket empty is same s r _ at _ =
-      let k : Known T = known me.0 (Waiting ticket) is in
+      let k : LiveView T = known me.0 (Waiting ticket) is in
       let live : me.0 ≡ Live k = known_live me.0 (Waiting ticket) is in
       let stage : k.stage ≡ Waiting ticket = known_stage me.0 (Waiting ticket) is in
       let here : Has s id k = at ∙ ap some live in
@@ -138,7 +138,7 @@ module _ {T : Type 0} (leads : T → T → Type 0) (first : ℕ) where
       ))
 
   -- the pass that holds leaves a value to which the one found leads
-  leaves_out : (s : TicketState T) (r : Rule s) (id ticket : ℕ) (k : Known T) (value : T) → Has s id k → k.stage ≡ Holding ticket → leads k.seen value → ((x : T) → leads x x) → ((x y z : T) → leads x y → leads y z → leads x z)
+  leaves_out : (s : TicketState T) (r : Rule s) (id ticket : ℕ) (k : LiveView T) (value : T) → Has s id k → k.stage ≡ Holding ticket → leads k.seen value → ((x : T) → leads x x) → ((x y z : T) → leads x y → leads y z → leads x z)
       → IsOut s r.words.serving → Rule (with_view s (set s.words 1 (ticket + 1)) (set s.homes 0 (some (Some value))) id (after_section k ticket value))
   leaves_out s r id ticket k value at stage grown same through o = record {
     words = on_words.left first s r.words id ticket k value at stage o;
@@ -148,7 +148,7 @@ module _ {T : Type 0} (leads : T → T → Type 0) (first : ℕ) where
   pub leaves_allowed : (slots id : ℕ) (me : TicketSeat T) (ticket : ℕ) (value : T) (is : stage_of me.0 ≡ Some (Holding ticket)) → me.1 ≡ (0, Some value) ∷ [] → leads (known me.0 (Holding ticket) is).seen value
       → ((x : T) → leads x x) → ((x y z : T) → leads x y → leads y z → leads x z) → Allows Rule slots id me 1 (λ n. (n + 1) % 2 ^ 64) (Leaves leads (step slots 1 1 0 none) me)
   leaves_allowed slots id me ticket value is carried grown same through s r _ at _ =
-      let k : Known T = known me.0 (Holding ticket) is in
+      let k : LiveView T = known me.0 (Holding ticket) is in
       let live : me.0 ≡ Live k = known_live me.0 (Holding ticket) is in
       let stage : k.stage ≡ Holding ticket = known_stage me.0 (Holding ticket) is in
       let here : Has s id k = at ∙ ap some live in
@@ -174,33 +174,33 @@ module _ {T : Type 0} (leads : T → T → Type 0) (first : ℕ) where
       → ((x : T) → leads x x) → ((x y z : T) → leads x y → leads y z → leads x z) → Allows Rule slots id me 1 (λ n. (n + 1) % 2 ^ 64) (Leaves leads (step slots 1 1 0 none) me)
   leaves_from slots id before me ticket value is grown same carried =
       let is' : stage_of me.0 ≡ Some (Holding ticket) = ap stage_of same ∙ is in
-      leaves_allowed slots id me ticket value is' carried (subst (λ (k : Known T). leads k.seen value) (sym (same_known me.0 before.0 (Holding ticket) is' is same)) grown)
+      leaves_allowed slots id me ticket value is' carried (subst (λ (k : LiveView T). leads k.seen value) (sym (same_known me.0 before.0 (Holding ticket) is' is same)) grown)
 
   -- one more pass, with no ticket, that has seen no more
-  joins_free : (s : TicketState T) (r : Rule s) (k : Known T) → Free k → leads k.seen r.values.current × leads k.also r.values.current → k.next ≤ r.words.next → Rule (with_pass s k)
+  joins_free : (s : TicketState T) (r : Rule s) (k : LiveView T) → Free k → leads k.seen r.values.current × leads k.also r.values.current → k.next ≤ r.words.next → Rule (with_pass s k)
   joins_free s r k free values word = record { words = on_words.joined first s r.words k free word; values = on_values.joined leads s r.values k free values }
 
   pub splits_allowed : (id : ℕ) (v : TicketView T) → stage_of v ≡ Some Idle → Splits Rule id v v v
   splits_allowed id v is s r at =
-      let k : Known T = known v Idle is in
+      let k : LiveView T = known v Idle is in
       let live : v ≡ Live k = known_live v Idle is in
       let here : Has s id k = at ∙ ap some live in
       subst (λ (x : List (TicketView T) × TicketView T). Rule record { words = s.words; homes = s.homes; views = x.0 ++ x.1 ∷ [] }) (λ i. (sym (set_again s.views id v at) i, sym live i))
       (joins_free s r k (idle_free k (known_stage v Idle is)) (r.values.values_seen id k here) (r.words.words_seen id k here))
 
   -- a pass with no ticket is spent
-  spends : (s : TicketState T) (r : Rule s) (id : ℕ) (k : Known T) → Has s id k → Free k → Rule (with_spent s id)
+  spends : (s : TicketState T) (r : Rule s) (id : ℕ) (k : LiveView T) → Has s id k → Free k → Rule (with_spent s id)
   spends s r id k at free = record { words = on_words.spent first s r.words id k at free; values = on_values.spent leads s r.values id }
 
   pub joins_allowed : (id : ℕ) (v : TicketView T) (other : ℕ) (w : TicketView T) → stage_of v ≡ Some Idle → stage_of w ≡ Some Idle → Joins Rule id v other w (beside v w) Spent
   joins_allowed id v other w is is' s r at apart there =
-      let k : Known T = known v Idle is in
-      let l : Known T = known w Idle is' in
+      let k : LiveView T = known v Idle is in
+      let l : LiveView T = known w Idle is' in
       let live : v ≡ Live k = known_live v Idle is in
       let live' : w ≡ Live l = known_live w Idle is' in
       let free : Free k = idle_free k (known_stage v Idle is) in
       let free' : Free l = idle_free l (known_stage w Idle is') in
-      let both : Known T = both_known k l in
+      let both : LiveView T = both_known k l in
       let here : Has s id k = at ∙ ap some live in
       let mate : Has s other l = sym (set_else s.views id other (beside v w) apart) ∙ (there ∙ ap some live') in
       let low : k.next ≤ r.words.next = r.words.words_seen id k here in
@@ -213,7 +213,7 @@ module _ {T : Type 0} (leads : T → T → Type 0) (first : ℕ) where
   pub settles_allowed : (slots id : ℕ) (me : TicketSeat T) → stage_of me.0 ≡ Some Idle → ((x y z : T) → leads x z → leads y z → leads x y ⊎ leads y x)
       → Allows Rule slots id me 0 (λ n. n) (Settles leads (step slots 0 0 0 none) me)
   settles_allowed slots id me is ordered s r _ at _ =
-      let k : Known T = known me.0 Idle is in
+      let k : LiveView T = known me.0 Idle is in
       let live : me.0 ≡ Live k = known_live me.0 Idle is in
       let here : Has s id k = at ∙ ap some live in
       let free : Free k = idle_free k (known_stage me.0 Idle is) in
@@ -247,78 +247,78 @@ module _ {T : Type 0} (leads : T → T → Type 0) (first : ℕ) where
 
 module _ {T : Type 0} (leads : T → T → Type 0) (same : (x : T) → leads x x) where
   -- where a step leaves the pass with l from k, its seat remembers if k and l do
-  remembers : (me me' : TicketSeat T) (k l : Known T) → me.0 ≡ Live k → me'.0 ≡ Live l → leads k.seen l.seen → k.next ≤ l.next → (a b : Known T) → me.0 ≡ Live a → me'.0 ≡ Live b → leads a.seen b.seen × (a.next ≤ b.next)
+  remembers : (me me' : TicketSeat T) (k l : LiveView T) → me.0 ≡ Live k → me'.0 ≡ Live l → leads k.seen l.seen → k.next ≤ l.next → (a b : LiveView T) → me.0 ≡ Live a → me'.0 ≡ Live b → leads a.seen b.seen × (a.next ≤ b.next)
   remembers me me' k l is is' sees more a b at at' =
-      subst (λ (x : Known T × Known T). leads x.0.seen x.1.seen × (x.0.next ≤ x.1.next)) (λ i. (live_is k a (sym is ∙ at) i, live_is l b (sym is' ∙ at') i)) (sees, more)
+      subst (λ (x : LiveView T × LiveView T). leads x.0.seen x.1.seen × (x.0.next ≤ x.1.next)) (λ i. (live_is k a (sym is ∙ at) i, live_is l b (sym is' ∙ at') i)) (sees, more)
 
-  pub joins_remember : (k l m : Known T) → beside (Live k) (Live l) ≡ Live m → leads k.seen m.seen × leads l.seen m.also × (k.next ≤ m.next) × (l.next ≤ m.next)
-  joins_remember k l m is = subst (λ (x : Known T). leads k.seen x.seen × leads l.seen x.also × (k.next ≤ x.next) × (l.next ≤ x.next)) (live_is (both_known k l) m is) (same k.seen, same l.seen, max_left k.next l.next, max_right k.next l.next)
+  pub joins_remember : (k l m : LiveView T) → beside (Live k) (Live l) ≡ Live m → leads k.seen m.seen × leads l.seen m.also × (k.next ≤ m.next) × (l.next ≤ m.next)
+  joins_remember k l m is = subst (λ (x : LiveView T). leads k.seen x.seen × leads l.seen x.also × (k.next ≤ x.next) × (l.next ≤ x.next)) (live_is (both_known k l) m is) (same k.seen, same l.seen, max_left k.next l.next, max_right k.next l.next)
 
   -- where a step leaves the pass with l from k, which both values of k lead to
-  both_remembered : (me me' : TicketSeat T) (k l : Known T) → me.0 ≡ Live k → me'.0 ≡ Live l → leads k.seen l.seen → leads k.also l.seen → k.next ≤ l.next → (a b : Known T) → me.0 ≡ Live a → me'.0 ≡ Live b → leads a.seen b.seen × leads a.also b.seen × (a.next ≤ b.next)
+  both_remembered : (me me' : TicketSeat T) (k l : LiveView T) → me.0 ≡ Live k → me'.0 ≡ Live l → leads k.seen l.seen → leads k.also l.seen → k.next ≤ l.next → (a b : LiveView T) → me.0 ≡ Live a → me'.0 ≡ Live b → leads a.seen b.seen × leads a.also b.seen × (a.next ≤ b.next)
   both_remembered me me' k l is is' sees sees' more a b at at' =
-      subst (λ (x : Known T × Known T). leads x.0.seen x.1.seen × leads x.0.also x.1.seen × (x.0.next ≤ x.1.next)) (λ i. (live_is k a (sym is ∙ at) i, live_is l b (sym is' ∙ at') i)) (sees, sees', more)
+      subst (λ (x : LiveView T × LiveView T). leads x.0.seen x.1.seen × leads x.0.also x.1.seen × (x.0.next ≤ x.1.next)) (λ i. (live_is k a (sym is ∙ at) i, live_is l b (sym is' ∙ at') i)) (sees, sees', more)
 
-  pub settles_remember : (st : Step (Option T)) (me me' : TicketSeat T) (word : ℕ) → Settles leads st me word me' → (a b : Known T) → me.0 ≡ Live a → me'.0 ≡ Live b → leads a.seen b.seen × leads a.also b.seen × (a.next ≤ b.next)
+  pub settles_remember : (st : Step (Option T)) (me me' : TicketSeat T) (word : ℕ) → Settles leads st me word me' → (a b : LiveView T) → me.0 ≡ Live a → me'.0 ≡ Live b → leads a.seen b.seen × leads a.also b.seen × (a.next ≤ b.next)
   settles_remember st me me' word told = let k = told.0 in ⊎_elim
       (λ (t : leads k.also k.seen × (me' ≡ (Live (seen_alone k k.seen), me.1))). both_remembered me me' k (seen_alone k k.seen) told.1 (ap (λ (m : TicketSeat T). m.0) t.1) (same k.seen) t.0 (omega arith))
       (λ (t : leads k.seen k.also × (me' ≡ (Live (seen_alone k k.also), me.1))). both_remembered me me' k (seen_alone k k.also) told.1 (ap (λ (m : TicketSeat T). m.0) t.1) t.0 (same k.also) (omega arith))
       told.2
 
-  pub looks_remember : (st : Step (Option T)) (me me' : TicketSeat T) (word : ℕ) → Looks st me word me' → (a b : Known T) → me.0 ≡ Live a → me'.0 ≡ Live b → leads a.seen b.seen × (a.next ≤ b.next)
+  pub looks_remember : (st : Step (Option T)) (me me' : TicketSeat T) (word : ℕ) → Looks st me word me' → (a b : LiveView T) → me.0 ≡ Live a → me'.0 ≡ Live b → leads a.seen b.seen × (a.next ≤ b.next)
   looks_remember st me me' word told = let k = told.0 in dite (ℕ_discrete word last_word)
       (λ worn. remembers me me' k (idle_at k word) told.1 (ap (λ (m : TicketSeat T). m.0) (told.5 worn)) (same k.seen) told.2)
       (λ left. remembers me me' k (looked_at k word) told.1 (ap (λ (m : TicketSeat T). m.0) (told.4 left)) (same k.seen) told.2)
 
-  pub draws_remember : (st : Step (Option T)) (me me' : TicketSeat T) (word : ℕ) → Draws st me word me' → (a b : Known T) → me.0 ≡ Live a → me'.0 ≡ Live b → leads a.seen b.seen × (a.next ≤ b.next)
+  pub draws_remember : (st : Step (Option T)) (me me' : TicketSeat T) (word : ℕ) → Draws st me word me' → (a b : LiveView T) → me.0 ≡ Live a → me'.0 ≡ Live b → leads a.seen b.seen × (a.next ≤ b.next)
   draws_remember st me me' word told = let k = told.0 in dite (ℕ_discrete word k.next)
       (λ hit. remembers me me' k (waiting_for k word) told.1 (ap (λ (m : TicketSeat T). m.0) (told.2 hit)) (same k.seen) (omega arith))
       (λ miss. let more : k.next < word = (told.3 miss).0 in remembers me me' k (idle_at k word) told.1 (ap (λ (m : TicketSeat T). m.0) (told.3 miss).1) (same k.seen) (omega arith))
 
-  pub serves_remember : (st : Step (Option T)) (me me' : TicketSeat T) (word : ℕ) → Serves leads st me word me' → (a b : Known T) → me.0 ≡ Live a → me'.0 ≡ Live b → leads a.seen b.seen × (a.next ≤ b.next)
+  pub serves_remember : (st : Step (Option T)) (me me' : TicketSeat T) (word : ℕ) → Serves leads st me word me' → (a b : LiveView T) → me.0 ≡ Live a → me'.0 ≡ Live b → leads a.seen b.seen × (a.next ≤ b.next)
   serves_remember st me me' word told = let k = told.0 in dite (ℕ_discrete word told.1)
       (λ hit. let b = told.5 hit in remembers me me' b.0 (in_section b.0 told.1 b.1) b.2 (ap (λ (m : TicketSeat T). m.0) b.4) b.3 (omega arith))
       (λ miss. remembers me me' k k told.2 (ap (λ (m : TicketSeat T). m.0) (told.6 miss) ∙ told.2) (same k.seen) (omega arith))
 
-  pub leaves_remember : (st : Step (Option T)) (me me' : TicketSeat T) (word : ℕ) → next_of me.0 ≡ word + 1 → Leaves leads st me word me' → (a b : Known T) → me.0 ≡ Live a → me'.0 ≡ Live b → leads a.seen b.seen × (a.next ≤ b.next)
+  pub leaves_remember : (st : Step (Option T)) (me me' : TicketSeat T) (word : ℕ) → next_of me.0 ≡ word + 1 → Leaves leads st me word me' → (a b : LiveView T) → me.0 ≡ Live a → me'.0 ≡ Live b → leads a.seen b.seen × (a.next ≤ b.next)
   leaves_remember st me me' word saw told = let k = told.0 in let saw' : k.next ≡ word + 1 = sym (ap next_of told.2) ∙ saw in
       remembers me me' k (after_section k word told.1) told.2 (ap (λ (m : TicketSeat T). m.0) told.6) told.5 (omega arith)
 
-  pub exchanges_remember : (me me' : TicketSeat T) (new : Option T) → Exchanges me new me' → (a b : Known T) → me.0 ≡ Live a → me'.0 ≡ Live b → leads a.seen b.seen × (a.next ≤ b.next)
+  pub exchanges_remember : (me me' : TicketSeat T) (new : Option T) → Exchanges me new me' → (a b : LiveView T) → me.0 ≡ Live a → me'.0 ≡ Live b → leads a.seen b.seen × (a.next ≤ b.next)
   exchanges_remember me me' new told a b at at' = remembers me me' a a at (ap (λ (m : TicketSeat T). m.0) told.2 ∙ at) (same a.seen) (omega arith) a b at at'
 
 module _ {T : Type 0} (leads : T → T → Type 0) where
-  abbrev SameTally : Known T → Known T → Type 0
+  abbrev SameTally : LiveView T → LiveView T → Type 0
   SameTally k l = (l.ended ≡ k.ended) × (l.last ≡ k.last)
 
   -- where a step leaves the pass with l from k, its seat has the tally that l has of k
-  counts : (Tally : Known T → Known T → Type 0) (me me' : TicketSeat T) (k l : Known T) → me.0 ≡ Live k → me'.0 ≡ Live l → Tally k l → (a b : Known T) → me.0 ≡ Live a → me'.0 ≡ Live b → Tally a b
-  counts Tally me me' k l is is' tally a b at at' = subst (λ (x : Known T × Known T). Tally x.0 x.1) (λ i. (live_is k a (sym is ∙ at) i, live_is l b (sym is' ∙ at') i)) tally
+  counts : (Tally : LiveView T → LiveView T → Type 0) (me me' : TicketSeat T) (k l : LiveView T) → me.0 ≡ Live k → me'.0 ≡ Live l → Tally k l → (a b : LiveView T) → me.0 ≡ Live a → me'.0 ≡ Live b → Tally a b
+  counts Tally me me' k l is is' tally a b at at' = subst (λ (x : LiveView T × LiveView T). Tally x.0 x.1) (λ i. (live_is k a (sym is ∙ at) i, live_is l b (sym is' ∙ at') i)) tally
 
-  pub settles_keep_tally : (st : Step (Option T)) (me me' : TicketSeat T) (word : ℕ) → Settles leads st me word me' → (a b : Known T) → me.0 ≡ Live a → me'.0 ≡ Live b → SameTally a b
+  pub settles_keep_tally : (st : Step (Option T)) (me me' : TicketSeat T) (word : ℕ) → Settles leads st me word me' → (a b : LiveView T) → me.0 ≡ Live a → me'.0 ≡ Live b → SameTally a b
   settles_keep_tally st me me' word told = let k = told.0 in ⊎_elim
       (λ (t : leads k.also k.seen × (me' ≡ (Live (seen_alone k k.seen), me.1))). counts SameTally me me' k (seen_alone k k.seen) told.1 (ap (λ (m : TicketSeat T). m.0) t.1) (refl, refl))
       (λ (t : leads k.seen k.also × (me' ≡ (Live (seen_alone k k.also), me.1))). counts SameTally me me' k (seen_alone k k.also) told.1 (ap (λ (m : TicketSeat T). m.0) t.1) (refl, refl))
       told.2
 
-  pub looks_keep_tally : (st : Step (Option T)) (me me' : TicketSeat T) (word : ℕ) → Looks st me word me' → (a b : Known T) → me.0 ≡ Live a → me'.0 ≡ Live b → SameTally a b
+  pub looks_keep_tally : (st : Step (Option T)) (me me' : TicketSeat T) (word : ℕ) → Looks st me word me' → (a b : LiveView T) → me.0 ≡ Live a → me'.0 ≡ Live b → SameTally a b
   looks_keep_tally st me me' word told = let k = told.0 in dite (ℕ_discrete word last_word)
       (λ worn. counts SameTally me me' k (idle_at k word) told.1 (ap (λ (m : TicketSeat T). m.0) (told.5 worn)) (refl, refl))
       (λ left. counts SameTally me me' k (looked_at k word) told.1 (ap (λ (m : TicketSeat T). m.0) (told.4 left)) (refl, refl))
 
-  pub draws_keep_tally : (st : Step (Option T)) (me me' : TicketSeat T) (word : ℕ) → Draws st me word me' → (a b : Known T) → me.0 ≡ Live a → me'.0 ≡ Live b → SameTally a b
+  pub draws_keep_tally : (st : Step (Option T)) (me me' : TicketSeat T) (word : ℕ) → Draws st me word me' → (a b : LiveView T) → me.0 ≡ Live a → me'.0 ≡ Live b → SameTally a b
   draws_keep_tally st me me' word told = let k = told.0 in dite (ℕ_discrete word k.next)
       (λ hit. counts SameTally me me' k (waiting_for k word) told.1 (ap (λ (m : TicketSeat T). m.0) (told.2 hit)) (refl, refl))
       (λ miss. counts SameTally me me' k (idle_at k word) told.1 (ap (λ (m : TicketSeat T). m.0) (told.3 miss).1) (refl, refl))
 
-  pub serves_keep_tally : (st : Step (Option T)) (me me' : TicketSeat T) (word : ℕ) → Serves leads st me word me' → (a b : Known T) → me.0 ≡ Live a → me'.0 ≡ Live b → SameTally a b
+  pub serves_keep_tally : (st : Step (Option T)) (me me' : TicketSeat T) (word : ℕ) → Serves leads st me word me' → (a b : LiveView T) → me.0 ≡ Live a → me'.0 ≡ Live b → SameTally a b
   serves_keep_tally st me me' word told = let k = told.0 in dite (ℕ_discrete word told.1)
       (λ hit. let b = told.5 hit in counts SameTally me me' b.0 (in_section b.0 told.1 b.1) b.2 (ap (λ (m : TicketSeat T). m.0) b.4) (refl, refl))
       (λ miss. counts SameTally me me' k k told.2 (ap (λ (m : TicketSeat T). m.0) (told.6 miss) ∙ told.2) (refl, refl))
 
-  pub leaves_count : (st : Step (Option T)) (me me' : TicketSeat T) (word : ℕ) → Leaves leads st me word me' → (a b : Known T) → me.0 ≡ Live a → me'.0 ≡ Live b → (b.ended ≡ a.ended + 1) × (b.last ≡ a.seen)
+  pub leaves_count : (st : Step (Option T)) (me me' : TicketSeat T) (word : ℕ) → Leaves leads st me word me' → (a b : LiveView T) → me.0 ≡ Live a → me'.0 ≡ Live b → (b.ended ≡ a.ended + 1) × (b.last ≡ a.seen)
   leaves_count st me me' word told =
-      let k = told.0 in counts (λ (x y : Known T). (y.ended ≡ x.ended + 1) × (y.last ≡ x.seen)) me me' k (after_section k word told.1) told.2 (ap (λ (m : TicketSeat T). m.0) told.6) (refl, refl)
+      let k = told.0 in counts (λ (x y : LiveView T). (y.ended ≡ x.ended + 1) × (y.last ≡ x.seen)) me me' k (after_section k word told.1) told.2 (ap (λ (m : TicketSeat T). m.0) told.6) (refl, refl)
 
-  pub exchanges_keep_tally : (me me' : TicketSeat T) (new : Option T) → Exchanges me new me' → (a b : Known T) → me.0 ≡ Live a → me'.0 ≡ Live b → SameTally a b
+  pub exchanges_keep_tally : (me me' : TicketSeat T) (new : Option T) → Exchanges me new me' → (a b : LiveView T) → me.0 ≡ Live a → me'.0 ≡ Live b → SameTally a b
   exchanges_keep_tally me me' new told a b at at' = counts SameTally me me' a a at (ap (λ (m : TicketSeat T). m.0) told.2 ∙ at) (refl, refl) a b at at'

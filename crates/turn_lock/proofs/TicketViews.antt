@@ -7,7 +7,7 @@ use Rattle.atomic_table.specs.Table.{Step}
 use Rattle.atomic_table.proofs.Lists.{at_set, at_snoc}
 use Rattle.turn_lock.specs.declared.ticket.view.Stage.{Stage}
 use Rattle.turn_lock.specs.declared.ticket.view.Stage.TheVariants.{Idle, Looked, Waiting, Holding}
-use Rattle.turn_lock.specs.declared.ticket.view.Known.{Known}
+use Rattle.turn_lock.specs.declared.ticket.view.LiveView.{LiveView}
 use Rattle.turn_lock.specs.declared.ticket.view.TicketView.{TicketView}
 use Rattle.turn_lock.specs.declared.ticket.view.TicketView.TheVariants.{Spent, Live}
 use Rattle.turn_lock.specs.Ticket.{TicketState, TicketSeat, HasTicket, beside, stage_of, next_of, known, Has}
@@ -36,14 +36,14 @@ pub up_one : (n : ℕ) → n < 18446744073709551615 → (n + 1) % 2 ^ 64 ≡ n +
 up_one n small = omega arith
 
 module _ {T : Type 0} where
-  abbrev live_or : Known T → TicketView T → Known T
+  abbrev live_or : LiveView T → TicketView T → LiveView T
   live_or d Spent = d
   live_or d (Live k) = k
 
-  pub live_is : (k l : Known T) → Live k ≡ Live l → k ≡ l
+  pub live_is : (k l : LiveView T) → Live k ≡ Live l → k ≡ l
   live_is k l e = ap (live_or k) e
 
-  pub one_known : (s : TicketState T) (i j : ℕ) (k l : Known T) → i ≡ j → Has s i k → Has s j l → k ≡ l
+  pub one_known : (s : TicketState T) (i j : ℕ) (k l : LiveView T) → i ≡ j → Has s i k → Has s j l → k ≡ l
   one_known s i j k l same at there = live_is k l (some-injective (Live k) (Live l) (sym at ∙ (ap (get_elem? s.views) same ∙ there)))
 
   -- a view that has a stage is live
@@ -59,7 +59,7 @@ module _ {T : Type 0} where
   known_next Spent stage is = cc
   known_next (Live k) stage is = refl
 
-  pub known_is : (v : TicketView T) (stage : Stage) (is : stage_of v ≡ Some stage) (k : Known T) → v ≡ Live k → known v stage is ≡ k
+  pub known_is : (v : TicketView T) (stage : Stage) (is : stage_of v ≡ Some stage) (k : LiveView T) → v ≡ Live k → known v stage is ≡ k
   known_is v stage is k e = live_is _ _ (sym (known_live v stage is) ∙ e)
 
   -- two idle passes are an idle one
@@ -80,47 +80,47 @@ module _ {T : Type 0} where
       let mine : told.1 ≡ ticket = cc in
       subst (λ (x : TicketSeat T × ℕ). Begins leads x.1 x.0 me') (λ i. (same i, mine i)) (told.5 (hit ∙ sym mine))
 
-  pub each_set : (K : ℕ → Known T → Type 0) (vs : List (TicketView T)) (me : ℕ) (w : Known T) → K me w → ((j : ℕ) (k : Known T) → j ≢ me → get_elem? vs j ≡ some (Live k) → K j k)
-      → (j : ℕ) (k : Known T) → get_elem? (set vs me (Live w)) j ≡ some (Live k) → K j k
-  each_set K vs me w mine others j k at = ⊎_elim (λ (t : (j ≡ me) × (Live w ≡ Live k)). subst (λ (x : ℕ × Known T). K x.0 x.1) (λ i. (sym t.0 i, live_is w k t.1 i)) mine)
+  pub each_set : (K : ℕ → LiveView T → Type 0) (vs : List (TicketView T)) (me : ℕ) (w : LiveView T) → K me w → ((j : ℕ) (k : LiveView T) → j ≢ me → get_elem? vs j ≡ some (Live k) → K j k)
+      → (j : ℕ) (k : LiveView T) → get_elem? (set vs me (Live w)) j ≡ some (Live k) → K j k
+  each_set K vs me w mine others j k at = ⊎_elim (λ (t : (j ≡ me) × (Live w ≡ Live k)). subst (λ (x : ℕ × LiveView T). K x.0 x.1) (λ i. (sym t.0 i, live_is w k t.1 i)) mine)
       (λ (t : (j ≢ me) × (get_elem? vs j ≡ some (Live k))). others j k t.0 t.1) (at_set vs me j (Live w) (Live k) at)
 
-  pub each_snoc : (K : Known T → Type 0) (vs : List (TicketView T)) (w : Known T) → ((j : ℕ) (k : Known T) → get_elem? vs j ≡ some (Live k) → K k) → K w
-      → (j : ℕ) (k : Known T) → get_elem? (vs ++ Live w ∷ []) j ≡ some (Live k) → K k
+  pub each_snoc : (K : LiveView T → Type 0) (vs : List (TicketView T)) (w : LiveView T) → ((j : ℕ) (k : LiveView T) → get_elem? vs j ≡ some (Live k) → K k) → K w
+      → (j : ℕ) (k : LiveView T) → get_elem? (vs ++ Live w ∷ []) j ≡ some (Live k) → K k
   each_snoc K vs w others mine j k at = ⊎_elim (others j k) (λ (t : Live w ≡ Live k). subst K (live_is w k t) mine) (at_snoc vs (Live w) (Live k) j at)
 
   -- a stage without a ticket
-  abbrev pub Free : Known T → Type 0
+  abbrev pub Free : LiveView T → Type 0
   Free k = (ticket : ℕ) → HasTicket ticket k.stage → ⊥
 
-  pub holds_ticket : (k : Known T) (ticket : ℕ) → k.stage ≡ Holding ticket → HasTicket ticket k.stage
+  pub holds_ticket : (k : LiveView T) (ticket : ℕ) → k.stage ≡ Holding ticket → HasTicket ticket k.stage
   holds_ticket k ticket e = ticket_of_stage k.stage ticket (Holding ticket) e refl
 
-  pub idle_free : (k : Known T) → k.stage ≡ Idle → Free k
+  pub idle_free : (k : LiveView T) → k.stage ≡ Idle → Free k
   idle_free k e ticket h = subst (HasTicket ticket) e h
 
-  pub looked_free : (k : Known T) → k.stage ≡ Looked → Free k
+  pub looked_free : (k : LiveView T) → k.stage ≡ Looked → Free k
   looked_free k e ticket h = subst (HasTicket ticket) e h
 
-  pub free_holds_not : (k : Known T) → Free k → (ticket : ℕ) → k.stage ≡ Holding ticket → ⊥
+  pub free_holds_not : (k : LiveView T) → Free k → (ticket : ℕ) → k.stage ≡ Holding ticket → ⊥
   free_holds_not k free ticket holds = free ticket (holds_ticket k ticket holds)
 
-  pub no_view : (i : ℕ) (k : Known T) → get_elem? [] i ≡ some (Live k) → ⊥
+  pub no_view : (i : ℕ) (k : LiveView T) → get_elem? [] i ≡ some (Live k) → ⊥
   no_view i k at = some-ne-none (Live k) (sym at)
 
-  spent_live : (l : Known T) → Spent ≡ Live l → ⊥
+  spent_live : (l : LiveView T) → Spent ≡ Live l → ⊥
   spent_live l e = cc
 
   -- a live view among those of which one is spent was there before
-  pub unspent : (vs : List (TicketView T)) (id j : ℕ) (l : Known T) → get_elem? (set vs id Spent) j ≡ some (Live l) → get_elem? vs j ≡ some (Live l)
+  pub unspent : (vs : List (TicketView T)) (id j : ℕ) (l : LiveView T) → get_elem? (set vs id Spent) j ≡ some (Live l) → get_elem? vs j ≡ some (Live l)
   unspent vs id j l at = ⊎_elim (λ (t : (j ≡ id) × (Spent ≡ Live l)). absurd (spent_live l t.1)) (λ (t : (j ≢ id) × (get_elem? vs j ≡ some (Live l))). t.1) (at_set vs id j Spent (Live l) at)
 
   -- the state where one pass has a new view
-  abbrev pub with_view : TicketState T → List ℕ → List (maybe.Option (Option T)) → ℕ → Known T → TicketState T
+  abbrev pub with_view : TicketState T → List ℕ → List (maybe.Option (Option T)) → ℕ → LiveView T → TicketState T
   with_view s words homes id k = record { words = words; homes = homes; views = set s.views id (Live k) }
 
   -- the state with one more pass
-  abbrev pub with_pass : TicketState T → Known T → TicketState T
+  abbrev pub with_pass : TicketState T → LiveView T → TicketState T
   with_pass s k = record { words = s.words; homes = s.homes; views = s.views ++ Live k ∷ [] }
 
   -- the state where one pass is spent

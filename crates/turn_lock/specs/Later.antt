@@ -5,7 +5,7 @@ use lib.ListN.{get_elem?}
 use prog.Atomic.{either}
 use Rattle.atomic_table.specs.Table.{step}
 use Rattle.turn_lock.specs.declared.ticket.view.Stage.TheVariants.{Idle}
-use Rattle.turn_lock.specs.declared.ticket.view.Known.{Known}
+use Rattle.turn_lock.specs.declared.ticket.view.LiveView.{LiveView}
 use Rattle.turn_lock.specs.declared.ticket.view.TicketView.{TicketView}
 use Rattle.turn_lock.specs.declared.ticket.view.TicketView.TheVariants.{Spent}
 use Rattle.turn_lock.specs.Ticket.{TicketState, TicketSeat, HasTicket, Has, TicketLockRule, beside, stage_of, next_of}
@@ -65,4 +65,4 @@ module _ {T : Type 0} (leads : T → T → Type 0) where
     -- a ticket that was drawn is not drawn again: each that is drawn later is greater
     pub drawn_once : (a b c d : TicketState T) (t u : ℕ) → TicketLockRule leads first a → DrawsTicket t a b → Later first b c → DrawsTicket u c d → t < u
     -- a ticket whose section was left is no pass's again: each that a pass has later, waiting or in its section, is greater
-    pub left_for_good : (a b c : TicketState T) (t u : ℕ) → TicketLockRule leads first a → LeavesTicket t a b → Later first b c → TicketLockRule leads first c → (i : ℕ) (k : Known T) → Has c i k → HasTicket u k.stage → t < u
+    pub left_for_good : (a b c : TicketState T) (t u : ℕ) → TicketLockRule leads first a → LeavesTicket t a b → Later first b c → TicketLockRule leads first c → (i : ℕ) (k : LiveView T) → Has c i k → HasTicket u k.stage → t < u

@@ -8,7 +8,7 @@ use prog.Atomic.{either}
 use Rattle.atomic_table.specs.Table.{opening, Step, step, Allows, Splits, Joins}
 use Rattle.turn_lock.specs.declared.spin.view.SpinView.{SpinView}
 use Rattle.turn_lock.specs.declared.ticket.view.Stage.TheVariants.{Idle, Looked, Waiting, Holding}
-use Rattle.turn_lock.specs.declared.ticket.view.Known.{Known}
+use Rattle.turn_lock.specs.declared.ticket.view.LiveView.{LiveView}
 use Rattle.turn_lock.specs.declared.ticket.view.TicketView.{TicketView}
 use Rattle.turn_lock.specs.declared.ticket.view.TicketView.TheVariants.{Spent, Live}
 use Rattle.turn_lock.specs.Spin as spin
@@ -39,16 +39,16 @@ module _ {T : Type 0} (leads : T → T → Type 0) where
   -- what the words of the ticket lock say of any two passes, whatever steps were taken
   pub record WordsSay (first : ℕ) : Type 0 where
     -- one pass holds at a time
-    pub one_holds : (s : TicketState T) → WordsRule first s → (i j : ℕ) (k l : Known T) (t u : ℕ) → Has s i k → Has s j l → k.stage ≡ Holding t → l.stage ≡ Holding u → i ≡ j
+    pub one_holds : (s : TicketState T) → WordsRule first s → (i j : ℕ) (k l : LiveView T) (t u : ℕ) → Has s i k → Has s j l → k.stage ≡ Holding t → l.stage ≡ Holding u → i ≡ j
     -- no two passes have one ticket
-    pub one_ticket : (s : TicketState T) → WordsRule first s → (i j : ℕ) (k l : Known T) (t : ℕ) → Has s i k → Has s j l → HasTicket t k.stage → HasTicket t l.stage → i ≡ j
+    pub one_ticket : (s : TicketState T) → WordsRule first s → (i j : ℕ) (k l : LiveView T) (t : ℕ) → Has s i k → Has s j l → HasTicket t k.stage → HasTicket t l.stage → i ≡ j
     -- once a pass has seen the last word, the next word is the last
-    pub worn_for_good : (s : TicketState T) → WordsRule first s → (i : ℕ) (k : Known T) → Has s i k → k.next ≡ last_word → slice_index s.words 0 ≡ last_word
+    pub worn_for_good : (s : TicketState T) → WordsRule first s → (i : ℕ) (k : LiveView T) → Has s i k → k.next ≡ last_word → slice_index s.words 0 ≡ last_word
 
   -- what the values say of them
   pub record ValuesSay : Type 0 where
     -- all that was seen leads to one value, which is the one that who holds has found
-    pub one_value : (s : TicketState T) → ValuesRule leads s → (current : T) × ((i : ℕ) (k : Known T) → Has s i k → leads k.seen current × ((t : ℕ) → k.stage ≡ Holding t → k.seen ≡ current))
+    pub one_value : (s : TicketState T) → ValuesRule leads s → (current : T) × ((i : ℕ) (k : LiveView T) → Has s i k → leads k.seen current × ((t : ℕ) → k.stage ≡ Holding t → k.seen ≡ current))
 
   pub record TicketRuleSays (first : ℕ) : Type 0 where
     pub words : WordsSay first
@@ -56,14 +56,14 @@ module _ {T : Type 0} (leads : T → T → Type 0) where
 
   -- the pass still has what it had seen: the value leads to the one that it has seen now, and the next word is no less
   abbrev pub Remembers : TicketSeat T → TicketSeat T → Type 0
-  Remembers me me' = (k l : Known T) → me.0 ≡ Live k → me'.0 ≡ Live l → leads k.seen l.seen × (k.next ≤ l.next)
+  Remembers me me' = (k l : LiveView T) → me.0 ≡ Live k → me'.0 ≡ Live l → leads k.seen l.seen × (k.next ≤ l.next)
 
   -- no step of the ticket lock forgets what was seen
   pub record TicketStepsForgetNothing : Type 0 where
     -- two passes made one have both values, and no lesser next word than either
-    pub joins : (k l m : Known T) → beside (Live k) (Live l) ≡ Live m → leads k.seen m.seen × leads l.seen m.also × (k.next ≤ m.next) × (l.next ≤ m.next)
+    pub joins : (k l m : LiveView T) → beside (Live k) (Live l) ≡ Live m → leads k.seen m.seen × leads l.seen m.also × (k.next ≤ m.next) × (l.next ≤ m.next)
     -- both values lead to the one that is kept
-    pub settles : (st : Step (Option T)) (me me' : TicketSeat T) (word : ℕ) → Settles leads st me word me' → (k l : Known T) → me.0 ≡ Live k → me'.0 ≡ Live l → leads k.seen l.seen × leads k.also l.seen × (k.next ≤ l.next)
+    pub settles : (st : Step (Option T)) (me me' : TicketSeat T) (word : ℕ) → Settles leads st me word me' → (k l : LiveView T) → me.0 ≡ Live k → me'.0 ≡ Live l → leads k.seen l.seen × leads k.also l.seen × (k.next ≤ l.next)
     pub looks : (st : Step (Option T)) (me me' : TicketSeat T) (word : ℕ) → Looks st me word me' → Remembers me me'
     pub draws : (st : Step (Option T)) (me me' : TicketSeat T) (word : ℕ) → Draws st me word me' → Remembers me me'
     pub serves : (st : Step (Option T)) (me me' : TicketSeat T) (word : ℕ) → Serves leads st me word me' → Remembers me me'
@@ -73,7 +73,7 @@ module _ {T : Type 0} (leads : T → T → Type 0) where
 
   -- the pass has ended as many sections as before, and the last of them found the same value
   abbrev pub HasSameTally : TicketSeat T → TicketSeat T → Type 0
-  HasSameTally me me' = (k l : Known T) → me.0 ≡ Live k → me'.0 ≡ Live l → (l.ended ≡ k.ended) × (l.last ≡ k.last)
+  HasSameTally me me' = (k l : LiveView T) → me.0 ≡ Live k → me'.0 ≡ Live l → (l.ended ≡ k.ended) × (l.last ≡ k.last)
 
   -- only the end of a section changes the tally of its pass: it is one more then, and the value found is the last
   pub record TicketStepsKeepTally : Type 0 where
@@ -81,7 +81,7 @@ module _ {T : Type 0} (leads : T → T → Type 0) where
     pub looks : (st : Step (Option T)) (me me' : TicketSeat T) (word : ℕ) → Looks st me word me' → HasSameTally me me'
     pub draws : (st : Step (Option T)) (me me' : TicketSeat T) (word : ℕ) → Draws st me word me' → HasSameTally me me'
     pub serves : (st : Step (Option T)) (me me' : TicketSeat T) (word : ℕ) → Serves leads st me word me' → HasSameTally me me'
-    pub leaves : (st : Step (Option T)) (me me' : TicketSeat T) (word : ℕ) → Leaves leads st me word me' → (k l : Known T) → me.0 ≡ Live k → me'.0 ≡ Live l → (l.ended ≡ k.ended + 1) × (l.last ≡ k.seen)
+    pub leaves : (st : Step (Option T)) (me me' : TicketSeat T) (word : ℕ) → Leaves leads st me word me' → (k l : LiveView T) → me.0 ≡ Live k → me'.0 ≡ Live l → (l.ended ≡ k.ended + 1) × (l.last ≡ k.seen)
     pub exchanges : (me me' : TicketSeat T) (new : Option T) → Exchanges me new me' → HasSameTally me me'
 
   -- the steps of the ticket lock. Each keeps both passes of its rule, the words and the values

@@ -5,4 +5,3 @@ pub mod Steps
 pub mod TicketShown
 pub mod Laws
 pub mod Later
-pub mod Toy

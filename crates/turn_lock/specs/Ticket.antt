@@ -7,7 +7,7 @@ use lib.ListN.{get_elem?}
 use Rattle.atomic_table.specs.Table.{State, Me}
 use Rattle.turn_lock.specs.declared.ticket.view.Stage.{Stage}
 use Rattle.turn_lock.specs.declared.ticket.view.Stage.TheVariants.{Idle, Looked, Waiting, Holding}
-use Rattle.turn_lock.specs.declared.ticket.view.Known.{Known}
+use Rattle.turn_lock.specs.declared.ticket.view.LiveView.{LiveView}
 use Rattle.turn_lock.specs.declared.ticket.view.TicketView.{TicketView}
 use Rattle.turn_lock.specs.declared.ticket.view.TicketView.TheVariants.{Spent, Live}
 
@@ -36,34 +36,34 @@ IsNothing (Some _) = ⊥
 
 module _ {T : Type 0} where
   -- what a pass of a new lock knows, whose first ticket this is
-  abbrev pub opened : ℕ → T → Known T
+  abbrev pub opened : ℕ → T → LiveView T
   opened first value = record { stage = Idle; seen = value; also = value; next = first; ended = 0; last = value }
 
   abbrev pub newcomer : ℕ → T → TicketView T
   newcomer first value = Live (opened first value)
 
   -- the pass has seen this next word, and has no ticket
-  abbrev pub idle_at : Known T → ℕ → Known T
+  abbrev pub idle_at : LiveView T → ℕ → LiveView T
   idle_at k n = record { stage = Idle; seen = k.seen; also = k.also; next = n; ended = k.ended; last = k.last }
 
   -- the pass has looked at this next word
-  abbrev pub looked_at : Known T → ℕ → Known T
+  abbrev pub looked_at : LiveView T → ℕ → LiveView T
   looked_at k n = record { stage = Looked; seen = k.seen; also = k.also; next = n; ended = k.ended; last = k.last }
 
   -- the pass has drawn this ticket
-  abbrev pub waiting_for : Known T → ℕ → Known T
+  abbrev pub waiting_for : LiveView T → ℕ → LiveView T
   waiting_for k ticket = record { stage = Waiting ticket; seen = k.seen; also = k.also; next = ticket + 1; ended = k.ended; last = k.last }
 
   -- the pass has found this value in the section of its ticket
-  abbrev pub in_section : Known T → ℕ → T → Known T
+  abbrev pub in_section : LiveView T → ℕ → T → LiveView T
   in_section k ticket value = record { stage = Holding ticket; seen = value; also = k.also; next = k.next; ended = k.ended; last = k.last }
 
   -- the pass has left this value: one more section is ended
-  abbrev pub after_section : Known T → ℕ → T → Known T
+  abbrev pub after_section : LiveView T → ℕ → T → LiveView T
   after_section k ticket value = record { stage = Idle; seen = value; also = value; next = ticket + 1; ended = k.ended + 1; last = k.seen }
 
   -- two passes without a ticket as one: it has seen both values, and the greater next word; its tally is the first's
-  abbrev pub both_known : Known T → Known T → Known T
+  abbrev pub both_known : LiveView T → LiveView T → LiveView T
   both_known k l = record { stage = Idle; seen = k.seen; also = l.seen; next = max k.next l.next; ended = k.ended; last = k.last }
 
   abbrev pub beside : TicketView T → TicketView T → TicketView T
@@ -72,11 +72,11 @@ module _ {T : Type 0} where
   beside (Live k) (Live l) = Live (both_known k l)
 
   -- the pass has seen this value alone
-  abbrev pub seen_alone : Known T → T → Known T
+  abbrev pub seen_alone : LiveView T → T → LiveView T
   seen_alone k value = record { stage = Idle; seen = value; also = value; next = k.next; ended = k.ended; last = k.last }
 
   -- what both know where two passes have met, of which this is the later value
-  abbrev pub met : Known T → Known T → T → Known T
+  abbrev pub met : LiveView T → LiveView T → T → LiveView T
   met k l value = record { stage = Idle; seen = value; also = value; next = max k.next l.next; ended = k.ended; last = k.last }
 
   -- where the pass is; a spent view has no stage
@@ -90,7 +90,7 @@ module _ {T : Type 0} where
   next_of (Live k) = k.next
 
   -- what a view knows that has a stage
-  abbrev pub known : (v : TicketView T) (stage : Stage) → stage_of v ≡ Some stage → Known T
+  abbrev pub known : (v : TicketView T) (stage : Stage) → stage_of v ≡ Some stage → LiveView T
   known Spent stage is = absurd (subst IsNothing is tt)
   known (Live k) stage is = k
 
@@ -108,20 +108,20 @@ module _ {T : Type 0} where
   IsHolding me ticket = (me.1 ≡ (0, None) ∷ []) × (stage_of me.0 ≡ Some (Holding ticket)) × (next_of me.0 ≡ ticket + 1)
 
   -- the pass i is there, and knows k
-  abbrev pub Has : TicketState T → ℕ → Known T → Type 0
+  abbrev pub Has : TicketState T → ℕ → LiveView T → Type 0
   Has s i k = get_elem? s.views i ≡ some (Live k)
 
   -- the slot is at home, and no pass holds
   pub record IsHome (s : TicketState T) : Type 0 where
     pub value : T
     pub home : s.homes ≡ some (Some value) ∷ []
-    pub nobody : (i : ℕ) (k : Known T) (ticket : ℕ) → Has s i k → k.stage ≡ Holding ticket → ⊥
+    pub nobody : (i : ℕ) (k : LiveView T) (ticket : ℕ) → Has s i k → k.stage ≡ Holding ticket → ⊥
 
   -- the slot is out with the pass that holds
   pub record IsOut (s : TicketState T) (serving : ℕ) : Type 0 where
     pub away : s.homes ≡ none ∷ []
     pub holder : ℕ
-    pub knows : Known T
+    pub knows : LiveView T
     pub is_there : Has s holder knows
     pub holds : knows.stage ≡ Holding serving
 
@@ -135,22 +135,22 @@ module _ {T : Type 0} where
     pub served_are_drawn : serving ≤ next
     pub never_wraps : next ≤ last_word
     -- each ticket that a pass has was drawn and is not yet past, and is no other's
-    pub tickets_in_turn : (i : ℕ) (k : Known T) (ticket : ℕ) → Has s i k → HasTicket ticket k.stage → (serving ≤ ticket) × (ticket < next)
-    pub tickets_apart : (i j : ℕ) (k l : Known T) (ticket : ℕ) → Has s i k → Has s j l → HasTicket ticket k.stage → HasTicket ticket l.stage → i ≡ j
+    pub tickets_in_turn : (i : ℕ) (k : LiveView T) (ticket : ℕ) → Has s i k → HasTicket ticket k.stage → (serving ≤ ticket) × (ticket < next)
+    pub tickets_apart : (i j : ℕ) (k l : LiveView T) (ticket : ℕ) → Has s i k → Has s j l → HasTicket ticket k.stage → HasTicket ticket l.stage → i ≡ j
     -- who holds is served, and the slot is at home where none holds
-    pub holder_is_served : (i : ℕ) (k : Known T) (ticket : ℕ) → Has s i k → k.stage ≡ Holding ticket → ticket ≡ serving
+    pub holder_is_served : (i : ℕ) (k : LiveView T) (ticket : ℕ) → Has s i k → k.stage ≡ Holding ticket → ticket ≡ serving
     pub slot : IsHome s ⊎ IsOut s serving
     -- each next word that was seen is at most the next
-    pub words_seen : (i : ℕ) (k : Known T) → Has s i k → k.next ≤ next
+    pub words_seen : (i : ℕ) (k : LiveView T) → Has s i k → k.next ≤ next
 
   -- Values, the second pass: the one current value, and what was seen of it
   pub record ValuesRule (leads : T → T → Type 0) (s : TicketState T) : Type 0 where
     pub current : T
     -- it is the value at home, and the one that who holds has found
     pub at_home : (value : T) → s.homes ≡ some (Some value) ∷ [] → value ≡ current
-    pub was_found : (i : ℕ) (k : Known T) (ticket : ℕ) → Has s i k → k.stage ≡ Holding ticket → k.seen ≡ current
+    pub was_found : (i : ℕ) (k : LiveView T) (ticket : ℕ) → Has s i k → k.stage ≡ Holding ticket → k.seen ≡ current
     -- each value that was seen leads to the current one
-    pub values_seen : (i : ℕ) (k : Known T) → Has s i k → leads k.seen current × leads k.also current
+    pub values_seen : (i : ℕ) (k : LiveView T) → Has s i k → leads k.seen current × leads k.also current
 
   -- The lock rule: both passes. Of a spent view it says nothing
   pub record TicketLockRule (leads : T → T → Type 0) (first : ℕ) (s : TicketState T) : Type 0 where

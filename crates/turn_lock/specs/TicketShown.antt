@@ -1,7 +1,7 @@
 -- What contracts say of the passes of a ticket lock.
 use Rattle.std.specs.Prelude.{◌≡◌, ◌⊎◌, ℕ, ◌<◌}
 use Rattle.turn_lock.specs.declared.ticket.view.Stage.TheVariants.{Idle, Looked as AtLooked, Waiting as AtWaiting, Holding as AtHolding}
-use Rattle.turn_lock.specs.declared.ticket.view.Known.{Known}
+use Rattle.turn_lock.specs.declared.ticket.view.LiveView.{LiveView}
 use Rattle.turn_lock.specs.declared.ticket.pass.Pass.{Pass}
 use Rattle.turn_lock.specs.declared.ticket.pass.Looked.{Looked}
 use Rattle.turn_lock.specs.declared.ticket.pass.Drawn.{Drawn}
@@ -25,16 +25,16 @@ module _ {T : Type 0} where
   held_ticket holding = holding.section
 
   -- what a pass has seen, and its tally, in each of its states
-  abbrev pub pass_knows : Pass T → Known T
+  abbrev pub pass_knows : Pass T → LiveView T
   pass_knows pass = known pass.seat.me.0 Idle pass.idle.1
 
-  abbrev pub looked_knows : Looked T → Known T
+  abbrev pub looked_knows : Looked T → LiveView T
   looked_knows looked = known looked.seat.me.0 AtLooked looked.looked.1
 
-  abbrev pub drawn_knows : Drawn T → Known T
+  abbrev pub drawn_knows : Drawn T → LiveView T
   drawn_knows drawn = known drawn.seat.me.0 (AtWaiting drawn.ticket) drawn.waiting.1
 
-  abbrev pub holding_knows : Holding T → Known T
+  abbrev pub holding_knows : Holding T → LiveView T
   holding_knows holding = known holding.seat.me.0 (AtHolding holding.section) holding.holds.1
 
   -- the pass has seen the last word: no ticket is left
@@ -42,12 +42,12 @@ module _ {T : Type 0} where
   IsWornPass pass = (pass_knows pass).next ≡ last_word
 
   -- a draw was refused: no ticket is left, or another pass drew it; the pass has seen so, and all else as before
-  abbrev pub IsRefused : Known T → DrawFault → Known T → Type 0
+  abbrev pub IsRefused : LiveView T → DrawFault → LiveView T → Type 0
   IsRefused k Worn l = l ≡ idle_at k last_word
   IsRefused k (Raced n) l = (k.next < n) × (l ≡ idle_at k n)
 
 -- two passes have met: what the one had seen leads to what the other had, which both have seen now
-abbrev pub HasMet : {T : Type 0} → (T → T → Type 0) → Known T → Known T → Known T → Type 0
+abbrev pub HasMet : {T : Type 0} → (T → T → Type 0) → LiveView T → LiveView T → LiveView T → Type 0
 HasMet leads k l m = (leads l.seen k.seen × (m ≡ met k l k.seen)) ⊎ (leads k.seen l.seen × (m ≡ met k l l.seen))
 
 -- the pass and the lock are of one table

@@ -14,8 +14,6 @@ mod growing;
 mod law;
 mod section;
 mod spin;
-#[cfg(test)]
-mod tests;
 mod ticket;
 
 pub use growing::Growing;

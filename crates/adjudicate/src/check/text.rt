@@ -5,9 +5,9 @@ ghost use Rattle.std.specs.List.{join_by};
 ghost use Rattle.cutplan.specs.Numbered.{IsTableNumber, overlaps_of};
 ghost use Rattle.adjudicate.specs.CheckText.{check_table_lines, check_text, counts_line, gap_line, overlap_line, region_text, rules_text, told_gaps, wide_line, wide_lines};
 
-use crate::literals::append_literals;
 use cutplan::{CheckFault, CutPlan, Region, compile};
 use dtable::{Plan, Sequence};
+use feel_tests::{Literals, Spelling, Value, append_joined};
 use itoa::Buffer;
 use std::alloc::{AllocError, Global};
 
@@ -175,24 +175,18 @@ fn append_counts(text: &mut Vec<u8>, gaps: usize, overlaps: usize) -> Result<(),
 fn append_regions(text: &mut Vec<u8>, regions: &[Region]) -> Result<(), AllocError>
     ensures { OnOk result (text.new.items ≡ text.old.items ++ join_by region_text (codes " ; ") regions.now) }
 {
-    match regions {
-        [] => Ok(()),
-        [first, others @ ..] => {
-            append_region(text, first)?;
-            append_other_regions(text, others)
-        }
-    }
+    append_joined::<Region, Regions>(text, " ; ", regions)
 }
 
-// The regions, with ` ; ` in front of each.
-fn append_other_regions(text: &mut Vec<u8>, regions: &[Region]) -> Result<(), AllocError>
-    ensures { OnOk result (text.new.items ≡ text.old.items ++ flat_map (λ region. codes " ; " ++ region_text region) regions.now) }
-{
-    for region in regions {
-        text.extend_from_slice(b" ; ")?;
-        append_region(text, region)?;
+// Regions as they are printed.
+struct Regions;
+
+impl Spelling<Region> for Regions {
+    ghost text_of = { region_text };
+
+    fn append(text: &mut Vec<u8>, item: &Region) -> Result<(), AllocError> {
+        append_region(text, item)
     }
-    Ok(())
 }
 
 // The text of a region: which values it has.
@@ -218,7 +212,7 @@ fn append_region(text: &mut Vec<u8>, region: &Region) -> Result<(), AllocError>
         }
         Region::Other(names) => {
             text.extend_from_slice(b"not(")?;
-            append_literals(text, ",", names.as_slice())?;
+            append_joined::<Value, Literals>(text, ",", names.as_slice())?;
             text.extend_from_slice(b")")
         }
         Region::Every => text.extend_from_slice(b"-"),

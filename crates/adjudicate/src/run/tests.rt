@@ -4,87 +4,11 @@ use crate::testing::{Narrow, WhenFull, is_cut, is_printed, is_refused, is_whole,
 use crew::WORKERS_LIMIT;
 use std::alloc::AllocError;
 use std::test::Fail;
+use worked_examples::{
+    balances, both_files, empty_remittance, header, health_plan, late_remittance, remittance,
+};
 
 mod refusals;
-
-/// A plan that covers the codes A and B up to their fees, and X not at all.
-const PLAN: &[u8] = br#"version = 1
-fields = [{name = "code", kind = "text"}]
-
-[roles]
-cover = "covered"
-fee = "fee"
-deductible = "50"
-copay = "10"
-rate = "0.2"
-oop_max = "60"
-remarks = "note"
-
-[[tables]]
-inputs = [{name = "code"}]
-outputs = [{name = "covered", kind = "flag"}, {name = "fee", kind = "number"}]
-rules = [
-  {when = ['"A"'], then = ['true', '100']},
-  {when = ['"B"'], then = ['true', '40']},
-  {when = ['"X"'], then = ['false', '0']},
-]
-
-[[tables]]
-hit = "R"
-inputs = [{name = "billed"}, {name = "met"}]
-outputs = [{name = "note", kind = "text"}]
-rules = [
-  {when = ['>100', '-'], then = ['"OVER"']},
-  {when = ['-', '>=50'], then = ['"MET"']},
-]
-"#;
-
-const FIRST: &[u8] = b"claim,member,service,billed,code
-c1,M1,2024-01-05,120.00,A
-c2,M1,2024-02-01,40.00,B
-c3,M1,2024-02-02,40.00,Z
-c4,M1,2024-03-01,100.00,A
-";
-
-const SECOND: &[u8] = b"claim,member,service,billed,code
-d1,M2,2024-01-09,30.00,B
-d2,M2,2024-01-10,9.999,B
-d3,M2,2024-01-11,10.00,X
-";
-
-const BOTH: &[&[u8]] = &[FIRST, SECOND];
-
-const REPORT: &str =
-    "provider,record,claim,member,status,reason,allowed,ded,copay,coins,share,paid,remarks\r
-1,1,c1,M1,paid,,100.00,50.00,10.00,8.00,60.00,40.00,OVER\r
-1,2,c2,M1,paid,,40.00,0.00,10.00,6.00,0.00,40.00,MET\r
-1,3,c3,M1,pended,norule:1,0.00,0.00,0.00,0.00,0.00,0.00,\r
-1,4,c4,M1,paid,,100.00,0.00,10.00,18.00,0.00,100.00,MET\r
-2,1,d1,M2,paid,,30.00,30.00,0.00,0.00,30.00,0.00,\r
-2,2,,,refused,notcents:4,,,,,,,\r
-2,3,d3,M2,denied,,0.00,0.00,0.00,0.00,0.00,0.00,\r
-total,6,,,,,270.00,80.00,30.00,32.00,90.00,180.00,\r
-";
-
-const HEADER: &[u8] = b"claim,member,service,billed,code\n";
-
-/// Both files with no claim accepted.
-const ALL_LATE: &str =
-    "provider,record,claim,member,status,reason,allowed,ded,copay,coins,share,paid,remarks\r
-1,1,c1,M1,late,,,,,,,,\r
-1,2,c2,M1,late,,,,,,,,\r
-1,3,c3,M1,late,,,,,,,,\r
-1,4,c4,M1,late,,,,,,,,\r
-2,1,d1,M2,late,,,,,,,,\r
-2,2,,,refused,notcents:4,,,,,,,\r
-2,3,d3,M2,late,,,,,,,,\r
-total,0,,,,,0.00,0.00,0.00,0.00,0.00,0.00,\r
-";
-
-const NO_CLAIMS: &str =
-    "provider,record,claim,member,status,reason,allowed,ded,copay,coins,share,paid,remarks\r
-total,0,,,,,0.00,0.00,0.00,0.00,0.00,0.00,\r
-";
 
 /// Two files of three claims each, none of them covered.
 const THREE_AND_THREE: &[&[u8]] = &[
@@ -166,8 +90,6 @@ const REFUSED_REPORT: &str =
 total,1,,,,,1.00,1.00,0.00,0.00,1.00,0.00,\r
 ";
 
-const BALANCES: &[u8] = b"member,met,oop,paid\nM1,50.00,10.00,5.00\n";
-
 /// A claim of the member with a balance, and the same of one without.
 const ONE_EACH: &[u8] = b"claim,member,service,billed,code
 c,M1,2024-01-05,40.00,B
@@ -195,7 +117,7 @@ const WRITERS: &[(usize, WhenFull)] = &[
 // A run by the plan, with four workers.
 fn run_of<'a>(files: &'a [&'a [u8]]) -> RunInput<'a> {
     RunInput {
-        plan: PLAN,
+        plan: health_plan().as_bytes(),
         balances: None,
         files,
         cutoff: None,
@@ -213,16 +135,16 @@ fn gives<R: Threads + Wait + Sync + AllocGlobal>(rt: &R, input: RunInput, report
 #[test]
 fn two_files_in_one_remittance(rt: HostRuntime) {
     for (workers, cutoff, report) in [
-        (1, None, REPORT),
-        (2, None, REPORT),
-        (4, None, REPORT),
-        (WORKERS_LIMIT, None, REPORT),
-        (4, Some(0), ALL_LATE),
-        (4, Some(6), REPORT),
-        (4, Some(7), REPORT),
-        (4, Some(u64::MAX), REPORT),
+        (1, None, remittance()),
+        (2, None, remittance()),
+        (4, None, remittance()),
+        (WORKERS_LIMIT, None, remittance()),
+        (4, Some(0), late_remittance()),
+        (4, Some(6), remittance()),
+        (4, Some(7), remittance()),
+        (4, Some(u64::MAX), remittance()),
     ] {
-        let mut input = run_of(BOTH);
+        let mut input = run_of(both_files());
         input.workers = workers;
         input.cutoff = cutoff;
         assert!(rt; gives(&rt, input, report), "{workers} {report}");
@@ -232,10 +154,10 @@ fn two_files_in_one_remittance(rt: HostRuntime) {
 #[test]
 fn files_in_many_forms(rt: HostRuntime) {
     for (file, balances, report) in [
-        (HEADER, None, NO_CLAIMS),
+        (header(), None, empty_remittance()),
         (REFUSED, None, REFUSED_REPORT),
         (REFUSED_BEHIND_A_MARK, None, REFUSED_REPORT),
-        (ONE_EACH, Some(BALANCES), ONE_EACH_REPORT),
+        (ONE_EACH, Some(balances()), ONE_EACH_REPORT),
     ] {
         let files = [file];
         let mut input = run_of(&files);
@@ -279,11 +201,11 @@ fn fills<R: Threads + Wait + Sync + AllocGlobal>(
     when_full: WhenFull,
 ) -> Result<bool, AllocError> {
     let mut out = Out::new(Narrow::new(rt.alloc(), limit, width, when_full)?);
-    let answer = do_run(rt, run_of(BOTH), &mut out);
-    if limit < REPORT.len() {
-        Ok(is_cut(answer, out, REPORT, limit))
+    let answer = do_run(rt, run_of(both_files()), &mut out);
+    if limit < remittance().len() {
+        Ok(is_cut(answer, out, remittance(), limit))
     } else {
-        Ok(is_whole(answer, out, REPORT))
+        Ok(is_whole(answer, out, remittance()))
     }
 }
 
@@ -294,14 +216,17 @@ fn a_full_writer_has_the_first_bytes(rt: HostRuntime) -> Result<(), Fail> {
         for limit in LIMITS {
             assert!(rt; fills(&rt, *limit, width, when_full)?, "{limit}");
         }
-        assert!(rt; fills(&rt, REPORT.len(), width, when_full)?, "{width}");
+        assert!(rt;
+            fills(&rt, remittance().len(), width, when_full)?,
+            "{width}"
+        );
     }
     Ok(())
 }
 
 #[test]
 fn a_writer_is_full_at_each_length(rt: HostRuntime) -> Result<(), Fail> {
-    for limit in 0..REPORT.len() {
+    for limit in 0..remittance().len() {
         assert!(rt; fills(&rt, limit, 1_024, WhenFull::Fails)?, "{limit}");
         assert!(rt;
             fills(&rt, limit, 1_024, WhenFull::TakesNothing)?,
@@ -314,7 +239,7 @@ fn a_writer_is_full_at_each_length(rt: HostRuntime) -> Result<(), Fail> {
 #[test]
 fn a_write_fault_has_its_line(rt: HostRuntime) -> Result<(), Fail> {
     let mut out = Out::new(Narrow::new(rt.alloc(), 37, 1_024, WhenFull::Fails)?);
-    let stop = do_run(&rt, run_of(BOTH), &mut out).expect_err(&rt, "a refusal");
+    let stop = do_run(&rt, run_of(both_files()), &mut out).expect_err(&rt, "a refusal");
     assert!(rt; says(&stop, "write fault at 37\n", 3));
     assert!(rt;
         out.into_inner()
@@ -328,7 +253,7 @@ fn lacks_memory(stop: &Stop, taken: &[u8]) -> bool {
     if let Stop::Run(_) = stop {
         return says(stop, "run fault 3\n", 3) && taken.is_empty();
     }
-    says(stop, "no memory\n", 3) && REPORT.as_bytes().starts_with(taken)
+    says(stop, "no memory\n", 3) && remittance().as_bytes().starts_with(taken)
 }
 
 /// Run it with each allocation refused in turn: all of them but the writer's are the command's. Which of them is a
@@ -339,8 +264,8 @@ fn a_run_or_no_memory(rt: HostRuntime) {
         return;
     };
     let mut out = Out::new(writer);
-    match do_run(&rt, run_of(BOTH), &mut out) {
-        Ok(()) => assert!(rt; out.into_inner().has_first(REPORT, REPORT.len())),
+    match do_run(&rt, run_of(both_files()), &mut out) {
+        Ok(()) => assert!(rt; out.into_inner().has_first(remittance(), remittance().len())),
         Err(stop) => {
             assert!(rt; !out.failed());
             assert!(rt; lacks_memory(&stop, out.into_inner().taken()));

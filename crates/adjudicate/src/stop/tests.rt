@@ -30,7 +30,7 @@ fn refusals_of_a_plan_and_its_values(rt: HostRuntime) -> Result<(), Fail> {
     assert!(rt; says(&kind, "plan fault 5 table 0 rule 0 column 0\n", 1));
     let argument = Stop::from_argument(2, ArgumentFault::RepeatedName);
     assert!(rt; says(&argument, "argument 2 fault 3\n", 1));
-    let missing = Stop::Missing(MissingName::new(rt.alloc(), "x")?);
+    let missing = Stop::Missing(Name::new(rt.alloc(), "x")?);
     assert!(rt; says(&missing, "missing x\n", 1));
     Ok(())
 }

@@ -3,8 +3,8 @@
 ghost use Rattle.std.specs.Prelude.{◌≡◌, ◌++◌, IfOk, OnOk};
 ghost use Rattle.adjudicate.specs.ValueText.{answer_text, output_line, table_lines, value_lines};
 
-use crate::literals::append_literals;
 use dtable::{Answer, Env, Output, Table};
+use feel_tests::{Literals, Value, append_joined};
 use std::alloc::{AllocError, Global};
 
 /// The lines of these tables, in order.
@@ -49,7 +49,7 @@ fn append_answer(text: &mut Vec<u8>, answer: &Answer) -> Result<(), AllocError>
         Answer::One(value) => value.write_text(text)?,
         Answer::Many(values) => {
             text.push(b'[')?;
-            append_literals(text, ", ", values.as_slice())?;
+            append_joined::<Value, Literals>(text, ", ", values.as_slice())?;
             text.push(b']')?;
         }
     }

@@ -1,13 +1,13 @@
 //! A gate behind a lock whose calls are each refused memory once, an outcome that is handed in twice, and two threads that offer the same
 //! file.
 ghost use Rattle.std.specs.Prelude.{◌≡◌, IfOk};
-ghost use Rattle.claim_gate.specs.Worked.{IsAtWork, IsCaller};
+ghost use Rattle.claim_gate.proofs.TestWords.{IsAtWork, IsCaller};
 
 use super::filing::{offer_at, plan_of, read_all, terms_of};
 use super::in_turn::over_a_ticket_lock;
 use super::shared::{accept_at, record, refuse_outcome, take_job};
 use super::worked::{is_at, is_closed, is_job, is_paid_40, one_claim};
-use super::{again, again_shared, first_file, plan_text};
+use super::{again, again_shared};
 use crate::{Event, FinishFault, Gate, GateState, Job, LockedGate, SerialGate, Terms};
 use journal::jobs_stay;
 use std::alloc::{AllocError, Global};
@@ -15,6 +15,7 @@ use std::process::Abort;
 use std::sync::Wait;
 use std::test::Fail;
 use turn_lock::{Section, SpinLock, TicketLock};
+use worked_examples::health_plan;
 
 #[test]
 fn two_passes_over_a_ticket_lock_or_no_memory(rt: HostRuntime) {
@@ -117,7 +118,7 @@ fn by_a_ticket_lock(
 
 // By both locks.
 fn runs_of_one(rt: &(impl Abort + Wait), alloc: Global) -> Result<(), AllocError> {
-    let plan = plan_of(alloc, plan_text())?;
+    let plan = plan_of(alloc, health_plan().as_bytes())?;
     let files = [one_claim()];
     let terms = terms_of(alloc, &plan, &files, None)?;
     by_a_spin_lock(rt, alloc, &terms)?;

@@ -1,14 +1,13 @@
 //! The worked calls on a gate behind a lock, by two passes in turn: the answers are those of the gate of one thread.
 ghost use Rattle.std.specs.Prelude.{◌≡◌, IfOk};
 ghost use Rattle.journal.specs.Gate.{LeadsTo};
-ghost use Rattle.claim_gate.specs.Worked.{AreCallers, IsAtWork, IsCaller};
+ghost use Rattle.claim_gate.proofs.TestWords.{AreCallers, IsAtWork, IsCaller};
 
 use super::filing::{is_offer, plan_of, read_all, terms_of};
 use super::shared::{
     accept_at, find_nothing, find_stopped, record, refuse_at, refuse_end, refuse_outcome, take_job,
 };
 use super::worked::{is_at, is_job, is_paid_40, is_worked};
-use super::{first_file, plan_text, second_file};
 use crate::{
     EndFault, FinishFault, Gate, GateState, Job, LockedGate, OfferFault, SerialGate, Terms,
 };
@@ -18,6 +17,7 @@ use std::process::Abort;
 use std::sync::Wait;
 use std::test::Fail;
 use turn_lock::{Section, SpinLock, TicketLock};
+use worked_examples::{first_file, health_plan, second_file};
 
 // One pass has the first provider's first claim accepted; to the other it is refused.
 fn accept_first<G: Gate>(
@@ -250,7 +250,7 @@ fn by_a_spin_lock(
 }
 
 fn over_a_spin_lock(rt: &(impl Abort + Wait), alloc: Global) -> Result<(), AllocError> {
-    let plan = plan_of(alloc, plan_text())?;
+    let plan = plan_of(alloc, health_plan().as_bytes())?;
     let files = [first_file(), second_file()];
     let terms = terms_of(alloc, &plan, &files, None)?;
     by_a_spin_lock(rt, alloc, &terms)
@@ -266,7 +266,7 @@ fn by_a_ticket_lock(
 }
 
 pub fn over_a_ticket_lock(rt: &(impl Abort + Wait), alloc: Global) -> Result<(), AllocError> {
-    let plan = plan_of(alloc, plan_text())?;
+    let plan = plan_of(alloc, health_plan().as_bytes())?;
     let files = [first_file(), second_file()];
     let terms = terms_of(alloc, &plan, &files, None)?;
     by_a_ticket_lock(rt, alloc, &terms)

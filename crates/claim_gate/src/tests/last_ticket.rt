@@ -1,19 +1,19 @@
 //! A gate behind a lock of which two tickets are left, one, or none: each call behind the last one is answered so, and the pass
 //! and the values come back.
 ghost use Rattle.std.specs.Prelude.{◌≡◌, IfOk, IfErr};
-ghost use Rattle.claim_gate.specs.Worked.{IsAtWork, IsCaller};
+ghost use Rattle.claim_gate.proofs.TestWords.{IsAtWork, IsCaller};
 
 use super::calls::settled;
 use super::filing::{is_offer, offer_at, plan_of, read_all, terms_of};
 use super::shared::{accept_at, take_job};
 use super::worked::{is_job, is_paid_40};
-use super::{first_file, plan_text, second_file};
 use crate::{Gate, GateState, Job, LockedGate, SerialGate, Terms};
 use std::alloc::{AllocError, Global};
 use std::process::Abort;
 use std::sync::Wait;
 use std::test::Fail;
 use turn_lock::{Section, TicketLock};
+use worked_examples::{first_file, health_plan, second_file};
 
 // The calls of an intake.
 fn worn_intake<G: Gate>(
@@ -156,7 +156,7 @@ fn two_tickets(rt: &(impl Abort + Wait), alloc: Global, terms: &Terms) -> Result
 }
 
 fn by_few_tickets(rt: &(impl Abort + Wait), alloc: Global) -> Result<(), AllocError> {
-    let plan = plan_of(alloc, plan_text())?;
+    let plan = plan_of(alloc, health_plan().as_bytes())?;
     let files = [first_file(), second_file()];
     let terms = terms_of(alloc, &plan, &files, None)?;
     no_ticket(rt, alloc, &terms)?;
@@ -164,7 +164,7 @@ fn by_few_tickets(rt: &(impl Abort + Wait), alloc: Global) -> Result<(), AllocEr
 }
 
 fn by_two_tickets(rt: &(impl Abort + Wait), alloc: Global) -> Result<(), AllocError> {
-    let plan = plan_of(alloc, plan_text())?;
+    let plan = plan_of(alloc, health_plan().as_bytes())?;
     let files = [first_file(), second_file()];
     let terms = terms_of(alloc, &plan, &files, None)?;
     two_tickets(rt, alloc, &terms)

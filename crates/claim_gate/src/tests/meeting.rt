@@ -5,13 +5,13 @@ ghost use Rattle.turn_lock.specs.TicketShown.{IsPassOf, pass_knows};
 
 use super::filing::{is_offer, plan_of, terms_of};
 use super::shared::{accept_at, find_stopped, refuse_at};
-use super::{first_file, plan_text, second_file};
 use crate::{Gate, GateState, LockedGate, OfferFault, SerialGate, Terms};
 use std::alloc::{AllocError, Global};
 use std::process::Abort;
 use std::sync::Wait;
 use std::test::Fail;
 use turn_lock::{Pass, TicketLock};
+use worked_examples::{first_file, health_plan, second_file};
 
 // The calls of the two passes.
 #[tactic(auto, using(crate::proofs::Sharing::met_terms))]
@@ -45,7 +45,7 @@ fn met_calls<V: SerialGate + Send + Drop>(
 }
 
 fn met_passes(rt: &(impl Abort + Wait), alloc: Global) -> Result<(), AllocError> {
-    let plan = plan_of(alloc, plan_text())?;
+    let plan = plan_of(alloc, health_plan().as_bytes())?;
     let files = [first_file(), second_file()];
     let terms = terms_of(alloc, &plan, &files, None)?;
     meet_once(rt, alloc, &terms)
@@ -78,7 +78,7 @@ fn meet_worn<V: SerialGate + Send + Drop>(
 }
 
 fn worn_passes(rt: &(impl Abort + Wait), alloc: Global) -> Result<(), AllocError> {
-    let plan = plan_of(alloc, plan_text())?;
+    let plan = plan_of(alloc, health_plan().as_bytes())?;
     let files = [first_file()];
     let terms = terms_of(alloc, &plan, &files, None)?;
     meet_without(rt, alloc, &terms)

@@ -2,10 +2,9 @@
 ghost use Rattle.std.specs.Prelude.{◌≡◌, IfOk};
 ghost use Rattle.claim_terms.specs.Terms.{ForTerms};
 ghost use Rattle.claim_gate.specs.Replies.{IsFiled};
-ghost use Rattle.claim_gate.specs.Worked.{IsCaller};
+ghost use Rattle.claim_gate.proofs.TestWords.{IsCaller};
 
 use super::filing::{offer_at, plan_of, terms_of};
-use super::{first_file, plan_text, second_file};
 use crate::{Event, Gate, GateState, LockedGate, Offer, OfferFault, SerialGate, Terms};
 use std::alloc::{AllocError, Global};
 use std::process::Abort;
@@ -15,6 +14,7 @@ use std::test::Fail;
 use std::thread;
 use std::thread::Threads;
 use turn_lock::{Section, TicketLock};
+use worked_examples::{first_file, health_plan, second_file};
 
 /// What was accepted at each of the first four positions: the sum, over all callers that were told so, of the place and 1.
 #[derive(Drop)]
@@ -180,7 +180,7 @@ fn rivals_of_files<R: Threads + Wait + Abort + Sync>(
     rt: &R,
     alloc: Global,
 ) -> Result<(), AllocError> {
-    let plan = plan_of(alloc, plan_text())?;
+    let plan = plan_of(alloc, health_plan().as_bytes())?;
     let files = [first_file(), second_file()];
     let terms = terms_of(alloc, &plan, &files, None)?;
     rivals(rt, alloc, &terms)

@@ -1,28 +1,23 @@
 //! Calls of a gate that were worked by hand, each also with an allocation refused. Amounts are in ten-thousandths.
 ghost use Rattle.std.specs.Prelude.{◌≡◌, IfOk, OnOk};
-ghost use Rattle.claim_gate.specs.Worked.{IsAtWork, WorkStays};
+ghost use Rattle.claim_gate.proofs.TestWords.{IsAtWork, WorkStays};
 
 use super::calls::{
     accept_at, end, find_nothing, find_stopped, halt, record, refuse_at, refuse_end,
     refuse_outcome, take_job,
 };
 use super::filing::{is_offer, plan_of, read_all, terms_of};
-use super::{again, counts, first_file, is_over, plan_text, second_file};
+use super::{again, counts, is_over};
 use crate::{Batch, EndFault, Event, FinishFault, GateState, Job, Offer, OfferFault, Terms};
 use settlement::{Acc, Outcome, Verdict};
 use std::alloc::{AllocError, Global};
 use std::process::Abort;
 use std::test::Fail;
-
-const HEADER: &[u8] = b"claim,member,service,billed,code\n";
+use worked_examples::{first_file, header, health_plan, second_file};
 
 const ONE_CLAIM: &[u8] = b"claim,member,service,billed,code
 c1,M1,2024-01-05,120.00,A
 ";
-
-fn header() -> &'static [u8] {
-    HEADER
-}
 
 pub fn one_claim() -> &'static [u8] {
     ONE_CLAIM
@@ -202,7 +197,7 @@ fn turn_calls(rt: &impl Abort, alloc: Global, terms: &Terms) -> Result<(), Alloc
 }
 
 fn take_turns(rt: &impl Abort, alloc: Global) -> Result<(), AllocError> {
-    let plan = plan_of(alloc, plan_text())?;
+    let plan = plan_of(alloc, health_plan().as_bytes())?;
     let files = [first_file(), second_file()];
     let terms = terms_of(alloc, &plan, &files, None)?;
     turn_calls(rt, alloc, &terms)
@@ -243,7 +238,7 @@ fn decide_copy<'t>(
 }
 
 fn decide_twice(rt: &impl Abort, alloc: Global) -> Result<(), AllocError> {
-    let plan = plan_of(alloc, plan_text())?;
+    let plan = plan_of(alloc, health_plan().as_bytes())?;
     let files = [first_file(), second_file()];
     let terms = terms_of(alloc, &plan, &files, None)?;
     copy_calls(rt, alloc, &terms)
@@ -319,7 +314,7 @@ fn stop_calls(rt: &impl Abort, alloc: Global, terms: &Terms) -> Result<(), Alloc
 }
 
 fn stop(rt: &impl Abort, alloc: Global) -> Result<(), AllocError> {
-    let plan = plan_of(alloc, plan_text())?;
+    let plan = plan_of(alloc, health_plan().as_bytes())?;
     let files = [first_file(), second_file()];
     let terms = terms_of(alloc, &plan, &files, None)?;
     stop_calls(rt, alloc, &terms)
@@ -397,7 +392,7 @@ fn end_calls(rt: &impl Abort, alloc: Global, terms: &Terms) -> Result<(), AllocE
 }
 
 fn finish_run(rt: &impl Abort, alloc: Global) -> Result<(), AllocError> {
-    let plan = plan_of(alloc, plan_text())?;
+    let plan = plan_of(alloc, health_plan().as_bytes())?;
     let files = [one_claim()];
     let terms = terms_of(alloc, &plan, &files, None)?;
     end_calls(rt, alloc, &terms)
@@ -425,7 +420,7 @@ fn end_again(rt: &impl Abort, alloc: Global, terms: &Terms) -> Result<(), AllocE
 }
 
 fn end_twice(rt: &impl Abort, alloc: Global) -> Result<(), AllocError> {
-    let plan = plan_of(alloc, plan_text())?;
+    let plan = plan_of(alloc, health_plan().as_bytes())?;
     let files = [one_claim(), header()];
     let terms = terms_of(alloc, &plan, &files, None)?;
     end_again(rt, alloc, &terms)
@@ -449,7 +444,7 @@ fn closed_calls(rt: &impl Abort, alloc: Global, terms: &Terms) -> Result<(), All
 }
 
 fn admit_nothing(rt: &impl Abort, alloc: Global) -> Result<(), AllocError> {
-    let plan = plan_of(alloc, plan_text())?;
+    let plan = plan_of(alloc, health_plan().as_bytes())?;
     let files = [first_file()];
     let terms = terms_of(alloc, &plan, &files, Some(0))?;
     closed_calls(rt, alloc, &terms)

@@ -3,11 +3,11 @@
 ghost use Rattle.std.specs.Prelude.{◌≡◌, ◌≤◌, ◌+◌, ◌<◌, ◌^◌, length, slice_get, Some, IfOk};
 ghost use Rattle.journal.specs.Terms.{claims_of};
 ghost use Rattle.claim_terms.specs.Terms.{ForTerms};
-ghost use Rattle.crew.specs.Sharing.{HasTaken};
+ghost use Rattle.crew.specs.Sharing.{HasAccepted};
 
 use super::{offer, open};
 use crate::tests::watched::{WatchedGate, nothing};
-use crate::tests::{both_files, comes_to, file_one, file_two, plan, terms};
+use crate::tests::{both_files, comes_to, plan, terms};
 use crate::{RunFault, run_with};
 use claim_gate::{Gate, GateState, LockedGate, Offer, SerialGate, Terms};
 use intake_csv::{Row, given_row_has_the_claim, reader_begins_with_all_rows};
@@ -17,6 +17,7 @@ use std::process::Abort;
 use std::sync::Wait;
 use std::thread::Threads;
 use turn_lock::{Section, SpinLock};
+use worked_examples::{first_file, second_file};
 
 // Offers the first provider's claim at a place, which is accepted.
 fn accept<R: Wait + Abort, G: Gate>(
@@ -30,11 +31,11 @@ fn accept<R: Wait + Abort, G: Gate>(
     requires own { G.has_pass gate.now pass }
     requires terms { (G.known pass).seen.terms ≡ terms.now }
     requires filed { ForTerms terms.now (λ T. slice_get (claims_of T 1) place ≡ Some claim) }
-    requires taken { HasTaken (G.known pass).seen 1 place }
+    requires taken { HasAccepted (G.known pass).seen 1 place }
     requires few { place < 2 }
     ensures own { G.has_pass gate.now result }
     ensures terms { (G.known result).seen.terms ≡ terms.now }
-    ensures taken { HasTaken (G.known result).seen 1 (place + 1) }
+    ensures taken { HasAccepted (G.known result).seen 1 (place + 1) }
 {
     let offered = Offer {
         provider: 1,
@@ -143,7 +144,7 @@ fn goes_on<R: Threads + Wait + Abort + Sync>(
 #[test]
 fn intakes_go_on_where_others_are(rt: HostRuntime) {
     let plan = plan(&rt, rt.alloc());
-    let files = [file_one(), file_two()];
+    let files = [first_file(), second_file()];
     let terms = terms(&rt, rt.alloc(), &plan, &files);
     assert!(rt; goes_on(&rt, rt.alloc(), &terms).is_ok());
 }
@@ -161,7 +162,7 @@ fn is_stopped<R: Threads + Wait + Sync>(
 #[test]
 fn a_run_on_a_stopped_gate(rt: HostRuntime) {
     let plan = plan(&rt, rt.alloc());
-    let files = [file_one(), file_two()];
+    let files = [first_file(), second_file()];
     let terms = terms(&rt, rt.alloc(), &plan, &files);
     assert!(rt; is_stopped(&rt, rt.alloc(), &terms) == Ok(true));
 }

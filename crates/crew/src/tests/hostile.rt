@@ -3,7 +3,7 @@
 ghost use Rattle.std.specs.Prelude.{◌≡◌};
 
 use super::watched::{Watch, WatchedGate, nothing};
-use super::{file_one, file_two, header, plan, terms};
+use super::{plan, terms};
 use crate::{RunFault, run, run_with};
 use claim_gate::{Gate, GateState, LockedGate, SerialGate};
 use claim_terms::Terms;
@@ -14,6 +14,7 @@ use std::sync::Wait;
 use std::thread;
 use std::thread::Threads;
 use turn_lock::{Section, TicketLock};
+use worked_examples::{first_file, header, second_file};
 
 /// What came of a run on a watched gate.
 #[derive(Clone, Copy)]
@@ -89,7 +90,7 @@ fn check_threads<R: Threads + Wait + Abort + Sync>(
 #[test]
 fn a_run_has_an_intake_a_file_and_its_workers(rt: HostRuntime) {
     let plan = plan(&rt, rt.alloc());
-    let files = [file_one(), file_two()];
+    let files = [first_file(), second_file()];
     let terms = terms(&rt, rt.alloc(), &plan, &files);
     for workers in [1, 4, 64] {
         check_threads(&rt, rt.alloc(), &terms, workers);
@@ -106,7 +107,7 @@ fn check_finished<R: Threads + Wait + Abort + Sync>(rt: &R, alloc: Global, terms
 #[test]
 fn runs_that_others_call_off(rt: HostRuntime) {
     let plan = plan(&rt, rt.alloc());
-    let files = [file_one(), file_two()];
+    let files = [first_file(), second_file()];
     let terms = terms(&rt, rt.alloc(), &plan, &files);
     check_finished(&rt, rt.alloc(), &terms);
     check_worn(&rt, rt.alloc(), &terms);

@@ -2,7 +2,7 @@
 
 ghost use Rattle.std.specs.Prelude.{◌≡◌};
 
-use super::{file_one, file_two, plan, terms};
+use super::{plan, terms};
 use crate::run_with;
 use claim_gate::{
     Accepted, Counts, EndFault, Ended, FinishFault, Gate, GateState, Job, LockedGate, Offer,
@@ -16,6 +16,7 @@ use std::sync::atomic::{AtomicU64, Ordering};
 use std::thread;
 use std::thread::Threads;
 use turn_lock::{Section, SpinLock, Worn};
+use worked_examples::{first_file, second_file};
 
 /// Which calls are to meet.
 #[derive(Clone, Copy, PartialEq)]
@@ -183,7 +184,7 @@ fn meets<R: Threads + Wait + Sync>(
 #[test]
 fn two_workers_meet(rt: HostRuntime) {
     let plan = plan(&rt, rt.alloc());
-    let files = [file_one(), file_two()];
+    let files = [first_file(), second_file()];
     let terms = terms(&rt, rt.alloc(), &plan, &files);
     assert!(rt; meets(&rt, rt.alloc(), &terms, Meeting::OfWorkers) == Ok(true));
 }
@@ -191,7 +192,7 @@ fn two_workers_meet(rt: HostRuntime) {
 #[test]
 fn two_intakes_meet(rt: HostRuntime) {
     let plan = plan(&rt, rt.alloc());
-    let files = [file_one(), file_two()];
+    let files = [first_file(), second_file()];
     let terms = terms(&rt, rt.alloc(), &plan, &files);
     assert!(rt; meets(&rt, rt.alloc(), &terms, Meeting::OfIntakes) == Ok(true));
 }

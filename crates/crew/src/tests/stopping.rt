@@ -2,13 +2,14 @@
 
 use super::hostile::watched;
 use super::watched::nothing;
-use super::{file_one, file_two, plan, terms};
+use super::{plan, terms};
 use crate::RunFault;
 use claim_terms::Terms;
 use std::alloc::Global;
 use std::process::Abort;
 use std::sync::Wait;
 use std::thread::Threads;
+use worked_examples::{first_file, second_file};
 
 // Each outcome that is handed in behind the stop comes back with its job, the workers leave, and the run is stopped.
 fn check_stopped_outcomes<R: Threads + Wait + Abort + Sync>(rt: &R, alloc: Global, terms: &Terms) {
@@ -21,7 +22,7 @@ fn check_stopped_outcomes<R: Threads + Wait + Abort + Sync>(rt: &R, alloc: Globa
 #[test]
 fn a_work_s_finish_is_stopped(rt: HostRuntime) {
     let plan = plan(&rt, rt.alloc());
-    let files = [file_one(), file_two()];
+    let files = [first_file(), second_file()];
     let terms = terms(&rt, rt.alloc(), &plan, &files);
     check_stopped_outcomes(&rt, rt.alloc(), &terms);
 }

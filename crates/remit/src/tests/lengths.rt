@@ -1,7 +1,5 @@
 //! Reports into writers that are full at each length below the report's, once by an error and once by taking nothing.
-use super::{
-    ACCEPTS, BOTH, DECISIONS, LATE_REPORT, REPORT, is_cut_at, journal_of, write_late, write_over,
-};
+use super::{ACCEPTS, DECISIONS, is_cut_at, journal_of, write_late, write_over};
 use crate::WriteFault;
 use fixpoint::Out;
 use journal::Event;
@@ -9,6 +7,7 @@ use std::alloc::Global;
 use std::io;
 use std::io::{ErrorKind, Write};
 use std::test::Fail;
+use worked_examples::{both_files, late_remittance, remittance};
 
 /// A writer that has room for so many bytes, and then fails or takes nothing.
 #[derive(Drop)]
@@ -57,14 +56,14 @@ fn is_filled(answer: Option<Result<(), WriteFault>>, out: Out<Room>, report: &[u
 // The report of a journal of both files.
 fn fills(alloc: Global, journal: &[Event], limit: usize, fails: bool) -> bool {
     let mut out = with_room(alloc, limit, fails);
-    let answer = write_over(alloc, BOTH, None, journal, &mut out);
-    is_filled(answer, out, REPORT)
+    let answer = write_over(alloc, both_files(), None, journal, &mut out);
+    is_filled(answer, out, remittance().as_bytes())
 }
 
 #[test]
 fn a_report_is_cut_at_each_length(rt: HostRuntime) -> Result<(), Fail> {
     let journal = journal_of(rt.alloc(), ACCEPTS, 2, DECISIONS)?;
-    for limit in 0..REPORT.len() {
+    for limit in 0..remittance().as_bytes().len() {
         assert!(rt;
             fills(rt.alloc(), journal.as_slice(), limit, true),
             "{limit}"
@@ -80,13 +79,13 @@ fn a_report_is_cut_at_each_length(rt: HostRuntime) -> Result<(), Fail> {
 // The report of a run that admits no claim of both files.
 fn fills_late(alloc: Global, limit: usize, fails: bool) -> bool {
     let mut out = with_room(alloc, limit, fails);
-    let answer = write_late(alloc, BOTH, &mut out);
-    is_filled(answer, out, LATE_REPORT)
+    let answer = write_late(alloc, both_files(), &mut out);
+    is_filled(answer, out, late_remittance().as_bytes())
 }
 
 #[test]
 fn a_report_of_a_run_is_cut_at_each_length(rt: HostRuntime) {
-    for limit in 0..LATE_REPORT.len() {
+    for limit in 0..late_remittance().as_bytes().len() {
         assert!(rt; fills_late(rt.alloc(), limit, true), "{limit}");
         assert!(rt; fills_late(rt.alloc(), limit, false), "{limit}");
     }

@@ -45,39 +45,6 @@ rate = "part"
 oop_max = "limit"
 "#;
 
-/// A table gives cover and fee by a code, another lists remarks.
-pub const HEALTH: &str = r#"
-version = 1
-fields = [{name = "code", kind = "text"}]
-
-[roles]
-cover = "covered"
-fee = "fee"
-deductible = "50"
-copay = "10"
-rate = "0.2"
-oop_max = "60"
-remarks = "note"
-
-[[tables]]
-inputs = [{name = "code"}]
-outputs = [{name = "covered", kind = "flag"}, {name = "fee", kind = "number"}]
-rules = [
-  {when = ['"A"'], then = ['true', '100']},
-  {when = ['"B"'], then = ['true', '40']},
-  {when = ['"X"'], then = ['false', '0']},
-]
-
-[[tables]]
-hit = "R"
-inputs = [{name = "billed"}, {name = "met"}]
-outputs = [{name = "note", kind = "text"}]
-rules = [
-  {when = ['>100', '-'], then = ['"OVER"']},
-  {when = ['-', '>=50'], then = ['"MET"']},
-]
-"#;
-
 /// Two tables that a score can be wrong for.
 pub const FAULTY: &str = r#"
 version = 1

@@ -12,7 +12,7 @@ pub enum Stage {
 }
 
 /// What a pass has seen, and its tally.
-pub struct Known<T> {
+pub struct LiveView<T> {
     pub stage: Stage,
     /// The last value that it has seen, which is the one found while it holds.
     pub seen: T,
@@ -29,5 +29,5 @@ pub struct Known<T> {
 /// The view of a pass, or of one that is no longer there.
 pub enum TicketView<T> {
     Spent,
-    Live(Known<T>),
+    Live(LiveView<T>),
 }

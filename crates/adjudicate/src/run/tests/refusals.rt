@@ -1,5 +1,6 @@
 //! Runs that are refused, and in which order.
 use super::*;
+use worked_examples::first_file;
 
 /// A plan that settles no claims.
 const NO_ROLES: &[u8] = br#"version = 1
@@ -24,9 +25,6 @@ const BELOW_ZERO: &[u8] = b"member,met,oop,paid\nM1,50.00,-10.00,5.00\n";
 
 const EMPTY: &[u8] = b"";
 
-/// The second lacks a column.
-const ONE_REFUSED: &[&[u8]] = &[FIRST, NO_BILLED];
-
 const NONE: &[&[u8]] = &[];
 
 const FIELDS_ALONE: &str = "plan fault 2 table 0 rule 0 column 0\n";
@@ -47,11 +45,11 @@ fn plans_and_numbers_of_workers_that_make_no_run(rt: HostRuntime) {
     for (plan, workers, line) in [
         (NO_ROLES, 4, "terms fault 1\n"),
         (NO_VERSION, 4, FIELDS_ALONE),
-        (PLAN, 0, "run fault 1\n"),
-        (PLAN, 65, "run fault 1\n"),
-        (PLAN, usize::MAX, "run fault 1\n"),
+        (health_plan().as_bytes(), 0, "run fault 1\n"),
+        (health_plan().as_bytes(), 65, "run fault 1\n"),
+        (health_plan().as_bytes(), usize::MAX, "run fault 1\n"),
     ] {
-        let mut input = run_of(BOTH);
+        let mut input = run_of(both_files());
         input.plan = plan;
         input.workers = workers;
         assert!(rt; refuses(&rt, input, line), "{workers} {line}");
@@ -65,7 +63,7 @@ fn files_that_make_no_run(rt: HostRuntime) {
         (NO_BILLED, NO_COLUMN),
         (CLAIM_TWICE, "terms fault 3 file 2 cause 4\n"),
     ] {
-        let files = [FIRST, file, NO_BILLED];
+        let files = [first_file(), file, NO_BILLED];
         assert!(rt; refuses(&rt, run_of(&files), line), "{line}");
     }
     assert!(rt; refuses(&rt, run_of(&[]), "terms fault 2\n"));
@@ -77,9 +75,9 @@ fn balances_that_make_no_run(rt: HostRuntime) {
         (MEMBER_TWICE, REPEATED),
         (BELOW_ZERO, "terms fault 4 record 1 cause 7 column 3\n"),
         (EMPTY, "terms fault 4 cause 2\n"),
-        (FIRST, "terms fault 4 cause 3\n"),
+        (first_file(), "terms fault 4 cause 3\n"),
     ] {
-        let mut input = run_of(BOTH);
+        let mut input = run_of(both_files());
         input.balances = Some(balances);
         assert!(rt; refuses(&rt, input, line), "{line}");
     }
@@ -87,10 +85,12 @@ fn balances_that_make_no_run(rt: HostRuntime) {
 
 #[test]
 fn the_first_fault_is_told(rt: HostRuntime) {
+    // The second lacks a column.
+    let one_refused = [first_file(), NO_BILLED];
     for (plan, files, line) in [
-        (PLAN, BOTH, REPEATED),
-        (PLAN, ONE_REFUSED, NO_COLUMN),
-        (PLAN, NONE, "terms fault 2\n"),
+        (health_plan().as_bytes(), both_files(), REPEATED),
+        (health_plan().as_bytes(), &one_refused[..], NO_COLUMN),
+        (health_plan().as_bytes(), NONE, "terms fault 2\n"),
         (NO_ROLES, NONE, "terms fault 1\n"),
         (NO_VERSION, NONE, FIELDS_ALONE),
     ] {

@@ -1,6 +1,6 @@
 use Rattle.std.proofs.Common.{◌≡◌, ◌≤◌, length, subst, sym, arith}
 use Rattle.journal.specs.Events.{places}
-use Rattle.crew.specs.Sharing.{HasTaken}
+use Rattle.crew.specs.Sharing.{HasAccepted}
 use Rattle.crew.proofs.Passes.{further_where_told, leaves_later_where_err}
 use Rattle.crew.proofs.Sections.{no_fewer}
 use Rattle.crew.proofs.intake.offer.Goals as goal
@@ -11,7 +11,7 @@ offer_again-requires-clause-taken g c κs within =
     let after = (g.G.Gate.known c.in-Ok.answer.1).seen in
     let same = rw c.in-Back.is at c.in-Ok.ensures.offered in
     let more = no_fewer before.journal after.journal c.args.offer.provider c.in-Ok.ensures.goes_on.seen.journal in
-    subst (λ o. HasTaken after o.provider o.place) (sym same) (omega (arith, c.requires.taken, more))
+    subst (λ o. HasAccepted after o.provider o.place) (sym same) (omega (arith, c.requires.taken, more))
 
 pub returns-in-Back-clause-goes_on : goal.returns-in-Back-clause-goes_on
 returns-in-Back-clause-goes_on g c =

@@ -1,16 +1,16 @@
 //! The locks' worked values, and threads that append through each lock.
 
 ghost use Rattle.std.specs.Prelude.{IfOk};
-ghost use Rattle.turn_lock.specs.Toy.{GoesOn, same_list, longer_list, either_list};
+ghost use Rattle.lock_examples.specs.Lists.{GoesOn, same_list, longer_list, either_list};
 ghost use Rattle.turn_lock.specs.TicketShown.{IsPassOf};
 
-use crate::{DrawFault, Growing, Pass, Raced, Section, SpinLock, TicketLock, Worn};
 use std::alloc::{AllocError, Global};
 use std::process::Abort;
 use std::sync::Wait;
 use std::test::Fail;
 use std::thread;
 use std::thread::Threads;
+use turn_lock::{DrawFault, Growing, Pass, Raced, Section, SpinLock, TicketLock, Worn};
 
 #[derive(Clone, Copy, PartialEq, Debug)]
 struct Entry {
@@ -320,13 +320,13 @@ fn threads_append_through_a_ticket_lock(rt: HostRuntime) -> Result<(), Fail> {
 
 #[test]
 fn each_law_is_called(_rt: HostRuntime) {
-    crate::spin_steps_keep_the_rule::<Entries>();
-    crate::spin_rule_says::<Entries>();
-    crate::ticket_steps_keep_the_rule::<Entries>(0);
-    crate::ticket_rule_says::<Entries>(0);
-    crate::ticket_steps_forget_nothing::<Entries>();
-    crate::ticket_steps_keep_the_tally::<Entries>();
-    crate::tickets_come_once::<Entries>(0);
+    turn_lock::spin_steps_keep_the_rule::<Entries>();
+    turn_lock::spin_rule_says::<Entries>();
+    turn_lock::ticket_steps_keep_the_rule::<Entries>(0);
+    turn_lock::ticket_rule_says::<Entries>(0);
+    turn_lock::ticket_steps_forget_nothing::<Entries>();
+    turn_lock::ticket_steps_keep_the_tally::<Entries>();
+    turn_lock::tickets_come_once::<Entries>(0);
 }
 
 // One section, which finds so many entries, and in which this one is appended, if there is one.

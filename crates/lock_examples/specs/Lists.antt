@@ -1,4 +1,4 @@
--- The small world of the tests: lists that only grow at their end.
+-- Lists that only grow at their end: the values that the worlds and the tests here put behind a lock.
 use Rattle.std.specs.Prelude.{◌≡◌, ◌⊎◌, List, [], ◌∷◌, ◌++◌}
 use Rattle.std.proofs.Common.{sym, refl, ap, ◌∙◌, inl, inr, get_or, drop, append-nil, append_assoc}
 

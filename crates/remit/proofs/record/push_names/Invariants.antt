@@ -1,0 +1,8 @@
+use Rattle.std.proofs.Common.{map, take}
+use Rattle.remit.specs.Amounts.{name_of}
+use Rattle.remit.specs.Held.{Pushes}
+use Rattle.remit.proofs.record.push_names.Given as goal
+
+-- the fields so far are put behind those of the record
+abbrev pub invariant-loop-amount : goal.invariant-loop-amount
+invariant-loop-amount l = Pushes l.initial.line l.line (map name_of (take l.amount-index l.amounts))
