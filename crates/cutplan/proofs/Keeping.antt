@@ -2,7 +2,7 @@
 use Rattle.std.proofs.Common.{◌≡◌, ℕ, zero, suc, ◌+◌, ◌-◌, ◌<◌, ◌≤◌, List, [], ◌∷◌, ◌++◌, length, get_or, take, map, Option, Some, None, refl, ap, sym, ◌∙◌, subst, arith}
 use Rattle.std.specs.List.{All, AllZip, enumerate_from, slice_get}
 use Rattle.std.specs.Option.{OnSome, option_map_or}
-use Rattle.std.proofs.lemmas.List.{map-append, take_all, take_more}
+use Rattle.std.proofs.lemmas.List.{length-map, map-append, take_all, take_more}
 use Rattle.std.proofs.lemmas.List.FromFn.{length-enumerate_from, get_or-enumerate_from}
 use Rattle.std.proofs.lemmas.Option.{none-some, same_Some}
 use Rattle.feel_tests.specs.declared.cell.Cell.{Cell}
@@ -13,6 +13,8 @@ use Rattle.cutplan.specs.declared.region.Region.{Region}
 use Rattle.cutplan.specs.Regions.{columns, columns_from, regions, table_regions}
 use Rattle.cutplan.specs.Parts.{holds_among, AreMasksBy}
 use Rattle.cutplan.specs.Masks.{Marks, AreMasks, AreTableMasks, AreKept, IsColumnNumber, AreMasksOf}
+use Rattle.cutplan.specs.Check.{cells}
+use Rattle.cutplan.specs.Numbered.{cells_of}
 use Rattle.cutplan.specs.Found.{IsCut}
 
 all_push : {X Y : Type 0} (R : X → Y → Type 0) (xs : List X) (ys : List Y) (x : X) (y : Y) → AllZip R xs ys → R x y → AllZip R (xs ++ x ∷ []) (ys ++ y ∷ [])
@@ -21,7 +23,7 @@ all_push R [] (w ∷ ws) x y all r = absurd all
 all_push R (z ∷ zs) [] x y all r = absurd all
 all_push R (z ∷ zs) (w ∷ ws) x y all r = (all.0, all_push R zs ws x y all.1 r)
 
-all_long : {X Y : Type 0} (R : X → Y → Type 0) (xs : List X) (ys : List Y) → AllZip R xs ys → length xs ≡ length ys
+pub all_long : {X Y : Type 0} (R : X → Y → Type 0) (xs : List X) (ys : List Y) → AllZip R xs ys → length xs ≡ length ys
 all_long R [] [] all = refl
 all_long R [] (w ∷ ws) all = absurd all
 all_long R (z ∷ zs) [] all = absurd all
@@ -115,6 +117,29 @@ few_rules p plan k d below = (plan.limits.each_table k d below).rules
 -- what is kept of a plan
 pub cut_of : (p : PlanParts) (regions_kept : List (List (List Region))) (masks_kept : List (List (List (List ℕ)))) → regions_kept ≡ map (table_regions p) p.tables → AreKept p p.tables masks_kept → IsPlan p → IsCut p regions_kept masks_kept
 cut_of p regions_kept masks_kept regions masks plan = record { regions = regions; masks = masks; few = few_rules p plan }
+
+-- the regions of a table's columns are kept at its place
+pub regions_within : (p : PlanParts) (regions : List (List (List Region))) (number : ℕ) → regions ≡ map (table_regions p) p.tables → 1 ≤ number → number ≤ length p.tables → number - 1 < length regions
+regions_within p regions number all low high =
+    let long = length-map p.tables (table_regions p) in
+    let same = ap length all in
+    omega (arith, long, same, low, high)
+
+mapped_got : {X Y : Type 0} (f : X → Y) (xs : List X) (i : ℕ) (x : X) (y : Y) → slice_get xs i ≡ Some x → y ≡ get_or (map f xs) i y → y ≡ f x
+mapped_got f [] i x y at is = absurd (none-some x at)
+mapped_got f (z ∷ zs) zero x y at is = is ∙ ap f (same_Some z x at)
+mapped_got f (z ∷ zs) (suc i) x y at is = mapped_got f zs i x y at is
+
+pub regions_at : (p : PlanParts) (regions : List (List (List Region))) (number : ℕ) (kept : List (List Region)) (t : Table) → regions ≡ map (table_regions p) p.tables → slice_get p.tables (number - 1) ≡ Some t
+    → kept ≡ get_or regions (number - 1) kept → kept ≡ table_regions p t
+regions_at p regions number kept t all at is = mapped_got (table_regions p) p.tables (number - 1) t kept at (is ∙ ap (λ rs. get_or rs (number - 1) kept) all)
+
+-- they make the cells of its check
+pub cells_at : (p : PlanParts) (regions : List (List (List Region))) (number : ℕ) (kept : List (List Region)) → regions ≡ map (table_regions p) p.tables → 1 ≤ number → number ≤ length p.tables
+    → kept ≡ get_or regions (number - 1) kept → cells kept ≡ cells_of p number
+cells_at p regions number kept all low high is =
+    let table = at_place p.tables (number - 1) (omega (arith, low, high)) in
+    ap cells (regions_at p regions number kept table.0 all table.1 is) ∙ sym (ap (λ found. option_map_or (λ t. cells (table_regions p t)) found []) table.1)
 
 -- a table's masks are kept at its place
 pub table_within : (p : PlanParts) (masks : List (List (List (List ℕ)))) (number : ℕ) → AreKept p p.tables masks → 1 ≤ number → number ≤ length p.tables → number - 1 < length masks

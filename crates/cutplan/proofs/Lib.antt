@@ -31,3 +31,5 @@ pub mod Sought
 pub mod Partners
 pub mod Between
 pub mod Asking
+pub mod Meeting
+pub mod Sorting

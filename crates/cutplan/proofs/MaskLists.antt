@@ -12,7 +12,7 @@ use Rattle.cutplan.specs.Found.{places_set}
 use Rattle.cutplan.proofs.MaskRules.{filter_within}
 
 -- two tests that agree on some numbers keep the same
-filter_alike : (f g : ℕ → Bool) (a n : ℕ) → ((k : ℕ) → a ≤ k → k < a + n → f k ≡ g k) → filter f (range_with_len a n) ≡ filter g (range_with_len a n)
+pub filter_alike : (f g : ℕ → Bool) (a n : ℕ) → ((k : ℕ) → a ≤ k → k < a + n → f k ≡ g k) → filter f (range_with_len a n) ≡ filter g (range_with_len a n)
 filter_alike f g a n same = filter_within f g a n n (omega arith) same (λ k low high. absurd (omega (arith, low, high)))
 
 -- what a test keeps, with the first number that it keeps in front of the rest

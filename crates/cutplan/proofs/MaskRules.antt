@@ -23,7 +23,7 @@ use Rattle.cutplan.proofs.Alike.{Among}
 use Rattle.cutplan.proofs.Telling.{asks_alike}
 
 -- a test that nothing passes
-filter_none : (f : ℕ → Bool) (a n : ℕ) → ((k : ℕ) → a ≤ k → k < a + n → f k ≡ false) → filter f (range_with_len a n) ≡ []
+pub filter_none : (f : ℕ → Bool) (a n : ℕ) → ((k : ℕ) → a ≤ k → k < a + n → f k ≡ false) → filter f (range_with_len a n) ≡ []
 filter_none f a zero none = refl
 filter_none f a (suc n) none =
     ap (λ b. cond b (a ∷ filter f (range_with_len (a + 1) n)) (filter f (range_with_len (a + 1) n))) (none a (omega arith) (omega arith))

@@ -1,5 +1,5 @@
 -- What the private functions of the check compute.
-use Rattle.std.specs.Prelude.{ℕ, ◌-◌, ◌≡◌, ◌==◌, nat_le, Bool, true, false, not, ◌&&◌, ◌||◌, List, [], ◌∷◌, map, filter, length, drop, Option, Some, None, slice_get, IsTrue, if◌then◌else◌}
+use Rattle.std.specs.Prelude.{ℕ, ◌+◌, ◌-◌, ◌≡◌, ◌<◌, ◌≤◌, ◌==◌, nat_le, Bool, true, false, not, ◌&&◌, ◌||◌, List, [], ◌∷◌, map, filter, length, drop, Option, Some, None, slice_get, IsTrue, if◌then◌else◌}
 use Rattle.std.specs.List.{list_any, list_all, AllZip}
 use Rattle.std.specs.Option.{option_map_or}
 use Rattle.feel_tests.specs.Holds.{is_equal, holds}
@@ -12,7 +12,7 @@ use Rattle.dtable.specs.declared.table.Table.{Table}
 use Rattle.cutplan.specs.declared.region.Region.{Region}
 use Rattle.cutplan.specs.declared.region.Region.TheVariants.{Below, At, Between, Above, Other, Every}
 use Rattle.dtable.specs.Plan.{has_kind}
-use Rattle.cutplan.specs.Masks.{has_rule, Marks}
+use Rattle.cutplan.specs.Masks.{has_rule, AreMasks, Marks}
 use Rattle.cutplan.specs.Regions.{rule_literals, least_like, next, holds_in}
 use Rattle.cutplan.specs.Values.{is_before, with_value, rising}
 use Rattle.cutplan.specs.Check.{covers, holds_at, rule_cells}
@@ -36,6 +36,10 @@ rises kind (v ∷ vs) = (has_kind kind v && list_all (is_before v) vs) && rises 
 -- so by the order of the kind
 abbrev pub is_risen : Kind → List Value → Bool
 is_risen kind cuts = has_order kind && rises kind cuts
+
+-- values of the kind, which has an order
+abbrev pub are_ordered : Kind → List Value → Bool
+are_ordered kind values = has_order kind && list_all (has_kind kind) values
 
 -- the value stands at this place
 abbrev pub is_at : List Value → ℕ → Value → Bool
@@ -94,6 +98,15 @@ uncovered t column rules cell = not (list_any (λ rule. covers (drop column (rul
 -- the rules whose cell in the column holds in the region
 abbrev pub alive_in : Table → ℕ → Region → List ℕ → List ℕ
 alive_in t column region rules = filter (λ rule. holds_at t rule column region) rules
+
+-- these columns of a table, of which the first has this place, have their masks at their places
+abbrev pub HasMasksFrom : Table → ℕ → List (List Region) → List (List (List ℕ)) → Type 0
+HasMasksFrom t place columns masks = (i : ℕ) (regions : List Region) → slice_get columns i ≡ Some regions → (kept : List (List ℕ)) × (slice_get masks (place + i) ≡ Some kept) × AreMasks t (place + i) regions kept
+
+-- a mask that has no rule behind so many
+pub record AreRules (count : ℕ) (mask : List ℕ) : Type 0 where
+  pub words : length mask ≡ 4
+  pub within : (place : ℕ) → count ≤ place → place < 256 → has_rule mask place ≡ false
 
 -- masks of four words
 abbrev pub is_whole : List ℕ → Bool

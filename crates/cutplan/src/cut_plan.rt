@@ -10,7 +10,6 @@ ghost use Rattle.cutplan.specs.Masks.{has_rule, rules_in, AreMasksOf, IsColumnNu
 ghost use Rattle.cutplan.specs.declared.mask.TheConstants.{MASK_RULES};
 ghost use Rattle.cutplan.specs.Numbered.{cell_limit as CELL_LIMIT, IsTableNumber, cells_of, gaps_of, overlaps_of, IsWide};
 
-use crate::column::table_regions;
 use crate::fault::CheckFault;
 use crate::found::matching_mask;
 use crate::kept::regions_and_masks;
@@ -94,12 +93,13 @@ impl<'a> CutPlan<'a> {
         ensures narrow { OnOk result (length (cells_of self.now table) ≤ CELL_LIMIT) }
         ensures wide { IfErr result (IsWide (length (cells_of self.now table))) }
     {
-        let table = &self.plan.tables()[table - 1];
-        let columns = table_regions(alloc, self.plan, table)?;
+        let columns = &self.regions.as_slice()[table - 1];
         if gap::is_wide(columns.as_slice()) {
             return Err(CheckFault::TooWide);
         }
-        Ok(gap::gaps(alloc, table, columns.as_slice())?)
+        let masks = &self.masks.as_slice()[table - 1];
+        let table = &self.plan.tables()[table - 1];
+        Ok(gap::gaps(alloc, table, columns.as_slice(), masks.as_slice())?)
     }
 
     /// The masks of an input column, one for each of its regions, in their order: the bit `(rule - 1) % 64` of the word

@@ -1,12 +1,14 @@
 //! Gaps: cells of the check that no rule covers.
 ghost use Rattle.std.specs.Prelude.{◌≡◌, ◌+◌, ◌*◌, ◌≤◌, ◌<◌, ◌^◌, ◌++◌, ◌∷◌, IfOk, OnOk, filter, map, min, length, not, [], ◌==◌, if◌then◌else◌};
 ghost use Rattle.std.specs.Bool.{OnTrue, OnFalse};
-ghost use Rattle.std.specs.List.{list_any, range_with_len};
+ghost use Rattle.std.specs.List.{list_any};
 ghost use Rattle.cutplan.specs.Check.{cells, covers};
-ghost use Rattle.cutplan.specs.Parts.{uncovered, alive_in};
+ghost use Rattle.cutplan.specs.Masks.{AreTableMasks, rules_in};
+ghost use Rattle.cutplan.specs.Parts.{uncovered, AreRules, HasMasksFrom};
 ghost use Rattle.cutplan.specs.Numbered.{cell_limit};
+ghost use Rattle.cutplan.specs.declared.mask.TheConstants.{MASK_RULES};
 
-use crate::overlap::holds_at;
+use crate::mask::{first_rules, meet};
 use crate::region::Region;
 use dtable::{Sequence, Table};
 use std::alloc::{AllocError, Global};
@@ -40,82 +42,78 @@ fn capped(count: usize, factor: usize) -> usize
     count.saturating_mul(factor).min(CELL_LIMIT + 1)
 }
 
-/// The cells of the columns, in order, that no rule of the table covers.
+/// The cells of the columns, in order, that no rule of the table covers. These are the masks of the columns.
 pub fn gaps(
     alloc: Global,
     table: &Table,
     columns: &[Sequence<Region>],
+    masks: &[Sequence<[u64; 4]>],
 ) -> Result<Vec<Sequence<Region>>, AllocError>
+    requires far { length columns.now < 2 ^ 59 }
+    requires few { length table.now.rules ≤ MASK_RULES }
+    requires masks { AreTableMasks table.now columns.now masks.now }
     ensures { IfOk result (λ found. found.items ≡ filter (λ cell. not (list_any (λ r. covers r.cells cell) table.now.rules)) (cells columns.now)) }
 {
-    let rules = places(alloc, table.rules.len())?;
-    uncovered(alloc, table, 0, columns, rules.as_slice())
+    let rules = first_rules(table.rules.len());
+    uncovered(alloc, table, 0, columns, masks, &rules)
 }
 
-// The places of so many rules, from 0.
-fn places(alloc: Global, count: usize) -> Result<Vec<usize>, AllocError>
-    ensures { IfOk result (λ places. places.items ≡ range_with_len 0 count) }
-{
-    let mut places = Vec::new(alloc);
-    for place in 0..count {
-        places.push(place)?;
-    }
-    Ok(places)
-}
-
-// The cells of the columns from a place on, in order, that none of these rules covers there.
+// The cells of the columns from a place on, in order, that none of these rules covers there. The masks are those of all
+// columns.
 fn uncovered(
     alloc: Global,
     table: &Table,
     place: usize,
     columns: &[Sequence<Region>],
-    rules: &[usize],
+    masks: &[Sequence<[u64; 4]>],
+    rules: &[u64; 4],
 ) -> Result<Vec<Sequence<Region>>, AllocError>
-    requires { place + length columns.now < 2 ^ 64 }
-    ensures { IfOk result (λ found. found.items ≡ filter (uncovered table.now place rules.now) (cells columns.now)) }
+    requires far { place + length columns.now < 2 ^ 59 }
+    requires few { length table.now.rules ≤ MASK_RULES }
+    requires masks { HasMasksFrom table.now place columns.now masks.now }
+    requires rules { AreRules (length table.now.rules) rules.now }
+    ensures { IfOk result (λ found. found.items ≡ filter (uncovered table.now place (rules_in (length table.now.rules) rules.now)) (cells columns.now)) }
 {
     match columns.split_first() {
         Some((regions, more)) => {
+            let here = masks[place].as_slice();
             let mut found = Vec::new(alloc);
-            for region in regions.as_slice() {
-                let alive = alive_in(alloc, table, place, region, rules)?;
-                let behind = uncovered(alloc, table, place + 1, more, alive.as_slice())?;
+            for (at, region) in regions.as_slice().iter().enumerate() {
+                let alive = meet(rules, &here[at]);
+                let behind = uncovered(alloc, table, place + 1, more, masks, &alive)?;
                 put_behind(alloc, region, behind, &mut found)?;
             }
             Ok(found)
         }
-        None => uncovered_end(alloc, rules),
+        None => uncovered_end(alloc, table.rules.len(), rules),
     }
 }
 
-// The cell of no column, unless there is a rule, which covers it.
-fn uncovered_end(alloc: Global, rules: &[usize]) -> Result<Vec<Sequence<Region>>, AllocError>
-    ensures { IfOk result (λ found. found.items ≡ (if length rules.now == 0 then [] ∷ [] else [])) }
+// The cell of no column, unless there is a rule among the first so many, which covers it.
+fn uncovered_end(
+    alloc: Global,
+    count: usize,
+    rules: &[u64; 4],
+) -> Result<Vec<Sequence<Region>>, AllocError>
+    requires few { count ≤ MASK_RULES }
+    requires rules { AreRules count rules.now }
+    ensures { IfOk result (λ found. found.items ≡ (if length (rules_in count rules.now) == 0 then [] ∷ [] else [])) }
 {
     let mut found = Vec::new(alloc);
-    if rules.is_empty() {
+    if is_none(count, rules) {
         found.push(Sequence::new(alloc))?;
     }
     Ok(found)
 }
 
-// The rules whose cell in the column holds in the region.
-fn alive_in(
-    alloc: Global,
-    table: &Table,
-    column: usize,
-    region: &Region,
-    rules: &[usize],
-) -> Result<Vec<usize>, AllocError>
-    ensures { IfOk result (λ alive. alive.items ≡ alive_in table.now column region.now rules.now) }
+// Whether the mask has no rule, of the first so many.
+#[tactic(auto, using(crate::proofs::Meeting::none_is))]
+fn is_none(count: usize, rules: &[u64; 4]) -> bool
+    requires few { count ≤ MASK_RULES }
+    requires rules { AreRules count rules.now }
+    ensures { result ≡ (length (rules_in count rules.now) == 0) }
 {
-    let mut alive = Vec::new(alloc);
-    for rule in rules {
-        if holds_at(table, *rule, column, region) {
-            alive.push(*rule)?;
-        }
-    }
-    Ok(alive)
+    (rules[0] == 0) & (rules[1] == 0) & (rules[2] == 0) & (rules[3] == 0)
 }
 
 // Appends the cells that have this region in front of these.

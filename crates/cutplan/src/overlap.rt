@@ -4,15 +4,13 @@
 //! asked of each mask once, and not each pair in each region.
 ghost use Rattle.std.specs.Prelude.{◌≡◌, ◌+◌, ◌-◌, ◌<◌, ◌≤◌, ◌++◌, ◌∷◌, [], IfOk, IsTrue, OnOk, filter, length, if◌then◌else◌};
 ghost use Rattle.std.specs.List.{list_all};
-ghost use Rattle.cutplan.specs.Check.{pairs, pairs_with, holds_at, rule_cells};
+ghost use Rattle.cutplan.specs.Check.{pairs, pairs_with};
 ghost use Rattle.cutplan.specs.Masks.{has_rule};
 ghost use Rattle.cutplan.specs.Parts.{are_whole, share_all};
 ghost use Rattle.cutplan.specs.declared.mask.TheConstants.{MASK_RULES};
 
-use crate::region::{Region, holds_in};
 use crate::sharing::{has_rule, partners};
-use dtable::{Sequence, Table};
-use feel_tests::Cell;
+use dtable::Sequence;
 use std::alloc::{AllocError, Global};
 
 /// The pairs of so many rules, numbered from 1, that have a mask of each column in common: the smaller first, in order.
@@ -66,24 +64,4 @@ fn push_pair(
         found.push((first + 1, second + 1))?;
     }
     Ok(())
-}
-
-/// Whether a rule's cell in a column, if it has one, holds in the region.
-pub fn holds_at(table: &Table, rule: usize, column: usize, region: &Region) -> bool
-    ensures { result ≡ holds_at table.now rule column region.now }
-{
-    match rule_cells(table, rule).get(column) {
-        Some(cell) => holds_in(cell, region),
-        None => true,
-    }
-}
-
-// The cells of the rule at a place; none where there is no such rule.
-fn rule_cells(table: &Table, rule: usize) -> &[Cell]
-    ensures { result.now ≡ rule_cells table.now rule }
-{
-    match table.rules.as_slice().get(rule) {
-        Some(rule) => rule.cells.as_slice(),
-        None => &[],
-    }
 }
