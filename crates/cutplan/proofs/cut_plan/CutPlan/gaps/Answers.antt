@@ -14,7 +14,7 @@ pub bounds-as_slice-table : goal.bounds-as_slice-table
 bounds-as_slice-table c =
     let p = c.args.self.now in
     let view : c.self.inside.plan.now ≡ p = c.self.view_is in
-    let all : c.self.inside.regions ≡ map (table_regions p) p.tables = subst (λ q. c.self.inside.regions ≡ map (table_regions q) q.tables) view c.self.invariant.regions in
+    let all : c.self.inside.regions ≡ map (table_regions p) p.tables = subst (λ q. c.self.inside.regions ≡ map (table_regions q) q.tables) view c.self.invariant.cut.regions in
     subst (λ rs. c.args.table - 1 < length rs) (sym c.as_slice.ensures) (regions_within p c.self.inside.regions c.args.table all c.requires.0 c.requires.1)
 
 pub offset_bounds-as_slice-table : goal.offset_bounds-as_slice-table
@@ -24,7 +24,7 @@ pub bounds-as_slice-table-2 : goal.bounds-as_slice-table-2
 bounds-as_slice-table-2 c =
     let p = c.args.self.now in
     let view : c.self.inside.plan.now ≡ p = c.self.view_is in
-    let all : AreKept p p.tables c.self.inside.masks = subst (λ q. AreKept q q.tables c.self.inside.masks) view c.self.invariant.masks in
+    let all : AreKept p p.tables c.self.inside.masks = subst (λ q. AreKept q q.tables c.self.inside.masks) view c.self.invariant.cut.masks in
     subst (λ ms. c.args.table - 1 < length ms) (sym c.as_slice-3.ensures) (table_within p c.self.inside.masks c.args.table all c.requires.0 c.requires.1)
 
 pub offset_bounds-as_slice-table-2 : goal.offset_bounds-as_slice-table-2
@@ -38,8 +38,8 @@ gaps-requires c =
     let columns = c.index-as_slice-table.result in
     let kept = c.index-as_slice-table-2.result in
     let view : c.self.inside.plan.now ≡ p = c.self.view_is in
-    let regions : c.self.inside.regions ≡ map (table_regions p) p.tables = subst (λ q. c.self.inside.regions ≡ map (table_regions q) q.tables) view c.self.invariant.regions in
-    let all : AreKept p p.tables c.self.inside.masks = subst (λ q. AreKept q q.tables c.self.inside.masks) view c.self.invariant.masks in
+    let regions : c.self.inside.regions ≡ map (table_regions p) p.tables = subst (λ q. c.self.inside.regions ≡ map (table_regions q) q.tables) view c.self.invariant.cut.regions in
+    let all : AreKept p p.tables c.self.inside.masks = subst (λ q. AreKept q q.tables c.self.inside.masks) view c.self.invariant.cut.masks in
     let is : kept ≡ get_or c.self.inside.masks (number - 1) kept = c.index-as_slice-table-2.is ∙ ap (λ ms. get_or ms (number - 1) kept) c.as_slice-3.ensures in
     let columns_is : columns ≡ get_or c.self.inside.regions (number - 1) columns = c.index-as_slice-table.is ∙ ap (λ rs. get_or rs (number - 1) columns) c.as_slice.ensures in
     let k = kept_masks p c.self.inside.masks number kept c.tables.result.now t (subst IsPlan view c.tables.ensures.sound) all c.requires.0 c.requires.1 is (c.tables.ensures.tables ∙ ap (λ q. q.tables) view) c.index-tables-table.is in
@@ -57,7 +57,7 @@ returns-then-is_wide c =
     let number = c.args.table in
     let columns = c.index-as_slice-table.result in
     let view : c.self.inside.plan.now ≡ p = c.self.view_is in
-    let regions : c.self.inside.regions ≡ map (table_regions p) p.tables = subst (λ q. c.self.inside.regions ≡ map (table_regions q) q.tables) view c.self.invariant.regions in
+    let regions : c.self.inside.regions ≡ map (table_regions p) p.tables = subst (λ q. c.self.inside.regions ≡ map (table_regions q) q.tables) view c.self.invariant.cut.regions in
     let columns_is : columns ≡ get_or c.self.inside.regions (number - 1) columns = c.index-as_slice-table.is ∙ ap (λ rs. get_or rs (number - 1) columns) c.as_slice.ensures in
     let same : cells c.as_slice-2.result.now ≡ cells_of p number = ap cells c.as_slice-2.ensures ∙ cells_at p c.self.inside.regions number columns regions c.requires.0 c.requires.1 columns_is in
     record { listed = tt; narrow = tt; wide = λ _. subst (λ cs. cell_limit < length cs) same c.if-is_wide.ensures.wide }
@@ -70,8 +70,8 @@ returns c =
     let columns = c.index-as_slice-table.result in
     let kept = c.index-as_slice-table-2.result in
     let view : c.self.inside.plan.now ≡ p = c.self.view_is in
-    let regions : c.self.inside.regions ≡ map (table_regions p) p.tables = subst (λ q. c.self.inside.regions ≡ map (table_regions q) q.tables) view c.self.invariant.regions in
-    let all : AreKept p p.tables c.self.inside.masks = subst (λ q. AreKept q q.tables c.self.inside.masks) view c.self.invariant.masks in
+    let regions : c.self.inside.regions ≡ map (table_regions p) p.tables = subst (λ q. c.self.inside.regions ≡ map (table_regions q) q.tables) view c.self.invariant.cut.regions in
+    let all : AreKept p p.tables c.self.inside.masks = subst (λ q. AreKept q q.tables c.self.inside.masks) view c.self.invariant.cut.masks in
     let is : kept ≡ get_or c.self.inside.masks (number - 1) kept = c.index-as_slice-table-2.is ∙ ap (λ ms. get_or ms (number - 1) kept) c.as_slice-3.ensures in
     let columns_is : columns ≡ get_or c.self.inside.regions (number - 1) columns = c.index-as_slice-table.is ∙ ap (λ rs. get_or rs (number - 1) columns) c.as_slice.ensures in
     let k = kept_masks p c.self.inside.masks number kept c.tables.result.now t (subst IsPlan view c.tables.ensures.sound) all c.requires.0 c.requires.1 is (c.tables.ensures.tables ∙ ap (λ q. q.tables) view) c.index-tables-table.is in
