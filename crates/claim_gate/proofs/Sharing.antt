@@ -9,7 +9,7 @@ use Rattle.journal.specs.Gate.{LeadsTo}
 use Rattle.journal.specs.Laws.{JobsStay}
 use Rattle.turn_lock.specs.Ticket.{last_word}
 use Rattle.turn_lock.specs.TicketShown.{HasMet}
-use Rattle.turn_lock.specs.declared.ticket.view.Known.{Known as Seen}
+use Rattle.turn_lock.specs.declared.ticket.view.LiveView.{LiveView as Seen}
 use Rattle.claim_gate.specs.Parts.{GateParts, at}
 use Rattle.claim_gate.specs.Shared.{HadSection, HaveMet, IsLawful, Known}
 

@@ -2,7 +2,7 @@
 use Rattle.claim_gate.specs.declared.locked.LockedGate.{LockedGate}
 use Rattle.claim_gate.specs.Parts.{GateParts}
 use Rattle.claim_gate.specs.Shared.{Known}
-use Rattle.turn_lock.specs.declared.ticket.view.Known.{Known as Seen}
+use Rattle.turn_lock.specs.declared.ticket.view.LiveView.{LiveView as Seen}
 
 -- its lock
 abbrev pub lock_of : {Lock Value Pass Holder : Type 0} → LockedGate Lock Value Pass Holder → Lock
