@@ -3,7 +3,7 @@
 //! A `Plan` names the input data of a claim and holds `Table`s in order of evaluation. `Inputs` takes a value for
 //! each name that a table reads. `Plan::value` evaluates the tables: it gives an `Env`, which has the answer of each
 //! output by its name, or the first `Fault`. `Valuer` is what any other evaluator of a plan promises as well.
-//! Cells and values come from `feel_tests`, numbers from `fixpoint`.
+//! Cells and values come from `feel_tests`, numbers from `fixpoint`, the list of tables' answers from `smallvec`.
 //!
 //! Begin with `specs/Plan.antt`, which says what holds of every plan, and go on with `specs/Matching.antt`,
 //! `specs/HitPolicy.antt` and `specs/Environment.antt`, which say what the tables' value is; then read

@@ -116,6 +116,32 @@ rules = [
 ]
 "#;
 
+/// Three tables that take the highest of their matches, list them in falling priority, and have them agree.
+const RANKED: &[u8] = br#"version = 1
+fields = [{name = "x", kind = "number"}]
+[[tables]]
+hit = "P"
+inputs = [{name = "x"}]
+outputs = [{name = "level", kind = "text", priority = ['"HIGH"', '"LOW"'], default = '"NONE"'}]
+rules = [{when = ['>=1'], then = ['"LOW"']}, {when = ['>=2'], then = ['"HIGH"']}, {when = ['>=3'], then = ['"LOW"']}]
+[[tables]]
+hit = "O"
+inputs = [{name = "x"}]
+outputs = [{name = "note", kind = "text", priority = ['"B"', '"A"']}]
+rules = [{when = ['>=1'], then = ['"A"']}, {when = ['>=2'], then = ['"B"']}, {when = ['>=3'], then = ['"A"']}]
+[[tables]]
+hit = "A"
+inputs = [{name = "x"}]
+outputs = [{name = "y", kind = "number", default = '0'}]
+rules = [{when = ['>=1'], then = ['1']}, {when = ['>=2'], then = ['1']}, {when = ['>=4'], then = ['2']}]
+"#;
+
+const BY_PRIORITY: [Row; 1] = [(
+    RANKED,
+    &["0.9999", "1", "1.9999", "2", "2.9999", "3", "4"],
+    NONE,
+)];
+
 const CHAINED: [Row; 1] = [(
     CHAIN,
     &[
@@ -292,6 +318,11 @@ fn days_are_valued_alike(rt: HostRuntime) -> Result<(), Fail> {
 #[test]
 fn chained_tables_are_valued_alike(rt: HostRuntime) -> Result<(), Fail> {
     are_alike(&rt, rt.alloc(), &CHAINED)
+}
+
+#[test]
+fn ranked_rules_are_valued_alike(rt: HostRuntime) -> Result<(), Fail> {
+    are_alike(&rt, rt.alloc(), &BY_PRIORITY)
 }
 
 #[test]
