@@ -20,7 +20,7 @@ use Rattle.journal.specs.declared.event.Event.TheVariants.{Take}
 use Rattle.claim_gate.specs.Parts.{GateParts, at}
 use Rattle.claim_gate.specs.Replies.{HasClaims, IsWorkOf}
 use Rattle.claim_gate.specs.Shared.{HadSection, Known, Went}
-use Rattle.claim_gate.proofs.TestWords.{IsReader, IsAtWork, WorkStays}
+use Rattle.claim_gate.specs.TestWords.{IsReader, IsAtWork, WorkStays}
 use Rattle.claim_gate.specs.declared.job.Job.{Job}
 use Rattle.claim_gate.specs.declared.reply.Taken.TheVariants.{Work}
 use Rattle.claim_gate.proofs.Journals.{any_now}

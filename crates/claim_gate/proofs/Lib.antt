@@ -1,4 +1,3 @@
-pub mod TestWords
 pub mod Tallies
 pub mod Journals
 pub mod Providers

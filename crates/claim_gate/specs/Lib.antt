@@ -5,3 +5,4 @@ pub mod Replies
 pub mod FaultNumber
 pub mod Shared
 pub mod Locked
+pub mod TestWords

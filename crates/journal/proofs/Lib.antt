@@ -7,6 +7,5 @@ pub mod Counts
 pub mod Marks
 pub mod Finish
 pub mod GateMoves
-pub mod TestWords
 pub mod Worked
 pub mod Turns

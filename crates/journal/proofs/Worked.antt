@@ -7,7 +7,7 @@ use Rattle.settlement.specs.declared.outcome.Outcome.{Outcome}
 use Rattle.journal.specs.Terms.{Terms, IsProvider}
 use Rattle.journal.specs.Events.{closed, member_at, decided}
 use Rattle.journal.specs.Lawful.{Lawful, Finished, IsReady, IsNextClaim, IsNextEnd}
-use Rattle.journal.proofs.TestWords.{EmptyFileFinishes, NothingIsAccepted, TwoFiles, terms_of, in_work, MembersTakeTurns, AnswersInTurn, AnswersOnce, AnswersStopped, AnswersClosed, gate_at, cutoff_zero}
+use Rattle.journal.specs.TestWords.{EmptyFileFinishes, NothingIsAccepted, TwoFiles, terms_of, in_work, MembersTakeTurns, AnswersInTurn, AnswersOnce, AnswersStopped, AnswersClosed, gate_at, cutoff_zero}
 use Rattle.journal.specs.declared.event.Event.{Event}
 use Rattle.journal.specs.declared.event.Event.TheVariants.{Accept, End, Close, Take, Decide}
 use Rattle.journal.proofs.LawfulMore.{lawful_start, lawful_more}

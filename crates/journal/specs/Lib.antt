@@ -6,3 +6,4 @@ pub mod Gate
 pub mod Leading
 pub mod Laws
 pub mod Turns
+pub mod TestWords

@@ -1,5 +1,5 @@
 //! The laws, called once, and worked journals: the definitions say of them what they must.
-ghost use Rattle.journal.proofs.TestWords.{EmptyFileFinishes, NothingIsAccepted, Worked};
+ghost use Rattle.journal.specs.TestWords.{EmptyFileFinishes, NothingIsAccepted, Worked};
 
 use super::*;
 

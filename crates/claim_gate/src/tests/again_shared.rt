@@ -5,7 +5,7 @@ ghost use Rattle.claim_terms.specs.Terms.{ForTerms};
 ghost use Rattle.journal.specs.Gate.{LeadsTo};
 ghost use Rattle.journal.specs.Settled.{outcome_of};
 ghost use Rattle.claim_gate.specs.Replies.{HasClaims, IsFiled};
-ghost use Rattle.claim_gate.proofs.TestWords.{IsAtWork, IsCaller};
+ghost use Rattle.claim_gate.specs.TestWords.{IsAtWork, IsCaller};
 
 use crate::{EndFault, Gate, Job, Offer, Taken, Terms};
 use journal::jobs_stay;

@@ -3,7 +3,7 @@ ghost use Rattle.std.specs.Prelude.{◌≡◌, IfOk, OnOk};
 ghost use Rattle.journal.specs.Settled.{outcome_of};
 ghost use Rattle.claim_terms.specs.Terms.{ForTerms};
 ghost use Rattle.claim_gate.specs.Replies.{HasClaims, IsFiled};
-ghost use Rattle.claim_gate.proofs.TestWords.{IsAtWork, WorkStays};
+ghost use Rattle.claim_gate.specs.TestWords.{IsAtWork, WorkStays};
 
 use super::again;
 use super::filing::offer_at;

@@ -2,7 +2,7 @@
 ghost use Rattle.std.specs.Prelude.{◌≡◌, ◌+◌, IfOk, OnOk};
 ghost use Rattle.claim_terms.specs.Terms.{ForTerms};
 ghost use Rattle.claim_gate.specs.Replies.{HasClaims, IsFiled};
-ghost use Rattle.claim_gate.proofs.TestWords.{IsReader};
+ghost use Rattle.claim_gate.specs.TestWords.{IsReader};
 
 use crate::{Offer, Terms};
 use dtable::{Plan, read_plan};

@@ -1,7 +1,7 @@
 //! A gate behind a lock whose calls are each refused memory once, an outcome that is handed in twice, and two threads that offer the same
 //! file.
 ghost use Rattle.std.specs.Prelude.{◌≡◌, IfOk};
-ghost use Rattle.claim_gate.proofs.TestWords.{IsAtWork, IsCaller};
+ghost use Rattle.claim_gate.specs.TestWords.{IsAtWork, IsCaller};
 
 use super::filing::{offer_at, plan_of, read_all, terms_of};
 use super::in_turn::over_a_ticket_lock;

@@ -1,7 +1,7 @@
 //! The worked calls on a gate behind a lock, by two passes in turn: the answers are those of the gate of one thread.
 ghost use Rattle.std.specs.Prelude.{◌≡◌, IfOk};
 ghost use Rattle.journal.specs.Gate.{LeadsTo};
-ghost use Rattle.claim_gate.proofs.TestWords.{AreCallers, IsAtWork, IsCaller};
+ghost use Rattle.claim_gate.specs.TestWords.{AreCallers, IsAtWork, IsCaller};
 
 use super::filing::{is_offer, plan_of, read_all, terms_of};
 use super::shared::{

@@ -1,7 +1,7 @@
 //! A gate behind a lock of which two tickets are left, one, or none: each call behind the last one is answered so, and the pass
 //! and the values come back.
 ghost use Rattle.std.specs.Prelude.{◌≡◌, IfOk, IfErr};
-ghost use Rattle.claim_gate.proofs.TestWords.{IsAtWork, IsCaller};
+ghost use Rattle.claim_gate.specs.TestWords.{IsAtWork, IsCaller};
 
 use super::calls::settled;
 use super::filing::{is_offer, offer_at, plan_of, read_all, terms_of};

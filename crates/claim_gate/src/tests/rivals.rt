@@ -2,7 +2,7 @@
 ghost use Rattle.std.specs.Prelude.{◌≡◌, IfOk};
 ghost use Rattle.claim_terms.specs.Terms.{ForTerms};
 ghost use Rattle.claim_gate.specs.Replies.{IsFiled};
-ghost use Rattle.claim_gate.proofs.TestWords.{IsCaller};
+ghost use Rattle.claim_gate.specs.TestWords.{IsCaller};
 
 use super::filing::{offer_at, plan_of, terms_of};
 use crate::{Event, Gate, GateState, LockedGate, Offer, OfferFault, SerialGate, Terms};

@@ -3,7 +3,7 @@ ghost use Rattle.std.specs.Prelude.{◌≡◌, IfOk};
 ghost use Rattle.claim_terms.specs.Terms.{ForTerms};
 ghost use Rattle.claim_gate.specs.Replies.{HasClaims, IsFiled};
 ghost use Rattle.journal.specs.Gate.{LeadsTo};
-ghost use Rattle.claim_gate.proofs.TestWords.{IsAtWork, IsCaller};
+ghost use Rattle.claim_gate.specs.TestWords.{IsAtWork, IsCaller};
 
 use super::again_shared;
 use super::calls::settled;

@@ -1,6 +1,6 @@
 //! Calls of a gate that were worked by hand, each also with an allocation refused. Amounts are in ten-thousandths.
 ghost use Rattle.std.specs.Prelude.{◌≡◌, IfOk, OnOk};
-ghost use Rattle.claim_gate.proofs.TestWords.{IsAtWork, WorkStays};
+ghost use Rattle.claim_gate.specs.TestWords.{IsAtWork, WorkStays};
 
 use super::calls::{
     accept_at, end, find_nothing, find_stopped, halt, record, refuse_at, refuse_end,

@@ -1,5 +1,5 @@
 use Rattle.std.proofs.Common.{subst, sym}
-use Rattle.claim_gate.proofs.TestWords.{IsAtWork}
+use Rattle.claim_gate.specs.TestWords.{IsAtWork}
 use Rattle.claim_gate.proofs.Filing.{stays_at_work}
 use Rattle.claim_gate.proofs.tests.hostile.decide_copy.Goals as goal
 

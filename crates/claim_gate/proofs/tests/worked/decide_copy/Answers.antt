@@ -1,5 +1,5 @@
 use Rattle.std.proofs.Common.{subst, sym}
-use Rattle.claim_gate.proofs.TestWords.{IsAtWork}
+use Rattle.claim_gate.specs.TestWords.{IsAtWork}
 use Rattle.claim_gate.proofs.tests.worked.decide_copy.Goals as goal
 
 pub refuse_outcome-requires-clause-at_work : goal.refuse_outcome-requires-clause-at_work

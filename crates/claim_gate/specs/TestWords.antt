@@ -1,4 +1,4 @@
--- Words of the tests alone, so that they stand here and not in `specs`: how far a provider's file is read, and what is in work.
+-- Words of the tests alone: how far a provider's file is read, and what is in work.
 use Rattle.std.specs.Prelude.{◌≡◌, ℕ, true, List, ◌++◌, length}
 use Rattle.settlement.specs.declared.claim.Claim.{Claim}
 use Rattle.intake_csv.specs.Laws.{StandApart}

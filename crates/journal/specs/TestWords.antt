@@ -1,4 +1,4 @@
--- Words of the tests alone, so that they stand here and not in `specs`: worked journals, and what the definitions say of them.
+-- Words of the tests alone: worked journals, and what the definitions say of them.
 use Rattle.std.specs.Prelude.{◌≡◌, ◌≢◌, true, false, List, [], ◌∷◌, ◌++◌, Some, None}
 use Rattle.dtable.specs.Plan.{PlanParts}
 use Rattle.settlement.specs.Claim.{nothing_yet}
