@@ -94,25 +94,42 @@ fn offer_next<R: Wait + Abort, G: Gate>(
     }
 }
 
+// Offers the claim of the first file at the place, if there is one.
+fn offer_from<R: Wait + Abort, G: Gate>(
+    rt: &R,
+    alloc: Global,
+    terms: &Terms,
+    gate: &G,
+    place: usize,
+    pass: G::Pass,
+    told: &Told,
+) -> (usize, G::Pass)
+    requires caller { IsCaller (G.has_pass gate.now) G.known terms.now pass }
+    ensures caller { IsCaller (G.has_pass gate.now) G.known terms.now result.1 }
+{
+    if place >= 4 {
+        return (place, pass);
+    }
+    let offer = offer_at(rt, alloc, terms, 1, place).expect(rt, "memory for a claim");
+    offer_next(rt, terms, gate, pass, offer, told)
+}
+
 // Offers the four claims of the first file.
 fn offer_all<R: Wait + Abort, G: Gate>(
     rt: &R,
     alloc: Global,
     terms: &Terms,
     gate: &G,
-    mut pass: G::Pass,
+    pass: G::Pass,
     told: &Told,
 )
     requires caller { IsCaller (G.has_pass gate.now) G.known terms.now pass }
 {
-    let mut place = 0;
-    for _ in 0..4 {
-        if place < 4 {
-            let offer = offer_at(rt, alloc, terms, 1, place).expect(rt, "memory for a claim");
-            (place, pass) = offer_next(rt, terms, gate, pass, offer, told);
-        }
-    }
-    assert!(rt; place == 4);
+    let next = offer_from(rt, alloc, terms, gate, 0, pass, told);
+    let next = offer_from(rt, alloc, terms, gate, next.0, next.1, told);
+    let next = offer_from(rt, alloc, terms, gate, next.0, next.1, told);
+    let next = offer_from(rt, alloc, terms, gate, next.0, next.1, told);
+    assert!(rt; next.0 == 4);
 }
 
 // Both threads; the caller is one of them.
