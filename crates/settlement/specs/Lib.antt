@@ -5,6 +5,7 @@ pub mod Given
 pub mod Reads
 pub mod Roles
 pub mod Accumulators
+pub mod Accounts
 pub mod Settlement
 pub mod Opening
 pub mod ReasonText
