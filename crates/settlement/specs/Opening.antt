@@ -21,3 +21,7 @@ joins own shared balance acc = record {
 abbrev pub opening : List (Account × Balance) → Account → Acc
 opening [] account = nothing_yet
 opening (entry ∷ rest) account = joins (is_same entry.0 account) (is_household entry.0 account) entry.1 (opening rest account)
+
+-- what an account begins with that is alone in its household, and has this balance
+abbrev pub begun : Balance → Acc
+begun balance = record { met = balance.met; oop = balance.oop; paid = balance.paid; fmet = balance.met; foop = balance.oop }
