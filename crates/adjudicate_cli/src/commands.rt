@@ -8,11 +8,13 @@ ghost use Rattle.adjudicate.specs.Stop.{IsPlanReason, IsReason};
 ghost use Rattle.adjudicate.specs.ValueText.{IsValueText};
 ghost use Rattle.adjudicate_cli.specs.Ends.{HasText, IsStatusOfRefusal, PutsText};
 
-use crate::command::{ASSIGNMENT, CHECK, RUN, VALUE, command_line};
+use crate::command::{ASSIGNMENT, CHECK, EXPLAIN, PLAN, RUN, STRICT, VALUE, command_line};
+use crate::explaining::{About, explain_answer};
 use crate::files::plan_of;
 use crate::output::{output_of, placed, unwritable};
 use crate::run::run_of;
-use crate::telling::{DONE, RESOURCE, USAGE, ended, no_memory, told};
+use crate::strict::tell_unread;
+use crate::telling::{DONE, REFUSED, RESOURCE, USAGE, ended, no_memory, told};
 use adjudicate::{do_check, do_value};
 use clap::ArgMatches;
 use clap::error::ErrorKind;
@@ -60,10 +62,10 @@ where
     ensures known { result ≤ RESOURCE }
 {
     if let Some(words) = matches.subcommand_matches(VALUE) {
-        return value_of(rt, words);
+        return value_of(rt, words, explains(words, is_watched));
     }
     if let Some(words) = matches.subcommand_matches(CHECK) {
-        return check_of(rt, words);
+        return check_of(rt, words, explains(words, is_watched));
     }
     match matches.subcommand_matches(RUN) {
         Some(words) => run_of(rt, words, is_watched),
@@ -71,32 +73,59 @@ where
     }
 }
 
+/// Whether refusals are explained: where somebody watches standard error, or where that is asked for.
+pub fn explains(matches: &ArgMatches<'_>, is_watched: bool) -> bool {
+    is_watched || matches.get_flag(EXPLAIN)
+}
+
 /// The command `value`.
-fn value_of<R: Files + Input + Print + Eprint + AllocGlobal>(rt: &R, matches: &ArgMatches<'_>) -> u8
+fn value_of<R: Files + Input + Print + Eprint + AllocGlobal>(
+    rt: &R,
+    matches: &ArgMatches<'_>,
+    explains: bool,
+) -> u8
     ensures known { result ≤ RESOURCE }
 {
-    let plan = match plan_of(rt, matches) {
+    let plan = match plan_of(rt, matches, explains) {
         Ok(plan) => plan,
         Err(status) => return status,
     };
     let assignments = matches.get_strs(ASSIGNMENT).unwrap_or(&[]);
-    match output_of(rt, matches) {
-        Ok(Some(mut file)) => value_into(rt, plan.as_slice(), assignments, &mut file),
-        Ok(None) => value(rt, plan.as_slice(), assignments),
+    let name = matches.get_str(PLAN).unwrap_or("");
+    let about = About {
+        explains,
+        plan_name: name,
+        plan: plan.as_slice(),
+        arguments: assignments,
+        balances_name: "",
+        balances: &[],
+        file_names: &[],
+        files: &[],
+    };
+    match output_of(rt, matches, explains) {
+        Ok(Some(mut file)) => value_into(rt, plan.as_slice(), assignments, &about, &mut file),
+        Ok(None) => value(rt, plan.as_slice(), assignments, &about),
         Err(status) => status,
     }
 }
 
 /// The command `value` over the text of a plan.
 #[tactic(auto, using(crate::proofs::Ends::ends_known, crate::proofs::Ends::ends_done, crate::proofs::Ends::ends_refused))]
-fn value<R: Print + Eprint + AllocGlobal>(rt: &R, plan: &[u8], assignments: &[&str]) -> u8
+fn value<R: Print + Eprint + AllocGlobal>(
+    rt: &R,
+    plan: &[u8],
+    assignments: &[&str],
+    about: &About,
+) -> u8
     ensures known { result ≤ RESOURCE }
     ensures done { result ≡ DONE → HasText (IsValueText plan.now (texts_of assignments.now)) }
     ensures refused { result ≢ DONE → IsStatusOfRefusal (IsReason plan.now (texts_of assignments.now)) result }
 {
     let mut out = Out::new(io::writer(rt));
     let answer = do_value(rt.alloc(), plan, assignments, &mut out);
-    ended(rt, &answer)
+    let status = ended(rt, &answer);
+    explain_answer(rt, about, &answer);
+    status
 }
 
 /// The same into a place, which has the whole text then or what stood there before.
@@ -105,6 +134,7 @@ fn value_into<R: Eprint + AllocGlobal, P: Place>(
     rt: &R,
     plan: &[u8],
     assignments: &[&str],
+    about: &About,
     place: &mut P,
 ) -> u8
     ensures known { result ≤ RESOURCE }
@@ -118,39 +148,78 @@ fn value_into<R: Eprint + AllocGlobal, P: Place>(
     };
     let mut out = Out::new(text);
     let outcome = do_value(rt.alloc(), plan, assignments, &mut out);
-    placed(rt, place, out.into_inner(), &outcome)
+    let status = placed(rt, place, out.into_inner(), &outcome);
+    explain_answer(rt, about, &outcome);
+    status
 }
 
 /// The command `check`.
-fn check_of<R: Files + Input + Print + Eprint + AllocGlobal>(rt: &R, matches: &ArgMatches<'_>) -> u8
+fn check_of<R: Files + Input + Print + Eprint + AllocGlobal>(
+    rt: &R,
+    matches: &ArgMatches<'_>,
+    explains: bool,
+) -> u8
     ensures known { result ≤ RESOURCE }
 {
-    let plan = match plan_of(rt, matches) {
+    let plan = match plan_of(rt, matches, explains) {
         Ok(plan) => plan,
         Err(status) => return status,
     };
-    match output_of(rt, matches) {
-        Ok(Some(mut file)) => check_into(rt, plan.as_slice(), &mut file),
-        Ok(None) => check(rt, plan.as_slice()),
+    let name = matches.get_str(PLAN).unwrap_or("");
+    let about = About {
+        explains,
+        plan_name: name,
+        plan: plan.as_slice(),
+        arguments: &[],
+        balances_name: "",
+        balances: &[],
+        file_names: &[],
+        files: &[],
+    };
+    let status = match output_of(rt, matches, explains) {
+        Ok(Some(mut file)) => check_into(rt, plan.as_slice(), &about, &mut file),
+        Ok(None) => check(rt, plan.as_slice(), &about),
         Err(status) => status,
+    };
+    if status == DONE && matches.get_flag(STRICT) {
+        return unread(rt, plan.as_slice());
+    }
+    status
+}
+
+/// The status by whether the plan has a key that nothing reads. Each is told.
+pub fn unread<R: Eprint + AllocGlobal>(rt: &R, plan: &[u8]) -> u8
+    ensures known { result ≤ RESOURCE }
+{
+    match tell_unread(rt, plan) {
+        Ok(true) => REFUSED,
+        Ok(false) => DONE,
+        Err(_) => no_memory(rt),
     }
 }
 
 /// The command `check` over the text of a plan.
 #[tactic(auto, using(crate::proofs::Ends::ends_known, crate::proofs::Ends::ends_done, crate::proofs::Ends::ends_refused))]
-fn check<R: Print + Eprint + AllocGlobal>(rt: &R, plan: &[u8]) -> u8
+fn check<R: Print + Eprint + AllocGlobal>(rt: &R, plan: &[u8], about: &About) -> u8
     ensures known { result ≤ RESOURCE }
     ensures done { result ≡ DONE → HasText (IsCheckText plan.now) }
     ensures refused { result ≢ DONE → IsStatusOfRefusal (IsPlanReason plan.now) result }
 {
     let mut out = Out::new(io::writer(rt));
     let answer = do_check(rt.alloc(), plan, &mut out);
-    ended(rt, &answer)
+    let status = ended(rt, &answer);
+    explain_answer(rt, about, &answer);
+    status
 }
 
 /// The same into a place, which has the whole text then or what stood there before.
 #[tactic(auto, using(crate::proofs::Ends::placed_done, crate::proofs::Ends::kept_twice))]
-fn check_into<R: Eprint + AllocGlobal, P: Place>(rt: &R, plan: &[u8], place: &mut P) -> u8
+fn check_into<R: Eprint + AllocGlobal, P: Place>(
+    rt: &R,
+    plan: &[u8],
+    about: &About,
+    place: &mut P,
+) -> u8
     ensures known { result ≤ RESOURCE }
     ensures done { result ≡ DONE → PutsText (IsCheckText plan.now) (P.stands place.old) (P.stands place.new) }
     ensures kept { result ≢ DONE → Keeps (P.stands place.old) (P.stands place.new) }
@@ -162,7 +231,9 @@ fn check_into<R: Eprint + AllocGlobal, P: Place>(rt: &R, plan: &[u8], place: &mu
     };
     let mut out = Out::new(text);
     let outcome = do_check(rt.alloc(), plan, &mut out);
-    placed(rt, place, out.into_inner(), &outcome)
+    let status = placed(rt, place, out.into_inner(), &outcome);
+    explain_answer(rt, about, &outcome);
+    status
 }
 
 /// Tells a fault of the command line, or the help or the version that was asked for.

@@ -6,6 +6,7 @@ ghost use Rattle.whole_file.specs.Place.{Becomes};
 ghost use Rattle.adjudicate.specs.Stop.{status_of};
 
 use crate::command::{OUTPUT, STREAM};
+use crate::explaining::explain_unreadable;
 use crate::telling::{DONE, RESOURCE, no_memory, tell, told};
 use adjudicate::Stop;
 use clap::ArgMatches;
@@ -13,11 +14,15 @@ use std::io;
 use std::rt::Files;
 use whole_file::{FilePlace, Place, finish};
 
+/// The line that tells that the results can't be put into the file.
+const CANNOT_WRITE: &str = "cannot write output";
+
 /// The file that the command line names for the results, if it does. Where they can't be put there, that is told, and its status
 /// answered.
 pub fn output_of<'a, R: Files + Eprint + AllocGlobal>(
     rt: &'a R,
     matches: &ArgMatches<'_>,
+    explains: bool,
 ) -> Result<Option<FilePlace<'a, R>>, u8>
     ensures known { IfErr result (λ status. status ≤ RESOURCE) }
 {
@@ -25,7 +30,13 @@ pub fn output_of<'a, R: Files + Eprint + AllocGlobal>(
         None | Some(STREAM) => Ok(None),
         Some(path) => match FilePlace::new(rt, path) {
             Ok(place) => Ok(Some(place)),
-            Err(fault) => Err(unwritable(rt, &fault)),
+            Err(fault) => {
+                let status = unwritable(rt, &fault);
+                if explains {
+                    explain_unreadable(rt, CANNOT_WRITE, path, &fault);
+                }
+                Err(status)
+            }
         },
     }
 }
@@ -62,6 +73,6 @@ pub fn unwritable<R: Eprint>(rt: &R, fault: &io::Error) -> u8
     if fault.kind() == io::ErrorKind::OutOfMemory {
         no_memory(rt)
     } else {
-        told(rt, "cannot write output", RESOURCE)
+        told(rt, CANNOT_WRITE, RESOURCE)
     }
 }

@@ -8,6 +8,8 @@ use adjudicate::{LINE_LIMIT_BYTES, Stop};
 /// The exit statuses that the library's refusals leave to the program.
 pub const DONE: u8 = 0;
 
+pub const REFUSED: u8 = 1;
+
 pub const USAGE: u8 = 2;
 
 pub const RESOURCE: u8 = 3;
