@@ -105,7 +105,7 @@ pub fn terms<'a>(
 fn write_outcome(text: &mut String, outcome: &Outcome) -> Result<(), AllocError> {
     write!(text, "{:?}", outcome.verdict)?;
     write_amounts(text, outcome)?;
-    for remark in outcome.remarks.as_slice() {
+    for remark in &outcome.remarks {
         write!(text, " {}", remark.as_str())?;
     }
     Ok(())

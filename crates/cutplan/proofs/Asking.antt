@@ -25,12 +25,12 @@ one_more H place other = elim (cases_lt other place) [
       ap (λ b. (b && H other) || (H place && (other == place))) (lt-ltb other place less) ∙ ap (λ b. H other || (H place && b)) (ne_eqb other place (λ e. omega (arith, less, e)))
       ∙ or_none (H other) (H place) ∙ sym (ap (λ b. b && H other) (lt-ltb other (place + 1) (omega (arith, less))))
   | inr most ↦ ap (λ b. (b && H other) || (H place && (other == place))) (le-ltb other place most) ∙ (elim (cases_lt place other) [
-      | inl above ↦
-          ap (λ b. H place && b) (ne_eqb other place (λ e. omega (arith, above, e))) ∙ and_none (H place) ∙ sym (ap (λ b. b && H other) (le-ltb other (place + 1) (omega (arith, above))))
-      | inr least ↦
-          (let same : other ≡ place = omega (arith, most, least) in
-          ap (λ b. H place && b) (eq-eqb other place same) ∙ and_all (H place) ∙ ap H (sym same) ∙ sym (ap (λ b. b && H other) (lt-ltb other (place + 1) (omega (arith, least)))))
-    ])
+    | inl above ↦
+        ap (λ b. H place && b) (ne_eqb other place (λ e. omega (arith, above, e))) ∙ and_none (H place) ∙ sym (ap (λ b. b && H other) (le-ltb other (place + 1) (omega (arith, above))))
+    | inr least ↦
+        (let same : other ≡ place = omega (arith, most, least) in
+        ap (λ b. H place && b) (eq-eqb other place same) ∙ and_all (H place) ∙ ap H (sym same) ∙ sym (ap (λ b. b && H other) (lt-ltb other (place + 1) (omega (arith, least)))))
+  ])
 ] where
   or_none : (a b : Bool) → (a || (b && false)) ≡ a
   or_none true b = refl

@@ -22,7 +22,7 @@ pub fn table_regions(
     ensures { IfOk result (λ columns. columns ≡ table_regions plan.now table.now) }
 {
     let mut columns = Sequence::new(alloc);
-    for (place, input) in table.inputs.as_slice().iter().enumerate() {
+    for (place, input) in table.inputs.iter().enumerate() {
         columns.push(column_regions(alloc, plan, table, place, input)?)?;
     }
     Ok(columns)

@@ -27,7 +27,7 @@ pub fn matching_mask(
     ensures { IfSome result (λ mask. IsMatchingMask given.now earlier.now table.now mask) }
 {
     let mut mask = first_rules(table.rules.len());
-    for (column, input) in table.inputs.as_slice().iter().enumerate() {
+    for (column, input) in table.inputs.iter().enumerate() {
         let regions = regions.get(column)?;
         let masks = masks.get(column)?;
         let read = mask_read(

@@ -77,7 +77,7 @@ fn uncovered(
     match columns.split_first() {
         Some((regions, more)) => {
             let mut found = Vec::new(alloc);
-            for region in regions.as_slice() {
+            for region in regions {
                 let alive = alive_in(alloc, table, place, region, rules)?;
                 let behind = uncovered(alloc, table, place + 1, more, alive.as_slice())?;
                 put_behind(alloc, region, behind, &mut found)?;

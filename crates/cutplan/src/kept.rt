@@ -51,13 +51,7 @@ fn masks_of_columns(
     let mut masks = Sequence::new(alloc);
     for (column, regions) in columns.iter().enumerate() {
         let kind = kind_of_column(plan, table, column);
-        masks.push(masks_of_column(
-            alloc,
-            kind,
-            table,
-            column,
-            regions.as_slice(),
-        )?)?;
+        masks.push(masks_of_column(alloc, kind, table, column, regions.as_slice())?)?;
     }
     Ok(masks)
 }

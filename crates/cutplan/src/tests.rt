@@ -241,7 +241,7 @@ fn seventeen_regions_in_each_of_four_columns(rt: HostRuntime) {
 // Whether the answer is a list of so many ones.
 fn are_ones(answer: Option<&Answer>, count: usize) -> bool {
     match answer {
-        Some(Answer::Many(values)) => values.len() == count && values.as_slice().iter().all(is_one),
+        Some(Answer::Many(values)) => values.len() == count && values.iter().all(is_one),
         _ => false,
     }
 }

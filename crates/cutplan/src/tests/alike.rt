@@ -220,7 +220,7 @@ fn write_answer(text: &mut Vec<u8>, answer: Option<&Answer>) -> Result<(), Fail>
     match answer {
         Some(Answer::One(value)) => value.write_text(text)?,
         Some(Answer::Many(list)) => {
-            for value in list.as_slice() {
+            for value in list {
                 value.write_text(text)?;
                 text.push(b' ')?;
             }

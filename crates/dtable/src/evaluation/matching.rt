@@ -20,7 +20,7 @@ pub fn matching(
     ensures { IfOk result (λ rules. rules ≡ matching given.now earlier.now table.now) }
 {
     let mut found = Sequence::new(alloc);
-    for (place, rule) in table.rules.as_slice().iter().enumerate() {
+    for (place, rule) in table.rules.iter().enumerate() {
         if cells_hold(
             given,
             earlier,
@@ -50,7 +50,6 @@ pub fn first_outside(given: &Inputs, earlier: &[Answers<'_>], table: &Table) -> 
 {
     table
         .inputs
-        .as_slice()
         .iter()
         .position(|input| is_outside(given, earlier, input))
 }
