@@ -2,7 +2,9 @@
 use Rattle.std.specs.Prelude.{◌≡◌, ◌<◌, ◌++◌, ℕ, true, List, [], ◌∷◌, length, Some, Result, Ok, Err, cond, Option}
 use Rattle.settlement.specs.declared.outcome.Outcome.{Outcome}
 use Rattle.journal.specs.Terms.{Terms, IsProvider, claims_of}
-use Rattle.journal.specs.Events.{accepted, closed, decided, claim_filed, reached}
+use Rattle.journal.specs.Events.{accepted, closed, decided, taken, claim_filed, reached, IsJob}
+use Rattle.journal.specs.Settled.{outcome_of}
+use Rattle.claim_terms.specs.Terms.{ForTerms}
 use Rattle.journal.specs.Gate.{OfferReply, EndReply, TakeReply, FinishReply}
 use Rattle.journal.specs.declared.event.Event.{Event}
 use Rattle.journal.specs.declared.event.Event.TheVariants.{Close, Take}
@@ -68,6 +70,12 @@ IsFiled T offer = claim_filed T (record { provider = offer.provider; place = off
 pub record HasClaims (T : Terms) (provider count : ℕ) : Type 0 where
   pub known : IsProvider T provider
   pub count_is : count ≡ length (claims_of T provider)
+
+-- the claim is taken, the job is its, and the outcome is its settlement
+pub record IsSettled (gate : GateParts) (job : Job) (outcome : Outcome) : Type 0 where
+  pub in_work : taken gate.journal job.position ≡ true
+  pub is_job : ForTerms gate.terms (λ T. IsJob T gate.journal job.position job.claim job.acc)
+  pub value : outcome ≡ outcome_of gate.terms.plan job.claim job.acc
 
 -- the journal is closed, and each accepted claim is decided
 pub record IsOver (J : List Event) : Type 0 where

@@ -16,12 +16,10 @@ use turn_lock::Worn;
 /// return.
 pub trait Gate {
     ghost use Rattle.std.specs.Prelude.{◌≡◌, true, IfOk, IfErr, IsErr};
-    ghost use Rattle.journal.specs.Events.{taken, IsJob};
     ghost use Rattle.journal.specs.Gate.{Offers, Ends, Takes, Finishes, Stops, Counts as AreCounts};
-    ghost use Rattle.journal.specs.Settled.{outcome_of};
     ghost use Rattle.claim_terms.specs.Terms.{ForTerms};
     ghost use Rattle.claim_gate.specs.Parts.{at};
-    ghost use Rattle.claim_gate.specs.Replies.{offer_reply, end_reply, take_reply, finish_reply, IsFiled, HasClaims, IsWorkOf};
+    ghost use Rattle.claim_gate.specs.Replies.{offer_reply, end_reply, take_reply, finish_reply, IsFiled, HasClaims, IsSettled, IsWorkOf};
     ghost use Rattle.claim_gate.specs.Shared.{Known, IsServed, IsWornOut, Went};
 
     type Pass: Send + Drop;
@@ -98,9 +96,7 @@ pub trait Gate {
         (Worn, Self::Pass, Job, Outcome),
     >
         requires own { has_pass self.now pass }
-        requires in_work { taken (known pass).seen.journal job.position ≡ true }
-        requires job { ForTerms (known pass).seen.terms (λ T. IsJob T (known pass).seen.journal job.position job.claim job.acc) }
-        requires settled { outcome ≡ outcome_of (known pass).seen.terms.plan job.claim job.acc }
+        requires settled { IsSettled (known pass).seen job outcome }
         ensures served { IfOk result (λ r. IsServed (has_pass self.now) known (known pass) r.1) }
         ensures reply { IfOk result (λ r. Went (λ old new. Finishes old job.position outcome (finish_reply r.0) new) (known r.1)) }
         ensures back { IfOk result (λ r. IfErr r.0 (λ refused. (refused.1 ≡ job) × (refused.2 ≡ outcome))) }

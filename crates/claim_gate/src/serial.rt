@@ -28,12 +28,10 @@ impl<'t> Growing for GateState<'t> {
 pub trait SerialGate: Growing {
     ghost use Rattle.std.specs.Prelude.{◌≡◌, true, IfOk, IfErr};
     ghost use Rattle.journal.specs.Terms.{Terms as AnyTerms};
-    ghost use Rattle.journal.specs.Events.{taken, IsJob};
     ghost use Rattle.journal.specs.Gate.{Offers, Ends, Takes, Finishes, Counts as AreCounts};
-    ghost use Rattle.journal.specs.Settled.{outcome_of};
     ghost use Rattle.claim_terms.specs.Terms.{ForTerms};
     ghost use Rattle.claim_gate.specs.Parts.{GateParts, at};
-    ghost use Rattle.claim_gate.specs.Replies.{offer_reply, end_reply, take_reply, finish_reply, IsFiled, HasClaims, IsWorkOf};
+    ghost use Rattle.claim_gate.specs.Replies.{offer_reply, end_reply, take_reply, finish_reply, IsFiled, HasClaims, IsSettled, IsWorkOf};
     ghost use Rattle.journal.specs.Gate.{LeadsTo};
     ghost use Rattle.claim_gate.specs.Shared.{IsLawful};
 
@@ -73,9 +71,7 @@ pub trait SerialGate: Growing {
         job: Job,
         outcome: Outcome,
     ) -> Result<Recorded, (FinishFault, Job, Outcome)>
-        requires in_work { taken (shown self.old).journal job.position ≡ true }
-        requires job { ForTerms (shown self.old).terms (λ T. IsJob T (shown self.old).journal job.position job.claim job.acc) }
-        requires settled { outcome ≡ outcome_of (shown self.old).terms.plan job.claim job.acc }
+        requires settled { IsSettled (shown self.old) job outcome }
         ensures grown { Self.leads self.old self.new }
         ensures reply { ForTerms (shown self.old).terms (λ T. Finishes (at T (shown self.old)) job.position outcome (finish_reply result) (at T (shown self.new))) }
         ensures lawful { IsLawful (shown self.new) }

@@ -2,15 +2,14 @@
 ghost use Rattle.std.specs.Prelude.{◌≡◌, ◌+◌, ◌<◌, ◌≤◌, ◌≢◌, ◌↔◌, ◌++◌, ◌∷◌, [], true, false, cond, IsTrue, length, vec_len, vec_capacity, IfOk, IfErr, OnOk, OnErr};
 ghost use Rattle.settlement.specs.Opening.{opening};
 ghost use Rattle.journal.specs.Terms.{Terms as AnyTerms};
-ghost use Rattle.journal.specs.Events.{places, ended, closed, taken, decided, reached, IsJob};
+ghost use Rattle.journal.specs.Events.{places, ended, closed, decided, reached};
 ghost use Rattle.journal.specs.Gate.{LeadsTo, Offers, Ends, Takes, Finishes, Stops, Counts as AreCounts};
-ghost use Rattle.journal.specs.Settled.{outcome_of};
 ghost use Rattle.journal.specs.declared.event.Event.TheVariants as events;
 ghost use Rattle.lanes.specs.Calls.{place_behind};
 ghost use Rattle.claim_gate.specs.Kept.{is_due};
 ghost use Rattle.claim_terms.specs.Terms.{ForTerms};
 ghost use Rattle.claim_gate.specs.Parts.{at};
-ghost use Rattle.claim_gate.specs.Replies.{offer_reply, end_reply, take_reply, finish_reply, IsFiled, HasClaims, IsOver, IsWorkOf, first_journal};
+ghost use Rattle.claim_gate.specs.Replies.{offer_reply, end_reply, take_reply, finish_reply, IsFiled, HasClaims, IsOver, IsSettled, IsWorkOf, first_journal};
 ghost use Rattle.claim_gate.specs.Shared.{IsLawful};
 
 use crate::counts::Counts;
@@ -224,9 +223,7 @@ impl<'t> GateState<'t> {
         job: Job,
         outcome: Outcome,
     ) -> Result<Recorded, (FinishFault, Job, Outcome)>
-        requires in_work { taken self.old.journal job.position ≡ true }
-        requires job { ForTerms self.old.terms (λ T. IsJob T self.old.journal job.position job.claim job.acc) }
-        requires settled { outcome ≡ outcome_of self.old.terms.plan job.claim job.acc }
+        requires settled { IsSettled self.old job outcome }
         ensures reply { ForTerms self.old.terms (λ T. Finishes (at T self.old) job.position outcome (finish_reply result) (at T self.new)) }
         ensures lawful { IsLawful self.new }
         ensures leads { LeadsTo self.old self.new }
@@ -251,9 +248,7 @@ impl<'t> GateState<'t> {
     ) -> Result<Recorded, (FinishFault, Job, Outcome)>
         requires runs { self.old.stopped ≡ false }
         requires once { decided self.old.journal job.position ≡ false }
-        requires in_work { taken self.old.journal job.position ≡ true }
-        requires job { ForTerms self.old.terms (λ T. IsJob T self.old.journal job.position job.claim job.acc) }
-        requires settled { outcome ≡ outcome_of self.old.terms.plan job.claim job.acc }
+        requires settled { IsSettled self.old job outcome }
         ensures reply { ForTerms self.old.terms (λ T. Finishes (at T self.old) job.position outcome (finish_reply result) (at T self.new)) }
         ensures lawful { IsLawful self.new }
         ensures leads { LeadsTo self.old self.new }

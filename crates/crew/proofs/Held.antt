@@ -1,28 +1,19 @@
 -- What a worker holds: claims in work stay so wherever the gate that it has seen leads.
-use Rattle.std.proofs.Common.{◌≡◌, ℕ, true, List, [], ◌∷◌, ◌++◌, map, sym, ap, subst, ◌∙◌, append_assoc}
+use Rattle.std.proofs.Common.{◌≡◌, List, [], ◌∷◌, ◌++◌, map, sym, ap, subst, ◌∙◌, append_assoc}
 use Rattle.std.specs.List.{All}
-use Rattle.std.proofs.lemmas.Bool.{or_left}
 use Rattle.std.proofs.lemmas.List.Elements.{All-map, All-weaker}
-use Rattle.std.proofs.lemmas.List.Folds.{list_any-append}
 use Rattle.settlement.specs.Claim.{IsClaimOf}
 use Rattle.settlement.specs.Settlement.{outcome}
 use Rattle.settlement.specs.declared.outcome.Outcome.{Outcome}
 use Rattle.dtable.specs.Plan.{PlanParts}
-use Rattle.journal.specs.Events.{is_take, taken}
-use Rattle.journal.specs.Gate.{Continues, LeadsTo}
+use Rattle.journal.specs.Gate.{LeadsTo}
 use Rattle.journal.specs.Laws.{JobsStay}
 use Rattle.journal.specs.Settled.{outcome_of}
-use Rattle.journal.specs.declared.event.Event.{Event}
 use Rattle.claim_gate.specs.Parts.{GateParts}
 use Rattle.claim_gate.specs.declared.job.Job.{Job}
-use Rattle.claim_gate.proofs.Sharing.{job_stays}
+use Rattle.claim_gate.proofs.Sharing.{job_stays, taken_stays}
 use Rattle.crew.specs.Sharing.{IsInWork, IsSettledIn, settled_by}
 use Rattle.crew.specs.declared.worker.Settled.{Settled}
-
--- a position that is taken stays so
-taken_stays : (J K : List Event) (position : ℕ) → Continues J K → taken J position ≡ true → taken K position ≡ true
-taken_stays J K position on is =
-    ap (λ w. taken w position) on.whole ∙ list_any-append (is_take position) J on.rest ∙ or_left (taken J position) (taken on.rest position) is
 
 -- a claim in work stays so
 pub in_work_stays : JobsStay → (a b : GateParts) (job : Job) → LeadsTo a b → IsInWork a job → IsInWork b job

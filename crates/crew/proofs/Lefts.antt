@@ -3,8 +3,8 @@ use Rattle.std.proofs.Common.{◌≡◌, ℕ, zero, suc, ◌<◌, ◌≤◌, ◌
 use Rattle.std.specs.List.{AllZip, slice_get}
 use Rattle.settlement.specs.declared.claim.Claim.{Claim}
 use Rattle.dtable.specs.declared.table.InputData.{InputData}
-use Rattle.intake_csv.specs.Laws.{BeginLike, GivenRowHasTheClaim, NoRecordsNoRows, StartHasTheRows}
-use Rattle.intake_csv.specs.Rows.{AreRowsLeft, GivesRow, IsAtStart, RowsLeft, claim_in, claims_among}
+use Rattle.intake_csv.specs.Laws.{BeginWith, GivenRowIsTheFirst, NoRecordsNoRows, StandApart, StartHasTheRows}
+use Rattle.intake_csv.specs.Rows.{AreRowsLeft, GivesRow, IsAtStart, RowsLeft, claims_among}
 use Rattle.intake_csv.specs.declared.fault.RowFault.{RowFault}
 use Rattle.intake_csv.specs.declared.rows.Row.{Row}
 use Rattle.intake_csv.specs.declared.rows.Row.TheVariants.{Good, Bad}
@@ -21,6 +21,7 @@ pub record AreLeft (T : Terms) (provider count : ℕ) (left : RowsLeft) : Type 0
   pub are_rows : AreRowsLeft left rows
   pub whole : claims_of T provider ≡ front ++ claims_among rows
   pub counted : length front ≡ count
+  pub apart : StandApart left.layout.columns
 
 -- the claims of a file at a place
 at_place : (names : List InputData) (texts : List (List ℕ)) (files : List (List Claim)) (i : ℕ) → AllZip (AreClaimsOf names) texts files → i < length texts
@@ -38,10 +39,10 @@ as_many_files names (text ∷ texts) [] all = absurd all
 as_many_files names (text ∷ texts) (cs ∷ files) all = ap suc (as_many_files names texts files all.1)
 
 -- at the start all claims of the provider are left
-pub left_first : StartHasTheRows → (parts : TermsParts) (T : Terms) (provider : ℕ) (left : RowsLeft) → IsTermsOf parts T → 1 ≤ provider → provider ≤ length parts.files
+pub left_first : StartHasTheRows → (parts : TermsParts) (T : Terms) (provider : ℕ) (left : RowsLeft) → StandApart left.layout.columns → IsTermsOf parts T → 1 ≤ provider → provider ≤ length parts.files
     → IsAtStart parts.plan.names (get_or parts.files (provider - 1) []) left → AreLeft T provider 0 left
-left_first law parts T zero left terms least most start = absurd (omega (arith, least))
-left_first law parts T (suc i) left terms least most start =
+left_first law parts T zero left apart terms least most start = absurd (omega (arith, least))
+left_first law parts T (suc i) left apart terms least most start =
     let place : suc i - 1 ≡ i = omega arith in
     let text = get_or parts.files i [] in
     let began : IsAtStart parts.plan.names text left = rw place at start in
@@ -52,30 +53,28 @@ left_first law parts T (suc i) left terms least most start =
       are_rows = law parts.plan.names text left file.rows began file.are_rows;
       whole = file.claims_are;
       counted = refl;
+      apart = apart;
     }
 
--- the claims among rows of which the first has the same claims as another row
-claims_begin : (row : Row) (left : RowsLeft) (rows : List Row) (b : BeginLike row left rows) → claims_among rows ≡ claim_in row ++ claims_among b.rest
-claims_begin row left rows b = ap claims_among b.rows_are ∙ ap (λ cs. cs ++ claims_among b.rest) b.claims
-
-module _ (law : GivenRowHasTheClaim) where
+module _ (law : GivenRowIsTheFirst) where
   -- a record that is refused leaves the same claims
   pub left_refused : (T : Terms) (provider count : ℕ) (old new : RowsLeft) (number : ℕ) (fault : RowFault) → AreLeft T provider count old
       → GivesRow old new (Bad number fault) → AreLeft T provider count new
   left_refused T provider count old new number fault h g =
-      let b = law old new (Bad number fault) h.rows g h.are_rows in
+      let b = law old new (Bad number fault) h.rows h.apart g h.are_rows in
       record {
         front = h.front;
         rows = b.rest;
         are_rows = b.rest_left;
-        whole = h.whole ∙ ap (λ cs. h.front ++ cs) (claims_begin (Bad number fault) new h.rows b);
+        whole = h.whole ∙ ap (λ rs. h.front ++ claims_among rs) b.rows_are;
         counted = h.counted;
+        apart = subst (λ l. StandApart l.columns) (sym g.layout) h.apart;
       }
 
   -- a record that is a claim is the provider's next one
   begun : (T : Terms) (provider count : ℕ) (old new : RowsLeft) (number place : ℕ) (claim : Claim) (h : AreLeft T provider count old)
-      → (b : BeginLike (Good number place claim) new h.rows) → claims_of T provider ≡ h.front ++ (claim ∷ claims_among b.rest)
-  begun T provider count old new number place claim h b = h.whole ∙ ap (λ cs. h.front ++ cs) (claims_begin (Good number place claim) new h.rows b)
+      → (b : BeginWith (Good number place claim) new h.rows) → claims_of T provider ≡ h.front ++ (claim ∷ claims_among b.rest)
+  begun T provider count old new number place claim h b = h.whole ∙ ap (λ rs. h.front ++ claims_among rs) b.rows_are
 
   stands : (front : List Claim) (claim : Claim) (rest : List Claim) → slice_get (front ++ claim ∷ rest) (length front) ≡ Some claim
   stands [] claim rest = refl
@@ -84,19 +83,20 @@ module _ (law : GivenRowHasTheClaim) where
   pub next_claim : (T : Terms) (provider count : ℕ) (old new : RowsLeft) (number place : ℕ) (claim : Claim) → AreLeft T provider count old
       → GivesRow old new (Good number place claim) → slice_get (claims_of T provider) count ≡ Some claim
   next_claim T provider count old new number place claim h g =
-      let b = law old new (Good number place claim) h.rows g h.are_rows in
+      let b = law old new (Good number place claim) h.rows h.apart g h.are_rows in
       rw (begun T provider count old new number place claim h b, ← h.counted) (stands h.front claim (claims_among b.rest))
 
   pub left_behind : (T : Terms) (provider count : ℕ) (old new : RowsLeft) (number place : ℕ) (claim : Claim) → AreLeft T provider count old
       → GivesRow old new (Good number place claim) → AreLeft T provider (count + 1) new
   left_behind T provider count old new number place claim h g =
-      let b = law old new (Good number place claim) h.rows g h.are_rows in
+      let b = law old new (Good number place claim) h.rows h.apart g h.are_rows in
       record {
         front = h.front ++ claim ∷ [];
         rows = b.rest;
         are_rows = b.rest_left;
         whole = begun T provider count old new number place claim h b ∙ sym (append_assoc h.front (claim ∷ []) (claims_among b.rest));
         counted = length-append h.front (claim ∷ []) ∙ ap (λ n. n + 1) h.counted;
+        apart = subst (λ l. StandApart l.columns) (sym g.layout) h.apart;
       }
 
 -- where no record is left, all claims of the provider are accepted
@@ -120,18 +120,18 @@ pub record IsAtOffer (terms : TermsParts) (seen : GateParts) (provider count exp
   pub place : left.place ≡ count
   pub fewer : left.place < left.number
 
-pub first_offer : StartHasTheRows → (parts : TermsParts) (seen : GateParts) (provider : ℕ) (left : RowsLeft) → seen.terms ≡ parts → 1 ≤ provider → provider ≤ length parts.files
+pub first_offer : StartHasTheRows → (parts : TermsParts) (seen : GateParts) (provider : ℕ) (left : RowsLeft) → StandApart left.layout.columns → seen.terms ≡ parts → 1 ≤ provider → provider ≤ length parts.files
     → IsAtStart parts.plan.names (get_or parts.files (provider - 1) []) left → IsAtOffer parts seen provider 0 0 left
-first_offer law parts seen provider left of_terms least most start = record {
+first_offer law parts seen provider left apart of_terms least most start = record {
   of_terms = of_terms;
-  claims = λ T is. left_first law parts T provider left is least most start;
+  claims = λ T is. left_first law parts T provider left apart is least most start;
   has_taken = omega arith;
   reached = omega arith;
   place = start.place;
   fewer = omega (arith, start.place, start.number);
 }
 
-module _ (law : GivenRowHasTheClaim) where
+module _ (law : GivenRowIsTheFirst) where
   -- behind a record that is refused
   pub refused_offer : (terms : TermsParts) (seen : GateParts) (provider count expected : ℕ) (old new : RowsLeft) (number : ℕ) (fault : RowFault)
       → IsAtOffer terms seen provider count expected old → GivesRow old new (Bad number fault) → IsAtOffer terms seen provider count expected new

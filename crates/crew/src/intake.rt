@@ -1,5 +1,6 @@
 //! What an intake of a run does: it reads a provider's file.
 ghost use Rattle.std.specs.Prelude.{◌≡◌, ◌<◌, ◌≤◌, ◌+◌, ◌-◌, ◌^◌, true, [], length, get_or, slice_get, Some, IfOk, IfErr};
+ghost use Rattle.intake_csv.specs.Laws.{StandApart};
 ghost use Rattle.intake_csv.specs.Rows.{IsAtStart};
 ghost use Rattle.claim_terms.specs.Terms.{ForTerms};
 ghost use Rattle.claim_gate.specs.Replies.{HasClaims, IsFiled};
@@ -13,7 +14,7 @@ use crate::turns::Turns;
 use claim_gate::{EndFault, Gate, Offer, OfferFault};
 use claim_terms::{Terms, terms_are_seen};
 use intake_csv::{
-    Row, Rows, given_row_has_the_claim, no_records_give_no_rows, reader_begins_with_all_rows,
+    Row, Rows, given_row_is_the_first, no_records_give_no_rows, reader_begins_with_all_rows,
 };
 use std::alloc::{AllocError, Global};
 use std::sync::Wait;
@@ -79,7 +80,7 @@ fn read_on<R: Wait, G: Gate>(
     // Known from here: what a reader has left is what the file has, and a row that it gives is the first of that.
     reader_begins_with_all_rows();
     no_records_give_no_rows();
-    given_row_has_the_claim();
+    given_row_is_the_first();
     let mut rows = match open(alloc, terms, provider) {
         Ok(rows) => rows,
         Err(fault) => return Err((fault, pass)),
@@ -121,6 +122,7 @@ fn open<'t>(alloc: Global, terms: &'t Terms, provider: usize) -> Result<Rows<'t>
     requires least { 1 ≤ provider }
     requires most { provider ≤ length terms.now.files }
     ensures rows { IfOk result (IsAtStart terms.now.plan.names (get_or terms.now.files (provider - 1) [])) }
+    ensures apart { IfOk result (λ rows. StandApart rows.layout.columns) }
     ensures fault { IfErr result (λ fault. fault ≡ OutOfMemory) }
 {
     match terms.rows(alloc, provider) {

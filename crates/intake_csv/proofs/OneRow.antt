@@ -8,8 +8,8 @@ use Rattle.feel_tests.specs.Plain.{SpellsOnePlain}
 use Rattle.feel_tests.specs.declared.value.Value.{Value}
 use Rattle.settlement.specs.declared.claim.Claim.{Claim}
 use Rattle.intake_csv.specs.Records.{Fields}
-use Rattle.intake_csv.specs.Laws.{BeginLike, BeginWith, StandApart}
-use Rattle.intake_csv.specs.Rows.{AreRowsLeft, AreValues, GivesRow, HasFault, HasValues, HoldsUnder, IsFaultyUnder, IsFaultlessUnder, IsFirstFault, IsRow, RowsLeft, claim_in, claim_values, claims_in, is_claim}
+use Rattle.intake_csv.specs.Laws.{BeginWith, StandApart}
+use Rattle.intake_csv.specs.Rows.{AreRowsLeft, AreValues, GivesRow, HasFault, HasValues, HoldsUnder, IsFaultyUnder, IsFaultlessUnder, IsFirstFault, IsRow, RowsLeft, claim_values, claims_in, is_claim}
 use Rattle.intake_csv.specs.declared.column.Column.{Column}
 use Rattle.intake_csv.specs.declared.column.Layout.{Layout}
 use Rattle.intake_csv.specs.declared.fault.RowCause.{RowCause}
@@ -139,16 +139,6 @@ module _ (one : DenotesAtMostOne) (plain : SpellsOnePlain) where
       let faults = fault-one layout fields f g apart h.1 k.1 in
       rw (h.0, k.0, faults) refl
 
-  -- whatever the columns are, its rows are the same claim, or none is one
-  row-alike : (layout : Layout) (number place : ℕ) (fields : Fields) (row other : Row) → IsRow layout number place fields row → IsRow layout number place fields other
-      → (claim_in row ≡ claim_in other) × (claims_in row ≡ claims_in other)
-  row-alike layout number place fields (Good n p c) (Good m q d) h k =
-      let claims = claim-one c d (values-one fields layout.columns (claim_values c) (claim_values d) h.2.1 k.2.1) in
-      (ap (λ x. x ∷ []) claims, refl)
-  row-alike layout number place fields (Good n p c) (Bad m g) h k = absurd (values-or-fault layout fields (claim_values c) g h.2 k.1)
-  row-alike layout number place fields (Bad n f) (Good m q d) h k = absurd (values-or-fault layout fields (claim_values d) f k.2 h.1)
-  row-alike layout number place fields (Bad n f) (Bad m g) h k = (refl, refl)
-
 -- a row at equal places
 moved-row : (layout other : Layout) (n m p q : ℕ) (fields : Fields) (row : Row) → layout ≡ other → n ≡ m → p ≡ q → IsRow layout n p fields row → IsRow other m q fields row
 moved-row layout other n m p q fields row same number place h = rw (same, number, place) at h
@@ -188,16 +178,4 @@ begin-with one plain old new row (r ∷ rs) apart g h =
       rest = rs;
       rows_are = ap (λ x. x ∷ rs) same;
       rest_left = rows-behind old new row r rs g (ap claims_in (sym same)) h;
-    }
-
-pub begin-like : DenotesAtMostOne → SpellsOnePlain → (old new : RowsLeft) (row : Row) (rows : List Row) → GivesRow old new row → AreRowsLeft old rows → BeginLike row new rows
-begin-like one plain old new row [] g h = let sizes = h.as_many ∙ ap length g.next in absurd (omega (arith, sizes))
-begin-like one plain old new row (r ∷ rs) g h =
-    let alike = row-alike one plain old.layout old.number old.place g.fields r row (first-row old new g.fields r rs g.next h) g.is_row in
-    record {
-      first = r;
-      rest = rs;
-      rows_are = refl;
-      claims = alike.0;
-      rest_left = rows-behind old new row r rs g (sym alike.1) h;
     }

@@ -8,7 +8,7 @@ use Rattle.settlement.specs.declared.claim.Claim.{Claim}
 use Rattle.settlement.specs.Claim.{IsClaimOf}
 use Rattle.intake_csv.specs.Records.{Fields}
 use Rattle.intake_csv.specs.Columns.{IsSheet, claim_columns}
-use Rattle.intake_csv.specs.Rows.{AreRowsLeft, AreRowsOf, GivesRow, HasValues, IsAtStart, RowsLeft, claim_in, claim_values}
+use Rattle.intake_csv.specs.Rows.{AreRowsLeft, AreRowsOf, GivesRow, HasValues, IsAtStart, RowsLeft, claim_values}
 use Rattle.intake_csv.specs.declared.column.Column.{Column}
 use Rattle.intake_csv.specs.declared.column.Layout.{Layout}
 use Rattle.intake_csv.specs.declared.rows.Row.{Row}
@@ -37,18 +37,6 @@ pub record BeginWith (row : Row) (left : RowsLeft) (rows : List Row) : Type 0 wh
 abbrev pub GivenRowIsTheFirst : Type 0
 GivenRowIsTheFirst = (old new : RowsLeft) (row : Row) (rows : List Row) → StandApart old.layout.columns → GivesRow old new row → AreRowsLeft old rows
     → BeginWith row new rows
-
--- the first of the rows is the same claim as this row, or neither is one, and the others are those that a reader has left behind it
-pub record BeginLike (row : Row) (left : RowsLeft) (rows : List Row) : Type 0 where
-  pub first : Row
-  pub rest : List Row
-  pub rows_are : rows ≡ first ∷ rest
-  pub claims : claim_in first ≡ claim_in row
-  pub rest_left : AreRowsLeft left rest
-
--- the row that a reader gives is the same claim as the first of those that it had left
-abbrev pub GivenRowHasTheClaim : Type 0
-GivenRowHasTheClaim = (old new : RowsLeft) (row : Row) (rows : List Row) → GivesRow old new row → AreRowsLeft old rows → BeginLike row new rows
 
 -- some rows of a text
 pub record RowsOf (names : List InputData) (text : List ℕ) : Type 0 where

@@ -1,5 +1,5 @@
 //! Laws of files of claims, for proofs that stand on them. Each call does nothing.
-ghost use Rattle.intake_csv.specs.Laws.{ClaimsHaveFields, FilesHaveRows, GivenRowHasTheClaim, GivenRowIsTheFirst, NoRecordsNoRows, StartHasTheRows};
+ghost use Rattle.intake_csv.specs.Laws.{ClaimsHaveFields, FilesHaveRows, GivenRowIsTheFirst, NoRecordsNoRows, StartHasTheRows};
 
 /// A claim that a record of a file of claims holds has the plan's fields.
 pub fn claims_have_the_plan_s_fields()
@@ -14,14 +14,6 @@ pub fn reader_begins_with_all_rows()
 /// The row that a reader gives is the first of those that it had left.
 pub fn given_row_is_the_first()
     ensures { GivenRowIsTheFirst }
-{
-    fixpoint::text_denotes_at_most_one();
-    feel_tests::field_spells_at_most_one_value();
-}
-
-/// The row that a reader gives is the same claim as the first of those that it had left, whatever its columns are.
-pub fn given_row_has_the_claim()
-    ensures { GivenRowHasTheClaim }
 {
     fixpoint::text_denotes_at_most_one();
     feel_tests::field_spells_at_most_one_value();

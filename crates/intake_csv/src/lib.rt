@@ -28,8 +28,8 @@ pub use balances::{Balances, read_balances};
 pub use claim_file::ClaimFile;
 pub use fault::{BalanceFault, FileFault, RowCause, RowFault};
 pub use laws::{
-    claims_have_the_plan_s_fields, files_have_rows, given_row_has_the_claim,
-    given_row_is_the_first, no_records_give_no_rows, reader_begins_with_all_rows,
+    claims_have_the_plan_s_fields, files_have_rows, given_row_is_the_first,
+    no_records_give_no_rows, reader_begins_with_all_rows,
 };
 pub use rows::{Row, Rows};
 pub use sheet::FILE_LIMIT_BYTES;

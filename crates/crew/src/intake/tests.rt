@@ -9,7 +9,7 @@ use super::{offer, open};
 use crate::tests::{both_files, comes_to, file_one, file_two, plan, terms};
 use crate::{RunFault, run_with};
 use claim_gate::{Gate, GateState, LockedGate, Offer, SerialGate, Terms};
-use intake_csv::{Row, given_row_has_the_claim, reader_begins_with_all_rows};
+use intake_csv::{Row, given_row_is_the_first, reader_begins_with_all_rows};
 use settlement::Claim;
 use std::alloc::{AllocError, Global};
 use std::process::Abort;
@@ -56,7 +56,7 @@ fn first_two(rt: &impl Abort, alloc: Global, terms: &Terms) -> (Claim, Claim)
     ensures second { ForTerms terms.now (λ T. slice_get (claims_of T 1) 1 ≡ Some result.1) }
 {
     reader_begins_with_all_rows();
-    given_row_has_the_claim();
+    given_row_is_the_first();
     let mut rows = match open(alloc, terms, 1) {
         Ok(rows) => rows,
         Err(_) => panic!(rt; "rows"),

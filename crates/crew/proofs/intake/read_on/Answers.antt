@@ -6,7 +6,7 @@ use Rattle.crew.proofs.intake.read_on.Goals as goal
 pub loop-next-init : goal.loop-next-init
 loop-next-init g c = (
   unchanged (g.G.Gate.has_pass c.args.gate.now) g.G.Gate.known c.args.pass c.args.pass c.requires.own refl,
-  first_offer c.reader_begins_with_all_rows.ensures c.args.terms.now (g.G.Gate.known c.args.pass).seen c.args.provider c.in-Ok.rows c.requires.terms c.requires.least
+  first_offer c.reader_begins_with_all_rows.ensures c.args.terms.now (g.G.Gate.known c.args.pass).seen c.args.provider c.in-Ok.rows c.in-Ok.ensures.apart c.requires.terms c.requires.least
       c.requires.most c.in-Ok.ensures.rows,
 )
 
@@ -21,7 +21,7 @@ loop-next-preserved-in_default-row g c =
     let some = rw c.in-Some.is at c.in-Ok-next.ensures.gives in
     let gives = rw c.in_default-row.is at some in (
       c.loop-next.invariant.0,
-      refused_offer c.given_row_has_the_claim.ensures c.args.terms.now (g.G.Gate.known c.loop-next.pass).seen c.args.provider
+      refused_offer c.given_row_is_the_first.ensures c.args.terms.now (g.G.Gate.known c.loop-next.pass).seen c.args.provider
           c.loop-next.count c.loop-next.expected c.loop-next.rows c.next.new.self c.in_default-row.field-0 c.in_default-row.field-1 c.loop-next.invariant.1 gives,
     )
 
@@ -29,7 +29,7 @@ pub offer-requires-clause-filed : goal.offer-requires-clause-filed
 offer-requires-clause-filed g c κs within T is =
     let some = rw c.in-Some.is at c.in-Ok-next.ensures.gives in
     let gives = rw c.in-Good.is at some in
-    next_claim c.given_row_has_the_claim.ensures T c.args.provider c.loop-next.count c.loop-next.rows c.next.new.self
+    next_claim c.given_row_is_the_first.ensures T c.args.provider c.loop-next.count c.loop-next.rows c.next.new.self
     c.in-Good.number c.in-Good.place c.in-Good.claim (c.loop-next.invariant.1.claims T is) gives
 
 pub loop-next-preserved-then-place-expected : goal.loop-next-preserved-then-place-expected
@@ -37,7 +37,7 @@ loop-next-preserved-then-place-expected g c =
     let some = rw c.in-Some.is at c.in-Ok-next.ensures.gives in
     let gives = rw c.in-Good.is at some in (
       c.loop-next.invariant.0,
-      next_offer c.given_row_has_the_claim.ensures c.args.terms.now (g.G.Gate.known c.loop-next.pass).seen
+      next_offer c.given_row_is_the_first.ensures c.args.terms.now (g.G.Gate.known c.loop-next.pass).seen
           (g.G.Gate.known c.loop-next.pass).seen c.args.provider c.loop-next.count c.loop-next.expected c.loop-next.expected c.loop-next.rows c.next.new.self c.in-Good.number
           c.in-Good.place c.in-Good.claim c.loop-next.invariant.1 gives c.loop-next.invariant.1.of_terms (omega (arith, c.if-place-expected.true))
           c.loop-next.invariant.1.has_taken,
@@ -49,7 +49,7 @@ loop-next-preserved g c =
     let gives = rw c.in-Good.is at some in
     let on = c.in-Ok-Some-default.ensures in (
       further (g.G.Gate.has_pass c.args.gate.now) g.G.Gate.known c.args.pass c.loop-next.pass c.in-Ok-Some-default.pass c.loop-next.invariant.0 on.goes_on,
-      next_offer c.given_row_has_the_claim.ensures c.args.terms.now (g.G.Gate.known c.loop-next.pass).seen
+      next_offer c.given_row_is_the_first.ensures c.args.terms.now (g.G.Gate.known c.loop-next.pass).seen
           (g.G.Gate.known c.in-Ok-Some-default.pass).seen c.args.provider c.loop-next.count c.loop-next.expected c.in-Ok-Some-default.next c.loop-next.rows c.next.new.self
           c.in-Good.number c.in-Good.place c.in-Good.claim c.loop-next.invariant.1 gives (on.goes_on.seen.terms ∙ c.loop-next.invariant.1.of_terms)
           (rw c.in-Ok-Some-default.field-0-0-is at on.next).0 (rw c.in-Ok-Some-default.field-0-0-is at on.next).1,

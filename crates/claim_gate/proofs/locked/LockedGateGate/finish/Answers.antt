@@ -1,13 +1,13 @@
 use Rattle.std.proofs.Common.{◌+◌, ap, ◌∙◌, rules}
-use Rattle.claim_gate.proofs.Sharing.{job_stays, had_section}
+use Rattle.claim_gate.proofs.Sharing.{settled_stays, had_section}
 use Rattle.claim_gate.proofs.locked.LockedGateGate.finish.Goals as goal
 
-pub finish-reply-requires-clause-job : goal.finish-reply-requires-clause-job
-finish-reply-requires-clause-job g c =
+pub finish-reply-requires : goal.finish-reply-requires
+finish-reply-requires g c κs within =
     let shown = g.S.Value.SerialGate.shown in
     let seen = g.S.Section.seen c.args.pass in
-    job_stays c.jobs_stay.ensures (shown seen) (shown c.in-Ok.state) c.args.job.position c.args.job.claim c.args.job.acc
-    (g.met.S.Value.SerialGate.shows seen c.in-Ok.state c.in-Ok.ensures.fresh) c.requires.job
+    settled_stays c.jobs_stay.ensures (shown seen) (shown c.in-Ok.state) c.args.job c.args.outcome
+    (g.met.S.Value.SerialGate.shows seen c.in-Ok.state c.in-Ok.ensures.fresh) c.requires.settled
 
 pub returns-in-Ok-clause-served : goal.returns-in-Ok-clause-served
 returns-in-Ok-clause-served g c =
