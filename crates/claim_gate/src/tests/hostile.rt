@@ -37,12 +37,17 @@ fn decide_copy<G: Gate>(
 {
     jobs_stay();
     let copy = again::copy(rt, alloc, &job)?;
-    assert!(rt; is_job(&copy, 0, "c1") && is_at(copy.acc, 0, 0, 0));
+    assert!(rt; is_first_job(&copy));
     let pass = record(rt, alloc, terms, gate, pass, job)?;
     let decided = FinishFault::AlreadyDecided;
     let (pass, back, outcome) = refuse_outcome(rt, alloc, terms, gate, pass, copy, decided)?;
     assert!(rt; is_job(&back, 0, "c1") && is_paid_40(&outcome));
     Ok(pass)
+}
+
+// Whether a job is that of the first claim, of a member that has met nothing.
+fn is_first_job(job: &Job) -> bool {
+    is_job(job, 0, "c1") && is_at(job.acc, 0, 0, 0)
 }
 
 // The first claim is accepted, its provider ends, and it is taken and decided.
