@@ -83,22 +83,38 @@ fn balances_that_make_no_run(rt: HostRuntime) {
     }
 }
 
+// A run with as many faults behind this one as there can be: it is told.
+fn tells_first<'a, R: Threads + Wait + Sync + AllocGlobal>(
+    rt: &R,
+    plan: &'a [u8],
+    files: &'a [&'a [u8]],
+    line: &str,
+) -> bool {
+    let input = RunInput {
+        plan,
+        balances: Some(MEMBER_TWICE),
+        files,
+        cutoff: None,
+        workers: 0,
+    };
+    refuses(rt, input, line)
+}
+
+// So it is where the second file lacks a column.
+fn tells_of_a_file<R: Threads + Wait + Sync + AllocGlobal>(rt: &R) -> bool {
+    let files = [first_file(), NO_BILLED];
+    tells_first(rt, health_plan().as_bytes(), &files, NO_COLUMN)
+}
+
 #[test]
 fn the_first_fault_is_told(rt: HostRuntime) {
-    // The second lacks a column.
-    let one_refused = [first_file(), NO_BILLED];
     for (plan, files, line) in [
         (health_plan().as_bytes(), both_files(), REPEATED),
-        (health_plan().as_bytes(), &one_refused[..], NO_COLUMN),
         (health_plan().as_bytes(), NONE, "terms fault 2\n"),
         (NO_ROLES, NONE, "terms fault 1\n"),
         (NO_VERSION, NONE, FIELDS_ALONE),
     ] {
-        // As many faults behind these as there can be.
-        let mut input = run_of(files);
-        input.plan = plan;
-        input.balances = Some(MEMBER_TWICE);
-        input.workers = 0;
-        assert!(rt; refuses(&rt, input, line), "{line}");
+        assert!(rt; tells_first(&rt, plan, files, line), "{line}");
     }
+    assert!(rt; tells_of_a_file(&rt));
 }
