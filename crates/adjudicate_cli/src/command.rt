@@ -35,6 +35,12 @@ pub const FILE: &str = "FILE";
 /// The name of the file that the results go to.
 pub const OUTPUT: &str = "OUTPUT";
 
+/// The name of the flag for explanations.
+pub const EXPLAIN: &str = "EXPLAIN";
+
+/// The name of the flag by which a key that nothing reads is refused.
+pub const STRICT: &str = "STRICT";
+
 /// The name of the flag for a line of what a run did.
 pub const SUMMARY: &str = "SUMMARY";
 
@@ -67,7 +73,11 @@ The first file is provider 1, the second provider 2, and so on, up to 64. The
 remittance goes to standard output as CSV: a record for each record of each
 file (paid, denied, pended, refused or late), and one with the totals.";
 
-const STATUSES: &str = "In place of a file `-` is standard input, in one place of a command.
+const STATUSES: &str =
+    "A refusal is one line on standard error; docs/FAULTS.md says what each means, and
+so does --explain, before or behind a command. On a terminal it is always said.
+
+In place of a file `-` is standard input, in one place of a command.
 
 Exit status: 0 done, 1 input refused, 2 usage,
 3 a file, a stream, memory or a thread is wanting.";
@@ -90,13 +100,22 @@ pub fn command_line<'a>(alloc: Global) -> Result<Command<'a>, Error> {
         )
         .after_help(CHECK_EXAMPLE)
         .arg(plan_argument(alloc))?
+        .arg(strict_argument(alloc).help(
+            "Tell each key of the plan that nothing reads, with status 1",
+        ))?
         .arg(output_argument(alloc))?;
     let run = run_command(alloc)?;
+    let explain = Arg::new(alloc, EXPLAIN)
+        .long("explain")
+        .action(ArgAction::SetTrue)
+        .global(true)
+        .help("Say what a refusal means and what to do, as on a terminal");
     let line = Command::new(alloc, "adjudicate")
         .bin_name("adjudicate")?
         .about("Adjudicate health-plan claims by DMN decision tables, with proved answers")
         .version("0.1.0")
         .after_help(STATUSES)
+        .arg(explain)?
         .subcommand_required(true)
         .arg_required_else_help(true)
         .subcommand(value)?
@@ -139,6 +158,7 @@ fn run_command<'a>(alloc: Global) -> Result<Command<'a>, Error> {
         .arg(workers)?
         .arg(output_argument(alloc))?
         .arg(summary)?
+        .arg(strict_argument(alloc).help("Refuse a plan with a key that nothing reads"))?
         .arg(files)?;
     Ok(run)
 }
@@ -148,6 +168,13 @@ fn plan_argument<'a>(alloc: Global) -> Arg<'a> {
     Arg::new(alloc, PLAN)
         .help("The plan file, in TOML")
         .required(true)
+}
+
+/// The flag by which a key that nothing reads is refused.
+fn strict_argument<'a>(alloc: Global) -> Arg<'a> {
+    Arg::new(alloc, STRICT)
+        .long("strict")
+        .action(ArgAction::SetTrue)
 }
 
 /// The file that the results go to.

@@ -8,10 +8,12 @@ ghost use Rattle.adjudicate.specs.Stop.{IsPlanReason, IsReason};
 ghost use Rattle.adjudicate.specs.ValueText.{IsValueText};
 ghost use Rattle.adjudicate_cli.specs.Ends.{HasText, IsStatusOfRefusal, PutsText};
 
-use crate::command::{ASSIGNMENT, CHECK, RUN, VALUE, command_line};
+use crate::command::{ASSIGNMENT, CHECK, EXPLAIN, RUN, STRICT, VALUE, command_line};
+use crate::explaining::About;
 use crate::files::plan_of;
 use crate::output::{output_of, placed, unwritable};
 use crate::run::run_of;
+use crate::strict::unread;
 use crate::telling::{DONE, RESOURCE, USAGE, ended, no_memory, told};
 use adjudicate::{do_check, do_value};
 use clap::ArgMatches;
@@ -60,10 +62,10 @@ where
     ensures known { result ≤ RESOURCE }
 {
     if let Some(words) = matches.subcommand_matches(VALUE) {
-        return value_of(rt, words);
+        return value_of(rt, words, explains(words, is_watched));
     }
     if let Some(words) = matches.subcommand_matches(CHECK) {
-        return check_of(rt, words);
+        return check_of(rt, words, explains(words, is_watched));
     }
     match matches.subcommand_matches(RUN) {
         Some(words) => run_of(rt, words, is_watched),
@@ -71,38 +73,54 @@ where
     }
 }
 
+/// Whether refusals are explained: where somebody watches standard error, or where that is asked for.
+pub fn explains(matches: &ArgMatches<'_>, is_watched: bool) -> bool {
+    is_watched || matches.get_flag(EXPLAIN)
+}
+
 /// The command `value`.
-fn value_of<R: Files + Input + Print + Eprint + AllocGlobal>(rt: &R, matches: &ArgMatches<'_>) -> u8
+fn value_of<R: Files + Input + Print + Eprint + AllocGlobal>(
+    rt: &R,
+    matches: &ArgMatches<'_>,
+    explains: bool,
+) -> u8
     ensures known { result ≤ RESOURCE }
 {
-    let plan = match plan_of(rt, matches) {
+    let plan = match plan_of(rt, matches, explains) {
         Ok(plan) => plan,
         Err(status) => return status,
     };
     let assignments = matches.get_strs(ASSIGNMENT).unwrap_or(&[]);
-    match output_of(rt, matches) {
-        Ok(Some(mut file)) => value_into(rt, plan.as_slice(), assignments, &mut file),
-        Ok(None) => value(rt, plan.as_slice(), assignments),
+    let about = About::of_plan(explains, matches, plan.as_slice());
+    match output_of(rt, &about) {
+        Ok(Some(mut file)) => value_into(rt, &about, plan.as_slice(), assignments, &mut file),
+        Ok(None) => value(rt, &about, plan.as_slice(), assignments),
         Err(status) => status,
     }
 }
 
 /// The command `value` over the text of a plan.
 #[tactic(auto, using(crate::proofs::Ends::ends_known, crate::proofs::Ends::ends_done, crate::proofs::Ends::ends_refused))]
-fn value<R: Print + Eprint + AllocGlobal>(rt: &R, plan: &[u8], assignments: &[&str]) -> u8
+fn value<R: Print + Eprint + AllocGlobal>(
+    rt: &R,
+    about: &About,
+    plan: &[u8],
+    assignments: &[&str],
+) -> u8
     ensures known { result ≤ RESOURCE }
     ensures done { result ≡ DONE → HasText (IsValueText plan.now (texts_of assignments.now)) }
     ensures refused { result ≢ DONE → IsStatusOfRefusal (IsReason plan.now (texts_of assignments.now)) result }
 {
     let mut out = Out::new(io::writer(rt));
     let answer = do_value(rt.alloc(), plan, assignments, &mut out);
-    ended(rt, &answer)
+    ended(rt, about, &answer)
 }
 
 /// The same into a place, which has the whole text then or what stood there before.
 #[tactic(auto, using(crate::proofs::Ends::placed_done, crate::proofs::Ends::kept_twice))]
 fn value_into<R: Eprint + AllocGlobal, P: Place>(
     rt: &R,
+    about: &About,
     plan: &[u8],
     assignments: &[&str],
     place: &mut P,
@@ -114,43 +132,57 @@ fn value_into<R: Eprint + AllocGlobal, P: Place>(
 {
     let text = match place.begin() {
         Ok(text) => text,
-        Err(fault) => return unwritable(rt, &fault),
+        Err(fault) => return unwritable(rt, about, &fault),
     };
     let mut out = Out::new(text);
     let outcome = do_value(rt.alloc(), plan, assignments, &mut out);
-    placed(rt, place, out.into_inner(), &outcome)
+    placed(rt, about, place, out.into_inner(), &outcome)
 }
 
 /// The command `check`.
-fn check_of<R: Files + Input + Print + Eprint + AllocGlobal>(rt: &R, matches: &ArgMatches<'_>) -> u8
+fn check_of<R: Files + Input + Print + Eprint + AllocGlobal>(
+    rt: &R,
+    matches: &ArgMatches<'_>,
+    explains: bool,
+) -> u8
     ensures known { result ≤ RESOURCE }
 {
-    let plan = match plan_of(rt, matches) {
+    let plan = match plan_of(rt, matches, explains) {
         Ok(plan) => plan,
         Err(status) => return status,
     };
-    match output_of(rt, matches) {
-        Ok(Some(mut file)) => check_into(rt, plan.as_slice(), &mut file),
-        Ok(None) => check(rt, plan.as_slice()),
+    let about = About::of_plan(explains, &*matches, plan.as_slice());
+    let status = match output_of(rt, &about) {
+        Ok(Some(mut file)) => check_into(rt, &about, plan.as_slice(), &mut file),
+        Ok(None) => check(rt, &about, plan.as_slice()),
         Err(status) => status,
+    };
+    if status == DONE && matches.get_flag(STRICT) {
+        return unread(rt, plan.as_slice());
     }
+    status
 }
 
 /// The command `check` over the text of a plan.
 #[tactic(auto, using(crate::proofs::Ends::ends_known, crate::proofs::Ends::ends_done, crate::proofs::Ends::ends_refused))]
-fn check<R: Print + Eprint + AllocGlobal>(rt: &R, plan: &[u8]) -> u8
+fn check<R: Print + Eprint + AllocGlobal>(rt: &R, about: &About, plan: &[u8]) -> u8
     ensures known { result ≤ RESOURCE }
     ensures done { result ≡ DONE → HasText (IsCheckText plan.now) }
     ensures refused { result ≢ DONE → IsStatusOfRefusal (IsPlanReason plan.now) result }
 {
     let mut out = Out::new(io::writer(rt));
     let answer = do_check(rt.alloc(), plan, &mut out);
-    ended(rt, &answer)
+    ended(rt, about, &answer)
 }
 
 /// The same into a place, which has the whole text then or what stood there before.
 #[tactic(auto, using(crate::proofs::Ends::placed_done, crate::proofs::Ends::kept_twice))]
-fn check_into<R: Eprint + AllocGlobal, P: Place>(rt: &R, plan: &[u8], place: &mut P) -> u8
+fn check_into<R: Eprint + AllocGlobal, P: Place>(
+    rt: &R,
+    about: &About,
+    plan: &[u8],
+    place: &mut P,
+) -> u8
     ensures known { result ≤ RESOURCE }
     ensures done { result ≡ DONE → PutsText (IsCheckText plan.now) (P.stands place.old) (P.stands place.new) }
     ensures kept { result ≢ DONE → Keeps (P.stands place.old) (P.stands place.new) }
@@ -158,11 +190,11 @@ fn check_into<R: Eprint + AllocGlobal, P: Place>(rt: &R, plan: &[u8], place: &mu
 {
     let text = match place.begin() {
         Ok(text) => text,
-        Err(fault) => return unwritable(rt, &fault),
+        Err(fault) => return unwritable(rt, about, &fault),
     };
     let mut out = Out::new(text);
     let outcome = do_check(rt.alloc(), plan, &mut out);
-    placed(rt, place, out.into_inner(), &outcome)
+    placed(rt, about, place, out.into_inner(), &outcome)
 }
 
 /// Tells a fault of the command line, or the help or the version that was asked for.

@@ -3,6 +3,7 @@
 ghost use Rattle.std.specs.Prelude.{◌≤◌, IfErr};
 
 use crate::command::{PLAN, STREAM};
+use crate::explaining::explain_unreadable;
 use crate::telling::{RESOURCE, USAGE, no_memory, told};
 use adjudicate::PLAN_LIMIT_BYTES;
 use clap::ArgMatches;
@@ -14,7 +15,7 @@ use std::{fs, io};
 /// Why a file gives no text.
 enum ReadFault {
     /// It can't be opened or read: it is missing, a folder, not to be read, or its device failed.
-    Unreadable,
+    Unreadable(io::Error),
     OutOfMemory,
 }
 
@@ -53,11 +54,12 @@ fn read_source<S: Read + Drop>(
 pub fn plan_of<R: Files + Input + Eprint + AllocGlobal>(
     rt: &R,
     matches: &ArgMatches<'_>,
+    explains: bool,
 ) -> Result<Vec<u8>, u8>
     ensures known { IfErr result (λ status. status ≤ RESOURCE) }
 {
     match matches.get_str(PLAN) {
-        Some(path) => read_or_tell(rt, path, PLAN_LIMIT_BYTES, "cannot read plan"),
+        Some(path) => read_or_tell(rt, path, PLAN_LIMIT_BYTES, "cannot read plan", explains),
         None => Err(USAGE),
     }
 }
@@ -68,12 +70,19 @@ pub fn read_or_tell<R: Files + Input + Eprint + AllocGlobal>(
     path: &str,
     limit_bytes: usize,
     line: &str,
+    explains: bool,
 ) -> Result<Vec<u8>, u8>
     ensures known { IfErr result (λ status. status ≤ RESOURCE) }
 {
     match read_file(rt, path, limit_bytes) {
         Ok(bytes) => Ok(bytes),
-        Err(ReadFault::Unreadable) => Err(told(rt, line, RESOURCE)),
+        Err(ReadFault::Unreadable(fault)) => {
+            let status = told(rt, line, RESOURCE);
+            if explains {
+                explain_unreadable(rt, line, path, &fault);
+            }
+            Err(status)
+        }
         Err(ReadFault::OutOfMemory) => Err(no_memory(rt)),
     }
 }
@@ -82,6 +91,6 @@ fn read_fault(fault: &io::Error) -> ReadFault {
     if fault.kind() == io::ErrorKind::OutOfMemory {
         ReadFault::OutOfMemory
     } else {
-        ReadFault::Unreadable
+        ReadFault::Unreadable(*fault)
     }
 }

@@ -6,26 +6,29 @@ ghost use Rattle.whole_file.specs.Place.{Becomes};
 ghost use Rattle.adjudicate.specs.Stop.{status_of};
 
 use crate::command::{OUTPUT, STREAM};
+use crate::explaining::{About, explain_unreadable};
 use crate::telling::{DONE, RESOURCE, no_memory, tell, told};
 use adjudicate::Stop;
-use clap::ArgMatches;
 use std::io;
 use std::rt::Files;
 use whole_file::{FilePlace, Place, finish};
+
+/// The line that tells that the results can't be put into the file.
+const CANNOT_WRITE: &str = "cannot write output";
 
 /// The file that the command line names for the results, if it does. Where they can't be put there, that is told, and its status
 /// answered.
 pub fn output_of<'a, R: Files + Eprint + AllocGlobal>(
     rt: &'a R,
-    matches: &ArgMatches<'_>,
+    about: &About,
 ) -> Result<Option<FilePlace<'a, R>>, u8>
     ensures known { IfErr result (λ status. status ≤ RESOURCE) }
 {
-    match matches.get_str(OUTPUT) {
+    match about.words.get_str(OUTPUT) {
         None | Some(STREAM) => Ok(None),
         Some(path) => match FilePlace::new(rt, path) {
             Ok(place) => Ok(Some(place)),
-            Err(fault) => Err(unwritable(rt, &fault)),
+            Err(fault) => Err(unwritable(rt, about, &fault)),
         },
     }
 }
@@ -33,8 +36,9 @@ pub fn output_of<'a, R: Files + Eprint + AllocGlobal>(
 /// Ends the writing of a command's text: it is put into its place where the command is done, and given up where it is refused, or can't be
 /// put there. Answers the command's status.
 #[tactic(auto, using(crate::proofs::Ends::no_refusal_is_done))]
-pub fn placed<R: Eprint, P: Place>(
+pub fn placed<R: Eprint + AllocGlobal, P: Place>(
     rt: &R,
+    about: &About,
     place: &mut P,
     text: P::Text,
     answer: &Result<(), Stop>,
@@ -46,22 +50,26 @@ pub fn placed<R: Eprint, P: Place>(
     match answer {
         Ok(()) => match finish(place, text, true) {
             Ok(()) => DONE,
-            Err(fault) => unwritable(rt, &fault),
+            Err(fault) => unwritable(rt, about, &fault),
         },
         Err(stop) => {
             let _ = finish(place, text, false);
-            tell(rt, stop)
+            tell(rt, about, stop)
         }
     }
 }
 
 /// Tells that the results can't be put into the file.
-pub fn unwritable<R: Eprint>(rt: &R, fault: &io::Error) -> u8
+pub fn unwritable<R: Eprint + AllocGlobal>(rt: &R, about: &About, fault: &io::Error) -> u8
     ensures { result ≡ RESOURCE }
 {
     if fault.kind() == io::ErrorKind::OutOfMemory {
-        no_memory(rt)
-    } else {
-        told(rt, "cannot write output", RESOURCE)
+        return no_memory(rt);
     }
+    let status = told(rt, CANNOT_WRITE, RESOURCE);
+    if about.explains {
+        let path = about.word(OUTPUT);
+        explain_unreadable(rt, CANNOT_WRITE, path, fault);
+    }
+    status
 }

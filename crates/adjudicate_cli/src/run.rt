@@ -6,10 +6,13 @@ ghost use Rattle.adjudicate.specs.RunStop.{IsRunReason};
 ghost use Rattle.adjudicate.specs.RunText.{IsRemittance, run_texts};
 ghost use Rattle.adjudicate_cli.specs.Ends.{HasText, IsStatusOfRefusal, PutsText};
 
-use crate::command::{BALANCES, CUTOFF, FILE, PLAN, STREAM, SUMMARY, WORKERS};
+use crate::command::{BALANCES, CUTOFF, FILE, PLAN, STREAM, STRICT, SUMMARY, WORKERS};
+use crate::commands::explains;
+use crate::explaining::About;
 use crate::files::{plan_of, read_or_tell};
 use crate::output::{output_of, placed, unwritable};
 use crate::pulse::Pulse;
+use crate::strict::unread;
 use crate::telling::{DONE, RESOURCE, USAGE, ended, no_memory, told};
 use adjudicate::{FILE_LIMIT_BYTES, RunInput, do_run};
 use clap::ArgMatches;
@@ -32,6 +35,17 @@ struct Texts {
     files: Vec<Vec<u8>>,
 }
 
+impl Texts {
+    /// What the run is about, as its refusals are told.
+    fn about<'a, 'w>(&'a self, explains: bool, words: &'a ArgMatches<'w>) -> About<'a, 'w> {
+        let balances: &[u8] = match &self.balances {
+            Some(text) => text.as_slice(),
+            None => &[],
+        };
+        About::of_run(explains, words, self.plan.as_slice(), balances, self.files.as_slice())
+    }
+}
+
 /// The command `run`. Where somebody watches standard error, a run that takes long shows signs of life there.
 pub fn run_of<R>(rt: &R, matches: &ArgMatches<'_>, is_watched: bool) -> u8
 where
@@ -40,8 +54,9 @@ where
     ensures known { result ≤ RESOURCE }
 {
     let pulse = if is_watched { Pulse::start(rt) } else { None };
-    let status = match texts_of(rt, matches) {
-        Ok(texts) => settle(rt, matches, &texts, is_watched),
+    let explains = explains(matches, is_watched);
+    let status = match texts_of(rt, matches, explains) {
+        Ok(texts) => settle(rt, matches, &texts, is_watched, explains),
         Err(status) => status,
     };
     if let Some(pulse) = pulse {
@@ -51,7 +66,13 @@ where
 }
 
 /// Settles the claims of the texts.
-fn settle<R>(rt: &R, matches: &ArgMatches<'_>, texts: &Texts, is_watched: bool) -> u8
+fn settle<R>(
+    rt: &R,
+    matches: &ArgMatches<'_>,
+    texts: &Texts,
+    is_watched: bool,
+    explains: bool,
+) -> u8
 where
     R: Files + Print + Eprint + AllocGlobal + Threads + Wait + Sync,
     ensures known { result ≤ RESOURCE }
@@ -70,18 +91,19 @@ where
         workers,
     };
     let has_summary = is_watched || matches.get_flag(SUMMARY);
-    match output_of(rt, matches) {
-        Ok(Some(file)) if has_summary => run_tallied(rt, input, file),
-        Ok(Some(mut file)) => run_into(rt, input, &mut file),
-        Ok(None) if has_summary => run_tallied(rt, input, Stream::new(rt)),
-        Ok(None) => run(rt, input),
+    let about = texts.about(explains, matches);
+    match output_of(rt, &about) {
+        Ok(Some(file)) if has_summary => run_tallied(rt, &about, input, file),
+        Ok(Some(mut file)) => run_into(rt, &about, input, &mut file),
+        Ok(None) if has_summary => run_tallied(rt, &about, input, Stream::new(rt)),
+        Ok(None) => run(rt, &about, input),
         Err(status) => status,
     }
 }
 
 /// Runs into a place, and tells what became of the records.
 #[tactic(auto, using(crate::proofs::Ends::put_is_text))]
-fn run_tallied<R, P: Place + Drop>(rt: &R, input: RunInput, place: P) -> u8
+fn run_tallied<R, P: Place + Drop>(rt: &R, about: &About, input: RunInput, place: P) -> u8
 where
     R: Eprint + AllocGlobal + Threads + Wait + Sync,
     ensures known { result ≤ RESOURCE }
@@ -89,7 +111,7 @@ where
     ensures refused { result ≢ DONE → IsStatusOfRefusal (IsRunReason (run_texts input.entry) input.entry.workers) result }
 {
     let mut tallied = Tallied::new(rt.alloc(), place);
-    let status = run_into(rt, input, &mut tallied);
+    let status = run_into(rt, about, input, &mut tallied);
     if status == DONE {
         // Where there is no memory for the lines, the remittance stands all the same.
         if let Ok(lines) = tallied.tally().lines(rt.alloc()) {
@@ -101,7 +123,7 @@ where
 
 /// The command `run` over its texts.
 #[tactic(auto, using(crate::proofs::Ends::ends_known, crate::proofs::Ends::ends_done, crate::proofs::Ends::ends_refused))]
-fn run<R>(rt: &R, input: RunInput) -> u8
+fn run<R>(rt: &R, about: &About, input: RunInput) -> u8
 where
     R: Print + Eprint + AllocGlobal + Threads + Wait + Sync,
     ensures known { result ≤ RESOURCE }
@@ -110,12 +132,12 @@ where
 {
     let mut out = Out::new(io::writer(rt));
     let answer = do_run(rt, input, &mut out);
-    ended(rt, &answer)
+    ended(rt, about, &answer)
 }
 
 /// The same into a place, which has the whole remittance then or what stood there before.
 #[tactic(auto, using(crate::proofs::Ends::placed_done, crate::proofs::Ends::kept_twice))]
-fn run_into<R, P: Place>(rt: &R, input: RunInput, place: &mut P) -> u8
+fn run_into<R, P: Place>(rt: &R, about: &About, input: RunInput, place: &mut P) -> u8
 where
     R: Eprint + AllocGlobal + Threads + Wait + Sync,
     ensures known { result ≤ RESOURCE }
@@ -125,11 +147,11 @@ where
 {
     let text = match place.begin() {
         Ok(text) => text,
-        Err(fault) => return unwritable(rt, &fault),
+        Err(fault) => return unwritable(rt, about, &fault),
     };
     let mut out = Out::new(text);
     let outcome = do_run(rt, input, &mut out);
-    placed(rt, place, out.into_inner(), &outcome)
+    placed(rt, about, place, out.into_inner(), &outcome)
 }
 
 /// The files' texts, as a run borrows them.
@@ -145,6 +167,7 @@ fn slices_of(alloc: Global, files: &[Vec<u8>]) -> Result<Vec<&[u8]>, AllocError>
 fn texts_of<R: Files + Input + Eprint + AllocGlobal>(
     rt: &R,
     matches: &ArgMatches<'_>,
+    explains: bool,
 ) -> Result<Texts, u8>
     ensures known { IfErr result (λ status. status ≤ RESOURCE) }
 {
@@ -155,10 +178,17 @@ fn texts_of<R: Files + Input + Eprint + AllocGlobal>(
             USAGE,
         ));
     }
+    let plan = plan_of(rt, matches, explains)?;
+    if matches.get_flag(STRICT) {
+        let status = unread(rt, plan.as_slice());
+        if status != DONE {
+            return Err(status);
+        }
+    }
     Ok(Texts {
-        plan: plan_of(rt, matches)?,
-        balances: balances_of(rt, matches)?,
-        files: files_of(rt, matches)?,
+        plan,
+        balances: balances_of(rt, matches, explains)?,
+        files: files_of(rt, matches, explains)?,
     })
 }
 
@@ -173,13 +203,14 @@ fn times_of_input(matches: &ArgMatches<'_>) -> usize {
 fn balances_of<R: Files + Input + Eprint + AllocGlobal>(
     rt: &R,
     matches: &ArgMatches<'_>,
+    explains: bool,
 ) -> Result<Option<Vec<u8>>, u8>
     ensures known { IfErr result (λ status. status ≤ RESOURCE) }
 {
     let Some(path) = matches.get_str(BALANCES) else {
         return Ok(None);
     };
-    match read_or_tell(rt, path, FILE_LIMIT_BYTES, "cannot read balances") {
+    match read_or_tell(rt, path, FILE_LIMIT_BYTES, "cannot read balances", explains) {
         Ok(text) => Ok(Some(text)),
         Err(status) => Err(status),
     }
@@ -188,6 +219,7 @@ fn balances_of<R: Files + Input + Eprint + AllocGlobal>(
 fn files_of<R: Files + Input + Eprint + AllocGlobal>(
     rt: &R,
     matches: &ArgMatches<'_>,
+    explains: bool,
 ) -> Result<Vec<Vec<u8>>, u8>
     ensures known { IfErr result (λ status. status ≤ RESOURCE) }
 {
@@ -197,7 +229,7 @@ fn files_of<R: Files + Input + Eprint + AllocGlobal>(
         let Ok(line) = format!(in rt.alloc(); "cannot read file {}", place + 1) else {
             return Err(no_memory(rt));
         };
-        let text = read_or_tell(rt, paths[place], FILE_LIMIT_BYTES, line.as_str())?;
+        let text = read_or_tell(rt, paths[place], FILE_LIMIT_BYTES, line.as_str(), explains)?;
         if files.push(text).is_err() {
             return Err(no_memory(rt));
         }

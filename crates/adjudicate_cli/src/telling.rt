@@ -3,28 +3,31 @@
 ghost use Rattle.std.specs.Prelude.{◌≡◌, IfErr, OnOk};
 ghost use Rattle.adjudicate.specs.Stop.{status_of};
 
+use crate::explaining::{About, explain_stop};
 use adjudicate::{LINE_LIMIT_BYTES, Stop};
 
 /// The exit statuses that the library's refusals leave to the program.
 pub const DONE: u8 = 0;
 
+pub const REFUSED: u8 = 1;
+
 pub const USAGE: u8 = 2;
 
 pub const RESOURCE: u8 = 3;
 
-/// The status that a command of the library ends with. A refusal is told.
-pub fn ended<R: Eprint>(rt: &R, answer: &Result<(), Stop>) -> u8
+/// The status that a command of the library ends with. A refusal is told, and explained where that is wanted.
+pub fn ended<R: Eprint + AllocGlobal>(rt: &R, about: &About, answer: &Result<(), Stop>) -> u8
     ensures done { OnOk answer.now (result ≡ DONE) }
     ensures refused { IfErr answer.now (λ stop. result ≡ status_of stop) }
 {
     match answer {
         Ok(()) => DONE,
-        Err(stop) => tell(rt, stop),
+        Err(stop) => tell(rt, about, stop),
     }
 }
 
 /// Tells a refusal of the library by its line, and answers its status.
-pub fn tell<R: Eprint>(rt: &R, stop: &Stop) -> u8
+pub fn tell<R: Eprint + AllocGlobal>(rt: &R, about: &About, stop: &Stop) -> u8
     ensures { result ≡ status_of stop.now }
 {
     let mut line = [0u8; LINE_LIMIT_BYTES];
@@ -32,6 +35,7 @@ pub fn tell<R: Eprint>(rt: &R, stop: &Stop) -> u8
     if let Ok(text) = str::from_utf8(&line[..length]) {
         let _ = rt.eprint(text);
     }
+    explain_stop(rt, about, stop);
     stop.status()
 }
 

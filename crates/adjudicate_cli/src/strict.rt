@@ -1,0 +1,46 @@
+//! The keys of a plan that nothing reads.
+
+ghost use Rattle.std.specs.Prelude.{◌≤◌};
+
+use crate::telling::{DONE, REFUSED, RESOURCE, no_memory};
+use explain::push_shown;
+use plan_places::{Unread, unread_keys};
+use std::alloc::{AllocError, Global};
+
+/// The status by whether the plan has a key that nothing reads. Each is told.
+pub fn unread<R: Eprint + AllocGlobal>(rt: &R, plan: &[u8]) -> u8
+    ensures known { result ≤ RESOURCE }
+{
+    match tell_unread(rt, plan) {
+        Ok(true) => REFUSED,
+        Ok(false) => DONE,
+        Err(_) => no_memory(rt),
+    }
+}
+
+/// Tells each key of the plan's text that nothing reads, and answers whether there is one. A text that is not UTF-8 has none.
+fn tell_unread<R: Eprint + AllocGlobal>(rt: &R, plan: &[u8]) -> Result<bool, AllocError> {
+    let Ok(text) = str::from_utf8(plan) else {
+        return Ok(false);
+    };
+    let unread = unread_keys(rt.alloc(), text)?;
+    for key in &unread {
+        let line = line_of(rt.alloc(), key)?;
+        let _ = rt.eprintln(line.as_str());
+    }
+    Ok(!unread.is_empty())
+}
+
+// The line of a key that nothing reads.
+fn line_of(alloc: Global, unread: &Unread) -> Result<String, AllocError> {
+    let mut line = String::from_str(alloc, "unread key ")?;
+    push_shown(&mut line, unread.key.as_str())?;
+    let (row, column) = (unread.position.line, unread.position.column);
+    let place = format!(in alloc; " at line {row} column {column}")?;
+    line.push_str(place.as_str())?;
+    if let Some(near) = unread.near {
+        line.push_str(", near ")?;
+        line.push_str(near)?;
+    }
+    Ok(line)
+}

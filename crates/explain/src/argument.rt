@@ -1,0 +1,21 @@
+//! Which byte of an argument is meant.
+
+use crate::page::Page;
+use crate::words::{argument_words, cell_words};
+use feel_tests::CellFault;
+use std::alloc::{AllocError, Global};
+
+/// What the fault of an argument's literal means.
+pub fn explain_literal(
+    alloc: Global,
+    argument: &str,
+    fault: &CellFault,
+) -> Result<Page, AllocError> {
+    let mut page = Page::new(alloc);
+    let literal = argument.split_once('=').map_or("", |(_, literal)| literal);
+    let front = argument.len().saturating_sub(literal.len());
+    page.mark(argument, front.saturating_add(fault.at))?;
+    page.line(&[cell_words(fault.cause)])?;
+    page.words(argument_words(4))?;
+    Ok(page)
+}

@@ -1,0 +1,89 @@
+//! Lines for a person.
+
+use crate::shown::push_shown;
+use crate::words::{Words, resource_words};
+use plan_places::position_of;
+use std::alloc::{AllocError, Global};
+
+/// Lines, put together.
+#[derive(Drop)]
+pub struct Page {
+    alloc: Global,
+    text: String,
+}
+
+impl Page {
+    /// A page without lines.
+    pub fn new(alloc: Global) -> Page {
+        Page {
+            alloc,
+            text: String::new(alloc),
+        }
+    }
+
+    /// The lines.
+    pub fn as_str(&self) -> &str {
+        self.text.as_str()
+    }
+
+    /// A line, set in, with U+FFFD in place of each control character.
+    pub fn line(&mut self, words: &[&str]) -> Result<(), AllocError> {
+        self.text.push_str("  ")?;
+        for word in words {
+            push_shown(&mut self.text, word)?;
+        }
+        self.text.push_str("\n")
+    }
+
+    /// What it means, and what to do.
+    pub fn words(&mut self, words: Words) -> Result<(), AllocError> {
+        self.line(&["It means: ", words.meaning])?;
+        self.line(&["What to do: ", words.remedy])
+    }
+
+    /// The words of a line that no text gives, and why a file or a stream is wanting, where that is known.
+    pub fn resource(&mut self, line: &str, name: &str, reason: &str) -> Result<(), AllocError> {
+        if !name.is_empty() {
+            self.line(&[name, ": ", reason])?;
+        }
+        match resource_words(line) {
+            Some(words) => self.words(words),
+            None => Ok(()),
+        }
+    }
+
+    /// Where something stands in a file.
+    pub fn place(&mut self, name: &str, text: &[u8], at: usize) -> Result<(), AllocError> {
+        let position = position_of(text, at);
+        let (line, column) = (position.line, position.column);
+        let place = format!(in self.alloc; "{name}, line {line}, column {column}")?;
+        self.line(&[place.as_str()])
+    }
+
+    /// The line of a text that has this byte, and a mark below the byte.
+    pub fn mark(&mut self, text: &str, at: usize) -> Result<(), AllocError> {
+        let mut begin = 0usize;
+        for line in text.split('\n') {
+            let end = begin.saturating_add(line.len());
+            if at <= end {
+                self.line(&["    ", line])?;
+                return self.mark_below(line, at.saturating_sub(begin));
+            }
+            begin = end.saturating_add(1);
+        }
+        Ok(())
+    }
+
+    fn mark_below(&mut self, line: &str, at: usize) -> Result<(), AllocError> {
+        let mut blanks = String::from_str(self.alloc, "    ")?;
+        let mut place = 0usize;
+        for character in line.chars() {
+            if place >= at {
+                break;
+            }
+            place = place.saturating_add(character.len_utf8());
+            blanks.push(' ')?;
+        }
+        self.line(&[blanks.as_str(), "^"])
+    }
+}

@@ -1,0 +1,2 @@
+pub mod OneEdits
+pub mod Positions

@@ -1,0 +1,181 @@
+//! Finds the places of a document, word by word. What is no document is scanned up to where it ceases to be one.
+
+use crate::places::Places;
+use std::alloc::{AllocError, Global};
+use toml_parser::text::{byte_at, first, skip, skip_blank, skip_ws};
+use toml_parser::{Key, ParseError, dotted_key, quoted, starts_string, unquoted};
+
+/// What is open round a value: an array, or a table in braces.
+#[derive(Clone, Copy)]
+struct Open {
+    number: usize,
+    is_array: bool,
+}
+
+/// Why scanning ends early.
+#[derive(Drop)]
+enum Ended {
+    OutOfMemory,
+    /// The text is no document from here on.
+    NoDocument,
+}
+
+impl From<AllocError> for Ended {
+    fn from(_fault: AllocError) -> Ended {
+        Ended::OutOfMemory
+    }
+}
+
+impl<T: Drop> From<std::alloc::AllocFailed<T>> for Ended {
+    fn from(_fault: std::alloc::AllocFailed<T>) -> Ended {
+        Ended::OutOfMemory
+    }
+}
+
+impl From<ParseError> for Ended {
+    fn from(fault: ParseError) -> Ended {
+        match fault {
+            ParseError::OutOfMemory => Ended::OutOfMemory,
+            ParseError::At(..) => Ended::NoDocument,
+        }
+    }
+}
+
+#[derive(Drop)]
+struct Scanner<'t> {
+    alloc: Global,
+    length: usize,
+    rest: &'t str,
+    places: Places,
+    open: Vec<Open>,
+    /// The table that keys at the beginning of a line belong to.
+    section: usize,
+}
+
+/// The places of a document. Of a text that is none, those in front of where it ceases to be one.
+pub fn places_of(alloc: Global, text: &str) -> Result<Places, AllocError> {
+    let mut scanner = Scanner {
+        alloc,
+        length: text.len(),
+        rest: text.strip_prefix('\u{feff}').unwrap_or(text),
+        places: Places::new(alloc)?,
+        open: Vec::new(alloc),
+        section: 0,
+    };
+    for _ in 0..=text.len() {
+        match scanner.step() {
+            Ok(true) => {}
+            Ok(false) | Err(Ended::NoDocument) => break,
+            Err(Ended::OutOfMemory) => return Err(AllocError),
+        }
+    }
+    Ok(scanner.places)
+}
+
+impl<'t> Scanner<'t> {
+    // The offset of what is left.
+    fn at(&self) -> usize {
+        self.length.saturating_sub(self.rest.len())
+    }
+
+    // Goes on by a word of what is open, or by a header or a key; answers whether there was one.
+    fn step(&mut self) -> Result<bool, Ended> {
+        self.rest = skip_blank(self.rest, true);
+        if self.rest.is_empty() {
+            return Ok(false);
+        }
+        match self.open.as_slice().last().copied() {
+            Some(open) => self.within(open)?,
+            None => self.line()?,
+        }
+        Ok(true)
+    }
+
+    // A word inside of an array or of a table in braces.
+    fn within(&mut self, open: Open) -> Result<(), Ended> {
+        match first(self.rest) {
+            b',' => self.rest = skip(self.rest, 1),
+            b']' | b'}' => {
+                self.rest = skip(self.rest, 1);
+                let _ = self.open.pop();
+            }
+            _ if open.is_array => {
+                let at = self.at();
+                let number = self.places.push(open.number, None, at)?;
+                self.value(number)?;
+            }
+            _ => self.pair(open.number)?,
+        }
+        Ok(())
+    }
+
+    // A header, or a key with its value.
+    fn line(&mut self) -> Result<(), Ended> {
+        if first(self.rest) != b'[' {
+            return self.pair(self.section);
+        }
+        let at = self.at();
+        let is_array = byte_at(self.rest, 1) == b'[';
+        self.rest = skip(self.rest, 1);
+        if is_array && first(self.rest) == b'[' {
+            self.rest = skip(self.rest, 1);
+        }
+        let (parent, last) = self.path(0)?;
+        self.section = if is_array {
+            let array = self.places.array_under(parent, last, at)?;
+            self.places.push(array, None, at)?
+        } else {
+            self.places.table_under(parent, last.as_str(), at)?
+        };
+        for _ in 0..2 {
+            if first(self.rest) == b']' {
+                self.rest = skip(self.rest, 1);
+            }
+        }
+        Ok(())
+    }
+
+    // A dotted key below a table: the table of its last part, and that part.
+    fn path(&mut self, table: usize) -> Result<(usize, String), Ended> {
+        let at = self.at();
+        let (key, rest) = dotted_key(self.alloc, skip_ws(self.rest))?;
+        self.rest = skip_ws(rest);
+        let Key { path, last } = key;
+        let mut table = table;
+        for part in &path {
+            table = self.places.table_under(table, part.as_str(), at)?;
+        }
+        Ok((table, last))
+    }
+
+    // A key with its value.
+    fn pair(&mut self, table: usize) -> Result<(), Ended> {
+        let at = self.at();
+        let (parent, last) = self.path(table)?;
+        if first(self.rest) != b'=' {
+            return Err(Ended::NoDocument);
+        }
+        self.rest = skip_ws(skip(self.rest, 1));
+        let number = self.places.push(parent, Some(last), at)?;
+        let value_at = self.at();
+        self.places.set_value_at(number, value_at);
+        self.value(number)
+    }
+
+    // A value, or the beginning of one.
+    fn value(&mut self, number: usize) -> Result<(), Ended> {
+        let byte = first(self.rest);
+        if byte == b'[' || byte == b'{' {
+            self.rest = skip(self.rest, 1);
+            let is_array = byte == b'[';
+            self.open.push(Open { number, is_array })?;
+        } else if starts_string(self.rest) {
+            let (_, rest) = quoted(self.alloc, self.rest)?;
+            self.rest = rest;
+        } else {
+            let (_, rest) = unquoted(self.alloc, self.rest)?;
+            self.rest = rest;
+        }
+        Ok(())
+    }
+}

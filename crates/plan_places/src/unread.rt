@@ -1,0 +1,67 @@
+//! The keys of a plan's text that nothing reads.
+
+use crate::edits::is_one_edit;
+use crate::places::{Node, Places};
+use crate::position::{Position, position_of};
+use crate::scanner::places_of;
+use crate::shape::Shape;
+use std::alloc::{AllocError, Global};
+
+/// A key that nothing reads.
+#[derive(Drop)]
+pub struct Unread {
+    /// Where it stands first.
+    pub position: Position,
+    pub key: String,
+    /// The key of a plan that is one edit away from it, if there is one.
+    pub near: Option<&'static str>,
+}
+
+/// The keys of a plan's text that nothing reads, in their order; what stands below one is not told again.
+pub fn unread_keys(alloc: Global, text: &str) -> Result<Vec<Unread>, AllocError> {
+    let places = places_of(alloc, text)?;
+    let mut shapes: Vec<Shape> = Vec::new(alloc);
+    let mut unread = Vec::new(alloc);
+    for node in places.nodes() {
+        let within = shapes.get(node.parent).copied();
+        let shape = shape_of(node, within);
+        if shape == Shape::Unread
+            && let Some(within) = within
+            && within.has_keys()
+            && let Some(key) = &node.key
+        {
+            unread.push(Unread {
+                position: position_of(text.as_bytes(), node.at),
+                key: key.clone()?,
+                near: near(key.as_str(), within),
+            })?;
+        }
+        shapes.push(shape)?;
+    }
+    Ok(unread)
+}
+
+// What a value is, in a table or an array of this shape; the document stands in none.
+fn shape_of(node: &Node, within: Option<Shape>) -> Shape {
+    match (within, &node.key) {
+        (None, _) => Shape::Plan,
+        (Some(within), None) => within.item(),
+        (Some(within), Some(key)) => {
+            if within.keys().contains(&key.as_str()) {
+                within.behind(key.as_str())
+            } else {
+                Shape::Unread
+            }
+        }
+    }
+}
+
+// The key of such a table that is one edit away.
+fn near(key: &str, within: Shape) -> Option<&'static str> {
+    for known in within.keys() {
+        if is_one_edit(key.as_bytes(), known.as_bytes()) {
+            return Some(*known);
+        }
+    }
+    None
+}
