@@ -2,11 +2,11 @@
 
 use crate::command::{ASSIGNMENT, BALANCES, FILE, PLAN};
 use adjudicate::{ArgumentFault, Stop};
-use clap::ArgMatches;
 use claim_terms::TermsFault;
+use clap::ArgMatches;
 use explain::{
-    FileKind, Page, Words, argument_words, explain_file, explain_literal, explain_plan, explain_record,
-    explain_tables, terms_words,
+    FileKind, Page, Words, argument_words, explain_file, explain_literal, explain_plan,
+    explain_record, explain_tables, terms_words,
 };
 use intake_csv::BalanceFault;
 use std::alloc::{AllocError, Global};

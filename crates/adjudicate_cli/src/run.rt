@@ -42,7 +42,13 @@ impl Texts {
             Some(text) => text.as_slice(),
             None => &[],
         };
-        About::of_run(explains, words, self.plan.as_slice(), balances, self.files.as_slice())
+        About::of_run(
+            explains,
+            words,
+            self.plan.as_slice(),
+            balances,
+            self.files.as_slice(),
+        )
     }
 }
 

@@ -20,7 +20,7 @@ goes_back one other edit = record {
   new = edit.old;
   edit = edit_back edit.old edit.new edit.edit;
   one_is = edit.other_is;
-  other_is = edit.one_is
+  other_is = edit.one_is;
 }
 
 -- what is without the first byte of the other is one edit from it
@@ -33,7 +33,7 @@ from_without (x ∷ xs) other without = record {
   new = [];
   edit = less x;
   one_is = ap (λ it. x ∷ it) without.1;
-  other_is = refl
+  other_is = refl;
 }
 
 -- and so is what has another first byte
@@ -47,7 +47,7 @@ from_other_first (x ∷ xs) (y ∷ ys) apart alike = record {
   new = y ∷ [];
   edit = another x y (λ same. apart x xs ys refl (ap (λ it. it ∷ ys) (sym same)));
   one_is = ap (λ it. x ∷ it) alike.2;
-  other_is = refl
+  other_is = refl;
 }
 
 -- and what has the first two the other way round
@@ -63,7 +63,7 @@ from_exchanged (x ∷ z ∷ xs) (y ∷ w ∷ ys) apart alike = record {
   new = z ∷ x ∷ [];
   edit = exchanged x z (λ same. apart x (z ∷ xs) (w ∷ ys) refl (ap (λ it. it ∷ (w ∷ ys)) (sym (same ∙ alike.second))));
   one_is = ap (λ it. x ∷ (z ∷ it)) alike.back;
-  other_is = ap (λ it. it ∷ (w ∷ ys)) (sym alike.second) ∙ ap (λ it. z ∷ (it ∷ ys)) (sym alike.first)
+  other_is = ap (λ it. it ∷ (w ∷ ys)) (sym alike.second) ∙ ap (λ it. z ∷ (it ∷ ys)) (sym alike.first);
 }
 
 -- one of the four is what an edit in front of two words is
@@ -94,9 +94,9 @@ is_of_front one other w v o x (turned it) is_w is_v is_o is_x no_w no_v no_o = i
 pub last_front : (one other : List ℕ) (w v o x : Bool) → DoNotMeet one other → (IsTrue w ↔ IsWithoutFirst one other) → (IsTrue v ↔ IsWithoutFirst other one)
     → (IsTrue o ↔ IsOtherFirst one other) → (IsTrue x ↔ IsExchanged one other) → w ≡ false → v ≡ false → o ≡ false → IsTrue x ↔ IsOneEdit one other
 last_front one other w v o x apart is_w is_v is_o is_x no_w no_v no_o = (
-    λ it. from_exchanged one other apart (is_x.0 it),
-    λ edit. is_of_front one other w v o x (fronts one other edit.front edit.back edit.old edit.new apart edit.edit edit.one_is edit.other_is) is_w is_v is_o is_x no_w no_v no_o
-  )
+  λ it. from_exchanged one other apart (is_x.0 it),
+  λ edit. is_of_front one other w v o x (fronts one other edit.front edit.back edit.old edit.new apart edit.edit edit.one_is edit.other_is) is_w is_v is_o is_x no_w no_v no_o,
+)
 
 -- words that begin alike are one edit apart where what follows is
 begins_alike : (byte : ℕ) (one other : List ℕ) → IsOneEdit one other → IsOneEdit (byte ∷ one) (byte ∷ other)
@@ -107,7 +107,7 @@ begins_alike byte one other edit = record {
   new = edit.new;
   edit = edit.edit;
   one_is = ap (λ it. byte ∷ it) edit.one_is;
-  other_is = ap (λ it. byte ∷ it) edit.other_is
+  other_is = ap (λ it. byte ∷ it) edit.other_is;
 }
 
 pub front_alike : (front one other : List ℕ) → IsOneEdit one other → IsOneEdit (front ++ one) (front ++ other)
@@ -123,7 +123,7 @@ edited_behind byte one other (x ∷ xs) back old new edit one_is other_is = reco
   new = new;
   edit = edit;
   one_is = ap (drop 1) one_is;
-  other_is = ap (drop 1) other_is
+  other_is = ap (drop 1) other_is;
 }
 edited_behind byte one other [] back _ _ (more added) one_is other_is =
     let same : other ≡ byte ∷ one = ap (drop 1) other_is ∙ sym one_is in
@@ -140,7 +140,7 @@ edited_behind_front : (front one other : List ℕ) → IsOneEdit (front ++ one) 
 edited_behind_front [] one other edit = edit
 edited_behind_front (x ∷ xs) one other edit =
     edited_behind_front xs one other
-      (edited_behind x (xs ++ one) (xs ++ other) edit.front edit.back edit.old edit.new edit.edit edit.one_is edit.other_is)
+    (edited_behind x (xs ++ one) (xs ++ other) edit.front edit.back edit.old edit.new edit.edit edit.one_is edit.other_is)
 
 -- what is left of a list from a place on
 rest_is : (place : ℕ) (text : List ℕ) → place ≤ length text → take (length text - place) (drop place text) ≡ drop place text
@@ -154,6 +154,6 @@ behind_common one other place result alike within_one within_other is =
     let whole_other : take place one ++ drop place other ≡ other = ap (λ it. it ++ drop place other) alike ∙ take-append-drop place other in
     let rests : IsTrue result ↔ IsOneEdit (drop place one) (drop place other) = rw (rest_is place one within_one, rest_is place other within_other) at is in (
       λ it. subst (λ it. IsOneEdit one it) whole_other (subst (λ it. IsOneEdit it (take place one ++ drop place other)) whole_one
-        (front_alike (take place one) (drop place one) (drop place other) (rests.0 it))),
-      λ edit. rests.1 (edited_behind_front (take place one) (drop place one) (drop place other) (subst (λ it. IsOneEdit it (take place one ++ drop place other)) (sym whole_one) (subst (λ it. IsOneEdit one it) (sym whole_other) edit)))
+          (front_alike (take place one) (drop place one) (drop place other) (rests.0 it))),
+      λ edit. rests.1 (edited_behind_front (take place one) (drop place one) (drop place other) (subst (λ it. IsOneEdit it (take place one ++ drop place other)) (sym whole_one) (subst (λ it. IsOneEdit one it) (sym whole_other) edit))),
     )
