@@ -8,6 +8,7 @@
 
 mod argument;
 mod claim_file;
+mod here;
 mod page;
 mod plan;
 mod shown;

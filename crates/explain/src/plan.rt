@@ -1,5 +1,6 @@
 //! What a plan's fault means, and where it stands.
 
+use crate::here::amiss;
 use crate::page::Page;
 use crate::spot::{spot_of, value_at};
 use crate::words::{cell_words, plan_words};
@@ -51,6 +52,10 @@ fn add_place(
             page.mark(text, cell.at)?;
         }
         page.line(&[cell_words(cell.cause)])?;
+    }
+    let amiss = amiss(alloc, document, &spot, fault)?;
+    if !amiss.is_empty() {
+        page.line(&[amiss.as_str()])?;
     }
     Ok(())
 }

@@ -5,8 +5,8 @@ use plan_places::Step;
 use std::alloc::{AllocError, Global};
 use toml::Value;
 
-// The name of a role, by its number from 1; nothing where there is none.
-fn role_name(number: usize) -> &'static str {
+/// The name of a role, by its number from 1; nothing where there is none.
+pub fn role_name(number: usize) -> &'static str {
     match number {
         1 => "cover",
         2 => "fee",
@@ -129,8 +129,8 @@ pub fn name_of(document: &Value, table: usize, column: usize, inputs: usize) -> 
     text_at(document, &steps, "name")
 }
 
-// The string at a key behind the steps; nothing where there is none.
-fn text_at<'d>(document: &'d Value, steps: &[Step], key: &str) -> &'d str {
+/// The string at a key behind the steps; nothing where there is none.
+pub fn text_at<'d>(document: &'d Value, steps: &[Step], key: &str) -> &'d str {
     match value_at(document, steps) {
         Some(entry) => entry.get(key).and_then(Value::as_str).unwrap_or(""),
         None => "",

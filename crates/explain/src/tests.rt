@@ -158,3 +158,56 @@ fn no_control_character_is_shown(rt: HostRuntime) -> Result<(), Fail> {
     assert!(rt; text.as_str() == "> \u{fffd}[2J\u{fffd}\u{fffd}é\u{fffd}\u{fffd}\u{fffd}.");
     Ok(())
 }
+
+// The fault of the plan as a whole, or of its first table.
+fn fault_of(table: usize, rule: usize, column: usize, cause: PlanCause) -> PlanFault {
+    PlanFault {
+        table,
+        rule,
+        column,
+        cause,
+    }
+}
+
+#[test]
+fn what_is_amiss_is_told(rt: HostRuntime) -> Result<(), Fail> {
+    let roles = "roles = {fee = 'charge', rate = 2, copays = '1'}
+fields = [{name = 'code', kind = 'text'}, {name = 'cost', kind = 'number'}]
+tables = [{input = [], outputs = [{name = 'a', kind = 'integer'}], rules = [{when = ['25%'], then = []}]}]
+";
+    let rows = [
+        (
+            fault_of(0, 0, 2, PlanCause::Role),
+            "`charge` is no number, nor the name of one; the plan's own are: cost",
+        ),
+        (
+            fault_of(0, 0, 5, PlanCause::Role),
+            "`rate` is no string: a literal stands in quotes too, as \"50\"",
+        ),
+        (
+            fault_of(0, 0, 4, PlanCause::Role),
+            "`copay` isn't there, but `copays` is",
+        ),
+        (
+            fault_of(0, 0, 0, PlanCause::Missing),
+            "`version` isn't there",
+        ),
+        (
+            fault_of(1, 0, 0, PlanCause::Missing),
+            "`inputs` isn't there, but `input` is",
+        ),
+        (
+            fault_of(1, 1, 0, PlanCause::Kind),
+            "`when` has 1, and the table has 0 inputs",
+        ),
+        (
+            fault_of(1, 0, 1, PlanCause::Kind),
+            "`integer` is none of `number`, `text`, `flag` and `day`",
+        ),
+    ];
+    for (fault, wanted) in rows {
+        let page = explain_plan(rt.alloc(), "p", roles.as_bytes(), &fault)?;
+        assert!(rt; page.as_str().contains(wanted), "{wanted}");
+    }
+    Ok(())
+}

@@ -1,6 +1,7 @@
 //! The places of a document's keys and values.
 
 use std::alloc::{AllocError, Global};
+use std::collections::BTreeMap;
 
 /// A step on the way to a value: a key of a table, or an item of an array, counted from 0.
 #[derive(Clone, Copy, Debug, PartialEq, Eq)]
@@ -16,6 +17,8 @@ pub(crate) struct Node {
     pub parent: usize,
     /// Its key; an item has none.
     pub key: Option<String>,
+    /// The numbers of what stands behind its own keys: a text may have tens of thousands, and each header asks for some.
+    below: BTreeMap<String, usize>,
     /// An item's number.
     pub item: usize,
     /// The offset of the key, or of an item's value or header.
@@ -26,6 +29,24 @@ pub(crate) struct Node {
     pub items: usize,
     /// The number of its last item.
     pub last: usize,
+}
+
+impl Node {
+    // What has this number stands behind this key. The first of two that are alike stays.
+    fn add_key(&mut self, key: String, number: usize) -> Result<(), AllocError> {
+        if self.below.get(key.as_str()).is_none() {
+            let _before = self.below.insert(key, number)?;
+        }
+        Ok(())
+    }
+
+    // The item with this number is its last one; answers which it is.
+    fn add_item(&mut self, number: usize) -> usize {
+        let item = self.items;
+        self.items = item.saturating_add(1);
+        self.last = number;
+        item
+    }
 }
 
 /// The places of a document's keys and values, in the order in which they come. The first is the document.
@@ -80,17 +101,7 @@ impl Places {
 
     // The value of a key of a table.
     fn value_of(&self, parent: usize, key: &str) -> Option<usize> {
-        let mut number = 0usize;
-        for node in &self.nodes {
-            if let Some(name) = &node.key
-                && node.parent == parent
-                && name.as_str() == key
-            {
-                return Some(number);
-            }
-            number = number.saturating_add(1);
-        }
-        None
+        self.nodes.get(parent)?.below.get(key).copied()
     }
 
     // An item of an array.
@@ -114,17 +125,18 @@ impl Places {
     ) -> Result<usize, AllocError> {
         let number = self.nodes.len();
         let mut item = 0;
-        if key.is_none()
-            && number > 0
-            && let Some(array) = self.nodes.get_mut(parent)
+        if number > 0
+            && let Some(node) = self.nodes.get_mut(parent)
         {
-            item = array.items;
-            array.items = item.saturating_add(1);
-            array.last = number;
+            match &key {
+                Some(key) => node.add_key(key.clone()?, number)?,
+                None => item = node.add_item(number),
+            }
         }
         self.nodes.push(Node {
             parent,
             key,
+            below: BTreeMap::new(self.alloc),
             item,
             at,
             value_at: at,

@@ -2,7 +2,7 @@
 
 use crate::edits::is_one_edit;
 use crate::places::{Node, Places};
-use crate::position::{Position, position_of};
+use crate::position::{Position, Positions};
 use crate::scanner::places_of;
 use crate::shape::Shape;
 use std::alloc::{AllocError, Global};
@@ -22,6 +22,7 @@ pub fn unread_keys(alloc: Global, text: &str) -> Result<Vec<Unread>, AllocError>
     let places = places_of(alloc, text)?;
     let mut shapes: Vec<Shape> = Vec::new(alloc);
     let mut unread = Vec::new(alloc);
+    let mut positions = Positions::new(text.as_bytes());
     for node in places.nodes() {
         let within = shapes.get(node.parent).copied();
         let shape = shape_of(node, within);
@@ -31,7 +32,7 @@ pub fn unread_keys(alloc: Global, text: &str) -> Result<Vec<Unread>, AllocError>
             && let Some(key) = &node.key
         {
             unread.push(Unread {
-                position: position_of(text.as_bytes(), node.at),
+                position: positions.next(node.at),
                 key: key.clone()?,
                 near: near(key.as_str(), within),
             })?;
