@@ -19,6 +19,7 @@ use Rattle.dtable.specs.Priority.{entries_of}
 use Rattle.cutplan.proofs.Alike.{Among}
 use Rattle.cutplan.proofs.ColumnWise.{among_contained}
 use Rattle.cutplan.proofs.CutLists.{equal_same, equal_from}
+use Rattle.harm.proofs.Clashing.{tells_clash}
 use Rattle.harm.specs.Harm.{clash, gap_harms, is_no_rule, overlap_harms, wants_rule}
 use Rattle.harm.specs.Laws.{TellsGap, TellsOverlap, HarmIsFault}
 
@@ -122,5 +123,6 @@ tells_overlap p t given earlier standing first second low less both harms =
 pub harm_is_fault : HarmIsFault
 harm_is_fault p t given earlier standing = record {
   gap = tells_gap p t given earlier standing;
+  clash = tells_clash p t given earlier standing;
   overlap = tells_overlap p t given earlier standing;
 }

@@ -22,9 +22,23 @@ TellsOverlap p t given earlier first second =
     MatchTogether given earlier t first second → IsTrue (overlap_harms p (number_behind earlier) first second)
     → table_value given earlier t ≡ Err (Clash (number_behind earlier))
 
--- the same for each pair of rules, the smaller first
+-- two rules, the smaller first, that match together and whose overlap is harmful
+pub record HarmfulPair (p : PlanParts) (t : Table) (given : List Slot) (earlier : List (List Answer)) : Type 0 where
+  pub first : ℕ
+  pub second : ℕ
+  pub low : 1 ≤ first
+  pub less : first < second
+  pub together : MatchTogether given earlier t first second
+  pub harms : IsTrue (overlap_harms p (number_behind earlier) first second)
+
+-- where the table's answer is that rules clash, there is such a pair
+abbrev pub TellsClash : PlanParts → Table → List Slot → List (List Answer) → Type 0
+TellsClash p t given earlier = table_value given earlier t ≡ Err (Clash (number_behind earlier)) → HarmfulPair p t given earlier
+
+-- all three, the second for each pair of rules, the smaller first
 pub record TellsHarm (p : PlanParts) (t : Table) (given : List Slot) (earlier : List (List Answer)) : Type 0 where
   pub gap : TellsGap p t given earlier
+  pub clash : TellsClash p t given earlier
   pub overlap : (first second : ℕ) → 1 ≤ first → first < second → TellsOverlap p t given earlier first second
 
 -- so for each table of a plan that stands behind the tables with these answers
