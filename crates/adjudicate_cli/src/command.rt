@@ -41,7 +41,7 @@ pub const EXPLAIN: &str = "EXPLAIN";
 /// The name of the flag by which a key that nothing reads is refused.
 pub const STRICT: &str = "STRICT";
 
-/// The name of the flag by which the gaps and overlaps that are faults are told alone.
+/// The name of the flag by which only the gaps and overlaps that are faults are told.
 pub const HARMFUL: &str = "HARMFUL";
 
 /// The name of the flag for a line of what a run did.
@@ -100,7 +100,7 @@ pub fn command_line<'a>(alloc: Global) -> Result<Command<'a>, Error> {
     let harmful = Arg::new(alloc, HARMFUL)
         .long("harmful")
         .action(ArgAction::SetTrue)
-        .help("List the gaps that end as norule and the overlaps that clash alone");
+        .help("List only the gaps that end as norule, and the overlaps that clash");
     let check = Command::new(alloc, CHECK)
         .about(
             "List the inputs that no rule of a table covers, and the pairs of rules that overlap",
