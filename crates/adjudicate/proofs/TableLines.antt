@@ -6,8 +6,10 @@ use Rattle.std.proofs.lemmas.List.{take_more}
 use Rattle.std.proofs.lemmas.List.Concat.{flat_map-append}
 use Rattle.std.proofs.lemmas.List.Sums.{sum_by-append}
 use Rattle.dtable.specs.Plan.{PlanParts}
-use Rattle.cutplan.specs.Numbered.{cell_limit, cells_of, gaps_of, overlaps_of}
-use Rattle.adjudicate.specs.CheckText.{check_table_lines, gap_line, is_wide, overlap_line, table_numbers, told_gaps, wide_line, wide_lines}
+use Rattle.cutplan.specs.Numbered.{cell_limit, cells_of, gaps_of}
+use Rattle.adjudicate.specs.declared.check.text.Telling.{Telling}
+use Rattle.adjudicate.specs.CheckText.{gap_line, is_wide, overlap_line, table_numbers, told_gaps, wide_line, wide_lines}
+use Rattle.adjudicate.specs.Telling.{gaps_in, overlaps_in, table_lines}
 
 -- the lines of one item more, behind a text
 pub line_more : {X : Type 0} (line : X → List ℕ) (xs : List X) (i : ℕ) (d : X) (front before now : List ℕ) → i < length xs
@@ -54,12 +56,12 @@ no_more_than_bytes line long (x ∷ xs) =
     omega (arith, behind, here, length-append (line x) (flat_map line xs))
 
 -- so have those of a table
-pub told_within : (plan : PlanParts) (table : ℕ) → length (told_gaps plan table) + length (overlaps_of plan table) ≤ length (check_table_lines plan table)
-told_within plan table =
-    let gaps = no_more_than_bytes (gap_line table) (λ cell. not_empty _ _ (gap_line table cell) refl) (told_gaps plan table) in
-    let overlaps = no_more_than_bytes (overlap_line table) (λ rules. not_empty _ _ (overlap_line table rules) refl) (overlaps_of plan table) in
-    let gap_bytes = flat_map (gap_line table) (told_gaps plan table) in
-    omega (arith, gaps, overlaps, length-append (flat_map (overlap_line table) (overlaps_of plan table)) (wide_lines plan table ++ gap_bytes), length-append (wide_lines plan table) gap_bytes)
+pub told_within : (telling : Telling) (plan : PlanParts) (table : ℕ) → length (gaps_in telling plan table) + length (overlaps_in telling plan table) ≤ length (table_lines telling plan table)
+told_within telling plan table =
+    let gaps = no_more_than_bytes (gap_line table) (λ cell. not_empty _ _ (gap_line table cell) refl) (gaps_in telling plan table) in
+    let overlaps = no_more_than_bytes (overlap_line table) (λ rules. not_empty _ _ (overlap_line table rules) refl) (overlaps_in telling plan table) in
+    let gap_bytes = flat_map (gap_line table) (gaps_in telling plan table) in
+    omega (arith, gaps, overlaps, length-append (flat_map (overlap_line table) (overlaps_in telling plan table)) (wide_lines plan table ++ gap_bytes), length-append (wide_lines plan table) gap_bytes)
 
 -- a table with no more cells than the limit is told by its gaps
 pub told_narrow : (plan : PlanParts) (table : ℕ) → length (cells_of plan table) ≤ cell_limit → (told_gaps plan table ≡ gaps_of plan table) × (wide_lines plan table ≡ [])

@@ -5,13 +5,13 @@
 //! `check`: the gaps and overlaps of a plan's tables. `run` is the command `run`: claims, and their remittance. `stop`
 //! names every refusal, with its line and its exit status.
 //!
-//! Plans and their evaluation come from `dtable`, their check from `cutplan`, cells and values from `feel_tests`,
-//! numbers and the counting writer from `fixpoint`. A run goes from the texts to their terms (`claim_terms`), to a
-//! finished journal (`crew`) and to its report (`remit`).
+//! Plans and their evaluation come from `dtable`, their check from `cutplan`, what in it is harmful from `harm`, cells and
+//! values from `feel_tests`, numbers and the counting writer from `fixpoint`. A run goes from the texts to their terms
+//! (`claim_terms`), to a finished journal (`crew`) and to its report (`remit`).
 //!
-//! Begin with `value.rt`, `check.rt` and `run.rt`, whose `do_value`, `do_check` and `do_run` carry the promises of the
-//! commands, and with `specs/ValueText.antt`, `specs/CheckText.antt` and `specs/RunText.antt`, which say what they
-//! print.
+//! Begin with `value.rt`, `check.rt` and `run.rt`, whose `do_value`, `do_check`, `do_harmful_check` and `do_run` carry the
+//! promises of the commands, and with `specs/ValueText.antt`, `specs/CheckText.antt`, `specs/HarmfulText.antt` and
+//! `specs/RunText.antt`, which say what they print.
 #![tactic(auto)]
 
 mod check;
@@ -22,7 +22,7 @@ mod stop;
 mod testing;
 mod value;
 
-pub use check::do_check;
+pub use check::{do_check, do_harmful_check};
 pub use crew::WORKERS_LIMIT;
 pub use dtable::{Name, PLAN_LIMIT_BYTES};
 pub use intake_csv::FILE_LIMIT_BYTES;

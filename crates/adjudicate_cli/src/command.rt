@@ -41,6 +41,9 @@ pub const EXPLAIN: &str = "EXPLAIN";
 /// The name of the flag by which a key that nothing reads is refused.
 pub const STRICT: &str = "STRICT";
 
+/// The name of the flag by which only the gaps and overlaps that are faults are told.
+pub const HARMFUL: &str = "HARMFUL";
+
 /// The name of the flag for a line of what a run did.
 pub const SUMMARY: &str = "SUMMARY";
 
@@ -94,12 +97,17 @@ pub fn command_line<'a>(alloc: Global) -> Result<Command<'a>, Error> {
         .arg(plan_argument(alloc))?
         .arg(assignments)?
         .arg(output_argument(alloc))?;
+    let harmful = Arg::new(alloc, HARMFUL)
+        .long("harmful")
+        .action(ArgAction::SetTrue)
+        .help("List only the gaps that end as norule, and the overlaps that clash");
     let check = Command::new(alloc, CHECK)
         .about(
             "List the inputs that no rule of a table covers, and the pairs of rules that overlap",
         )
         .after_help(CHECK_EXAMPLE)
         .arg(plan_argument(alloc))?
+        .arg(harmful)?
         .arg(strict_argument(alloc).help(
             "Tell each key of the plan that nothing reads, with status 1",
         ))?

@@ -4,18 +4,19 @@ ghost use Rattle.std.specs.Prelude.{◌≡◌, ◌≢◌, ◌≤◌};
 ghost use Rattle.std.specs.Io.KnownBytes.{Keeps};
 ghost use Rattle.adjudicate.specs.Arguments.{texts_of};
 ghost use Rattle.adjudicate.specs.CheckText.{IsCheckText};
+ghost use Rattle.adjudicate.specs.HarmfulText.{IsHarmfulCheckText};
 ghost use Rattle.adjudicate.specs.Stop.{IsPlanReason, IsReason};
 ghost use Rattle.adjudicate.specs.ValueText.{IsValueText};
 ghost use Rattle.adjudicate_cli.specs.Ends.{HasText, IsStatusOfRefusal, PutsText};
 
-use crate::command::{ASSIGNMENT, CHECK, EXPLAIN, RUN, STRICT, VALUE, command_line};
+use crate::command::{ASSIGNMENT, CHECK, EXPLAIN, HARMFUL, RUN, STRICT, VALUE, command_line};
 use crate::explaining::About;
 use crate::files::plan_of;
 use crate::output::{output_of, placed, unwritable};
 use crate::run::run_of;
 use crate::strict::unread;
 use crate::telling::{DONE, RESOURCE, USAGE, ended, no_memory, told};
-use adjudicate::{do_check, do_value};
+use adjudicate::{do_check, do_harmful_check, do_value};
 use clap::ArgMatches;
 use clap::error::ErrorKind;
 use fixpoint::Out;
@@ -151,9 +152,14 @@ fn check_of<R: Files + Input + Print + Eprint + AllocGlobal>(
         Ok(plan) => plan,
         Err(status) => return status,
     };
+    let is_harmful = matches.get_flag(HARMFUL);
     let about = About::of_plan(explains, &*matches, plan.as_slice());
     let status = match output_of(rt, &about) {
+        Ok(Some(mut file)) if is_harmful => {
+            harmful_check_into(rt, &about, plan.as_slice(), &mut file)
+        }
         Ok(Some(mut file)) => check_into(rt, &about, plan.as_slice(), &mut file),
+        Ok(None) if is_harmful => harmful_check(rt, &about, plan.as_slice()),
         Ok(None) => check(rt, &about, plan.as_slice()),
         Err(status) => status,
     };
@@ -194,6 +200,40 @@ fn check_into<R: Eprint + AllocGlobal, P: Place>(
     };
     let mut out = Out::new(text);
     let outcome = do_check(rt.alloc(), plan, &mut out);
+    placed(rt, about, place, out.into_inner(), &outcome)
+}
+
+/// The command `check` of the gaps and overlaps that are faults, over the text of a plan.
+#[tactic(auto, using(crate::proofs::Ends::ends_known, crate::proofs::Ends::ends_done, crate::proofs::Ends::ends_refused))]
+fn harmful_check<R: Print + Eprint + AllocGlobal>(rt: &R, about: &About, plan: &[u8]) -> u8
+    ensures known { result ≤ RESOURCE }
+    ensures done { result ≡ DONE → HasText (IsHarmfulCheckText plan.now) }
+    ensures refused { result ≢ DONE → IsStatusOfRefusal (IsPlanReason plan.now) result }
+{
+    let mut out = Out::new(io::writer(rt));
+    let answer = do_harmful_check(rt.alloc(), plan, &mut out);
+    ended(rt, about, &answer)
+}
+
+/// The same into a place, which has the whole text then or what stood there before.
+#[tactic(auto, using(crate::proofs::Ends::placed_done, crate::proofs::Ends::kept_twice))]
+fn harmful_check_into<R: Eprint + AllocGlobal, P: Place>(
+    rt: &R,
+    about: &About,
+    plan: &[u8],
+    place: &mut P,
+) -> u8
+    ensures known { result ≤ RESOURCE }
+    ensures done { result ≡ DONE → PutsText (IsHarmfulCheckText plan.now) (P.stands place.old) (P.stands place.new) }
+    ensures kept { result ≢ DONE → Keeps (P.stands place.old) (P.stands place.new) }
+    ensures refused { result ≢ DONE → IsStatusOfRefusal (IsPlanReason plan.now) result }
+{
+    let text = match place.begin() {
+        Ok(text) => text,
+        Err(fault) => return unwritable(rt, about, &fault),
+    };
+    let mut out = Out::new(text);
+    let outcome = do_harmful_check(rt.alloc(), plan, &mut out);
     placed(rt, about, place, out.into_inner(), &outcome)
 }
 

@@ -9,7 +9,8 @@ use std::test::Fail;
 mod regions;
 
 use regions::{
-    NO_RULES, TOLD_OF_TWO_TABLES, TOLD_OF_WIDE_AND_OVERLAPPING, TWO_TABLES, WIDE_AND_OVERLAPPING,
+    NO_RULES, SOME_HARMFUL, TOLD_AS_HARMFUL, TOLD_OF_TWO_TABLES, TOLD_OF_WIDE_AND_OVERLAPPING,
+    TWO_TABLES, WIDE_AND_OVERLAPPING,
 };
 
 /// One number column, with a gap between two rules that a number has, and one above them.
@@ -101,6 +102,14 @@ fn gaps_overlaps_and_wide_tables(rt: HostRuntime) {
         let (plan, text) = *row;
         assert!(rt; gives(rt.alloc(), plan, text), "{text}");
     }
+}
+
+#[test]
+fn harmful_gaps_and_overlaps(rt: HostRuntime) {
+    let alloc = rt.alloc();
+    let mut out = Out::new(Vec::new(alloc));
+    let result = do_harmful_check(alloc, SOME_HARMFUL.as_bytes(), &mut out);
+    assert!(rt; is_printed(result, out, TOLD_AS_HARMFUL));
 }
 
 #[test]

@@ -1,19 +1,32 @@
-//! The printed text: table by table its overlaps, and its gaps or that it is wide; last the counts.
+//! The printed text: table by table its overlaps, and its gaps or that it is wide; last the counts. Of overlaps and gaps all
+//! are told, or those that are faults.
 
-ghost use Rattle.std.specs.Prelude.{◌≡◌, ◌+◌, ◌<◌, ◌^◌, ◌++◌, IfOk, OnOk, codes, decimal, flat_map, length};
+ghost use Rattle.std.specs.Prelude.{◌≡◌, ◌+◌, ◌<◌, ◌^◌, ◌++◌, IfOk, OnOk, codes, decimal, filter, flat_map, length};
 ghost use Rattle.std.specs.List.{join_by};
-ghost use Rattle.cutplan.specs.Numbered.{IsTableNumber, overlaps_of};
-ghost use Rattle.adjudicate.specs.CheckText.{check_table_lines, check_text, counts_line, gap_line, overlap_line, region_text, rules_text, told_gaps, wide_line, wide_lines};
+ghost use Rattle.cutplan.specs.Numbered.{IsTableNumber};
+ghost use Rattle.adjudicate.specs.CheckText.{counts_line, gap_line, overlap_line, region_text, rules_text, wide_line, wide_lines};
+ghost use Rattle.harm.specs.Harm.{overlap_harms};
+ghost use Rattle.adjudicate.specs.Telling.{gaps_in, overlaps_in, table_lines, tells_gaps, text_in};
 
 use cutplan::{CheckFault, CutPlan, Region, compile};
-use dtable::{Plan, Sequence};
+use dtable::{Plan, Sequence, Valuer};
 use feel_tests::{Literals, Spelling, Value, append_joined};
+use harm::{is_gap_harmful, is_overlap_harmful};
 use itoa::Buffer;
 use std::alloc::{AllocError, Global};
 
+/// Which gaps and overlaps are told.
+#[derive(Clone, Copy, Debug)]
+pub enum Telling {
+    /// All.
+    All,
+    /// Those that are faults where they are met.
+    Harmful,
+}
+
 /// The lines of a plan's check.
-pub fn check_text(alloc: Global, plan: &Plan) -> Result<Vec<u8>, AllocError>
-    ensures { IfOk result (λ text. text.items ≡ check_text plan.now) }
+pub fn check_text(alloc: Global, plan: &Plan, telling: Telling) -> Result<Vec<u8>, AllocError>
+    ensures { IfOk result (λ text. text.items ≡ text_in telling plan.now) }
 {
     let cut_plan = compile(alloc, plan)?;
     let mut text = Vec::new(alloc);
@@ -22,7 +35,7 @@ pub fn check_text(alloc: Global, plan: &Plan) -> Result<Vec<u8>, AllocError>
         overlaps: 0,
     };
     for place in 0..plan.tables().len() {
-        let more = append_table(alloc, &mut text, &cut_plan, place + 1)?;
+        let more = append_table(alloc, &mut text, &cut_plan, place + 1, telling)?;
         told.add(&more);
     }
     append_counts(&mut text, told.gaps, told.overlaps)?;
@@ -55,19 +68,56 @@ fn append_table(
     text: &mut Vec<u8>,
     plan: &CutPlan<'_>,
     table: usize,
+    telling: Telling,
 ) -> Result<Told, AllocError>
     requires { IsTableNumber plan.now table }
-    ensures text { OnOk result (text.new.items ≡ text.old.items ++ check_table_lines plan.now table) }
-    ensures gaps { IfOk result (λ told. told.gaps ≡ length (told_gaps plan.now table)) }
-    ensures overlaps { IfOk result (λ told. told.overlaps ≡ length (overlaps_of plan.now table)) }
+    ensures text { OnOk result (text.new.items ≡ text.old.items ++ table_lines telling plan.now table) }
+    ensures gaps { IfOk result (λ told. told.gaps ≡ length (gaps_in telling plan.now table)) }
+    ensures overlaps { IfOk result (λ told. told.overlaps ≡ length (overlaps_in telling plan.now table)) }
 {
-    let overlaps = plan.overlaps(alloc, table)?;
+    let overlaps = told_overlaps(alloc, plan, table, telling)?;
     append_overlaps(text, table, overlaps.as_slice())?;
-    let gaps = append_gaps(alloc, text, plan, table)?;
+    let gaps = append_gaps(alloc, text, plan, table, telling)?;
     Ok(Told {
         gaps,
         overlaps: overlaps.len(),
     })
+}
+
+// The overlaps that are told of a table, in order.
+fn told_overlaps(
+    alloc: Global,
+    plan: &CutPlan<'_>,
+    table: usize,
+    telling: Telling,
+) -> Result<Vec<(usize, usize)>, AllocError>
+    requires { IsTableNumber plan.now table }
+    ensures { IfOk result (λ found. found.items ≡ overlaps_in telling plan.now table) }
+{
+    let overlaps = plan.overlaps(alloc, table)?;
+    match telling {
+        Telling::All => Ok(overlaps),
+        Telling::Harmful => harmful(alloc, plan.plan(), table, overlaps.as_slice()),
+    }
+}
+
+// Those of these overlaps of a table that are harmful.
+fn harmful(
+    alloc: Global,
+    plan: &Plan,
+    table: usize,
+    overlaps: &[(usize, usize)],
+) -> Result<Vec<(usize, usize)>, AllocError>
+    requires { IsTableNumber plan.now table }
+    ensures { IfOk result (λ found. found.items ≡ filter (λ rules. overlap_harms plan.now table rules.0 rules.1) overlaps.now) }
+{
+    let mut found = Vec::new(alloc);
+    for rules in overlaps {
+        if is_overlap_harmful(plan, table, rules.0, rules.1) {
+            found.push(*rules)?;
+        }
+    }
+    Ok(found)
 }
 
 // A line for each overlap of a table, in order.
@@ -112,13 +162,17 @@ fn append_gaps(
     text: &mut Vec<u8>,
     plan: &CutPlan<'_>,
     table: usize,
+    telling: Telling,
 ) -> Result<usize, AllocError>
     requires { IsTableNumber plan.now table }
-    ensures text { OnOk result (text.new.items ≡ text.old.items ++ (wide_lines plan.now table ++ flat_map (gap_line table) (told_gaps plan.now table))) }
-    ensures count { IfOk result (λ count. count ≡ length (told_gaps plan.now table)) }
+    ensures text { OnOk result (text.new.items ≡ text.old.items ++ (wide_lines plan.now table ++ flat_map (gap_line table) (gaps_in telling plan.now table))) }
+    ensures count { IfOk result (λ count. count ≡ length (gaps_in telling plan.now table)) }
 {
     match plan.gaps(alloc, table) {
         Ok(gaps) => {
+            if !tells_gaps(plan.plan(), table, telling) {
+                return Ok(0);
+            }
             append_cells(text, table, gaps.as_slice())?;
             Ok(gaps.len())
         }
@@ -127,6 +181,17 @@ fn append_gaps(
             Ok(0)
         }
         Err(CheckFault::OutOfMemory) => Err(AllocError),
+    }
+}
+
+// Whether the gaps of a table are told.
+fn tells_gaps(plan: &Plan, table: usize, telling: Telling) -> bool
+    requires { IsTableNumber plan.now table }
+    ensures { result ≡ tells_gaps telling plan.now table }
+{
+    match telling {
+        Telling::All => true,
+        Telling::Harmful => is_gap_harmful(plan, table),
     }
 }
 

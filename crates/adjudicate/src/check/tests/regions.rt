@@ -56,3 +56,27 @@ inputs = [{name = \"billed\"}, {name = \"claim\"}]
 outputs = [{name = \"y\", kind = \"number\"}]
 rules = []
 ";
+
+/// Three tables, each with a gap and an overlap: under `F` without a default, under `A` with one and other entries, under
+/// `C`.
+pub const SOME_HARMFUL: &str = "version = 1
+fields = [{name = \"x\", kind = \"number\"}]
+[[tables]]
+hit = \"F\"
+inputs = [{name = \"x\"}]
+outputs = [{name = \"a\", kind = \"number\"}]
+rules = [{when = ['<=5'], then = ['1']}, {when = ['5'], then = ['2']}]
+[[tables]]
+hit = \"A\"
+inputs = [{name = \"x\"}]
+outputs = [{name = \"b\", kind = \"number\", default = '0'}]
+rules = [{when = ['<=5'], then = ['1']}, {when = ['5'], then = ['2']}]
+[[tables]]
+hit = \"C\"
+inputs = [{name = \"x\"}]
+outputs = [{name = \"c\", kind = \"number\"}]
+rules = [{when = ['<=5'], then = ['1']}, {when = ['5'], then = ['2']}]
+";
+
+pub const TOLD_AS_HARMFUL: &str =
+    "gap table 1: >5\noverlap table 2: rules 1 2\ngaps 1 overlaps 1\n";
