@@ -15,7 +15,7 @@ use crate::files::plan_of;
 use crate::output::{output_of, placed, unwritable};
 use crate::run::run_of;
 use crate::strict::unread;
-use crate::telling::{DONE, RESOURCE, USAGE, ended, no_memory, told};
+use crate::telling::{DONE, REFUSED, RESOURCE, USAGE, ended, no_memory, told};
 use adjudicate::{do_check, do_harmful_check, do_value};
 use clap::ArgMatches;
 use clap::error::ErrorKind;
@@ -163,8 +163,9 @@ fn check_of<R: Files + Input + Print + Eprint + AllocGlobal>(
         Ok(None) => check(rt, &about, plan.as_slice()),
         Err(status) => status,
     };
-    if status == DONE && matches.get_flag(STRICT) {
-        return unread(rt, plan.as_slice());
+    // Also of a plan that is refused: such a key may be why.
+    if status <= REFUSED && matches.get_flag(STRICT) {
+        return status.max(unread(rt, plan.as_slice()));
     }
     status
 }
