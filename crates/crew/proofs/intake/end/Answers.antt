@@ -1,6 +1,6 @@
 use Rattle.std.proofs.Common.{◌∙◌, arith}
-use Rattle.crew.proofs.Passes.{after_section, leaves_for_memory, section_later, worn_later}
-use Rattle.crew.proofs.Sections.{already_past, closed_shut, ends_past, no_fewer, none_lacks, shut_past, stopped_shut}
+use Rattle.crew.proofs.Passes.{after_section, section_later, worn_later}
+use Rattle.crew.proofs.Sections.{ends_past, no_fewer, none_lacks}
 use Rattle.crew.proofs.intake.end.Goals as goal
 
 pub unreachable-requires : goal.unreachable-requires
