@@ -44,15 +44,18 @@ module _ {P : Type 0} (has_pass : P → Type 0) (known : P → Known) where
   pub leaves_worn : (is_worn : P → Type 0) (a b : P) → IsWornOut has_pass is_worn known (known a) b → LeavesWith has_pass known a (Worn, b)
   leaves_worn is_worn a b h = leaves_by a b Worn (unchanged a b h.own h.same) (λ other. cc) (λ other. cc)
 
+  -- a pass that goes on, and has had a section since
+  pub section_later : (a b c : P) → GoesOn has_pass known a b → IsServed has_pass known (known b) c → GoesOn has_pass known a c
+  section_later a b c first h = further a b c first (after_section b c h)
+
+  -- or found no ticket left
+  pub worn_later : (is_worn : P → Type 0) (a b c : P) → GoesOn has_pass known a b → IsWornOut has_pass is_worn known (known b) c → LeavesWith has_pass known a (Worn, c)
+  worn_later is_worn a b c first h = leaves_later a b (Worn, c) first (leaves_worn is_worn b c h)
+
   -- the same of an answer
   pub further_where_ok : {E : Type 0} (a b : P) (answer : Result P E) → GoesOn has_pass known a b → IfOk answer (GoesOn has_pass known b) → IfOk answer (GoesOn has_pass known a)
   further_where_ok a b (Ok pass) first later = further a b pass first later
   further_where_ok a b (Err left) first later = tt
-
-  pub further_where_told : {A E : Type 0} (a b : P) (answer : Result (A × P) E) → GoesOn has_pass known a b → IfOk answer (λ told. GoesOn has_pass known b told.1)
-      → IfOk answer (λ told. GoesOn has_pass known a told.1)
-  further_where_told a b (Ok told) first later = further a b told.1 first later
-  further_where_told a b (Err left) first later = tt
 
   pub leaves_later_where_err : {A : Type 0} (a b : P) (answer : Result A (RunFault × P)) → GoesOn has_pass known a b
       → IfErr answer (LeavesWith has_pass known b) → IfErr answer (LeavesWith has_pass known a)

@@ -5,12 +5,7 @@ use Rattle.dtable.specs.Plan.{PlanParts}
 use Rattle.journal.specs.Settled.{outcome_of}
 use Rattle.crew.specs.declared.worker.Gathered.{Gathered}
 use Rattle.crew.specs.declared.worker.Gathered.TheVariants as gathered
-use Rattle.claim_gate.specs.declared.offer.Offer.{Offer}
-use Rattle.crew.specs.declared.intake.Offered.{Offered}
-use Rattle.crew.specs.declared.intake.Offered.TheVariants as offered
 use Rattle.crew.specs.declared.worker.Settled.{Settled}
-use Rattle.crew.specs.declared.worker.Handed.{Handed}
-use Rattle.crew.specs.declared.worker.Handed.TheVariants.{In, Back}
 use Rattle.settlement.specs.Claim.{IsClaimOf}
 use Rattle.journal.specs.Events.{IsJob, closed, decided, ended, places, taken}
 use Rattle.journal.specs.Lawful.{Finished}
@@ -62,13 +57,3 @@ IsGathered gate (gathered.Jobs jobs) = All (IsInWork gate) jobs.items
 -- a claim with its settlement by a plan
 abbrev pub settled_by : PlanParts → Job → Settled
 settled_by plan job = record { job = job; outcome = outcome_of plan job.claim job.acc }
-
--- the claim is decided, or its outcome comes back
-abbrev pub IsHanded : GateParts → Settled → Handed → Type 0
-IsHanded gate settled In = decided gate.journal settled.job.position ≡ true
-IsHanded gate settled (Back back) = back ≡ settled
-
--- what comes of an offer: where the provider goes on, or the offer itself
-abbrev pub IsOffered : GateParts → Offer → Offered → Type 0
-IsOffered gate offer (offered.Next next) = GoesOnAt gate offer.provider offer.place next
-IsOffered gate offer (offered.Back back) = back ≡ offer

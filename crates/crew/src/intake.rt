@@ -4,11 +4,11 @@ ghost use Rattle.intake_csv.specs.Rows.{IsAtStart};
 ghost use Rattle.claim_terms.specs.Terms.{ForTerms};
 ghost use Rattle.claim_gate.specs.Replies.{HasClaims, IsFiled};
 ghost use Rattle.crew.specs.Passes.{GoesOn, LeavesWith};
-ghost use Rattle.crew.specs.Sharing.{GoesOnAt, HasAccepted, IsOffered, is_past};
+ghost use Rattle.crew.specs.Sharing.{GoesOnAt, HasAccepted, is_past};
 ghost use Rattle.crew.specs.declared.fault.RunFault.TheVariants.{OutOfMemory};
 
 use crate::fault::RunFault;
-use crate::stopping::stop;
+use crate::stopping::TRIES;
 use crate::turns::Turns;
 use claim_gate::{EndFault, Gate, Offer, OfferFault};
 use claim_terms::{Terms, terms_are_seen};
@@ -21,45 +21,9 @@ use std::sync::Wait;
 #[cfg(test)]
 mod tests;
 
-/// What comes of an offer.
-enum Offered {
-    /// It is accepted, or was before: the place of the provider's next claim; none where no more claims are accepted.
-    Next(Option<usize>),
-    /// There is no memory for it.
-    Back(Offer),
-}
-
 /// Offers the claims of a provider's file in order, and ends the provider behind the last. What others have offered of it isn't
-/// offered again. Where memory is wanting, the gate is stopped.
+/// offered again.
 pub(crate) fn take_in<R: Wait, G: Gate>(
-    rt: &R,
-    alloc: Global,
-    terms: &Terms,
-    gate: &G,
-    pass: G::Pass,
-    provider: usize,
-    turns: &Turns,
-) -> Result<G::Pass, (RunFault, G::Pass)>
-    requires own { G.has_pass gate.now pass }
-    requires terms { (G.known pass).seen.terms ≡ terms.now }
-    requires least { 1 ≤ provider }
-    requires most { provider ≤ length terms.now.files }
-    ensures goes_on { IfOk result (GoesOn (G.has_pass gate.now) G.known pass) }
-    ensures past { IfOk result (λ p. is_past (G.known p).seen provider ≡ true) }
-    ensures leaves { IfErr result (LeavesWith (G.has_pass gate.now) G.known pass) }
-{
-    match read_on(rt, alloc, terms, gate, pass, provider, turns) {
-        Ok(pass) => Ok(pass),
-        Err((RunFault::OutOfMemory, pass)) => Err((
-            RunFault::OutOfMemory,
-            stop(rt, terms, gate, pass),
-        )),
-        Err(left) => Err(left),
-    }
-}
-
-// The same without the stop.
-fn read_on<R: Wait, G: Gate>(
     rt: &R,
     alloc: Global,
     terms: &Terms,
@@ -129,15 +93,13 @@ fn open<'t>(alloc: Global, terms: &'t Terms, provider: usize) -> Result<Rows<'t>
     }
 }
 
-// Offers a claim, and once more where memory is wanting. Gives the place of the provider's next one; none where no more claims
-// are accepted.
-#[tactic(auto, using(crate::proofs::Passes::further, crate::proofs::Passes::leaves_later))]
+// Offers a claim, as often as a call is tried. Gives the place of the provider's next one; none where no more claims are accepted.
 fn offer<R: Wait, G: Gate>(
     rt: &R,
     terms: &Terms,
     gate: &G,
-    pass: G::Pass,
-    offer: Offer,
+    mut pass: G::Pass,
+    mut offer: Offer,
 ) -> Result<(Option<usize>, G::Pass), (RunFault, G::Pass)>
     requires own { G.has_pass gate.now pass }
     requires terms { (G.known pass).seen.terms ≡ terms.now }
@@ -146,109 +108,33 @@ fn offer<R: Wait, G: Gate>(
     requires room { offer.place + 1 < 2 ^ 64 }
     ensures goes_on { IfOk result (λ r. GoesOn (G.has_pass gate.now) G.known pass r.1) }
     ensures next { IfOk result (λ r. GoesOnAt (G.known r.1).seen offer.provider offer.place r.0) }
-    ensures leaves { IfErr result (LeavesWith (G.has_pass gate.now) G.known pass) }
-{
-    let (offered, pass) = match offer_once(rt, terms, gate, pass, offer) {
-        Ok(answer) => answer,
-        Err(left) => return Err(left),
-    };
-    match offered {
-        Offered::Next(next) => Ok((next, pass)),
-        Offered::Back(offer) => offer_again(rt, terms, gate, pass, offer),
-    }
-}
-
-// The second try, which is the last.
-fn offer_again<R: Wait, G: Gate>(
-    rt: &R,
-    terms: &Terms,
-    gate: &G,
-    pass: G::Pass,
-    offer: Offer,
-) -> Result<(Option<usize>, G::Pass), (RunFault, G::Pass)>
-    requires own { G.has_pass gate.now pass }
-    requires terms { (G.known pass).seen.terms ≡ terms.now }
-    requires filed { ForTerms terms.now (λ T. IsFiled T offer) }
-    requires taken { HasAccepted (G.known pass).seen offer.provider offer.place }
-    requires room { offer.place + 1 < 2 ^ 64 }
-    ensures goes_on { IfOk result (λ r. GoesOn (G.has_pass gate.now) G.known pass r.1) }
-    ensures next { IfOk result (λ r. GoesOnAt (G.known r.1).seen offer.provider offer.place r.0) }
-    ensures leaves { IfErr result (LeavesWith (G.has_pass gate.now) G.known pass) }
-{
-    let (offered, pass) = match offer_once(rt, terms, gate, pass, offer) {
-        Ok(answer) => answer,
-        Err(left) => return Err(left),
-    };
-    match offered {
-        Offered::Next(next) => Ok((next, pass)),
-        Offered::Back(_) => Err((RunFault::OutOfMemory, pass)),
-    }
-}
-
-// One call. The offer comes back where there is no memory.
-fn offer_once<R: Wait, G: Gate>(
-    rt: &R,
-    terms: &Terms,
-    gate: &G,
-    pass: G::Pass,
-    offer: Offer,
-) -> Result<(Offered, G::Pass), (RunFault, G::Pass)>
-    requires own { G.has_pass gate.now pass }
-    requires terms { (G.known pass).seen.terms ≡ terms.now }
-    requires filed { ForTerms terms.now (λ T. IsFiled T offer) }
-    requires taken { HasAccepted (G.known pass).seen offer.provider offer.place }
-    requires room { offer.place + 1 < 2 ^ 64 }
-    ensures goes_on { IfOk result (λ r. GoesOn (G.has_pass gate.now) G.known pass r.1) }
-    ensures offered { IfOk result (λ r. IsOffered (G.known r.1).seen offer r.0) }
     ensures leaves { IfErr result (LeavesWith (G.has_pass gate.now) G.known pass) }
 {
     // Known from here: the texts have lists of claims, so that what holds for each list says something.
     terms_are_seen(terms);
-    let place = offer.place;
-    let (accepted, pass) = match gate.offer(rt, pass, offer) {
-        Ok(answer) => answer,
-        Err((_, pass, _)) => return Err((RunFault::Worn, pass)),
-    };
-    match accepted {
-        Ok(_) => Ok((Offered::Next(Some(place + 1)), pass)),
-        Err((OfferFault::OutOfTurn { expected }, _)) => Ok((Offered::Next(Some(expected)), pass)),
-        Err((OfferFault::Closed, _)) => Ok((Offered::Next(None), pass)),
-        Err((OfferFault::Stopped, _)) => Ok((Offered::Next(None), pass)),
-        Err((OfferFault::OutOfMemory, back)) => Ok((Offered::Back(back), pass)),
+    let behind = offer.place + 1;
+    'tries: for _ in 0..TRIES {
+        let (accepted, after) = match gate.offer(rt, pass, offer) {
+            Ok(answer) => answer,
+            Err((_, pass, _)) => return Err((RunFault::Worn, pass)),
+        };
+        match accepted {
+            Ok(_) => return Ok((Some(behind), after)),
+            Err((OfferFault::OutOfTurn { expected }, _)) => return Ok((Some(expected), after)),
+            Err((OfferFault::Closed, _)) => return Ok((None, after)),
+            Err((OfferFault::Stopped, _)) => return Ok((None, after)),
+            Err((OfferFault::OutOfMemory, back)) => (pass, offer) = (after, back),
+        }
     }
+    Err((RunFault::OutOfMemory, pass))
 }
 
-// Ends a provider whose claims, so many, are all accepted, and tries once more where memory is wanting.
-#[tactic(auto, using(crate::proofs::Passes::further, crate::proofs::Passes::leaves_later))]
+// Ends a provider whose claims, so many, are all accepted; a call is tried as often as others.
 fn end<R: Wait, G: Gate>(
     rt: &R,
     terms: &Terms,
     gate: &G,
-    pass: G::Pass,
-    provider: usize,
-    count: usize,
-) -> Result<G::Pass, (RunFault, G::Pass)>
-    requires own { G.has_pass gate.now pass }
-    requires terms { (G.known pass).seen.terms ≡ terms.now }
-    requires claims { ForTerms terms.now (λ T. HasClaims T provider count) }
-    requires taken { HasAccepted (G.known pass).seen provider count }
-    ensures goes_on { IfOk result (GoesOn (G.has_pass gate.now) G.known pass) }
-    ensures past { IfOk result (λ p. is_past (G.known p).seen provider ≡ true) }
-    ensures leaves { IfErr result (LeavesWith (G.has_pass gate.now) G.known pass) }
-{
-    match end_once(rt, terms, gate, pass, provider, count) {
-        Ok(pass) => Ok(pass),
-        Err((RunFault::OutOfMemory, back)) => end_once(rt, terms, gate, back, provider, count),
-        Err(left) => Err(left),
-    }
-}
-
-// One call.
-fn end_once<R: Wait, G: Gate>(
-    rt: &R,
-    terms: &Terms,
-    gate: &G,
-    pass: G::Pass,
+    mut pass: G::Pass,
     provider: usize,
     count: usize,
 ) -> Result<G::Pass, (RunFault, G::Pass)>
@@ -262,16 +148,19 @@ fn end_once<R: Wait, G: Gate>(
 {
     // Known from here: the texts have lists of claims, so that what holds for each list says something.
     terms_are_seen(terms);
-    let (ended, pass) = match gate.end(rt, pass, provider, count) {
-        Ok(answer) => answer,
-        Err((_, pass)) => return Err((RunFault::Worn, pass)),
-    };
-    match ended {
-        Ok(_) => Ok(pass),
-        Err(EndFault::AlreadyEnded) => Ok(pass),
-        Err(EndFault::Closed) => Ok(pass),
-        Err(EndFault::Stopped) => Ok(pass),
-        Err(EndFault::OutOfMemory) => Err((RunFault::OutOfMemory, pass)),
-        Err(EndFault::OutOfTurn { .. }) => unreachable!(),
+    'tries: for _ in 0..TRIES {
+        let (ended, after) = match gate.end(rt, pass, provider, count) {
+            Ok(answer) => answer,
+            Err((_, pass)) => return Err((RunFault::Worn, pass)),
+        };
+        match ended {
+            Ok(_) => return Ok(after),
+            Err(EndFault::AlreadyEnded) => return Ok(after),
+            Err(EndFault::Closed) => return Ok(after),
+            Err(EndFault::Stopped) => return Ok(after),
+            Err(EndFault::OutOfMemory) => pass = after,
+            Err(EndFault::OutOfTurn { .. }) => unreachable!(),
+        }
     }
+    Err((RunFault::OutOfMemory, pass))
 }

@@ -1,10 +1,13 @@
-//! How a thread that can't go on ends the run.
+//! When a thread can't go on, and how it ends the run.
 ghost use Rattle.std.specs.Prelude.{◌≡◌, ◌⊎◌, true};
 ghost use Rattle.journal.specs.Gate.{LeadsTo};
 
 use claim_gate::Gate;
 use claim_terms::{Terms, terms_are_seen};
 use std::sync::Wait;
+
+/// So often a call of the gate is made that is refused memory, each time with what came back. Then the thread leaves, and stops the gate.
+pub(crate) const TRIES: u32 = 2;
 
 /// Stops the gate, so that all threads leave. Where its lock is worn, no thread can call it any more.
 #[tactic(auto, using(crate::proofs::Sections::led))]

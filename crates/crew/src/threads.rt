@@ -149,12 +149,13 @@ fn in_threads<R: Threads + Wait + Sync, G: Gate + Sync>(
     ensures finished { IfOk result (λ p. ForTerms terms.now (λ T. Finished T (G.known p).seen.journal)) }
     ensures leaves { IfErr result (LeavesWith (G.has_pass gate.now) G.known pass) }
 {
+    // The caller takes part behind them, as one worker more.
     let threads = terms.files().len() + workers;
     thread::scope(
         thread::scope_env(),
         rt,
         |scope| -> Result<G::Pass, (RunFault, G::Pass)>
-            requires { G.has_pass gate.now pass × ((G.known pass).seen.terms ≡ terms.now) × (plan.now ≡ terms.now.plan) }
+            requires { G.has_pass gate.now pass × ((G.known pass).seen.terms ≡ terms.now) × (plan.now ≡ terms.now.plan) × (length terms.now.files ≤ threads) }
             ensures goes_on { IfOk result (GoesOn (G.has_pass gate.entry.now) G.known pass) }
             ensures finished { IfOk result (λ p. ForTerms terms.entry.now (λ T. Finished T (G.known p).seen.journal)) }
             ensures leaves { IfErr result (LeavesWith (G.has_pass gate.entry.now) G.known pass) }
@@ -164,27 +165,27 @@ fn in_threads<R: Threads + Wait + Sync, G: Gate + Sync>(
                 let (mine, theirs) = gate.split(own);
                 let job = move ||
                     requires { G.has_pass gate.now theirs × ((G.known theirs).seen.terms ≡ terms.now) × (plan.now ≡ terms.now.plan) }
-                { take_part(rt, alloc, terms, plan, gate, theirs, number, least, turns) };
+                {
+                    if let Err((fault, _)) = take_part(
+                        rt, alloc, terms, plan, gate, theirs, number, turns,
+                    ) {
+                        least.note(fault);
+                    }
+                };
                 if scope.spawn(job).is_err() {
                     least.note(RunFault::Thread);
-                    return work(
-                        rt,
-                        alloc,
-                        terms,
-                        plan,
-                        gate,
-                        stop(rt, terms, gate, mine),
-                        turns,
-                    );
+                    let stopped = stop(rt, terms, gate, mine);
+                    return take_part(rt, alloc, terms, plan, gate, stopped, threads, turns);
                 }
                 own = mine;
             }
-            work(rt, alloc, terms, plan, gate, own, turns)
+            take_part(rt, alloc, terms, plan, gate, own, threads, turns)
         },
     )
 }
 
-// What the thread of this number does: the first ones are the providers' intakes, the others are workers.
+// What the thread of this number does: the first ones are the providers' intakes, the others are workers. Where memory is
+// wanting, it stops the gate when it leaves.
 fn take_part<R: Wait, G: Gate>(
     rt: &R,
     alloc: Global,
@@ -193,19 +194,26 @@ fn take_part<R: Wait, G: Gate>(
     gate: &G,
     pass: G::Pass,
     number: usize,
-    least: &LeastFault,
     turns: &Turns,
-)
+) -> Result<G::Pass, (RunFault, G::Pass)>
     requires own { G.has_pass gate.now pass }
     requires terms { (G.known pass).seen.terms ≡ terms.now }
     requires plan { plan.now ≡ terms.now.plan }
+    ensures goes_on { IfOk result (GoesOn (G.has_pass gate.now) G.known pass) }
+    ensures finished { IfOk result (λ p. length terms.now.files ≤ number → ForTerms terms.now (λ T. Finished T (G.known p).seen.journal)) }
+    ensures leaves { IfErr result (LeavesWith (G.has_pass gate.now) G.known pass) }
 {
     let left = if number < terms.files().len() {
         take_in(rt, alloc, terms, gate, pass, number + 1, turns)
     } else {
         work(rt, alloc, terms, plan, gate, pass, turns)
     };
-    if let Err((fault, _)) = left {
-        least.note(fault);
+    match left {
+        Ok(pass) => Ok(pass),
+        Err((RunFault::OutOfMemory, pass)) => Err((
+            RunFault::OutOfMemory,
+            stop(rt, terms, gate, pass),
+        )),
+        Err(left) => Err(left),
     }
 }

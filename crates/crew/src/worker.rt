@@ -6,10 +6,10 @@ ghost use Rattle.journal.specs.Events.{decided};
 ghost use Rattle.journal.specs.Lawful.{Finished};
 ghost use Rattle.claim_terms.specs.Terms.{ForTerms};
 ghost use Rattle.crew.specs.Passes.{GoesOn, LeavesWith};
-ghost use Rattle.crew.specs.Sharing.{IsGathered, IsHanded, IsInWork, IsSettledIn, IsTask, settled_by};
+ghost use Rattle.crew.specs.Sharing.{IsGathered, IsInWork, IsSettledIn, IsTask, settled_by};
 
 use crate::fault::RunFault;
-use crate::stopping::stop;
+use crate::stopping::TRIES;
 use crate::turns::{CALLS_LIMIT, Turn, Turns};
 use claim_gate::{FinishFault, Gate, Job, Taken};
 use claim_terms::{Terms, terms_are_seen};
@@ -45,43 +45,8 @@ struct Settled {
     outcome: Outcome,
 }
 
-/// What comes of an outcome that is handed in.
-enum Handed {
-    /// It is recorded, or was before.
-    In,
-    /// There is no memory for it.
-    Back(Settled),
-}
-
-/// Takes claims and decides them until the journal is finished. Where memory is wanting, the gate is stopped.
+/// Takes claims and decides them until the journal is finished. The claims of a turn are decided while another thread has its own.
 pub(crate) fn work<R: Wait, G: Gate>(
-    rt: &R,
-    alloc: Global,
-    terms: &Terms,
-    plan: &CutPlan,
-    gate: &G,
-    pass: G::Pass,
-    turns: &Turns,
-) -> Result<G::Pass, (RunFault, G::Pass)>
-    requires plan { plan.now ≡ terms.now.plan }
-    requires own { G.has_pass gate.now pass }
-    requires terms { (G.known pass).seen.terms ≡ terms.now }
-    ensures goes_on { IfOk result (GoesOn (G.has_pass gate.now) G.known pass) }
-    ensures finished { IfOk result (λ p. ForTerms terms.now (λ T. Finished T (G.known p).seen.journal)) }
-    ensures leaves { IfErr result (LeavesWith (G.has_pass gate.now) G.known pass) }
-{
-    match work_on(rt, alloc, terms, plan, gate, pass, turns) {
-        Ok(pass) => Ok(pass),
-        Err((RunFault::OutOfMemory, pass)) => Err((
-            RunFault::OutOfMemory,
-            stop(rt, terms, gate, pass),
-        )),
-        Err(left) => Err(left),
-    }
-}
-
-// The same without the stop. The claims of a turn are decided while another thread has its own.
-fn work_on<R: Wait, G: Gate>(
     rt: &R,
     alloc: Global,
     terms: &Terms,
@@ -191,33 +156,12 @@ fn gather<R: Wait, G: Gate>(
     Ok((Gathered::Jobs(jobs), pass))
 }
 
-// Asks the gate what there is to do, and once more where memory is wanting.
-#[tactic(auto, using(crate::proofs::Passes::further, crate::proofs::Passes::leaves_later))]
+// Asks the gate what there is to do, as often as a call is tried.
 fn take<R: Wait, G: Gate>(
     rt: &R,
     terms: &Terms,
     gate: &G,
-    pass: G::Pass,
-) -> Result<(Task, G::Pass), (RunFault, G::Pass)>
-    requires own { G.has_pass gate.now pass }
-    requires terms { (G.known pass).seen.terms ≡ terms.now }
-    ensures goes_on { IfOk result (λ r. GoesOn (G.has_pass gate.now) G.known pass r.1) }
-    ensures task { IfOk result (λ r. IsTask (G.known r.1).seen r.0) }
-    ensures leaves { IfErr result (LeavesWith (G.has_pass gate.now) G.known pass) }
-{
-    match take_once(rt, terms, gate, pass) {
-        Ok(taken) => Ok(taken),
-        Err((RunFault::OutOfMemory, back)) => take_once(rt, terms, gate, back),
-        Err(left) => Err(left),
-    }
-}
-
-// One call.
-fn take_once<R: Wait, G: Gate>(
-    rt: &R,
-    terms: &Terms,
-    gate: &G,
-    pass: G::Pass,
+    mut pass: G::Pass,
 ) -> Result<(Task, G::Pass), (RunFault, G::Pass)>
     requires own { G.has_pass gate.now pass }
     requires terms { (G.known pass).seen.terms ≡ terms.now }
@@ -230,17 +174,20 @@ fn take_once<R: Wait, G: Gate>(
     terms_are_seen(terms);
     claims_have_the_plan_s_fields();
     let _names = terms.plan().names();
-    let (taken, pass) = match gate.take(rt, pass) {
-        Ok(answer) => answer,
-        Err((_, pass)) => return Err((RunFault::Worn, pass)),
-    };
-    match taken {
-        Ok(Taken::Over) => Ok((Task::Over, pass)),
-        Ok(Taken::Work(job)) => Ok((Task::Work(job), pass)),
-        Ok(Taken::NothingReady) => Ok((Task::NothingReady, pass)),
-        Ok(Taken::Stopped) => Err((RunFault::Stopped, pass)),
-        Err(_) => Err((RunFault::OutOfMemory, pass)),
+    'tries: for _ in 0..TRIES {
+        let (taken, after) = match gate.take(rt, pass) {
+            Ok(answer) => answer,
+            Err((_, pass)) => return Err((RunFault::Worn, pass)),
+        };
+        match taken {
+            Ok(Taken::Over) => return Ok((Task::Over, after)),
+            Ok(Taken::Work(job)) => return Ok((Task::Work(job), after)),
+            Ok(Taken::NothingReady) => return Ok((Task::NothingReady, after)),
+            Ok(Taken::Stopped) => return Err((RunFault::Stopped, after)),
+            Err(_) => pass = after,
+        }
     }
+    Err((RunFault::OutOfMemory, pass))
 }
 
 // Decides claims in work, in order.
@@ -287,13 +234,12 @@ fn record_all<R: Wait, G: Gate>(
     Ok(pass)
 }
 
-// Hands an outcome in, and once more where memory is wanting. Another worker may have done so already.
-#[tactic(auto, using(crate::proofs::Passes::further, crate::proofs::Passes::leaves_later))]
+// Hands an outcome in, as often as a call is tried. Another worker may have done so already.
 fn record<R: Wait, G: Gate>(
     rt: &R,
     terms: &Terms,
     gate: &G,
-    pass: G::Pass,
+    mut pass: G::Pass,
     settled: Settled,
 ) -> Result<G::Pass, (RunFault, G::Pass)>
     requires own { G.has_pass gate.now pass }
@@ -303,72 +249,27 @@ fn record<R: Wait, G: Gate>(
     ensures decided { IfOk result (λ p. decided (G.known p).seen.journal settled.job.position ≡ true) }
     ensures leaves { IfErr result (LeavesWith (G.has_pass gate.now) G.known pass) }
 {
-    // Known from here: a job stays one in each later state of the gate.
-    jobs_stay();
-    let (handed, pass) = match hand_in(rt, terms, gate, pass, settled) {
-        Ok(answer) => answer,
-        Err(left) => return Err(left),
-    };
-    match handed {
-        Handed::In => Ok(pass),
-        Handed::Back(settled) => record_again(rt, terms, gate, pass, settled),
-    }
-}
-
-// The second try, which is the last.
-fn record_again<R: Wait, G: Gate>(
-    rt: &R,
-    terms: &Terms,
-    gate: &G,
-    pass: G::Pass,
-    settled: Settled,
-) -> Result<G::Pass, (RunFault, G::Pass)>
-    requires own { G.has_pass gate.now pass }
-    requires terms { (G.known pass).seen.terms ≡ terms.now }
-    requires settled { IsSettledIn (G.known pass).seen settled }
-    ensures goes_on { IfOk result (GoesOn (G.has_pass gate.now) G.known pass) }
-    ensures decided { IfOk result (λ p. decided (G.known p).seen.journal settled.job.position ≡ true) }
-    ensures leaves { IfErr result (LeavesWith (G.has_pass gate.now) G.known pass) }
-{
-    let (handed, pass) = match hand_in(rt, terms, gate, pass, settled) {
-        Ok(answer) => answer,
-        Err(left) => return Err(left),
-    };
-    match handed {
-        Handed::In => Ok(pass),
-        Handed::Back(_) => Err((RunFault::OutOfMemory, pass)),
-    }
-}
-
-// One call. The claim comes back with its outcome where there is no memory.
-fn hand_in<R: Wait, G: Gate>(
-    rt: &R,
-    terms: &Terms,
-    gate: &G,
-    pass: G::Pass,
-    settled: Settled,
-) -> Result<(Handed, G::Pass), (RunFault, G::Pass)>
-    requires own { G.has_pass gate.now pass }
-    requires terms { (G.known pass).seen.terms ≡ terms.now }
-    requires settled { IsSettledIn (G.known pass).seen settled }
-    ensures goes_on { IfOk result (λ r. GoesOn (G.has_pass gate.now) G.known pass r.1) }
-    ensures handed { IfOk result (λ r. IsHanded (G.known r.1).seen settled r.0) }
-    ensures leaves { IfErr result (LeavesWith (G.has_pass gate.now) G.known pass) }
-{
-    // Known from here: the texts have lists of claims, so that what holds for each list says something.
+    // Known from here: the texts have lists of claims, so that what holds for each list says something, and a job stays one in each
+    // later state of the gate.
     terms_are_seen(terms);
-    let Settled { job, outcome } = settled;
-    let (recorded, pass) = match gate.finish(rt, pass, job, outcome) {
-        Ok(answer) => answer,
-        Err((_, pass, _, _)) => return Err((RunFault::Worn, pass)),
-    };
-    match recorded {
-        Ok(_) => Ok((Handed::In, pass)),
-        Err((FinishFault::AlreadyDecided, _, _)) => Ok((Handed::In, pass)),
-        Err((FinishFault::Stopped, _, _)) => Err((RunFault::Stopped, pass)),
-        Err((FinishFault::OutOfMemory, job, outcome)) => Ok((
-            Handed::Back(Settled { job, outcome }),
-            pass,
-        )),
+    jobs_stay();
+    let Settled {
+        mut job,
+        mut outcome,
+    } = settled;
+    'tries: for _ in 0..TRIES {
+        let (recorded, after) = match gate.finish(rt, pass, job, outcome) {
+            Ok(answer) => answer,
+            Err((_, pass, _, _)) => return Err((RunFault::Worn, pass)),
+        };
+        match recorded {
+            Ok(_) => return Ok(after),
+            Err((FinishFault::AlreadyDecided, _, _)) => return Ok(after),
+            Err((FinishFault::Stopped, _, _)) => return Err((RunFault::Stopped, after)),
+            Err((FinishFault::OutOfMemory, again, same)) => {
+                (pass, job, outcome) = (after, again, same);
+            }
+        }
     }
+    Err((RunFault::OutOfMemory, pass))
 }

@@ -1,22 +1,62 @@
-use Rattle.std.proofs.Common.{◌≡◌, ◌≤◌, length, subst, sym, arith}
-use Rattle.journal.specs.Events.{places}
-use Rattle.crew.specs.Sharing.{HasAccepted}
-use Rattle.crew.proofs.Passes.{further_where_told, leaves_later_where_err}
-use Rattle.crew.proofs.Sections.{no_fewer}
+use Rattle.std.proofs.Common.{◌∙◌, arith}
+use Rattle.crew.proofs.Passes.{after_section, section_later, worn_later}
+use Rattle.crew.proofs.Sections.{accepts_on, closed_to, goes_on, no_fewer, stopped_to}
 use Rattle.crew.proofs.intake.offer.Goals as goal
 
-pub offer_again-requires-clause-taken : goal.offer_again-requires-clause-taken
-offer_again-requires-clause-taken g c κs within =
-    let before = (g.G.Gate.known c.args.pass).seen in
+pub tries-preserved : goal.tries-preserved
+tries-preserved g c =
+    let before = (g.G.Gate.known c.tries.pass).seen in
     let after = (g.G.Gate.known c.in-Ok.answer.1).seen in
-    let same = rw c.in-Back.is at c.in-Ok.ensures.offered in
-    let more = no_fewer before.journal after.journal c.args.offer.provider c.in-Ok.ensures.goes_on.seen.journal in
-    subst (λ o. HasAccepted after o.provider o.place) (sym same) (omega (arith, c.requires.taken, more))
+    let on = after_section (g.G.Gate.has_pass c.args.gate.now) g.G.Gate.known c.tries.pass c.in-Ok.answer.1 c.in-Ok.ensures.served in
+    let same = rw c.in-Err-OutOfMemory-default.is at c.in-Ok.ensures.back in
+    let more = no_fewer before.journal after.journal c.args.offer.provider on.seen.journal in (
+      section_later (g.G.Gate.has_pass c.args.gate.now) g.G.Gate.known c.args.pass c.tries.pass c.in-Ok.answer.1 c.tries.invariant.0 c.in-Ok.ensures.served,
+      on.seen.terms ∙ c.tries.invariant.1,
+      same ∙ c.tries.invariant.2,
+      omega (arith, c.tries.invariant.3, more),
+    )
 
-pub returns-in-Back-clause-goes_on : goal.returns-in-Back-clause-goes_on
-returns-in-Back-clause-goes_on g c =
-    further_where_told (g.G.Gate.has_pass c.args.gate.now) g.G.Gate.known c.args.pass c.in-Ok.answer.1 c.offer_again.result c.in-Ok.ensures.goes_on c.offer_again.ensures.goes_on
+pub returns-in-Err-clause-leaves : goal.returns-in-Err-clause-leaves
+returns-in-Err-clause-leaves g c =
+    let worn = rw c.in-Err.is at c.offer.ensures.worn in
+    worn_later (g.G.Gate.has_pass c.args.gate.now) g.G.Gate.known g.G.Gate.is_worn c.args.pass c.tries.pass c.in-Err.pass c.tries.invariant.0 worn
 
-pub returns-in-Back-clause-leaves : goal.returns-in-Back-clause-leaves
-returns-in-Back-clause-leaves g c =
-    leaves_later_where_err (g.G.Gate.has_pass c.args.gate.now) g.G.Gate.known c.args.pass c.in-Ok.answer.1 c.offer_again.result c.in-Ok.ensures.goes_on c.offer_again.ensures.leaves
+pub returns-in-Ok-accepted-clause-goes_on : goal.returns-in-Ok-accepted-clause-goes_on
+returns-in-Ok-accepted-clause-goes_on g c =
+    section_later (g.G.Gate.has_pass c.args.gate.now) g.G.Gate.known c.args.pass c.tries.pass c.in-Ok.answer.1 c.tries.invariant.0 c.in-Ok.ensures.served
+
+pub returns-in-Ok-accepted-clause-next : goal.returns-in-Ok-accepted-clause-next
+returns-in-Ok-accepted-clause-next g c =
+    let reply = rw (c.in-Ok-accepted.is, c.tries.invariant.2) at c.in-Ok.ensures.reply in
+    accepts_on c.args.terms.now c.terms_are_seen.ensures (g.G.Gate.known c.tries.pass) (g.G.Gate.known c.in-Ok.answer.1) c.tries.invariant.1 c.in-Ok.ensures.served.section
+    c.args.offer.provider c.args.offer.place c.in-Ok-accepted.field-0.position reply
+
+pub returns-in-Err-OutOfTurn-default-clause-goes_on : goal.returns-in-Err-OutOfTurn-default-clause-goes_on
+returns-in-Err-OutOfTurn-default-clause-goes_on g c =
+    section_later (g.G.Gate.has_pass c.args.gate.now) g.G.Gate.known c.args.pass c.tries.pass c.in-Ok.answer.1 c.tries.invariant.0 c.in-Ok.ensures.served
+
+pub returns-in-Err-OutOfTurn-default-clause-next : goal.returns-in-Err-OutOfTurn-default-clause-next
+returns-in-Err-OutOfTurn-default-clause-next g c =
+    goes_on c.args.terms.now c.terms_are_seen.ensures (g.G.Gate.known c.tries.pass) (g.G.Gate.known c.in-Ok.answer.1) c.tries.invariant.1 c.in-Ok.ensures.served.section
+    c.args.offer.provider c.args.offer.place c.in-Err-OutOfTurn-default.expected c.in-Ok.answer.0 c.in-Err-OutOfTurn-default.field-0-0 c.in-Err-OutOfTurn-default.field-0-1
+    c.in-Err-OutOfTurn-default.is c.in-Err-OutOfTurn-default.field-0-0-is c.tries.invariant.3 (rw c.tries.invariant.2 at c.in-Ok.ensures.reply)
+
+pub returns-in-Err-Closed-default-clause-goes_on : goal.returns-in-Err-Closed-default-clause-goes_on
+returns-in-Err-Closed-default-clause-goes_on g c =
+    section_later (g.G.Gate.has_pass c.args.gate.now) g.G.Gate.known c.args.pass c.tries.pass c.in-Ok.answer.1 c.tries.invariant.0 c.in-Ok.ensures.served
+
+pub returns-in-Err-Closed-default-clause-next : goal.returns-in-Err-Closed-default-clause-next
+returns-in-Err-Closed-default-clause-next g c =
+    closed_to c.args.terms.now c.terms_are_seen.ensures (g.G.Gate.known c.tries.pass) (g.G.Gate.known c.in-Ok.answer.1) c.tries.invariant.1 c.in-Ok.ensures.served.section
+    c.args.offer.provider c.args.offer.place c.in-Ok.answer.0 c.in-Err-Closed-default.field-0-0 c.in-Err-Closed-default.field-0-1
+    c.in-Err-Closed-default.is c.in-Err-Closed-default.field-0-0-is (rw c.tries.invariant.2 at c.in-Ok.ensures.reply)
+
+pub returns-in-Err-Stopped-default-clause-goes_on : goal.returns-in-Err-Stopped-default-clause-goes_on
+returns-in-Err-Stopped-default-clause-goes_on g c =
+    section_later (g.G.Gate.has_pass c.args.gate.now) g.G.Gate.known c.args.pass c.tries.pass c.in-Ok.answer.1 c.tries.invariant.0 c.in-Ok.ensures.served
+
+pub returns-in-Err-Stopped-default-clause-next : goal.returns-in-Err-Stopped-default-clause-next
+returns-in-Err-Stopped-default-clause-next g c =
+    stopped_to c.args.terms.now c.terms_are_seen.ensures (g.G.Gate.known c.tries.pass) (g.G.Gate.known c.in-Ok.answer.1) c.tries.invariant.1 c.in-Ok.ensures.served.section
+    c.args.offer.provider c.args.offer.place c.in-Ok.answer.0 c.in-Err-Stopped-default.field-0-0 c.in-Err-Stopped-default.field-0-1
+    c.in-Err-Stopped-default.is c.in-Err-Stopped-default.field-0-0-is (rw c.tries.invariant.2 at c.in-Ok.ensures.reply)

@@ -1,27 +1,56 @@
-use Rattle.std.proofs.Common.{◌≡◌, subst, sym}
-use Rattle.std.specs.Prelude.{true, IfOk}
-use Rattle.journal.specs.Events.{decided}
-use Rattle.crew.specs.Sharing.{IsSettledIn}
+use Rattle.std.proofs.Common.{◌∙◌}
+use Rattle.crew.specs.declared.worker.Settled.{Settled}
 use Rattle.crew.proofs.Held.{settled_stays}
-use Rattle.crew.proofs.Passes.{further_where_ok, leaves_later_where_err}
+use Rattle.crew.proofs.Passes.{after_section, leaves_stopped, section_later, worn_later}
+use Rattle.crew.proofs.Sections.{already_seen, recorded_seen, refused_seen}
 use Rattle.crew.proofs.worker.record.Goals as goal
 
-pub record_again-requires-clause-settled : goal.record_again-requires-clause-settled
-record_again-requires-clause-settled g c κs within =
-    let before = (g.G.Gate.known c.args.pass).seen in
+pub tries-preserved : goal.tries-preserved
+tries-preserved g c =
+    let before = (g.G.Gate.known c.tries.pass).seen in
     let after = (g.G.Gate.known c.in-Ok.answer.1).seen in
-    let same = rw c.in-Back.is at c.in-Ok.ensures.handed in
-    subst (λ s. IsSettledIn after s) (sym same) (settled_stays c.jobs_stay.ensures before after c.args.settled c.in-Ok.ensures.goes_on.seen c.requires.settled)
+    let on = after_section (g.G.Gate.has_pass c.args.gate.now) g.G.Gate.known c.tries.pass c.in-Ok.answer.1 c.in-Ok.ensures.served in
+    let same = rw c.in-Err-OutOfMemory-default-default.is at c.in-Ok.ensures.back in
+    let held : Settled = record { job = c.tries.job; outcome = c.tries.outcome } in (
+      section_later (g.G.Gate.has_pass c.args.gate.now) g.G.Gate.known c.args.pass c.tries.pass c.in-Ok.answer.1 c.tries.invariant.0 c.in-Ok.ensures.served,
+      on.seen.terms ∙ c.tries.invariant.1,
+      same.0 ∙ c.tries.invariant.2,
+      same.1 ∙ c.tries.invariant.3,
+      rw (same.0, same.1) (settled_stays c.jobs_stay.ensures before after held on.seen c.tries.invariant.4),
+    )
 
-pub returns-in-Back-clause-decided : goal.returns-in-Back-clause-decided
-returns-in-Back-clause-decided g c =
-    let same = rw c.in-Back.is at c.in-Ok.ensures.handed in
-    subst (λ s. IfOk c.record_again.result (λ p. decided (g.G.Gate.known p).seen.journal s.job.position ≡ true)) same c.record_again.ensures.decided
+pub returns-in-Err-clause-leaves : goal.returns-in-Err-clause-leaves
+returns-in-Err-clause-leaves g c =
+    let worn = rw c.in-Err.is at c.finish.ensures.worn in
+    worn_later (g.G.Gate.has_pass c.args.gate.now) g.G.Gate.known g.G.Gate.is_worn c.args.pass c.tries.pass c.in-Err.pass c.tries.invariant.0 worn
 
-pub returns-in-Back-clause-goes_on : goal.returns-in-Back-clause-goes_on
-returns-in-Back-clause-goes_on g c =
-    further_where_ok (g.G.Gate.has_pass c.args.gate.now) g.G.Gate.known c.args.pass c.in-Ok.answer.1 c.record_again.result c.in-Ok.ensures.goes_on c.record_again.ensures.goes_on
+pub returns-in-Err-Stopped-default-default-clause-leaves : goal.returns-in-Err-Stopped-default-default-clause-leaves
+returns-in-Err-Stopped-default-default-clause-leaves g c =
+    let own = g.G.Gate.has_pass c.args.gate.now in
+    let known = g.G.Gate.known in
+    let after = c.in-Ok.answer.1 in
+    leaves_stopped own known c.args.pass after (section_later own known c.args.pass c.tries.pass after c.tries.invariant.0 c.in-Ok.ensures.served)
+    (refused_seen c.args.terms.now c.terms_are_seen.ensures (known c.tries.pass) (known after) c.tries.invariant.1 c.in-Ok.ensures.served.section
+    c.tries.job.position c.tries.outcome c.in-Ok.answer.0 c.in-Err-Stopped-default-default.field-0-0 c.in-Err-Stopped-default-default.field-0-1
+    c.in-Err-Stopped-default-default.field-0-2 c.in-Err-Stopped-default-default.is c.in-Err-Stopped-default-default.field-0-0-is c.in-Ok.ensures.reply)
 
-pub returns-in-Back-clause-leaves : goal.returns-in-Back-clause-leaves
-returns-in-Back-clause-leaves g c =
-    leaves_later_where_err (g.G.Gate.has_pass c.args.gate.now) g.G.Gate.known c.args.pass c.in-Ok.answer.1 c.record_again.result c.in-Ok.ensures.goes_on c.record_again.ensures.leaves
+pub returns-in-Ok-recorded-clause-goes_on : goal.returns-in-Ok-recorded-clause-goes_on
+returns-in-Ok-recorded-clause-goes_on g c =
+    section_later (g.G.Gate.has_pass c.args.gate.now) g.G.Gate.known c.args.pass c.tries.pass c.in-Ok.answer.1 c.tries.invariant.0 c.in-Ok.ensures.served
+
+pub returns-in-Ok-recorded-clause-decided : goal.returns-in-Ok-recorded-clause-decided
+returns-in-Ok-recorded-clause-decided g c =
+    let reply = rw (c.in-Ok-recorded.is, c.tries.invariant.2) at c.in-Ok.ensures.reply in
+    recorded_seen c.args.terms.now c.terms_are_seen.ensures (g.G.Gate.known c.tries.pass) (g.G.Gate.known c.in-Ok.answer.1) c.tries.invariant.1 c.in-Ok.ensures.served.section
+    c.args.settled.job.position c.tries.outcome reply
+
+pub returns-in-Err-AlreadyDecided-default-default-clause-goes_on : goal.returns-in-Err-AlreadyDecided-default-default-clause-goes_on
+returns-in-Err-AlreadyDecided-default-default-clause-goes_on g c =
+    section_later (g.G.Gate.has_pass c.args.gate.now) g.G.Gate.known c.args.pass c.tries.pass c.in-Ok.answer.1 c.tries.invariant.0 c.in-Ok.ensures.served
+
+pub returns-in-Err-AlreadyDecided-default-default-clause-decided : goal.returns-in-Err-AlreadyDecided-default-default-clause-decided
+returns-in-Err-AlreadyDecided-default-default-clause-decided g c =
+    already_seen c.args.terms.now c.terms_are_seen.ensures (g.G.Gate.known c.tries.pass) (g.G.Gate.known c.in-Ok.answer.1) c.tries.invariant.1 c.in-Ok.ensures.served.section
+    c.args.settled.job.position c.tries.outcome c.in-Ok.answer.0 c.in-Err-AlreadyDecided-default-default.field-0-0 c.in-Err-AlreadyDecided-default-default.field-0-1
+    c.in-Err-AlreadyDecided-default-default.field-0-2 c.in-Err-AlreadyDecided-default-default.is c.in-Err-AlreadyDecided-default-default.field-0-0-is
+    (rw c.tries.invariant.2 at c.in-Ok.ensures.reply)

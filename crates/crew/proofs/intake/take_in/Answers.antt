@@ -1,7 +1,7 @@
 use Rattle.std.proofs.Common.{refl, arith, ◌∙◌}
 use Rattle.crew.proofs.Lefts.{first_offer, left_none, next_claim, next_offer, refused_offer}
 use Rattle.crew.proofs.Passes.{further, further_where_ok, leaves_later_where_err, unchanged}
-use Rattle.crew.proofs.intake.read_on.Goals as goal
+use Rattle.crew.proofs.intake.take_in.Goals as goal
 
 pub loop-next-init : goal.loop-next-init
 loop-next-init g c = (

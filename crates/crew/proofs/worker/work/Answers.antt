@@ -3,7 +3,7 @@ use Rattle.std.proofs.lemmas.List.Elements.{All-same}
 use Rattle.crew.specs.Sharing.{IsSettledIn, settled_by}
 use Rattle.crew.proofs.Held.{all_settled}
 use Rattle.crew.proofs.Passes.{further}
-use Rattle.crew.proofs.worker.work_on.Goals as goal
+use Rattle.crew.proofs.worker.work.Goals as goal
 
 pub loop-preserved : goal.loop-preserved
 loop-preserved g c =

@@ -1,7 +1,7 @@
 use Rattle.std.proofs.Common.{length}
 use Rattle.crew.specs.Passes.{GoesOn}
 use Rattle.crew.proofs.Lefts.{IsAtOffer}
-use Rattle.crew.proofs.intake.read_on.Given as goal
+use Rattle.crew.proofs.intake.take_in.Given as goal
 
 abbrev pub invariant-loop-next : goal.invariant-loop-next
 invariant-loop-next g l =

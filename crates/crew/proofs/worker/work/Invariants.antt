@@ -2,7 +2,7 @@ use Rattle.std.proofs.Common.{◌≡◌}
 use Rattle.std.specs.List.{All}
 use Rattle.crew.specs.Passes.{GoesOn}
 use Rattle.crew.specs.Sharing.{IsSettledIn}
-use Rattle.crew.proofs.worker.work_on.Given as goal
+use Rattle.crew.proofs.worker.work.Given as goal
 
 abbrev pub invariant-loop : goal.invariant-loop
 invariant-loop g l =

@@ -1,0 +1,36 @@
+use Rattle.std.proofs.Common.{◌∙◌, arith}
+use Rattle.crew.proofs.Passes.{after_section, section_later, worn_later}
+use Rattle.crew.proofs.Sections.{ends_past, no_fewer, none_lacks}
+use Rattle.crew.proofs.intake.end.Goals as goal
+
+pub unreachable-requires : goal.unreachable-requires
+unreachable-requires g c =
+    none_lacks c.args.terms.now c.terms_are_seen.ensures (g.G.Gate.known c.tries.pass) (g.G.Gate.known c.in-Ok.answer.1) c.tries.invariant.1 c.in-Ok.ensures.served.section
+    c.args.provider c.args.count c.in-Err-OutOfTurn.field-0-0 c.in-Ok.answer.0 c.in-Err-OutOfTurn.field-0 c.in-Err-OutOfTurn.is (rw c.in-Err-OutOfTurn.is at c.in-Err-OutOfTurn.field-0-is)
+    c.tries.invariant.2 c.in-Ok.ensures.reply
+
+pub tries-preserved : goal.tries-preserved
+tries-preserved g c =
+    let before = (g.G.Gate.known c.tries.pass).seen in
+    let after = (g.G.Gate.known c.in-Ok.answer.1).seen in
+    let on = after_section (g.G.Gate.has_pass c.args.gate.now) g.G.Gate.known c.tries.pass c.in-Ok.answer.1 c.in-Ok.ensures.served in
+    let more = no_fewer before.journal after.journal c.args.provider on.seen.journal in (
+      section_later (g.G.Gate.has_pass c.args.gate.now) g.G.Gate.known c.args.pass c.tries.pass c.in-Ok.answer.1 c.tries.invariant.0 c.in-Ok.ensures.served,
+      on.seen.terms ∙ c.tries.invariant.1,
+      omega (arith, c.tries.invariant.2, more),
+    )
+
+pub returns-in-Err-clause-leaves : goal.returns-in-Err-clause-leaves
+returns-in-Err-clause-leaves g c =
+    let worn = rw c.in-Err.is at c.end.ensures.worn in
+    worn_later (g.G.Gate.has_pass c.args.gate.now) g.G.Gate.known g.G.Gate.is_worn c.args.pass c.tries.pass c.in-Err.pass c.tries.invariant.0 worn
+
+pub returns-in-Ok-ended-clause-goes_on : goal.returns-in-Ok-ended-clause-goes_on
+returns-in-Ok-ended-clause-goes_on g c =
+    section_later (g.G.Gate.has_pass c.args.gate.now) g.G.Gate.known c.args.pass c.tries.pass c.in-Ok.answer.1 c.tries.invariant.0 c.in-Ok.ensures.served
+
+pub returns-in-Ok-ended-clause-past : goal.returns-in-Ok-ended-clause-past
+returns-in-Ok-ended-clause-past g c =
+    let reply = rw c.in-Ok-ended.is at c.in-Ok.ensures.reply in
+    ends_past c.args.terms.now c.terms_are_seen.ensures (g.G.Gate.known c.tries.pass) (g.G.Gate.known c.in-Ok.answer.1) c.tries.invariant.1 c.in-Ok.ensures.served.section
+    c.args.provider c.args.count reply
