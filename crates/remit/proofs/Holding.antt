@@ -126,3 +126,23 @@ on-ok (Err e) P ok holds = absurd (false≢true (sym ok))
 -- nothing is written
 pub writes-none : (a : At) → Writes a a [] (Ok tt)
 writes-none a = (λ start text h. subst (λ t. Holds start t a) (sym (append-nil text)) h, refl)
+
+-- a text is put in the place of what is gathered, where nothing is
+pub replaced : (contents : Option (List ℕ)) (failed : Bool) (old new : RecordWriter) (text : List ℕ) → gathered_of old ≡ [] → new.written ≡ old.written
+    → gathered_of new ≡ text → IsReady new → Writes (at contents failed old) (at contents failed new) text (Ok tt)
+replaced contents failed old new text none same gathered ready =
+    gathers contents failed old new text same (λ before. (gathered ∙ ap (λ t. t ++ text) (sym none), ready))
+
+-- a text is handed over behind what is gathered, and nothing is gathered then
+pub text-handed : (a b c d e : At) (text : List ℕ) → Writes a b [] (Ok tt) → Writes b c text (Ok tt) → Writes c d [] (Ok tt) → Writes d e [] (Ok tt)
+    → Writes a e text (Ok tt)
+text-handed a b c d e text first put second last =
+    subst (λ t. Writes a e t (Ok tt)) (append-nil text)
+    (writes-then a b e [] (text ++ []) tt (Ok tt) first (writes-then b c e text [] tt (Ok tt) put (writes-then c d e [] [] tt (Ok tt) second last)))
+
+-- the writer fails while the text is handed over
+pub text-refused : (a b c d : At) (text : List ℕ) (fault : WriteFault) → Writes a b [] (Ok tt) → Writes b c text (Ok tt) → Writes c d [] (Err fault)
+    → Writes a d text (Err fault)
+text-refused a b c d text fault first put second =
+    subst (λ t. Writes a d t (Err fault)) (append-nil text)
+    (writes-then a b d [] (text ++ []) tt (Err fault) first (writes-then b c d text [] tt (Err fault) put second))

@@ -1,5 +1,5 @@
 //! The texts of the files' records, each made by a thread of its own.
-ghost use Rattle.std.specs.Prelude.{◌≡◌, ◌<◌, ◌≤◌, ◌+◌, ◌-◌, [], get_or, length, IfOk};
+ghost use Rattle.std.specs.Prelude.{◌≡◌, ◌<◌, ◌≤◌, ◌+◌, ◌-◌, ◌^◌, [], get_or, length, IfOk};
 ghost use Rattle.claim_terms.specs.Terms.{TermsParts};
 ghost use Rattle.remit.specs.Looked.{looked_up};
 ghost use Rattle.remit.specs.Parts.{AreParts, MayBePart};
@@ -29,7 +29,7 @@ pub fn parts_by_threads<R: Threads + Sync>(
         alloc,
         providers,
         &|place: usize| -> Result<Vec<u8>, AllocError>
-            requires { place < length terms.now.files }
+            requires { (place + 1 < 2 ^ 64) × (place < length terms.now.files) }
             ensures { MayBePart (looked_up decisions.entry.now) (place + 1) terms.entry.now.plan.names (get_or terms.entry.now.files ((place + 1) - 1) []) result }
         { part_of(alloc, terms, decisions, place + 1) },
     )

@@ -134,7 +134,7 @@ pub(crate) fn write_journal_by_threads<R: Threads + Sync, W: Write>(
     report.write_header(out)?;
     report.write_parts(parts, out)?;
     report.write_total(journal, out)?;
-    report.writer.hand_over(out)
+    report.finish(out)
 }
 
 /// A report that is being written.
