@@ -84,25 +84,25 @@ abbrev pub WritesPart : {E : Type 0} → Deciding → Result (Vec ℕ) E → At 
 WritesPart decided part old new result =
     (provider : ℕ) (names : List InputData) (text : List ℕ) → MayBePart decided provider names text part → WritesFile decided provider names text old new result
 
-pub parts-next : {E : Type 0} (decided : Deciding) (parts left rest : List (Result (Vec ℕ) E)) (part : Result (Vec ℕ) E) (place : ℕ) (old new newer : At)
-    → part ∷ rest ≡ left → EachSoFar decided parts place left old new → WritesPart decided part new newer (Ok tt)
-    → EachSoFar decided parts (place + 1) rest old newer
-parts-next decided parts left rest part place old new newer steps so_far writes names texts are =
+pub parts-next : {E : Type 0} (decided : Deciding) (parts left rest : List (Result (Vec ℕ) E)) (part : Result (Vec ℕ) E) (place next : ℕ) (old new newer : At)
+    → next ≡ place + 1 → left ≡ part ∷ rest → EachSoFar decided parts place left old new → WritesPart decided part new newer (Ok tt)
+    → EachSoFar decided parts next rest old newer
+parts-next decided parts left rest part place next old new newer one steps so_far writes names texts are =
     let before = so_far names texts are in
-    let all = subst (AreParts decided names texts place) (sym steps) before.left in
-    record {
+    let all = subst (AreParts decided names texts place) steps before.left in
+    subst (λ n. PartsSoFar decided names texts n rest old newer) (sym one) (record {
       files =
           files-next decided names texts place old new newer (within-texts decided names texts place part rest all) before.files
           (writes (place + 1) names (get_or texts ((place + 1) - 1) []) (head-part decided names texts place part rest all));
       left = tail-parts decided names texts place part rest all;
-    }
+    })
 
 pub parts-refused : {E : Type 0} (decided : Deciding) (parts left rest : List (Result (Vec ℕ) E)) (part : Result (Vec ℕ) E) (place : ℕ) (old new newer : At) (fault : WriteFault)
-    → part ∷ rest ≡ left → EachSoFar decided parts place left old new → WritesPart decided part new newer (Err fault)
+    → left ≡ part ∷ rest → EachSoFar decided parts place left old new → WritesPart decided part new newer (Err fault)
     → (names : List InputData) (texts : List (List ℕ)) → AreParts decided names texts 0 parts → WritesFiles decided names texts old newer (Err fault)
 parts-refused decided parts left rest part place old new newer fault steps so_far writes names texts are =
     let before = so_far names texts are in
-    let all = subst (AreParts decided names texts place) (sym steps) before.left in
+    let all = subst (AreParts decided names texts place) steps before.left in
     files-refused decided names texts place old new newer fault (within-texts decided names texts place part rest all) before.files
     (writes (place + 1) names (get_or texts ((place + 1) - 1) []) (head-part decided names texts place part rest all))
 
