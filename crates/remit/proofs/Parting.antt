@@ -106,11 +106,10 @@ parts-refused decided parts left rest part place old new newer fault steps so_fa
     files-refused decided names texts place old new newer fault (within-texts decided names texts place part rest all) before.files
     (writes (place + 1) names (get_or texts ((place + 1) - 1) []) (head-part decided names texts place part rest all))
 
-pub parts-done : {E : Type 0} (decided : Deciding) (parts left : List (Result (Vec ℕ) E)) (place : ℕ) (old new : At) → left ≡ []
+pub parts-done : {E : Type 0} (decided : Deciding) (parts left : List (Result (Vec ℕ) E)) (place : ℕ) (old new : At) → length left ≡ 0
     → EachSoFar decided parts place left old new → (names : List InputData) (texts : List (List ℕ)) → AreParts decided names texts 0 parts
     → WritesFiles decided names texts old new (Ok tt)
 parts-done decided parts left place old new none so_far names texts are =
     let before = so_far names texts are in
     let all = before.left.count in
-    let size = ap length none in
-    files-done decided names texts place old new (omega (arith, all, size)) before.files
+    files-done decided names texts place old new (omega (arith, all, none)) before.files

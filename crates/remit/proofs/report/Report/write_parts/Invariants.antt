@@ -1,5 +1,5 @@
 use Rattle.std.proofs.Common.{◌≡◌, length}
-use Rattle.std.specs.Vec.Iter.{into_iter_items}
+use Rattle.std.specs.Vec.Iter.{into_iter_items, into_iter_len}
 use Rattle.fixpoint.specs.Out.{has_failed, writer_of}
 use Rattle.remit.specs.Held.{at}
 use Rattle.remit.specs.Looked.{looked_up}
@@ -13,5 +13,6 @@ invariant-loop-part g l =
     record {
       so_far : EachSoFar (looked_up l.initial.self.decisions.now) l.fn.parts.items (length l.yielded) (into_iter_items l.part-iterator)
           (at (contents (writer_of l.initial.out)) (has_failed l.initial.out) l.initial.self.writer) (at (contents (writer_of l.out)) (has_failed l.out) l.self.writer);
+      left : into_iter_len l.part-iterator ≡ length (into_iter_items l.part-iterator);
       decisions : l.self.decisions ≡ l.initial.self.decisions;
     }
