@@ -7,13 +7,15 @@ use Rattle.dtable.specs.declared.table.InputData.{InputData}
 use Rattle.intake_csv.specs.Rows.{AreRowsOf}
 use Rattle.intake_csv.specs.declared.rows.Row.{Row}
 use Rattle.remit.specs.Held.{At, Holds, IsNoMemory, Writes, at, gathered_of}
+use Rattle.remit.specs.Looked.{looked_up}
 use Rattle.remit.specs.Parts.{AreParts, IsPart, MayBePart}
 use Rattle.remit.specs.Rows.{Begin, Deciding, IsRead, IsReadFirst, WritesFile, WritesFiles, rows_text}
+use Rattle.remit.specs.declared.decisions.Decisions.{Decisions}
 use Rattle.remit.specs.declared.fault.WriteFault.{WriteFault}
 use Rattle.remit.specs.declared.record_writer.RecordWriter.{RecordWriter}
 use Rattle.remit.proofs.Filing.{FilesSoFar, files-done, files-next, files-none, files-refused}
 use Rattle.remit.proofs.Holding.{writes-then}
-use Rattle.remit.proofs.Reporting.{IsFresh, written-whole}
+use Rattle.remit.proofs.Reporting.{IsFresh, files-same, written-whole}
 
 -- the rows of a file, written whole to a writer that had got nothing
 pub part-made : (decided : Deciding) (provider : ℕ) (names : List InputData) (text : List ℕ) (a b e : At) (bytes : List ℕ) (first last : Result (Unit {0}) WriteFault)
@@ -113,3 +115,11 @@ parts-done decided parts left place old new none so_far names texts are =
     let before = so_far names texts are in
     let all = before.left.count in
     files-done decided names texts place old new (omega (arith, all, none)) before.files
+
+-- what is written of files' parts by the same decisions is written of the files
+pub files-of-parts : {E : Type 0} (old new : Decisions) (names : List InputData) (texts : List (List ℕ)) (parts : List (Result (Vec ℕ) E)) (a b : At)
+    (result : Result (Unit {0}) WriteFault) → new ≡ old → AreParts (looked_up old) names texts 0 parts
+    → ((names : List InputData) (texts : List (List ℕ)) → AreParts (looked_up new) names texts 0 parts → WritesFiles (looked_up new) names texts a b result)
+    → WritesFiles (looked_up old) names texts a b result
+files-of-parts old new names texts parts a b result kept are writes =
+    files-same old new names texts a b result kept (writes names texts (subst (λ d. AreParts (looked_up d) names texts 0 parts) (sym kept) are))
