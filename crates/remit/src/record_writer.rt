@@ -64,7 +64,11 @@ impl RecordWriter {
     }
 
     /// Hands over what is gathered and a text behind it, and gives the memory of the text back.
-    pub fn write_text<W: Write>(&mut self, text: Vec<u8>, out: &mut Out<W>) -> Result<(), WriteFault>
+    pub fn write_text<W: Write>(
+        &mut self,
+        text: Vec<u8>,
+        out: &mut Out<W>,
+    ) -> Result<(), WriteFault>
         ensures { Writes (at (W.contents (writer_of out.old)) (has_failed out.old) self.old)
             (at (W.contents (writer_of out.new)) (has_failed out.new) self.new) text.items result }
     {

@@ -1,6 +1,7 @@
 use Rattle.std.proofs.Common.{◌≡◌, Err, Ok, ap, arith, length, ◌∙◌}
 use Rattle.std.proofs.lemmas.List.{length-map}
 use Rattle.std.proofs.lemmas.Result.{err_from_is_err_and}
+use Rattle.fixpoint.specs.Out.{writer_of}
 use Rattle.remit.specs.Held.{at}
 use Rattle.remit.proofs.Parting.{files-of-parts}
 use Rattle.remit.proofs.Reporting.{ends-memory, ends-ok, ends-refused, ends-written, files-refused, header-refused, total-refused}
@@ -131,7 +132,7 @@ returns-clause-memory g c =
     files-of-parts c.in-Ok.decisions c.write_header.new.self.decisions.now c.args.terms.now.plan.names c.args.terms.now.files c.in-Ok-parts_by_threads.parts.items
     (at _ _ c.write_header.new.self.writer) (at _ _ c.write_parts.new.self.writer) (Ok tt) kept c.in-Ok-parts_by_threads.ensures
     c.in_ok-write_parts.ensures.writes in
-    ends-memory (at _ _ c.new-report.result.writer) (at _ _ c.write_total.new.self.writer) (at _ _ c.finish.new.self.writer) c.finish.result
+    ends-memory (at (g.W.Write.contents (writer_of c.args.out.now)) _ c.new-report.result.writer) (at _ _ c.write_total.new.self.writer) (at _ _ c.finish.new.self.writer) c.finish.result
     (c.in_ok-write_total.ensures.1 ∙ written.2.1 ∙ c.in_ok-write_header.ensures.writes.1) c.finish.ensures.writes
 
 pub returns-clause-ok_failed : goal.returns-clause-ok_failed
@@ -142,5 +143,5 @@ returns-clause-ok_failed g c =
     files-of-parts c.in-Ok.decisions c.write_header.new.self.decisions.now c.args.terms.now.plan.names c.args.terms.now.files c.in-Ok-parts_by_threads.parts.items
     (at _ _ c.write_header.new.self.writer) (at _ _ c.write_parts.new.self.writer) (Ok tt) kept c.in-Ok-parts_by_threads.ensures
     c.in_ok-write_parts.ensures.writes in
-    ends-ok (at _ _ c.new-report.result.writer) (at _ _ c.write_total.new.self.writer) (at _ _ c.finish.new.self.writer) c.finish.result
+    ends-ok (at (g.W.Write.contents (writer_of c.args.out.now)) _ c.new-report.result.writer) (at _ _ c.write_total.new.self.writer) (at _ _ c.finish.new.self.writer) c.finish.result
     (c.in_ok-write_total.ensures.1 ∙ written.2.1 ∙ c.in_ok-write_header.ensures.writes.1) c.finish.ensures.writes

@@ -13,10 +13,10 @@ loop-part-init g c =
     let same = ap length gives.0 in
     let long = gives.1 in
     record {
-  so_far = parts-none (looked_up c.args.self.now.decisions.now) c.args.parts.items (into_iter_items c.into_iter-part-iterator.result) _ c.into_iter-part-iterator.ensures.into_iter_gives.0;
-  left = omega (arith, size, same, long);
-  decisions = refl;
-}
+      so_far = parts-none (looked_up c.args.self.now.decisions.now) c.args.parts.items (into_iter_items c.into_iter-part-iterator.result) _ c.into_iter-part-iterator.ensures.into_iter_gives.0;
+      left = omega (arith, size, same, long);
+      decisions = refl;
+    }
 
 pub loop-part-preserved : goal.loop-part-preserved
 loop-part-preserved g c =
