@@ -11,7 +11,7 @@ use crate::stop::Stop;
 use claim_terms::{Terms, terms_are_seen};
 use dtable::read_plan;
 use fixpoint::Out;
-use remit::write_report;
+use remit::write_report_by_threads;
 use std::io::Write;
 use std::sync::Wait;
 use std::thread::Threads;
@@ -80,7 +80,7 @@ fn write_remittance<R: Threads + Wait + Sync + AllocGlobal, W: Write>(
     // Known from here: the texts have lists of claims, so that what holds for each list says something.
     terms_are_seen(terms);
     let batch = crew::run(rt, rt.alloc(), terms, workers)?;
-    write_report(rt.alloc(), terms, &batch, out)?;
+    write_report_by_threads(rt, rt.alloc(), terms, &batch, out)?;
     Ok(())
 }
 

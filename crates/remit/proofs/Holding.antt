@@ -1,9 +1,10 @@
 -- What a writer has got of a text that is written in pieces.
-use Rattle.std.proofs.Common.{◌≡◌, ◌≢◌, ℕ, ◌+◌, Bool, true, false, [], ◌++◌, List, length, take, drop, Option, Result, Ok, Err, OnOk, is_err, sym, ap, subst, refl, ◌∙◌, append_assoc, append-nil, take-append-drop, length-append, length-take-le, arith}
+use Rattle.std.proofs.Common.{◌≡◌, ◌≢◌, ℕ, ◌+◌, Bool, true, false, [], ◌++◌, List, length, take, drop, Option, Result, Ok, Err, OnOk, is_err, sym, ap, ap₂, subst, refl, ◌∙◌, append_assoc, append-nil, take-append-drop, length-append, length-take-le, arith}
+use Rattle.std.specs.Global.{Vec}
 use Rattle.std.specs.Io.KnownBytes.{Appends}
 use Rattle.std.proofs.KnownBytes.{Appends-trans}
 use Rattle.std.proofs.lemmas.Bool.{false≢true}
-use Rattle.csv.specs.Writing.{fields_written, has_written, row_text, writer_setup}
+use Rattle.csv.specs.Writing.{fields_written, has_written, row_text, writer_pending, writer_setup, writer_under}
 use Rattle.csv.specs.declared.writer.QuoteStyle.TheVariants.{NonNumeric}
 use Rattle.fixpoint.specs.Out.{PutsFront}
 use Rattle.remit.specs.Report.{record_text, report_style}
@@ -126,3 +127,25 @@ on-ok (Err e) P ok holds = absurd (false≢true (sym ok))
 -- nothing is written
 pub writes-none : (a : At) → Writes a a [] (Ok tt)
 writes-none a = (λ start text h. subst (λ t. Holds start t a) (sym (append-nil text)) h, refl)
+
+-- a text is put in the place of what is gathered, where nothing is
+pub replaced : (contents : Option (List ℕ)) (failed : Bool) (old new : RecordWriter) (text : Vec ℕ) (bytes : List ℕ) → text.items ≡ bytes → gathered_of old ≡ []
+    → new.written ≡ old.written → writer_under new.gathered ≡ text → writer_pending new.gathered ≡ [] → IsReady new
+    → Writes (at contents failed old) (at contents failed new) bytes (Ok tt)
+replaced contents failed old new text bytes is none same under pending ready =
+    gathers contents failed old new bytes same
+    (λ before. (ap₂ (λ v p. v.items ++ p) under pending ∙ append-nil text.items ∙ is ∙ ap (λ t. t ++ bytes) (sym none), ready))
+
+-- a text is handed over behind what is gathered, and nothing is gathered then
+pub text-handed : (a b c d e : At) (text : List ℕ) → Writes a b [] (Ok tt) → Writes b c text (Ok tt) → Writes c d [] (Ok tt) → Writes d e [] (Ok tt)
+    → Writes a e text (Ok tt)
+text-handed a b c d e text first put second last =
+    subst (λ t. Writes a e t (Ok tt)) (append-nil text)
+    (writes-then a b e [] (text ++ []) tt (Ok tt) first (writes-then b c e text [] tt (Ok tt) put (writes-then c d e [] [] tt (Ok tt) second last)))
+
+-- the writer fails while the text is handed over
+pub text-refused : (a b c d : At) (text : List ℕ) (fault : WriteFault) → Writes a b [] (Ok tt) → Writes b c text (Ok tt) → Writes c d [] (Err fault)
+    → Writes a d text (Err fault)
+text-refused a b c d text fault first put second =
+    subst (λ t. Writes a d t (Err fault)) (append-nil text)
+    (writes-then a b d [] (text ++ []) tt (Err fault) first (writes-then b c d text [] tt (Err fault) put second))

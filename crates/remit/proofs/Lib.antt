@@ -5,3 +5,4 @@ pub mod Passing
 pub mod Filing
 pub mod Looking
 pub mod Reporting
+pub mod Parting

@@ -1,6 +1,6 @@
 //! The report of a run: what was decided of each record of the providers' files, as CSV (RFC 4180).
 //!
-//! `write_report` writes the report of a finished run. Rows come from `intake_csv`, the finished run and its journal from
+//! `write_report` writes the report of a finished run, and `write_report_by_threads` the same by a thread a file. Rows come from `intake_csv`, the finished run and its journal from
 //! `claim_gate`, and `csv` writes the records.
 //!
 //! Begin with `specs/Records.antt` and `specs/Report.antt`, which say what the report is, and `specs/Writing.antt`, which
@@ -10,6 +10,7 @@
 mod amount;
 mod decisions;
 mod fault;
+mod parts;
 mod record;
 mod record_writer;
 mod report;
@@ -19,4 +20,4 @@ mod tests;
 mod texts;
 
 pub use fault::{WriteCause, WriteFault};
-pub use report::write_report;
+pub use report::{write_report, write_report_by_threads};

@@ -63,6 +63,22 @@ impl RecordWriter {
         self.hand_over(out)
     }
 
+    /// Hands over what is gathered and a text behind it, and gives the memory of the text back.
+    pub fn write_text<W: Write>(
+        &mut self,
+        text: Vec<u8>,
+        out: &mut Out<W>,
+    ) -> Result<(), WriteFault>
+        ensures { Writes (at (W.contents (writer_of out.old)) (has_failed out.old) self.old)
+            (at (W.contents (writer_of out.new)) (has_failed out.new) self.new) text.items result }
+    {
+        self.hand_over(out)?;
+        self.gathered = writer_into(text);
+        self.hand_over(out)?;
+        self.gathered = writer_into(Vec::new(self.alloc));
+        Ok(())
+    }
+
     /// Hands over what is gathered.
     pub fn hand_over<W: Write>(&mut self, out: &mut Out<W>) -> Result<(), WriteFault>
         ensures writes { Writes (at (W.contents (writer_of out.old)) (has_failed out.old) self.old)

@@ -1,11 +1,13 @@
 //! The report of a run: one record for each record of the providers' files, and one with the totals.
 ghost use Rattle.std.specs.Prelude.{◌≡◌, ◌≤◌, ◌-◌, ℕ, [], ◌∷◌, List, get_or, length, IfErr, OnOk, true};
 ghost use Rattle.dtable.specs.Plan.{PlanParts};
+ghost use Rattle.dtable.specs.declared.table.InputData.{InputData};
 ghost use Rattle.fixpoint.specs.Out.{has_failed, writer_of};
 ghost use Rattle.journal.specs.Events.{accepted};
 ghost use Rattle.claim_terms.specs.Terms.{IsFinishedOver};
-ghost use Rattle.remit.specs.Held.{Writes, at};
+ghost use Rattle.remit.specs.Held.{IsReady, Writes, at, gathered_of};
 ghost use Rattle.remit.specs.Looked.{looked_up};
+ghost use Rattle.remit.specs.Parts.{AreParts, MayBePart};
 ghost use Rattle.remit.specs.Records.{header_fields, record_of, total_fields};
 ghost use Rattle.remit.specs.Report.{record_text};
 ghost use Rattle.remit.specs.Rows.{WritesFile, WritesFiles, WritesLeft};
@@ -14,6 +16,7 @@ ghost use Rattle.remit.specs.declared.fault.WriteCause.TheVariants.{Device, OutO
 
 use crate::decisions::Decisions;
 use crate::fault::{WriteCause, WriteFault};
+use crate::parts::parts_by_threads;
 use crate::record::{fill_header, fill_row, fill_total};
 use crate::record_writer::RecordWriter;
 use crate::sums::Sums;
@@ -25,6 +28,7 @@ use intake_csv::{Row, Rows};
 use journal::Event;
 use std::alloc::{AllocError, Global};
 use std::io::Write;
+use std::thread::Threads;
 
 /// Writes the report of a finished run as CSV (RFC 4180): a header, a record for each record of the providers' files,
 /// provider by provider and in the order of the file, and a record with the totals. Commas part the fields, and CRLF ends
@@ -49,6 +53,29 @@ pub fn write_report<W: Write>(
     write_journal(alloc, terms, batch.journal(), out)
 }
 
+/// Writes the same report by threads: the records of each file become text by a thread of their own, and the caller's
+/// thread hands the texts to the writer in the order of the files. Until it is written the text of each file is held,
+/// so that this takes as much memory as the report is long.
+///
+/// What holds of the bytes, of a refusal and of the writer holds as for `write_report`.
+#[tactic(auto, using(crate::proofs::Reporting::finished_written, crate::proofs::Reporting::finished_refused))]
+pub fn write_report_by_threads<R: Threads + Sync, W: Write>(
+    rt: &R,
+    alloc: Global,
+    terms: &Terms,
+    batch: &Batch,
+    out: &mut Out<W>,
+) -> Result<(), WriteFault>
+    requires same_terms { batch.now.terms ≡ terms.now }
+    ensures written { OnOk result (WritesReport terms.now batch.now.journal (W.contents (writer_of out.old)) (W.contents (writer_of out.new))) }
+    ensures refused { IfErr result (λ fault. WritesFront terms.now batch.now.journal fault.written (W.contents (writer_of out.old)) (W.contents (writer_of out.new))) }
+    ensures device { IfErr result (λ fault. fault.cause ≡ Device → has_failed out.new ≡ true) }
+    ensures memory { IfErr result (λ fault. fault.cause ≡ OutOfMemory → has_failed out.new ≡ has_failed out.old) }
+    ensures ok_failed { OnOk result (has_failed out.new ≡ has_failed out.old) }
+{
+    write_journal_by_threads(rt, alloc, terms, batch.journal(), out)
+}
+
 // Writes the report of a journal that is finished over these terms; of any other journal nothing is said.
 pub(crate) fn write_journal<W: Write>(
     alloc: Global,
@@ -69,29 +96,73 @@ pub(crate) fn write_journal<W: Write>(
             cause: WriteCause::OutOfMemory,
         });
     };
-    let mut report = Report {
-        alloc,
-        decisions,
-        line: ByteRecord::new(alloc),
-        writer: RecordWriter::new(alloc),
-    };
+    let mut report = Report::new(alloc, &decisions);
     report.write_header(out)?;
     report.write_files(terms, files.len(), out)?;
     report.write_total(journal, out)?;
     report.writer.hand_over(out)
 }
 
-// A report that is being written.
-#[derive(Drop)]
-struct Report<'j> {
+// The same by threads: the records of each file become text by a thread of their own.
+pub(crate) fn write_journal_by_threads<R: Threads + Sync, W: Write>(
+    rt: &R,
     alloc: Global,
-    decisions: Decisions<'j>,
+    terms: &Terms,
+    journal: &[Event],
+    out: &mut Out<W>,
+) -> Result<(), WriteFault>
+    ensures written { OnOk result (IsFinishedOver terms.now journal.now → WritesReport terms.now journal.now (W.contents (writer_of out.old)) (W.contents (writer_of out.new))) }
+    ensures refused { IfErr result (λ fault. IsFinishedOver terms.now journal.now → WritesFront terms.now journal.now fault.written (W.contents (writer_of out.old)) (W.contents (writer_of out.new))) }
+    ensures device { IfErr result (λ fault. fault.cause ≡ Device → has_failed out.new ≡ true) }
+    ensures memory { IfErr result (λ fault. fault.cause ≡ OutOfMemory → has_failed out.new ≡ has_failed out.old) }
+    ensures ok_failed { OnOk result (has_failed out.new ≡ has_failed out.old) }
+{
+    let files = terms.files();
+    let Ok(decisions) = Decisions::new(alloc, files.len(), journal) else {
+        return Err(WriteFault {
+            written: 0,
+            cause: WriteCause::OutOfMemory,
+        });
+    };
+    let Ok(parts) = parts_by_threads(rt, alloc, terms, &decisions, files.len()) else {
+        return Err(WriteFault {
+            written: 0,
+            cause: WriteCause::OutOfMemory,
+        });
+    };
+    let mut report = Report::new(alloc, &decisions);
+    report.write_header(out)?;
+    report.write_parts(parts, out)?;
+    report.write_total(journal, out)?;
+    report.finish(out)
+}
+
+/// A report that is being written.
+#[derive(Drop)]
+pub struct Report<'d, 'j> {
+    alloc: Global,
+    decisions: &'d Decisions<'j>,
     // The record that is filled last, in memory that each record uses again.
     line: ByteRecord,
     writer: RecordWriter,
 }
 
-impl<'j> Report<'j> {
+impl<'d, 'j> Report<'d, 'j> {
+    /// A report by these decisions, of which nothing is written.
+    pub fn new(alloc: Global, decisions: &'d Decisions<'j>) -> Report<'d, 'j>
+        ensures decisions { result.decisions.now ≡ decisions.now }
+        ensures gathered { gathered_of result.writer ≡ [] }
+        ensures written { result.writer.written ≡ 0 }
+        ensures ready { IsReady result.writer }
+    {
+        Report {
+            alloc,
+            decisions,
+            line: ByteRecord::new(alloc),
+            writer: RecordWriter::new(alloc),
+        }
+    }
+
     fn write_header<W: Write>(&mut self, out: &mut Out<W>) -> Result<(), WriteFault>
         ensures writes { Writes (at (W.contents (writer_of out.old)) (has_failed out.old) self.old.writer)
             (at (W.contents (writer_of out.new)) (has_failed out.new) self.new.writer) (record_text header_fields) result }
@@ -111,7 +182,7 @@ impl<'j> Report<'j> {
         out: &mut Out<W>,
     ) -> Result<(), WriteFault>
         requires { providers ≡ length terms.now.files }
-        ensures writes { WritesFiles (looked_up self.old.decisions) terms.now.plan.names terms.now.files
+        ensures writes { WritesFiles (looked_up self.old.decisions.now) terms.now.plan.names terms.now.files
             (at (W.contents (writer_of out.old)) (has_failed out.old) self.old.writer)
             (at (W.contents (writer_of out.new)) (has_failed out.new) self.new.writer) result }
         ensures decisions { self.new.decisions ≡ self.old.decisions }
@@ -122,8 +193,44 @@ impl<'j> Report<'j> {
         Ok(())
     }
 
-    // Writes the rows of a provider's file.
-    fn write_file<W: Write>(
+    // Writes the parts of all files, each of which is the text of a file's rows.
+    fn write_parts<W: Write>(
+        &mut self,
+        parts: Vec<Result<Vec<u8>, AllocError>>,
+        out: &mut Out<W>,
+    ) -> Result<(), WriteFault>
+        ensures writes { (names : List InputData) (texts : List (List ℕ)) → AreParts (looked_up self.old.decisions.now) names texts 0 parts.items
+            → WritesFiles (looked_up self.old.decisions.now) names texts
+            (at (W.contents (writer_of out.old)) (has_failed out.old) self.old.writer)
+            (at (W.contents (writer_of out.new)) (has_failed out.new) self.new.writer) result }
+        ensures decisions { self.new.decisions ≡ self.old.decisions }
+    {
+        for part in parts {
+            self.write_part(part, out)?;
+        }
+        Ok(())
+    }
+
+    // Writes the text of a file's rows, and gives its memory back; no memory, where that was wanting for it.
+    fn write_part<W: Write>(
+        &mut self,
+        part: Result<Vec<u8>, AllocError>,
+        out: &mut Out<W>,
+    ) -> Result<(), WriteFault>
+        ensures writes { (provider : ℕ) (names : List InputData) (text : List ℕ) → MayBePart (looked_up self.old.decisions.now) provider names text part
+            → WritesFile (looked_up self.old.decisions.now) provider names text
+            (at (W.contents (writer_of out.old)) (has_failed out.old) self.old.writer)
+            (at (W.contents (writer_of out.new)) (has_failed out.new) self.new.writer) result }
+        ensures decisions { self.new.decisions ≡ self.old.decisions }
+    {
+        match part {
+            Ok(text) => self.writer.write_text(text, out),
+            Err(AllocError) => Err(self.writer.no_memory()),
+        }
+    }
+
+    /// Writes the rows of a provider's file.
+    pub fn write_file<W: Write>(
         &mut self,
         terms: &Terms,
         provider: usize,
@@ -131,7 +238,7 @@ impl<'j> Report<'j> {
     ) -> Result<(), WriteFault>
         requires least { 1 ≤ provider }
         requires most { provider ≤ length terms.now.files }
-        ensures writes { WritesFile (looked_up self.old.decisions) provider terms.now.plan.names (get_or terms.now.files (provider - 1) [])
+        ensures writes { WritesFile (looked_up self.old.decisions.now) provider terms.now.plan.names (get_or terms.now.files (provider - 1) [])
             (at (W.contents (writer_of out.old)) (has_failed out.old) self.old.writer)
             (at (W.contents (writer_of out.new)) (has_failed out.new) self.new.writer) result }
         ensures decisions { self.new.decisions ≡ self.old.decisions }
@@ -152,7 +259,7 @@ impl<'j> Report<'j> {
         out: &mut Out<W>,
     ) -> Result<(), WriteFault>
         requires { 1 ≤ provider }
-        ensures writes { WritesLeft (looked_up self.old.decisions) provider rows.entry
+        ensures writes { WritesLeft (looked_up self.old.decisions.now) provider rows.entry
             (at (W.contents (writer_of out.old)) (has_failed out.old) self.old.writer)
             (at (W.contents (writer_of out.new)) (has_failed out.new) self.new.writer) result }
         ensures decisions { self.new.decisions ≡ self.old.decisions }
@@ -181,13 +288,22 @@ impl<'j> Report<'j> {
         requires { 1 ≤ provider }
         ensures writes { Writes (at (W.contents (writer_of out.old)) (has_failed out.old) self.old.writer)
             (at (W.contents (writer_of out.new)) (has_failed out.new) self.new.writer)
-            (record_text (record_of (looked_up self.old.decisions) provider row.now)) result }
+            (record_text (record_of (looked_up self.old.decisions.now) provider row.now)) result }
         ensures decisions { self.new.decisions ≡ self.old.decisions }
     {
-        if fill_row(self.alloc, &mut self.line, &self.decisions, provider, row).is_err() {
+        if fill_row(self.alloc, &mut self.line, self.decisions, provider, row).is_err() {
             return Err(self.writer.no_memory());
         }
         self.writer.write(&self.line, out)
+    }
+
+    /// Hands over what is gathered.
+    pub fn finish<W: Write>(&mut self, out: &mut Out<W>) -> Result<(), WriteFault>
+        ensures writes { Writes (at (W.contents (writer_of out.old)) (has_failed out.old) self.old.writer)
+            (at (W.contents (writer_of out.new)) (has_failed out.new) self.new.writer) [] result }
+        ensures all { OnOk result (gathered_of self.new.writer ≡ []) }
+    {
+        self.writer.hand_over(out)
     }
 
     fn write_total<W: Write>(
@@ -195,7 +311,7 @@ impl<'j> Report<'j> {
         journal: &[Event],
         out: &mut Out<W>,
     ) -> Result<(), WriteFault>
-        requires { length self.old.decisions.decided.items ≡ accepted journal.now }
+        requires { length self.old.decisions.now.decided.items ≡ accepted journal.now }
         ensures { Writes (at (W.contents (writer_of out.old)) (has_failed out.old) self.old.writer)
             (at (W.contents (writer_of out.new)) (has_failed out.new) self.new.writer) (record_text (total_fields journal.now)) result }
     {

@@ -17,6 +17,7 @@ use worked_examples::{
 };
 
 mod lengths;
+mod threads;
 
 const HEADER_RECORD: &str =
     "provider,record,claim,member,status,reason,allowed,ded,copay,coins,share,paid,remarks\r\n";

@@ -7,10 +7,10 @@ returns-in_err-batch-clause-stopped g c =
     let stopped = err_from_is_err_and c.from_residual.result c.from_residual.ensures.1 in
     rw stopped.1 (stops_by_run c.args.terms.now c.args.workers _ _ _ c.in_err-batch.ensures.refused stopped.2)
 
-pub returns-in_err-write_report-clause-stopped : goal.returns-in_err-write_report-clause-stopped
-returns-in_err-write_report-clause-stopped g c =
-    let stopped = err_from_is_err_and c.from_residual-in_err-write_report.result c.from_residual-in_err-write_report.ensures.1 in
-    rw stopped.1 (stops_by_write c.args.terms.now _ c.in_ok-batch.ensures.finished _ _ c.args.workers _ _ c.terms_are_seen.ensures c.in_err-write_report.ensures.refused stopped.2)
+pub returns-in_err-write_report_by_threads-clause-stopped : goal.returns-in_err-write_report_by_threads-clause-stopped
+returns-in_err-write_report_by_threads-clause-stopped g c =
+    let stopped = err_from_is_err_and c.from_residual-in_err-write_report_by_threads.result c.from_residual-in_err-write_report_by_threads.ensures.1 in
+    rw stopped.1 (stops_by_write c.args.terms.now _ c.in_ok-batch.ensures.finished _ _ c.args.workers _ _ c.terms_are_seen.ensures c.in_err-write_report_by_threads.ensures.refused stopped.2)
 
 pub returns-clause-written : goal.returns-clause-written
-returns-clause-written g c = writes_remittance c.args.terms.now _ c.in_ok-batch.ensures.finished _ _ c.in_ok-write_report.ensures.written
+returns-clause-written g c = writes_remittance c.args.terms.now _ c.in_ok-batch.ensures.finished _ _ c.in_ok-write_report_by_threads.ensures.written

@@ -1,4 +1,4 @@
-use Rattle.std.proofs.Common.{◌≡◌, Err, ap, arith, length}
+use Rattle.std.proofs.Common.{◌≡◌, Err, Ok, ap, arith, length, ◌∙◌}
 use Rattle.std.proofs.lemmas.List.{length-map}
 use Rattle.std.proofs.lemmas.Result.{err_from_is_err_and}
 use Rattle.remit.specs.Held.{at}
@@ -11,10 +11,10 @@ returns-in_default-clause-refused g c = λ finished. none-written c.args.terms.n
 pub returns-in_err-write_header-clause-refused : goal.returns-in_err-write_header-clause-refused
 returns-in_err-write_header-clause-refused g c =
     let p = err_from_is_err_and c.from_residual.result c.from_residual.ensures.1 in
-    let made = c.new-3.ensures in
+    let made = c.new-report.ensures in
     rw (p.1, p.2)
     (λ finished.
-    header-refused c.args.terms.now c.args.journal.now (at _ _ c.new-3.result) (at _ _ c.write_header.new.self.writer) c.in_err-write_header.field-0.0
+    header-refused c.args.terms.now c.args.journal.now (at _ _ c.new-report.result.writer) (at _ _ c.write_header.new.self.writer) c.in_err-write_header.field-0.0
     (record { gathered = made.gathered; written = made.written; ready = made.ready }) c.in_err-write_header.ensures.writes)
 
 pub write_files-requires : goal.write_files-requires
@@ -26,56 +26,62 @@ write_files-requires g c =
 pub returns-in_err-write_files-clause-refused : goal.returns-in_err-write_files-clause-refused
 returns-in_err-write_files-clause-refused g c =
     let p = err_from_is_err_and c.from_residual-in_err-write_files.result c.from_residual-in_err-write_files.ensures.1 in
-    let made = c.new-3.ensures in
+    let made = c.new-report.ensures in
+    let kept = ap (λ d. d.now) c.in_ok-write_header.ensures.decisions ∙ made.decisions in
     let files = c.files-files.ensures.files in
     let size = length-map c.files-files.result.now (λ f. f.now) in
     let long = ap length files in
     let as_many : length c.files-files.result.now ≡ length c.args.terms.now.files = omega (arith, size, long) in
     rw (p.1, p.2)
     (λ finished.
-    files-refused c.args.terms.now c.args.journal.now (length c.files-files.result.now) c.in-Ok.decisions (at _ _ c.new-3.result)
+    files-refused c.args.terms.now c.args.journal.now (length c.files-files.result.now) c.in-Ok.decisions (at _ _ c.new-report.result.writer)
     (at _ _ c.write_header.new.self.writer) (at _ _ c.write_files.new.self.writer) c.in_err-write_files.field-0.0 finished c.in-Ok.ensures as_many
     (record { gathered = made.gathered; written = made.written; ready = made.ready }) c.in_ok-write_header.ensures.writes
-    (files-same c.in-Ok.decisions c.write_header.new.self.decisions c.args.terms.now.plan.names c.args.terms.now.files
-    (at _ _ c.write_header.new.self.writer) (at _ _ c.write_files.new.self.writer) (Err c.in_err-write_files.field-0.0) c.in_ok-write_header.ensures.decisions
-    c.in_err-write_files.ensures.writes))
+    (files-same c.in-Ok.decisions c.write_header.new.self.decisions.now c.args.terms.now.plan.names c.args.terms.now.files
+    (at _ _ c.write_header.new.self.writer) (at _ _ c.write_files.new.self.writer) (Err c.in_err-write_files.field-0.0) kept c.in_err-write_files.ensures.writes))
 
 pub returns-in_err-write_total-clause-refused : goal.returns-in_err-write_total-clause-refused
 returns-in_err-write_total-clause-refused g c =
     let p = err_from_is_err_and c.from_residual-in_err-write_total.result c.from_residual-in_err-write_total.ensures.1 in
-    let made = c.new-3.ensures in
+    let made = c.new-report.ensures in
+    let kept = ap (λ d. d.now) c.in_ok-write_header.ensures.decisions ∙ made.decisions in
     let files = c.files-files.ensures.files in
     let size = length-map c.files-files.result.now (λ f. f.now) in
     let long = ap length files in
     let as_many : length c.files-files.result.now ≡ length c.args.terms.now.files = omega (arith, size, long) in
     rw (p.1, p.2)
     (λ finished.
-    total-refused c.args.terms.now c.args.journal.now (length c.files-files.result.now) c.in-Ok.decisions (at _ _ c.new-3.result)
+    total-refused c.args.terms.now c.args.journal.now (length c.files-files.result.now) c.in-Ok.decisions (at _ _ c.new-report.result.writer)
     (at _ _ c.write_header.new.self.writer) (at _ _ c.write_files.new.self.writer) (at _ _ c.write_total.new.self.writer) c.in_err-write_total.field-0.0 finished
     c.in-Ok.ensures as_many (record { gathered = made.gathered; written = made.written; ready = made.ready }) c.in_ok-write_header.ensures.writes
-    (rw c.in_ok-write_header.ensures.decisions at c.in_ok-write_files.ensures.writes) c.in_err-write_total.ensures)
+    (files-same c.in-Ok.decisions c.write_header.new.self.decisions.now c.args.terms.now.plan.names c.args.terms.now.files
+    (at _ _ c.write_header.new.self.writer) (at _ _ c.write_files.new.self.writer) (Ok tt) kept c.in_ok-write_files.ensures.writes) c.in_err-write_total.ensures)
 
 pub returns-clause-written : goal.returns-clause-written
 returns-clause-written g c =
-    let made = c.new-3.ensures in
+    let made = c.new-report.ensures in
+    let kept = ap (λ d. d.now) c.in_ok-write_header.ensures.decisions ∙ made.decisions in
     let files = c.files-files.ensures.files in
     let size = length-map c.files-files.result.now (λ f. f.now) in
     let long = ap length files in
     let as_many : length c.files-files.result.now ≡ length c.args.terms.now.files = omega (arith, size, long) in
-    ends-written c.args.terms.now c.args.journal.now (length c.files-files.result.now) c.in-Ok.decisions (at _ _ c.new-3.result) (at _ _ c.write_header.new.self.writer)
+    ends-written c.args.terms.now c.args.journal.now (length c.files-files.result.now) c.in-Ok.decisions (at _ _ c.new-report.result.writer) (at _ _ c.write_header.new.self.writer)
     (at _ _ c.write_files.new.self.writer) (at _ _ c.write_total.new.self.writer) (at _ _ c.hand_over.new.self) c.hand_over.result c.in-Ok.ensures as_many
     (record { gathered = made.gathered; written = made.written; ready = made.ready }) c.in_ok-write_header.ensures.writes
-    (rw c.in_ok-write_header.ensures.decisions at c.in_ok-write_files.ensures.writes) c.in_ok-write_total.ensures c.hand_over.ensures.writes
+    (files-same c.in-Ok.decisions c.write_header.new.self.decisions.now c.args.terms.now.plan.names c.args.terms.now.files
+    (at _ _ c.write_header.new.self.writer) (at _ _ c.write_files.new.self.writer) (Ok tt) kept c.in_ok-write_files.ensures.writes) c.in_ok-write_total.ensures c.hand_over.ensures.writes
     c.hand_over.ensures.all
 
 pub returns-clause-refused : goal.returns-clause-refused
 returns-clause-refused g c =
-    let made = c.new-3.ensures in
+    let made = c.new-report.ensures in
+    let kept = ap (λ d. d.now) c.in_ok-write_header.ensures.decisions ∙ made.decisions in
     let files = c.files-files.ensures.files in
     let size = length-map c.files-files.result.now (λ f. f.now) in
     let long = ap length files in
     let as_many : length c.files-files.result.now ≡ length c.args.terms.now.files = omega (arith, size, long) in
-    ends-refused c.args.terms.now c.args.journal.now (length c.files-files.result.now) c.in-Ok.decisions (at _ _ c.new-3.result) (at _ _ c.write_header.new.self.writer)
+    ends-refused c.args.terms.now c.args.journal.now (length c.files-files.result.now) c.in-Ok.decisions (at _ _ c.new-report.result.writer) (at _ _ c.write_header.new.self.writer)
     (at _ _ c.write_files.new.self.writer) (at _ _ c.write_total.new.self.writer) (at _ _ c.hand_over.new.self) c.hand_over.result c.in-Ok.ensures as_many
     (record { gathered = made.gathered; written = made.written; ready = made.ready }) c.in_ok-write_header.ensures.writes
-    (rw c.in_ok-write_header.ensures.decisions at c.in_ok-write_files.ensures.writes) c.in_ok-write_total.ensures c.hand_over.ensures.writes
+    (files-same c.in-Ok.decisions c.write_header.new.self.decisions.now c.args.terms.now.plan.names c.args.terms.now.files
+    (at _ _ c.write_header.new.self.writer) (at _ _ c.write_files.new.self.writer) (Ok tt) kept c.in_ok-write_files.ensures.writes) c.in_ok-write_total.ensures c.hand_over.ensures.writes

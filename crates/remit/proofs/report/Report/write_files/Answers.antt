@@ -6,12 +6,12 @@ use Rattle.remit.proofs.Filing.{files-next, files-none, files-refused}
 use Rattle.remit.proofs.report.Report.write_files.Goals as goal
 
 pub loop-place-init : goal.loop-place-init
-loop-place-init g c = record { so_far = files-none (looked_up c.args.self.now.decisions) c.args.terms.now.plan.names c.args.terms.now.files _; decisions = refl }
+loop-place-init g c = record { so_far = files-none (looked_up c.args.self.now.decisions.now) c.args.terms.now.plan.names c.args.terms.now.files _; decisions = refl }
 
 pub returns-in_err-write_file-clause-writes : goal.returns-in_err-write_file-clause-writes
 returns-in_err-write_file-clause-writes g c =
     let p = err_from_is_err_and c.from_residual.result c.from_residual.ensures.1 in
-    let decided = looked_up c.args.self.now.decisions in
+    let decided = looked_up c.args.self.now.decisions.now in
     let so_far = c.loop-place.invariant in
     rw (p.1, p.2)
     (files-refused decided c.args.terms.now.plan.names c.args.terms.now.files c.loop-place.place _ (at _ _ c.loop-place.self.writer) (at _ _ c.write_file.new.self.writer) c.in_err-write_file.field-0.0 (subst (λ n. c.loop-place.place < n) c.requires c.loop-place-test.true) so_far.so_far
@@ -19,7 +19,7 @@ returns-in_err-write_file-clause-writes g c =
 
 pub loop-place-preserved : goal.loop-place-preserved
 loop-place-preserved g c =
-    let decided = looked_up c.args.self.now.decisions in
+    let decided = looked_up c.args.self.now.decisions.now in
     let so_far = c.loop-place.invariant in
     record {
       so_far =

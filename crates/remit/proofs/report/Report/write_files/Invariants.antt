@@ -10,7 +10,7 @@ abbrev pub invariant-loop-place : goal.invariant-loop-place
 invariant-loop-place g l =
     let contents = g.W.Write.contents in
     record {
-      so_far : FilesSoFar (looked_up l.initial.self.decisions) l.terms.plan.names l.terms.files l.place
+      so_far : FilesSoFar (looked_up l.initial.self.decisions.now) l.terms.plan.names l.terms.files l.place
           (at (contents (writer_of l.initial.out)) (has_failed l.initial.out) l.initial.self.writer) (at (contents (writer_of l.out)) (has_failed l.out) l.self.writer);
       decisions : l.self.decisions ≡ l.initial.self.decisions;
     }

@@ -10,7 +10,7 @@ abbrev pub invariant-loop-next : goal.invariant-loop-next
 invariant-loop-next g l =
     let contents = g.W.Write.contents in
     record {
-      so_far : RowsSoFar (looked_up l.initial.self.decisions) l.provider l.initial.rows l.rows
+      so_far : RowsSoFar (looked_up l.initial.self.decisions.now) l.provider l.initial.rows l.rows
           (at (contents (writer_of l.initial.out)) (has_failed l.initial.out) l.initial.self.writer) (at (contents (writer_of l.out)) (has_failed l.out) l.self.writer);
       decisions : l.self.decisions ≡ l.initial.self.decisions;
     }
