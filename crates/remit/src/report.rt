@@ -130,6 +130,13 @@ pub(crate) fn write_journal_by_threads<R: Threads + Sync, W: Write>(
             cause: WriteCause::OutOfMemory,
         });
     };
+    // Memory that is wanting for one text is told before the first byte is written.
+    if parts.as_slice().iter().any(|part| part.is_err()) {
+        return Err(WriteFault {
+            written: 0,
+            cause: WriteCause::OutOfMemory,
+        });
+    }
     let mut report = Report::new(alloc, &decisions);
     report.write_header(out)?;
     report.write_parts(parts, out)?;
