@@ -7,7 +7,7 @@ use Rattle.crew.specs.declared.worker.Gathered.{Gathered}
 use Rattle.crew.specs.declared.worker.Gathered.TheVariants as gathered
 use Rattle.crew.specs.declared.worker.Settled.{Settled}
 use Rattle.settlement.specs.Claim.{IsClaimOf}
-use Rattle.journal.specs.Events.{IsJob, closed, decided, ended, places, taken}
+use Rattle.journal.specs.Events.{IsJob, closed, ended, places, taken}
 use Rattle.journal.specs.Lawful.{Finished}
 use Rattle.claim_terms.specs.Terms.{ForTerms}
 use Rattle.claim_gate.specs.Parts.{GateParts}

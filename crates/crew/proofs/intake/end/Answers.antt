@@ -1,6 +1,6 @@
 use Rattle.std.proofs.Common.{◌∙◌, arith}
 use Rattle.crew.proofs.Passes.{after_section, section_later, worn_later}
-use Rattle.crew.proofs.Sections.{ends_past, no_fewer, none_lacks}
+use Rattle.crew.proofs.Sections.{already_past, ends_past, no_fewer, none_lacks}
 use Rattle.crew.proofs.intake.end.Goals as goal
 
 pub unreachable-requires : goal.unreachable-requires
@@ -34,3 +34,22 @@ returns-in-Ok-ended-clause-past g c =
     let reply = rw c.in-Ok-ended.is at c.in-Ok.ensures.reply in
     ends_past c.args.terms.now c.terms_are_seen.ensures (g.G.Gate.known c.tries.pass) (g.G.Gate.known c.in-Ok.answer.1) c.tries.invariant.1 c.in-Ok.ensures.served.section
     c.args.provider c.args.count reply
+
+pub returns-in-Err-AlreadyEnded-clause-goes_on : goal.returns-in-Err-AlreadyEnded-clause-goes_on
+returns-in-Err-AlreadyEnded-clause-goes_on g c =
+    section_later (g.G.Gate.has_pass c.args.gate.now) g.G.Gate.known c.args.pass c.tries.pass c.in-Ok.answer.1 c.tries.invariant.0 c.in-Ok.ensures.served
+
+pub returns-in-Err-AlreadyEnded-clause-past : goal.returns-in-Err-AlreadyEnded-clause-past
+returns-in-Err-AlreadyEnded-clause-past g c =
+    let told = rw c.in-Err-AlreadyEnded.is at c.in-Err-AlreadyEnded.field-0-is in
+    let reply = rw (c.in-Err-AlreadyEnded.is, told) at c.in-Ok.ensures.reply in
+    already_past c.args.terms.now c.terms_are_seen.ensures (g.G.Gate.known c.tries.pass) (g.G.Gate.known c.in-Ok.answer.1) c.tries.invariant.1 c.in-Ok.ensures.served.section
+    c.args.provider c.args.count reply
+
+pub returns-in-Err-Closed-clause-goes_on : goal.returns-in-Err-Closed-clause-goes_on
+returns-in-Err-Closed-clause-goes_on g c =
+    section_later (g.G.Gate.has_pass c.args.gate.now) g.G.Gate.known c.args.pass c.tries.pass c.in-Ok.answer.1 c.tries.invariant.0 c.in-Ok.ensures.served
+
+pub returns-in-Err-Stopped-clause-goes_on : goal.returns-in-Err-Stopped-clause-goes_on
+returns-in-Err-Stopped-clause-goes_on g c =
+    section_later (g.G.Gate.has_pass c.args.gate.now) g.G.Gate.known c.args.pass c.tries.pass c.in-Ok.answer.1 c.tries.invariant.0 c.in-Ok.ensures.served
