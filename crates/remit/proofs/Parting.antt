@@ -1,18 +1,16 @@
 -- The texts of the files' records, made apart from each other, and what a writer has got of them.
-use Rattle.std.proofs.Common.{◌≡◌, ◌<◌, ◌≤◌, ◌+◌, ◌-◌, ℕ, suc, Bool, true, false, Option, Some, Result, Ok, Err, OnOk, is_err, List, [], ◌∷◌, ◌++◌, length, get_or, ap, ap₂, sym, subst, ◌∙◌, refl, append-nil, arith}
+use Rattle.std.proofs.Common.{◌≡◌, ◌<◌, ◌+◌, ◌-◌, ℕ, suc, false, Some, Result, Ok, Err, OnOk, is_err, List, [], ◌∷◌, ◌++◌, length, get_or, sym, subst, ◌∙◌, append-nil, arith}
 use Rattle.std.specs.Global.{Vec}
 use Rattle.std.specs.Io.KnownBytes.{Appends}
 use Rattle.std.proofs.lemmas.Bool.{false≢true}
 use Rattle.dtable.specs.declared.table.InputData.{InputData}
-use Rattle.intake_csv.specs.Rows.{AreRowsOf}
 use Rattle.intake_csv.specs.declared.rows.Row.{Row}
-use Rattle.remit.specs.Held.{At, Holds, IsNoMemory, Writes, at, gathered_of}
+use Rattle.remit.specs.Held.{At, Writes, gathered_of}
 use Rattle.remit.specs.Looked.{looked_up}
 use Rattle.remit.specs.Parts.{AreParts, IsPart, MayBePart}
-use Rattle.remit.specs.Rows.{Begin, Deciding, IsRead, IsReadFirst, WritesFile, WritesFiles, rows_text}
+use Rattle.remit.specs.Rows.{Deciding, IsRead, IsReadFirst, WritesFile, WritesFiles, rows_text}
 use Rattle.remit.specs.declared.decisions.Decisions.{Decisions}
 use Rattle.remit.specs.declared.fault.WriteFault.{WriteFault}
-use Rattle.remit.specs.declared.record_writer.RecordWriter.{RecordWriter}
 use Rattle.remit.proofs.Filing.{FilesSoFar, files-done, files-next, files-none, files-refused}
 use Rattle.remit.proofs.Holding.{writes-then}
 use Rattle.remit.proofs.Reporting.{IsFresh, files-same, written-whole}
