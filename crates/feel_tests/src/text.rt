@@ -3,27 +3,32 @@ ghost use Rattle.std.specs.Prelude.{◌≡◌, ◌≤◌, [], length, IfOk, IfSo
 ghost use Rattle.feel_tests.specs.TextBytes.{IsText};
 ghost use Rattle.feel_tests.specs.Limits.{text_limit_bytes};
 
+use smallvec::SmallVec;
 use std::alloc::{AllocError, Global};
 use std::marker::Model;
+use std::str;
 
 /// The most bytes that a text has.
 pub const TEXT_LIMIT_BYTES: usize = 256;
 
-/// A text, compared by its bytes.
+/// The most bytes of a text that takes no memory of its own.
+const INLINE_BYTES: usize = 24;
+
+/// A text, compared by its bytes. A short one stands in its place, a longer one in memory of its own.
 #[derive(Debug, Drop)]
 pub struct Text {
-    text: String,
+    bytes: SmallVec<u8, INLINE_BYTES>,
 }
 
 impl Model for Text {
-    ghost use Rattle.std.specs.Prelude.{List, ℕ, string_bytes};
-    ghost use Rattle.feel_tests.specs.TextBytes.{IsShort};
+    ghost use Rattle.std.specs.Prelude.{List, ℕ};
+    ghost use Rattle.feel_tests.specs.TextBytes.{IsText};
 
     ghost Value = { List ℕ };
 
-    ghost view = { λ t. string_bytes t.text };
+    ghost view = { λ t. t.bytes.items };
 
-    ghost invariant = { λ t. IsShort (string_bytes t.text) };
+    ghost invariant = { λ t. IsText t.bytes.items };
 }
 
 impl Text {
@@ -33,7 +38,7 @@ impl Text {
         ensures { IfOk result (λ made. made ≡ text.now) }
     {
         Ok(Text {
-            text: String::from_str(alloc, text)?,
+            bytes: SmallVec::from_slice(alloc, text.as_bytes())?,
         })
     }
 
@@ -43,13 +48,12 @@ impl Text {
         ensures some { OnSome result (IsText bytes.items) }
         ensures none { IfNone result (¬ IsText bytes.items) }
     {
-        if bytes.len() > TEXT_LIMIT_BYTES {
+        if bytes.len() > TEXT_LIMIT_BYTES || str::from_utf8(bytes.as_slice()).is_err() {
             return None;
         }
-        match String::from_utf8(bytes) {
-            Ok(text) => Some(Text { text }),
-            Err(_) => None,
-        }
+        let mut bytes = SmallVec::from_vec(bytes);
+        bytes.shrink_to_fit();
+        Some(Text { bytes })
     }
 
     /// Becomes a copy of another text, in the memory that it has where that is enough. Where memory is refused it is empty.
@@ -57,9 +61,8 @@ impl Text {
         ensures copied { OnOk result (self.new ≡ other.now) }
         ensures emptied { OnErr result (self.new ≡ []) }
     {
-        self.text.clear();
-        self.text.push_str(other.as_str())?;
-        Ok(())
+        self.bytes.clear();
+        self.bytes.extend_from_slice(other.as_str().as_bytes())
     }
 
     /// The text as a slice.
@@ -67,7 +70,8 @@ impl Text {
         ensures value { result.now ≡ self.now }
         ensures fits { length self.now ≤ text_limit_bytes }
     {
-        self.text.as_str()
+        // SAFETY: they are UTF-8, as the invariant says.
+        unsafe { str::from_utf8_unchecked(self.bytes.as_slice()) }
     }
 
     /// Its bytes.
@@ -75,7 +79,7 @@ impl Text {
         ensures value { result.now ≡ self.now }
         ensures fits { length self.now ≤ text_limit_bytes }
     {
-        self.text.as_bytes()
+        self.bytes.as_slice()
     }
 }
 
@@ -89,6 +93,6 @@ impl PartialEq for Text {
     ghost laws = { Cmp.partial_equiv_from_equiv nat_list_eq_equiv };
 
     fn eq(&self, other: &Text) -> bool {
-        self.text == other.text
+        self.bytes.as_slice() == other.bytes.as_slice()
     }
 }
