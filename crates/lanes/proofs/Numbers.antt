@@ -1,4 +1,4 @@
--- Members by number, and one more.
+-- Names by number, and one more.
 use Rattle.std.proofs.Common.{◌≡◌, ◌<◌, ◌≤◌, ◌+◌, ℕ, zero, suc, Bool, false, cond, eqb, List, [], ◌∷◌, ◌++◌, length, map, Option, Some, None, refl, sym, ap, ◌∙◌, inl, inr, arith, Global}
 use Rattle.std.specs.List.{range_with_len, slice_get}
 use Rattle.std.specs.Option.{IfNone, IfSome}
@@ -15,32 +15,32 @@ use Rattle.std.proofs.lemmas.List.FromFn.{get_or-map-range_with_len, length-map-
 use Rattle.std.proofs.lemmas.Map.Text.{btree_map_updates_text}
 use Rattle.std.proofs.lemmas.Option.{none-some, same_Some, slice_get-get_or, slice_get_within}
 use Rattle.std.proofs.lemmas.Slice.Eq.{bytes_eq-Decides}
-use Rattle.lanes.specs.Members.{AreDistinct, AreNumbered, EachBelow, IsAbsent, members_of, named}
+use Rattle.lanes.specs.Names.{AreDistinct, AreNumbered, EachBelow, IsAbsent, names_of, named}
 
 -- who has a number
-members-at : {Y : Type 0} (numbers : BTreeMap (String Y) ℕ) (k : ℕ) → k < length numbers.entries → slice_get (members_of numbers) k ≡ Some (named numbers.entries k)
-members-at numbers k within =
+names-at : {Y : Type 0} (numbers : BTreeMap (String Y) ℕ) (k : ℕ) → k < length numbers.entries → slice_get (names_of numbers) k ≡ Some (named numbers.entries k)
+names-at numbers k within =
     let n = length numbers.entries in
     let size = length-map-range_with_len (named numbers.entries) 0 n in
-    slice_get-get_or (members_of numbers) k [] (omega (arith, size, within)) ∙ ap Some (get_or-map-range_with_len (named numbers.entries) 0 n k k [] within (omega arith))
+    slice_get-get_or (names_of numbers) k [] (omega (arith, size, within)) ∙ ap Some (get_or-map-range_with_len (named numbers.entries) 0 n k k [] within (omega arith))
 
 -- a number that somebody has
-members-within : {Y : Type 0} (numbers : BTreeMap (String Y) ℕ) (k : ℕ) (m : List ℕ) → slice_get (members_of numbers) k ≡ Some m → k < length numbers.entries
-members-within numbers k m there =
+names-within : {Y : Type 0} (numbers : BTreeMap (String Y) ℕ) (k : ℕ) (m : List ℕ) → slice_get (names_of numbers) k ≡ Some m → k < length numbers.entries
+names-within numbers k m there =
     let size = length-map-range_with_len (named numbers.entries) 0 (length numbers.entries) in
-    omega (arith, size, slice_get_within (members_of numbers) k m there)
+    omega (arith, size, slice_get_within (names_of numbers) k m there)
 
-members-named : {Y : Type 0} (numbers : BTreeMap (String Y) ℕ) (k : ℕ) (m : List ℕ) → slice_get (members_of numbers) k ≡ Some m → named numbers.entries k ≡ m
-members-named numbers k m there = same_Some _ _ (sym (members-at numbers k (members-within numbers k m there)) ∙ there)
+names-named : {Y : Type 0} (numbers : BTreeMap (String Y) ℕ) (k : ℕ) (m : List ℕ) → slice_get (names_of numbers) k ≡ Some m → named numbers.entries k ≡ m
+names-named numbers k m there = same_Some _ _ (sym (names-at numbers k (names-within numbers k m there)) ∙ there)
 
 -- a member who has a number is found by it
-members-found : {Y : Type 0} (numbers : BTreeMap (String Y) ℕ) (k : ℕ) (m : List ℕ) → AreNumbered numbers → slice_get (members_of numbers) k ≡ Some m
+names-found : {Y : Type 0} (numbers : BTreeMap (String Y) ℕ) (k : ℕ) (m : List ℕ) → AreNumbered numbers → slice_get (names_of numbers) k ≡ Some m
     → get_by_text numbers m ≡ Some k
-members-found numbers k m h there =
-    ap (get_by_text numbers) (sym (members-named numbers k m there)) ∙ h.numbers_each k (members-within numbers k m there)
+names-found numbers k m h there =
+    ap (get_by_text numbers) (sym (names-named numbers k m there)) ∙ h.numbers_each k (names-within numbers k m there)
 
-pub distinct-members : {Y : Type 0} (numbers : BTreeMap (String Y) ℕ) → AreNumbered numbers → AreDistinct (members_of numbers)
-distinct-members numbers h i j m one two = same_Some i j (sym (members-found numbers i m h one) ∙ members-found numbers j m h two)
+pub distinct-names : {Y : Type 0} (numbers : BTreeMap (String Y) ℕ) → AreNumbered numbers → AreDistinct (names_of numbers)
+distinct-names numbers h i j m one two = same_Some i j (sym (names-found numbers i m h one) ∙ names-found numbers j m h two)
 
 -- what is found is below the numbers' limit
 lookup-below : {Y : Type 0} (test : String Y → Bool) (limit : ℕ) (es : List (String Y × ℕ)) (k : ℕ) → EachBelow limit es → lookup test es ≡ Some k → k < limit
@@ -54,16 +54,16 @@ lookup-below test limit (e ∷ es) k below there = elim (cases_Bool (test e.0)) 
 
 -- the number that is found is the member's
 pub found-member : {Y : Type 0} (numbers : BTreeMap (String Y) ℕ) (m : List ℕ) (k : ℕ) → AreNumbered numbers → get_by_text numbers m ≡ Some k
-    → slice_get (members_of numbers) k ≡ Some m
+    → slice_get (names_of numbers) k ≡ Some m
 found-member numbers m k h there =
-    members-at numbers k (lookup-below _ (length numbers.entries) numbers.entries k h.below there) ∙ ap Some (h.names m k there)
+    names-at numbers k (lookup-below _ (length numbers.entries) numbers.entries k h.below there) ∙ ap Some (h.names m k there)
 
 -- a member who isn't found is none of them
-pub absent-member : {Y : Type 0} (numbers : BTreeMap (String Y) ℕ) (m : List ℕ) → AreNumbered numbers → get_by_text numbers m ≡ None → IsAbsent (members_of numbers) m
-absent-member numbers m h none k there = none-some k (sym none ∙ members-found numbers k m h there)
+pub absent-member : {Y : Type 0} (numbers : BTreeMap (String Y) ℕ) (m : List ℕ) → AreNumbered numbers → get_by_text numbers m ≡ None → IsAbsent (names_of numbers) m
+absent-member numbers m h none k there = none-some k (sym none ∙ names-found numbers k m h there)
 
 -- and the other way round
-pub not-found : {Y : Type 0} (numbers : BTreeMap (String Y) ℕ) (m : List ℕ) → AreNumbered numbers → IsAbsent (members_of numbers) m → get_by_text numbers m ≡ None
+pub not-found : {Y : Type 0} (numbers : BTreeMap (String Y) ℕ) (m : List ℕ) → AreNumbered numbers → IsAbsent (names_of numbers) m → get_by_text numbers m ≡ None
 not-found numbers m h absent = elim (get_by_text numbers m) as (λ o. ((k : ℕ) → o ≡ Some k → ⊥) → o ≡ None) [
   | None ↦ λ _. refl
   | Some k ↦ λ f. absurd (f k refl)
@@ -71,12 +71,12 @@ not-found numbers m h absent = elim (get_by_text numbers m) as (λ o. ((k : ℕ)
 
 -- what a look-up tells
 pub look-found : {Y : Type 0} (numbers : BTreeMap (String Y) ℕ) (m : List ℕ) (o : Option ℕ) → AreNumbered numbers → o ≡ get_by_text numbers m
-    → IfSome o (λ k. slice_get (members_of numbers) k ≡ Some m)
+    → IfSome o (λ k. slice_get (names_of numbers) k ≡ Some m)
 look-found numbers m None h is = tt
 look-found numbers m (Some k) h is = found-member numbers m k h (sym is)
 
 pub look-absent : {Y : Type 0} (numbers : BTreeMap (String Y) ℕ) (m : List ℕ) (o : Option ℕ) → AreNumbered numbers → o ≡ get_by_text numbers m
-    → IfNone o (IsAbsent (members_of numbers) m)
+    → IfNone o (IsAbsent (names_of numbers) m)
 look-absent numbers m None h is = absent-member numbers m h (sym is)
 look-absent numbers m (Some k) h is = tt
 
@@ -133,13 +133,13 @@ named-old cmp n k (e ∷ es) key other none = elim (cmp key e.0) as (λ o. cond 
 pub record Enters {Y : Type 0} (old new : BTreeMap (String Y) ℕ) (key : String Y) (member : List ℕ) : Type 0 where
   pub numbered : AreNumbered old
   pub key_is : string_bytes key ≡ member
-  pub absent : IsAbsent (members_of old) member
+  pub absent : IsAbsent (names_of old) member
   pub entries : new.entries ≡ insert_entry string_cmp old.entries key (length old.entries)
   pub updates : (q : List ℕ) → get_by_text new q ≡ update bytes_eq (get_by_text old) (string_bytes key) (Some (length old.entries)) q
 
 -- what an insertion tells
 pub enters : (old new : BTreeMap (String Global) ℕ) (key : String Global) (member : List ℕ) (number : ℕ) → AreNumbered old → string_bytes key ≡ member
-    → IsAbsent (members_of old) member → number ≡ length old.entries → new.entries ≡ insert_entry string_cmp old.entries key number
+    → IsAbsent (names_of old) member → number ≡ length old.entries → new.entries ≡ insert_entry string_cmp old.entries key number
     → Updates string_cmp old new key (Some number) → Enters old new key member
 enters old new key member number h key_is absent is entries updates = record {
   numbered = h;
@@ -178,10 +178,10 @@ same-range f g a (suc n) same =
     let rest = same-range f g (a + 1) n (λ k l. same k (omega (arith, l))) in
     rw first (ap (λ xs. g a ∷ xs) rest)
 
--- the members, with the new one behind them
-pub members-more : {Y : Type 0} (old new : BTreeMap (String Y) ℕ) (key : String Y) (member : List ℕ) → Enters old new key member
-    → members_of new ≡ members_of old ++ member ∷ []
-members-more old new key member h =
+-- the names, with the new one behind them
+pub names-more : {Y : Type 0} (old new : BTreeMap (String Y) ℕ) (key : String Y) (member : List ℕ) → Enters old new key member
+    → names_of new ≡ names_of old ++ member ∷ []
+names-more old new key member h =
     let n = length old.entries in
     ap (λ k. map (named new.entries) (range_with_len 0 k)) (entered-length old new key member h)
     ∙ map-range_with_len_more (named new.entries) 0 n n (omega arith)
@@ -214,7 +214,7 @@ entered-numbers old new key member h k within = elim (cases_lt k (length old.ent
       let name = entered-old old new key member k h before in
       let was = h.numbered.numbers_each k before in
       let other : bytes_eq member (named old.entries k) ≡ false =
-      false_from_ne_true _ (λ same. h.absent k (members-at old k before ∙ ap Some (sym ((bytes_eq-Decides member (named old.entries k)).0 same)))) in
+      false_from_ne_true _ (λ same. h.absent k (names-at old k before ∙ ap Some (sym ((bytes_eq-Decides member (named old.entries k)).0 same)))) in
       ap (get_by_text new) name ∙ entered-look old new key member (named old.entries k) h ∙ (rw other was)
   | inr behind ↦
       let size = entered-length old new key member h in
@@ -244,3 +244,10 @@ numbered-same old new same h = record {
   names = λ m k there. rw same (h.names m k (rw same at there));
   numbers_each = λ k within. rw same (h.numbers_each k (rw same at within));
 }
+
+-- the new number is the new name's
+pub name-new : {Y : Type 0} (old new : BTreeMap (String Y) ℕ) (key : String Y) (member : List ℕ) (number : ℕ) → number ≡ length old.entries → Enters old new key member
+    → slice_get (names_of new) number ≡ Some member
+name-new old new key member number is h =
+    let size = entered-length old new key member h in
+    names-at new number (omega (arith, size, is)) ∙ ap (λ k. Some (named new.entries k)) is ∙ ap Some (entered-new old new key member h)
