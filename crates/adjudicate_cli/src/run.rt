@@ -14,7 +14,7 @@ use crate::telling::ended;
 use adjudicate::{FILE_LIMIT_BYTES, RunInput, do_run};
 use clap::ArgMatches;
 use console::names::{BALANCES, CUTOFF, FILE, STRICT, SUMMARY, WORKERS};
-use console::{DONE, Pulse, RESOURCE, USAGE, explains, no_memory, times_of_input, told};
+use console::{DONE, Pulse, RESOURCE, USAGE, explains, input_once, no_memory};
 use fixpoint::Out;
 use std::alloc::{AllocError, Global};
 use std::io;
@@ -176,13 +176,7 @@ fn texts_of<R: Files + Input + Eprint + AllocGlobal>(
 ) -> Result<Texts, u8>
     ensures known { IfErr result (λ status. status ≤ RESOURCE) }
 {
-    if times_of_input(matches) > 1 {
-        return Err(told(
-            rt,
-            "error: standard input can stand in one place of a command",
-            USAGE,
-        ));
-    }
+    input_once(rt, matches)?;
     let plan = plan_of(rt, matches, explains)?;
     if matches.get_flag(STRICT) {
         let status = unread(rt, plan.as_slice());

@@ -21,4 +21,4 @@ pub use command::matches_of;
 pub use files::{ReadFault, read_file, read_source};
 pub use pulse::Pulse;
 pub use telling::{DONE, REFUSED, RESOURCE, USAGE, no_memory, told, usage};
-pub use words::{explains, times_of_input, words_of};
+pub use words::{explains, input_once, words_of};

@@ -30,8 +30,20 @@ pub fn explains(matches: &ArgMatches<'_>, is_watched: bool) -> bool
     is_watched || matches.get_flag(EXPLAIN)
 }
 
+/// Tells where standard input is named in more than one place, since it can be read only once, and answers that status.
+pub fn input_once<R: Eprint>(rt: &R, matches: &ArgMatches<'_>) -> Result<(), u8>
+    ensures known { IfErr result (λ status. status ≤ RESOURCE) }
+    ensures failed { IfErr result (λ status. status ≢ DONE) }
+{
+    if times_of_input(matches) > 1 {
+        let line = "error: standard input can stand in one place of a command";
+        return Err(told(rt, line, USAGE));
+    }
+    Ok(())
+}
+
 /// In how many places standard input is named.
-pub fn times_of_input(matches: &ArgMatches<'_>) -> usize {
+fn times_of_input(matches: &ArgMatches<'_>) -> usize {
     let others = [matches.get_str(PLAN), matches.get_str(BALANCES)];
     let files = matches.get_strs(FILE).unwrap_or(&[]);
     let named = others.iter().filter(|path| **path == Some(STREAM)).count();
