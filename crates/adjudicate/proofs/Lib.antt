@@ -5,5 +5,6 @@ pub mod Names
 pub mod ReadNames
 pub mod Refusals
 pub mod Remittances
+pub mod Spelled
 pub mod Splits
 pub mod TableLines
