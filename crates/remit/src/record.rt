@@ -2,6 +2,7 @@
 ghost use Rattle.std.specs.Prelude.{◌≡◌, ◌≤◌, ℕ, pos, List, [], ◌∷◌, decimal, map, replicate, OnOk};
 ghost use Rattle.csv.specs.Records.{fields_of};
 ghost use Rattle.fixpoint.specs.Money.{money_text};
+ghost use Rattle.feel_tests.specs.Calendar.{year_of, year_text};
 ghost use Rattle.journal.specs.Events.{accepted as accepted_in};
 ghost use Rattle.journal.specs.declared.event.Event.{Event as AnyEvent};
 ghost use Rattle.claim_terms.specs.Terms.{texts_of};
@@ -9,34 +10,33 @@ ghost use Rattle.remit.specs.Amounts.{amount_of, name_of};
 ghost use Rattle.remit.specs.Held.{Pushes};
 ghost use Rattle.remit.specs.Looked.{AreSums, looked_up, outcome_in, sum_in, sum_texts};
 ghost use Rattle.remit.specs.Texts.{remarks_text};
-ghost use Rattle.remit.specs.Records.{header_fields, record_of, told_by, told_fields, told_of, told_refused, total_fields};
+ghost use Rattle.remit.specs.Records.{header_fields, record_of, told_by, told_fields, told_of, told_refused, total_fields, year_fields};
 
 use crate::amount::{AMOUNTS, Amount};
 use crate::decisions::Decisions;
 use crate::sums::Sums;
 use crate::texts::{fault_text, reason_text, remarks_text, sum_text};
 use csv::ByteRecord;
+use feel_tests::{day_year, year_text};
 use intake_csv::{Row, RowFault};
 use itoa::Buffer;
-use settlement::{Money, Outcome, Verdict};
+use settlement::{Claim, Money, Outcome, Verdict};
 use std::alloc::{AllocError, Global};
 
-/// The names of the fields in front of the amounts. The record with the totals fills the first two of them.
-const FIELDS_BEFORE: [&[u8]; 6] = [
-    b"provider",
-    b"record",
-    b"claim",
-    b"member",
-    b"status",
-    b"reason",
-];
+/// The names of the fields that tell whose a record is. The record with the totals fills the first two of them.
+const FIELDS_BEFORE: [&[u8]; 4] = [b"provider", b"record", b"claim", b"member"];
+
+/// The names of the fields between those, or the year, and the amounts.
+const FIELDS_BETWEEN: [&[u8]; 2] = [b"status", b"reason"];
 
 /// Fills the record with the names of the fields.
-pub fn fill_header(line: &mut ByteRecord) -> Result<(), AllocError>
-    ensures { OnOk result (fields_of line.new ≡ header_fields) }
+pub fn fill_header(line: &mut ByteRecord, keeps_years: bool) -> Result<(), AllocError>
+    ensures { OnOk result (fields_of line.new ≡ header_fields keeps_years) }
 {
     line.clear();
     push_all(line, &FIELDS_BEFORE)?;
+    push_year(line, keeps_years, b"year")?;
+    push_all(line, &FIELDS_BETWEEN)?;
     push_names(line, &AMOUNTS)?;
     line.push_field(b"remarks")
 }
@@ -63,11 +63,13 @@ pub fn fill_row(
             push_number(line, *number)?;
             line.push_field(claim.id.as_str().as_bytes())?;
             line.push_field(claim.member.as_str().as_bytes())?;
+            push_year_of(line, decisions.keeps_years(), claim)?;
             push_claim(alloc, line, decisions.outcome(provider, *place))
         }
         Row::Bad { number, fault } => {
             push_number(line, *number)?;
             push_repeated(line, b"", 2)?;
+            push_year(line, decisions.keeps_years(), b"")?;
             push_refused(alloc, line, *fault)
         }
     }
@@ -77,17 +79,43 @@ pub fn fill_row(
 pub fn fill_total(
     alloc: Global,
     line: &mut ByteRecord,
+    keeps_years: bool,
     accepted: usize,
     sums: Sums,
 ) -> Result<(), AllocError>
-    ensures { OnOk result ((J : List AnyEvent) (count : ℕ) → accepted ≡ accepted_in J → AreSums J count sums → fields_of line.new ≡ total_fields J) }
+    ensures { OnOk result ((J : List AnyEvent) (count : ℕ) → accepted ≡ accepted_in J → AreSums J count sums → fields_of line.new ≡ total_fields keeps_years J) }
 {
     line.clear();
     line.push_field(b"total")?;
     push_number(line, accepted)?;
     push_repeated(line, b"", FIELDS_BEFORE.len() - 2)?;
+    push_year(line, keeps_years, b"")?;
+    push_repeated(line, b"", FIELDS_BETWEEN.len())?;
     push_sums(alloc, line, sums, &AMOUNTS)?;
     line.push_field(b"")
+}
+
+// The field of the year, where there is one.
+fn push_year(line: &mut ByteRecord, keeps_years: bool, text: &[u8]) -> Result<(), AllocError>
+    ensures { OnOk result (Pushes line.old line.new (year_fields keeps_years text.now)) }
+{
+    if keeps_years {
+        line.push_field(text)
+    } else {
+        Ok(())
+    }
+}
+
+// The year of a claim's service, where there is a field for it.
+fn push_year_of(line: &mut ByteRecord, keeps_years: bool, claim: &Claim) -> Result<(), AllocError>
+    ensures { OnOk result (Pushes line.old line.new (year_fields keeps_years (year_text (year_of claim.now.service)))) }
+{
+    if keeps_years {
+        let text = year_text(day_year(claim.service.epoch_day()));
+        line.push_field(text.as_slice())
+    } else {
+        Ok(())
+    }
 }
 
 // What is told of a claim: what it is decided to be, or that it came too late to be accepted.
