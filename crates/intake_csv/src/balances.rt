@@ -1,5 +1,5 @@
 //! Opening balances: what the members' accumulators are before the first claim.
-ghost use Rattle.std.specs.Prelude.{◌≡◌, ◌≤◌, ◌<◌, ◌++◌, ◌∷◌, [], List, length, map, drop, get_or, cond, string_bytes, IfOk, IfErr, OnOk, slice_index_or, Some};
+ghost use Rattle.std.specs.Prelude.{◌≡◌, ◌≤◌, ◌<◌, ◌+◌, ◌++◌, ◌∷◌, [], List, length, map, drop, get_or, cond, string_bytes, IfOk, IfErr, OnOk, slice_index_or, Some};
 ghost use Rattle.std.specs.List.{slice_get};
 ghost use Rattle.csv.specs.Records.{fields_of};
 ghost use Rattle.dtable.specs.Plan.{keeps_years};
@@ -82,6 +82,7 @@ fn read_by(alloc: Global, keeps_years: bool, text: &[u8]) -> Result<Balances, Ba
 }
 
 /// Whose balance a record holds, and the balance.
+#[derive(Drop)]
 struct Entry {
     member: Text,
     year: u16,
@@ -157,8 +158,18 @@ fn make_room(
 {
     let missing = (usize::from(year) + 1).saturating_sub(years.len());
     for _ in 0..missing {
-        years.push(BTreeMap::new(alloc))?;
+        add_year(alloc, years)?;
     }
+    Ok(())
+}
+
+// One year more, in which nobody has a balance.
+fn add_year(alloc: Global, years: &mut Vec<BTreeMap<String, Balance>>) -> Result<(), AllocError>
+    ensures same { (holder : AnyHolder) → found_in (books_of years.new.items) holder ≡ found_in (books_of years.old.items) holder }
+    ensures once { AreOnce (books_of years.old.items) → AreOnce (books_of years.new.items) }
+    ensures room { OnOk result (length years.new.items ≡ length years.old.items + 1) }
+{
+    years.push(BTreeMap::new(alloc))?;
     Ok(())
 }
 

@@ -1,5 +1,5 @@
 //! Accounts: whose accumulators a claim is settled at.
-ghost use Rattle.std.specs.Prelude.{◌≡◌, ◌≤◌};
+ghost use Rattle.std.specs.Prelude.{◌≡◌};
 ghost use Rattle.settlement.specs.Accounts.{account_year};
 
 use crate::acc::Acc;
@@ -38,8 +38,7 @@ impl Balance {
 
 /// The year whose accumulators a claim is settled at: that of its service, or 0 where they aren't kept by the year.
 pub fn account_year(plan: &Plan, claim: &Claim) -> u16
-    ensures year { result ≡ account_year plan.now claim.now }
-    ensures in_range { result ≤ 9999 }
+    ensures { result ≡ account_year plan.now claim.now }
 {
     if plan.keeps_years() {
         day_year(claim.service.epoch_day())
