@@ -1,5 +1,5 @@
 -- Books: the members of each year, with what their accounts begin with.
-use Rattle.std.proofs.Common.{inl, inr, ◌≡◌, ◌≢◌, ◌<◌, ◌+◌, ◌==◌, ◌&&◌, ◌+ℤ◌, ℕ, ℤ, pos, suc, zero, Bool, true, false, List, [], ◌∷◌, ◌++◌, length, map, get_or, set, Option, Some, None, String, string_bytes, nat_cmp, cond, refl, sym, ap, subst, ◌∙◌, arith}
+use Rattle.std.proofs.Common.{inl, inr, ◌≡◌, ◌≢◌, ◌<◌, ◌≤◌, ◌+◌, ◌==◌, ◌&&◌, ◌+ℤ◌, ℕ, ℤ, pos, suc, zero, Bool, true, false, List, [], ◌∷◌, ◌++◌, length, map, get_or, set, Option, Some, None, String, string_bytes, nat_cmp, cond, refl, sym, ap, subst, ◌∙◌, arith}
 use Rattle.std.specs.List.{AllByRecursion}
 use Rattle.std.specs.List.Sorted.{IsStrictlySortedBy}
 use Rattle.std.specs.Map.{keys_of, lookup}
@@ -151,13 +151,13 @@ more-books : {Y : Type 0} (years : List (BTreeMap (String Y) Balance)) (members 
 more-books years members empty = map-append book_of years (members ∷ []) ∙ ap (λ b. books_of years ++ b ∷ []) (empty-book members empty)
 
 -- what is found in books, and that nobody stands twice, once there is an empty map more
-pub room-found : {Y : Type 0} (years : List (BTreeMap (String Y) Balance)) (members : BTreeMap (String Y) Balance) (q : Holder) → members.entries ≡ []
+pub room_found : {Y : Type 0} (years : List (BTreeMap (String Y) Balance)) (members : BTreeMap (String Y) Balance) (q : Holder) → members.entries ≡ []
     → found_in (books_of (years ++ members ∷ [])) q ≡ found_in (books_of years) q
-room-found years members q empty = ap (λ bs. lookup (bytes_eq q.0) (get_or bs q.1 [])) (more-books years members empty) ∙ ap (lookup (bytes_eq q.0)) (room-same (books_of years) q.1)
+room_found years members q empty = ap (λ bs. lookup (bytes_eq q.0) (get_or bs q.1 [])) (more-books years members empty) ∙ ap (lookup (bytes_eq q.0)) (room-same (books_of years) q.1)
 
-pub room-kept : {Y : Type 0} (years : List (BTreeMap (String Y) Balance)) (members : BTreeMap (String Y) Balance) → members.entries ≡ []
+pub room_kept : {Y : Type 0} (years : List (BTreeMap (String Y) Balance)) (members : BTreeMap (String Y) Balance) → members.entries ≡ []
     → AreOnce (books_of years) → AreOnce (books_of (years ++ members ∷ []))
-room-kept years members empty once = subst AreOnce (sym (more-books years members empty)) (room-once (books_of years) once)
+room_kept years members empty once = subst AreOnce (sym (more-books years members empty)) (room-once (books_of years) once)
 
 -- the entries of a map stand once, since its keys rise
 unfound-below : {Y : Type 0} (key : String Y) (es : List (String Y × Balance)) → AllByRecursion (λ y. string_cmp key y ≡ Less) (keys_of es)
@@ -176,9 +176,9 @@ once-set [] y book once new = tt
 once-set (b ∷ bs) zero book once new = (new, once.1)
 once-set (b ∷ bs) (suc y) book once new = (once.0, once-set bs y book once.1 new)
 
-pub put-once : {Y : Type 0} (years : List (BTreeMap (String Y) Balance)) (y : ℕ) (members : BTreeMap (String Y) Balance) → IsOrdered string_cmp members
+pub put_once : {Y : Type 0} (years : List (BTreeMap (String Y) Balance)) (y : ℕ) (members : BTreeMap (String Y) Balance) → IsOrdered string_cmp members
     → AreOnce (books_of years) → AreOnce (books_of (set years y members))
-put-once years y members ordered once = subst AreOnce (sym (map-set book_of years y members)) (once-set (books_of years) y (book_of members) once (once-sorted members.entries ordered))
+put_once years y members ordered once = subst AreOnce (sym (map-set book_of years y members)) (once-set (books_of years) y (book_of members) once (once-sorted members.entries ordered))
 
 -- a look-up in a map is one in its book
 looked : {Y : Type 0} (es : List (String Y × Balance)) (m : List ℕ)
@@ -191,21 +191,31 @@ looked (e ∷ es) m =
       | inr other ↦ rw (same, other) (looked es m)
     ]
 
-pub get-member : {Y : Type 0} (members : BTreeMap (String Y) Balance) (m : List ℕ) → get_by_text members m ≡ lookup (bytes_eq m) (book_of members)
+get-member : {Y : Type 0} (members : BTreeMap (String Y) Balance) (m : List ℕ) → get_by_text members m ≡ lookup (bytes_eq m) (book_of members)
 get-member members m = looked members.entries m
 
 -- the book of a year, from its map
-pub book-at : {Y : Type 0} (years : List (BTreeMap (String Y) Balance)) (y : ℕ) (d : BTreeMap (String Y) Balance) → y < length years
+book-at : {Y : Type 0} (years : List (BTreeMap (String Y) Balance)) (y : ℕ) (d : BTreeMap (String Y) Balance) → y < length years
     → get_or (books_of years) y [] ≡ book_of (get_or years y d)
 book-at [] y d within = absurd (omega (arith, within))
 book-at (m ∷ ms) zero d within = refl
 book-at (m ∷ ms) (suc y) d within = book-at ms y d (omega (arith, within))
 
 -- there is no book of a year beyond them
-pub book-none : (books : List Book) (y : ℕ) → ¬ (y < length books) → get_or books y [] ≡ []
+book-none : (books : List Book) (y : ℕ) → ¬ (y < length books) → get_or books y [] ≡ []
 book-none [] y beyond = refl
 book-none (b ∷ bs) zero beyond = absurd (beyond (omega arith))
 book-none (b ∷ bs) (suc y) beyond = book-none bs y (λ within. beyond (omega (arith, within)))
+
+-- what is found of a year that has a map, and of one beyond them
+pub found_within : {Y : Type 0} (years : List (BTreeMap (String Y) Balance)) (y : ℕ) (d : BTreeMap (String Y) Balance) (m : List ℕ) → y < length years
+    → get_by_text (get_or years y d) m ≡ found_in (books_of years) (m, y)
+found_within years y d m within = get-member (get_or years y d) m ∙ sym (ap (lookup (bytes_eq m)) (book-at years y d within))
+
+pub found_beyond : {Y : Type 0} (years : List (BTreeMap (String Y) Balance)) (y : ℕ) (m : List ℕ) → length years ≤ y → None ≡ found_in (books_of years) (m, y)
+found_beyond years y m beyond =
+    let size : length (books_of years) ≡ length years = length-map years book_of in
+    sym (ap (lookup (bytes_eq m)) (book-none (books_of years) y (λ within. omega (arith, within, beyond, size))))
 
 put-book : (books : List Book) (y : ℕ) (book : Book) (m : List ℕ) (balance : Balance) (q : Holder) → y < length books
     → ((p : List ℕ) → lookup (bytes_eq p) book ≡ cond (bytes_eq m p) (Some balance) (lookup (bytes_eq p) (get_or books y [])))
@@ -229,10 +239,10 @@ put-book books y book m balance q within more = elim (cases_eq q.1 y) [
     and-true false = refl
 
 -- what is found once a member has a balance more in a year
-pub put-found : {Y : Type 0} (years : List (BTreeMap (String Y) Balance)) (y : ℕ) (d members : BTreeMap (String Y) Balance) (m : List ℕ) (balance : Balance) (q : Holder) → y < length years
+pub put_found : {Y : Type 0} (years : List (BTreeMap (String Y) Balance)) (y : ℕ) (d members : BTreeMap (String Y) Balance) (m : List ℕ) (balance : Balance) (q : Holder) → y < length years
     → ((p : List ℕ) → get_by_text members p ≡ cond (bytes_eq m p) (Some balance) (get_by_text (get_or years y d) p))
     → found_in (books_of (set years y members)) q ≡ cond (is_holder (m, y) q) (Some balance) (found_in (books_of years) q)
-put-found years y d members m balance q within updated =
+put_found years y d members m balance q within updated =
     let size : length (books_of years) ≡ length years = length-map years book_of in
     let at = book-at years y d within in
     let more : (p : List ℕ) → lookup (bytes_eq p) (book_of members) ≡ cond (bytes_eq m p) (Some balance) (lookup (bytes_eq p) (get_or (books_of years) y [])) =
@@ -240,5 +250,5 @@ put-found years y d members m balance q within updated =
     ap (λ bs. found_in bs q) (map-set book_of years y members) ∙ put-book (books_of years) y (book_of members) m balance q (omega (arith, within, size)) more
 
 -- no books have nobody twice
-pub none-once : {Y : Type 0} (years : List (BTreeMap (String Y) Balance)) → years ≡ [] → AreOnce (books_of years)
-none-once years empty = subst (λ (ys : List (BTreeMap (String _) Balance)). AreOnce (books_of ys)) (sym empty) tt
+pub none_once : {Y : Type 0} (years : List (BTreeMap (String Y) Balance)) → years ≡ [] → AreOnce (books_of years)
+none_once years empty = subst (λ (ys : List (BTreeMap (String _) Balance)). AreOnce (books_of ys)) (sym empty) tt

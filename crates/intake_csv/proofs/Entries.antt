@@ -124,12 +124,41 @@ once-pairs [] h = tt
 once-pairs (e ∷ es) h =
     (unfound es e.0 (λ k d within. h 0 (suc k) d (omega arith) (omega (arith, within))), once-pairs es (λ i j d less within. h (suc i) (suc j) d (omega (arith, less)) (omega (arith, within))))
 
+-- what isn't there is none
+none-there : {A : Type 0} (o : Option A) → is_some o ≡ false → o ≡ None
+none-there None e = refl
+none-there (Some x) e = cc e
+
+-- no books have no entries
+pub holds-none : (books : List Book) → books ≡ [] → HoldsEntries [] books
+holds-none books empty = record {
+  distinct = λ i j d less within. absurd (omega (arith, within));
+  once = subst AreOnce (sym empty) tt;
+  found = λ q. ap (λ bs. found_in bs q) empty;
+}
+
+-- the balances of entries and of one entry more
+pub holds-more : (entries : List Entry) (holder : Holder) (balance : Balance) (old new : List Book) → AreOnce new → HoldsEntries entries old
+    → is_some (found_in old holder) ≡ false → ((q : Holder) → found_in new q ≡ cond (is_holder holder q) (Some balance) (found_in old q))
+    → HoldsEntries (entries ++ (holder, balance) ∷ []) new
+holds-more entries holder balance old new once h absent updated =
+    let none : lookup (is_holder holder) entries ≡ None = sym (h.found holder) ∙ none-there (found_in old holder) absent in
+    record {
+      distinct = all_pairs_push (λ a b. ¬ (a.0 ≡ b.0)) entries (holder, balance) h.distinct (not-found entries holder none);
+      once = once;
+      found = λ q. updated q ∙ ap (cond (is_holder holder q) (Some balance)) (h.found q) ∙ sym (lookup-more entries holder balance q none);
+    }
+
 module _ (years : Bool) where
   -- these many records behind the header hold entries, which the balances have
   pub record ReadBefore (layout : Layout) (records : List Fields) (count : ℕ) (balances : List Book) : Type 0 where
     pub entries : List Entry
     pub each : AllZip (IsEntry years layout) (take count records) entries
     pub holds : HoldsEntries entries balances
+
+  -- no record is read yet
+  pub read_none : (layout : Layout) (records : List Fields) (balances : List Book) → balances ≡ [] → ReadBefore layout records 0 balances
+  read_none layout records balances empty = record { entries = []; each = tt; holds = holds-none balances empty }
 
   -- one record more holds an entry
   pub read-next : (layout : Layout) (all : List Fields) (count : ℕ) (fields : Fields) (more : List Fields) (old new : List Book) → drop (count + 1) all ≡ fields ∷ more
@@ -195,28 +224,3 @@ module _ (years : Bool) where
         member = slice_get-get_or layout.columns 0 d (omega (arith, size, mapped));
         fault_is = refl;
       })
-
--- what isn't there is none
-none-there : {A : Type 0} (o : Option A) → is_some o ≡ false → o ≡ None
-none-there None e = refl
-none-there (Some x) e = cc e
-
--- no books have no entries
-pub holds-none : (books : List Book) → books ≡ [] → HoldsEntries [] books
-holds-none books empty = record {
-  distinct = λ i j d less within. absurd (omega (arith, within));
-  once = subst AreOnce (sym empty) tt;
-  found = λ q. ap (λ bs. found_in bs q) empty;
-}
-
--- the balances of entries and of one entry more
-pub holds-more : (entries : List Entry) (holder : Holder) (balance : Balance) (old new : List Book) → AreOnce new → HoldsEntries entries old
-    → is_some (found_in old holder) ≡ false → ((q : Holder) → found_in new q ≡ cond (is_holder holder q) (Some balance) (found_in old q))
-    → HoldsEntries (entries ++ (holder, balance) ∷ []) new
-holds-more entries holder balance old new once h absent updated =
-    let none : lookup (is_holder holder) entries ≡ None = sym (h.found holder) ∙ none-there (found_in old holder) absent in
-    record {
-      distinct = all_pairs_push (λ a b. ¬ (a.0 ≡ b.0)) entries (holder, balance) h.distinct (not-found entries holder none);
-      once = once;
-      found = λ q. updated q ∙ ap (cond (is_holder holder q) (Some balance)) (h.found q) ∙ sym (lookup-more entries holder balance q none);
-    }

@@ -1,5 +1,5 @@
 -- The kinds of a record's values, by the columns that they stand under.
-use Rattle.std.proofs.Common.{◌≡◌, ℕ, ℤ, Bool, true, false, List, [], ◌∷◌, ◌++◌, map, codes, refl, ap, ◌∙◌}
+use Rattle.std.proofs.Common.{◌≡◌, ℕ, ℤ, Bool, true, false, List, [], ◌∷◌, ◌++◌, map, codes, refl, ap, sym, subst, ◌∙◌}
 use Rattle.std.specs.Int.{IsInRange}
 use Rattle.std.specs.List.{AllZip}
 use Rattle.fixpoint.specs.Money.{IsMoney}
@@ -14,7 +14,7 @@ use Rattle.intake_csv.specs.Columns.{AreColumnsOf, balance_columns, claim_column
 use Rattle.intake_csv.specs.Fields.{Holds}
 use Rattle.intake_csv.specs.Rows.{HoldsUnder}
 use Rattle.intake_csv.specs.Record.{IsClaimShaped}
-use Rattle.intake_csv.specs.Balances.{BeginsWithYear, Entry, IsEntryShaped, IsKept, entry_values, year_contents, year_values}
+use Rattle.intake_csv.specs.Balances.{AreAmounts, BeginsWithYear, IsEntryShaped, balance_values, entry_values, year_contents, year_values}
 use Rattle.intake_csv.specs.declared.column.Column.{Column}
 use Rattle.intake_csv.specs.declared.column.Content.{Content}
 use Rattle.intake_csv.specs.declared.column.Content.TheVariants.{Identifier, Money, Plain, Year}
@@ -74,14 +74,7 @@ year-value content bytes (Day d) e h = let s = rw e at h.spells.plain in absurd 
 three : (w x y b c d : Value) → w ≡ b → x ≡ c → y ≡ d → w ∷ x ∷ y ∷ [] ≡ b ∷ c ∷ d ∷ []
 three w x y b c d f g h = rw (f, g, h) refl
 
--- three amounts
-record AreAmounts (values : List Value) : Type 0 where
-  balance : Balance
-  values_are : values ≡ Number balance.met ∷ Number balance.oop ∷ Number balance.paid ∷ []
-  met_money : IsMoney balance.met
-  oop_money : IsMoney balance.oop
-  paid_money : IsMoney balance.paid
-
+-- three amounts under their columns
 amounts : (fields : Fields) (columns : List Column) (values : List Value)
     → map (λ c. c.content) columns ≡ Money ∷ Money ∷ Money ∷ [] → AllZip (HoldsUnder fields) columns values → AreAmounts values
 amounts fields [] values e h = absurd (cc e)
@@ -116,14 +109,13 @@ entry-shaped false fields (a ∷ columns) (v ∷ values) e h =
     let ea : a.content ≡ Identifier = cc e in
     let others : map (λ c. c.content) columns ≡ Money ∷ Money ∷ Money ∷ [] = cc e in
     let (member, is_member) = text-value a.content h.0.bytes v ea h.0.holds in
-    let m = amounts fields columns values others h.1 in
     record {
-      entry = ((member, 0), m.balance);
+      member = member;
+      year = 0;
+      amounts = values;
+      values_are = rw is_member refl;
       kept = refl;
-      values_are = rw (is_member, m.values_are) refl;
-      met_money = m.met_money;
-      oop_money = m.oop_money;
-      paid_money = m.paid_money;
+      are_amounts = amounts fields columns values others h.1;
     }
 entry-shaped true fields (a ∷ []) (v ∷ values) e h = absurd (cc e)
 entry-shaped true fields (a ∷ b ∷ columns) (v ∷ []) e h = absurd h.1
@@ -133,21 +125,37 @@ entry-shaped true fields (a ∷ b ∷ columns) (v ∷ w ∷ values) e h =
     let others : map (λ c. c.content) columns ≡ Money ∷ Money ∷ Money ∷ [] = cc e in
     let (member, is_member) = text-value a.content h.0.bytes v ea h.0.holds in
     let (year, is_year, within) = year-value b.content h.1.0.bytes w eb h.1.0.holds in
-    let m = amounts fields columns values others h.1.1 in
     record {
-      entry = ((member, year), m.balance);
+      member = member;
+      year = year;
+      amounts = values;
+      values_are = rw (is_member, is_year) refl;
       kept = within;
-      values_are = rw (is_member, is_year, m.values_are) refl;
-      met_money = m.met_money;
-      oop_money = m.oop_money;
-      paid_money = m.paid_money;
+      are_amounts = amounts fields columns values others h.1.1;
     }
 
--- what is left of an entry's values behind the member begins with its year
-pub year-first : (years : Bool) (entry : Entry) (member : List ℕ) (values : List Value) → IsKept years entry.0.1 → entry_values years entry ≡ Text member ∷ values → BeginsWithYear years values
-year-first years entry member values kept e =
-    let rest : values ≡ year_values years entry.0.1 ++ Number entry.1.met ∷ Number entry.1.oop ∷ Number entry.1.paid ∷ [] = cc e in
-    (entry.0.1, Number entry.1.met ∷ Number entry.1.oop ∷ Number entry.1.paid ∷ [], (rest, kept))
+-- what stands behind the member begins with the year
+pub year-first : (years : Bool) (values : List Value) (shaped : IsEntryShaped years values) (member : List ℕ) (behind : List Value) → values ≡ Text member ∷ behind → BeginsWithYear years behind
+year-first years values shaped member behind e =
+    let rest : behind ≡ year_values years shaped.year ++ shaped.amounts = cc (sym e ∙ shaped.values_are) in
+    (shaped.year, shaped.amounts, (rest, shaped.kept))
+
+same-rest : (years : Bool) (y z : ℕ) (rest left : List Value) → year_values years y ++ rest ≡ year_values years z ++ left → rest ≡ left
+same-rest true y z rest left e = cc e
+same-rest false y z rest left e = e
+
+-- and behind the year the amounts
+pub amounts-behind : (years : Bool) (values : List Value) (shaped : IsEntryShaped years values) (member : List ℕ) (behind left : List Value) (year : ℕ)
+    → values ≡ Text member ∷ behind → behind ≡ year_values years year ++ left → AreAmounts left
+amounts-behind years values shaped member behind left year e f =
+    let rest : behind ≡ year_values years shaped.year ++ shaped.amounts = cc (sym e ∙ shaped.values_are) in
+    subst AreAmounts (same-rest years shaped.year year shaped.amounts left (sym rest ∙ f)) shaped.are_amounts
+
+-- the values of an entry, taken one after another
+pub entry-taken : (years : Bool) (values behind left : List Value) (member : List ℕ) (year : ℕ) (balance : Balance) → values ≡ Text member ∷ behind
+    → behind ≡ year_values years year ++ left → left ≡ balance_values balance → values ≡ entry_values years ((member, year), balance)
+entry-taken years values behind left member year balance e f g =
+    e ∙ ap (λ vs. Text member ∷ vs) (f ∙ ap (λ vs. year_values years year ++ vs) g)
 
 -- the columns of a file of claims
 pub claim-layout : (names : List InputData) (header : Fields) (columns : List Column) → AreColumnsOf header (claim_columns names) columns

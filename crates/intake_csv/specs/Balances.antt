@@ -74,9 +74,13 @@ abbrev pub year_values : Bool → ℕ → List Value
 year_values true year = Text (year_text year) ∷ []
 year_values false year = []
 
+-- the values of a balance's columns
+abbrev pub balance_values : Balance → List Value
+balance_values balance = Number balance.met ∷ Number balance.oop ∷ Number balance.paid ∷ []
+
 -- an entry's values, in the order of the columns that it needs
 abbrev pub entry_values : Bool → Entry → List Value
-entry_values years entry = Text entry.0.0 ∷ (year_values years entry.0.1 ++ Number entry.1.met ∷ Number entry.1.oop ∷ Number entry.1.paid ∷ [])
+entry_values years entry = Text entry.0.0 ∷ (year_values years entry.0.1 ++ balance_values entry.1)
 
 -- a year that accumulators are kept by, or 0
 abbrev pub IsKept : Bool → ℕ → Type 0
@@ -157,14 +161,22 @@ year_contents false = []
 abbrev pub IsBalanceLayout : Bool → Layout → Type 0
 IsBalanceLayout years layout = map (λ c. c.content) layout.columns ≡ Identifier ∷ (year_contents years ++ Money ∷ Money ∷ Money ∷ [])
 
--- values of the kinds that an entry has
+-- three amounts of money
+pub record AreAmounts (values : List Value) : Type 0 where
+  pub balance : Balance
+  pub values_are : values ≡ balance_values balance
+  pub met_money : IsMoney balance.met
+  pub oop_money : IsMoney balance.oop
+  pub paid_money : IsMoney balance.paid
+
+-- values of the kinds that an entry has: a member, a year, where there is a column for it, and three amounts
 pub record IsEntryShaped (years : Bool) (values : List Value) : Type 0 where
-  pub entry : Entry
-  pub kept : IsKept years entry.0.1
-  pub values_are : values ≡ entry_values years entry
-  pub met_money : IsMoney entry.1.met
-  pub oop_money : IsMoney entry.1.oop
-  pub paid_money : IsMoney entry.1.paid
+  pub member : List ℕ
+  pub year : ℕ
+  pub amounts : List Value
+  pub values_are : values ≡ Text member ∷ (year_values years year ++ amounts)
+  pub kept : IsKept years year
+  pub are_amounts : AreAmounts amounts
 
 -- a year that stands in front of values, or 0 where there is no column of years
 abbrev pub TakesYear : Bool → List Value → ℕ → List Value → Type 0

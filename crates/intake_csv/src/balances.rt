@@ -5,7 +5,7 @@ ghost use Rattle.csv.specs.Records.{fields_of};
 ghost use Rattle.dtable.specs.Plan.{keeps_years};
 ghost use Rattle.settlement.specs.Accounts.{alone};
 ghost use Rattle.settlement.specs.Opening.{opening};
-ghost use Rattle.intake_csv.specs.Balances.{AreBalances, AreOnce, BeginsWithYear, Entry as AnyEntry, Holder as AnyHolder, HasBalanceFault, HoldsEntries, IsBalanceLayout, IsEntry, IsEntryShaped, IsKept, IsRecordFault, TakesYear, accounts_of, books_of, entry_values, found_in, is_holder};
+ghost use Rattle.intake_csv.specs.Balances.{AreAmounts, AreBalances, AreOnce, BeginsWithYear, Entry as AnyEntry, Holder as AnyHolder, HasBalanceFault, HoldsEntries, IsBalanceLayout, IsEntry, IsEntryShaped, IsKept, IsRecordFault, TakesYear, accounts_of, balance_values, books_of, entry_values, found_in, is_holder};
 ghost use Rattle.intake_csv.specs.Columns.{balance_columns, year_columns};
 ghost use Rattle.intake_csv.specs.Rows.{HasFault};
 ghost use Rattle.intake_csv.specs.Sheet.{IsWithin};
@@ -52,6 +52,7 @@ pub fn read_balances(alloc: Global, plan: &Plan, text: &[u8]) -> Result<Balances
 }
 
 // Reads a file of balances, which has a column of years or not.
+#[tactic(auto, using(crate::proofs::Books::none_once, crate::proofs::Entries::read_none))]
 fn read_by(alloc: Global, keeps_years: bool, text: &[u8]) -> Result<Balances, BalanceFault>
     ensures ok { IfOk result (AreBalances keeps_years text.now) }
     ensures fault { IfErr result (HasBalanceFault keeps_years text.now) }
@@ -103,14 +104,16 @@ impl Balances {
     }
 
     // The balance of a member in a year.
+    #[tactic(auto, using(crate::proofs::Books::found_within, crate::proofs::Books::found_beyond))]
     fn find(&self, member: &str, year: u16) -> Option<Balance>
         ensures found { result ≡ found_in self.now (member.now, year) }
         ensures once { AreOnce self.now }
     {
-        match self.years.get(usize::from(year)) {
-            Some(members) => members.get(member).copied(),
-            None => None,
+        let place = usize::from(year);
+        if place >= self.years.len() {
+            return None;
         }
+        self.years[place].get(member).copied()
     }
 
     // Reads one record more: its entry, or why it is refused.
@@ -164,6 +167,7 @@ fn make_room(
 }
 
 // One year more, in which nobody has a balance.
+#[tactic(auto, using(crate::proofs::Books::room_found, crate::proofs::Books::room_kept))]
 fn add_year(alloc: Global, years: &mut Vec<BTreeMap<String, Balance>>) -> Result<(), AllocError>
     ensures same { (holder : AnyHolder) → found_in (books_of years.new.items) holder ≡ found_in (books_of years.old.items) holder }
     ensures once { AreOnce (books_of years.old.items) → AreOnce (books_of years.new.items) }
@@ -174,6 +178,7 @@ fn add_year(alloc: Global, years: &mut Vec<BTreeMap<String, Balance>>) -> Result
 }
 
 // Adds the balance of a member in a year for which there is room.
+#[tactic(auto, using(crate::proofs::Books::put_found, crate::proofs::Books::put_once))]
 fn add(
     years: &mut Vec<BTreeMap<String, Balance>>,
     member: String,
@@ -228,14 +233,24 @@ fn entry_of(values: Vec<Value>, keeps_years: bool) -> Entry
     let mut values = values;
     let member = take_text(&mut values);
     let year = take_year(&mut values, keeps_years);
-    let met = take_money(&mut values);
-    let oop = take_money(&mut values);
-    let paid = take_money(&mut values);
+    let balance = balance_of(values);
     Entry {
         member,
         year,
-        balance: Balance { met, oop, paid },
+        balance,
     }
+}
+
+// The balance of three amounts.
+fn balance_of(values: Vec<Value>) -> Balance
+    requires { AreAmounts values.items }
+    ensures { values.items ≡ balance_values result }
+{
+    let mut values = values;
+    let met = take_money(&mut values);
+    let oop = take_money(&mut values);
+    let paid = take_money(&mut values);
+    Balance { met, oop, paid }
 }
 
 // Takes the first value, a year; 0, and no value, where there is no column of years.
