@@ -21,7 +21,7 @@ use Rattle.claim_terms.specs.Terms.{AreClaimsOf, IsFinishedOver, IsTermsOf, Term
 use Rattle.remit.specs.Decided.{decided_as}
 use Rattle.remit.specs.Held.{At, Holds, IsReady, Writes, gathered_of}
 use Rattle.remit.specs.Looked.{Noted, found_of, looked_up}
-use Rattle.remit.specs.Records.{Deciding, header_fields, line_of, record_of, records_of, told_of, total_fields, year_fields}
+use Rattle.remit.specs.Records.{Deciding, header_fields, line_of, record_of, records_of, told_of, total_fields, whose_fields}
 use Rattle.remit.specs.Report.{IsReport, record_text, report_records, text_of, told_by_journal}
 use Rattle.remit.specs.Rows.{AreRead, Begin, WritesFiles, files_text}
 use Rattle.remit.specs.Writing.{WritesFront, WritesReport}
@@ -59,7 +59,7 @@ told years decided = record { years = years; decided = decided }
 record-same : (years : Bool) (f g : ℕ → ℕ → Option Outcome) (provider : ℕ) (row : Row) → ((place : ℕ) → f provider place ≡ g provider place)
     → record_of (told years f) provider row ≡ record_of (told years g) provider row
 record-same years f g provider (Good number place claim) same =
-    ap (λ o. line_of provider number claim.id claim.member (year_fields years (year_text (year_of claim.service))) (told_of o)) (same place)
+    ap (λ o. line_of provider number (whose_fields years claim.id claim.member (year_text (year_of claim.service))) (told_of o)) (same place)
 record-same years f g provider (Bad number fault) same = refl
 
 rows-same : (years : Bool) (f g : ℕ → ℕ → Option Outcome) (provider : ℕ) (rows : List Row) → ((place : ℕ) → f provider place ≡ g provider place)
