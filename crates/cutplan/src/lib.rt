@@ -20,6 +20,7 @@ mod fault;
 mod found;
 mod gap;
 mod kept;
+mod keys;
 mod law;
 mod lent;
 mod lookup;
