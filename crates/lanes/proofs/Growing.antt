@@ -1,9 +1,8 @@
 -- Names, with more behind them.
-use Rattle.std.proofs.Common.{◌≡◌, ℕ, zero, suc, List, [], ◌∷◌, ◌++◌, Some, Result, Ok, Err, OnOk, OnErr, refl, sym, ap, ◌∙◌, append-nil, append_assoc}
+use Rattle.std.proofs.Common.{◌≡◌, ℕ, zero, suc, List, [], ◌∷◌, ◌++◌, Some, Result, Ok, Err, OnOk, OnErr, sym, ap, ◌∙◌, append-nil, append_assoc}
 use Rattle.std.specs.List.{slice_get}
 use Rattle.std.proofs.lemmas.Option.{none-some}
 use Rattle.settlement.specs.Accounts.{Account}
-use Rattle.lanes.specs.Lasts.{Key}
 use Rattle.lanes.specs.Names.{Grows}
 use Rattle.lanes.specs.Chains.{IsKeyOf}
 

@@ -1,5 +1,5 @@
 -- Slots, their places and their lanes.
-use Rattle.std.proofs.Common.{◌≡◌, ◌<◌, ℕ, zero, suc, true, false, not, ◌||◌, List, [], ◌∷◌, length, map, get_or, take, Some, Option, refl, sym, ap, ◌∙◌, arith}
+use Rattle.std.proofs.Common.{◌≡◌, ◌<◌, ℕ, zero, suc, true, false, not, ◌||◌, List, [], ◌∷◌, length, map, get_or, take, Some, refl, sym, ap, ◌∙◌, arith}
 use Rattle.std.specs.List.{slice_get, slice_set}
 use Rattle.std.specs.Option.{option_map}
 use Rattle.std.specs.Str.{bytes_eq}
@@ -56,8 +56,8 @@ same-set f (s ∷ ss) zero slot new there same = ap (λ x. x ∷ map f ss) (same
 same-set f (s ∷ ss) (suc k) slot new there same = ap (λ xs. f s ∷ xs) (same-set f ss k slot new there same)
 
 -- the family of a lane
-lane-member : (names : List (List ℕ)) (lane : ℕ) → lane < length names → slice_get names lane ≡ Some (get_or names lane [])
-lane-member names lane within = slice_get-get_or names lane [] within
+lane-family : (names : List (List ℕ)) (lane : ℕ) → lane < length names → slice_get names lane ≡ Some (get_or names lane [])
+lane-family names lane within = slice_get-get_or names lane [] within
 
 -- a slot in another lane is another family's
 pub apart : (names : List (List ℕ)) (lane other : ℕ) → AreDistinct names → lane < length names → other < length names → ¬ (other ≡ lane)
@@ -65,7 +65,7 @@ pub apart : (names : List (List ℕ)) (lane other : ℕ) → AreDistinct names �
 apart names lane other distinct one two differ =
     false_from_ne_true _ (λ equal.
     let same = (bytes_eq-Decides (get_or names other []) (get_or names lane [])).0 equal in
-    differ (distinct other lane (get_or names lane []) (lane-member names other two ∙ ap Some same) (lane-member names lane one))
+    differ (distinct other lane (get_or names lane []) (lane-family names other two ∙ ap Some same) (lane-family names lane one))
     )
 
 -- a slot in the same lane is the same family's

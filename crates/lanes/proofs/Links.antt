@@ -1,5 +1,5 @@
 -- Linked lanes, with one slot more.
-use Rattle.std.proofs.Common.{◌≡◌, ◌==◌, ℕ, zero, suc, Bool, true, false, cond, List, [], ◌∷◌, ◌++◌, length, Some, None, Option, refl, sym, ap, subst, ◌∙◌, ◌⊎◌, inl, inr, arith, eqb-true}
+use Rattle.std.proofs.Common.{◌≡◌, ◌==◌, ℕ, zero, suc, cond, List, [], ◌∷◌, ◌++◌, length, Some, None, Option, refl, sym, ap, subst, ◌∙◌, ◌⊎◌, inl, inr, arith, eqb-true}
 use Rattle.std.specs.List.{slice_get, slice_set}
 use Rattle.std.proofs.lemmas.Bool.{cases_Bool, cases_eq, cases_order, both_ways, eq-eqb}
 use Rattle.std.proofs.lemmas.List.{length-set, length_push}
@@ -79,7 +79,7 @@ ended-more lanes end new lane h told l = elim (cases_Bool (lane == l)) [
       subst (IsEnd (lanes ++ lane ∷ []) l) (sym is) (subst (λ x. IsLast (lanes ++ lane ∷ []) x (length lanes)) same (new-last lanes lane))
   | inr there ↦
       let is : new l ≡ end l = told l ∙ ap (λ b. cond b (Some (length lanes)) (end l)) there in
-      subst (IsEnd (lanes ++ lane ∷ []) l) (sym is) (end-more lanes lane l (end l) (h l) (λ same. both_ways (lane == l) (eq-eqb lane l (sym same)) there))
+      subst (IsEnd (lanes ++ lane ∷ []) l) (sym is) (end-more lanes lane l (end l) (h l) (λ same. both_ways (lane == l) there (eq-eqb lane l (sym same))))
 ]
 
 -- the first slot of a lane

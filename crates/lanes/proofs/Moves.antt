@@ -1,19 +1,19 @@
 -- Chains and their places, after each call.
 use Rattle.std.proofs.Common.{vec_len, ◌≡◌, ◌<◌, ◌+◌, ◌==◌, ℕ, zero, suc, true, false, cond, not, List, [], ◌∷◌, ◌++◌, length, map, get_or, take, Some, None, Option, Result, Ok, Err, IfOk, OnOk, OnErr, is_err, option_map, refl, sym, ap, subst, ◌∙◌, inl, inr, arith, length-append}
 use Rattle.std.specs.List.{slice_get, slice_set}
-use Rattle.std.proofs.lemmas.List.{get_or_append_left, length-map, length_push, map-set, map_push}
+use Rattle.std.proofs.lemmas.List.{get_or_append_left, length-map, map-set, map_push}
 use Rattle.std.proofs.lemmas.Option.{none-some, same_Some, get_or_from_slice_get, slice_get_within}
 use Rattle.std.specs.Option.{IfSome, MatchOption}
 use Rattle.std.specs.Str.{bytes_eq}
 use Rattle.std.proofs.lemmas.Bool.{false≢true, not-false}
-use Rattle.settlement.specs.Accounts.{Account, account_in, family_of}
+use Rattle.settlement.specs.Accounts.{account_in, family_of}
 use Rattle.settlement.specs.declared.acc.Acc.{Acc}
 use Rattle.settlement.specs.declared.claim.Claim.{Claim}
 use Rattle.lanes.specs.Lasts.{Key, end_of, found_in, house, is_key}
-use Rattle.lanes.specs.Places.{InTurn, Phase, Place, Decided, InWork, Ready, Waiting, all_decided, is_decided, is_of, is_ready, is_waiting, phase_at, started}
+use Rattle.lanes.specs.Places.{Phase, Place, Decided, InWork, Ready, Waiting, all_decided, is_decided, is_of, is_ready, is_waiting, phase_at, started}
 use Rattle.lanes.specs.Calls.{IsInWork, IsPicked, phase_after, phase_behind, place_behind, ready_at, with_decision, with_phase}
 use Rattle.lanes.specs.Names.{AreDistinct, Grows}
-use Rattle.lanes.specs.Chains.{AddsSlot, AreAs, AreBacked, AreKept, AreKnown, AreLinked, AreQueued, DecidesSlot, FirstIsReady, IsEnd, IsFollowedBy, IsIdle, IsKeyOf, IsLast, IsNext, NextIsAnother, SlotAt, TakesFirst, TellsBack, account_at, houses_of, keys_of, lanes_of, nexts_of, owns_of, place_of, places_of, queued, slot_behind}
+use Rattle.lanes.specs.Chains.{AddsSlot, AreAs, AreBacked, AreKept, AreKnown, AreLinked, AreQueued, DecidesSlot, FirstIsReady, IsEnd, IsFollowedBy, IsIdle, IsKeyOf, IsLast, IsNext, NextIsAnother, SlotAt, TakesFirst, TellsBack, houses_of, keys_of, lanes_of, nexts_of, owns_of, place_of, places_of, queued, slot_behind}
 use Rattle.lanes.specs.declared.chains.Chains.{Chains}
 use Rattle.lanes.specs.declared.picked.Picked.{Picked}
 use Rattle.lanes.specs.declared.slot.Slot.{Slot}

@@ -1,16 +1,16 @@
 -- What the links back tell of the accumulators that a claim is taken at.
-use Rattle.std.proofs.Common.{◌≡◌, ◌<◌, ◌+◌, ◌&&◌, ◌||◌, ◌==◌, ℕ, zero, suc, Bool, true, false, not, cond, List, [], ◌∷◌, fold, get_or, length, map, take, Option, Some, None, refl, sym, ap, ◌∙◌, subst, inl, inr, arith}
+use Rattle.std.proofs.Common.{◌≡◌, ◌<◌, ◌+◌, ◌&&◌, ◌||◌, ◌==◌, ℕ, zero, suc, Bool, true, false, not, cond, List, [], ◌∷◌, fold, get_or, length, map, take, Option, Some, None, refl, sym, ap, ◌∙◌, inl, inr, arith}
 use Rattle.std.specs.List.{slice_get}
 use Rattle.std.specs.Option.{option_map, unwrap_or}
 use Rattle.std.specs.Str.{bytes_eq}
 use Rattle.std.proofs.lemmas.Bool.{both_ways, and_parts, cases_eq, eq-eqb, ne_eqb}
 use Rattle.std.proofs.lemmas.Option.{none-some, same_Some, slice_get-map}
-use Rattle.settlement.specs.Accounts.{Account, is_household, is_same}
+use Rattle.settlement.specs.Accounts.{is_household, is_same}
 use Rattle.settlement.specs.declared.acc.Acc.{Acc}
 use Rattle.lanes.specs.Lasts.{Key, house, is_key}
 use Rattle.lanes.specs.Names.{AreDistinct}
-use Rattle.lanes.specs.Places.{Phase, Waiting, Ready, InWork, Decided, Place, all_decided, is_decided, is_of, joined, left_by, left_in, left_of, standing, started}
-use Rattle.lanes.specs.Chains.{AreBacked, AreKnown, account_at, houses_of, keys_of, last_from, last_of, last_own, last_shared, left_at, left_of_slot, owns_of, place_of, places_of}
+use Rattle.lanes.specs.Places.{Phase, Waiting, Ready, InWork, Decided, all_decided, is_decided, is_of, joined, left_by, left_in, left_of, standing, started}
+use Rattle.lanes.specs.Chains.{AreBacked, AreKnown, account_at, houses_of, keys_of, last_from, last_own, last_shared, left_at, left_of_slot, owns_of, place_of, places_of}
 use Rattle.lanes.specs.declared.slot.Slot.{Slot}
 use Rattle.lanes.proofs.Kept.{alike, apart, key-at}
 

@@ -12,15 +12,15 @@ use Rattle.settlement.specs.declared.claim.Claim.{Claim}
 use Rattle.lanes.specs.Places.{Phase, Waiting, Ready, InWork, Decided, Place, InTurn, all_decided, is_decided, is_of, is_waiting, phase_at}
 use Rattle.lanes.specs.Calls.{phase_behind, place_behind, ready_at, released, with_decision, with_phase}
 
--- whether a place lets the next claim of a member be ready
+-- whether a place lets the next claim of a family be ready
 abbrev pub lets : List ℕ → Place → Bool
-lets member place = not (is_of member place) || is_decided place.phase
+lets family place = not (is_of family place) || is_decided place.phase
 
--- whether each claim of a member is decided, with a place more
+-- whether each claim of a family is decided, with a place more
 abbrev pub step : (List ℕ → Bool) → Place → List ℕ → Bool
-step before place member = before member && lets member place
+step before place family = before family && lets family place
 
--- the places are in turn behind places that let these members' next claims be ready
+-- the places are in turn behind places that let these families' next claims be ready
 abbrev pub Turns : (List ℕ → Bool) → List Place → Type 0
 Turns before [] = Unit {0}
 Turns before (place ∷ rest) = (is_waiting place.phase ≡ not (before place.account.family)) × Turns (step before place) rest
@@ -53,7 +53,7 @@ turns-from d (p ∷ ps) h = (
 
 -- in front of the first place nothing is left to be decided
 abbrev pub all-free : List ℕ → Bool
-all-free member = true
+all-free family = true
 
 pub turns-of : (places : List Place) → InTurn places → Turns all-free places
 turns-of places h = turns-from all-free places h.waits
@@ -71,7 +71,7 @@ turns-push d [] place h waits = (waits ∙ ap not (and-true (d place.account.fam
 turns-push d (p ∷ ps) place h waits =
     (h.0, turns-push (step d p) ps place h.1 (waits ∙ ap not (sym (and_assoc (d place.account.family) (lets place.account.family p) (all_decided place.account.family ps)))))
 
--- a claim behind places waits unless each claim of its member is decided
+-- a claim behind places waits unless each claim of its family is decided
 waits-behind : (places : List Place) (claim : Claim) → is_waiting (phase_behind places claim) ≡ not (all_decided (family_of claim) places)
 waits-behind places claim = elim (cases_Bool (all_decided (family_of claim) places)) [
   | inl all ↦ rw all refl
@@ -118,7 +118,7 @@ pub apart-turned : (a b : List ℕ) → bytes_eq a b ≡ false → bytes_eq b a 
 apart-turned a b apart =
     false_from_ne_true (bytes_eq b a) (λ same. both_ways (bytes_eq a b) apart ((bytes_eq-Decides a b).1 (sym ((bytes_eq-Decides b a).0 same))))
 
--- what is known of a member behind its released place
+-- what is known of a family behind its released place
 step-released : (d e : List ℕ → Bool) (m : List ℕ) (p : Place) → d m ≡ false → ((q : List ℕ) → bytes_eq m q ≡ false → d q ≡ e q)
     → is_of m p ≡ true → is_waiting p.phase ≡ true → (x : List ℕ) → step d p x ≡ step e (record p { phase = ready_at p.phase }) x
 step-released d e m p was others mine waiting x = elim (cases_Bool (bytes_eq m x)) [

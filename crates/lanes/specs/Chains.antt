@@ -1,5 +1,5 @@
 -- The slots of claims, linked lane by lane and back to the last of their account.
-use Rattle.std.specs.Prelude.{◌≡◌, ◌<◌, ◌==◌, ◌+◌, ℕ, true, false, Bool, cond, List, [], ◌∷◌, ◌++◌, map, length, take, get_or, slice_get, slice_set, Option, Some, None, count_by, vec_len, vec_capacity, if◌then◌else◌}
+use Rattle.std.specs.Prelude.{◌≡◌, ◌<◌, ◌==◌, ◌+◌, ◌^◌, ℕ, true, false, Bool, cond, List, [], ◌∷◌, ◌++◌, map, length, take, get_or, slice_get, slice_set, Option, Some, None, count_by, vec_len, vec_capacity, if◌then◌else◌}
 use Rattle.std.specs.Option.{option_map_or}
 use Rattle.std.specs.VecDeque.{deque_len, deque_capacity}
 use Rattle.settlement.specs.Accounts.{Account}
@@ -9,8 +9,6 @@ use Rattle.lanes.specs.Places.{Phase, Decided, InWork, Place, InTurn, Ready, is_
 use Rattle.lanes.specs.Calls.{phase_after, ready_at}
 use Rattle.lanes.specs.Lasts.{Key, HasRoomFor, end_of, found_in, house, is_key}
 use Rattle.lanes.specs.Names.{AreDistinct}
-use Rattle.lanes.specs.declared.ends.Ends.{Ends}
-use Rattle.lanes.specs.declared.lasts.Lasts.{Lasts}
 use Rattle.lanes.specs.declared.picked.Picked.{Picked}
 use Rattle.lanes.specs.declared.chains.Chains.{Chains}
 use Rattle.lanes.specs.declared.slot.Slot.{Slot}
@@ -34,6 +32,7 @@ places_of names slots = map (place_of names) slots
 
 -- room for one claim more, of this account
 pub record HasRoom (chains : Chains) (key : Key) : Type 0 where
+  pub position : vec_len chains.slots < 2 ^ 32
   pub slots : vec_len chains.slots < vec_capacity chains.slots
   pub ends : key.0 < length chains.ends.positions.items
   pub accounts : HasRoomFor chains.accounts key

@@ -52,7 +52,8 @@ impl Lanes {
         self.chains.slots.len()
     }
 
-    /// Adds a claim, of its member's account in this year, behind all others. The claim comes back where there is no memory.
+    /// Adds a claim, of its member's account in this year, behind all others. The claim comes back where there is no memory, as
+    /// for more than 2^32 claims.
     pub fn add(&mut self, claim: Claim, year: u16) -> Result<(), AllocFailed<Claim>>
         ensures added { IfOk result (λ _. self.new ≡ self.old ++ place_behind self.old claim year ∷ []) }
         ensures back { IfErr result (λ failed. failed.value ≡ claim) }

@@ -11,6 +11,7 @@ use crate::ends::Ends;
 use crate::lasts::{Key, Lasts};
 use crate::phase::Phase;
 use crate::picked::Picked;
+use crate::short::short;
 use crate::slot::{Slot, left_at};
 use settlement::{Acc, Claim};
 use std::alloc::{AllocError, Global};
@@ -53,6 +54,7 @@ impl Chains {
         ensures same { AreAs self.old self.new }
         ensures room { OnOk result (HasRoom self.new key) }
     {
+        let _position = short(self.slots.len())?;
         self.slots.reserve(1)?;
         self.ready.reserve(1)?;
         self.ends.prepare(key.0)?;
@@ -67,7 +69,7 @@ impl Chains {
         ensures slots { AddsSlot self.old self.new key claim (end_of self.old.ends key.0) }
         ensures back { TellsBack self.old self.new key (vec_len self.old.slots) }
     {
-        let position = self.slots.len();
+        let position = self.slots.len() as u32;
         let own = self.accounts.put(key, position);
         let household = self.households.put((key.0, key.0, key.2), position);
         let phase = match self.ends.put(key.0, position) {
@@ -84,11 +86,11 @@ impl Chains {
     }
 
     // Links the last slot of a lane to what comes behind it: the phase of the claim there.
-    fn follow(&mut self, last: usize, next: usize, claim: Claim) -> Phase
+    fn follow(&mut self, last: u32, next: u32, claim: Claim) -> Phase
         requires { last < vec_len self.old.slots }
         ensures { Follows self.old self.new last next claim result }
     {
-        let before = &mut self.slots[last];
+        let before = &mut self.slots[last as usize];
         before.next = Some(next);
         before.phase.behind(claim)
     }
@@ -122,6 +124,7 @@ impl Chains {
     {
         match self.slots[position].next {
             Some(next) => {
+                let next = next as usize;
                 self.ready.push_back(next)?;
                 self.slots[position].decide(left);
                 self.slots[next].release();

@@ -9,14 +9,14 @@ use std::collections::BTreeMap;
 use std::mem::replace;
 
 /// A family, a member, both by the numbers of their names, and a year.
-pub type Key = (usize, usize, u16);
+pub type Key = (u32, u32, u16);
 
 /// The last position of each key that has one. A member who is a family of its own, in no year, is found by its number, which takes
 /// less memory than a map; a key in the map may have no position.
 #[derive(Debug, Drop)]
 pub struct Lasts {
     pub plain: Ends,
-    pub others: BTreeMap<(usize, usize, u16), Option<usize>>,
+    pub others: BTreeMap<(u32, u32, u16), Option<u32>>,
 }
 
 impl Lasts {
@@ -43,7 +43,7 @@ impl Lasts {
     }
 
     /// Gives a key, for which there is room, its new last position, and tells the one before.
-    pub fn put(&mut self, key: Key, position: usize) -> Option<usize>
+    pub fn put(&mut self, key: Key, position: u32) -> Option<u32>
         requires { HasRoomFor self.old key }
         ensures before { result ≡ found_in self.old key }
         ensures found { (q : AnyKey) → found_in self.new q ≡ cond (is_key key q) (Some position) (found_in self.old q) }
@@ -64,10 +64,7 @@ fn is_plain(key: Key) -> bool
 }
 
 // Makes room for the key in a map: what is found stays as it is.
-fn prepare(
-    others: &mut BTreeMap<(usize, usize, u16), Option<usize>>,
-    key: Key,
-) -> Result<(), AllocError>
+fn prepare(others: &mut BTreeMap<(u32, u32, u16), Option<u32>>, key: Key) -> Result<(), AllocError>
     ensures same { (q : AnyKey) → found_among others.new q ≡ found_among others.old q }
     ensures room { OnOk result (IsSome (get key_cmp others.new key)) }
 {
@@ -79,11 +76,7 @@ fn prepare(
 }
 
 // Gives a key, for which there is room in a map, its new last position, and tells the one before.
-fn put(
-    others: &mut BTreeMap<(usize, usize, u16), Option<usize>>,
-    key: Key,
-    position: usize,
-) -> Option<usize>
+fn put(others: &mut BTreeMap<(u32, u32, u16), Option<u32>>, key: Key, position: u32) -> Option<u32>
     requires { IsSome (get key_cmp others.old key) }
     ensures before { result ≡ found_among others.old key }
     ensures found { (q : AnyKey) → found_among others.new q ≡ cond (is_key key q) (Some position) (found_among others.old q) }

@@ -13,6 +13,7 @@ mod lasts;
 mod names;
 mod phase;
 mod picked;
+mod short;
 mod slot;
 #[cfg(test)]
 mod tests;

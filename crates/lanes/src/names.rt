@@ -3,6 +3,7 @@ ghost use Rattle.std.specs.Prelude.{◌≡◌, ◌++◌, ◌∷◌, [], Some, On
 ghost use Rattle.std.specs.List.{slice_get};
 ghost use Rattle.lanes.specs.Names.{AreDistinct, Grows, IsAbsent};
 
+use crate::short::short;
 use std::alloc::{AllocError, Global};
 use std::collections::BTreeMap;
 use std::marker::Model;
@@ -11,7 +12,7 @@ use std::marker::Model;
 #[derive(Debug, Drop)]
 pub struct Names {
     alloc: Global,
-    numbers: BTreeMap<String, usize>,
+    numbers: BTreeMap<String, u32>,
 }
 
 impl Model for Names {
@@ -38,7 +39,7 @@ impl Names {
 
     /// The number of a name, which is added where it isn't there.
     #[tactic(auto, using(crate::proofs::Growing::grows_same, crate::proofs::Growing::grows_added))]
-    pub fn number(&mut self, name: &str) -> Result<usize, AllocError>
+    pub fn number(&mut self, name: &str) -> Result<u32, AllocError>
         ensures number { IfOk result (λ number. slice_get self.new number ≡ Some name.now) }
         ensures grows { Grows self.old self.new }
         ensures distinct { AreDistinct self.new }
@@ -50,7 +51,7 @@ impl Names {
     }
 
     // The number of a name.
-    fn find(&self, name: &str) -> Option<usize>
+    fn find(&self, name: &str) -> Option<u32>
         ensures found { IfSome result (λ number. slice_get self.now number ≡ Some name.now) }
         ensures absent { IfNone result (IsAbsent self.now name.now) }
         ensures distinct { AreDistinct self.now }
@@ -59,7 +60,7 @@ impl Names {
     }
 
     // Adds a name that isn't there: its number is how many were there.
-    fn add(&mut self, name: &str) -> Result<usize, AllocError>
+    fn add(&mut self, name: &str) -> Result<u32, AllocError>
         requires { IsAbsent self.old name.now }
         ensures number { IfOk result (λ number. slice_get self.new number ≡ Some name.now) }
         ensures added { OnOk result (self.new ≡ self.old ++ name.now ∷ []) }
@@ -67,7 +68,7 @@ impl Names {
         ensures distinct { AreDistinct self.new }
     {
         let key = String::from_str(self.alloc, name)?;
-        let number = self.numbers.len();
+        let number = short(self.numbers.len())?;
         let _before = self.numbers.insert(key, number)?;
         Ok(number)
     }

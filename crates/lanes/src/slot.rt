@@ -15,11 +15,11 @@ pub struct Slot {
     /// The numbers of its family, which is its lane, and of its member, and the year.
     pub key: Key,
     /// The position of the next claim in the lane.
-    pub next: Option<usize>,
+    pub next: Option<u32>,
     /// The position of the last claim before it of its account.
-    pub own: Option<usize>,
+    pub own: Option<u32>,
     /// The position of the last claim before it of its family and year.
-    pub household: Option<usize>,
+    pub household: Option<u32>,
     /// How far the claim is.
     pub phase: Phase,
 }
@@ -56,11 +56,11 @@ impl Slot {
 }
 
 /// What the claim at a place left, if there is one, and it is decided.
-pub fn left_at(slots: &[Slot], place: Option<usize>) -> Option<Acc>
+pub fn left_at(slots: &[Slot], place: Option<u32>) -> Option<Acc>
     ensures { result ≡ left_at slots.now place }
 {
     match place {
-        Some(position) => match slots.get(position) {
+        Some(position) => match slots.get(position as usize) {
             Some(slot) => slot.phase.left(),
             None => None,
         },

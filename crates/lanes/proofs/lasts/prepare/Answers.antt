@@ -1,4 +1,4 @@
-use Rattle.std.proofs.Common.{rules, sym, ◌∙◌}
+use Rattle.std.proofs.Common.{sym, ◌∙◌}
 use Rattle.lanes.proofs.Keys.{prepared}
 use Rattle.lanes.proofs.lasts.prepare.Goals as goal
 

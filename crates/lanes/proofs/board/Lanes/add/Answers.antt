@@ -1,6 +1,5 @@
-use Rattle.std.proofs.Common.{◌≡◌, ◌++◌, ◌∷◌, [], List, ap, ◌∙◌}
+use Rattle.std.proofs.Common.{◌++◌, ◌∷◌, [], List, ap, ◌∙◌}
 use Rattle.lanes.specs.Calls.{place_behind}
-use Rattle.lanes.specs.Chains.{places_of}
 use Rattle.lanes.specs.Places.{Place}
 use Rattle.lanes.proofs.Moves.{Adds, added-kept, added-places, end-within, grown-kept, grown-places, prepared-kept, prepared-places}
 use Rattle.lanes.proofs.board.Lanes.add.Goals as goal

@@ -1,5 +1,5 @@
 use Rattle.std.proofs.Common.{◌∙◌}
-use Rattle.lanes.proofs.Numbers.{distinct-members, look-absent, look-found}
+use Rattle.lanes.proofs.Numbers.{distinct-names, look-absent, look-found}
 use Rattle.lanes.proofs.names.Names.find.Goals as goal
 
 pub returns-clause-found : goal.returns-clause-found
@@ -11,4 +11,4 @@ returns-clause-absent c =
     rw (← c.self.view_is) (look-absent c.self.inside.numbers c.args.name.now c.copied.result c.self.invariant (c.copied.ensures ∙ c.get.ensures.value))
 
 pub returns-clause-distinct : goal.returns-clause-distinct
-returns-clause-distinct c = rw (← c.self.view_is) (distinct-members c.self.inside.numbers c.self.invariant)
+returns-clause-distinct c = rw (← c.self.view_is) (distinct-names c.self.inside.numbers c.self.invariant)
