@@ -119,7 +119,7 @@ fn settled<V: Valuer>(
     let roles = valuer.plan().roles().unwrap();
     match valuer.value(alloc, inputs) {
         Ok(env) => {
-            let decided = by_roles(alloc, inputs, &env, roles, places, vocabulary, billed, acc)?;
+            let decided = by_roles(inputs, &env, roles, places, vocabulary, billed, acc)?;
             Ok(decided)
         }
         Err(fault) => {
@@ -131,7 +131,6 @@ fn settled<V: Valuer>(
 
 // The outcome of a claim, over what the tables answer.
 fn by_roles(
-    alloc: Global,
     inputs: &Inputs,
     env: &Env,
     roles: &Roles,
@@ -144,7 +143,7 @@ fn by_roles(
     ensures { IfOk result (λ decided. decided ≡ by_roles roles.now billed acc inputs.now env.now) }
 {
     if !is_covered(inputs, env, roles, places) {
-        let remarks = remarks(alloc, env, &roles.remarks, places.remarks, vocabulary)?;
+        let remarks = remarks(env, &roles.remarks, places.remarks, vocabulary)?;
         return Ok(Outcome::denied(remarks));
     }
     let terms = match terms_of(inputs, env, roles, places) {
@@ -155,7 +154,7 @@ fn by_roles(
     if acc.plus(amounts.ded, amounts.share, amounts.paid).is_none() {
         return Ok(Outcome::pended(Reason::Range { table: 0 }));
     }
-    let remarks = remarks(alloc, env, &roles.remarks, places.remarks, vocabulary)?;
+    let remarks = remarks(env, &roles.remarks, places.remarks, vocabulary)?;
     Ok(Outcome::paid(amounts, remarks))
 }
 

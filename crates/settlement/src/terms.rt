@@ -69,7 +69,6 @@ pub fn terms_of(
 /// The remarks of the tables' output of this name, which stands at the place, if the plan names one. Those of the
 /// vocabulary's words cost no copy of a text.
 pub fn remarks(
-    alloc: Global,
     env: &Env,
     name: &Option<Name>,
     place: Option<OutputPlace>,
@@ -79,32 +78,29 @@ pub fn remarks(
     ensures { IfOk result (λ remarks. remarks ≡ remarks_of env.now name.now) }
 {
     match name {
-        Some(_) => texts(alloc, answered(env, place), vocabulary),
+        Some(_) => texts(answered(env, place), vocabulary),
         None => Ok(Remarks::none()),
     }
 }
 
-fn texts(
-    alloc: Global,
-    answer: Option<&Answer>,
-    vocabulary: &Vocabulary,
-) -> Result<Remarks, AllocError>
+fn texts(answer: Option<&Answer>, vocabulary: &Vocabulary) -> Result<Remarks, AllocError>
     ensures { IfOk result (λ texts. texts ≡ texts_of (option_copied answer.entry)) }
 {
     match answer {
-        Some(Answer::Many(values)) => texts_in(alloc, values.as_slice(), vocabulary),
+        Some(Answer::Many(values)) => texts_in(values.as_slice(), vocabulary),
         _ => Ok(Remarks::none()),
     }
 }
 
 // The texts by the vocabulary; it is asked whether they are, and where not, they are copied.
-fn texts_in(alloc: Global, values: &[Value], vocabulary: &Vocabulary) -> Result<Remarks, AllocError>
+fn texts_in(values: &[Value], vocabulary: &Vocabulary) -> Result<Remarks, AllocError>
     ensures { IfOk result (λ texts. texts ≡ filter_map text_of values.now) }
 {
-    let found = vocabulary.look_up(alloc, values)?;
+    let found = vocabulary.look_up(values)?;
     if are_texts_of(&found, values) {
         return Ok(found);
     }
+    let alloc = vocabulary.alloc();
     Remarks::new(alloc, copies_of(alloc, values)?)
 }
 

@@ -355,6 +355,13 @@ fn accumulators_leave_the_range_one_by_one(rt: HostRuntime) {
     }
 }
 
+fn may_cross_threads<T: Send + Sync>(_value: &T) {}
+
+#[test]
+fn an_outcome_may_cross_threads(rt: HostRuntime) {
+    may_cross_threads(&some_paid(&rt));
+}
+
 // The claim has the fields of its plan, and not those of another, which has more.
 fn fits_one(rt: &impl Abort, alloc: Global, plan: &Plan) -> Result<(), AllocError> {
     let claim = claim(rt, alloc, plan, 100, &["A"])?;

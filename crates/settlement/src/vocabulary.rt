@@ -8,15 +8,17 @@ use dtable::{OutputPlace, Plan, Sequence, Table};
 use feel_tests::{Text, Value};
 use smallvec::SmallVec;
 use std::alloc::{AllocError, Global};
+use std::cmp::Ordering;
 use std::sync::Arc;
 
 /// The texts that a plan's rules remark, from which the remarks of each outcome are put together by their places. It
 /// only finds: what it gives is to be asked whether it is what was sought, so that nothing is promised of it.
 #[derive(Drop)]
 pub struct Vocabulary {
+    alloc: Global,
     /// The words in the order of the rules, each once, as many as have a place.
     words: Arc<Sequence<Text>>,
-    /// Their places in the order of the words' bytes.
+    /// Their places in the order of the words' lengths, and of their bytes.
     order: Sequence<u8>,
     /// For each word the remarks that are that word alone.
     alone: Sequence<Remarks>,
@@ -39,15 +41,21 @@ impl Vocabulary {
         let words = Arc::new(alloc, words)?;
         let alone = each_alone(alloc, &words)?;
         Ok(Vocabulary {
+            alloc,
             words,
             order,
             alone,
         })
     }
 
+    /// The allocator of what it gives.
+    pub fn alloc(&self) -> Global {
+        self.alloc
+    }
+
     /// The texts of the values, where each is one of the words, and otherwise no remarks.
-    pub fn look_up(&self, alloc: Global, values: &[Value]) -> Result<Remarks, AllocError> {
-        let mut places = SmallVec::new(alloc);
+    pub fn look_up(&self, values: &[Value]) -> Result<Remarks, AllocError> {
+        let mut places = SmallVec::new(self.alloc);
         let mut next = 0;
         for value in values {
             let Some(place) = self.place_of(value, next) else {
@@ -59,7 +67,7 @@ impl Vocabulary {
         match places.as_slice() {
             [] => Ok(Remarks::none()),
             [place] => self.alone(*place),
-            _ => Remarks::placed(alloc, &self.words, places),
+            _ => Remarks::placed(self.alloc, &self.words, places),
         }
     }
 
@@ -90,10 +98,18 @@ impl Vocabulary {
 fn sought(words: &[Text], order: &[u8], text: &Text) -> Result<usize, usize>
     ensures { IsSearchInRange result (length order.now) }
 {
-    order.binary_search_by(|place| word_at(words, *place).cmp(text.as_str()))
+    order.binary_search_by(|place| order_of(word_at(words, *place), text.as_str()))
 }
 
-// Adds the entries of the table's rules for the output in the column, and its default.
+// A shorter text stands before a longer one, which is seen at once; of one length they stand in the order of their bytes.
+fn order_of(word: &str, text: &str) -> Ordering {
+    match word.len().cmp(&text.len()) {
+        Ordering::Equal => word.cmp(text),
+        order => order,
+    }
+}
+
+// Adds the entries of the table's rules for the output in the column. A list has no defaults in it.
 fn add_entries(
     alloc: Global,
     words: &mut Sequence<Text>,
@@ -104,11 +120,6 @@ fn add_entries(
     for rule in &table.rules {
         if let Some(entry) = rule.entries.as_slice().get(column) {
             add(alloc, words, order, entry)?;
-        }
-    }
-    if let Some(output) = table.outputs.as_slice().get(column) {
-        if let Some(fallback) = &output.fallback {
-            add(alloc, words, order, fallback)?;
         }
     }
     Ok(())
