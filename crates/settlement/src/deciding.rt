@@ -119,7 +119,7 @@ fn settled<V: Valuer>(
     let roles = valuer.plan().roles().unwrap();
     match valuer.value(alloc, inputs) {
         Ok(env) => {
-            let decided = by_roles(inputs, &env, roles, places, vocabulary, billed, acc)?;
+            let decided = by_roles(inputs, &env, roles, places, vocabulary, billed, &acc)?;
             Ok(decided)
         }
         Err(fault) => {
@@ -137,10 +137,10 @@ fn by_roles(
     places: &RolePlaces,
     vocabulary: &Vocabulary,
     billed: Money,
-    acc: Acc,
+    acc: &Acc,
 ) -> Result<Outcome, AllocError>
     requires { ArePlaced env.now.tables roles.now places.now }
-    ensures { IfOk result (λ decided. decided ≡ by_roles roles.now billed acc inputs.now env.now) }
+    ensures { IfOk result (λ decided. decided ≡ by_roles roles.now billed acc.now inputs.now env.now) }
 {
     if !is_covered(inputs, env, roles, places) {
         let remarks = remarks(env, &roles.remarks, places.remarks, vocabulary)?;
@@ -150,7 +150,8 @@ fn by_roles(
         Ok(terms) => terms,
         Err(role) => return Ok(Outcome::pended(Reason::Term(role))),
     };
-    let amounts = amounts_of(billed, terms, acc);
+    let amounts = amounts_of(billed, terms, *acc);
+    let acc = *acc;
     if acc.plus(amounts.ded, amounts.share, amounts.paid).is_none() {
         return Ok(Outcome::pended(Reason::Range { table: 0 }));
     }
