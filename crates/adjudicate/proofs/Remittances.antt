@@ -9,6 +9,7 @@ use Rattle.dtable.specs.declared.table.InputData.{InputData}
 use Rattle.dtable.specs.declared.plan_fault.PlanCause.TheVariants as cause
 use Rattle.dtable.specs.declared.plan_fault.PlanFault.{PlanFault}
 use Rattle.settlement.specs.declared.claim.Claim.{Claim}
+use Rattle.intake_csv.specs.Balances.{accounts_of}
 use Rattle.intake_csv.specs.Rows.{AreRowsOf, claims_among}
 use Rattle.intake_csv.specs.declared.rows.Row.{Row}
 use Rattle.journal.specs.declared.event.Event.{Event}
@@ -54,11 +55,11 @@ module _ (parts : TermsParts) (J : List Event) (finished : IsFinishedOver parts 
   -- a report of a finished journal is the remittance of its terms
   remittance_of : (bytes : List ℕ) → IsReport parts J bytes → IsRemittanceOf parts bytes
   remittance_of bytes report =
-      let T : Terms = record { plan = parts.plan; files = map claims_among report.files; balances = parts.balances; cutoff = parts.cutoff } in
+      let T : Terms = record { plan = parts.plan; files = map claims_among report.files; balances = accounts_of parts.balances; cutoff = parts.cutoff } in
       let are : IsTermsOf parts T = record {
         plan = refl;
         files = claims_of_rows parts.plan.names parts.files report.files report.are_rows;
-        openings = λ member. refl;
+        openings = λ account. refl;
         cutoff = refl;
       } in
       record { terms = T; are_terms = are; journal = J; finished = finished T are; report = report }

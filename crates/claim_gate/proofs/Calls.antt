@@ -1,5 +1,5 @@
 -- What a gate keeps stays as its journal says, and its calls are those of the gate of one thread.
-use Rattle.std.proofs.Common.{◌≡◌, ℕ, zero, suc, ◌<◌, ◌≤◌, ◌+◌, Bool, true, false, not, ◌&&◌, ◌||◌, cond, List, [], ◌∷◌, ◌++◌, take, length, get_or, replicate, fold, Option, Some, None, refl, sym, ap, ◌∙◌, subst, arith, add-zero, mul-zero}
+use Rattle.std.proofs.Common.{◌≡◌, ℕ, zero, suc, ◌<◌, ◌≤◌, ◌+◌, Bool, true, false, not, ◌&&◌, ◌||◌, cond, List, [], ◌∷◌, ◌++◌, take, length, get_or, replicate, fold, Option, Some, None, option_map, refl, sym, ap, ◌∙◌, subst, arith, add-zero, mul-zero}
 use Rattle.std.specs.List.{count_by, list_all}
 use Rattle.std.specs.Option.{option_map_or}
 use Rattle.std.proofs.lemmas.Bool.{both_ways, cond_both}
@@ -11,14 +11,17 @@ use Rattle.claim_terms.specs.Terms.{TermsParts, IsTermsOf, ForTerms}
 use Rattle.settlement.specs.declared.acc.Acc.{Acc}
 use Rattle.settlement.specs.declared.claim.Claim.{Claim}
 use Rattle.settlement.specs.declared.outcome.Outcome.{Outcome}
-use Rattle.lanes.specs.Places.{Place, is_decided, left_of, all_decided, phase_at, InTurn}
+use Rattle.lanes.specs.Places.{Place, is_decided, all_decided, phase_at, started, InTurn}
+use Rattle.lanes.specs.declared.picked.Picked.{Picked}
 use Rattle.lanes.specs.declared.phase.Phase.{Phase}
 use Rattle.lanes.specs.declared.phase.Phase.TheVariants.{Waiting, Ready, InWork, Decided}
-use Rattle.lanes.specs.Calls.{phase_behind, place_behind, with_phase, with_decision, NothingReady}
+use Rattle.lanes.specs.Calls.{phase_behind, place_behind, with_phase, with_decision, IsPicked, NothingReady}
+use Rattle.settlement.specs.Accounts.{account_of, account_year, family_of}
 use Rattle.settlement.specs.Opening.{opening}
+use Rattle.intake_csv.specs.Balances.{accounts_of}
 use Rattle.journal.specs.Terms.{Terms, claims_of}
 use Rattle.journal.specs.Settled.{outcome_of, accumulated}
-use Rattle.journal.specs.Events.{accepted, places, closed, is_close, taken, decided, claim_filed, claims, claim_at, left_by, before, reached, due, IsJob}
+use Rattle.journal.specs.Events.{accepted, places, closed, is_close, taken, decided, claim_filed, claims, claim_at, noted, before, reached, due, IsJob}
 use Rattle.journal.specs.Lawful.{Lawful, closing}
 use Rattle.journal.specs.Gate.{GateAt, OfferReply, EndReply, TakeReply, FinishReply, Offers, Ends, Takes, Finishes, is_any_decision}
 use Rattle.journal.specs.Laws.{StartsLawful, OfferGoes, EndGoes, TakeGoes, FinishGoes}
@@ -124,36 +127,36 @@ module _ (terms : TermsParts) (starts : StartsLawful) (b : Bool) (files : 1 ≤ 
 -- an accepted claim
 module _ (terms : TermsParts) (J : List Event) (stopped : Bool) (lanes : List Place) (intakes : List Intake) (is_closed : Bool) (decisions : ℕ)
     (kept : IsKept terms J lanes intakes is_closed decisions) where
-  module _ (goes : OfferGoes) (provider place : ℕ) (claim : Claim) (acc : Acc) (b : Bool)
+  module _ (goes : OfferGoes) (provider place : ℕ) (claim : Claim) (year : ℕ) (b : Bool)
       (runs : stopped ≡ false) (open_yet : closed J ≡ false)
       (filed : ForTerms terms (λ T. claim_filed T (record { provider = provider; place = place }) ≡ Some claim))
       (in_turn : ForTerms terms (λ T. place ≡ length (places J provider)))
-      (begins : acc ≡ opening terms.balances claim.member)
-      (when : b ≡ is_due terms (length (lanes ++ place_behind lanes claim acc ∷ [])) (with_accept intakes provider)) where
+      (dated : year ≡ account_year terms.plan claim)
+      (when : b ≡ is_due terms (length (lanes ++ place_behind lanes claim year ∷ [])) (with_accept intakes provider)) where
     abbrev accepted_in : List Event
     accepted_in = J ++ Accept provider place ∷ []
 
     abbrev lanes_behind : List Place
-    lanes_behind = lanes ++ place_behind lanes claim acc ∷ []
+    lanes_behind = lanes ++ place_behind lanes claim year ∷ []
 
-    not_begun : is_begun (phase_behind lanes claim acc) ≡ false
+    not_begun : is_begun (phase_behind lanes claim) ≡ false
     not_begun =
-        cond_both (all_decided claim.member lanes) (Ready claim (left_of claim.member acc lanes)) (Waiting claim)
+        cond_both (all_decided (family_of claim) lanes) (Ready claim) (Waiting claim)
         (λ phase. is_begun phase ≡ false) (λ h. refl) (λ h. refl)
 
-    undecided : is_decided (phase_behind lanes claim acc) ≡ false
+    undecided : is_decided (phase_behind lanes claim) ≡ false
     undecided =
-        cond_both (all_decided claim.member lanes) (Ready claim (left_of claim.member acc lanes)) (Waiting claim)
+        cond_both (all_decided (family_of claim) lanes) (Ready claim) (Waiting claim)
         (λ phase. is_decided phase ≡ false) (λ h. refl) (λ h. refl)
 
     tied_accept : IsTied terms accepted_in lanes_behind (with_accept intakes provider)
     tied_accept = record {
       intakes_are = intakes_accept J (length terms.files) intakes kept.intakes_are provider place;
-      marked = marked_accept J lanes provider place (place_behind lanes claim acc) kept.marked not_begun undecided;
+      marked = marked_accept J lanes provider place (place_behind lanes claim year) kept.marked not_begun undecided;
       places_are = λ T is.
-          places_accept T J accepted_in lanes claim acc
+          places_accept T J accepted_in lanes claim year
           (claims_more T J (Accept provider place) ∙ ap (λ c. claims T J ++ c ∷ []) (filed T is)) kept.marked.as_many (kept.places_are T is)
-          (begins ∙ sym (is.openings claim.member));
+          (dated ∙ ap (λ p. account_year p claim) (sym is.plan));
     }
 
     open_behind : closed accepted_in ≡ false
@@ -234,21 +237,37 @@ module _ (terms : TermsParts) (J : List Event) (stopped : Bool) (lanes : List Pl
   places_still T event same are = places_stay_claims T J (J ++ event ∷ []) lanes same kept.marked.as_many are
 
   -- a claim that is taken
-  module _ (goes : TakeGoes) (k : ℕ) (claim : Claim) (acc : Acc) (turns : InTurn (with_phase lanes k InWork)) (runs : stopped ≡ false) (not_over : ¬ IsOver J)
-      (picked : phase_at lanes k ≡ Some (Ready claim acc)) where
-    pub take_work : (T : Terms) → IsTermsOf terms T → Takes (gate T J stopped) (TakeReply.Work k claim acc) (gate T (J ++ Take k ∷ []) stopped)
-    take_work T is =
-        (runs, λ F. not_over (record { closed = F.closed; all = F.all }), ready_is_work T J lanes kept.marked (kept.places_are T is) stopped k claim acc turns picked, refl)
+  module _ (goes : TakeGoes) (picked : Picked) (acc : Acc) (turns : InTurn (with_phase lanes picked.position InWork)) (runs : stopped ≡ false) (not_over : ¬ IsOver J)
+      (is_picked : IsPicked lanes picked) (begins : acc ≡ started (opening (accounts_of terms.balances) (account_of terms.plan picked.claim)) picked.own picked.household) where
+    abbrev k : ℕ
+    k = picked.position
 
-    pub kept_take : IsKept terms (J ++ Take k ∷ []) (with_phase lanes k InWork) intakes is_closed decisions
+    begins_so : (T : Terms) → IsTermsOf terms T → acc ≡ started (opening T.balances (account_of T.plan picked.claim)) picked.own picked.household
+    begins_so T is =
+        begins
+        ∙ ap (λ p. started (opening (accounts_of terms.balances) (account_of p picked.claim)) picked.own picked.household) (sym is.plan)
+        ∙ ap (λ a. started a picked.own picked.household) (sym (is.openings (account_of T.plan picked.claim)))
+
+    pub take_work : (T : Terms) → IsTermsOf terms T → Takes (gate T J stopped) (TakeReply.Work picked.position picked.claim acc) (gate T (J ++ Take picked.position ∷ []) stopped)
+    take_work T is = (
+      runs,
+      λ F. not_over (record { closed = F.closed; all = F.all }),
+      ready_is_work T J lanes kept.marked (kept.places_are T is) stopped picked acc turns is_picked (begins_so T is),
+      refl,
+    )
+
+    ready_there : phase_at lanes k ≡ Some (Ready picked.claim)
+    ready_there = ap (option_map (λ (p : Place). p.phase)) is_picked.there ∙ ap Some is_picked.ready
+
+    pub kept_take : IsKept terms (J ++ Take picked.position ∷ []) (with_phase lanes picked.position InWork) intakes is_closed decisions
     kept_take = record {
       closed_is = kept.closed_is ∙ sym (any_stays is_close J (Take k) refl);
       decisions_are = kept.decisions_are ∙ sym (decisions_stay J (Take k) refl);
       intakes_are = intakes_stay J (length terms.files) intakes (Take k) kept.intakes_are (λ p. refl) (λ p. refl) refl;
-      marked = marked_take J lanes k (Ready claim acc) kept.marked picked refl refl;
+      marked = marked_take J lanes k (Ready picked.claim) kept.marked ready_there refl refl;
       places_are = λ T is. places_take T (J ++ Take k ∷ []) lanes k (places_still T (Take k) (claims_stay T J (Take k) refl) (kept.places_are T is));
       lawful = λ T is.
-          (goes (gate T J stopped) (gate T (J ++ Take k ∷ []) stopped) (TakeReply.Work k claim acc) (kept.lawful T is) (take_work T is)).lawful;
+          (goes (gate T J stopped) (gate T (J ++ Take k ∷ []) stopped) (TakeReply.Work k picked.claim acc) (kept.lawful T is) (take_work T is)).lawful;
     }
 
   pub take_over : (T : Terms) → IsTermsOf terms T → stopped ≡ false → IsOver J → Takes (gate T J stopped) TakeReply.Over (gate T J stopped)
@@ -262,11 +281,11 @@ module _ (terms : TermsParts) (J : List Event) (stopped : Bool) (lanes : List Pl
   module _ (goes : FinishGoes) (k : ℕ) (claim : Claim) (acc left : Acc) (outcome : Outcome) (runs : stopped ≡ false)
       (once : decided J k ≡ false) (in_work : taken J k ≡ true)
       (job : ForTerms terms (λ T. IsJob T J k claim acc))
-      (settled : outcome ≡ outcome_of terms.plan claim acc) (leaves : left ≡ accumulated acc outcome) where
+      (settled : outcome ≡ outcome_of terms.plan claim acc) (leaves : left ≡ accumulated true true acc outcome) where
     work_by : (phase : Option Phase) → option_map_or is_begun phase false ≡ true → option_map_or is_decided phase false ≡ false → phase ≡ Some InWork
     work_by None b d = absurd (both_ways false refl b)
     work_by (Some (Waiting c)) b d = absurd (both_ways false refl b)
-    work_by (Some (Ready c a)) b d = absurd (both_ways false refl b)
+    work_by (Some (Ready c)) b d = absurd (both_ways false refl b)
     work_by (Some InWork) b d = refl
     work_by (Some (Decided l)) b d = absurd (both_ways true d refl)
 
@@ -287,14 +306,15 @@ module _ (terms : TermsParts) (J : List Event) (stopped : Bool) (lanes : List Pl
         let p = has_place lanes k InWork is_in_work in
         let here : k < length lanes = slice_get_within lanes k p.place p.there in
         let stands : claim_at T decided_in k ≡ Some claim = ap (λ cs. get_or cs k None) same ∙ (job T is).stands in
-        let at : acc ≡ before T decided_in k claim.member =
-        (job T is).left ∙ ap (λ cs. fold (left_by T.plan claim.member) (opening T.balances claim.member) (take k cs)) (sym same) in
-        let leaves_so : left ≡ before T decided_in (suc k) claim.member =
+        let account = account_of T.plan claim in
+        let at : acc ≡ before T decided_in k account =
+        (job T is).left ∙ ap (λ cs. fold (noted T.plan) (opening T.balances) (take k cs) account) (sym same) in
+        let leaves_so : left ≡ before T decided_in (suc k) account =
         leaves
-        ∙ ap (accumulated acc) (settled ∙ ap (λ p. outcome_of p claim acc) (sym is.plan))
-        ∙ ap (λ a. accumulated a (outcome_of T.plan claim a)) at
+        ∙ ap (accumulated true true acc) (settled ∙ ap (λ p. outcome_of p claim acc) (sym is.plan))
+        ∙ ap (λ a. accumulated true true a (outcome_of T.plan claim a)) at
         ∙ sym (own_leaves T decided_in k claim stands (omega arith)) in
-        places_decision T decided_in lanes many (places_still T (Decide k outcome) same (kept.places_are T is)) k claim left stands leaves_so
+        places_decision T decided_in lanes (places_still T (Decide k outcome) same (kept.places_are T is)) k claim left stands leaves_so
 
     pub kept_decision : IsKept terms decided_in (with_decision lanes k left) intakes is_closed (decisions + 1)
     kept_decision = record {

@@ -1,24 +1,29 @@
 -- The places stay those of the claims at their positions.
-use Rattle.std.proofs.Common.{◌≡◌, ℕ, zero, suc, ◌<◌, ◌≤◌, ◌+◌, Bool, true, false, not, ◌||◌, ◌&&◌, List, [], ◌∷◌, ◌++◌, take, length, get_or, Option, Some, None, ◌⊎◌, fold, refl, sym, ap, ◌∙◌, subst, inl, inr, arith, add-one, append-nil}
+use Rattle.std.proofs.Common.{◌≡◌, ℕ, zero, suc, ◌<◌, ◌≤◌, ◌+◌, ℤ, pos, ◌+ℤ◌, ◌==◌, Bool, true, false, not, ◌||◌, ◌&&◌, List, [], ◌∷◌, ◌++◌, take, length, get_or, Option, Some, None, ◌⊎◌, fold, refl, sym, ap, ◌∙◌, subst, inl, inr, arith, add-one, append-nil, eqb-true}
 use Rattle.std.specs.List.{slice_get}
 use Rattle.std.specs.Str.{bytes_eq}
 use Rattle.std.proofs.Math.Seq.{get_or-append_seam}
-use Rattle.std.proofs.lemmas.Bool.{both_ways, cond-true, cond-false, and_parts, cond_both}
+use Rattle.std.proofs.lemmas.Bool.{both_ways, and_from, and_parts, cond_both, eq-eqb}
+use Rattle.std.proofs.lemmas.Int.{ints}
 use Rattle.std.proofs.lemmas.List.{get_or_append_left, take-append-le, take_all}
 use Rattle.std.proofs.lemmas.List.Folds.{list_all_more}
 use Rattle.std.proofs.lemmas.List.Sums.{fold_more}
 use Rattle.std.proofs.lemmas.Option.{none-some, same_Some, slice_get-get_or, slice_get_within}
 use Rattle.std.proofs.lemmas.Slice.Eq.{bytes_eq-Decides}
+use Rattle.dtable.specs.Plan.{PlanParts}
+use Rattle.settlement.specs.Accounts.{Account, account_of, account_year, family_of, grown, is_household, is_same, part}
 use Rattle.settlement.specs.declared.acc.Acc.{Acc}
+use Rattle.settlement.specs.declared.account.Balance.{Balance}
 use Rattle.settlement.specs.declared.claim.Claim.{Claim}
-use Rattle.lanes.specs.Places.{Place, is_of, is_decided, left_in, left_by, left_of, all_decided}
+use Rattle.settlement.specs.declared.outcome.Outcome.{Outcome}
+use Rattle.lanes.specs.Places.{Place, is_of, is_decided, joined, left_in, left_by, standing, all_decided}
 use Rattle.lanes.specs.declared.phase.Phase.{Phase}
 use Rattle.lanes.specs.declared.phase.Phase.TheVariants.{Waiting, Ready, InWork, Decided}
 use Rattle.lanes.specs.Calls.{place_behind, with_phase}
 use Rattle.settlement.specs.Opening.{opening}
 use Rattle.journal.specs.Terms.{Terms}
 use Rattle.journal.specs.Settled.{outcome_of, accumulated}
-use Rattle.journal.specs.Events.{accepted, claims, claim_at, before, left_by as journal_left_by}
+use Rattle.journal.specs.Events.{Book, noted, accepted, claims, claim_at, before}
 use Rattle.journal.specs.declared.event.Event.{Event}
 use Rattle.claim_gate.specs.Kept.{IsPhaseOf, IsPlaceAt, ArePlacesOf}
 use Rattle.claim_gate.proofs.Journals.{length-claims}
@@ -31,18 +36,18 @@ pushed (z ∷ xs) x y zero h = inl h
 pushed (z ∷ xs) x y (suc i) h =
     elim (pushed xs x y i h) [ inl earlier ↦ inl earlier | inr newest ↦ inr (ap suc newest.0, newest.1) ]
 
-phase_along : (claim : Claim) (acc acc' left left' : Acc) (phase : Phase) → acc ≡ acc' → left ≡ left' → IsPhaseOf claim acc left phase → IsPhaseOf claim acc' left' phase
-phase_along claim acc acc' left left' (Waiting c) e f h = h
-phase_along claim acc acc' left left' (Ready c a) e f h = (h.0, h.1 ∙ e)
-phase_along claim acc acc' left left' InWork e f h = tt
-phase_along claim acc acc' left left' (Decided l) e f h = h ∙ f
+phase_along : (claim : Claim) (left left' : Acc) (phase : Phase) → left ≡ left' → IsPhaseOf claim left phase → IsPhaseOf claim left' phase
+phase_along claim left left' (Waiting c) f h = h
+phase_along claim left left' (Ready c) f h = h
+phase_along claim left left' InWork f h = tt
+phase_along claim left left' (Decided l) f h = h ∙ f
 
 -- a journal with more claims behind
 module _ (T : Terms) (J K : List Event) (more : List (Option Claim)) (longer : claims T K ≡ claims T J ++ more) where
-  pub before_stays : (k : ℕ) (member : List ℕ) → k ≤ accepted J → before T K k member ≡ before T J k member
-  before_stays k member within =
-      ap (λ cs. fold (journal_left_by T.plan member) (opening T.balances member) (take k cs)) longer
-      ∙ ap (fold (journal_left_by T.plan member) (opening T.balances member))
+  pub before_stays : (k : ℕ) (account : Account) → k ≤ accepted J → before T K k account ≡ before T J k account
+  before_stays k account within =
+      ap (λ cs. fold (noted T.plan) (opening T.balances) (take k cs) account) longer
+      ∙ ap (λ cs. fold (noted T.plan) (opening T.balances) cs account)
       (take-append-le k (claims T J) more (subst (λ n. k ≤ n) (sym (length-claims T J)) within))
 
   pub claim_stays : (k : ℕ) → k < accepted J → claim_at T K k ≡ claim_at T J k
@@ -54,10 +59,10 @@ module _ (T : Terms) (J K : List Event) (more : List (Option Claim)) (longer : c
   place_stays k place within is = record {
     claim = is.claim;
     stands = claim_stays k within ∙ is.stands;
-    member = is.member;
+    account = is.account;
     phase =
-        phase_along is.claim (before T J k is.claim.member) (before T K k is.claim.member) (before T J (suc k) is.claim.member) (before T K (suc k) is.claim.member) place.phase
-        (sym (before_stays k is.claim.member (omega arith))) (sym (before_stays (suc k) is.claim.member (omega arith))) is.phase;
+        phase_along is.claim (before T J (suc k) (account_of T.plan is.claim)) (before T K (suc k) (account_of T.plan is.claim)) place.phase
+        (sym (before_stays (suc k) (account_of T.plan is.claim) (omega arith))) is.phase;
   }
 
 -- the places of a journal that accepts no more
@@ -67,117 +72,195 @@ places_stay_claims T J K lanes same many are k place there =
     let within : k < length lanes = slice_get_within lanes k place there in
     place_stays T J K [] (same ∙ sym (append-nil (claims T J))) k place (omega arith) (are k place there)
 
--- what a decided claim left
-left_is : (claim : Claim) (acc left other : Acc) (phase : Phase) → IsPhaseOf claim acc left phase → is_decided phase ≡ true → left_in phase other ≡ left
-left_is claim acc left other (Waiting c) h is = absurd (both_ways false refl is)
-left_is claim acc left other (Ready c a) h is = absurd (both_ways false refl is)
-left_is claim acc left other InWork h is = absurd (both_ways false refl is)
-left_is claim acc left other (Decided l) h is = h
+-- no place
+nobody : Account
+nobody = record { family = []; member = []; year = 0 }
+
+pub nowhere : Place
+nowhere = record { account = nobody; phase = InWork }
+
+plus_none : (x : ℤ) → x +ℤ pos 0 ≡ x
+plus_none x = omega (arith, ints)
 
 -- of two facts, of which the first fails, the second holds
 pub other_of : (b c : Bool) → (not b || c) ≡ true → b ≡ true → c ≡ true
 other_of true c h is = h
 other_of false c h is = absurd (both_ways false refl is)
 
-pub nowhere : Place
-nowhere = record { member = []; phase = InWork }
+left_is : (claim : Claim) (left other : Acc) (phase : Phase) → IsPhaseOf claim left phase → is_decided phase ≡ true → left_in phase other ≡ left
+left_is claim left other (Waiting c) h is = absurd (both_ways false refl is)
+left_is claim left other (Ready c) h is = absurd (both_ways false refl is)
+left_is claim left other InWork h is = absurd (both_ways false refl is)
+left_is claim left other (Decided l) h is = h
 
-same_bytes : (member : List ℕ) → bytes_eq member member ≡ true
-same_bytes member = (bytes_eq-Decides member member).1 refl
+same_acc : (a b : Acc) → a.met ≡ b.met → a.oop ≡ b.oop → a.paid ≡ b.paid → a.fmet ≡ b.fmet → a.foop ≡ b.foop → a ≡ b
+same_acc a b m o p f g = λ i. record { met = m i; oop = o i; paid = p i; fmet = f i; foop = g i }
 
--- what the claim at a position leaves
-pub before_next : (T : Terms) (J : List Event) (k : ℕ) (member : List ℕ) → k < accepted J
-    → before T J (suc k) member ≡ journal_left_by T.plan member (before T J k member) (claim_at T J k)
-before_next T J k member within =
-    let here : k < length (claims T J) = subst (λ n. k < n) (sym (length-claims T J)) within in
-    ap (λ n. before T J n member) (sym (add-one k))
-    ∙ fold_more (journal_left_by T.plan member) (opening T.balances member) (claims T J) k None here
+-- what is opened of the settlement: nothing is added to another household, and of another member's claim the family's sums alone grow
+none_grown : (o : Outcome) (acc : Acc) → accumulated false false acc o ≡ acc
+unfolding accumulated
+none_grown o acc = same_acc (grown false false acc o) acc (plus_none acc.met) (plus_none acc.oop) (plus_none acc.paid) (plus_none acc.fmet) (plus_none acc.foop)
 
--- a claim of another member leaves its accumulators as they are
-pub other_leaves : (T : Terms) (J : List Event) (k : ℕ) (member : List ℕ) (claim : Claim) → k < accepted J → claim_at T J k ≡ Some claim
-    → bytes_eq claim.member member ≡ false → before T J (suc k) member ≡ before T J k member
-other_leaves T J k member claim within stands other =
-    before_next T J k member within
-    ∙ ap (journal_left_by T.plan member (before T J k member)) stands
-    ∙ cond-false (bytes_eq claim.member member) (accumulated (before T J k member) (outcome_of T.plan claim (before T J k member))) (before T J k member) other
+own_stays : (o : Outcome) (acc : Acc) → ((accumulated false true acc o).met ≡ acc.met) × ((accumulated false true acc o).oop ≡ acc.oop) × ((accumulated false true acc o).paid ≡ acc.paid)
+unfolding accumulated
+own_stays o acc = (plus_none acc.met, plus_none acc.oop, plus_none acc.paid)
 
--- and its own claim leaves its settlement's
-pub own_leaves : (T : Terms) (J : List Event) (k : ℕ) (claim : Claim) → claim_at T J k ≡ Some claim → k < accepted J
-    → before T J (suc k) claim.member ≡ accumulated (before T J k claim.member) (outcome_of T.plan claim (before T J k claim.member))
-own_leaves T J k claim stands within =
-    before_next T J k claim.member within
-    ∙ ap (journal_left_by T.plan claim.member (before T J k claim.member)) stands
-    ∙ cond-true (bytes_eq claim.member claim.member) (accumulated (before T J k claim.member) (outcome_of T.plan claim (before T J k claim.member)))
-    (before T J k claim.member) (same_bytes claim.member)
+shared_grows : (one other shared : Bool) (a b : Acc) (o : Outcome) → a.fmet ≡ b.fmet → a.foop ≡ b.foop
+    → ((accumulated one shared a o).fmet ≡ (accumulated other shared b o).fmet) × ((accumulated one shared a o).foop ≡ (accumulated other shared b o).foop)
+unfolding accumulated
+shared_grows one other shared a b o f g = (ap (λ x. x +ℤ part shared o.ded) f, ap (λ x. x +ℤ part shared o.share) g)
 
-module _ (T : Terms) (J : List Event) (lanes : List Place) (many : length lanes ≡ accepted J) (are : ArePlacesOf T J lanes) (member : List ℕ) where
-  place_by : (b : Bool) (k : ℕ) (place : Place) (is : IsPlaceAt T J k place) → bytes_eq is.claim.member member ≡ b → k < accepted J
-      → (not (is_of member place) || is_decided place.phase) ≡ true → left_by member (before T J k member) place ≡ before T J (suc k) member
-  place_by true k place is own within fits =
-      let same : is.claim.member ≡ member = (bytes_eq-Decides is.claim.member member).0 own in
-      let mine : is_of member place ≡ true = ap (λ m. bytes_eq m member) is.member ∙ own in
-      cond-true (is_of member place) (left_in place.phase (before T J k member)) (before T J k member) mine
-      ∙ left_is is.claim (before T J k is.claim.member) (before T J (suc k) is.claim.member) (before T J k member) place.phase is.phase (other_of (is_of member place) (is_decided place.phase) fits mine)
-      ∙ ap (before T J (suc k)) same
-  place_by false k place is other within fits =
-      cond-false (is_of member place) (left_in place.phase (before T J k member)) (before T J k member) (ap (λ m. bytes_eq m member) is.member ∙ other)
-      ∙ sym (other_leaves T J k member is.claim within is.stands other)
+shared_noted : (plan : PlanParts) (book : Book) (c : Option Claim) → ((a b : Account) → a.family ≡ b.family → a.year ≡ b.year → ((book a).fmet ≡ (book b).fmet) × ((book a).foop ≡ (book b).foop))
+    → (a b : Account) → a.family ≡ b.family → a.year ≡ b.year → ((noted plan book c a).fmet ≡ (noted plan book c b).fmet) × ((noted plan book c a).foop ≡ (noted plan book c b).foop)
+shared_noted plan book None h a b f y = h a b f y
+shared_noted plan book (Some c) h a b f y =
+    let k = account_of plan c in
+    let o = outcome_of plan c (book k) in
+    let same : is_household k a ≡ is_household k b = (λ i. bytes_eq k.family (f i) && (k.year == y i)) in
+    let old = h a b f y in
+    let grows = shared_grows (is_same k a) (is_same k b) (is_household k b) (book a) (book b) o old.0 old.1 in (
+      ap (λ s. (accumulated (is_same k a) s (book a) o).fmet) same ∙ grows.0,
+      ap (λ s. (accumulated (is_same k a) s (book a) o).foop) same ∙ grows.1,
+    )
 
-  -- what the last of the member's claims left is what the member has before the next position
-  pub left_before : (n : ℕ) → n ≤ length lanes → all_decided member (take n lanes) ≡ true → left_of member (opening T.balances member) (take n lanes) ≡ before T J n member
-  left_before zero within h = refl
-  left_before (suc n) within h =
-      let here : n < length lanes = omega arith in
-      let place : Place = get_or lanes n nowhere in
-      let is : IsPlaceAt T J n place = are n place (slice_get-get_or lanes n nowhere here) in
-      let step : all_decided member (take (n + 1) lanes) ≡ (all_decided member (take n lanes) && (not (is_of member place) || is_decided place.phase)) =
-      list_all_more (λ p. not (is_of member p) || is_decided p.phase) lanes n nowhere here in
-      let parts = and_parts (all_decided member (take n lanes)) (not (is_of member place) || is_decided place.phase)
-      (sym step ∙ ap (λ k. all_decided member (take k lanes)) (add-one n) ∙ h) in
-      ap (λ k. left_of member (opening T.balances member) (take k lanes)) (sym (add-one n))
-      ∙ fold_more (left_by member) (opening T.balances member) lanes n nowhere here
-      ∙ ap (λ acc. left_by member acc place) (left_before n (omega arith) parts.0)
-      ∙ place_by (bytes_eq is.claim.member member) n place is refl (omega arith) parts.1
+shared_fold : (plan : PlanParts) (cs : List (Option Claim)) (book : Book) → ((a b : Account) → a.family ≡ b.family → a.year ≡ b.year → ((book a).fmet ≡ (book b).fmet) × ((book a).foop ≡ (book b).foop))
+    → (a b : Account) → a.family ≡ b.family → a.year ≡ b.year → ((fold (noted plan) book cs a).fmet ≡ (fold (noted plan) book cs b).fmet) × ((fold (noted plan) book cs a).foop ≡ (fold (noted plan) book cs b).foop)
+shared_fold plan [] book h = h
+shared_fold plan (c ∷ cs) book h = shared_fold plan cs (noted plan book c) (shared_noted plan book c h)
 
-module _ (T : Terms) (J K : List Event) (lanes : List Place) (claim : Claim) (acc : Acc) (longer : claims T K ≡ claims T J ++ Some claim ∷ [])
-    (many : length lanes ≡ accepted J) (are : ArePlacesOf T J lanes) (begins : acc ≡ opening T.balances claim.member) where
-  -- what a claim that is ready at once is ready at
-  ready_behind : all_decided claim.member lanes ≡ true → left_of claim.member acc lanes ≡ before T K (length lanes) claim.member
-  ready_behind h =
-      let whole : take (length lanes) lanes ≡ lanes = take_all (length lanes) lanes (omega arith) in
-      ap (λ a. left_of claim.member a lanes) begins
-      ∙ ap (left_of claim.member (opening T.balances claim.member)) (sym whole)
-      ∙ left_before T J lanes many are claim.member (length lanes) (omega arith) (ap (all_decided claim.member) whole ∙ h)
-      ∙ sym (before_stays T J K (Some claim ∷ []) longer (length lanes) claim.member (omega arith))
+shared_opening : (es : List (Account × Balance)) (a b : Account) → a.family ≡ b.family → a.year ≡ b.year → ((opening es a).fmet ≡ (opening es b).fmet) × ((opening es a).foop ≡ (opening es b).foop)
+shared_opening [] a b f y = (refl, refl)
+shared_opening (e ∷ es) a b f y =
+    let old = shared_opening es a b f y in (
+      λ i. old.0 i +ℤ part (bytes_eq e.0.family (f i) && (e.0.year == y i)) e.1.met,
+      λ i. old.1 i +ℤ part (bytes_eq e.0.family (f i) && (e.0.year == y i)) e.1.oop,
+    )
 
-  newest : IsPlaceAt T K (length lanes) (place_behind lanes claim acc)
+same_bytes : (bytes : List ℕ) → bytes_eq bytes bytes ≡ true
+same_bytes bytes = (bytes_eq-Decides bytes bytes).1 refl
+
+module _ (T : Terms) (J : List Event) where
+  before_next : (k : ℕ) → k < accepted J → (a : Account) → before T J (suc k) a ≡ noted T.plan (before T J k) (claim_at T J k) a
+  before_next k here a =
+      let within : k < length (claims T J) = subst (λ n. k < n) (sym (length-claims T J)) here in
+      ap (λ n. before T J n a) (sym (add-one k))
+      ∙ ap (λ (b : Book). b a) (fold_more (noted T.plan) (opening T.balances) (claims T J) k None within)
+
+  -- what the claim at a position makes of an account
+  makes : (k : ℕ) (c : Claim) → k < accepted J → claim_at T J k ≡ Some c → (a : Account)
+      → before T J (suc k) a
+      ≡ accumulated (is_same (account_of T.plan c) a) (is_household (account_of T.plan c) a) (before T J k a) (outcome_of T.plan c (before T J k (account_of T.plan c)))
+  makes k c here stands a = before_next k here a ∙ ap (λ o. noted T.plan (before T J k) o a) stands
+
+  -- and of its own one
+  pub own_leaves : (k : ℕ) (c : Claim) → claim_at T J k ≡ Some c → k < accepted J
+      → before T J (suc k) (account_of T.plan c)
+      ≡ accumulated true true (before T J k (account_of T.plan c)) (outcome_of T.plan c (before T J k (account_of T.plan c)))
+  own_leaves k c stands here =
+      let a = account_of T.plan c in
+      let shared : is_household a a ≡ true = and_from (bytes_eq a.family a.family) (a.year == a.year) (same_bytes a.family) (eq-eqb a.year a.year refl) in
+      let own : is_same a a ≡ true = and_from (is_household a a) (bytes_eq a.member a.member) shared (same_bytes a.member) in
+      makes k c here stands a ∙ (λ i. accumulated (own i) (shared i) (before T J k a) (outcome_of T.plan c (before T J k a)))
+
+  module _ (places : List Place) (many : length places ≡ accepted J) (are : ArePlacesOf T J places) (account : Account) where
+    same_account : (c : Account) → is_household c account ≡ true → bytes_eq c.member account.member ≡ true → c ≡ account
+    same_account c h m =
+        let parts = and_parts (bytes_eq c.family account.family) (c.year == account.year) h in
+        let f : c.family ≡ account.family = (bytes_eq-Decides c.family account.family).0 parts.0 in
+        let y : c.year ≡ account.year = eqb-true c.year account.year parts.1 in
+        let n : c.member ≡ account.member = (bytes_eq-Decides c.member account.member).0 m in
+        λ i. record { family = f i; member = n i; year = y i }
+
+    -- a place of another household, one of the account, and one of another member of the household
+    step_by : (h m : Bool) (k : ℕ) (place : Place) (is : IsPlaceAt T J k place) → k < accepted J
+        → is_household (account_of T.plan is.claim) account ≡ h → bytes_eq (account_of T.plan is.claim).member account.member ≡ m
+        → (h ≡ true → is_decided place.phase ≡ true)
+        → joined (h && m) h (left_in place.phase (before T J k account)) (before T J k account) ≡ before T J (suc k) account
+    step_by false m k place is here household same decided =
+        let c = account_of T.plan is.claim in
+        let acc = before T J k account in
+        let o = outcome_of T.plan is.claim (before T J k c) in
+        sym (
+        makes k is.claim here is.stands account
+        ∙ (λ i. accumulated (household i && bytes_eq c.member account.member) (household i) acc o)
+        ∙ none_grown o acc
+        )
+    step_by true true k place is here household same decided =
+        let c = account_of T.plan is.claim in
+        let acc = before T J k account in
+        left_is is.claim (before T J (suc k) c) acc place.phase is.phase (decided refl)
+        ∙ ap (before T J (suc k)) (same_account c household same)
+    step_by true false k place is here household same decided =
+        let c = account_of T.plan is.claim in
+        let acc = before T J k account in
+        let o = outcome_of T.plan is.claim (before T J k c) in
+        let made : before T J (suc k) account ≡ accumulated false true acc o =
+        makes k is.claim here is.stands account ∙ (λ i. accumulated (household i && same i) (household i) acc o) in
+        let own = own_stays o acc in
+        let left = left_is is.claim (before T J (suc k) c) acc place.phase is.phase (decided refl) in
+        let parts = and_parts (bytes_eq c.family account.family) (c.year == account.year) household in
+        let f = (bytes_eq-Decides c.family account.family).0 parts.0 in
+        let y = eqb-true c.year account.year parts.1 in
+        let family = shared_fold T.plan (take (suc k) (claims T J)) (opening T.balances) (shared_opening T.balances) c account f y in
+        same_acc (joined false true (left_in place.phase acc) acc) (before T J (suc k) account)
+        (sym (ap (λ (a : Acc). a.met) made ∙ own.0))
+        (sym (ap (λ (a : Acc). a.oop) made ∙ own.1))
+        (sym (ap (λ (a : Acc). a.paid) made ∙ own.2))
+        (ap (λ (a : Acc). a.fmet) left ∙ family.0)
+        (ap (λ (a : Acc). a.foop) left ∙ family.1)
+
+    -- a place of the household is in the lane
+    in_lane : (place : Place) (c : Account) → place.account ≡ c → is_household c account ≡ true → is_of account.family place ≡ true
+    in_lane place c same household =
+        ap (λ (a : Account). bytes_eq a.family account.family) same ∙ (and_parts (bytes_eq c.family account.family) (c.year == account.year) household).0
+
+    pub stands_before : (n : ℕ) → n ≤ length places → all_decided account.family (take n places) ≡ true
+        → standing account (opening T.balances account) (take n places) ≡ before T J n account
+    stands_before zero within h = refl
+    stands_before (suc n) within h =
+        let here : n < length places = omega arith in
+        let place : Place = get_or places n nowhere in
+        let is : IsPlaceAt T J n place = are n place (slice_get-get_or places n nowhere here) in
+        let c = account_of T.plan is.claim in
+        let parts = and_parts (all_decided account.family (take n places)) (not (is_of account.family place) || is_decided place.phase)
+        (sym (list_all_more (λ p. not (is_of account.family p) || is_decided p.phase) places n nowhere here) ∙ ap (λ k. all_decided account.family (take k places)) (add-one n) ∙ h) in
+        ap (λ k. standing account (opening T.balances account) (take k places)) (sym (add-one n))
+        ∙ fold_more (left_by account) (opening T.balances account) places n nowhere here
+        ∙ ap (λ acc. left_by account acc place) (stands_before n (omega arith) parts.0)
+        ∙ ap (λ (a : Account). joined (is_same a account) (is_household a account) (left_in place.phase (before T J n account)) (before T J n account)) is.account
+        ∙ step_by (is_household c account) (bytes_eq c.member account.member) n place is (omega arith) refl refl
+        (λ household. other_of (is_of account.family place) (is_decided place.phase) parts.1 (in_lane place c is.account household))
+
+module _ (T : Terms) (J K : List Event) (lanes : List Place) (claim : Claim) (year : ℕ) (longer : claims T K ≡ claims T J ++ Some claim ∷ [])
+    (many : length lanes ≡ accepted J) (are : ArePlacesOf T J lanes) (dated : year ≡ account_year T.plan claim) where
+  newest : IsPlaceAt T K (length lanes) (place_behind lanes claim year)
   newest = record {
     claim = claim;
     stands =
         ap (λ cs. get_or cs (length lanes) None) longer
         ∙ ap (λ n. get_or (claims T J ++ Some claim ∷ []) n None) (many ∙ sym (length-claims T J))
         ∙ get_or-append_seam (claims T J) (Some claim) [] None;
-    member = refl;
+    account = λ i. record { family = family_of claim; member = claim.member; year = dated i };
     phase =
-        cond_both (all_decided claim.member lanes) (Ready claim (left_of claim.member acc lanes)) (Waiting claim)
-        (IsPhaseOf claim (before T K (length lanes) claim.member) (before T K (suc (length lanes)) claim.member))
-        (λ h. (refl, ready_behind h)) (λ h. refl);
+        cond_both (all_decided (family_of claim) lanes) (Ready claim) (Waiting claim)
+        (IsPhaseOf claim (before T K (suc (length lanes)) (account_of T.plan claim)))
+        (λ h. refl) (λ h. refl);
   }
 
   -- the places with that of a claim that is accepted
-  pub places_accept : ArePlacesOf T K (lanes ++ place_behind lanes claim acc ∷ [])
+  pub places_accept : ArePlacesOf T K (lanes ++ place_behind lanes claim year ∷ [])
   places_accept k place there =
-      elim (pushed lanes (place_behind lanes claim acc) place k there) [
+      elim (pushed lanes (place_behind lanes claim year) place k there) [
         | inl earlier ↦
             let within : k < length lanes = slice_get_within lanes k place earlier in
             place_stays T J K (Some claim ∷ []) longer k place (omega arith) (are k place earlier)
         | inr last ↦
-            subst (IsPlaceAt T K k) last.1 (subst (λ j. IsPlaceAt T K j (place_behind lanes claim acc)) (sym last.0) newest)
+            subst (IsPlaceAt T K k) last.1 (subst (λ j. IsPlaceAt T K j (place_behind lanes claim year)) (sym last.0) newest)
       ]
 
--- a place of the same member that says nothing of its claim
+-- a place of the same account that says nothing of its claim
 in_work : (T : Terms) (J : List Event) (k : ℕ) (old : Place) → IsPlaceAt T J k old → IsPlaceAt T J k (record old { phase = InWork })
-in_work T J k old is = record { claim = is.claim; stands = is.stands; member = is.member; phase = tt }
+in_work T J k old is = record { claim = is.claim; stands = is.stands; account = is.account; phase = tt }
 
 with_phase_is : (lanes : List Place) (k : ℕ) (phase : Phase) (j : ℕ) (place : Place) → slice_get (with_phase lanes k phase) j ≡ Some place
     → (slice_get lanes j ≡ Some place) ⊎ ((old : Place) × (slice_get lanes j ≡ Some old) × (place ≡ record old { phase = phase }))

@@ -30,19 +30,19 @@ decisions_in lanes = count_by (λ place. is_decided place.phase) lanes
 
 -- the test says the same of a claim that waits and of one that is ready
 abbrev Ignores : (Phase → Bool) → Type 0
-Ignores test = (acc : Acc) (phase : Phase) → test (ready_at acc phase) ≡ test phase
+Ignores test = (phase : Phase) → test (ready_at phase) ≡ test phase
 
 begun_ignores : Ignores is_begun
-begun_ignores acc (Waiting claim) = refl
-begun_ignores acc (Ready claim a) = refl
-begun_ignores acc InWork = refl
-begun_ignores acc (Decided left) = refl
+begun_ignores (Waiting claim) = refl
+begun_ignores (Ready claim) = refl
+begun_ignores InWork = refl
+begun_ignores (Decided left) = refl
 
 decided_ignores : Ignores is_decided
-decided_ignores acc (Waiting claim) = refl
-decided_ignores acc (Ready claim a) = refl
-decided_ignores acc InWork = refl
-decided_ignores acc (Decided left) = refl
+decided_ignores (Waiting claim) = refl
+decided_ignores (Ready claim) = refl
+decided_ignores InWork = refl
+decided_ignores (Decided left) = refl
 
 -- one place more, that fails the test
 tested_push : (test : Phase → Bool) (lanes : List Place) (place : Place) → test place.phase ≡ false
@@ -83,49 +83,49 @@ decisions-with_phase (x ∷ lanes) (suc k) old phase h same =
     ∙ ap (λ n. cond (is_decided x.phase) 1 0 + n) (decisions-with_phase lanes k old phase h same)
     ∙ sym (sum_by-cons (λ place. cond (is_decided place.phase) 1 0) x lanes)
 
--- the next place of a member is ready
-abbrev or_released : Bool → Acc → Place → List Place → List Place → List Place
-or_released b acc x lanes rest = cond b (record x { phase = ready_at acc x.phase } ∷ lanes) (x ∷ rest)
+-- the next place of a family is ready
+abbrev or_released : Bool → Place → List Place → List Place → List Place
+or_released b x lanes rest = cond b (record x { phase = ready_at x.phase } ∷ lanes) (x ∷ rest)
 
-tested_or : (test : Phase → Bool) → Ignores test → (b : Bool) (acc : Acc) (x : Place) (lanes rest : List Place)
-    → ((k : ℕ) → tested test rest k ≡ tested test lanes k) → (k : ℕ) → tested test (or_released b acc x lanes rest) k ≡ tested test (x ∷ lanes) k
-tested_or test ignores true acc x lanes rest h zero = ignores acc x.phase
-tested_or test ignores true acc x lanes rest h (suc k) = refl
-tested_or test ignores false acc x lanes rest h zero = refl
-tested_or test ignores false acc x lanes rest h (suc k) = h k
+tested_or : (test : Phase → Bool) → Ignores test → (b : Bool) (x : Place) (lanes rest : List Place)
+    → ((k : ℕ) → tested test rest k ≡ tested test lanes k) → (k : ℕ) → tested test (or_released b x lanes rest) k ≡ tested test (x ∷ lanes) k
+tested_or test ignores true x lanes rest h zero = ignores x.phase
+tested_or test ignores true x lanes rest h (suc k) = refl
+tested_or test ignores false x lanes rest h zero = refl
+tested_or test ignores false x lanes rest h (suc k) = h k
 
-tested_released : (test : Phase → Bool) → Ignores test → (member : List ℕ) (acc : Acc) (lanes : List Place)
-    → (k : ℕ) → tested test (released member acc lanes) k ≡ tested test lanes k
-tested_released test ignores member acc [] k = refl
-tested_released test ignores member acc (x ∷ lanes) k =
-    tested_or test ignores (is_of member x) acc x lanes (released member acc lanes) (tested_released test ignores member acc lanes) k
+tested_released : (test : Phase → Bool) → Ignores test → (member : List ℕ) (lanes : List Place)
+    → (k : ℕ) → tested test (released member lanes) k ≡ tested test lanes k
+tested_released test ignores member [] k = refl
+tested_released test ignores member (x ∷ lanes) k =
+    tested_or test ignores (is_of member x) x lanes (released member lanes) (tested_released test ignores member lanes) k
 
-length_or : (b : Bool) (acc : Acc) (x : Place) (lanes rest : List Place) → length rest ≡ length lanes → length (or_released b acc x lanes rest) ≡ length (x ∷ lanes)
-length_or true acc x lanes rest h = refl
-length_or false acc x lanes rest h = ap suc h
+length_or : (b : Bool) (x : Place) (lanes rest : List Place) → length rest ≡ length lanes → length (or_released b x lanes rest) ≡ length (x ∷ lanes)
+length_or true x lanes rest h = refl
+length_or false x lanes rest h = ap suc h
 
-length-released : (member : List ℕ) (acc : Acc) (lanes : List Place) → length (released member acc lanes) ≡ length lanes
-length-released member acc [] = refl
-length-released member acc (x ∷ lanes) = length_or (is_of member x) acc x lanes (released member acc lanes) (length-released member acc lanes)
+length-released : (member : List ℕ) (lanes : List Place) → length (released member lanes) ≡ length lanes
+length-released member [] = refl
+length-released member (x ∷ lanes) = length_or (is_of member x) x lanes (released member lanes) (length-released member lanes)
 
-decisions_or : (b : Bool) (acc : Acc) (x : Place) (lanes rest : List Place) → decisions_in rest ≡ decisions_in lanes → decisions_in (or_released b acc x lanes rest) ≡ decisions_in (x ∷ lanes)
-decisions_or true acc x lanes rest h =
-    sum_by-cons (λ place. cond (is_decided place.phase) 1 0) (record x { phase = ready_at acc x.phase }) lanes
-    ∙ ap (λ b. cond b 1 0 + decisions_in lanes) (decided_ignores acc x.phase)
+decisions_or : (b : Bool) (x : Place) (lanes rest : List Place) → decisions_in rest ≡ decisions_in lanes → decisions_in (or_released b x lanes rest) ≡ decisions_in (x ∷ lanes)
+decisions_or true x lanes rest h =
+    sum_by-cons (λ place. cond (is_decided place.phase) 1 0) (record x { phase = ready_at x.phase }) lanes
+    ∙ ap (λ b. cond b 1 0 + decisions_in lanes) (decided_ignores x.phase)
     ∙ sym (sum_by-cons (λ place. cond (is_decided place.phase) 1 0) x lanes)
-decisions_or false acc x lanes rest h =
+decisions_or false x lanes rest h =
     sum_by-cons (λ place. cond (is_decided place.phase) 1 0) x rest
     ∙ ap (λ n. cond (is_decided x.phase) 1 0 + n) h
     ∙ sym (sum_by-cons (λ place. cond (is_decided place.phase) 1 0) x lanes)
 
-decisions-released : (member : List ℕ) (acc : Acc) (lanes : List Place) → decisions_in (released member acc lanes) ≡ decisions_in lanes
-decisions-released member acc [] = refl
-decisions-released member acc (x ∷ lanes) = decisions_or (is_of member x) acc x lanes (released member acc lanes) (decisions-released member acc lanes)
+decisions-released : (member : List ℕ) (lanes : List Place) → decisions_in (released member lanes) ≡ decisions_in lanes
+decisions-released member [] = refl
+decisions-released member (x ∷ lanes) = decisions_or (is_of member x) x lanes (released member lanes) (decisions-released member lanes)
 
 -- a decision at one position
 length-with_decision : (lanes : List Place) (k : ℕ) (left : Acc) → length (with_decision lanes k left) ≡ length lanes
 length-with_decision [] k left = refl
-length-with_decision (x ∷ lanes) zero left = ap suc (length-released x.member left lanes)
+length-with_decision (x ∷ lanes) zero left = ap suc (length-released x.account.family lanes)
 length-with_decision (x ∷ lanes) (suc k) left = ap suc (length-with_decision lanes k left)
 
 decision_here : (lanes : List Place) (k : ℕ) (old : Phase) (left : Acc) → phase_at lanes k ≡ Some old → phase_at (with_decision lanes k left) k ≡ Some (Decided left)
@@ -137,7 +137,7 @@ decision_elsewhere : (test : Phase → Bool) → Ignores test → (lanes : List 
     → tested test (with_decision lanes k left) j ≡ tested test lanes j
 decision_elsewhere test ignores [] k j left other = refl
 decision_elsewhere test ignores (x ∷ lanes) zero zero left other = absurd (other refl)
-decision_elsewhere test ignores (x ∷ lanes) zero (suc j) left other = tested_released test ignores x.member left lanes j
+decision_elsewhere test ignores (x ∷ lanes) zero (suc j) left other = tested_released test ignores x.account.family lanes j
 decision_elsewhere test ignores (x ∷ lanes) (suc k) zero left other = refl
 decision_elsewhere test ignores (x ∷ lanes) (suc k) (suc j) left other = decision_elsewhere test ignores lanes k j left (λ e. other (ap suc e))
 
@@ -148,8 +148,8 @@ decisions-with_decision : (lanes : List Place) (k : ℕ) (left : Acc) → phase_
 decisions-with_decision [] k left h = absurd (none-some InWork h)
 decisions-with_decision (x ∷ lanes) zero left h =
     let undecided : is_decided x.phase ≡ false = ap is_decided (same_Some x.phase InWork h) in
-    count_by-yes (λ place. is_decided place.phase) (record x { phase = Decided left }) (released x.member left lanes) refl
-    ∙ ap suc (decisions-released x.member left lanes)
+    count_by-yes (λ place. is_decided place.phase) (record x { phase = Decided left }) (released x.account.family lanes) refl
+    ∙ ap suc (decisions-released x.account.family lanes)
     ∙ sym (ap suc (count_by-no (λ place. is_decided place.phase) x lanes undecided))
 decisions-with_decision (x ∷ lanes) (suc k) left h =
     sum_by-cons (λ place. cond (is_decided place.phase) 1 0) x (with_decision lanes k left)

@@ -7,19 +7,22 @@ use Rattle.std.proofs.lemmas.List.{get_or-take, length-take-le}
 use Rattle.std.proofs.lemmas.List.Recursion.{and_at, and_from_places}
 use Rattle.std.proofs.lemmas.Option.{none-some, same_Some, slice_get-get_or, slice_get_within}
 use Rattle.std.proofs.lemmas.Slice.Eq.{bytes_eq-Decides}
+use Rattle.settlement.specs.Accounts.{Account, account_of, family_of}
+use Rattle.settlement.specs.Opening.{opening}
 use Rattle.settlement.specs.declared.acc.Acc.{Acc}
 use Rattle.settlement.specs.declared.claim.Claim.{Claim}
-use Rattle.lanes.specs.Places.{Place, is_of, is_waiting, is_ready, is_decided, all_decided, phase_at, InTurn}
+use Rattle.lanes.specs.Places.{Place, is_of, is_waiting, is_ready, is_decided, all_decided, phase_at, standing, started, InTurn}
 use Rattle.lanes.specs.declared.phase.Phase.{Phase}
 use Rattle.lanes.specs.declared.phase.Phase.TheVariants.{Waiting, Ready, InWork, Decided}
-use Rattle.lanes.specs.Calls.{NothingReady, with_phase}
+use Rattle.lanes.specs.declared.picked.Picked.{Picked}
+use Rattle.lanes.specs.Calls.{IsPicked, NothingReady, with_phase}
 use Rattle.journal.specs.Terms.{Terms}
-use Rattle.journal.specs.Events.{accepted, taken, decided, member_at, before}
+use Rattle.journal.specs.Events.{accepted, taken, decided, lane_at, before}
 use Rattle.journal.specs.Lawful.{IsReady}
 use Rattle.journal.specs.Gate.{IsWork}
 use Rattle.journal.specs.declared.event.Event.{Event}
 use Rattle.claim_gate.specs.Kept.{is_begun, IsPhaseOf, ArePlacesOf, AreMarked}
-use Rattle.claim_gate.proofs.Claims.{nowhere, other_of}
+use Rattle.claim_gate.proofs.Claims.{nowhere, other_of, stands_before}
 
 -- another phase at a position changes no place in front of it, and no member
 front_stays : (lanes : List Place) (k : ℕ) (phase : Phase) → take k (with_phase lanes k phase) ≡ take k lanes
@@ -48,10 +51,10 @@ has_place lanes k phase h = has_place_by (slice_get lanes k) lanes k phase refl 
 
 module _ (T : Terms) (J : List Event) (lanes : List Place) (marked : AreMarked J lanes) (are : ArePlacesOf T J lanes) where
   -- the place is the member's whose claim stands at its position
-  member_is : (k : ℕ) (place : Place) → slice_get lanes k ≡ Some place → member_at T J k ≡ Some place.member
+  member_is : (k : ℕ) (place : Place) → slice_get lanes k ≡ Some place → lane_at T J k ≡ Some place.account.family
   member_is k place there =
       let is = are k place there in
-      ap (option_map (λ c. c.member)) is.stands ∙ ap Some (sym is.member)
+      ap (option_map family_of) is.stands ∙ ap (λ (a : Account). Some a.family) (sym is.account)
 
   -- the journal has the decision of a position where its place is decided
   decided_is : (k : ℕ) (place : Place) → slice_get lanes k ≡ Some place → decided J k ≡ is_decided place.phase
@@ -62,7 +65,7 @@ module _ (T : Terms) (J : List Event) (lanes : List Place) (marked : AreMarked J
 
   -- where each place of the member in front is decided, so is each of its claims
   turn_from_places : (member : List ℕ) (k : ℕ) → k ≤ length lanes → all_decided member (take k lanes) ≡ true
-      → (j : ℕ) → j < k → member_at T J j ≡ Some member → decided J j ≡ true
+      → (j : ℕ) → j < k → lane_at T J j ≡ Some member → decided J j ≡ true
   turn_from_places member k within h j below its =
       let place : Place = get_or lanes j nowhere in
       let there : slice_get lanes j ≡ Some place = slice_get-get_or lanes j nowhere (omega arith) in
@@ -72,21 +75,21 @@ module _ (T : Terms) (J : List Event) (lanes : List Place) (marked : AreMarked J
       let test : (not (is_of member (get_or (take k lanes) j nowhere)) || is_decided (get_or (take k lanes) j nowhere).phase) ≡ true =
       and_at (all_decided member) (λ p. not (is_of member p) || is_decided p.phase) refl (λ x xs. refl) (take k lanes) j nowhere shorter h in
       let fits : (not (is_of member place) || is_decided place.phase) ≡ true = subst (λ p. (not (is_of member p) || is_decided p.phase) ≡ true) same test in
-      let mine : is_of member place ≡ true = (bytes_eq-Decides place.member member).1 (same_Some place.member member (sym (member_is j place there) ∙ its)) in
+      let mine : is_of member place ≡ true = (bytes_eq-Decides place.account.family member).1 (same_Some place.account.family member (sym (member_is j place there) ∙ its)) in
       decided_is j place there ∙ other_of (is_of member place) (is_decided place.phase) fits mine
 
-  place_in_turn : (member : List ℕ) (k : ℕ) → ((j : ℕ) → j < k → member_at T J j ≡ Some member → decided J j ≡ true)
+  place_in_turn : (member : List ℕ) (k : ℕ) → ((j : ℕ) → j < k → lane_at T J j ≡ Some member → decided J j ≡ true)
       → (j : ℕ) (place : Place) → j < k → slice_get lanes j ≡ Some place → (b : Bool) → is_of member place ≡ b
       → (not (is_of member place) || is_decided place.phase) ≡ true
   place_in_turn member k turn j place below there true mine =
-      let same : place.member ≡ member = (bytes_eq-Decides place.member member).0 mine in
+      let same : place.account.family ≡ member = (bytes_eq-Decides place.account.family member).0 mine in
       or_right (not (is_of member place)) (is_decided place.phase)
       (sym (decided_is j place there) ∙ turn j below (member_is j place there ∙ ap Some same))
   place_in_turn member k turn j place below there false other =
       or_left (not (is_of member place)) (is_decided place.phase) (not_from_false (is_of member place) other)
 
   -- and the other way round
-  places_from_turn : (member : List ℕ) (k : ℕ) → k ≤ length lanes → ((j : ℕ) → j < k → member_at T J j ≡ Some member → decided J j ≡ true)
+  places_from_turn : (member : List ℕ) (k : ℕ) → k ≤ length lanes → ((j : ℕ) → j < k → lane_at T J j ≡ Some member → decided J j ≡ true)
       → all_decided member (take k lanes) ≡ true
   places_from_turn member k within turn =
       and_from_places (all_decided member) (λ p. not (is_of member p) || is_decided p.phase) refl (λ x xs. refl) (take k lanes) nowhere
@@ -99,29 +102,35 @@ module _ (T : Terms) (J : List Event) (lanes : List Place) (marked : AreMarked J
       (place_in_turn member k turn j (get_or lanes j nowhere) below there (is_of member (get_or lanes j nowhere)) refl))
 
   -- a place that is ready is the job of its position
-  pub ready_is_work : (stopped : Bool) (k : ℕ) (claim : Claim) (acc : Acc) → InTurn (with_phase lanes k InWork) → phase_at lanes k ≡ Some (Ready claim acc)
-      → IsWork (record { terms = T; journal = J; stopped = stopped }) k claim acc
-  ready_is_work stopped k claim acc turns h =
-      let p = has_place lanes k (Ready claim acc) h in
+  pub ready_is_work : (stopped : Bool) (picked : Picked) (acc : Acc) → InTurn (with_phase lanes picked.position InWork) → IsPicked lanes picked
+      → acc ≡ started (opening T.balances (account_of T.plan picked.claim)) picked.own picked.household
+      → IsWork (record { terms = T; journal = J; stopped = stopped }) picked.position picked.claim acc
+  ready_is_work stopped picked acc turns p at =
+      let k = picked.position in
       let within : k < length lanes = slice_get_within lanes k p.place p.there in
       let many : length lanes ≡ accepted J = marked.as_many in
       let is = are k p.place p.there in
-      let holds : (claim ≡ is.claim) × (acc ≡ before T J k is.claim.member) =
-      subst (IsPhaseOf is.claim (before T J k is.claim.member) (before T J (suc k) is.claim.member)) p.phase_is is.phase in
-      let calm : not (all_decided p.place.member (take k lanes)) ≡ false =
-      ap (λ w. not (all_decided p.place.member w)) (sym (front_stays lanes k InWork))
+      let account = account_of T.plan picked.claim in
+      let same : picked.claim ≡ is.claim = subst (IsPhaseOf is.claim (before T J (suc k) (account_of T.plan is.claim))) p.ready is.phase in
+      let whose : p.place.account ≡ account = is.account ∙ ap (account_of T.plan) (sym same) in
+      let calm : not (all_decided p.place.account.family (take k lanes)) ≡ false =
+      ap (λ w. not (all_decided p.place.account.family w)) (sym (front_stays lanes k InWork))
       ∙ sym (turns.waits k (record p.place { phase = InWork }) (place_here lanes k InWork p.place p.there)) in
+      let settled = not-false (all_decided p.place.account.family (take k lanes)) calm in
       record {
         ready = record {
           behind = omega arith;
-          once = taken_is k p.place p.there ∙ ap is_begun p.phase_is;
-          in_turn = λ j below same.
-              turn_from_places p.place.member k (omega arith) (not-false (all_decided p.place.member (take k lanes)) calm) j below
-              (same ∙ member_is k p.place p.there);
+          once = taken_is k p.place p.there ∙ ap is_begun p.ready;
+          in_turn = λ j below its.
+              turn_from_places p.place.account.family k (omega arith) settled j below (its ∙ member_is k p.place p.there);
         };
         job = record {
-          stands = is.stands ∙ ap Some (sym holds.0);
-          left = holds.1 ∙ ap (λ (c : Claim). before T J k c.member) (sym holds.0);
+          stands = is.stands ∙ ap Some (sym same);
+          left =
+              at
+              ∙ p.stands (opening T.balances account)
+              ∙ ap (λ a. standing a (opening T.balances account) (take k lanes)) whose
+              ∙ stands_before T J lanes many are account k (omega arith) (ap (λ (a : Account). all_decided a.family (take k lanes)) (sym whose) ∙ settled);
         };
       }
 
@@ -129,10 +138,10 @@ module _ (T : Terms) (J : List Event) (lanes : List Place) (marked : AreMarked J
     unready_by : (k : ℕ) (place : Place) (phase : Phase) → slice_get lanes k ≡ Some place → place.phase ≡ phase → is_ready phase ≡ false → IsReady T J k → ⊥
     unready_by k place (Waiting claim) there is unready r =
         let within : k < length lanes = slice_get_within lanes k place there in
-        let waits : not (all_decided place.member (take k lanes)) ≡ true = sym (in_turn.waits k place there) ∙ ap is_waiting is in
-        both_ways (all_decided place.member (take k lanes)) (not-true (all_decided place.member (take k lanes)) waits)
-        (places_from_turn place.member k (omega arith) (λ j below its. r.in_turn j below (its ∙ sym (member_is k place there))))
-    unready_by k place (Ready claim acc) there is unready r = both_ways true unready refl
+        let waits : not (all_decided place.account.family (take k lanes)) ≡ true = sym (in_turn.waits k place there) ∙ ap is_waiting is in
+        both_ways (all_decided place.account.family (take k lanes)) (not-true (all_decided place.account.family (take k lanes)) waits)
+        (places_from_turn place.account.family k (omega arith) (λ j below its. r.in_turn j below (its ∙ sym (member_is k place there))))
+    unready_by k place (Ready claim) there is unready r = both_ways true unready refl
     unready_by k place InWork there is unready r = both_ways (taken J k) r.once (taken_is k place there ∙ ap is_begun is)
     unready_by k place (Decided left) there is unready r = both_ways (taken J k) r.once (taken_is k place there ∙ ap is_begun is)
 

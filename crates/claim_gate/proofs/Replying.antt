@@ -1,9 +1,9 @@
 -- What the calls of a gate answer, by what it keeps.
-use Rattle.std.proofs.Common.{◌≡◌, ℕ, zero, suc, ◌<◌, ◌≤◌, ◌+◌, ◌==◌, Bool, true, false, List, [], ◌∷◌, ◌++◌, length, get_or, replicate, cond, Option, Some, None, option_map, IsSome, IsTrue, refl, sym, ap, ◌∙◌, subst, inl, inr, arith, length-append, append_assoc}
+use Rattle.std.proofs.Common.{◌≡◌, ℕ, zero, suc, ◌<◌, ◌≤◌, ◌+◌, ◌==◌, ◌&&◌, Bool, true, false, List, [], ◌∷◌, ◌++◌, length, get_or, replicate, cond, Option, Some, None, option_map, IsSome, IsTrue, refl, sym, ap, ◌∙◌, subst, inl, inr, arith, length-append, append_assoc}
 use Rattle.std.specs.Borrow.{Bor}
 use Rattle.std.specs.List.{count_by, list_all, slice_get}
-use Rattle.std.specs.Option.{SomeIff, option_map_or}
-use Rattle.std.proofs.lemmas.Bool.{cases_lt}
+use Rattle.std.specs.Option.{SomeIff, is_some, option_map_or}
+use Rattle.std.proofs.lemmas.Bool.{both_ways, cases_lt}
 use Rattle.std.proofs.lemmas.List.{get_or_past, length-map}
 use Rattle.std.proofs.lemmas.List.Recursion.{and_at, and_from_places}
 use Rattle.std.proofs.lemmas.Option.{none-some, same_Some, slice_get-get_or}
@@ -14,10 +14,13 @@ use Rattle.settlement.specs.declared.claim.Claim.{Claim}
 use Rattle.settlement.specs.declared.outcome.Outcome.{Outcome}
 use Rattle.dtable.specs.Plan.{PlanParts}
 use Rattle.claim_terms.specs.Terms.{TermsParts, AreTerms, texts_of, ForTerms}
-use Rattle.lanes.specs.Places.{Place, is_decided, phase_at, InTurn}
-use Rattle.lanes.specs.declared.phase.Phase.TheVariants.{Ready, InWork}
-use Rattle.lanes.specs.Calls.{place_behind, with_phase, with_decision, NothingReady}
+use Rattle.lanes.specs.Places.{Place, is_decided, phase_at, started, InTurn}
+use Rattle.lanes.specs.declared.phase.Phase.TheVariants.{InWork}
+use Rattle.lanes.specs.declared.picked.Picked.{Picked}
+use Rattle.lanes.specs.Calls.{place_behind, with_phase, with_decision, IsPicked, NothingReady}
+use Rattle.settlement.specs.Accounts.{account_of, account_year}
 use Rattle.settlement.specs.Opening.{opening}
+use Rattle.intake_csv.specs.Balances.{accounts_of}
 use Rattle.journal.specs.Terms.{Terms, IsProvider, claims_of}
 use Rattle.journal.specs.Settled.{outcome_of, accumulated}
 use Rattle.journal.specs.Events.{accepted, place_in, places, closed, taken, decided, IsJob}
@@ -172,7 +175,7 @@ module _ (s : Inside) (g : GateParts) (is : seen s ≡ g) (kept : Keeps s) where
   over_seen : IsOver s.journal.items → IsOver g.journal
   over_seen h = subst (λ w. IsOver w.journal) is h
 
-  module _ (offer : Offer) (position : ℕ) (acc : Acc) (J1 J2 : List Event) (lanes : List Place) (intakes : List Intake) (b : Bool) where
+  module _ (offer : Offer) (position year : ℕ) (J1 J2 : List Event) (lanes : List Place) (intakes : List Intake) (b : Bool) where
     -- a claim that is accepted
     pub record IsAccepted : Type 0 where
       pub keeps : IsKept s.terms.now J2 lanes intakes b s.decisions
@@ -181,25 +184,25 @@ module _ (s : Inside) (g : GateParts) (is : seen s ≡ g) (kept : Keeps s) where
 
     pub accepts : OfferGoes → g.stopped ≡ false → closed g.journal ≡ false → ForTerms g.terms (λ T. IsFiled T offer)
         → ForTerms g.terms (λ T. offer.place ≡ length (places g.journal offer.provider))
-        → position ≡ length s.lanes → acc ≡ opening s.terms.now.balances offer.claim.member
-        → lanes ≡ s.lanes ++ place_behind s.lanes offer.claim acc ∷ [] → intakes ≡ with_accept s.intakes offer.provider
+        → position ≡ length s.lanes → year ≡ account_year s.terms.now.plan offer.claim
+        → lanes ≡ s.lanes ++ place_behind s.lanes offer.claim year ∷ [] → intakes ≡ with_accept s.intakes offer.provider
         → J1 ≡ s.journal.items ++ Accept offer.provider offer.place ∷ [] → J2 ≡ closed_where b J1
         → b ≡ is_due s.terms.now (length lanes) intakes
         → IsAccepted
-    accepts goes runs open_yet filed turn stands begins lanes_are intakes_are accept_is journal_is when =
+    accepts goes runs open_yet filed turn stands dated lanes_are intakes_are accept_is journal_is when =
         let runs' : s.stopped ≡ false = runs_so runs in
         let open' : closed s.journal.items ≡ false = subst (λ w. closed w.journal ≡ false) (sym is) open_yet in
         let filed' : ForTerms s.terms.now (λ T. IsFiled T offer) = subst (λ w. ForTerms w.terms (λ T. IsFiled T offer)) (sym is) filed in
         let turn' : ForTerms s.terms.now (λ T. offer.place ≡ length (places s.journal.items offer.provider)) =
         subst (λ w. ForTerms w.terms (λ T. offer.place ≡ length (places w.journal offer.provider))) (sym is) turn in
-        let more : List Place = s.lanes ++ place_behind s.lanes offer.claim acc ∷ [] in
+        let more : List Place = s.lanes ++ place_behind s.lanes offer.claim year ∷ [] in
         let when' : b ≡ is_due s.terms.now (length more) (with_accept s.intakes offer.provider) =
         when ∙ ap (λ l. is_due s.terms.now (length l) intakes) lanes_are ∙ ap (is_due s.terms.now (length more)) intakes_are in
         let journal' : J2 ≡ closed_where b (s.journal.items ++ Accept offer.provider offer.place ∷ []) = journal_is ∙ ap (closed_where b) accept_is in
         let keeps = kept_accept s.terms.now s.journal.items s.stopped s.lanes s.intakes s.closed s.decisions kept goes
-        offer.provider offer.place offer.claim acc b runs' open' filed' turn' begins when' in
+        offer.provider offer.place offer.claim year b runs' open' filed' turn' dated when' in
         let answers = offer_accepted s.terms.now s.journal.items s.stopped s.lanes s.intakes s.closed s.decisions kept goes
-        offer.provider offer.place offer.claim acc b runs' open' filed' turn' begins when' in
+        offer.provider offer.place offer.claim year b runs' open' filed' turn' dated when' in
         record {
           keeps =
               subst (λ j. IsKept s.terms.now j lanes intakes b s.decisions) (sym journal')
@@ -291,34 +294,35 @@ module _ (s : Inside) (g : GateParts) (is : seen s ≡ g) (kept : Keeps s) where
       subst (λ j. Takes (at T (seen s)) TakeReply.NothingReady (gate_of T j)) (sym same)
       (take_nothing s.terms.now s.journal.items s.stopped s.lanes s.intakes s.closed s.decisions kept T terms (subst InTurn lanes_are turns) runs (λ h. not_over (over_seen h)) none))
 
-  module _ (position : ℕ) (claim : Claim) (acc : Acc) (J2 : List Event) (lanes : List Place) where
+  module _ (picked : Picked) (acc : Acc) (J2 : List Event) (lanes : List Place) where
     -- a claim that is taken
     pub record IsTaken : Type 0 where
       pub keeps : IsKept s.terms.now J2 lanes s.intakes s.closed s.decisions
-      pub reply : ForTerms g.terms (λ T. Takes (at T g) (TakeReply.Work position claim acc) (gate_of T J2))
+      pub reply : ForTerms g.terms (λ T. Takes (at T g) (TakeReply.Work picked.position picked.claim acc) (gate_of T J2))
 
-    pub takes : TakeGoes → InTurn lanes → s.stopped ≡ false → (IsOver g.journal → ⊥) → phase_at s.lanes position ≡ Some (Ready claim acc)
-        → lanes ≡ with_phase s.lanes position InWork → J2 ≡ s.journal.items ++ Take position ∷ []
+    pub takes : TakeGoes → InTurn lanes → s.stopped ≡ false → (IsOver g.journal → ⊥) → IsPicked s.lanes picked
+        → acc ≡ started (opening (accounts_of s.terms.now.balances) (account_of s.terms.now.plan picked.claim)) picked.own picked.household
+        → lanes ≡ with_phase s.lanes picked.position InWork → J2 ≡ s.journal.items ++ Take picked.position ∷ []
         → IsTaken
-    takes goes turns runs not_over picked lanes_are journal_is =
+    takes goes turns runs not_over is_picked begins lanes_are journal_is =
         let keeps = kept_take s.terms.now s.journal.items s.stopped s.lanes s.intakes s.closed s.decisions kept goes
-        position claim acc (subst InTurn lanes_are turns) runs (λ h. not_over (over_seen h)) picked in
+        picked acc (subst InTurn lanes_are turns) runs (λ h. not_over (over_seen h)) is_picked begins in
         let answers = take_work s.terms.now s.journal.items s.stopped s.lanes s.intakes s.closed s.decisions kept goes
-        position claim acc (subst InTurn lanes_are turns) runs (λ h. not_over (over_seen h)) picked in
+        picked acc (subst InTurn lanes_are turns) runs (λ h. not_over (over_seen h)) is_picked begins in
         record {
           keeps =
               subst (λ j. IsKept s.terms.now j lanes s.intakes s.closed s.decisions) (sym journal_is)
-              (subst (λ l. IsKept s.terms.now (s.journal.items ++ Take position ∷ []) l s.intakes s.closed s.decisions) (sym lanes_are) keeps);
+              (subst (λ l. IsKept s.terms.now (s.journal.items ++ Take picked.position ∷ []) l s.intakes s.closed s.decisions) (sym lanes_are) keeps);
           reply =
-              subst (λ w. ForTerms w.terms (λ T. Takes (at T w) (TakeReply.Work position claim acc) (gate_of T J2))) is
-              (λ T terms. subst (λ j. Takes (at T (seen s)) (TakeReply.Work position claim acc) (gate_of T j)) (sym journal_is) (answers T terms));
+              subst (λ w. ForTerms w.terms (λ T. Takes (at T w) (TakeReply.Work picked.position picked.claim acc) (gate_of T J2))) is
+              (λ T terms. subst (λ j. Takes (at T (seen s)) (TakeReply.Work picked.position picked.claim acc) (gate_of T j)) (sym journal_is) (answers T terms));
         }
 
   -- a decision that is recorded
   pub records : (job : Job) (outcome told : Outcome) (left : Acc) (J2 : List Event) (lanes : List Place) → FinishGoes
       → g.stopped ≡ false → decided g.journal job.position ≡ false → taken g.journal job.position ≡ true
       → ForTerms g.terms (λ T. IsJob T g.journal job.position job.claim job.acc) → outcome ≡ outcome_of g.terms.plan job.claim job.acc
-      → left ≡ accumulated job.acc outcome → lanes ≡ with_decision s.lanes job.position left
+      → left ≡ accumulated true true job.acc outcome → lanes ≡ with_decision s.lanes job.position left
       → told ≡ outcome → J2 ≡ s.journal.items ++ Decide job.position told ∷ []
       → IsKept s.terms.now J2 lanes s.intakes s.closed (s.decisions + 1)
   records job outcome told left J2 lanes goes runs once in_work its settled leaves lanes_are tells journal_is =
@@ -341,7 +345,7 @@ settles plan claim acc decided_so left h e = h plan claim e
 
 -- and which
 pub left_is : (acc : Acc) (decided_so : Outcome) (o : Option Acc) (left : Acc) → SomeIff o (AreInRange (after acc decided_so)) (after acc decided_so)
-    → o ≡ Some left → left ≡ accumulated acc decided_so
+    → o ≡ Some left → left ≡ accumulated true true acc decided_so
 unfolding accumulated
 left_is acc decided_so None left h e = absurd (none-some left e)
 left_is acc decided_so (Some x) left h e = sym (same_Some x left e) ∙ h.1
@@ -375,3 +379,9 @@ running terms J = record { terms = terms; journal = J; stopped = false }
 -- a journal that is over is finished
 pub over_finished : (T : Terms) (J K : List Event) → K ≡ J → Lawful T J → IsOver J → Finished T K
 over_finished T J K same lawful over = subst (Finished T) (sym same) (record { lawful = lawful; closed = over.closed; all = over.all })
+
+-- where the last of the account and of its household left something, what the account began with is no part of it
+pub begun_alike : (own household : Option Acc) (a b : Acc) → (is_some own && is_some household) ≡ true → started a own household ≡ started b own household
+begun_alike None household a b h = absurd (both_ways false refl h)
+begun_alike (Some x) None a b h = absurd (both_ways false refl h)
+begun_alike (Some x) (Some y) a b h = refl

@@ -3,6 +3,7 @@ use Rattle.std.specs.Prelude.{◌≡◌, ◌<◌, ℕ, suc, ◌||◌, Bool, true
 use Rattle.std.specs.List.{list_all}
 use Rattle.std.specs.Option.{option_map_or}
 use Rattle.claim_terms.specs.Terms.{TermsParts, ForTerms}
+use Rattle.settlement.specs.Accounts.{account_of}
 use Rattle.settlement.specs.declared.acc.Acc.{Acc}
 use Rattle.settlement.specs.declared.claim.Claim.{Claim}
 use Rattle.lanes.specs.Places.{Place, is_decided, phase_at}
@@ -34,19 +35,19 @@ pub record AreMarked (J : List Event) (lanes : List Place) : Type 0 where
   pub decided_are : (position : ℕ) → decided J position ≡ is_decided_at lanes position
   pub decisions : count_by is_any_decision J ≡ count_by (λ place. is_decided place.phase) lanes
 
--- the phase has the claim and the accumulators before it until the claim is taken, and what it left once it is decided
-abbrev pub IsPhaseOf : Claim → Acc → Acc → Phase → Type 0
-IsPhaseOf claim acc left (Waiting c) = c ≡ claim
-IsPhaseOf claim acc left (Ready c a) = (c ≡ claim) × (a ≡ acc)
-IsPhaseOf claim acc left InWork = Unit {0}
-IsPhaseOf claim acc left (Decided l) = l ≡ left
+-- the phase has the claim until that is taken, and what it left once it is decided
+abbrev pub IsPhaseOf : Claim → Acc → Phase → Type 0
+IsPhaseOf claim left (Waiting c) = c ≡ claim
+IsPhaseOf claim left (Ready c) = c ≡ claim
+IsPhaseOf claim left InWork = Unit {0}
+IsPhaseOf claim left (Decided l) = l ≡ left
 
--- the place is that of the claim at the position; what a claim leaves is what its member has before the next position
+-- the place is that of the claim at the position; what a claim leaves is what its account has before the next position
 pub record IsPlaceAt (T : Terms) (J : List Event) (position : ℕ) (place : Place) : Type 0 where
   pub claim : Claim
   pub stands : claim_at T J position ≡ Some claim
-  pub member : place.member ≡ claim.member
-  pub phase : IsPhaseOf claim (before T J position claim.member) (before T J (suc position) claim.member) place.phase
+  pub account : place.account ≡ account_of T.plan claim
+  pub phase : IsPhaseOf claim (before T J (suc position) (account_of T.plan claim)) place.phase
 
 -- each place is that of the claim at its position
 abbrev pub ArePlacesOf : Terms → List Event → List Place → Type 0

@@ -11,7 +11,7 @@ pub struct Job {
     pub position: usize,
     /// The claim.
     pub claim: Claim,
-    /// Its member's accumulators, as the earlier claims of the member left them.
+    /// Its account's accumulators, as the earlier claims of its family left them.
     pub acc: Acc,
 }
 

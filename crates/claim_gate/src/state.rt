@@ -6,7 +6,9 @@ ghost use Rattle.journal.specs.Events.{places, ended, closed, taken, decided, re
 ghost use Rattle.journal.specs.Gate.{LeadsTo, Offers, Ends, Takes, Finishes, Stops, Counts as AreCounts};
 ghost use Rattle.journal.specs.Settled.{outcome_of};
 ghost use Rattle.journal.specs.declared.event.Event.TheVariants as events;
-ghost use Rattle.lanes.specs.Calls.{place_behind};
+ghost use Rattle.lanes.specs.Places.{started};
+ghost use Rattle.settlement.specs.Accounts.{account_of};
+ghost use Rattle.intake_csv.specs.Balances.{accounts_of};
 ghost use Rattle.claim_gate.specs.Kept.{is_due};
 ghost use Rattle.claim_terms.specs.Terms.{ForTerms};
 ghost use Rattle.claim_gate.specs.Parts.{at};
@@ -21,9 +23,9 @@ use crate::offer::Offer;
 use crate::reply::{Accepted, Ended, Recorded, Taken};
 use claim_terms::Terms;
 use journal::{Decision, Event, gate_stays_lawful, starts_lawful};
-use lanes::{Followed, Lanes};
-use settlement::{Claim, Outcome, after};
-use std::alloc::{AllocError, AllocFailed, Global};
+use lanes::{Lanes, Picked};
+use settlement::{Acc, Outcome, account_year, after};
+use std::alloc::{AllocError, Global};
 use std::marker::Model;
 
 /// A gate of one thread: its terms, its journal, which is lawful, and whether it is stopped.
@@ -138,7 +140,8 @@ impl<'t> GateState<'t> {
             claim,
         } = offer;
         let position = self.lanes.len();
-        if let Err(failed) = add(&mut self.lanes, self.terms, claim) {
+        let year = account_year(self.terms.plan(), &claim);
+        if let Err(failed) = self.lanes.add(claim, year) {
             let claim = failed.value;
             let offer = Offer {
                 provider,
@@ -187,7 +190,7 @@ impl<'t> GateState<'t> {
         Ok(Ended)
     }
 
-    /// Takes a claim whose member's earlier claims are all decided.
+    /// Takes a claim whose family's earlier claims are all decided.
     pub fn take(&mut self) -> Result<Taken, TakeFault>
         ensures reply { ForTerms self.old.terms (λ T. Takes (at T self.old) (take_reply result) (at T self.new)) }
         ensures work { IfOk result (IsWorkOf self.old self.new) }
@@ -210,11 +213,12 @@ impl<'t> GateState<'t> {
             return Ok(Taken::NothingReady);
         };
         let position = picked.position;
+        let acc = start_of(self.terms, &picked);
         append(&mut self.journal, Event::Take { position });
         Ok(Taken::Work(Job {
             position,
             claim: picked.claim,
-            acc: picked.acc,
+            acc,
         }))
     }
 
@@ -310,19 +314,15 @@ impl<'t> GateState<'t> {
     }
 }
 
-// Adds a claim behind the others. The terms are asked what its member begins with for the member's first claim alone.
-fn add(lanes: &mut Lanes, terms: &Terms, claim: Claim) -> Result<(), AllocFailed<Claim>>
-    ensures added { IfOk result (λ _. lanes.new ≡ lanes.old ++ place_behind lanes.old claim (opening terms.now.balances claim.member) ∷ []) }
-    ensures back { IfErr result (λ failed. failed.value ≡ claim) }
-    ensures refused { IfErr result (λ _. lanes.new ≡ lanes.old) }
+// What a claim that is picked is decided at. The terms are asked what its account begins with where that is a part of it alone.
+fn start_of(terms: &Terms, picked: &Picked) -> Acc
+    ensures { result ≡ started (opening (accounts_of terms.now.balances) (account_of terms.now.plan picked.now.claim)) picked.now.own picked.now.household }
 {
-    match lanes.follow(claim)? {
-        Followed::Added => Ok(()),
-        Followed::First(claim) => {
-            let opening = terms.opening(claim.member.as_str());
-            lanes.begin(claim, opening)
-        }
+    if picked.has_begun() {
+        return picked.start(Acc::zero());
     }
+    let opening = terms.opening(&picked.claim);
+    picked.start(opening)
 }
 
 // Puts the close behind the journal where it is due, and says whether it is.

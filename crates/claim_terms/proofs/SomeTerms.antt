@@ -3,6 +3,7 @@ use Rattle.std.proofs.Common.{ℕ, suc, List, [], ◌∷◌, refl, arith}
 use Rattle.std.specs.List.{All, AllZip}
 use Rattle.settlement.specs.declared.claim.Claim.{Claim}
 use Rattle.dtable.specs.declared.table.InputData.{InputData}
+use Rattle.intake_csv.specs.Balances.{accounts_of}
 use Rattle.intake_csv.specs.Rows.{claims_among}
 use Rattle.claim_terms.specs.Terms.{AreClaimsOf, AreTerms, ForTerms, IsClaimFile, TermsParts}
 use Rattle.intake_csv.specs.Laws.{FilesHaveRows}
@@ -30,5 +31,5 @@ some_files law names (text ∷ texts) all k = some_claims law names text (all 0 
 
 pub some_terms : FilesHaveRows → (parts : TermsParts) → AreTerms parts → ¬ ForTerms parts (λ T. ⊥)
 some_terms law parts are none = some_files law parts.plan.names parts.files are.files (λ fs.
-    none (record { plan = parts.plan; files = fs.files; balances = parts.balances; cutoff = parts.cutoff })
-    (record { plan = refl; files = fs.are; openings = λ member. refl; cutoff = refl }))
+    none (record { plan = parts.plan; files = fs.files; balances = accounts_of parts.balances; cutoff = parts.cutoff })
+    (record { plan = refl; files = fs.are; openings = λ account. refl; cutoff = refl }))

@@ -9,9 +9,10 @@ use Rattle.intake_csv.specs.Records.{Fields}
 use Rattle.intake_csv.specs.ClaimFile.{FileParts, IsFileOf}
 use Rattle.intake_csv.specs.Columns.{IsSheet, claim_columns}
 use Rattle.intake_csv.specs.Rows.{AreRowsOf, claims_among}
-use Rattle.intake_csv.specs.Balances.{AreBalances, Entry}
+use Rattle.intake_csv.specs.Balances.{AreBalances, Entry, accounts_of}
 use Rattle.intake_csv.specs.declared.column.Layout.{Layout}
 use Rattle.intake_csv.specs.declared.rows.Row.{Row}
+use Rattle.settlement.specs.Accounts.{Account}
 use Rattle.settlement.specs.Opening.{opening}
 use Rattle.journal.specs.Terms.{Terms}
 use Rattle.journal.specs.Lawful.{Finished}
@@ -32,11 +33,11 @@ pub record AreClaimsOf (names : List InputData) (text : List ℕ) (claims : List
   pub are_rows : AreRowsOf names text rows
   pub claims_are : claims ≡ claims_among rows
 
--- these parts, as journals see them: of each file its claims, and of the balances what members begin with
+-- these parts, as journals see them: of each file its claims, and of the balances what accounts begin with
 pub record IsTermsOf (parts : TermsParts) (T : Terms) : Type 0 where
   pub plan : T.plan ≡ parts.plan
   pub files : AllZip (AreClaimsOf parts.plan.names) parts.files T.files
-  pub openings : (member : List ℕ) → opening T.balances member ≡ opening parts.balances member
+  pub openings : (account : Account) → opening T.balances account ≡ opening (accounts_of parts.balances) account
   pub cutoff : T.cutoff ≡ parts.cutoff
 
 -- for these terms, as journals see them: for each list of claims that the files' texts have

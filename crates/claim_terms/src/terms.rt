@@ -2,7 +2,9 @@
 ghost use Rattle.std.specs.Prelude.{◌≡◌, ◌≤◌, ◌-◌, [], List, get_or, length, IfOk, IfErr};
 ghost use Rattle.std.specs.Option.{unwrap_or};
 ghost use Rattle.claim_terms.specs.Fault.{HasTermsFault, IsFaultOfBalances, IsFaultOfFile, IsFaultOfFiles};
+ghost use Rattle.settlement.specs.Accounts.{account_of};
 ghost use Rattle.settlement.specs.Opening.{opening};
+ghost use Rattle.intake_csv.specs.Balances.{accounts_of};
 ghost use Rattle.intake_csv.specs.ClaimFile.{IsFileOf};
 ghost use Rattle.intake_csv.specs.Laws.{StandApart};
 ghost use Rattle.intake_csv.specs.Rows.{AreRowsLeft, AreRowsOf, IsAtStart};
@@ -12,7 +14,7 @@ ghost use Rattle.claim_terms.specs.Terms.{AreBalancesOf, AreFilesOf, AreTerms, A
 use crate::fault::TermsFault;
 use dtable::{Plan, Sequence};
 use intake_csv::{BalanceFault, Balances, ClaimFile, FileFault, Rows, read_balances};
-use settlement::Acc;
+use settlement::{Acc, Claim};
 use std::alloc::{AllocError, Global};
 use std::marker::Model;
 
@@ -104,12 +106,12 @@ impl<'a> Terms<'a> {
         self.cutoff
     }
 
-    /// The accumulators that a member begins with: zeros where the balances don't name the member.
-    pub fn opening(&self, member: &str) -> Acc
-        ensures { result ≡ opening self.now.balances member.now }
+    /// What the account of a claim begins with: zeros where the balances don't name its member.
+    pub fn opening(&self, claim: &Claim) -> Acc
+        ensures { result ≡ opening (accounts_of self.now.balances) (account_of self.now.plan claim.now) }
     {
         match &self.balances {
-            Some(balances) => balances.of(member),
+            Some(balances) => balances.of(claim.member.as_str()),
             None => Acc::zero(),
         }
     }

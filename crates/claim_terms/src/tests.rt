@@ -1,8 +1,9 @@
 //! Terms by worked examples.
 use crate::{FILES_LIMIT, Terms, TermsFault};
-use dtable::{Plan, read_plan};
+use dtable::{Plan, Sequence, read_plan};
+use feel_tests::{Day, TEXT_LIMIT_BYTES, Text};
 use intake_csv::{BalanceFault, FILE_LIMIT_BYTES, FileFault, Row, RowCause, RowFault};
-use settlement::Acc;
+use settlement::{Acc, Claim};
 use std::alloc::{AllocError, Global};
 use std::fmt::Write;
 use std::process::Abort;
@@ -58,6 +59,8 @@ fn same(acc: Acc, met: i64, oop: i64, paid: i64) -> bool {
     acc.met.amount().units() == met
         && acc.oop.amount().units() == oop
         && acc.paid.amount().units() == paid
+        && acc.fmet == acc.met
+        && acc.foop == acc.oop
 }
 
 fn terms<'a>(
@@ -71,11 +74,29 @@ fn terms<'a>(
     Terms::new(alloc, plan, files, balances, cutoff).expect(rt, "terms")
 }
 
-// Compares what these members begin with.
-fn opens(rt: &impl Abort, terms: &Terms, members: &[(&str, i64, i64, i64)]) {
-    for (member, met, oop, paid) in members {
-        assert!(rt; same(terms.opening(member), *met, *oop, *paid), "{member}");
-    }
+// A claim of a member.
+fn claim(rt: &impl Abort, alloc: Global, member: &str) -> Result<Claim, AllocError> {
+    assert!(rt; member.len() <= TEXT_LIMIT_BYTES);
+    Ok(Claim {
+        id: Text::new(alloc, "c1")?,
+        member: Text::new(alloc, member)?,
+        service: Day::from_epoch_day(19_727).expect(rt, "a day"),
+        billed: Acc::zero().met,
+        fields: Sequence::new(alloc),
+    })
+}
+
+// Compares what a member begins with.
+fn opens(
+    rt: &impl Abort,
+    alloc: Global,
+    terms: &Terms,
+    wanted: (&str, i64, i64, i64),
+) -> Result<(), AllocError> {
+    let (member, met, oop, paid) = wanted;
+    let claim = claim(rt, alloc, member)?;
+    assert!(rt; same(terms.opening(&claim), met, oop, paid), "{member}");
+    Ok(())
 }
 
 fn has_files(rt: &impl Abort, terms: &Terms, wanted: &[&[u8]]) {
@@ -93,11 +114,9 @@ fn terms_of_texts(rt: HostRuntime) {
     assert!(rt; terms.plan().names().len() == 8 && terms.plan().roles().is_some());
     assert!(rt; terms.cutoff() == Some(7));
     has_files(&rt, &terms, &files);
-    opens(
-        &rt,
-        &terms,
-        &[("M1", 500_000, 100_000, 50_000), ("M2", 0, 0, 0)],
-    );
+    let first = opens(&rt, rt.alloc(), &terms, ("M1", 500_000, 100_000, 50_000));
+    let other = opens(&rt, rt.alloc(), &terms, ("M2", 0, 0, 0));
+    assert!(rt; first.is_ok() && other.is_ok());
 }
 
 #[test]
@@ -106,7 +125,7 @@ fn terms_without_balances_and_cutoff(rt: HostRuntime) {
     let files = [CLAIMS];
     let terms = terms(&rt, rt.alloc(), &plan, &files, None, None);
     assert!(rt; terms.cutoff().is_none());
-    opens(&rt, &terms, &[("M1", 0, 0, 0)]);
+    assert!(rt; opens(&rt, rt.alloc(), &terms, ("M1", 0, 0, 0)).is_ok());
 }
 
 #[test]
@@ -236,7 +255,9 @@ fn terms_or_no_memory(rt: HostRuntime) {
 
 fn check_terms_or_no_memory(rt: &impl Abort, alloc: Global, plan: &Plan, files: &[&[u8]]) {
     match Terms::new(alloc, plan, files, Some(BALANCES), None) {
-        Ok(terms) => opens(rt, &terms, &[("M1", 500_000, 100_000, 50_000)]),
+        Ok(terms) => {
+            let _opened = opens(rt, alloc, &terms, ("M1", 500_000, 100_000, 50_000));
+        }
         Err(fault) => assert!(rt; fault == TermsFault::OutOfMemory),
     }
 }

@@ -4,11 +4,12 @@ use Rattle.std.specs.List.{flat_map, list_any}
 use Rattle.std.proofs.lemmas.Bool.{cond-true, eq-eqb, or_right}
 use Rattle.std.proofs.lemmas.List.{flat_map_more}
 use Rattle.std.proofs.lemmas.List.Folds.{list_any-append}
+use Rattle.settlement.specs.Accounts.{account_of}
 use Rattle.settlement.specs.declared.acc.Acc.{Acc}
 use Rattle.settlement.specs.declared.claim.Claim.{Claim}
 use Rattle.settlement.specs.Opening.{opening}
 use Rattle.journal.specs.Terms.{Terms}
-use Rattle.journal.specs.Events.{IsJob, accept_in, accepts, claim_filed, claims, closed, due, ended, is_end, is_take, left_by, place_in, places, taken}
+use Rattle.journal.specs.Events.{IsJob, accept_in, accepts, claim_filed, claims, closed, due, ended, is_end, is_take, noted, place_in, places, taken}
 use Rattle.journal.specs.Lawful.{closing}
 use Rattle.journal.specs.declared.event.Event.{Event}
 use Rattle.journal.specs.declared.event.Event.TheVariants.{Accept, End, Close, Take}
@@ -76,7 +77,7 @@ job_stays T J position claim acc job =
     let same : claims T (J ++ Take position ∷ []) ≡ claims T J = ap (map (claim_filed T)) (accepts_stay J (Take position) refl) in
     record {
       stands = ap (λ cs. get_or cs position None) same ∙ job.stands;
-      left = job.left ∙ sym (ap (λ cs. fold (left_by T.plan claim.member) (opening T.balances claim.member) (take position cs)) same);
+      left = job.left ∙ sym (ap (λ cs. fold (noted T.plan) (opening T.balances) (take position cs) (account_of T.plan claim)) same);
     }
 
 pub now_taken : (J : List Event) (position : ℕ) → taken (J ++ Take position ∷ []) position ≡ true

@@ -1,5 +1,5 @@
 -- The balances of a text: what its members' accumulators are at the start.
-use Rattle.std.specs.Prelude.{◌≡◌, ◌≤◌, ◌+◌, ◌-◌, ◌⊎◌, ℕ, ℤ, List, map, [], ◌∷◌, take, Some, string_bytes}
+use Rattle.std.specs.Prelude.{◌≡◌, ◌≤◌, ◌+◌, ◌-◌, ◌⊎◌, ℕ, ℤ, List, map, [], ◌∷◌, take, Some, None, string_bytes}
 use Rattle.std.specs.List.{AllPairs, AllZip, Any, slice_get}
 use Rattle.std.specs.Map.{lookup}
 use Rattle.std.specs.Str.{bytes_eq}
@@ -7,8 +7,9 @@ use Rattle.std.specs.BTreeMap.{BTreeMap}
 use Rattle.std.specs.declared.string.String.{String}
 use Rattle.feel_tests.specs.declared.value.Value.{Value}
 use Rattle.feel_tests.specs.declared.value.Value.TheVariants.{Number, Text}
-use Rattle.settlement.specs.declared.acc.Acc.{Acc}
+use Rattle.settlement.specs.Accounts.{Account, alone}
 use Rattle.settlement.specs.Opening.{opening}
+use Rattle.settlement.specs.declared.account.Balance.{Balance}
 use Rattle.intake_csv.specs.Records.{Fields}
 use Rattle.intake_csv.specs.Columns.{IsSheet, HasFileFault, balance_columns}
 use Rattle.intake_csv.specs.Rows.{HasValues, HasFault}
@@ -22,9 +23,18 @@ use Rattle.intake_csv.specs.declared.fault.RowCause.TheVariants.{Repeated}
 use Rattle.intake_csv.specs.declared.fault.BalanceFault.{BalanceFault}
 use Rattle.intake_csv.specs.declared.fault.BalanceFault.TheVariants.{File, Row, OutOfMemory}
 
--- a member, and what its accumulators are
+-- a member, and what its account begins with
 abbrev pub Entry : Type 0
-Entry = List ℕ × Acc
+Entry = List ℕ × Balance
+
+-- the accounts of entries: each member is a family of its own, in no year
+abbrev pub accounts_of : List Entry → List (Account × Balance)
+accounts_of entries = map (λ e. (alone e.0, e.1)) entries
+
+-- no member stands twice
+abbrev pub AreOnce : List Entry → Type 0
+AreOnce [] = Unit {0}
+AreOnce (entry ∷ rest) = (lookup (bytes_eq entry.0) rest ≡ None) × AreOnce rest
 
 -- an entry's values, in the order of the columns that it needs
 abbrev pub entry_values : Entry → List Value
@@ -40,17 +50,17 @@ pub record AreEntries (layout : Layout) (records : List Fields) (entries : List 
   pub distinct : AllPairs (λ a b. ¬ (a.0 ≡ b.0)) entries
 
 -- the entries of a map, in the order of its keys
-abbrev pub entries_of : {Y : Type 0} → BTreeMap (String Y) Acc → List Entry
+abbrev pub entries_of : {Y : Type 0} → BTreeMap (String Y) Balance → List Entry
 entries_of accounts = map (λ e. (string_bytes e.0, e.1)) accounts.entries
 
--- the text is a file of entries, and the balances have of each member what the entries have
+-- the text is a file of entries, and each member begins with the same by the balances and by the entries
 pub record AreBalances (text : List ℕ) (balances : List Entry) : Type 0 where
   pub layout : Layout
   pub records : List Fields
   pub entries : List Entry
   pub sheet : IsSheet balance_columns text layout records
   pub read : AreEntries layout records entries
-  pub given : (member : List ℕ) → opening balances member ≡ opening entries member
+  pub given : (member : List ℕ) → opening (accounts_of balances) (alone member) ≡ opening (accounts_of entries) (alone member)
 
 -- the record holds an entry whose member stands among those in front, and the fault tells so at the member's column
 pub record IsRepeated (layout : Layout) (front : List Entry) (fields : Fields) (fault : RowFault) : Type 0 where
@@ -87,6 +97,7 @@ HasBalanceFault text OutOfMemory = Unit {0}
 -- the balances have these entries, no member twice
 pub record HoldsEntries (entries balances : List Entry) : Type 0 where
   pub distinct : AllPairs (λ a b. ¬ (a.0 ≡ b.0)) entries
+  pub once : AreOnce balances
   pub found : (member : List ℕ) → lookup (bytes_eq member) balances ≡ lookup (bytes_eq member) entries
 
 -- the columns of a file of balances

@@ -2,8 +2,9 @@
 ghost use Rattle.std.specs.Prelude.{◌≡◌, ◌≤◌, ◌<◌, ◌++◌, ◌∷◌, [], List, length, map, drop, IfOk, IfErr, OnOk, slice_index_or, Some};
 ghost use Rattle.std.specs.List.{slice_get};
 ghost use Rattle.csv.specs.Records.{fields_of};
+ghost use Rattle.settlement.specs.Accounts.{alone};
 ghost use Rattle.settlement.specs.Opening.{opening};
-ghost use Rattle.intake_csv.specs.Balances.{AreBalances, Entry, HasBalanceFault, HoldsEntries, IsBalanceLayout, IsEntry, IsEntryShaped, IsRecordFault, entry_values};
+ghost use Rattle.intake_csv.specs.Balances.{AreBalances, Entry, accounts_of, HasBalanceFault, HoldsEntries, IsBalanceLayout, IsEntry, IsEntryShaped, IsRecordFault, entry_values};
 ghost use Rattle.intake_csv.specs.Columns.{balance_columns};
 ghost use Rattle.intake_csv.specs.Rows.{HasFault};
 ghost use Rattle.intake_csv.specs.Sheet.{IsWithin};
@@ -17,28 +18,31 @@ use crate::values::{take_money, take_text};
 use csv::ByteRecord;
 use dtable::Sequence;
 use feel_tests::{Text, Value};
-use settlement::Acc;
+use settlement::{Acc, Balance};
 use std::alloc::{AllocError, Global};
 use std::collections::BTreeMap;
 use std::marker::Model;
 
-/// The accumulators that members begin with. Contracts see the list of them, each with its member.
+/// What the members' accounts begin with. Contracts see the list of that, each with its member.
 #[derive(Debug, Drop)]
 pub struct Balances {
-    accounts: BTreeMap<String, Acc>,
+    accounts: BTreeMap<String, Balance>,
 }
 
 impl Model for Balances {
     ghost use Rattle.std.specs.Prelude.{List};
-    ghost use Rattle.intake_csv.specs.Balances.{Entry, entries_of};
+    ghost use Rattle.intake_csv.specs.Balances.{AreOnce, Entry, entries_of};
 
     ghost Value = { List Entry };
 
     ghost view = { λ balances. entries_of balances.accounts };
+
+    ghost invariant = { λ balances. AreOnce (entries_of balances.accounts) };
 }
 
 /// Reads a file of balances, one record for each member that has any. The first record that is refused, or names
 /// a member again, refuses the file.
+#[tactic(auto, using(crate::proofs::Entries::once_none))]
 pub fn read_balances(alloc: Global, text: &[u8]) -> Result<Balances, BalanceFault>
     ensures ok { IfOk result (AreBalances text.now) }
     ensures fault { IfErr result (HasBalanceFault text.now) }
@@ -69,17 +73,18 @@ pub fn read_balances(alloc: Global, text: &[u8]) -> Result<Balances, BalanceFaul
 }
 
 impl Balances {
-    /// The member's accumulators, zeros where the balances don't name the member.
+    /// The accumulators of a member who is a family of its own, zeros where the balances don't name the member.
     pub fn of(&self, member: &str) -> Acc
-        ensures { result ≡ opening self.now member.now }
+        ensures { result ≡ opening (accounts_of self.now) (alone member.now) }
     {
         match self.accounts.get(member) {
-            Some(acc) => *acc,
+            Some(balance) => balance.alone(),
             None => Acc::zero(),
         }
     }
 
     // Reads one record more: its entry, or why it is refused.
+    #[tactic(auto, using(crate::proofs::Entries::once_ordered))]
     fn read(
         &mut self,
         alloc: Global,
@@ -93,7 +98,7 @@ impl Balances {
         ensures refused { IfOk result (λ read. IfErr read (λ fault. (front : List Entry) → HoldsEntries front self.old
             → IsRecordFault layout.now front (fields_of row.now) fault)) }
     {
-        let (member, acc) = match read_record(alloc, layout, row)? {
+        let (member, balance) = match read_record(alloc, layout, row)? {
             Ok(values) => entry_of(values),
             Err(fault) => return Ok(Err(fault)),
         };
@@ -105,7 +110,7 @@ impl Balances {
             }));
         }
         let key = String::from_str(alloc, member.as_str())?;
-        match self.accounts.insert(key, acc) {
+        match self.accounts.insert(key, balance) {
             Ok(_) => Ok(Ok(())),
             Err(_) => Err(AllocError),
         }
@@ -124,7 +129,7 @@ fn balance_columns(alloc: Global) -> Result<Sequence<Needed>, AllocError>
     Ok(needed)
 }
 
-fn entry_of(values: Vec<Value>) -> (Text, Acc)
+fn entry_of(values: Vec<Value>) -> (Text, Balance)
     requires { IsEntryShaped values.items }
     ensures { values.items ≡ entry_values result }
 {
@@ -133,5 +138,5 @@ fn entry_of(values: Vec<Value>) -> (Text, Acc)
     let met = take_money(&mut values);
     let oop = take_money(&mut values);
     let paid = take_money(&mut values);
-    (member, Acc { met, oop, paid })
+    (member, Balance { met, oop, paid })
 }

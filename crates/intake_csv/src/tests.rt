@@ -372,6 +372,8 @@ fn same(acc: Acc, met: i64, oop: i64, paid: i64) -> bool {
     acc.met.amount().units() == met
         && acc.oop.amount().units() == oop
         && acc.paid.amount().units() == paid
+        && acc.fmet == acc.met
+        && acc.foop == acc.oop
 }
 
 // Reads the balances, and compares what these members have.

@@ -4,10 +4,11 @@ use Rattle.std.proofs.lemmas.Bool.{cond-true, cond-false, cases_lt}
 use Rattle.std.proofs.lemmas.List.{flat_map_more, map-append, length-map, get_or_append_left, take-append-le, get_or_past}
 use Rattle.std.proofs.lemmas.Option.{none-some}
 use Rattle.settlement.specs.declared.outcome.Outcome.{Outcome}
+use Rattle.settlement.specs.Accounts.{Account, account_of, family_of}
 use Rattle.settlement.specs.Opening.{opening}
 use Rattle.journal.specs.Terms.{Terms}
 use Rattle.journal.specs.Settled.{outcome_of}
-use Rattle.journal.specs.Events.{accept_in, accepts, accepted, place_in, places, claim_filed, claims, claim_at, member_at, left_by, before, IsSettled}
+use Rattle.journal.specs.Events.{accept_in, accepts, accepted, place_in, places, claim_filed, claims, claim_at, lane_at, noted, before, IsSettled}
 use Rattle.journal.specs.declared.event.Event.{Event}
 use Rattle.journal.specs.declared.event.Event.TheVariants.{Accept, End, Close, Take, Decide}
 use Rattle.journal.proofs.Grown.{flat_map-append}
@@ -59,8 +60,8 @@ claim_at-append T J K k below =
     ap (λ w. get_or w k None) (claims-append T J K)
     ∙ get_or_append_left (claims T J) (claims T K) None k (subst (λ w. k < w) (sym (length-claims T J)) below)
 
-pub member_at-append : (T : Terms) (J K : List Event) (k : ℕ) → k < accepted J → member_at T (J ++ K) k ≡ member_at T J k
-member_at-append T J K k below = ap (option_map (λ c. c.member)) (claim_at-append T J K k below)
+pub lane_at-append : (T : Terms) (J K : List Event) (k : ℕ) → k < accepted J → lane_at T (J ++ K) k ≡ lane_at T J k
+lane_at-append T J K k below = ap (option_map family_of) (claim_at-append T J K k below)
 
 -- a position with a claim is an accepted one
 pub claim_at_within : (T : Terms) (J : List Event) (k : ℕ) (c : _) → claim_at T J k ≡ Some c → k < accepted J
@@ -72,12 +73,12 @@ claim_at_within T J k c h =
           absurd (none-some c (sym none ∙ h))
     ]
 
-pub before-append : (T : Terms) (J K : List Event) (k : ℕ) (member : List ℕ) → k ≤ accepted J → before T (J ++ K) k member ≡ before T J k member
-before-append T J K k member within =
+pub before-append : (T : Terms) (J K : List Event) (k : ℕ) (account : Account) → k ≤ accepted J → before T (J ++ K) k account ≡ before T J k account
+before-append T J K k account within =
     let cut : take k (claims T J ++ claims T K) ≡ take k (claims T J) =
     take-append-le k (claims T J) (claims T K) (subst (λ w. k ≤ w) (sym (length-claims T J)) within) in
-    ap (λ w. fold (left_by T.plan member) (opening T.balances member) (take k w)) (claims-append T J K)
-    ∙ ap (fold (left_by T.plan member) (opening T.balances member)) cut
+    ap (λ w. fold (noted T.plan) (opening T.balances) (take k w) account) (claims-append T J K)
+    ∙ ap (λ w. fold (noted T.plan) (opening T.balances) w account) cut
 
 -- a settlement stays one
 pub IsSettled-append : (T : Terms) (J K : List Event) (k : ℕ) (decision : Outcome) → IsSettled T J k decision → IsSettled T (J ++ K) k decision
@@ -87,5 +88,5 @@ IsSettled-append T J K k decision s =
     record {
       claim = s.claim;
       stands = claim_at-append T J K k below ∙ s.stands;
-      value = s.value ∙ ap (outcome_of T.plan s.claim) (sym (before-append T J K k s.claim.member within));
+      value = s.value ∙ ap (outcome_of T.plan s.claim) (sym (before-append T J K k (account_of T.plan s.claim) within));
     }

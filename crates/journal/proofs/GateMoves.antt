@@ -6,6 +6,7 @@ use Rattle.settlement.specs.declared.acc.Acc.{Acc}
 use Rattle.settlement.specs.declared.claim.Claim.{Claim}
 use Rattle.settlement.specs.declared.outcome.Outcome.{Outcome}
 use Rattle.journal.specs.Settled.{outcome_of}
+use Rattle.settlement.specs.Accounts.{account_of}
 use Rattle.journal.specs.Terms.{Terms, IsProvider, claims_of}
 use Rattle.journal.specs.Events.{accepted, places, is_end, ended, closed, is_close, IsJob, IsSettled, reached, all_ended, due}
 use Rattle.journal.specs.Lawful.{Lawful, IsNextClaim, IsNextEnd, IsNextDecision, Fits, closing}
@@ -141,7 +142,7 @@ job_stays T J K position claim acc job =
     let within : position ≤ accepted J = omega arith in
     record {
       stands = claim_at-append T J K position below ∙ job.stands;
-      left = job.left ∙ sym (before-append T J K position claim.member within);
+      left = job.left ∙ sym (before-append T J K position (account_of T.plan claim) within);
     }
 
 pub jobs_stay : (old new : GateAt) (position : ℕ) (claim : Claim) (acc : Acc)

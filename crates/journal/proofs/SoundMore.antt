@@ -4,12 +4,12 @@ use Rattle.std.proofs.lemmas.Bool.{both_ways}
 use Rattle.std.proofs.lemmas.List.{length_push, take-append-le}
 use Rattle.settlement.specs.declared.outcome.Outcome.{Outcome}
 use Rattle.journal.specs.Terms.{Terms, claims_of}
-use Rattle.journal.specs.Events.{At, accepted, places, ended, closed, taken, decided, is_close, is_intake, member_at, due}
+use Rattle.journal.specs.Events.{At, accepted, places, ended, closed, taken, decided, is_close, is_intake, lane_at, due}
 use Rattle.journal.specs.Lawful.{counted, EndsWhole, ClosesWhenDue, TakesInTurn, DecidesRight, Sound, IsReady, IsNextClaim, IsNextEnd, IsNextClose, IsNextDecision, Fits}
 use Rattle.journal.specs.declared.event.Event.{Event}
 use Rattle.journal.specs.declared.event.Event.TheVariants.{Accept, End, Close, Take, Decide}
 use Rattle.journal.proofs.Grown.{earlier, newest, grown, list_any-at}
-use Rattle.journal.proofs.Appends.{same, next, placed, accepted-take, member_at-append, IsSettled-append}
+use Rattle.journal.proofs.Appends.{same, next, placed, accepted-take, lane_at-append, IsSettled-append}
 
 counted_push : (xs : List ℕ) (x : ℕ) → x ≡ length xs → xs ≡ counted (length xs) → xs ++ x ∷ [] ≡ counted (length (xs ++ x ∷ []))
 counted_push xs x is h =
@@ -114,8 +114,8 @@ module _ (T : Terms) (J : List Event) (event : Event) (S : Sound T J) (fits : Fi
             }
       ]
 
-  member_stays : (k : ℕ) → k < accepted J → member_at T (J ++ event ∷ []) k ≡ member_at T J k
-  member_stays k below = member_at-append T J (event ∷ []) k below
+  member_stays : (k : ℕ) → k < accepted J → lane_at T (J ++ event ∷ []) k ≡ lane_at T J k
+  member_stays k below = lane_at-append T J (event ∷ []) k below
 
   takes_more : (i k : ℕ) → At (J ++ event ∷ []) i (Take k) → TakesInTurn T (J ++ event ∷ []) i k
   takes_more i k h =

@@ -7,8 +7,9 @@ use Rattle.std.proofs.lemmas.List.Folds.{list_any-append}
 use Rattle.std.proofs.lemmas.Option.{slice_get-get_or, same_Some, none-some}
 use Rattle.std.proofs.lemmas.Slice.Eq.{bytes_eq-Decides}
 use Rattle.settlement.specs.declared.claim.Claim.{Claim}
+use Rattle.settlement.specs.Accounts.{family_of}
 use Rattle.journal.specs.Terms.{Terms}
-use Rattle.journal.specs.Events.{At, claims, claim_at, member_at, is_of, is_take, taken, is_decide, decided, positions_in, positions}
+use Rattle.journal.specs.Events.{At, claims, claim_at, lane_at, is_of, is_take, taken, is_decide, decided, positions_in, positions}
 use Rattle.journal.specs.Lawful.{Sound, Lawful}
 use Rattle.journal.specs.Turns.{Step, TakeOf, DecisionOf, steps_in, steps, one_by_one, BeginsWith}
 use Rattle.journal.specs.declared.event.Event.{Event}
@@ -226,7 +227,7 @@ positions_are member n (suc k) (c ∷ cs) h = positions_are member (suc n) k cs 
       ]
   go false e = subst (λ w. has (n + suc k) w ≡ true) (cond-false (is_of member c) (n ∷ positions_in member (suc n) cs) (positions_in member (suc n) cs) e) h
 
-member_is : (member : List ℕ) (o : Option Claim) → is_of member o ≡ true → option_map (λ c. c.member) o ≡ Some member
+member_is : (member : List ℕ) (o : Option Claim) → is_of member o ≡ true → option_map family_of o ≡ Some member
 member_is member None h = absurd (both_ways false refl h)
 member_is member (Some c) h = ap Some ((bytes_eq-Decides c.member member).0 h)
 
@@ -291,7 +292,7 @@ module _ (T : Terms) (J : List Event) (S : Sound T J) (member : List ℕ) where
       put_take (positions T J member) (so_far i) 0 k (positions_rise member 0 (claims T J)) there
       (λ b of_member below.
       let its : is_of member (claim_at T J b) ≡ true = positions_are member 0 b (claims T J) (subst (λ w. has w (positions T J member) ≡ true) (sym (zero-add b)) of_member) in
-      let same : member_at T J b ≡ member_at T J k = member_is member (claim_at T J b) its ∙ sym (member_is member (claim_at T J k) mine) in
+      let same : lane_at T J b ≡ lane_at T J k = member_is member (claim_at T J b) its ∙ sym (member_is member (claim_at T J k) mine) in
       decided_step i b its (t.in_turn b below same))
       (untaken_step i k t.once) front
 

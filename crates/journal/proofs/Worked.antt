@@ -5,7 +5,7 @@ use Rattle.std.proofs.lemmas.Option.{same_Some}
 use Rattle.settlement.specs.declared.claim.Claim.{Claim}
 use Rattle.settlement.specs.declared.outcome.Outcome.{Outcome}
 use Rattle.journal.specs.Terms.{Terms, IsProvider}
-use Rattle.journal.specs.Events.{closed, member_at, decided}
+use Rattle.journal.specs.Events.{closed, lane_at, decided}
 use Rattle.journal.specs.Lawful.{Lawful, Finished, IsReady, IsNextClaim, IsNextEnd}
 use Rattle.journal.specs.TestWords.{EmptyFileFinishes, NothingIsAccepted, TwoFiles, terms_of, in_work, MembersTakeTurns, AnswersInTurn, AnswersOnce, AnswersStopped, AnswersClosed, gate_at, cutoff_zero}
 use Rattle.journal.specs.declared.event.Event.{Event}
@@ -52,10 +52,10 @@ module _ (w : TwoFiles) where
 
   waits : ¬ IsReady (terms_of w) in_work 1
   waits r =
-      let same : member_at (terms_of w) in_work 0 ≡ member_at (terms_of w) in_work 1 = ap Some (sym w.same_member) in
+      let same : lane_at (terms_of w) in_work 0 ≡ lane_at (terms_of w) in_work 1 = ap Some (sym w.same_member) in
       both_ways (decided in_work 0) refl (r.in_turn 0 (omega arith) same)
 
-  turn : (k : ℕ) → k < 2 → member_at (terms_of w) in_work k ≡ member_at (terms_of w) in_work 2 → decided in_work k ≡ true
+  turn : (k : ℕ) → k < 2 → lane_at (terms_of w) in_work k ≡ lane_at (terms_of w) in_work 2 → decided in_work k ≡ true
   turn zero l m = absurd (w.other_member (sym (same_Some w.first.member w.other.member m)))
   turn (suc zero) l m = absurd (w.other_member (sym (same_Some w.second.member w.other.member m) ∙ w.same_member))
   turn (suc (suc k)) l m = let none : ⊥ = omega arith in absurd none
@@ -98,7 +98,7 @@ module _ (w : TwoFiles) where
 
   second_ready : (decision : Outcome) → IsReady (terms_of w) (in_work ++ Decide 0 decision ∷ []) 1
   second_ready decision = record { behind = omega arith; once = refl; in_turn = before_second } where
-    before_second : (k : ℕ) → k < 1 → member_at (terms_of w) (in_work ++ Decide 0 decision ∷ []) k ≡ member_at (terms_of w) (in_work ++ Decide 0 decision ∷ []) 1
+    before_second : (k : ℕ) → k < 1 → lane_at (terms_of w) (in_work ++ Decide 0 decision ∷ []) k ≡ lane_at (terms_of w) (in_work ++ Decide 0 decision ∷ []) 1
         → decided (in_work ++ Decide 0 decision ∷ []) k ≡ true
     before_second zero l m = refl
     before_second (suc k) l m = let none : ⊥ = omega arith in absurd none

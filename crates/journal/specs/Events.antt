@@ -4,6 +4,7 @@ use Rattle.std.specs.List.{list_any}
 use Rattle.std.specs.Str.{bytes_eq}
 use Rattle.dtable.specs.Plan.{PlanParts}
 use Rattle.journal.specs.Settled.{outcome_of, accumulated}
+use Rattle.settlement.specs.Accounts.{Account, account_of, family_of, is_household, is_same}
 use Rattle.settlement.specs.declared.acc.Acc.{Acc}
 use Rattle.settlement.specs.declared.claim.Claim.{Claim}
 use Rattle.settlement.specs.declared.outcome.Outcome.{Outcome}
@@ -91,44 +92,49 @@ claims T J = map (claim_filed T) (accepts J)
 abbrev pub claim_at : Terms → List Event → ℕ → Option Claim
 claim_at T J position = get_or (claims T J) position None
 
--- the member of the claim at a position
-abbrev pub member_at : Terms → List Event → ℕ → Option (List ℕ)
-member_at T J position = option_map (λ c. c.member) (claim_at T J position)
+-- the lane of the claim at a position: its member's family, which is the member alone
+abbrev pub lane_at : Terms → List Event → ℕ → Option (List ℕ)
+lane_at T J position = option_map family_of (claim_at T J position)
 
--- the claim is this member's
+-- the claim is in this lane
 abbrev pub is_of : List ℕ → Option Claim → Bool
-is_of member None = false
-is_of member (Some claim) = bytes_eq claim.member member
+is_of lane None = false
+is_of lane (Some claim) = bytes_eq (family_of claim) lane
 
--- where these claims, the first of them at this position, are the member's
+-- where these claims, the first of them at this position, are in the lane
 abbrev pub positions_in : List ℕ → ℕ → List (Option Claim) → List ℕ
-positions_in member position [] = []
-positions_in member position (c ∷ cs) =
-    cond (is_of member c) (position ∷ positions_in member (suc position) cs) (positions_in member (suc position) cs)
+positions_in lane position [] = []
+positions_in lane position (c ∷ cs) =
+    cond (is_of lane c) (position ∷ positions_in lane (suc position) cs) (positions_in lane (suc position) cs)
 
--- the positions of a member, in order
+-- the positions of a lane, in order
 abbrev pub positions : Terms → List Event → List ℕ → List ℕ
-positions T J member = positions_in member 0 (claims T J)
+positions T J lane = positions_in lane 0 (claims T J)
 
--- what a claim leaves of a member's accumulators: what its settlement makes of them where it is the member's
-abbrev pub left_by : PlanParts → List ℕ → Acc → Option Claim → Acc
-left_by plan member acc None = acc
-left_by plan member acc (Some claim) = cond (bytes_eq claim.member member) (accumulated acc (outcome_of plan claim acc)) acc
+-- what each account has
+abbrev pub Book : Type 0
+Book = Account → Acc
 
--- a member's accumulators before a position: the opening ones, and then what each earlier claim left
-abbrev pub before : Terms → List Event → ℕ → List ℕ → Acc
-before T J position member = fold (left_by T.plan member) (opening T.balances member) (take position (claims T J))
+-- what each account has behind a claim, which is settled at what its own account had: more of its own, and more of its family's
+abbrev pub noted : PlanParts → Book → Option Claim → Book
+noted plan book None account = book account
+noted plan book (Some claim) account =
+    accumulated (is_same (account_of plan claim) account) (is_household (account_of plan claim) account) (book account) (outcome_of plan claim (book (account_of plan claim)))
 
--- the job at a position: its claim, and what the earlier claims of its member left
+-- an account's accumulators before a position: the opening ones, and what the earlier claims added
+abbrev pub before : Terms → List Event → ℕ → Book
+before T J position = fold (noted T.plan) (opening T.balances) (take position (claims T J))
+
+-- the job at a position: its claim, and what its account has before it
 pub record IsJob (T : Terms) (J : List Event) (position : ℕ) (claim : Claim) (acc : Acc) : Type 0 where
   pub stands : claim_at T J position ≡ Some claim
-  pub left : acc ≡ before T J position claim.member
+  pub left : acc ≡ before T J position (account_of T.plan claim)
 
--- the outcome is the settlement of the claim at this position, at the accumulators that its member's earlier claims left
+-- the outcome is the settlement of the claim at this position, at what its account has before it
 pub record IsSettled (T : Terms) (J : List Event) (position : ℕ) (decision : Outcome) : Type 0 where
   pub claim : Claim
   pub stands : claim_at T J position ≡ Some claim
-  pub value : decision ≡ outcome_of T.plan claim (before T J position claim.member)
+  pub value : decision ≡ outcome_of T.plan claim (before T J position (account_of T.plan claim))
 
 -- the number accepted is the cutoff
 abbrev pub reached : Option ℕ → ℕ → Bool

@@ -2,7 +2,7 @@
 use Rattle.std.specs.Prelude.{◌≡◌, ◌<◌, ◌≤◌, ℕ, zero, suc, true, false, List, [], ◌∷◌, ◌++◌, take, length, cond, not, ◌&&◌}
 use Rattle.settlement.specs.declared.outcome.Outcome.{Outcome}
 use Rattle.journal.specs.Terms.{Terms, IsProvider, claims_of}
-use Rattle.journal.specs.Events.{At, accepted, places, ended, closed, taken, decided, is_intake, member_at, IsSettled, due}
+use Rattle.journal.specs.Events.{At, accepted, places, ended, closed, taken, decided, is_intake, lane_at, IsSettled, due}
 use Rattle.journal.specs.declared.event.Event.{Event}
 use Rattle.journal.specs.declared.event.Event.TheVariants.{Accept, End, Close, Take, Decide}
 
@@ -28,7 +28,7 @@ pub record ClosesWhenDue (T : Terms) (J : List Event) (i : ℕ) : Type 0 where
 pub record TakesInTurn (T : Terms) (J : List Event) (i position : ℕ) : Type 0 where
   pub behind : position < accepted (take i J)
   pub once : taken (take i J) position ≡ false
-  pub in_turn : (k : ℕ) → k < position → member_at T J k ≡ member_at T J position → decided (take i J) k ≡ true
+  pub in_turn : (k : ℕ) → k < position → lane_at T J k ≡ lane_at T J position → decided (take i J) k ≡ true
 
 -- a decision: of a claim that was taken, once, and the outcome is its settlement
 pub record DecidesRight (T : Terms) (J : List Event) (i position : ℕ) (decision : Outcome) : Type 0 where
@@ -64,7 +64,7 @@ closing T J = cond (due T J && not (closed J)) (J ++ Close ∷ []) J
 pub record IsReady (T : Terms) (J : List Event) (position : ℕ) : Type 0 where
   pub behind : position < accepted J
   pub once : taken J position ≡ false
-  pub in_turn : (k : ℕ) → k < position → member_at T J k ≡ member_at T J position → decided J k ≡ true
+  pub in_turn : (k : ℕ) → k < position → lane_at T J k ≡ lane_at T J position → decided J k ≡ true
 
 -- the next claim of a provider
 pub record IsNextClaim (T : Terms) (J : List Event) (provider place : ℕ) : Type 0 where

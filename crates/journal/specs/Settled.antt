@@ -1,6 +1,7 @@
 -- The settlement, as journals see it: what it is inside is nothing to them. `unfolding` opens both.
 use Rattle.dtable.specs.Plan.{PlanParts}
-use Rattle.settlement.specs.Accumulators.{after}
+use Rattle.std.specs.Prelude.{Bool}
+use Rattle.settlement.specs.Accounts.{grown}
 use Rattle.settlement.specs.Settlement.{outcome}
 use Rattle.settlement.specs.declared.acc.Acc.{Acc}
 use Rattle.settlement.specs.declared.claim.Claim.{Claim}
@@ -11,5 +12,5 @@ unfoldable pub outcome_of : PlanParts → Claim → Acc → Outcome
 outcome_of plan claim acc = outcome plan claim acc
 
 -- a member's accumulators after a claim with this outcome
-unfoldable pub accumulated : Acc → Outcome → Acc
-accumulated acc decision = after acc decision
+unfoldable pub accumulated : Bool → Bool → Acc → Outcome → Acc
+accumulated own shared acc decision = grown own shared acc decision

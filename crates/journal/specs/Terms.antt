@@ -1,14 +1,15 @@
 -- What a run is fixed over.
 use Rattle.std.specs.Prelude.{◌≤◌, ℕ, zero, suc, ◌+◌, min, List, [], ◌∷◌, Option, Some, None, get_or, length}
 use Rattle.dtable.specs.Plan.{PlanParts}
-use Rattle.settlement.specs.declared.acc.Acc.{Acc}
+use Rattle.settlement.specs.Accounts.{Account}
+use Rattle.settlement.specs.declared.account.Balance.{Balance}
 use Rattle.settlement.specs.declared.claim.Claim.{Claim}
 
--- the plan, the claims of each provider's file in file order, what members begin with, and how many claims are accepted at most
+-- the plan, the claims of each provider's file in file order, what accounts begin with, and how many claims are accepted at most
 pub record Terms : Type 0 where
   pub plan : PlanParts
   pub files : List (List Claim)
-  pub balances : List (List ℕ × Acc)
+  pub balances : List (Account × Balance)
   pub cutoff : Option ℕ
 
 -- providers count from 1

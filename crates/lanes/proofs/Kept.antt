@@ -1,5 +1,5 @@
--- Chains stay those of their members.
-use Rattle.std.proofs.Common.{◌≡◌, ◌<◌, ℕ, zero, suc, true, false, not, ◌||◌, List, [], ◌∷◌, length, map, get_or, take, Some, Option, refl, sym, ap, ◌∙◌, arith}
+-- Slots, their places and their lanes.
+use Rattle.std.proofs.Common.{◌≡◌, ◌<◌, ℕ, zero, suc, true, false, not, ◌||◌, List, [], ◌∷◌, length, map, get_or, take, Some, refl, sym, ap, ◌∙◌, arith}
 use Rattle.std.specs.List.{slice_get, slice_set}
 use Rattle.std.specs.Option.{option_map}
 use Rattle.std.specs.Str.{bytes_eq}
@@ -8,41 +8,45 @@ use Rattle.std.proofs.lemmas.Option.{none-some, same_Some, slice_get-get_or, sli
 use Rattle.std.proofs.lemmas.Slice.Eq.{bytes_eq-Decides}
 use Rattle.lanes.specs.Places.{Phase, Place, all_decided, is_decided, is_of}
 use Rattle.lanes.specs.Calls.{with_phase}
-use Rattle.lanes.specs.Members.{AreDistinct}
-use Rattle.lanes.specs.Chains.{AreLinked, lanes_of, nexts_of, place_of, places_of}
+use Rattle.lanes.specs.Names.{AreDistinct}
+use Rattle.lanes.specs.Chains.{AreKnown, keys_of, lanes_of, nexts_of, place_of, places_of}
 use Rattle.lanes.specs.declared.slot.Slot.{Slot}
 
 -- the place of a slot
-pub place-at : (members : List (List ℕ)) (slots : List Slot) (k : ℕ) (slot : Slot) → slice_get slots k ≡ Some slot
-    → slice_get (places_of members slots) k ≡ Some (place_of members slot)
-place-at members slots k slot there = slice_get-map (place_of members) slots k ∙ ap (option_map (place_of members)) there
+pub place-at : (names : List (List ℕ)) (slots : List Slot) (k : ℕ) (slot : Slot) → slice_get slots k ≡ Some slot
+    → slice_get (places_of names slots) k ≡ Some (place_of names slot)
+place-at names slots k slot there = slice_get-map (place_of names) slots k ∙ ap (option_map (place_of names)) there
 
 -- the slot of a place
-pub slot-of : (members : List (List ℕ)) (slots : List Slot) (k : ℕ) (p : Place) → slice_get (places_of members slots) k ≡ Some p
-    → (slot : Slot) × (slice_get slots k ≡ Some slot) × (place_of members slot ≡ p)
-slot-of members [] k p there = absurd (none-some p there)
-slot-of members (s ∷ ss) zero p there = (s, refl, same_Some _ _ there)
-slot-of members (s ∷ ss) (suc k) p there = slot-of members ss k p there
+pub slot-of : (names : List (List ℕ)) (slots : List Slot) (k : ℕ) (p : Place) → slice_get (places_of names slots) k ≡ Some p
+    → (slot : Slot) × (slice_get slots k ≡ Some slot) × (place_of names slot ≡ p)
+slot-of names [] k p there = absurd (none-some p there)
+slot-of names (s ∷ ss) zero p there = (s, refl, same_Some _ _ there)
+slot-of names (s ∷ ss) (suc k) p there = slot-of names ss k p there
 
 -- the lane of a slot
-pub lane-at : (slots : List Slot) (k : ℕ) (slot : Slot) → slice_get slots k ≡ Some slot → slice_get (lanes_of slots) k ≡ Some slot.lane
-lane-at slots k slot there = slice_get-map (λ (x : Slot). x.lane) slots k ∙ ap (option_map (λ (x : Slot). x.lane)) there
+pub lane-at : (slots : List Slot) (k : ℕ) (slot : Slot) → slice_get slots k ≡ Some slot → slice_get (lanes_of slots) k ≡ Some slot.key.0
+lane-at slots k slot there = slice_get-map (λ (x : Slot). x.key.0) slots k ∙ ap (option_map (λ (x : Slot). x.key.0)) there
+
+-- the account of a slot
+pub key-at : (slots : List Slot) (k : ℕ) (slot : Slot) → slice_get slots k ≡ Some slot → slice_get (keys_of slots) k ≡ Some slot.key
+key-at slots k slot there = slice_get-map (λ (x : Slot). x.key) slots k ∙ ap (option_map (λ (x : Slot). x.key)) there
 
 pub next-at : (slots : List Slot) (k : ℕ) (slot : Slot) → slice_get slots k ≡ Some slot → slice_get (nexts_of slots) k ≡ Some slot.next
 next-at slots k slot there = slice_get-map (λ (x : Slot). x.next) slots k ∙ ap (option_map (λ (x : Slot). x.next)) there
 
 -- the slot that has a lane
-pub slot-in : (slots : List Slot) (k lane : ℕ) → slice_get (lanes_of slots) k ≡ Some lane → (slot : Slot) × (slice_get slots k ≡ Some slot) × (slot.lane ≡ lane)
+pub slot-in : (slots : List Slot) (k lane : ℕ) → slice_get (lanes_of slots) k ≡ Some lane → (slot : Slot) × (slice_get slots k ≡ Some slot) × (slot.key.0 ≡ lane)
 slot-in [] k lane there = absurd (none-some lane there)
 slot-in (s ∷ ss) zero lane there = (s, refl, same_Some _ _ there)
 slot-in (s ∷ ss) (suc k) lane there = slot-in ss k lane there
 
 -- the places of slots, one of them at another phase
-pub places-with : (members : List (List ℕ)) (slots : List Slot) (k : ℕ) (slot : Slot) (phase : Phase) → slice_get slots k ≡ Some slot
-    → places_of members (slice_set slots k (record slot { phase = phase })) ≡ with_phase (places_of members slots) k phase
-places-with members [] k slot phase there = refl
-places-with members (s ∷ ss) zero slot phase there = ap (λ (x : Slot). place_of members (record x { phase = phase }) ∷ places_of members ss) (sym (same_Some s slot there))
-places-with members (s ∷ ss) (suc k) slot phase there = ap (λ xs. place_of members s ∷ xs) (places-with members ss k slot phase there)
+pub places-with : (names : List (List ℕ)) (slots : List Slot) (k : ℕ) (slot : Slot) (phase : Phase) → slice_get slots k ≡ Some slot
+    → places_of names (slice_set slots k (record slot { phase = phase })) ≡ with_phase (places_of names slots) k phase
+places-with names [] k slot phase there = refl
+places-with names (s ∷ ss) zero slot phase there = ap (λ (x : Slot). place_of names (record x { phase = phase }) ∷ places_of names ss) (sym (same_Some s slot there))
+places-with names (s ∷ ss) (suc k) slot phase there = ap (λ xs. place_of names s ∷ xs) (places-with names ss k slot phase there)
 
 -- the same slots, one of them changed elsewhere
 pub same-set : {X : Type 0} (f : Slot → X) (slots : List Slot) (k : ℕ) (slot new : Slot) → slice_get slots k ≡ Some slot → f new ≡ f slot
@@ -51,35 +55,33 @@ same-set f [] k slot new there same = refl
 same-set f (s ∷ ss) zero slot new there same = ap (λ x. x ∷ map f ss) (same ∙ ap f (sym (same_Some s slot there)))
 same-set f (s ∷ ss) (suc k) slot new there same = ap (λ xs. f s ∷ xs) (same-set f ss k slot new there same)
 
--- the member of a lane
-lane-member : (members : List (List ℕ)) (lane : ℕ) → lane < length members → slice_get members lane ≡ Some (get_or members lane [])
-lane-member members lane within = slice_get-get_or members lane [] within
+-- the family of a lane
+lane-family : (names : List (List ℕ)) (lane : ℕ) → lane < length names → slice_get names lane ≡ Some (get_or names lane [])
+lane-family names lane within = slice_get-get_or names lane [] within
 
--- a slot in another lane is another member's
-pub apart : (members : List (List ℕ)) (lane other : ℕ) → AreDistinct members → lane < length members → other < length members → ¬ (other ≡ lane)
-    → bytes_eq (get_or members other []) (get_or members lane []) ≡ false
-apart members lane other distinct one two differ =
+-- a slot in another lane is another family's
+pub apart : (names : List (List ℕ)) (lane other : ℕ) → AreDistinct names → lane < length names → other < length names → ¬ (other ≡ lane)
+    → bytes_eq (get_or names other []) (get_or names lane []) ≡ false
+apart names lane other distinct one two differ =
     false_from_ne_true _ (λ equal.
-    let same = (bytes_eq-Decides (get_or members other []) (get_or members lane [])).0 equal in
-    differ (distinct other lane (get_or members lane []) (lane-member members other two ∙ ap Some same) (lane-member members lane one))
+    let same = (bytes_eq-Decides (get_or names other []) (get_or names lane [])).0 equal in
+    differ (distinct other lane (get_or names lane []) (lane-family names other two ∙ ap Some same) (lane-family names lane one))
     )
 
--- a slot in the same lane is the same member's
-pub alike : (members : List (List ℕ)) (lane other : ℕ) → other ≡ lane → bytes_eq (get_or members other []) (get_or members lane []) ≡ true
-alike members lane other same = (bytes_eq-Decides (get_or members other []) (get_or members lane [])).1 (ap (λ k. get_or members k []) same)
+-- a slot in the same lane is the same family's
+pub alike : (names : List (List ℕ)) (lane other : ℕ) → other ≡ lane → bytes_eq (get_or names other []) (get_or names lane []) ≡ true
+alike names lane other same = (bytes_eq-Decides (get_or names other []) (get_or names lane [])).1 (ap (λ k. get_or names k []) same)
 
--- where the lane isn't, no place of its member is
-pub none-of : (members : List (List ℕ)) (slots : List Slot) (nexts : List (Option ℕ)) (ends : List ℕ) (lane k : ℕ) (p : Place) → AreDistinct members
-    → AreLinked (length members) (lanes_of slots) nexts ends → lane < length members → ¬ (slice_get (lanes_of slots) k ≡ Some lane)
-    → slice_get (places_of members slots) k ≡ Some p → is_of (get_or members lane []) p ≡ false
-none-of members slots nexts ends lane k p distinct linked within none there =
-    let (slot, at, is) = slot-of members slots k p there in
-    let in_lane = lane-at slots k slot at in
-    let known = linked.known k slot.lane in_lane in
-    let differ = apart members lane slot.lane distinct within known (λ same. none (in_lane ∙ ap Some same)) in
-    ap (λ (x : Place). bytes_eq x.member (get_or members lane [])) (sym is) ∙ differ
+-- where the lane isn't, no place of its family is
+pub none-of : (names : List (List ℕ)) (slots : List Slot) (lane k : ℕ) (p : Place) → AreDistinct names → AreKnown (length names) (keys_of slots)
+    → lane < length names → ¬ (slice_get (lanes_of slots) k ≡ Some lane) → slice_get (places_of names slots) k ≡ Some p → is_of (get_or names lane []) p ≡ false
+none-of names slots lane k p distinct known within none there =
+    let (slot, at, is) = slot-of names slots k p there in
+    let here = known.family k slot.key (key-at slots k slot at) in
+    let differ = apart names lane slot.key.0 distinct within here (λ same. none (lane-at slots k slot at ∙ ap Some same)) in
+    ap (λ (x : Place). bytes_eq x.account.family (get_or names lane [])) (sym is) ∙ differ
 
--- a member has an earlier claim that isn't decided
+-- a family has an earlier claim that isn't decided
 pub held : (places : List Place) (k n : ℕ) (p : Place) (m : List ℕ) → slice_get places k ≡ Some p → is_of m p ≡ true → is_decided p.phase ≡ false → k < n
     → all_decided m (take n places) ≡ false
 held [] k n p m there mine undecided behind = absurd (none-some p there)

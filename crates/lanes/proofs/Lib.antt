@@ -1,9 +1,13 @@
 pub mod Turns
+pub mod Keys
+pub mod Kept
 pub mod Neighbours
 pub mod Numbers
 pub mod Linking
 pub mod Links
+pub mod Backs
+pub mod Standing
 pub mod Queue
-pub mod Kept
-pub mod Moves
 pub mod Work
+pub mod Growing
+pub mod Moves

@@ -36,9 +36,9 @@ read-behind xs i j new x other within read =
 -- the slot that is decided, and what follows it
 pub decided-next : (slots : List Slot) (position next : ℕ) (left : Acc) (read mid newer : Slot) (slot after : Slot) → slice_get slots position ≡ Some slot
     → slice_get slots next ≡ Some after → slice_get slots position ≡ Some read → slice_get slots next ≡ Some mid
-    → newer ≡ record mid { phase = ready_at left mid.phase }
+    → newer ≡ record mid { phase = ready_at mid.phase }
     → slice_set (slice_set slots position (record read { phase = Decided left })) next newer
-    ≡ slice_set (slice_set slots position (record slot { phase = Decided left })) next (record after { phase = ready_at left after.phase })
+    ≡ slice_set (slice_set slots position (record slot { phase = Decided left })) next (record after { phase = ready_at after.phase })
 decided-next slots position next left read mid newer slot after here there is_read is_mid is_new =
     let one : read ≡ slot = same_Some read slot (sym is_read ∙ here) in
     let two : mid ≡ after = same_Some mid after (sym is_mid ∙ there) in

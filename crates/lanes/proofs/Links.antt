@@ -1,11 +1,11 @@
 -- Linked lanes, with one slot more.
-use Rattle.std.proofs.Common.{◌≡◌, ◌+◌, ℕ, zero, suc, List, [], ◌∷◌, ◌++◌, length, Some, None, Option, refl, sym, ap, subst, ◌∙◌, ◌⊎◌, inl, inr, arith}
+use Rattle.std.proofs.Common.{◌≡◌, ◌==◌, ℕ, zero, suc, cond, List, [], ◌∷◌, ◌++◌, length, Some, None, Option, refl, sym, ap, subst, ◌∙◌, ◌⊎◌, inl, inr, arith, eqb-true}
 use Rattle.std.specs.List.{slice_get, slice_set}
-use Rattle.std.proofs.lemmas.Bool.{cases_eq, cases_order}
+use Rattle.std.proofs.lemmas.Bool.{cases_Bool, cases_eq, cases_order, both_ways, eq-eqb}
 use Rattle.std.proofs.lemmas.List.{length-set, length_push}
 use Rattle.std.proofs.lemmas.Option.{none-some, same_Some, slice_get_within}
-use Rattle.lanes.specs.Chains.{AreLinked, IsFollowedBy, IsLast, IsNext, NoneBehind}
-use Rattle.lanes.proofs.Linking.{get-set-other, get-set-same, get-set-within}
+use Rattle.lanes.specs.Chains.{AreLinked, IsEnd, IsFollowedBy, IsLast, IsNext, NoneBehind}
+use Rattle.lanes.proofs.Linking.{get-set-other, get-set-within}
 
 -- what a list with one more has
 pub get-push : {X : Type 0} (xs : List X) (y x : X) (k : ℕ) → slice_get (xs ++ y ∷ []) k ≡ Some x → (slice_get xs k ≡ Some x) ⊎ ((k ≡ length xs) × (y ≡ x))
@@ -61,53 +61,62 @@ followed-more lanes x l k (Some n) h other = record {
   ];
 }
 
--- the first slot of a new lane
-pub linked-begin : (count : ℕ) (lanes : List ℕ) (nexts : List (Option ℕ)) (ends : List ℕ) → AreLinked count lanes nexts ends → length nexts ≡ length lanes
-    → AreLinked (count + 1) (lanes ++ count ∷ []) (nexts ++ None ∷ []) (ends ++ length lanes ∷ [])
-linked-begin count lanes nexts ends h same = record {
-  counted = length_push ends (length lanes) ∙ ap (λ n. n + 1) h.counted;
-  known = λ k l there. elim (get-push lanes count l k there) [
-    | inl before ↦ let known = h.known k l before in omega (arith, known)
-    | inr last ↦ let is = last.1 in omega (arith, is)
-  ];
-  ended = λ l e there. elim (get-push ends (length lanes) e l there) [
-    | inl before ↦
-        let within = slice_get_within ends l e before in
-        let size = h.counted in
-        last-more lanes count l e (h.ended l e before) (λ is. omega (arith, is, within, size))
-    | inr last ↦
-        let lane : count ≡ l = sym (last.0 ∙ h.counted) in
-        subst (λ x. IsLast (lanes ++ count ∷ []) l x) last.1 (subst (λ x. IsLast (lanes ++ count ∷ []) x (length lanes)) lane (new-last lanes count))
-  ];
-  followed = λ k l next in_lane there. elim (get-push lanes count l k in_lane) [
-    | inl before ↦ elim (get-push nexts None next k there) [
-      | inl next_before ↦
-          let known = h.known k l before in
-          followed-more lanes count l k next (h.followed k l next before next_before) (λ _ is. omega (arith, is, known))
-      | inr last ↦
-          let within = slice_get_within lanes k l before in
-          let at_end = last.0 in
-          absurd (omega (arith, within, at_end, same))
-    ]
-    | inr last ↦ elim (get-push nexts None next k there) [
-      | inl next_before ↦
-          let within = slice_get_within nexts k next next_before in
-          let at_end = last.0 in
-          absurd (omega (arith, within, at_end, same))
-      | inr next_last ↦
-          subst (IsFollowedBy (lanes ++ count ∷ []) l k) next_last.1 (subst (NoneBehind (lanes ++ count ∷ []) l) (sym last.0) (none-behind-end lanes count l))
-    ]
-  ];
-}
+-- the last slot of another lane, with a slot more
+end-more : (lanes : List ℕ) (x l : ℕ) (e : Option ℕ) → IsEnd lanes l e → ¬ (l ≡ x) → IsEnd (lanes ++ x ∷ []) l e
+end-more lanes x l None none other = λ k there. elim (get-push lanes x l k there) [
+  | inl before ↦ none k before
+  | inr last ↦ other (sym last.1)
+]
+end-more lanes x l (Some e) h other = last-more lanes x l e h other
+
+-- the last slots of all lanes, with a slot more
+ended-more : (lanes : List ℕ) (end new : ℕ → Option ℕ) (lane : ℕ) → ((l : ℕ) → IsEnd lanes l (end l))
+    → ((l : ℕ) → new l ≡ cond (lane == l) (Some (length lanes)) (end l)) → (l : ℕ) → IsEnd (lanes ++ lane ∷ []) l (new l)
+ended-more lanes end new lane h told l = elim (cases_Bool (lane == l)) [
+  | inl here ↦
+      let same : lane ≡ l = eqb-true lane l here in
+      let is : new l ≡ Some (length lanes) = told l ∙ ap (λ b. cond b (Some (length lanes)) (end l)) here in
+      subst (IsEnd (lanes ++ lane ∷ []) l) (sym is) (subst (λ x. IsLast (lanes ++ lane ∷ []) x (length lanes)) same (new-last lanes lane))
+  | inr there ↦
+      let is : new l ≡ end l = told l ∙ ap (λ b. cond b (Some (length lanes)) (end l)) there in
+      subst (IsEnd (lanes ++ lane ∷ []) l) (sym is) (end-more lanes lane l (end l) (h l) (λ same. both_ways (lane == l) there (eq-eqb lane l (sym same))))
+]
+
+-- the first slot of a lane
+pub linked-first : (lanes : List ℕ) (nexts : List (Option ℕ)) (end new : ℕ → Option ℕ) (lane : ℕ) → AreLinked lanes nexts end
+    → length nexts ≡ length lanes → end lane ≡ None → ((l : ℕ) → new l ≡ cond (lane == l) (Some (length lanes)) (end l))
+    → AreLinked (lanes ++ lane ∷ []) (nexts ++ None ∷ []) new
+linked-first lanes nexts end new lane h same none told =
+    let empty : (k : ℕ) → ¬ (slice_get lanes k ≡ Some lane) = subst (IsEnd lanes lane) none (h.ended lane) in
+    record {
+      ended = ended-more lanes end new lane h.ended told;
+      followed = λ k l next in_lane there. elim (get-push lanes lane l k in_lane) [
+        | inl before ↦ elim (get-push nexts None next k there) [
+          | inl next_before ↦ followed-more lanes lane l k next (h.followed k l next before next_before) (λ _ is. empty k (before ∙ ap Some is))
+          | inr last ↦
+              let within = slice_get_within lanes k l before in
+              let at_end = last.0 in
+              absurd (omega (arith, within, at_end, same))
+        ]
+        | inr last ↦ elim (get-push nexts None next k there) [
+          | inl next_before ↦
+              let within = slice_get_within nexts k next next_before in
+              let at_end = last.0 in
+              absurd (omega (arith, within, at_end, same))
+          | inr next_last ↦
+              subst (IsFollowedBy (lanes ++ lane ∷ []) l k) next_last.1 (subst (NoneBehind (lanes ++ lane ∷ []) l) (sym last.0) (none-behind-end lanes lane l))
+        ]
+      ];
+    }
 
 -- what follows each slot, with a slot behind the last one of its lane
-follow-followed : (count : ℕ) (lanes : List ℕ) (nexts : List (Option ℕ)) (ends : List ℕ) (lane last : ℕ) → AreLinked count lanes nexts ends
-    → length nexts ≡ length lanes → slice_get ends lane ≡ Some last → (k l : ℕ) (next : Option ℕ) → slice_get (lanes ++ lane ∷ []) k ≡ Some l
+follow-followed : (lanes : List ℕ) (nexts : List (Option ℕ)) (end : ℕ → Option ℕ) (lane last : ℕ) → AreLinked lanes nexts end
+    → length nexts ≡ length lanes → end lane ≡ Some last → (k l : ℕ) (next : Option ℕ) → slice_get (lanes ++ lane ∷ []) k ≡ Some l
     → slice_get (slice_set nexts last (Some (length lanes)) ++ None ∷ []) k ≡ Some next → IsFollowedBy (lanes ++ lane ∷ []) l k next
-follow-followed count lanes nexts ends lane last h same end k l next in_lane there =
+follow-followed lanes nexts end lane last h same is_end k l next in_lane there =
     let n = length lanes in
     let size = length-set nexts last (Some n) in
-    let was_last = h.ended lane last end in
+    let was_last : IsLast lanes lane last = subst (IsEnd lanes lane) is_end (h.ended lane) in
     elim (get-push lanes lane l k in_lane) [
       | inl before ↦ elim (get-push (slice_set nexts last (Some n)) None next k there) [
         | inl next_before ↦ elim (cases_eq k last) [
@@ -155,25 +164,10 @@ follow-followed count lanes nexts ends lane last h same end k l next in_lane the
     ]
 
 -- a slot behind the last one of its lane
-pub linked-follow : (count : ℕ) (lanes : List ℕ) (nexts : List (Option ℕ)) (ends : List ℕ) (lane last : ℕ) → AreLinked count lanes nexts ends
-    → length nexts ≡ length lanes → slice_get ends lane ≡ Some last
-    → AreLinked count (lanes ++ lane ∷ []) (slice_set nexts last (Some (length lanes)) ++ None ∷ []) (slice_set ends lane (length lanes))
-linked-follow count lanes nexts ends lane last h same end = record {
-  counted = length-set ends lane (length lanes) ∙ h.counted;
-  known = λ k l there. elim (get-push lanes lane l k there) [
-    | inl before ↦ h.known k l before
-    | inr here ↦
-        let is = here.1 in
-        let within = slice_get_within ends lane last end in
-        let size = h.counted in
-        omega (arith, is, within, size)
-  ];
-  ended = λ l e there. elim (cases_eq l lane) [
-    | inl is ↦
-        let at = get-set-same ends lane last (length lanes) end in
-        let e_is : length lanes ≡ e = same_Some (length lanes) e (sym at ∙ ap (slice_get (slice_set ends lane (length lanes))) (sym is) ∙ there) in
-        subst (λ x. IsLast (lanes ++ lane ∷ []) l x) e_is (subst (λ x. IsLast (lanes ++ lane ∷ []) x (length lanes)) (sym is) (new-last lanes lane))
-    | inr other ↦ last-more lanes lane l e (h.ended l e (sym (get-set-other ends lane l (length lanes) other) ∙ there)) other
-  ];
-  followed = follow-followed count lanes nexts ends lane last h same end;
+pub linked-follow : (lanes : List ℕ) (nexts : List (Option ℕ)) (end new : ℕ → Option ℕ) (lane last : ℕ) → AreLinked lanes nexts end
+    → length nexts ≡ length lanes → end lane ≡ Some last → ((l : ℕ) → new l ≡ cond (lane == l) (Some (length lanes)) (end l))
+    → AreLinked (lanes ++ lane ∷ []) (slice_set nexts last (Some (length lanes)) ++ None ∷ []) new
+linked-follow lanes nexts end new lane last h same is_end told = record {
+  ended = ended-more lanes end new lane h.ended told;
+  followed = follow-followed lanes nexts end lane last h same is_end;
 }

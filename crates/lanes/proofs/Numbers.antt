@@ -1,4 +1,4 @@
--- Members by number, and one more.
+-- Names by number, and one more.
 use Rattle.std.proofs.Common.{◌≡◌, ◌<◌, ◌≤◌, ◌+◌, ℕ, zero, suc, Bool, false, cond, eqb, List, [], ◌∷◌, ◌++◌, length, map, Option, Some, None, refl, sym, ap, ◌∙◌, inl, inr, arith, Global}
 use Rattle.std.specs.List.{range_with_len, slice_get}
 use Rattle.std.specs.Option.{IfNone, IfSome}
@@ -15,32 +15,32 @@ use Rattle.std.proofs.lemmas.List.FromFn.{get_or-map-range_with_len, length-map-
 use Rattle.std.proofs.lemmas.Map.Text.{btree_map_updates_text}
 use Rattle.std.proofs.lemmas.Option.{none-some, same_Some, slice_get-get_or, slice_get_within}
 use Rattle.std.proofs.lemmas.Slice.Eq.{bytes_eq-Decides}
-use Rattle.lanes.specs.Members.{AreDistinct, AreNumbered, EachBelow, IsAbsent, members_of, named}
+use Rattle.lanes.specs.Names.{AreDistinct, AreNumbered, EachBelow, IsAbsent, names_of, named}
 
 -- who has a number
-members-at : {Y : Type 0} (numbers : BTreeMap (String Y) ℕ) (k : ℕ) → k < length numbers.entries → slice_get (members_of numbers) k ≡ Some (named numbers.entries k)
-members-at numbers k within =
+names-at : {Y : Type 0} (numbers : BTreeMap (String Y) ℕ) (k : ℕ) → k < length numbers.entries → slice_get (names_of numbers) k ≡ Some (named numbers.entries k)
+names-at numbers k within =
     let n = length numbers.entries in
     let size = length-map-range_with_len (named numbers.entries) 0 n in
-    slice_get-get_or (members_of numbers) k [] (omega (arith, size, within)) ∙ ap Some (get_or-map-range_with_len (named numbers.entries) 0 n k k [] within (omega arith))
+    slice_get-get_or (names_of numbers) k [] (omega (arith, size, within)) ∙ ap Some (get_or-map-range_with_len (named numbers.entries) 0 n k k [] within (omega arith))
 
 -- a number that somebody has
-members-within : {Y : Type 0} (numbers : BTreeMap (String Y) ℕ) (k : ℕ) (m : List ℕ) → slice_get (members_of numbers) k ≡ Some m → k < length numbers.entries
-members-within numbers k m there =
+names-within : {Y : Type 0} (numbers : BTreeMap (String Y) ℕ) (k : ℕ) (m : List ℕ) → slice_get (names_of numbers) k ≡ Some m → k < length numbers.entries
+names-within numbers k m there =
     let size = length-map-range_with_len (named numbers.entries) 0 (length numbers.entries) in
-    omega (arith, size, slice_get_within (members_of numbers) k m there)
+    omega (arith, size, slice_get_within (names_of numbers) k m there)
 
-members-named : {Y : Type 0} (numbers : BTreeMap (String Y) ℕ) (k : ℕ) (m : List ℕ) → slice_get (members_of numbers) k ≡ Some m → named numbers.entries k ≡ m
-members-named numbers k m there = same_Some _ _ (sym (members-at numbers k (members-within numbers k m there)) ∙ there)
+names-named : {Y : Type 0} (numbers : BTreeMap (String Y) ℕ) (k : ℕ) (m : List ℕ) → slice_get (names_of numbers) k ≡ Some m → named numbers.entries k ≡ m
+names-named numbers k m there = same_Some _ _ (sym (names-at numbers k (names-within numbers k m there)) ∙ there)
 
--- a member who has a number is found by it
-members-found : {Y : Type 0} (numbers : BTreeMap (String Y) ℕ) (k : ℕ) (m : List ℕ) → AreNumbered numbers → slice_get (members_of numbers) k ≡ Some m
+-- a name that has a number is found by it
+names-found : {Y : Type 0} (numbers : BTreeMap (String Y) ℕ) (k : ℕ) (m : List ℕ) → AreNumbered numbers → slice_get (names_of numbers) k ≡ Some m
     → get_by_text numbers m ≡ Some k
-members-found numbers k m h there =
-    ap (get_by_text numbers) (sym (members-named numbers k m there)) ∙ h.numbers_each k (members-within numbers k m there)
+names-found numbers k m h there =
+    ap (get_by_text numbers) (sym (names-named numbers k m there)) ∙ h.numbers_each k (names-within numbers k m there)
 
-pub distinct-members : {Y : Type 0} (numbers : BTreeMap (String Y) ℕ) → AreNumbered numbers → AreDistinct (members_of numbers)
-distinct-members numbers h i j m one two = same_Some i j (sym (members-found numbers i m h one) ∙ members-found numbers j m h two)
+pub distinct-names : {Y : Type 0} (numbers : BTreeMap (String Y) ℕ) → AreNumbered numbers → AreDistinct (names_of numbers)
+distinct-names numbers h i j m one two = same_Some i j (sym (names-found numbers i m h one) ∙ names-found numbers j m h two)
 
 -- what is found is below the numbers' limit
 lookup-below : {Y : Type 0} (test : String Y → Bool) (limit : ℕ) (es : List (String Y × ℕ)) (k : ℕ) → EachBelow limit es → lookup test es ≡ Some k → k < limit
@@ -52,32 +52,32 @@ lookup-below test limit (e ∷ es) k below there = elim (cases_Bool (test e.0)) 
   | inr miss ↦ lookup-below test limit es k below.1 (rw miss at there)
 ]
 
--- the number that is found is the member's
-pub found-member : {Y : Type 0} (numbers : BTreeMap (String Y) ℕ) (m : List ℕ) (k : ℕ) → AreNumbered numbers → get_by_text numbers m ≡ Some k
-    → slice_get (members_of numbers) k ≡ Some m
-found-member numbers m k h there =
-    members-at numbers k (lookup-below _ (length numbers.entries) numbers.entries k h.below there) ∙ ap Some (h.names m k there)
+-- the number that is found is the name's
+pub found-name : {Y : Type 0} (numbers : BTreeMap (String Y) ℕ) (m : List ℕ) (k : ℕ) → AreNumbered numbers → get_by_text numbers m ≡ Some k
+    → slice_get (names_of numbers) k ≡ Some m
+found-name numbers m k h there =
+    names-at numbers k (lookup-below _ (length numbers.entries) numbers.entries k h.below there) ∙ ap Some (h.names m k there)
 
--- a member who isn't found is none of them
-pub absent-member : {Y : Type 0} (numbers : BTreeMap (String Y) ℕ) (m : List ℕ) → AreNumbered numbers → get_by_text numbers m ≡ None → IsAbsent (members_of numbers) m
-absent-member numbers m h none k there = none-some k (sym none ∙ members-found numbers k m h there)
+-- a name that isn't found is none of them
+pub absent-name : {Y : Type 0} (numbers : BTreeMap (String Y) ℕ) (m : List ℕ) → AreNumbered numbers → get_by_text numbers m ≡ None → IsAbsent (names_of numbers) m
+absent-name numbers m h none k there = none-some k (sym none ∙ names-found numbers k m h there)
 
 -- and the other way round
-pub not-found : {Y : Type 0} (numbers : BTreeMap (String Y) ℕ) (m : List ℕ) → AreNumbered numbers → IsAbsent (members_of numbers) m → get_by_text numbers m ≡ None
+pub not-found : {Y : Type 0} (numbers : BTreeMap (String Y) ℕ) (m : List ℕ) → AreNumbered numbers → IsAbsent (names_of numbers) m → get_by_text numbers m ≡ None
 not-found numbers m h absent = elim (get_by_text numbers m) as (λ o. ((k : ℕ) → o ≡ Some k → ⊥) → o ≡ None) [
   | None ↦ λ _. refl
   | Some k ↦ λ f. absurd (f k refl)
-] (λ k there. absent k (found-member numbers m k h there))
+] (λ k there. absent k (found-name numbers m k h there))
 
 -- what a look-up tells
 pub look-found : {Y : Type 0} (numbers : BTreeMap (String Y) ℕ) (m : List ℕ) (o : Option ℕ) → AreNumbered numbers → o ≡ get_by_text numbers m
-    → IfSome o (λ k. slice_get (members_of numbers) k ≡ Some m)
+    → IfSome o (λ k. slice_get (names_of numbers) k ≡ Some m)
 look-found numbers m None h is = tt
-look-found numbers m (Some k) h is = found-member numbers m k h (sym is)
+look-found numbers m (Some k) h is = found-name numbers m k h (sym is)
 
 pub look-absent : {Y : Type 0} (numbers : BTreeMap (String Y) ℕ) (m : List ℕ) (o : Option ℕ) → AreNumbered numbers → o ≡ get_by_text numbers m
-    → IfNone o (IsAbsent (members_of numbers) m)
-look-absent numbers m None h is = absent-member numbers m h (sym is)
+    → IfNone o (IsAbsent (names_of numbers) m)
+look-absent numbers m None h is = absent-name numbers m h (sym is)
 look-absent numbers m (Some k) h is = tt
 
 -- entries with one more, whose key is none of theirs
@@ -105,7 +105,7 @@ below-insert cmp n (e ∷ es) key v within h = elim (cmp key e.0) as (λ o.
       | Greater ↦ (h.0, below-insert cmp n es key v within h.1)
     ]
 
--- the new number is the new member's
+-- the new number is the new name's
 named-new : {Y : Type 0} (cmp : String Y → String Y → Ordering) (n : ℕ) (es : List (String Y × ℕ)) (key : String Y) → EachBelow n es
     → lookup (is_at (cmp key)) es ≡ None → named (insert_entry cmp es key n) n ≡ string_bytes key
 named-new cmp n [] key h none = rw (eq-eqb n n refl) refl
@@ -129,19 +129,19 @@ named-old cmp n k (e ∷ es) key other none = elim (cmp key e.0) as (λ o. cond 
       | Greater ↦ λ no_entry. ap (λ x. cond (eqb e.1 k) (string_bytes e.0) x) (named-old cmp n k es key other no_entry)
     ] none
 
--- one member more, whose key was none of the map's
-pub record Enters {Y : Type 0} (old new : BTreeMap (String Y) ℕ) (key : String Y) (member : List ℕ) : Type 0 where
+-- one name more, whose key was none of the map's
+pub record Enters {Y : Type 0} (old new : BTreeMap (String Y) ℕ) (key : String Y) (name : List ℕ) : Type 0 where
   pub numbered : AreNumbered old
-  pub key_is : string_bytes key ≡ member
-  pub absent : IsAbsent (members_of old) member
+  pub key_is : string_bytes key ≡ name
+  pub absent : IsAbsent (names_of old) name
   pub entries : new.entries ≡ insert_entry string_cmp old.entries key (length old.entries)
   pub updates : (q : List ℕ) → get_by_text new q ≡ update bytes_eq (get_by_text old) (string_bytes key) (Some (length old.entries)) q
 
 -- what an insertion tells
-pub enters : (old new : BTreeMap (String Global) ℕ) (key : String Global) (member : List ℕ) (number : ℕ) → AreNumbered old → string_bytes key ≡ member
-    → IsAbsent (members_of old) member → number ≡ length old.entries → new.entries ≡ insert_entry string_cmp old.entries key number
-    → Updates string_cmp old new key (Some number) → Enters old new key member
-enters old new key member number h key_is absent is entries updates = record {
+pub enters : (old new : BTreeMap (String Global) ℕ) (key : String Global) (name : List ℕ) (number : ℕ) → AreNumbered old → string_bytes key ≡ name
+    → IsAbsent (names_of old) name → number ≡ length old.entries → new.entries ≡ insert_entry string_cmp old.entries key number
+    → Updates string_cmp old new key (Some number) → Enters old new key name
+enters old new key name number h key_is absent is entries updates = record {
   numbered = h;
   key_is = key_is;
   absent = absent;
@@ -150,25 +150,25 @@ enters old new key member number h key_is absent is entries updates = record {
 }
 
 -- no entry has the key
-no-entry : {Y : Type 0} (old new : BTreeMap (String Y) ℕ) (key : String Y) (member : List ℕ) → Enters old new key member
+no-entry : {Y : Type 0} (old new : BTreeMap (String Y) ℕ) (key : String Y) (name : List ℕ) → Enters old new key name
     → lookup (is_at (string_cmp key)) old.entries ≡ None
-no-entry old new key member h = ap (get_by_text old) h.key_is ∙ not-found old member h.numbered h.absent
+no-entry old new key name h = ap (get_by_text old) h.key_is ∙ not-found old name h.numbered h.absent
 
-entered-length : {Y : Type 0} (old new : BTreeMap (String Y) ℕ) (key : String Y) (member : List ℕ) → Enters old new key member
+entered-length : {Y : Type 0} (old new : BTreeMap (String Y) ℕ) (key : String Y) (name : List ℕ) → Enters old new key name
     → length new.entries ≡ length old.entries + 1
-entered-length old new key member h = ap length h.entries ∙ length-insert string_cmp old.entries key (length old.entries) (no-entry old new key member h)
+entered-length old new key name h = ap length h.entries ∙ length-insert string_cmp old.entries key (length old.entries) (no-entry old new key name h)
 
-entered-new : {Y : Type 0} (old new : BTreeMap (String Y) ℕ) (key : String Y) (member : List ℕ) → Enters old new key member
-    → named new.entries (length old.entries) ≡ member
-entered-new old new key member h =
+entered-new : {Y : Type 0} (old new : BTreeMap (String Y) ℕ) (key : String Y) (name : List ℕ) → Enters old new key name
+    → named new.entries (length old.entries) ≡ name
+entered-new old new key name h =
     ap (λ es. named es (length old.entries)) h.entries
-    ∙ named-new string_cmp (length old.entries) old.entries key h.numbered.below (no-entry old new key member h) ∙ h.key_is
+    ∙ named-new string_cmp (length old.entries) old.entries key h.numbered.below (no-entry old new key name h) ∙ h.key_is
 
-entered-old : {Y : Type 0} (old new : BTreeMap (String Y) ℕ) (key : String Y) (member : List ℕ) (k : ℕ) → Enters old new key member
+entered-old : {Y : Type 0} (old new : BTreeMap (String Y) ℕ) (key : String Y) (name : List ℕ) (k : ℕ) → Enters old new key name
     → k < length old.entries → named new.entries k ≡ named old.entries k
-entered-old old new key member k h within =
+entered-old old new key name k h within =
     let other : eqb (length old.entries) k ≡ false = ne_eqb (length old.entries) k (λ same. omega (arith, same, within)) in
-    ap (λ es. named es k) h.entries ∙ named-old string_cmp (length old.entries) k old.entries key other (no-entry old new key member h)
+    ap (λ es. named es k) h.entries ∙ named-old string_cmp (length old.entries) k old.entries key other (no-entry old new key name h)
 
 -- names of a range of numbers, told by two functions
 same-range : {X : Type 0} (f g : ℕ → X) (a n : ℕ) → ((k : ℕ) → k < a + n → f k ≡ g k) → map f (range_with_len a n) ≡ map g (range_with_len a n)
@@ -178,63 +178,63 @@ same-range f g a (suc n) same =
     let rest = same-range f g (a + 1) n (λ k l. same k (omega (arith, l))) in
     rw first (ap (λ xs. g a ∷ xs) rest)
 
--- the members, with the new one behind them
-pub members-more : {Y : Type 0} (old new : BTreeMap (String Y) ℕ) (key : String Y) (member : List ℕ) → Enters old new key member
-    → members_of new ≡ members_of old ++ member ∷ []
-members-more old new key member h =
+-- the names, with the new one behind them
+pub names-more : {Y : Type 0} (old new : BTreeMap (String Y) ℕ) (key : String Y) (name : List ℕ) → Enters old new key name
+    → names_of new ≡ names_of old ++ name ∷ []
+names-more old new key name h =
     let n = length old.entries in
-    ap (λ k. map (named new.entries) (range_with_len 0 k)) (entered-length old new key member h)
+    ap (λ k. map (named new.entries) (range_with_len 0 k)) (entered-length old new key name h)
     ∙ map-range_with_len_more (named new.entries) 0 n n (omega arith)
-    ∙ ap (λ x. map (named new.entries) (range_with_len 0 n) ++ x ∷ []) (entered-new old new key member h)
-    ∙ ap (λ xs. xs ++ member ∷ []) (same-range (named new.entries) (named old.entries) 0 n (λ k l. entered-old old new key member k h (omega (arith, l))))
+    ∙ ap (λ x. map (named new.entries) (range_with_len 0 n) ++ x ∷ []) (entered-new old new key name h)
+    ∙ ap (λ xs. xs ++ name ∷ []) (same-range (named new.entries) (named old.entries) 0 n (λ k l. entered-old old new key name k h (omega (arith, l))))
 
--- what a look-up finds is as it was, or the new member
-entered-look : {Y : Type 0} (old new : BTreeMap (String Y) ℕ) (key : String Y) (member : List ℕ) (q : List ℕ) → Enters old new key member
-    → get_by_text new q ≡ cond (bytes_eq member q) (Some (length old.entries)) (get_by_text old q)
-entered-look old new key member q h = h.updates q ∙ ap (λ x. cond (bytes_eq x q) (Some (length old.entries)) (get_by_text old q)) h.key_is
+-- what a look-up finds is as it was, or the new name
+entered-look : {Y : Type 0} (old new : BTreeMap (String Y) ℕ) (key : String Y) (name : List ℕ) (q : List ℕ) → Enters old new key name
+    → get_by_text new q ≡ cond (bytes_eq name q) (Some (length old.entries)) (get_by_text old q)
+entered-look old new key name q h = h.updates q ∙ ap (λ x. cond (bytes_eq x q) (Some (length old.entries)) (get_by_text old q)) h.key_is
 
-entered-names : {Y : Type 0} (old new : BTreeMap (String Y) ℕ) (key : String Y) (member : List ℕ) → Enters old new key member
+entered-names : {Y : Type 0} (old new : BTreeMap (String Y) ℕ) (key : String Y) (name : List ℕ) → Enters old new key name
     → (q : List ℕ) (k : ℕ) → get_by_text new q ≡ Some k → named new.entries k ≡ q
-entered-names old new key member h q k there = elim (cases_Bool (bytes_eq member q)) [
+entered-names old new key name h q k there = elim (cases_Bool (bytes_eq name q)) [
   | inl here ↦
-      let found = sym (entered-look old new key member q h) ∙ there in
+      let found = sym (entered-look old new key name q h) ∙ there in
       let last : length old.entries ≡ k = same_Some _ _ (rw here at found) in
-      ap (named new.entries) (sym last) ∙ entered-new old new key member h ∙ (bytes_eq-Decides member q).0 here
+      ap (named new.entries) (sym last) ∙ entered-new old new key name h ∙ (bytes_eq-Decides name q).0 here
   | inr other ↦
-      let found = sym (entered-look old new key member q h) ∙ there in
+      let found = sym (entered-look old new key name q h) ∙ there in
       let before : get_by_text old q ≡ Some k = rw other at found in
       let within = lookup-below _ (length old.entries) old.entries k h.numbered.below before in
-      entered-old old new key member k h within ∙ h.numbered.names q k before
+      entered-old old new key name k h within ∙ h.numbered.names q k before
 ]
 
-entered-numbers : {Y : Type 0} (old new : BTreeMap (String Y) ℕ) (key : String Y) (member : List ℕ) → Enters old new key member
+entered-numbers : {Y : Type 0} (old new : BTreeMap (String Y) ℕ) (key : String Y) (name : List ℕ) → Enters old new key name
     → (k : ℕ) → k < length new.entries → get_by_text new (named new.entries k) ≡ Some k
-entered-numbers old new key member h k within = elim (cases_lt k (length old.entries)) [
+entered-numbers old new key name h k within = elim (cases_lt k (length old.entries)) [
   | inl before ↦
-      let name = entered-old old new key member k h before in
+      let stays = entered-old old new key name k h before in
       let was = h.numbered.numbers_each k before in
-      let other : bytes_eq member (named old.entries k) ≡ false =
-      false_from_ne_true _ (λ same. h.absent k (members-at old k before ∙ ap Some (sym ((bytes_eq-Decides member (named old.entries k)).0 same)))) in
-      ap (get_by_text new) name ∙ entered-look old new key member (named old.entries k) h ∙ (rw other was)
+      let other : bytes_eq name (named old.entries k) ≡ false =
+      false_from_ne_true _ (λ same. h.absent k (names-at old k before ∙ ap Some (sym ((bytes_eq-Decides name (named old.entries k)).0 same)))) in
+      ap (get_by_text new) stays ∙ entered-look old new key name (named old.entries k) h ∙ (rw other was)
   | inr behind ↦
-      let size = entered-length old new key member h in
+      let size = entered-length old new key name h in
       let last : k ≡ length old.entries = omega (arith, size, within, behind) in
-      let same = (bytes_eq-Decides member member).1 refl in
-      ap (λ x. get_by_text new (named new.entries x)) last ∙ ap (get_by_text new) (entered-new old new key member h)
-      ∙ entered-look old new key member member h ∙ (rw same (ap Some (sym last)))
+      let same = (bytes_eq-Decides name name).1 refl in
+      ap (λ x. get_by_text new (named new.entries x)) last ∙ ap (get_by_text new) (entered-new old new key name h)
+      ∙ entered-look old new key name name h ∙ (rw same (ap Some (sym last)))
 ]
 
 -- the numbers stay those from 0 on
-pub numbered-more : {Y : Type 0} (old new : BTreeMap (String Y) ℕ) (key : String Y) (member : List ℕ) → Enters old new key member → AreNumbered new
-numbered-more old new key member h =
-    let size = entered-length old new key member h in
+pub numbered-more : {Y : Type 0} (old new : BTreeMap (String Y) ℕ) (key : String Y) (name : List ℕ) → Enters old new key name → AreNumbered new
+numbered-more old new key name h =
+    let size = entered-length old new key name h in
     let n = length old.entries in
     let one : n < n + 1 = omega arith in
     let below = below-insert string_cmp (n + 1) old.entries key n one (below-more n (n + 1) old.entries (omega arith) h.numbered.below) in
     record {
       below = rw (size, h.entries) below;
-      names = entered-names old new key member h;
-      numbers_each = entered-numbers old new key member h;
+      names = entered-names old new key name h;
+      numbers_each = entered-numbers old new key name h;
     }
 
 -- a map with the same entries
@@ -244,3 +244,10 @@ numbered-same old new same h = record {
   names = λ m k there. rw same (h.names m k (rw same at there));
   numbers_each = λ k within. rw same (h.numbers_each k (rw same at within));
 }
+
+-- the new number is the new name's
+pub name-new : {Y : Type 0} (old new : BTreeMap (String Y) ℕ) (key : String Y) (name : List ℕ) (number : ℕ) → number ≡ length old.entries → Enters old new key name
+    → slice_get (names_of new) number ≡ Some name
+name-new old new key name number is h =
+    let size = entered-length old new key name h in
+    names-at new number (omega (arith, size, is)) ∙ ap (λ k. Some (named new.entries k)) is ∙ ap Some (entered-new old new key name h)

@@ -6,23 +6,24 @@ use Rattle.std.proofs.Math.Bool.{and_assoc}
 use Rattle.std.proofs.lemmas.Bool.{cases_Bool, false≢true, both_ways, false_from_ne_true, and_right, and_from, or_right, not-false}
 use Rattle.std.proofs.lemmas.Option.{same_Some, none-some}
 use Rattle.std.proofs.lemmas.Slice.Eq.{bytes_eq-Decides}
+use Rattle.settlement.specs.Accounts.{family_of}
 use Rattle.settlement.specs.declared.acc.Acc.{Acc}
 use Rattle.settlement.specs.declared.claim.Claim.{Claim}
 use Rattle.lanes.specs.Places.{Phase, Waiting, Ready, InWork, Decided, Place, InTurn, all_decided, is_decided, is_of, is_waiting, phase_at}
 use Rattle.lanes.specs.Calls.{phase_behind, place_behind, ready_at, released, with_decision, with_phase}
 
--- whether a place lets the next claim of a member be ready
+-- whether a place lets the next claim of a family be ready
 abbrev pub lets : List ℕ → Place → Bool
-lets member place = not (is_of member place) || is_decided place.phase
+lets family place = not (is_of family place) || is_decided place.phase
 
--- whether each claim of a member is decided, with a place more
+-- whether each claim of a family is decided, with a place more
 abbrev pub step : (List ℕ → Bool) → Place → List ℕ → Bool
-step before place member = before member && lets member place
+step before place family = before family && lets family place
 
--- the places are in turn behind places that let these members' next claims be ready
+-- the places are in turn behind places that let these families' next claims be ready
 abbrev pub Turns : (List ℕ → Bool) → List Place → Type 0
 Turns before [] = Unit {0}
-Turns before (place ∷ rest) = (is_waiting place.phase ≡ not (before place.member)) × Turns (step before place) rest
+Turns before (place ∷ rest) = (is_waiting place.phase ≡ not (before place.account.family)) × Turns (step before place) rest
 
 pub and-true : (b : Bool) → (b && true) ≡ b
 and-true true = refl
@@ -31,28 +32,28 @@ and-true false = refl
 turns-same : (d e : List ℕ → Bool) (places : List Place) → ((m : List ℕ) → d m ≡ e m) → Turns d places → Turns e places
 turns-same d e [] same h = tt
 turns-same d e (p ∷ ps) same h =
-    (h.0 ∙ ap not (same p.member), turns-same (step d p) (step e p) ps (λ m. ap (λ b. b && lets m p) (same m)) h.1)
+    (h.0 ∙ ap not (same p.account.family), turns-same (step d p) (step e p) ps (λ m. ap (λ b. b && lets m p) (same m)) h.1)
 
 turns-at : (d : List ℕ → Bool) (places : List Place) (k : ℕ) (place : Place) → Turns d places → slice_get places k ≡ Some place
-    → is_waiting place.phase ≡ not (d place.member && all_decided place.member (take k places))
+    → is_waiting place.phase ≡ not (d place.account.family && all_decided place.account.family (take k places))
 turns-at d [] k place h there = absurd (none-some place there)
 turns-at d (p ∷ ps) zero place h there =
-    subst (λ (x : Place). is_waiting x.phase ≡ not (d x.member && true)) (same_Some p place there) (h.0 ∙ ap not (sym (and-true (d p.member))))
+    subst (λ (x : Place). is_waiting x.phase ≡ not (d x.account.family && true)) (same_Some p place there) (h.0 ∙ ap not (sym (and-true (d p.account.family))))
 turns-at d (p ∷ ps) (suc k) place h there =
-    turns-at (step d p) ps k place h.1 there ∙ ap not (and_assoc (d place.member) (lets place.member p) (all_decided place.member (take k ps)))
+    turns-at (step d p) ps k place h.1 there ∙ ap not (and_assoc (d place.account.family) (lets place.account.family p) (all_decided place.account.family (take k ps)))
 
 turns-from : (d : List ℕ → Bool) (places : List Place)
-    → ((k : ℕ) (place : Place) → slice_get places k ≡ Some place → is_waiting place.phase ≡ not (d place.member && all_decided place.member (take k places)))
+    → ((k : ℕ) (place : Place) → slice_get places k ≡ Some place → is_waiting place.phase ≡ not (d place.account.family && all_decided place.account.family (take k places)))
     → Turns d places
 turns-from d [] h = tt
 turns-from d (p ∷ ps) h = (
-  h 0 p refl ∙ ap not (and-true (d p.member)),
-  turns-from (step d p) ps (λ k place there. h (suc k) place there ∙ ap not (sym (and_assoc (d place.member) (lets place.member p) (all_decided place.member (take k ps))))),
+  h 0 p refl ∙ ap not (and-true (d p.account.family)),
+  turns-from (step d p) ps (λ k place there. h (suc k) place there ∙ ap not (sym (and_assoc (d place.account.family) (lets place.account.family p) (all_decided place.account.family (take k ps))))),
 )
 
 -- in front of the first place nothing is left to be decided
 abbrev pub all-free : List ℕ → Bool
-all-free member = true
+all-free family = true
 
 pub turns-of : (places : List Place) → InTurn places → Turns all-free places
 turns-of places h = turns-from all-free places h.waits
@@ -65,93 +66,93 @@ pub in_turn-none : (places : List Place) → [] ≡ places → InTurn places
 in_turn-none places empty = subst InTurn empty (record { waits = λ position place there. absurd (none-some place there) })
 
 turns-push : (d : List ℕ → Bool) (places : List Place) (place : Place) → Turns d places
-    → is_waiting place.phase ≡ not (d place.member && all_decided place.member places) → Turns d (places ++ place ∷ [])
-turns-push d [] place h waits = (waits ∙ ap not (and-true (d place.member)), tt)
+    → is_waiting place.phase ≡ not (d place.account.family && all_decided place.account.family places) → Turns d (places ++ place ∷ [])
+turns-push d [] place h waits = (waits ∙ ap not (and-true (d place.account.family)), tt)
 turns-push d (p ∷ ps) place h waits =
-    (h.0, turns-push (step d p) ps place h.1 (waits ∙ ap not (sym (and_assoc (d place.member) (lets place.member p) (all_decided place.member ps)))))
+    (h.0, turns-push (step d p) ps place h.1 (waits ∙ ap not (sym (and_assoc (d place.account.family) (lets place.account.family p) (all_decided place.account.family ps)))))
 
--- a claim behind places waits unless each claim of its member is decided
-waits-behind : (places : List Place) (claim : Claim) (opening : Acc) → is_waiting (phase_behind places claim opening) ≡ not (all_decided claim.member places)
-waits-behind places claim opening = elim (cases_Bool (all_decided claim.member places)) [
+-- a claim behind places waits unless each claim of its family is decided
+waits-behind : (places : List Place) (claim : Claim) → is_waiting (phase_behind places claim) ≡ not (all_decided (family_of claim) places)
+waits-behind places claim = elim (cases_Bool (all_decided (family_of claim) places)) [
   | inl all ↦ rw all refl
   | inr some ↦ rw some refl
 ]
 
 -- one claim more
-pub in_turn-add : (places : List Place) (claim : Claim) (opening : Acc) → InTurn places → InTurn (places ++ place_behind places claim opening ∷ [])
-in_turn-add places claim opening h =
-    in_turn-of _ (turns-push all-free places (place_behind places claim opening) (turns-of places h) (waits-behind places claim opening))
+pub in_turn-add : (places : List Place) (claim : Claim) (year : ℕ) → InTurn places → InTurn (places ++ place_behind places claim year ∷ [])
+in_turn-add places claim year h =
+    in_turn-of _ (turns-push all-free places (place_behind places claim year) (turns-of places h) (waits-behind places claim))
 
-turns-take : (d : List ℕ → Bool) (places : List Place) (k : ℕ) (claim : Claim) (acc : Acc) → Turns d places
-    → phase_at places k ≡ Some (Ready claim acc) → Turns d (with_phase places k InWork)
-turns-take d [] k claim acc h ready = tt
-turns-take d (p ∷ ps) zero claim acc h ready =
-    let e = same_Some p.phase (Ready claim acc) ready in
+turns-take : (d : List ℕ → Bool) (places : List Place) (k : ℕ) (claim : Claim) → Turns d places
+    → phase_at places k ≡ Some (Ready claim) → Turns d (with_phase places k InWork)
+turns-take d [] k claim h ready = tt
+turns-take d (p ∷ ps) zero claim h ready =
+    let e = same_Some p.phase (Ready claim) ready in
     let q : Place = record p { phase = InWork } in (
       sym (ap is_waiting e) ∙ h.0,
       turns-same (step d p) (step d q) ps (λ m. ap (λ b. d m && (not (is_of m p) || b)) (ap is_decided e)) h.1,
     )
-turns-take d (p ∷ ps) (suc k) claim acc h ready = (h.0, turns-take (step d p) ps k claim acc h.1 ready)
+turns-take d (p ∷ ps) (suc k) claim h ready = (h.0, turns-take (step d p) ps k claim h.1 ready)
 
 -- a ready claim is taken
-pub in_turn-take : (places : List Place) (k : ℕ) (claim : Claim) (acc : Acc) → InTurn places → phase_at places k ≡ Some (Ready claim acc)
+pub in_turn-take : (places : List Place) (k : ℕ) (claim : Claim) → InTurn places → phase_at places k ≡ Some (Ready claim)
     → InTurn (with_phase places k InWork)
-in_turn-take places k claim acc h ready = in_turn-of _ (turns-take all-free places k claim acc (turns-of places h) ready)
+in_turn-take places k claim h ready = in_turn-of _ (turns-take all-free places k claim (turns-of places h) ready)
 
 -- a claim that waits waits no more
-no-wait : (acc : Acc) (phase : Phase) → is_waiting phase ≡ true → is_waiting (ready_at acc phase) ≡ false
-no-wait acc (Waiting claim) h = refl
-no-wait acc (Ready claim a) h = refl
-no-wait acc InWork h = refl
-no-wait acc (Decided left) h = refl
+no-wait : (phase : Phase) → is_waiting phase ≡ true → is_waiting (ready_at phase) ≡ false
+no-wait (Waiting claim) h = refl
+no-wait (Ready claim) h = refl
+no-wait InWork h = refl
+no-wait (Decided left) h = refl
 
 -- and is not decided yet
-no-decision : (acc : Acc) (phase : Phase) → is_waiting phase ≡ true → is_decided (ready_at acc phase) ≡ false
-no-decision acc (Waiting claim) h = refl
-no-decision acc (Ready claim a) h = refl
-no-decision acc InWork h = refl
-no-decision acc (Decided left) h = absurd (false≢true h)
+no-decision : (phase : Phase) → is_waiting phase ≡ true → is_decided (ready_at phase) ≡ false
+no-decision (Waiting claim) h = refl
+no-decision (Ready claim) h = refl
+no-decision InWork h = refl
+no-decision (Decided left) h = absurd (false≢true h)
 
 -- bytes that differ differ either way round
 pub apart-turned : (a b : List ℕ) → bytes_eq a b ≡ false → bytes_eq b a ≡ false
 apart-turned a b apart =
     false_from_ne_true (bytes_eq b a) (λ same. both_ways (bytes_eq a b) apart ((bytes_eq-Decides a b).1 (sym ((bytes_eq-Decides b a).0 same))))
 
--- what is known of a member behind its released place
-step-released : (d e : List ℕ → Bool) (m : List ℕ) (acc : Acc) (p : Place) → d m ≡ false → ((q : List ℕ) → bytes_eq m q ≡ false → d q ≡ e q)
-    → is_of m p ≡ true → is_waiting p.phase ≡ true → (x : List ℕ) → step d p x ≡ step e (record p { phase = ready_at acc p.phase }) x
-step-released d e m acc p was others mine waiting x = elim (cases_Bool (bytes_eq m x)) [
+-- what is known of a family behind its released place
+step-released : (d e : List ℕ → Bool) (m : List ℕ) (p : Place) → d m ≡ false → ((q : List ℕ) → bytes_eq m q ≡ false → d q ≡ e q)
+    → is_of m p ≡ true → is_waiting p.phase ≡ true → (x : List ℕ) → step d p x ≡ step e (record p { phase = ready_at p.phase }) x
+step-released d e m p was others mine waiting x = elim (cases_Bool (bytes_eq m x)) [
   | inl here ↦
       let to = (bytes_eq-Decides m x).0 here in
-      let q : Place = record p { phase = ready_at acc p.phase } in
+      let q : Place = record p { phase = ready_at p.phase } in
       let off : d x ≡ false = ap d (sym to) ∙ was in
-      let of : is_of x p ≡ true = ap (λ y. bytes_eq p.member y) (sym to) ∙ mine in
-      let undecided = no-decision acc p.phase waiting in
+      let of : is_of x p ≡ true = ap (λ y. bytes_eq p.account.family y) (sym to) ∙ mine in
+      let undecided = no-decision p.phase waiting in
       let held : lets x q ≡ false = rw (of, undecided) refl in
       ap (λ b. b && lets x p) off ∙ sym (and_right (e x) (lets x q) held)
   | inr there ↦
-      let off : is_of x p ≡ false = ap (λ y. bytes_eq y x) ((bytes_eq-Decides p.member m).0 mine) ∙ there in
+      let off : is_of x p ≡ false = ap (λ y. bytes_eq y x) ((bytes_eq-Decides p.account.family m).0 mine) ∙ there in
       rw off (ap (λ b. b && true) (others x there))
 ]
 
 -- the places behind a decision: m's first is released, and the others see no change
-turns-released : (d e : List ℕ → Bool) (m : List ℕ) (acc : Acc) (places : List Place) → d m ≡ false → e m ≡ true
-    → ((q : List ℕ) → bytes_eq m q ≡ false → d q ≡ e q) → Turns d places → Turns e (released m acc places)
-turns-released d e m acc [] was is others h = tt
-turns-released d e m acc (p ∷ ps) was is others h = elim (cases_Bool (is_of m p)) [
+turns-released : (d e : List ℕ → Bool) (m : List ℕ) (places : List Place) → d m ≡ false → e m ≡ true
+    → ((q : List ℕ) → bytes_eq m q ≡ false → d q ≡ e q) → Turns d places → Turns e (released m places)
+turns-released d e m [] was is others h = tt
+turns-released d e m (p ∷ ps) was is others h = elim (cases_Bool (is_of m p)) [
   | inl mine ↦
-      let same = (bytes_eq-Decides p.member m).0 mine in
+      let same = (bytes_eq-Decides p.account.family m).0 mine in
       let waiting : is_waiting p.phase ≡ true = h.0 ∙ ap not (ap d same ∙ was) in
-      let q : Place = record p { phase = ready_at acc p.phase } in
+      let q : Place = record p { phase = ready_at p.phase } in
       rw mine (
-        no-wait acc p.phase waiting ∙ ap not (sym (ap e same ∙ is)),
-        turns-same (step d p) (step e q) ps (step-released d e m acc p was others mine waiting) h.1,
+        no-wait p.phase waiting ∙ ap not (sym (ap e same ∙ is)),
+        turns-same (step d p) (step e q) ps (step-released d e m p was others mine waiting) h.1,
       )
   | inr other ↦
       let freed : step e p m ≡ true = ap (λ b. b && lets m p) is ∙ (rw other refl) in
       rw other (
-        h.0 ∙ ap not (others p.member (apart-turned p.member m other)),
-        turns-released (step d p) (step e p) m acc ps (ap (λ b. b && lets m p) was) freed (λ q apart. ap (λ b. b && lets q p) (others q apart)) h.1,
+        h.0 ∙ ap not (others p.account.family (apart-turned p.account.family m other)),
+        turns-released (step d p) (step e p) m ps (ap (λ b. b && lets m p) was) freed (λ q apart. ap (λ b. b && lets q p) (others q apart)) h.1,
       )
 ]
 
@@ -160,11 +161,11 @@ turns-decide : (d : List ℕ → Bool) (places : List Place) (k : ℕ) (left : A
 turns-decide d [] k left h work = tt
 turns-decide d (p ∷ ps) zero left h work =
     let e = same_Some p.phase InWork work in
-    let free : d p.member ≡ true = not-false (d p.member) (sym h.0 ∙ ap is_waiting e) in
+    let free : d p.account.family ≡ true = not-false (d p.account.family) (sym h.0 ∙ ap is_waiting e) in
     let q : Place = record p { phase = Decided left } in
-    let was : step d p p.member ≡ false = and_right (d p.member) (lets p.member p) (rw ((bytes_eq-Decides p.member p.member).1 refl) (ap is_decided e)) in
-    let is : step d q p.member ≡ true = and_from (d p.member) (lets p.member q) free (or_right (not (is_of p.member q)) true refl) in
-    (sym (ap not free), turns-released (step d p) (step d q) p.member left ps was is (λ x apart. rw apart refl) h.1)
+    let was : step d p p.account.family ≡ false = and_right (d p.account.family) (lets p.account.family p) (rw ((bytes_eq-Decides p.account.family p.account.family).1 refl) (ap is_decided e)) in
+    let is : step d q p.account.family ≡ true = and_from (d p.account.family) (lets p.account.family q) free (or_right (not (is_of p.account.family q)) true refl) in
+    (sym (ap not free), turns-released (step d p) (step d q) p.account.family ps was is (λ x apart. rw apart refl) h.1)
 turns-decide d (p ∷ ps) (suc k) left h work = (h.0, turns-decide (step d p) ps k left h.1 work)
 
 -- a claim in work is decided

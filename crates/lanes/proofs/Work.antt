@@ -1,5 +1,5 @@
 -- Claims in work stay in work while others are taken.
-use Rattle.std.proofs.Common.{◌≡◌, ℕ, zero, suc, List, [], ◌∷◌, Some, None, Option, refl, ap, ◌∙◌}
+use Rattle.std.proofs.Common.{◌≡◌, ℕ, zero, suc, List, [], ◌∷◌, Some, None, Option, option_map, refl, ap, ◌∙◌}
 use Rattle.std.specs.Option.{IfNone, IfSome}
 use Rattle.std.proofs.lemmas.Option.{none-some}
 use Rattle.lanes.specs.Places.{InWork, Phase, Place, Ready, phase_at}
@@ -21,7 +21,8 @@ work-stays (p ∷ ps) (suc j) (suc k) work = work-stays ps j k work
 pub taken-work : (old new : List Place) (r : Option Picked) → IfSome r (IsPicked old) → IfSome r (λ picked. new ≡ with_phase old picked.position InWork)
     → IfSome r (λ picked. IsInWork new picked.position)
 taken-work old new None picked taken = tt
-taken-work old new (Some picked) is taken = ap (λ xs. phase_at xs picked.position) taken ∙ phase-same old picked.position (Ready picked.claim picked.acc) InWork is
+taken-work old new (Some picked) is taken = ap (λ xs. phase_at xs picked.position) taken ∙ phase-same old picked.position (Ready picked.claim) InWork
+    (ap (option_map (λ (p : Place). p.phase)) is.there ∙ ap Some is.ready)
 
 pub others-work : (old new : List Place) (r : Option Picked) → IfSome r (λ picked. new ≡ with_phase old picked.position InWork) → IfNone r (new ≡ old)
     → (k : ℕ) → IsInWork old k → IsInWork new k

@@ -1,48 +1,111 @@
--- The slots of claims, linked member by member.
-use Rattle.std.specs.Prelude.{◌≡◌, ◌<◌, ◌==◌, ℕ, true, false, cond, List, [], ◌∷◌, ◌++◌, map, length, get_or, slice_get, slice_set, Option, Some, None, count_by, vec_len, vec_capacity}
+-- The slots of claims, linked lane by lane and back to the last of their account.
+use Rattle.std.specs.Prelude.{◌≡◌, ◌<◌, ◌==◌, ◌+◌, ◌^◌, ℕ, true, false, Bool, cond, List, [], ◌∷◌, ◌++◌, map, length, take, get_or, slice_get, slice_set, Option, Some, None, count_by, vec_len, vec_capacity, if◌then◌else◌}
 use Rattle.std.specs.Option.{option_map_or}
 use Rattle.std.specs.VecDeque.{deque_len, deque_capacity}
-use Rattle.lanes.specs.Places.{Decided, InWork, Place, InTurn, Ready, is_ready}
-use Rattle.lanes.specs.Calls.{ready_at}
+use Rattle.settlement.specs.Accounts.{Account}
 use Rattle.settlement.specs.declared.acc.Acc.{Acc}
-use Rattle.lanes.specs.Members.{AreDistinct}
+use Rattle.settlement.specs.declared.claim.Claim.{Claim}
+use Rattle.lanes.specs.Places.{Phase, Decided, InWork, Place, InTurn, Ready, is_ready, left_of}
+use Rattle.lanes.specs.Calls.{phase_after, ready_at}
+use Rattle.lanes.specs.Lasts.{Key, HasRoomFor, end_of, found_in, house, is_key}
+use Rattle.lanes.specs.Names.{AreDistinct}
 use Rattle.lanes.specs.declared.picked.Picked.{Picked}
 use Rattle.lanes.specs.declared.chains.Chains.{Chains}
 use Rattle.lanes.specs.declared.slot.Slot.{Slot}
 
--- the place of a slot's claim, where the members have these lanes
+-- the account with these numbers
+abbrev pub account_at : List (List ℕ) → Key → Account
+account_at names key = record { family = get_or names key.0 []; member = get_or names key.1 []; year = key.2 }
+
+-- the numbers are those of the account
+pub record IsKeyOf (names : List (List ℕ)) (key : Key) (account : Account) : Type 0 where
+  pub family : slice_get names key.0 ≡ Some account.family
+  pub member : slice_get names key.1 ≡ Some account.member
+  pub year : key.2 ≡ account.year
+
+-- the place of a slot's claim, where the names have these numbers
 abbrev pub place_of : List (List ℕ) → Slot → Place
-place_of members slot = record { member = get_or members slot.lane []; phase = slot.phase }
+place_of names slot = record { account = account_at names slot.key; phase = slot.phase }
 
 abbrev pub places_of : List (List ℕ) → List Slot → List Place
-places_of members slots = map (place_of members) slots
+places_of names slots = map (place_of names) slots
 
--- room for one claim more
-pub record HasRoom (chains : Chains) : Type 0 where
+-- room for one claim more, of this account
+pub record HasRoom (chains : Chains) (key : Key) : Type 0 where
+  pub position : vec_len chains.slots < 2 ^ 32
   pub slots : vec_len chains.slots < vec_capacity chains.slots
-  pub ends : vec_len chains.ends < vec_capacity chains.ends
+  pub ends : key.0 < length chains.ends.positions.items
+  pub accounts : HasRoomFor chains.accounts key
+  pub households : HasRoomFor chains.households (house key)
   pub ready : deque_len chains.ready < deque_capacity chains.ready
 
 -- the same, but for the room
 pub record AreAs (old new : Chains) : Type 0 where
   pub slots : new.slots.items ≡ old.slots.items
-  pub ends : new.ends.items ≡ old.ends.items
+  pub ends : (lane : ℕ) → end_of new.ends lane ≡ end_of old.ends lane
+  pub accounts : (q : Key) → found_in new.accounts q ≡ found_in old.accounts q
+  pub households : (q : Key) → found_in new.households q ≡ found_in old.households q
   pub ready : new.ready.items ≡ old.ready.items
 
 -- the slot at a position
 abbrev pub SlotAt : Chains → ℕ → Slot → Type 0
 SlotAt chains position slot = slice_get chains.slots.items position ≡ Some slot
 
--- the last slot of a lane
-abbrev pub IsEnd : Chains → ℕ → ℕ → Slot → Type 0
-IsEnd chains lane position slot = (slice_get chains.ends.items lane ≡ Some position) × SlotAt chains position slot
+-- what the claim of a slot left
+abbrev pub left_of_slot : Option Slot → Option Acc
+left_of_slot None = None
+left_of_slot (Some slot) = left_of slot.phase
 
--- the claim of a slot is decided; what follows it, if there is something, is ready at what it left, and behind the others in the queue
+-- what the claim at a place left
+abbrev pub left_at : List Slot → Option ℕ → Option Acc
+left_at slots None = None
+left_at slots (Some position) = left_of_slot (slice_get slots position)
+
+-- the slot of a claim that comes behind the others
+abbrev pub slot_behind : Chains → Key → Phase → Slot
+slot_behind old key phase = record {
+  key = key;
+  next = None;
+  own = found_in old.accounts key;
+  household = found_in old.households (house key);
+  phase = phase;
+}
+
+-- the position in the queue, where the phase is ready
+abbrev pub queued : List ℕ → ℕ → Phase → List ℕ
+queued queue position phase = if is_ready phase then queue ++ position ∷ [] else queue
+
+-- the slot of a claim is behind the others, and in the queue where its claim is ready; the last one of its lane is linked to it
+abbrev pub AddsSlot : Chains → Chains → Key → Claim → Option ℕ → Type 0
+AddsSlot old new key claim None =
+    (new.slots.items ≡ old.slots.items ++ slot_behind old key (Ready claim) ∷ []) × (new.ready.items ≡ queued old.ready.items (vec_len old.slots) (Ready claim))
+AddsSlot old new key claim (Some last) = (before : Slot) → SlotAt old last before
+    → (new.slots.items ≡ slice_set old.slots.items last (record before { next = Some (vec_len old.slots) }) ++ slot_behind old key (phase_after before.phase claim) ∷ [])
+    × (new.ready.items ≡ queued old.ready.items (vec_len old.slots) (phase_after before.phase claim))
+
+-- the position is the last one of the lane, of the account and of its household
+pub record TellsBack (old new : Chains) (key : Key) (position : ℕ) : Type 0 where
+  pub ends : (lane : ℕ) → end_of new.ends lane ≡ cond (key.0 == lane) (Some position) (end_of old.ends lane)
+  pub accounts : (q : Key) → found_in new.accounts q ≡ cond (is_key key q) (Some position) (found_in old.accounts q)
+  pub households : (q : Key) → found_in new.households q ≡ cond (is_key (house key) q) (Some position) (found_in old.households q)
+
+-- the slot at a position is linked to the next one of its lane, whose claim is at this phase
+pub record Follows (old new : Chains) (last next : ℕ) (claim : Claim) (phase : Phase) : Type 0 where
+  pub slots : (before : Slot) → SlotAt old last before → new.slots.items ≡ slice_set old.slots.items last (record before { next = Some next })
+  pub phase_is : (before : Slot) → SlotAt old last before → phase ≡ phase_after before.phase claim
+  pub len : vec_len new.slots ≡ vec_len old.slots
+  pub capacity : vec_capacity new.slots ≡ vec_capacity old.slots
+  pub ends : new.ends ≡ old.ends
+  pub accounts : new.accounts ≡ old.accounts
+  pub households : new.households ≡ old.households
+  pub ready : new.ready ≡ old.ready
+
+-- the claim of a slot is decided; what follows it, if there is something, is ready, and behind the others in the queue
 abbrev pub DecidesSlot : Chains → Chains → ℕ → Slot → Acc → Option ℕ → Type 0
 DecidesSlot old new position slot left None =
     (new.slots.items ≡ slice_set old.slots.items position (record slot { phase = Decided left })) × (new.ready.items ≡ old.ready.items)
 DecidesSlot old new position slot left (Some next) = (after : Slot) → SlotAt old next after
-    → (new.slots.items ≡ slice_set (slice_set old.slots.items position (record slot { phase = Decided left })) next (record after { phase = ready_at left after.phase }))
+    → (new.slots.items ≡ slice_set (slice_set old.slots.items position (record slot { phase = Decided left })) next (record after { phase = ready_at after.phase }))
     × (new.ready.items ≡ old.ready.items ++ next ∷ [])
 
 -- the first in the queue is ready
@@ -55,13 +118,17 @@ pub record IsIdle (old new : Chains) : Type 0 where
   pub empty : old.ready.items ≡ []
   pub same : AreAs old new
 
--- the first in the queue is taken
+-- the first in the queue is taken, with what the last ones of its account and of its household left
 pub record TakesFirst (old new : Chains) (picked : Picked) : Type 0 where
   pub slot : Slot
   pub there : SlotAt old picked.position slot
-  pub phase : slot.phase ≡ Ready picked.claim picked.acc
+  pub phase : slot.phase ≡ Ready picked.claim
+  pub own : picked.own ≡ left_at old.slots.items slot.own
+  pub household : picked.household ≡ left_at old.slots.items slot.household
   pub slots : new.slots.items ≡ slice_set old.slots.items picked.position (record slot { phase = InWork })
-  pub ends : new.ends.items ≡ old.ends.items
+  pub ends : new.ends ≡ old.ends
+  pub accounts : new.accounts ≡ old.accounts
+  pub households : new.households ≡ old.households
   pub queue : old.ready.items ≡ picked.position ∷ new.ready.items
 
 -- what follows the slot at a position is there, and is another one
@@ -69,13 +136,24 @@ abbrev pub NextIsAnother : Chains → ℕ → Type 0
 NextIsAnother chains position = (slot : Slot) (next : ℕ) → SlotAt chains position slot → slot.next ≡ Some next
     → (after : Slot) × SlotAt chains next after × ¬ (next ≡ position)
 
+-- the account of each slot
+abbrev pub keys_of : List Slot → List Key
+keys_of slots = map (λ slot. slot.key) slots
+
 -- the lane of each slot
 abbrev pub lanes_of : List Slot → List ℕ
-lanes_of slots = map (λ slot. slot.lane) slots
+lanes_of slots = map (λ slot. slot.key.0) slots
 
 -- the slot that each is followed by in its lane
 abbrev pub nexts_of : List Slot → List (Option ℕ)
 nexts_of slots = map (λ slot. slot.next) slots
+
+-- the last slot before each of its account, and of its household
+abbrev pub owns_of : List Slot → List (Option ℕ)
+owns_of slots = map (λ slot. slot.own) slots
+
+abbrev pub houses_of : List Slot → List (Option ℕ)
+houses_of slots = map (λ slot. slot.household) slots
 
 -- no slot of the lane stands behind this position
 abbrev pub NoneBehind : List ℕ → ℕ → ℕ → Type 0
@@ -85,6 +163,11 @@ NoneBehind lanes lane position = (k : ℕ) → position < k → ¬ (slice_get la
 pub record IsLast (lanes : List ℕ) (lane position : ℕ) : Type 0 where
   pub there : slice_get lanes position ≡ Some lane
   pub last : NoneBehind lanes lane position
+
+-- this is the last slot of the lane, if it has one
+abbrev pub IsEnd : List ℕ → ℕ → Option ℕ → Type 0
+IsEnd lanes lane None = (k : ℕ) → ¬ (slice_get lanes k ≡ Some lane)
+IsEnd lanes lane (Some position) = IsLast lanes lane position
 
 -- this is the first slot of the lane behind that position
 pub record IsNext (lanes : List ℕ) (lane position next : ℕ) : Type 0 where
@@ -97,13 +180,38 @@ abbrev pub IsFollowedBy : List ℕ → ℕ → ℕ → Option ℕ → Type 0
 IsFollowedBy lanes lane position None = NoneBehind lanes lane position
 IsFollowedBy lanes lane position (Some next) = IsNext lanes lane position next
 
--- so many lanes, each with its last slot, and each slot with the next of its lane
-pub record AreLinked (count : ℕ) (lanes : List ℕ) (nexts : List (Option ℕ)) (ends : List ℕ) : Type 0 where
-  pub counted : length ends ≡ count
-  pub known : (position lane : ℕ) → slice_get lanes position ≡ Some lane → lane < count
-  pub ended : (lane position : ℕ) → slice_get ends lane ≡ Some position → IsLast lanes lane position
+-- each lane with its last slot, and each slot with the next of its lane
+pub record AreLinked (lanes : List ℕ) (nexts : List (Option ℕ)) (end : ℕ → Option ℕ) : Type 0 where
+  pub ended : (lane : ℕ) → IsEnd lanes lane (end lane)
   pub followed : (position lane : ℕ) (next : Option ℕ) → slice_get lanes position ≡ Some lane → slice_get nexts position ≡ Some next
       → IsFollowedBy lanes lane position next
+
+-- the last place among these keys, of which the first has this position, that passes the test
+abbrev pub last_from : ℕ → (Key → Bool) → List Key → Option ℕ → Option ℕ
+last_from n test [] found = found
+last_from n test (k ∷ ks) found = last_from (n + 1) test ks (cond (test k) (Some n) found)
+
+abbrev pub last_of : (Key → Bool) → List Key → Option ℕ
+last_of test ks = last_from 0 test ks None
+
+-- the last place of an account among these keys, and of its household
+abbrev pub last_own : Key → List Key → Option ℕ
+last_own key keys = last_of (λ k. is_key k key) keys
+
+abbrev pub last_shared : Key → List Key → Option ℕ
+last_shared key keys = last_of (λ k. is_key (house k) (house key)) keys
+
+-- the last slots of each account and of each household are found, and each slot has the last one before it
+pub record AreBacked (keys : List Key) (owns houses : List (Option ℕ)) (accounts households : Key → Option ℕ) : Type 0 where
+  pub accounts_are : (key : Key) → accounts key ≡ last_own key keys
+  pub households_are : (key : Key) → households (house key) ≡ last_shared key keys
+  pub own : (position : ℕ) (key : Key) → slice_get keys position ≡ Some key → slice_get owns position ≡ Some (last_own key (take position keys))
+  pub household : (position : ℕ) (key : Key) → slice_get keys position ≡ Some key → slice_get houses position ≡ Some (last_shared key (take position keys))
+
+-- each number is one of so many names
+pub record AreKnown (count : ℕ) (keys : List Key) : Type 0 where
+  pub family : (position : ℕ) (key : Key) → slice_get keys position ≡ Some key → key.0 < count
+  pub member : (position : ℕ) (key : Key) → slice_get keys position ≡ Some key → key.1 < count
 
 -- one where the claim at the position is ready, and none otherwise
 abbrev pub ready_there : List Place → ℕ → ℕ
@@ -113,9 +221,11 @@ ready_there places position = cond (option_map_or (λ place. is_ready place.phas
 abbrev pub AreQueued : List Place → List ℕ → Type 0
 AreQueued places queue = (position : ℕ) → count_by (λ k. k == position) queue ≡ ready_there places position
 
--- the chains are those of these members
-pub record AreKept (members : List (List ℕ)) (chains : Chains) : Type 0 where
-  pub distinct : AreDistinct members
-  pub linked : AreLinked (length members) (lanes_of chains.slots.items) (nexts_of chains.slots.items) chains.ends.items
-  pub queued : AreQueued (places_of members chains.slots.items) chains.ready.items
-  pub in_turn : InTurn (places_of members chains.slots.items)
+-- the chains are those of these names
+pub record AreKept (names : List (List ℕ)) (chains : Chains) : Type 0 where
+  pub distinct : AreDistinct names
+  pub known : AreKnown (length names) (keys_of chains.slots.items)
+  pub linked : AreLinked (lanes_of chains.slots.items) (nexts_of chains.slots.items) (end_of chains.ends)
+  pub backed : AreBacked (keys_of chains.slots.items) (owns_of chains.slots.items) (houses_of chains.slots.items) (found_in chains.accounts) (found_in chains.households)
+  pub queued : AreQueued (places_of names chains.slots.items) chains.ready.items
+  pub in_turn : InTurn (places_of names chains.slots.items)

@@ -1,4 +1,5 @@
 pub mod Places
 pub mod Calls
-pub mod Members
+pub mod Names
+pub mod Lasts
 pub mod Chains

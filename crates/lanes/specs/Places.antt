@@ -1,15 +1,17 @@
 -- The places of accepted claims, by position, and where each of them is on its way to a decision.
-use Rattle.std.specs.Prelude.{◌≡◌, ℕ, Bool, true, false, cond, not, ◌||◌, List, take, fold, option_map, slice_get, Option, Some}
+use Rattle.std.specs.Prelude.{◌≡◌, ℕ, Bool, true, false, cond, not, ◌||◌, List, take, fold, option_map, slice_get, Option, Some, None}
 use Rattle.std.specs.List.{list_all}
+use Rattle.std.specs.Option.{unwrap_or}
 use Rattle.std.specs.Str.{bytes_eq}
+use Rattle.settlement.specs.Accounts.{Account, is_household, is_same}
 use Rattle.settlement.specs.declared.acc.Acc.{Acc}
--- how far a claim is: it waits for an earlier claim of its member, may be taken, is in work, or is decided
+-- how far a claim is: it waits for an earlier claim of its family, may be taken, is in work, or is decided
 pub use Rattle.lanes.specs.declared.phase.Phase.{Phase}
 pub use Rattle.lanes.specs.declared.phase.Phase.TheVariants.{Waiting, Ready, InWork, Decided}
 
 -- the place of a claim: whose it is, and how far it is
 pub record Place : Type 0 where
-  pub member : List ℕ
+  pub account : Account
   pub phase : Phase
 
 abbrev pub is_waiting : Phase → Bool
@@ -17,42 +19,64 @@ is_waiting (Waiting claim) = true
 is_waiting _ = false
 
 abbrev pub is_ready : Phase → Bool
-is_ready (Ready claim acc) = true
+is_ready (Ready claim) = true
 is_ready _ = false
 
 abbrev pub is_decided : Phase → Bool
 is_decided (Decided left) = true
 is_decided _ = false
 
+-- what a decided claim left
+abbrev pub left_of : Phase → Option Acc
+left_of (Decided left) = Some left
+left_of _ = None
+
 -- what a decided claim left; these accumulators otherwise
 abbrev pub left_in : Phase → Acc → Acc
 left_in (Decided left) acc = left
 left_in _ acc = acc
 
--- the place is the member's
+-- the place is in the family's lane
 abbrev pub is_of : List ℕ → Place → Bool
-is_of member place = bytes_eq place.member member
+is_of family place = bytes_eq place.account.family family
 
--- each place of the member is decided
+-- each place of the family is decided
 abbrev pub all_decided : List ℕ → List Place → Bool
-all_decided member places = list_all (λ place. not (is_of member place) || is_decided place.phase) places
+all_decided family places = list_all (λ place. not (is_of family place) || is_decided place.phase) places
 
-abbrev pub left_by : List ℕ → Acc → Place → Acc
-left_by member acc place = cond (is_of member place) (left_in place.phase acc) acc
+-- accumulators with what is left of others: of the account's own, and of the family's
+abbrev pub joined : Bool → Bool → Acc → Acc → Acc
+joined own shared left acc = record {
+  met = cond own left.met acc.met;
+  oop = cond own left.oop acc.oop;
+  paid = cond own left.paid acc.paid;
+  fmet = cond shared left.fmet acc.fmet;
+  foop = cond shared left.foop acc.foop;
+}
 
--- what the last of the member's decided claims left, and the opening accumulators where there is none
-abbrev pub left_of : List ℕ → Acc → List Place → Acc
-left_of member opening places = fold (left_by member) opening places
+abbrev pub left_by : Account → Acc → Place → Acc
+left_by account acc place = joined (is_same place.account account) (is_household place.account account) (left_in place.phase acc) acc
+
+-- what an account stands at behind these places: of its own what its last decided claim left, of its family's what the last one of
+-- its household left, and the opening accumulators where there is none
+abbrev pub standing : Account → Acc → List Place → Acc
+standing account opening places = fold (left_by account) opening places
+
+-- accumulators with these of an account's own, and with these of its family's; the opening ones where there are none
+abbrev pub started : Acc → Option Acc → Option Acc → Acc
+started opening own household = record {
+  met = (unwrap_or own opening).met;
+  oop = (unwrap_or own opening).oop;
+  paid = (unwrap_or own opening).paid;
+  fmet = (unwrap_or household opening).fmet;
+  foop = (unwrap_or household opening).foop;
+}
 
 -- the phase of the place at a position
 abbrev pub phase_at : List Place → ℕ → Option Phase
 phase_at places position = option_map (λ place. place.phase) (slice_get places position)
 
--- the member of the place at a position
-abbrev pub member_at : List Place → ℕ → Option (List ℕ)
-member_at places position = option_map (λ place. place.member) (slice_get places position)
-
--- the members' claims take turns: a claim waits exactly as long as an earlier claim of its member is not decided
+-- the families' claims take turns: a claim waits exactly as long as an earlier claim of its family is not decided
 pub record InTurn (places : List Place) : Type 0 where
   pub waits : (position : ℕ) (place : Place) → slice_get places position ≡ Some place
-      → is_waiting place.phase ≡ not (all_decided place.member (take position places))
+      → is_waiting place.phase ≡ not (all_decided place.account.family (take position places))

@@ -1,11 +1,14 @@
 //! Lanes: the places of all claims, and which of them may be taken.
 ghost use Rattle.std.specs.Prelude.{◌≡◌, ◌++◌, ◌∷◌, [], length, IfOk, IfErr, IfSome, IfNone};
+ghost use Rattle.settlement.specs.Accounts.{account_in};
+ghost use Rattle.lanes.specs.Names.{AreDistinct, Grows};
 ghost use Rattle.lanes.specs.Places.{InTurn, InWork};
-ghost use Rattle.lanes.specs.Calls.{IsNew, HasFollowed, place_behind, with_phase, with_decision, IsPicked, IsInWork, NothingReady, is_decided_at};
+ghost use Rattle.lanes.specs.Calls.{place_behind, with_phase, with_decision, IsPicked, IsInWork, NothingReady, is_decided_at};
+ghost use Rattle.lanes.specs.Chains.{IsKeyOf};
 
 use crate::chains::Chains;
-use crate::followed::Followed;
-use crate::members::Members;
+use crate::lasts::Key;
+use crate::names::Names;
 use crate::picked::Picked;
 use settlement::{Acc, Claim};
 use std::alloc::{AllocError, AllocFailed, Global};
@@ -14,7 +17,7 @@ use std::marker::Model;
 /// The places of claims, by position. Contracts see the list of places.
 #[derive(Debug, Drop)]
 pub struct Lanes {
-    members: Members,
+    names: Names,
     chains: Chains,
 }
 
@@ -25,9 +28,9 @@ impl Model for Lanes {
 
     ghost Value = { List Place };
 
-    ghost view = { λ lanes. places_of lanes.members lanes.chains.slots.items };
+    ghost view = { λ lanes. places_of lanes.names lanes.chains.slots.items };
 
-    ghost invariant = { λ lanes. AreKept lanes.members lanes.chains };
+    ghost invariant = { λ lanes. AreKept lanes.names lanes.chains };
 }
 
 impl Lanes {
@@ -36,7 +39,7 @@ impl Lanes {
         ensures { result ≡ [] }
     {
         Lanes {
-            members: Members::new(alloc),
+            names: Names::new(alloc),
             chains: Chains::new(alloc),
         }
     }
@@ -49,42 +52,21 @@ impl Lanes {
         self.chains.slots.len()
     }
 
-    /// Adds a claim behind all others, where its member has one among them; the accumulators that the member began with don't
-    /// matter then. The claim comes back where the member has none, and where there is no memory.
-    pub fn follow(&mut self, claim: Claim) -> Result<Followed, AllocFailed<Claim>>
-        ensures goes { IfOk result (HasFollowed self.old claim self.new) }
+    /// Adds a claim, of its member's account in this year, behind all others. The claim comes back where there is no memory, as
+    /// for more than 2^32 claims.
+    pub fn add(&mut self, claim: Claim, year: u16) -> Result<(), AllocFailed<Claim>>
+        ensures added { IfOk result (λ _. self.new ≡ self.old ++ place_behind self.old claim year ∷ []) }
         ensures back { IfErr result (λ failed. failed.value ≡ claim) }
         ensures refused { IfErr result (λ _. self.new ≡ self.old) }
         ensures in_turn { InTurn self.new }
     {
-        match self.members.find(claim.member.as_str()) {
-            Some(lane) => {
-                if self.chains.reserve().is_err() {
-                    return Err(AllocFailed { value: claim });
-                }
-                self.chains.follow(lane, claim);
-                Ok(Followed::Added)
-            }
-            None => Ok(Followed::First(claim)),
-        }
-    }
-
-    /// Adds a member's first claim behind all others; the member began with these accumulators. The claim comes back where
-    /// there is no memory.
-    pub fn begin(&mut self, claim: Claim, opening: Acc) -> Result<(), AllocFailed<Claim>>
-        requires { IsNew self.old claim.member }
-        ensures added { IfOk result (λ _. self.new ≡ self.old ++ place_behind self.old claim opening ∷ []) }
-        ensures back { IfErr result (λ failed. failed.value ≡ claim) }
-        ensures refused { IfErr result (λ _. self.new ≡ self.old) }
-        ensures in_turn { InTurn self.new }
-    {
-        if self.chains.reserve().is_err() {
+        let Ok(key) = key_of(&mut self.names, &claim, year) else {
+            return Err(AllocFailed { value: claim });
+        };
+        if self.chains.prepare(key).is_err() {
             return Err(AllocFailed { value: claim });
         }
-        if self.members.add(claim.member.as_str()).is_err() {
-            return Err(AllocFailed { value: claim });
-        }
-        self.chains.begin(claim, opening);
+        self.chains.add(key, claim);
         Ok(())
     }
 
@@ -100,7 +82,7 @@ impl Lanes {
         self.chains.take()
     }
 
-    /// Decides a claim that is in work: the next claim of its member, if there is one, is ready at what it left.
+    /// Decides a claim that is in work, which leaves these accumulators: the next claim of its family, if there is one, is ready.
     pub fn decide(&mut self, position: usize, left: Acc) -> Result<(), AllocError>
         requires { IsInWork self.old position }
         ensures decided { IfOk result (λ _. self.new ≡ with_decision self.old position left) }
@@ -120,4 +102,21 @@ impl Lanes {
             None => false,
         }
     }
+}
+
+// The account of a claim in a year, by numbers; names that are new get one.
+#[tactic(auto, using(crate::proofs::Growing::grows_on, crate::proofs::Growing::key_alone, crate::proofs::Growing::key_apart))]
+fn key_of(names: &mut Names, claim: &Claim, year: u16) -> Result<Key, AllocError>
+    ensures key { IfOk result (λ key. IsKeyOf names.new key (account_in year claim.now)) }
+    ensures grows { Grows names.old names.new }
+    ensures distinct { AreDistinct names.new }
+{
+    let family = claim.family().as_str();
+    let lane = names.number(family)?;
+    let member = claim.member.as_str();
+    if member == family {
+        return Ok((lane, lane, year));
+    }
+    let number = names.number(member)?;
+    Ok((lane, number, year))
 }

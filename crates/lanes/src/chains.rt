@@ -1,25 +1,32 @@
-//! Chains: the slots of all claims, linked member by member, and which of them are ready.
-ghost use Rattle.std.specs.Prelude.{◌≡◌, ◌<◌, ◌++◌, ◌∷◌, [], ℕ, Some, None, vec_len, vec_capacity, slice_index, slice_set, OnOk, OnErr, MatchOption, if◌then◌else◌};
-ghost use Rattle.std.specs.List.{slice_get};
+//! Chains: the slots of all claims, linked lane by lane and back to the last of their account, and which of them are ready.
+ghost use Rattle.std.specs.Prelude.{◌≡◌, ◌<◌, ◌++◌, ◌∷◌, [], ℕ, Some, None, cond, vec_len, vec_capacity, OnOk, OnErr, MatchOption, if◌then◌else◌};
 ghost use Rattle.std.specs.VecDeque.{deque_len, deque_capacity};
-ghost use Rattle.lanes.specs.Places.{Ready, is_ready};
+ghost use Rattle.lanes.specs.Lasts.{Key as AnyKey, end_of, found_in, house, is_key};
+ghost use Rattle.lanes.specs.Places.{is_ready};
 ghost use Rattle.lanes.specs.Calls.{phase_after};
-ghost use Rattle.lanes.specs.Chains.{AreAs, DecidesSlot, FirstIsReady, HasRoom, IsEnd, IsIdle, NextIsAnother, SlotAt, TakesFirst};
+ghost use Rattle.lanes.specs.Chains.{AreAs, AddsSlot, DecidesSlot, FirstIsReady, Follows, HasRoom, IsIdle, NextIsAnother, SlotAt, TakesFirst, TellsBack};
 ghost use Rattle.lanes.specs.declared.slot.Slot.{Slot as AnySlot};
 
+use crate::ends::Ends;
+use crate::lasts::{Key, Lasts};
 use crate::phase::Phase;
 use crate::picked::Picked;
-use crate::slot::Slot;
+use crate::short::short;
+use crate::slot::{Slot, left_at};
 use settlement::{Acc, Claim};
 use std::alloc::{AllocError, Global};
 use std::collections::VecDeque;
 
-/// The slots of all claims by position. Each member has a lane, numbered from 0, in which its claims' slots are linked.
+/// The slots of all claims by position. Each family has a lane, by the number of its name, in which its claims' slots are linked.
 #[derive(Debug, Drop)]
 pub struct Chains {
     pub slots: Vec<Slot>,
     /// The position of the last claim in each lane.
-    pub ends: Vec<usize>,
+    pub ends: Ends,
+    /// The position of the last claim of each account.
+    pub accounts: Lasts,
+    /// The position of the last claim of each family in each year.
+    pub households: Lasts,
     /// The positions of the claims that are ready, first come first.
     pub ready: VecDeque<usize>,
 }
@@ -28,65 +35,64 @@ impl Chains {
     /// No slots.
     pub fn new(alloc: Global) -> Chains
         ensures slots { result.slots.items ≡ [] }
-        ensures ends { result.ends.items ≡ [] }
+        ensures ends { (lane : ℕ) → end_of result.ends lane ≡ None }
+        ensures accounts { (q : AnyKey) → found_in result.accounts q ≡ None }
+        ensures households { (q : AnyKey) → found_in result.households q ≡ None }
         ensures ready { result.ready.items ≡ [] }
     {
         Chains {
             slots: Vec::new(alloc),
-            ends: Vec::new(alloc),
+            ends: Ends::new(alloc),
+            accounts: Lasts::new(alloc),
+            households: Lasts::new(alloc),
             ready: VecDeque::new(alloc),
         }
     }
 
-    /// Makes room for one claim more.
-    pub fn reserve(&mut self) -> Result<(), AllocError>
+    /// Makes room for one claim more, of this account.
+    pub fn prepare(&mut self, key: Key) -> Result<(), AllocError>
         ensures same { AreAs self.old self.new }
-        ensures room { OnOk result (HasRoom self.new) }
+        ensures room { OnOk result (HasRoom self.new key) }
     {
+        let _position = short(self.slots.len())?;
         self.slots.reserve(1)?;
-        self.ends.reserve(1)?;
-        self.ready.reserve(1)
+        self.ready.reserve(1)?;
+        self.ends.prepare(key.0)?;
+        self.accounts.prepare(key)?;
+        self.households.prepare((key.0, key.0, key.2))
     }
 
-    /// Adds the first claim of a new lane, which is ready at these accumulators.
-    pub fn begin(&mut self, claim: Claim, opening: Acc)
-        requires { HasRoom self.old }
-        ensures slots { self.new.slots.items ≡ self.old.slots.items ++ record { lane = vec_len self.old.ends; next = None; phase = Ready claim opening } ∷ [] }
-        ensures ends { self.new.ends.items ≡ self.old.ends.items ++ vec_len self.old.slots ∷ [] }
-        ensures ready { self.new.ready.items ≡ self.old.ready.items ++ vec_len self.old.slots ∷ [] }
+    /// Adds a claim of an account behind the others.
+    pub fn add(&mut self, key: Key, claim: Claim)
+        requires room { HasRoom self.old key }
+        requires within { (last : ℕ) → end_of self.old.ends key.0 ≡ Some last → last < vec_len self.old.slots }
+        ensures slots { AddsSlot self.old self.new key claim (end_of self.old.ends key.0) }
+        ensures back { TellsBack self.old self.new key (vec_len self.old.slots) }
     {
-        let lane = self.ends.len();
-        self.ends.push_reserved(self.slots.len());
+        let position = self.slots.len() as u32;
+        let own = self.accounts.put(key, position);
+        let household = self.households.put((key.0, key.0, key.2), position);
+        let phase = match self.ends.put(key.0, position) {
+            Some(last) => self.follow(last, position, claim),
+            None => Phase::Ready(claim),
+        };
         self.put(Slot {
-            lane,
+            key,
             next: None,
-            phase: Phase::Ready(claim, opening),
-        });
-    }
-
-    /// Adds a claim behind the last one of a lane.
-    pub fn follow(&mut self, lane: usize, claim: Claim)
-        requires room { HasRoom self.old }
-        requires known { lane < vec_len self.old.ends }
-        requires within { (last : ℕ) → slice_get self.old.ends.items lane ≡ Some last → last < vec_len self.old.slots }
-        ensures slots { (last : ℕ) (before : AnySlot) → IsEnd self.old lane last before
-            → self.new.slots.items ≡ slice_set self.old.slots.items last (record before { next = Some (vec_len self.old.slots) })
-            ++ record { lane = lane; next = None; phase = phase_after before.phase claim } ∷ [] }
-        ensures ends { self.new.ends.items ≡ slice_set self.old.ends.items lane (vec_len self.old.slots) }
-        ensures ready { (last : ℕ) (before : AnySlot) → IsEnd self.old lane last before
-            → self.new.ready.items ≡ (if is_ready (phase_after before.phase claim) then self.old.ready.items ++ vec_len self.old.slots ∷ [] else self.old.ready.items) }
-    {
-        let position = self.slots.len();
-        let last = self.ends[lane];
-        self.ends[lane] = position;
-        let before = &mut self.slots[last];
-        before.next = Some(position);
-        let phase = before.phase.behind(claim);
-        self.put(Slot {
-            lane,
-            next: None,
+            own,
+            household,
             phase,
         });
+    }
+
+    // Links the last slot of a lane to what comes behind it: the phase of the claim there.
+    fn follow(&mut self, last: u32, next: u32, claim: Claim) -> Phase
+        requires { last < vec_len self.old.slots }
+        ensures { Follows self.old self.new last next claim result }
+    {
+        let before = &mut self.slots[last as usize];
+        before.next = Some(next);
+        before.phase.behind(claim)
     }
 
     /// Takes the first claim of the queue, if there is one.
@@ -95,27 +101,33 @@ impl Chains {
         ensures { MatchOption result (IsIdle self.old self.new) (TakesFirst self.old self.new) }
     {
         let position = self.ready.pop_front()?;
-        let (claim, acc) = self.slots[position].pick();
+        let own = left_at(&self.slots, self.slots[position].own);
+        let household = left_at(&self.slots, self.slots[position].household);
+        let claim = self.slots[position].pick();
         Some(Picked {
             position,
             claim,
-            acc,
+            own,
+            household,
         })
     }
 
-    /// Decides the claim at a position, which leaves these accumulators: what follows in its lane is ready at them.
+    /// Decides the claim at a position, which leaves these accumulators: what follows in its lane is ready.
     pub fn decide(&mut self, position: usize, left: &Acc) -> Result<(), AllocError>
         requires within { position < vec_len self.old.slots }
         requires next { NextIsAnother self.old position }
         ensures decided { OnOk result ((slot : AnySlot) → SlotAt self.old position slot → DecidesSlot self.old self.new position slot left.now slot.next) }
         ensures ends { self.new.ends ≡ self.old.ends }
+        ensures accounts { self.new.accounts ≡ self.old.accounts }
+        ensures households { self.new.households ≡ self.old.households }
         ensures refused { OnErr result (AreAs self.old self.new) }
     {
         match self.slots[position].next {
             Some(next) => {
+                let next = next as usize;
                 self.ready.push_back(next)?;
                 self.slots[position].decide(left);
-                self.slots[next].release(left);
+                self.slots[next].release();
             }
             None => self.slots[position].decide(left),
         }
@@ -128,6 +140,8 @@ impl Chains {
         requires ready { deque_len self.old.ready < deque_capacity self.old.ready }
         ensures slots { self.new.slots.items ≡ self.old.slots.items ++ slot ∷ [] }
         ensures ends { self.new.ends ≡ self.old.ends }
+        ensures accounts { self.new.accounts ≡ self.old.accounts }
+        ensures households { self.new.households ≡ self.old.households }
         ensures ready { self.new.ready.items ≡ (if is_ready slot.phase then self.old.ready.items ++ vec_len self.old.slots ∷ [] else self.old.ready.items) }
     {
         if slot.phase.is_ready() {

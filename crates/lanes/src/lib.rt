@@ -1,21 +1,22 @@
-//! The claims of each member, one after another.
+//! The claims of each family, one after another.
 //!
-//! `Lanes` has a place for each claim that was accepted, by position. A claim waits until the earlier claims of its
-//! member are decided; then it is ready at the accumulators that the last of them left, may be taken, and is decided.
+//! `Lanes` has a place for each claim that was accepted, by position. A claim waits until the earlier claims of its family
+//! are decided; then it is ready, may be taken at what the last of its account and the last of its family left, and is decided.
 //!
 //! Begin with `specs/Places.antt` and `specs/Calls.antt`; then read `board.rt`.
 #![tactic(auto)]
 
 mod board;
 mod chains;
-mod followed;
-mod members;
+mod ends;
+mod lasts;
+mod names;
 mod phase;
 mod picked;
+mod short;
 mod slot;
 #[cfg(test)]
 mod tests;
 
 pub use board::Lanes;
-pub use followed::Followed;
 pub use picked::Picked;

@@ -1,6 +1,6 @@
 //! How far a claim is.
 ghost use Rattle.std.specs.Prelude.{◌≡◌};
-ghost use Rattle.lanes.specs.Places.{is_decided, is_ready};
+ghost use Rattle.lanes.specs.Places.{is_decided, is_ready, left_of};
 ghost use Rattle.lanes.specs.Calls.{phase_after};
 
 use settlement::{Acc, Claim};
@@ -8,23 +8,23 @@ use settlement::{Acc, Claim};
 /// How far a claim is on its way to a decision.
 #[derive(Debug, Drop)]
 pub enum Phase {
-    /// An earlier claim of its member is not decided.
+    /// An earlier claim of its family is not decided.
     Waiting(Claim),
-    /// It may be taken, at these accumulators of its member.
-    Ready(Claim, Acc),
+    /// It may be taken.
+    Ready(Claim),
     /// It is taken.
     InWork,
-    /// It is decided, and this is what it left of its member's accumulators.
+    /// It is decided, and this is what it left of its account's accumulators.
     Decided(Acc),
 }
 
 impl Phase {
-    /// The phase of its member's next claim.
+    /// The phase of its family's next claim.
     pub fn behind(&self, claim: Claim) -> Phase
         ensures { result ≡ phase_after self.now claim }
     {
         match self {
-            Phase::Decided(left) => Phase::Ready(claim, *left),
+            Phase::Decided(_) => Phase::Ready(claim),
             _ => Phase::Waiting(claim),
         }
     }
@@ -33,7 +33,17 @@ impl Phase {
     pub fn is_ready(&self) -> bool
         ensures { result ≡ is_ready self.now }
     {
-        matches!(self, Phase::Ready(_, _))
+        matches!(self, Phase::Ready(_))
+    }
+
+    /// What the claim left, once it is decided.
+    pub fn left(&self) -> Option<Acc>
+        ensures { result ≡ left_of self.now }
+    {
+        match self {
+            Phase::Decided(left) => Some(*left),
+            _ => None,
+        }
     }
 
     /// Whether the claim is decided.

@@ -1,8 +1,10 @@
 //! Slots: where the claims are kept.
-ghost use Rattle.std.specs.Prelude.{◌≡◌, true};
+ghost use Rattle.std.specs.Prelude.{◌≡◌, true, Option};
 ghost use Rattle.lanes.specs.Places.{Ready, InWork, Decided, is_ready};
 ghost use Rattle.lanes.specs.Calls.{ready_at};
+ghost use Rattle.lanes.specs.Chains.{left_at};
 
+use crate::lasts::Key;
 use crate::phase::Phase;
 use settlement::{Acc, Claim};
 use std::mem::replace;
@@ -10,23 +12,27 @@ use std::mem::replace;
 /// Where a claim is kept.
 #[derive(Debug, Drop)]
 pub struct Slot {
-    /// The number of its member's lane.
-    pub lane: usize,
+    /// The numbers of its family, which is its lane, and of its member, and the year.
+    pub key: Key,
     /// The position of the next claim in the lane.
-    pub next: Option<usize>,
+    pub next: Option<u32>,
+    /// The position of the last claim before it of its account.
+    pub own: Option<u32>,
+    /// The position of the last claim before it of its family and year.
+    pub household: Option<u32>,
     /// How far the claim is.
     pub phase: Phase,
 }
 
 impl Slot {
     /// Takes its claim, which is ready.
-    pub fn pick(&mut self) -> (Claim, Acc)
+    pub fn pick(&mut self) -> Claim
         requires { is_ready self.old.phase ≡ true }
-        ensures ready { self.old.phase ≡ Ready result.0 result.1 }
+        ensures ready { self.old.phase ≡ Ready result }
         ensures taken { self.new ≡ record self.old { phase = InWork } }
     {
         match replace(&mut self.phase, Phase::InWork) {
-            Phase::Ready(claim, acc) => (claim, acc),
+            Phase::Ready(claim) => claim,
             _ => unreachable!(),
         }
     }
@@ -38,13 +44,26 @@ impl Slot {
         self.phase = Phase::Decided(*left);
     }
 
-    /// Makes its claim, if it waits, ready at these accumulators.
-    pub fn release(&mut self, acc: &Acc)
-        ensures { self.new ≡ record self.old { phase = ready_at acc.now self.old.phase } }
+    /// Makes its claim, if it waits, ready.
+    pub fn release(&mut self)
+        ensures { self.new ≡ record self.old { phase = ready_at self.old.phase } }
     {
         self.phase = match replace(&mut self.phase, Phase::InWork) {
-            Phase::Waiting(claim) => Phase::Ready(claim, *acc),
+            Phase::Waiting(claim) => Phase::Ready(claim),
             phase => phase,
         };
+    }
+}
+
+/// What the claim at a place left, if there is one, and it is decided.
+pub fn left_at(slots: &[Slot], place: Option<u32>) -> Option<Acc>
+    ensures { result ≡ left_at slots.now place }
+{
+    match place {
+        Some(position) => match slots.get(position as usize) {
+            Some(slot) => slot.phase.left(),
+            None => None,
+        },
+        None => None,
     }
 }

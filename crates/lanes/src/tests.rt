@@ -2,12 +2,12 @@
 ghost use Rattle.std.specs.Prelude.{ℕ, IfSome};
 ghost use Rattle.lanes.specs.Calls.{IsInWork};
 
-use crate::{Followed, Lanes, Picked};
+use crate::{Lanes, Picked};
 use dtable::Sequence;
 use feel_tests::{Day, TEXT_LIMIT_BYTES, Text};
 use fixpoint::Fixed;
 use settlement::{Acc, Claim, Money};
-use std::alloc::{AllocError, AllocFailed, Global};
+use std::alloc::{AllocError, Global};
 use std::process::Abort;
 use std::test::Fail;
 
@@ -22,6 +22,8 @@ fn acc(rt: &impl Abort, met: i64) -> Acc {
         met: money(rt, met),
         oop: money(rt, 0),
         paid: money(rt, 0),
+        fmet: money(rt, met),
+        foop: money(rt, 0),
     }
 }
 
@@ -40,15 +42,7 @@ fn claim(rt: &impl Abort, alloc: Global, id: &str, member: &str) -> Result<Claim
     })
 }
 
-// Adds a claim behind its member's last one, or as the first of a member who began with 1.00 met.
-fn place(rt: &impl Abort, lanes: &mut Lanes, claim: Claim) -> Result<(), AllocFailed<Claim>> {
-    match lanes.follow(claim)? {
-        Followed::Added => Ok(()),
-        Followed::First(claim) => lanes.begin(claim, acc(rt, 100)),
-    }
-}
-
-// Adds a claim of a member who began with 1.00 met. A claim that is refused comes back, and is not among the others.
+// Adds a claim of a member in no year.
 fn add(
     rt: &impl Abort,
     alloc: Global,
@@ -56,9 +50,20 @@ fn add(
     id: &str,
     member: &str,
 ) -> Result<(), AllocError> {
-    let claim = claim(rt, alloc, id, member)?;
+    add_in(rt, alloc, lanes, id, (member, 0))
+}
+
+// Adds a claim of a member in a year. A claim that is refused comes back, and is not among the others.
+fn add_in(
+    rt: &impl Abort,
+    alloc: Global,
+    lanes: &mut Lanes,
+    id: &str,
+    account: (&str, u16),
+) -> Result<(), AllocError> {
+    let claim = claim(rt, alloc, id, account.0)?;
     let before = lanes.len();
-    match place(rt, lanes, claim) {
+    match lanes.add(claim, account.1) {
         Ok(()) => {
             assert!(rt; before < lanes.len());
             Ok(())
@@ -78,11 +83,14 @@ fn take(lanes: &mut Lanes) -> Option<Picked>
     lanes.take()
 }
 
-// Whether it is this claim, at this position, and so much was met before.
-fn is_claim(picked: &Picked, position: usize, id: &str, met: i64) -> bool {
+// Whether it is this claim, at this position, and so much was met before, where its account began with 1.00 met.
+fn is_claim(rt: &impl Abort, picked: &Picked, position: usize, id: &str, met: i64) -> bool {
+    let before = picked.start(acc(rt, 100));
     picked.position == position
         && picked.claim.id.as_str() == id
-        && picked.acc.met.amount().units() / 100 == met
+        && before.met.amount().units() / 100 == met
+        && before.fmet == before.met
+        && picked.has_begun() == (met != 100)
 }
 
 // Takes the claim that is ready, this one, and decides it, which leaves so much met.
@@ -95,7 +103,7 @@ fn decide_next(
     left: i64,
 ) -> Result<(), AllocError> {
     let picked = take(lanes).expect(rt, "a claim");
-    assert!(rt; is_claim(&picked, position, id, met));
+    assert!(rt; is_claim(rt, &picked, position, id, met));
     let left = acc(rt, left);
     lanes.decide(picked.position, left)?;
     assert!(rt; lanes.is_decided(position));
@@ -112,7 +120,7 @@ fn take_turns(rt: &impl Abort, alloc: Global) -> Result<(), AllocError> {
     assert!(rt; lanes.len() == 4);
     let first = take(&mut lanes).expect(rt, "the first member's");
     let second = take(&mut lanes).expect(rt, "the second member's");
-    assert!(rt; is_claim(&first, 0, "a", 100) && is_claim(&second, 1, "b", 100));
+    assert!(rt; is_claim(rt, &first, 0, "a", 100) && is_claim(rt, &second, 1, "b", 100));
     assert!(rt; lanes.take().is_none());
     assert!(rt; !lanes.is_decided(0) && !lanes.is_decided(4));
     Ok(())
@@ -133,10 +141,23 @@ fn go_on(rt: &impl Abort, alloc: Global) -> Result<(), AllocError> {
     Ok(())
 }
 
+// A member's claims of two years take turns, and each year begins with what it began with.
+fn begin_anew(rt: &impl Abort, alloc: Global) -> Result<(), AllocError> {
+    let mut lanes = Lanes::new(alloc);
+    add_in(rt, alloc, &mut lanes, "a", ("M1", 2024))?;
+    add_in(rt, alloc, &mut lanes, "b", ("M1", 2025))?;
+    add_in(rt, alloc, &mut lanes, "c", ("M1", 2024))?;
+    decide_next(rt, &mut lanes, 0, "a", 100, 700)?;
+    decide_next(rt, &mut lanes, 1, "b", 100, 300)?;
+    decide_next(rt, &mut lanes, 2, "c", 700, 900)?;
+    Ok(())
+}
+
 #[test]
 fn members_claims_take_turns(rt: HostRuntime) -> Result<(), Fail> {
     take_turns(&rt, rt.alloc())?;
     go_on(&rt, rt.alloc())?;
+    begin_anew(&rt, rt.alloc())?;
     Ok(())
 }
 
@@ -145,5 +166,6 @@ fn members_claims_take_turns(rt: HostRuntime) -> Result<(), Fail> {
 fn claims_are_added_and_decided_or_no_memory(rt: HostRuntime) -> Result<(), Fail> {
     let _turns = take_turns(&rt, rt.alloc());
     let _decided = go_on(&rt, rt.alloc());
+    let _years = begin_anew(&rt, rt.alloc());
     Ok(())
 }

@@ -8,6 +8,7 @@ use Rattle.std.proofs.lemmas.Grind.{flat_map-append}
 use Rattle.std.proofs.lemmas.List.Concat.{flat_map-cons}
 use Rattle.std.proofs.lemmas.Slice.Zip.{AllZip-long}
 use Rattle.dtable.specs.declared.table.InputData.{InputData}
+use Rattle.intake_csv.specs.Balances.{accounts_of}
 use Rattle.intake_csv.specs.Rows.{AreRowsOf, claims_among}
 use Rattle.intake_csv.specs.declared.rows.Row.{Row}
 use Rattle.intake_csv.specs.declared.rows.Row.TheVariants.{Good, Bad}
@@ -37,13 +38,13 @@ claims-beside names (t ∷ texts) (f ∷ files) h = (record { rows = f; are_rows
 
 -- these parts as journals see them, by the rows of their files
 abbrev terms-by : TermsParts → List (List Row) → Terms
-terms-by parts files = record { plan = parts.plan; files = map claims_among files; balances = parts.balances; cutoff = parts.cutoff }
+terms-by parts files = record { plan = parts.plan; files = map claims_among files; balances = accounts_of parts.balances; cutoff = parts.cutoff }
 
 are-terms : (parts : TermsParts) (files : List (List Row)) → AllZip (AreRowsOf parts.plan.names) parts.files files → IsTermsOf parts (terms-by parts files)
 are-terms parts files are = record {
   plan = refl;
   files = claims-beside parts.plan.names parts.files files are;
-  openings = λ member. refl;
+  openings = λ account. refl;
   cutoff = refl;
 }
 

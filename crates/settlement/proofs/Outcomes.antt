@@ -26,7 +26,9 @@ nothing_added acc ranges =
     let met : acc.met +ℤ pos 0 ≡ acc.met = omega (arith, ints) in
     let oop : acc.oop +ℤ pos 0 ≡ acc.oop = omega (arith, ints) in
     let paid : acc.paid +ℤ pos 0 ≡ acc.paid = omega (arith, ints) in
-    rw (met, oop, paid) ranges
+    let fmet : acc.fmet +ℤ pos 0 ≡ acc.fmet = omega (arith, ints) in
+    let foop : acc.foop +ℤ pos 0 ≡ acc.foop = omega (arith, ints) in
+    rw (met, oop, paid, fmet, foop) ranges
 
 range_kept : (acc : Acc) (o : Outcome) (fits : Bool) → are_in_range (after acc o) ≡ fits → AreInRange acc → AreInRange (after acc (if fits then o else pended (Range 0)))
 range_kept acc o true is ranges = is

@@ -6,7 +6,7 @@ use Rattle.settlement.specs.Amount.{is_in_range}
 
 -- accumulators with this much more of each
 abbrev pub added : Acc → ℤ → ℤ → ℤ → Acc
-added acc met oop paid = record { met = acc.met +ℤ met; oop = acc.oop +ℤ oop; paid = acc.paid +ℤ paid }
+added acc met oop paid = record { met = acc.met +ℤ met; oop = acc.oop +ℤ oop; paid = acc.paid +ℤ paid; fmet = acc.fmet +ℤ met; foop = acc.foop +ℤ oop }
 
 -- the accumulators after an outcome: more is met by the deductible's part, paid out of pocket by the share, and paid by the plan
 abbrev pub after : Acc → Outcome → Acc
@@ -14,7 +14,7 @@ after acc outcome = added acc outcome.ded outcome.share outcome.paid
 
 -- each is in the number range
 abbrev pub are_in_range : Acc → Bool
-are_in_range acc = is_in_range acc.met && is_in_range acc.oop && is_in_range acc.paid
+are_in_range acc = is_in_range acc.met && is_in_range acc.oop && is_in_range acc.paid && is_in_range acc.fmet && is_in_range acc.foop
 
 abbrev pub AreInRange : Acc → Type 0
 AreInRange acc = IsTrue (are_in_range acc)

@@ -15,4 +15,4 @@ pub record IsClaimOf (plan : PlanParts) (claim : Claim) : Type 0 where
 
 -- the accumulators of a member without claims
 abbrev pub nothing_yet : Acc
-nothing_yet = record { met = pos 0; oop = pos 0; paid = pos 0 }
+nothing_yet = record { met = pos 0; oop = pos 0; paid = pos 0; fmet = pos 0; foop = pos 0 }

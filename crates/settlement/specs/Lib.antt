@@ -6,6 +6,7 @@ pub mod Reads
 pub mod Placed
 pub mod Roles
 pub mod Accumulators
+pub mod Accounts
 pub mod Settlement
 pub mod Opening
 pub mod ReasonText

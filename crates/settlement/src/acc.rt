@@ -11,6 +11,10 @@ pub struct Acc {
     pub oop: Money,
     /// What the plan has paid.
     pub paid: Money,
+    /// What the member's family has met of its deductible.
+    pub fmet: Money,
+    /// What the member's family has paid out of pocket.
+    pub foop: Money,
 }
 
 impl Acc {
@@ -27,6 +31,8 @@ impl Acc {
             met: Money::zero(),
             oop: Money::zero(),
             paid: Money::zero(),
+            fmet: Money::zero(),
+            foop: Money::zero(),
         }
     }
 
@@ -35,6 +41,8 @@ impl Acc {
         ensures more { SomeIff result (AreInRange (added self met oop paid)) (added self met oop paid) }
         ensures before { AreInRange self }
     {
+        let fmet = self.fmet.plus(met);
+        let foop = self.foop.plus(oop);
         let met = self.met.plus(met);
         let oop = self.oop.plus(oop);
         let paid = self.paid.plus(paid);
@@ -42,6 +50,8 @@ impl Acc {
             met: met?,
             oop: oop?,
             paid: paid?,
+            fmet: fmet?,
+            foop: foop?,
         })
     }
 }

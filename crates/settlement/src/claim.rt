@@ -32,7 +32,15 @@ pub struct Claim {
 }
 
 impl Claim {
+    ghost use Rattle.settlement.specs.Accounts.{family_of};
     ghost use Rattle.settlement.specs.Claim.{IsClaimOf};
+
+    /// The family of the member: each member is one of its own.
+    pub fn family(&self) -> &Text
+        ensures { result.now ≡ family_of self.now }
+    {
+        &self.member
+    }
 
     /// Whether the claim has the plan's fields: a value of its kind for each of them, in order.
     pub fn is_of(&self, plan: &Plan) -> bool

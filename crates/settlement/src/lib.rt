@@ -10,6 +10,7 @@
 #![tactic(auto)]
 
 mod acc;
+mod account;
 mod amounts;
 mod claim;
 mod deciding;
@@ -24,6 +25,7 @@ mod terms;
 mod tests;
 
 pub use acc::Acc;
+pub use account::{Balance, account_year};
 pub use claim::{Claim, fields_of};
 pub use deciding::{Adjudicator, after, decide};
 pub use money::Money;

@@ -30,6 +30,8 @@ fn acc(rt: &impl Abort, cents: (i64, i64, i64)) -> Acc {
         met: money(rt, met),
         oop: money(rt, oop),
         paid: money(rt, paid),
+        fmet: money(rt, met),
+        foop: money(rt, oop),
     }
 }
 
@@ -134,8 +136,8 @@ fn tell_amounts(told: &mut String, outcome: &Outcome) -> Result<(), AllocError> 
 
 fn tell_left(told: &mut String, left: Option<Acc>) -> Result<(), AllocError> {
     match left {
-        Some(Acc { met, oop, paid }) => {
-            let (met, oop, paid) = (cents(met), cents(oop), cents(paid));
+        Some(acc) => {
+            let (met, oop, paid) = (cents(acc.met), cents(acc.oop), cents(acc.paid));
             write!(told, ", {met} {oop} {paid}")
         }
         None => write!(told, ", out of range"),

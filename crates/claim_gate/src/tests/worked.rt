@@ -27,6 +27,8 @@ pub fn is_at(acc: Acc, met: i64, oop: i64, paid: i64) -> bool {
     acc.met.amount().units() == met
         && acc.oop.amount().units() == oop
         && acc.paid.amount().units() == paid
+        && acc.fmet == acc.met
+        && acc.foop == acc.oop
 }
 
 pub fn is_paid_40(outcome: &Outcome) -> bool {

@@ -1,5 +1,4 @@
 use Rattle.std.proofs.Common.{rules, ◌≤◌, length, refl, arith}
-use Rattle.settlement.specs.Opening.{opening}
 use Rattle.claim_gate.specs.Intakes.{intake_of}
 use Rattle.journal.specs.Leading.{running_leads}
 use Rattle.claim_gate.proofs.Replying.{IsAccepted, accepts, accepted_within}
@@ -11,11 +10,11 @@ accept-requires c =
     accepted_within c.self.inside.journal.items (length c.self.inside.terms.now.files) c.self.inside.intakes c.args.offer.provider c.self.invariant.intakes_are in
     omega (arith, c.self.inside.journal.ok, c.self.inside.journal.small)
 
-done : (c : goal.After-self-1) → IsAccepted c.self.inside c.args.self.now c.self.view_is c.self.invariant c.args.offer c.len-position.result (opening c.self.inside.terms.now.balances c.args.offer.claim.member) c.append.new.journal.items c.close_if_due-self-inside.new.journal.items c.add.new.lanes c.accept.new.self c.close_if_due-self-inside.result
+done : (c : goal.After-self-1) → IsAccepted c.self.inside c.args.self.now c.self.view_is c.self.invariant c.args.offer c.len-position.result c.account_year-year.result c.append.new.journal.items c.close_if_due-self-inside.new.journal.items c.add.new.self c.accept.new.self c.close_if_due-self-inside.result
 done c =
-    accepts c.self.inside c.args.self.now c.self.view_is c.self.invariant c.args.offer c.len-position.result (opening c.self.inside.terms.now.balances c.args.offer.claim.member) c.append.new.journal.items c.close_if_due-self-inside.new.journal.items c.add.new.lanes c.accept.new.self c.close_if_due-self-inside.result
+    accepts c.self.inside c.args.self.now c.self.view_is c.self.invariant c.args.offer c.len-position.result c.account_year-year.result c.append.new.journal.items c.close_if_due-self-inside.new.journal.items c.add.new.self c.accept.new.self c.close_if_due-self-inside.result
     c.gate_stays_lawful.ensures.offer c.requires.runs c.requires.open_yet c.requires.filed c.requires.in_turn
-    (search rules) refl (search rules) (search rules) (search rules) (search rules) (search rules)
+    (search rules) (search rules) (search rules) (search rules) (search rules) (search rules) (search rules)
 
 pub invariant_of-self-2 : goal.invariant_of-self-2
 invariant_of-self-2 c = (done c).keeps

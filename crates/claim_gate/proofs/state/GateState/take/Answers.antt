@@ -9,11 +9,11 @@ pub returns-in_default-clause-reply : goal.returns-in_default-clause-reply
 returns-in_default-clause-reply c =
     nothing_ready c.self.inside c.args.self.now c.self.view_is c.self.invariant c.reserve.new.self.items c.take.new.self c.in_default.ensures.in_turn c.in_default.ensures.unchanged (search rules) (search rules) (search rules) (search rules)
 
-done : (c : goal.After-append) → IsTaken c.self.inside c.args.self.now c.self.view_is c.self.invariant c.in-Some.picked.position c.in-Some.picked.claim c.in-Some.picked.acc c.append.new.journal.items c.take.new.self
+done : (c : goal.After-append) → IsTaken c.self.inside c.args.self.now c.self.view_is c.self.invariant c.in-Some.picked c.start_of-acc.result c.append.new.journal.items c.take.new.self
 done c =
-    takes c.self.inside c.args.self.now c.self.view_is c.self.invariant c.in-Some.picked.position c.in-Some.picked.claim c.in-Some.picked.acc c.append.new.journal.items c.take.new.self
+    takes c.self.inside c.args.self.now c.self.view_is c.self.invariant c.in-Some.picked c.start_of-acc.result c.append.new.journal.items c.take.new.self
     c.gate_stays_lawful.ensures.take c.in-Some.ensures.in_turn
-    (search rules) (search rules) (search rules) (search rules) (search rules)
+    (search rules) (search rules) (search rules) (search rules) (search rules) (search rules)
 
 pub invariant_of-self-2 : goal.invariant_of-self-2
 invariant_of-self-2 c = (done c).keeps

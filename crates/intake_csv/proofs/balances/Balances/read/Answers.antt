@@ -27,6 +27,6 @@ returns-in-Ok-insert-clause-entry c = λ front h.
     let same = c.in_ok-key.ensures.ok ∙ c.as_str-2.ensures.value in (
       c.entry_of.result,
       has,
-      holds-more front c.entry_of.result.0 (string_bytes c.in_ok-key.key) c.entry_of.result.1 c.self.inside.accounts c.insert.new.self same (rw (← c.self.view_is) at h) absent
+      holds-more front c.entry_of.result.0 (string_bytes c.in_ok-key.key) c.entry_of.result.1 c.self.inside.accounts c.insert.new.self same c.in-Ok-insert.ensures.ordered (rw (← c.self.view_is) at h) absent
           (λ q. btree_map_updates_text (string_bytes c.in_ok-key.key) c.self.inside.accounts c.insert.new.self (Some c.entry_of.result.1) c.in-Ok-insert.ensures.updates q),
     )

@@ -1,25 +1,29 @@
-use Rattle.lanes.proofs.Moves.{decide-kept, decide-places, work-next}
+use Rattle.lanes.proofs.Moves.{StaysFound, decide-kept, decide-places, work-next}
 use Rattle.lanes.proofs.board.Lanes.decide.Goals as goal
 
 pub decide-requires-clause-next : goal.decide-requires-clause-next
 decide-requires-clause-next c =
-    work-next c.self.inside.members c.self.inside.chains c.args.position c.self.invariant (rw (← c.self.view_is) at c.requires)
+    work-next c.self.inside.names c.self.inside.chains c.args.position c.self.invariant (rw (← c.self.view_is) at c.requires)
+
+-- what is found is as it was
+found : (c : goal.After-decide) → StaysFound c.self.inside.chains c.decide.new.self
+found c = record { ends = c.decide.ensures.ends; accounts = c.decide.ensures.accounts; households = c.decide.ensures.households }
 
 pub invariant_of-self : goal.invariant_of-self
 invariant_of-self c =
     let e = c.decide.ensures in
-    decide-kept c.self.inside.members c.self.inside.chains c.decide.new.self c.args.position c.args.left c.decide.result c.self.invariant
-    (rw (← c.self.view_is) at c.requires) e.decided e.ends e.refused
+    decide-kept c.self.inside.names c.self.inside.chains c.decide.new.self c.args.position c.args.left c.decide.result c.self.invariant
+    (rw (← c.self.view_is) at c.requires) e.decided (found c) e.refused
 
 pub returns-clause-decided : goal.returns-clause-decided
 returns-clause-decided c =
     rw (← c.self.view_is) (
-    decide-places c.self.inside.members c.self.inside.chains c.decide.new.self c.args.position c.args.left c.decide.result c.self.invariant
+    decide-places c.self.inside.names c.self.inside.chains c.decide.new.self c.args.position c.args.left c.decide.result c.self.invariant
     (rw (← c.self.view_is) at c.requires) c.decide.ensures.decided
     )
 
 pub returns-clause-in_turn : goal.returns-clause-in_turn
 returns-clause-in_turn c =
     let e = c.decide.ensures in
-    (decide-kept c.self.inside.members c.self.inside.chains c.decide.new.self c.args.position c.args.left c.decide.result c.self.invariant
-    (rw (← c.self.view_is) at c.requires) e.decided e.ends e.refused).in_turn
+    (decide-kept c.self.inside.names c.self.inside.chains c.decide.new.self c.args.position c.args.left c.decide.result c.self.invariant
+    (rw (← c.self.view_is) at c.requires) e.decided (found c) e.refused).in_turn

@@ -1,0 +1,49 @@
+-- The last position of each key.
+use Rattle.std.specs.Prelude.{◌<◌, ℕ, ◌==◌, ◌&&◌, Bool, true, false, get_or, length, if◌then◌else◌, Option, Some, None, IsSome}
+use Rattle.std.specs.Ordering.{nat_cmp, ordering_then}
+use Rattle.std.specs.declared.cmp.Ordering.{Ordering}
+use Rattle.std.specs.BTreeMap.{BTreeMap, get}
+use Rattle.lanes.specs.declared.ends.Ends.{Ends}
+use Rattle.lanes.specs.declared.lasts.Lasts.{Lasts}
+
+-- an account by numbers: its family, its member, and its year
+abbrev pub Key : Type 0
+Key = ℕ × ℕ × ℕ
+
+abbrev pub key_cmp : Key → Key → Ordering
+key_cmp a b = ordering_then (ordering_then (nat_cmp a.0 b.0) (nat_cmp a.1 b.1)) (nat_cmp a.2 b.2)
+
+abbrev pub is_key : Key → Key → Bool
+is_key a b = ((a.0 == b.0) && (a.1 == b.1)) && (a.2 == b.2)
+
+-- the member is a family of its own, in no year
+abbrev pub is_plain : Key → Bool
+is_plain key = (key.0 == key.1) && (key.2 == 0)
+
+-- the household of an account: its family stands for its member
+abbrev pub house : Key → Key
+house key = (key.0, key.0, key.2)
+
+-- the last position of a number
+abbrev pub end_of : Ends → ℕ → Option ℕ
+end_of ends number = get_or ends.positions.items number None
+
+abbrev pub flat : Option (Option ℕ) → Option ℕ
+flat None = None
+flat (Some last) = last
+
+-- the last position of a key in a map that may have keys without one
+abbrev pub found_among : BTreeMap Key (Option ℕ) → Key → Option ℕ
+found_among others key = flat (get key_cmp others key)
+
+-- the last position of a key
+abbrev pub found_in : Lasts → Key → Option ℕ
+found_in lasts key = if is_plain key then end_of lasts.plain key.0 else found_among lasts.others key
+
+abbrev pub HasRoomBy : Bool → Lasts → Key → Type 0
+HasRoomBy true lasts key = key.0 < length lasts.plain.positions.items
+HasRoomBy false lasts key = IsSome (get key_cmp lasts.others key)
+
+-- there is room for the key
+abbrev pub HasRoomFor : Lasts → Key → Type 0
+HasRoomFor lasts key = HasRoomBy (is_plain key) lasts key

@@ -1,0 +1,44 @@
+//! Ends: the last position of each number.
+ghost use Rattle.std.specs.Prelude.{◌≡◌, ◌<◌, ◌==◌, ℕ, Some, None, [], cond, length, OnOk};
+ghost use Rattle.lanes.specs.Lasts.{end_of};
+
+use std::alloc::{AllocError, Global};
+use std::mem::replace;
+
+/// The last position of each number that has one.
+#[derive(Debug, Drop)]
+pub struct Ends {
+    pub positions: Vec<Option<u32>>,
+}
+
+impl Ends {
+    /// None yet.
+    pub fn new(alloc: Global) -> Ends
+        ensures { result.positions.items ≡ [] }
+    {
+        Ends {
+            positions: Vec::new(alloc),
+        }
+    }
+
+    /// Makes room for a number: what is found stays as it is.
+    pub fn prepare(&mut self, number: u32) -> Result<(), AllocError>
+        ensures same { (n : ℕ) → end_of self.new n ≡ end_of self.old n }
+        ensures room { OnOk result (number < length self.new.positions.items) }
+    {
+        let number = number as usize;
+        if number < self.positions.len() {
+            return Ok(());
+        }
+        self.positions.resize(number + 1, None)
+    }
+
+    /// Gives a number, for which there is room, its new last position, and tells the one before.
+    pub fn put(&mut self, number: u32, position: u32) -> Option<u32>
+        requires { number < length self.old.positions.items }
+        ensures before { result ≡ end_of self.old number }
+        ensures found { (n : ℕ) → end_of self.new n ≡ cond (number == n) (Some position) (end_of self.old n) }
+    {
+        replace(&mut self.positions[number as usize], Some(position))
+    }
+}

@@ -1,0 +1,75 @@
+//! Names: each of them once, by number.
+ghost use Rattle.std.specs.Prelude.{◌≡◌, ◌++◌, ◌∷◌, [], Some, OnOk, OnErr, IfOk, IfSome, IfNone};
+ghost use Rattle.std.specs.List.{slice_get};
+ghost use Rattle.lanes.specs.Names.{AreDistinct, Grows, IsAbsent};
+
+use crate::short::short;
+use std::alloc::{AllocError, Global};
+use std::collections::BTreeMap;
+use std::marker::Model;
+
+/// Names of families and of members, numbered from 0 in the order in which they came. Contracts see the list of them.
+#[derive(Debug, Drop)]
+pub struct Names {
+    alloc: Global,
+    numbers: BTreeMap<String, u32>,
+}
+
+impl Model for Names {
+    ghost use Rattle.std.specs.Prelude.{List, ℕ};
+    ghost use Rattle.lanes.specs.Names.{names_of, AreNumbered};
+
+    ghost Value = { List (List ℕ) };
+
+    ghost view = { λ names. names_of names.numbers };
+
+    ghost invariant = { λ names. AreNumbered names.numbers };
+}
+
+impl Names {
+    /// No name yet.
+    pub fn new(alloc: Global) -> Names
+        ensures { result ≡ [] }
+    {
+        Names {
+            alloc,
+            numbers: BTreeMap::new(alloc),
+        }
+    }
+
+    /// The number of a name, which is added where it isn't there.
+    #[tactic(auto, using(crate::proofs::Growing::grows_same, crate::proofs::Growing::grows_added))]
+    pub fn number(&mut self, name: &str) -> Result<u32, AllocError>
+        ensures number { IfOk result (λ number. slice_get self.new number ≡ Some name.now) }
+        ensures grows { Grows self.old self.new }
+        ensures distinct { AreDistinct self.new }
+    {
+        match self.find(name) {
+            Some(number) => Ok(number),
+            None => self.add(name),
+        }
+    }
+
+    // The number of a name.
+    fn find(&self, name: &str) -> Option<u32>
+        ensures found { IfSome result (λ number. slice_get self.now number ≡ Some name.now) }
+        ensures absent { IfNone result (IsAbsent self.now name.now) }
+        ensures distinct { AreDistinct self.now }
+    {
+        self.numbers.get(name).copied()
+    }
+
+    // Adds a name that isn't there: its number is how many were there.
+    fn add(&mut self, name: &str) -> Result<u32, AllocError>
+        requires { IsAbsent self.old name.now }
+        ensures number { IfOk result (λ number. slice_get self.new number ≡ Some name.now) }
+        ensures added { OnOk result (self.new ≡ self.old ++ name.now ∷ []) }
+        ensures refused { OnErr result (self.new ≡ self.old) }
+        ensures distinct { AreDistinct self.new }
+    {
+        let key = String::from_str(self.alloc, name)?;
+        let number = short(self.numbers.len())?;
+        let _before = self.numbers.insert(key, number)?;
+        Ok(number)
+    }
+}

@@ -1,0 +1,55 @@
+-- Accounts: whose accumulators a claim is settled at.
+use Rattle.std.specs.Prelude.{ℕ, ℤ, pos, ◌+ℤ◌, ◌==◌, ◌&&◌, Bool, cond, List}
+use Rattle.std.specs.Str.{bytes_eq}
+use Rattle.dtable.specs.Plan.{PlanParts}
+use Rattle.settlement.specs.declared.acc.Acc.{Acc}
+use Rattle.settlement.specs.declared.claim.Claim.{Claim}
+use Rattle.settlement.specs.declared.outcome.Outcome.{Outcome}
+
+-- a member of a family in a benefit year
+pub record Account : Type 0 where
+  pub family : List ℕ
+  pub member : List ℕ
+  pub year : ℕ
+
+-- the family of a claim: its lane
+abbrev pub family_of : Claim → List ℕ
+family_of claim = claim.member
+
+-- the year whose accumulators a claim is settled at
+abbrev pub account_year : PlanParts → Claim → ℕ
+account_year plan claim = 0
+
+-- the account of a claim in a year
+abbrev pub account_in : ℕ → Claim → Account
+account_in year claim = record { family = family_of claim; member = claim.member; year = year }
+
+-- the account of a claim
+abbrev pub account_of : PlanParts → Claim → Account
+account_of plan claim = account_in (account_year plan claim) claim
+
+-- the account of a member who is a family of its own, in no year
+abbrev pub alone : List ℕ → Account
+alone member = record { family = member; member = member; year = 0 }
+
+-- both are of one family, in one year
+abbrev pub is_household : Account → Account → Bool
+is_household a b = bytes_eq a.family b.family && (a.year == b.year)
+
+-- both are one account
+abbrev pub is_same : Account → Account → Bool
+is_same a b = is_household a b && bytes_eq a.member b.member
+
+-- an amount, where it is added
+abbrev pub part : Bool → ℤ → ℤ
+part b amount = cond b amount (pos 0)
+
+-- accumulators with what an outcome adds to a member's own, and to the family's
+abbrev pub grown : Bool → Bool → Acc → Outcome → Acc
+grown own shared acc outcome = record {
+  met = acc.met +ℤ part own outcome.ded;
+  oop = acc.oop +ℤ part own outcome.share;
+  paid = acc.paid +ℤ part own outcome.paid;
+  fmet = acc.fmet +ℤ part shared outcome.ded;
+  foop = acc.foop +ℤ part shared outcome.share;
+}

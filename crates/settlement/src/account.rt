@@ -1,0 +1,43 @@
+//! Accounts: whose accumulators a claim is settled at.
+ghost use Rattle.std.specs.Prelude.{◌≡◌};
+ghost use Rattle.settlement.specs.Accounts.{account_year};
+
+use crate::acc::Acc;
+use crate::claim::Claim;
+use crate::money::Money;
+use dtable::Plan;
+
+/// What an account begins with.
+#[derive(Clone, Copy, Debug, PartialEq, Eq)]
+pub struct Balance {
+    /// What was met of the deductible.
+    pub met: Money,
+    /// What the member has paid out of pocket.
+    pub oop: Money,
+    /// What the plan has paid.
+    pub paid: Money,
+}
+
+impl Balance {
+    ghost use Rattle.settlement.specs.Opening.{begun};
+
+    /// The accumulators of an account that begins with it, and is alone in its family.
+    pub fn alone(self) -> Acc
+        ensures { result ≡ begun self }
+    {
+        Acc {
+            met: self.met,
+            oop: self.oop,
+            paid: self.paid,
+            fmet: self.met,
+            foop: self.oop,
+        }
+    }
+}
+
+/// The year whose accumulators a claim is settled at: 0, where these aren't kept by the year.
+pub fn account_year(plan: &Plan, claim: &Claim) -> u16
+    ensures { result ≡ account_year plan.now claim.now }
+{
+    0
+}
