@@ -9,23 +9,23 @@ ghost use Rattle.adjudicate.specs.Stop.{IsPlanReason, IsReason};
 ghost use Rattle.adjudicate.specs.ValueText.{IsValueText};
 ghost use Rattle.adjudicate_cli.specs.Ends.{HasText, IsStatusOfRefusal, PutsText};
 
-use crate::command::{ASSIGNMENT, CHECK, EXPLAIN, HARMFUL, RUN, STRICT, VALUE, command_line};
 use crate::explaining::About;
 use crate::files::plan_of;
 use crate::output::{output_of, placed, unwritable};
 use crate::run::run_of;
 use crate::strict::unread;
-use crate::telling::{DONE, REFUSED, RESOURCE, USAGE, ended, no_memory, told};
-use adjudicate::{do_check, do_harmful_check, do_value};
+use crate::telling::ended;
+use adjudicate::{WORKERS_LIMIT, do_check, do_harmful_check, do_value};
 use clap::ArgMatches;
-use clap::error::ErrorKind;
+use console::names::{ASSIGNMENT, CHECK, HARMFUL, RUN, STRICT, VALUE};
+use console::{DONE, REFUSED, RESOURCE, USAGE, explains, matches_of, usage, words_of};
 use fixpoint::Out;
+use std::io;
 use std::io::Input;
 use std::rt::{Env, Files};
 use std::sync::Wait;
 use std::thread::Threads;
 use std::time::Clock;
-use std::{env, io};
 use whole_file::Place;
 
 /// Does what the command line says, and answers the exit status.
@@ -36,20 +36,11 @@ where
     R: Clock + Threads + Wait + Clone + Drop + Send + Sync + 'static,
     ensures known { result ≤ RESOURCE }
 {
-    let alloc = rt.alloc();
-    let words: Vec<String> = match env::args(rt) {
-        Ok(words) => match words.collect(alloc) {
-            Ok(words) => words,
-            Err(_) => return no_memory(rt),
-        },
-        Err(fault) if fault.kind() == io::ErrorKind::OutOfMemory => return no_memory(rt),
-        Err(_) => return told(rt, "error: an argument is not UTF-8", USAGE),
+    let words = match words_of(rt) {
+        Ok(words) => words,
+        Err(status) => return status,
     };
-    let line = match command_line(alloc) {
-        Ok(line) => line,
-        Err(fault) => return usage(rt, &fault),
-    };
-    match line.try_get_matches_from(words.as_slice()) {
+    match matches_of(rt.alloc(), words.as_slice(), WORKERS_LIMIT) {
         Ok(matches) => command(rt, &matches, is_watched),
         Err(fault) => usage(rt, &fault),
     }
@@ -72,11 +63,6 @@ where
         Some(words) => run_of(rt, words, is_watched),
         None => USAGE,
     }
-}
-
-/// Whether refusals are explained: where somebody watches standard error, or where that is asked for.
-pub fn explains(matches: &ArgMatches<'_>, is_watched: bool) -> bool {
-    is_watched || matches.get_flag(EXPLAIN)
 }
 
 /// The command `value`.
@@ -236,18 +222,4 @@ fn harmful_check_into<R: Eprint + AllocGlobal, P: Place>(
     let mut out = Out::new(text);
     let outcome = do_harmful_check(rt.alloc(), plan, &mut out);
     placed(rt, about, place, out.into_inner(), &outcome)
-}
-
-/// Tells a fault of the command line, or the help or the version that was asked for.
-fn usage<R: Print + Eprint>(rt: &R, fault: &clap::Error) -> u8
-    ensures known { result ≤ RESOURCE }
-{
-    if fault.kind() == ErrorKind::OutOfMemory {
-        return no_memory(rt);
-    }
-    match fault.print(rt) {
-        Ok(()) if fault.use_stderr() => USAGE,
-        Ok(()) => DONE,
-        Err(_) => RESOURCE,
-    }
 }

@@ -1,9 +1,9 @@
 //! What a refusal means, told behind its line where that is wanted.
 
-use crate::command::{ASSIGNMENT, BALANCES, FILE, PLAN};
 use adjudicate::{ArgumentFault, Stop};
 use claim_terms::TermsFault;
 use clap::ArgMatches;
+use console::names::{ASSIGNMENT, BALANCES, FILE, PLAN};
 use explain::{
     FileKind, Page, Words, argument_words, explain_file, explain_literal, explain_plan,
     explain_record, explain_tables, terms_words,

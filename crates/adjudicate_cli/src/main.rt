@@ -1,17 +1,15 @@
-//! The program `adjudicate`: it reads its command line, its files and its streams, and leaves all else to the
-//! library of that name.
+//! The program `adjudicate`: it reads its command line, its files and its streams by `console`, and leaves all else to the
+//! library of its own name.
 //!
-//! `command` is the command line, by `clap`. `files` reads texts whole, `output` puts results into a file. `commands` is what happens between the two: one command of
+//! `files` reads the texts that the command line names, `output` puts results into a file. `commands` is what happens between the two: one command of
 //! the library over standard output, its line on standard error, its exit status; `run` is that for the command `run`,
-//! `telling` what a person is told, `explaining` what that means, `strict` which keys of a plan nothing reads, and `pulse` the signs of life while a run takes long.
+//! `telling` how a refusal of the library is told, `explaining` what it means, and `strict` which keys of a plan nothing reads.
 #![tactic(auto)]
 
-mod command;
 mod commands;
 mod explaining;
 mod files;
 mod output;
-mod pulse;
 mod run;
 mod strict;
 mod telling;

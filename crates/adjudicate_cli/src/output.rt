@@ -5,10 +5,11 @@ ghost use Rattle.std.specs.Io.KnownBytes.{Keeps};
 ghost use Rattle.whole_file.specs.Place.{Becomes};
 ghost use Rattle.adjudicate.specs.Stop.{status_of};
 
-use crate::command::{OUTPUT, STREAM};
 use crate::explaining::{About, explain_unreadable};
-use crate::telling::{DONE, RESOURCE, no_memory, tell, told};
+use crate::telling::tell;
 use adjudicate::Stop;
+use console::names::{OUTPUT, STREAM};
+use console::{DONE, RESOURCE, no_memory, told};
 use std::io;
 use std::rt::Files;
 use whole_file::{FilePlace, Place, finish};

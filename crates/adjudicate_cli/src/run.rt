@@ -6,16 +6,15 @@ ghost use Rattle.adjudicate.specs.RunStop.{IsRunReason};
 ghost use Rattle.adjudicate.specs.RunText.{IsRemittance, run_texts};
 ghost use Rattle.adjudicate_cli.specs.Ends.{HasText, IsStatusOfRefusal, PutsText};
 
-use crate::command::{BALANCES, CUTOFF, FILE, PLAN, STREAM, STRICT, SUMMARY, WORKERS};
-use crate::commands::explains;
 use crate::explaining::About;
 use crate::files::{plan_of, read_or_tell};
 use crate::output::{output_of, placed, unwritable};
-use crate::pulse::Pulse;
 use crate::strict::unread;
-use crate::telling::{DONE, RESOURCE, USAGE, ended, no_memory, told};
+use crate::telling::ended;
 use adjudicate::{FILE_LIMIT_BYTES, RunInput, do_run};
 use clap::ArgMatches;
+use console::names::{BALANCES, CUTOFF, FILE, STRICT, SUMMARY, WORKERS};
+use console::{DONE, Pulse, RESOURCE, USAGE, explains, input_once, no_memory};
 use fixpoint::Out;
 use std::alloc::{AllocError, Global};
 use std::io;
@@ -177,13 +176,7 @@ fn texts_of<R: Files + Input + Eprint + AllocGlobal>(
 ) -> Result<Texts, u8>
     ensures known { IfErr result (λ status. status ≤ RESOURCE) }
 {
-    if times_of_input(matches) > 1 {
-        return Err(told(
-            rt,
-            "error: standard input can stand in one place of a command",
-            USAGE,
-        ));
-    }
+    input_once(rt, matches)?;
     let plan = plan_of(rt, matches, explains)?;
     if matches.get_flag(STRICT) {
         let status = unread(rt, plan.as_slice());
@@ -196,14 +189,6 @@ fn texts_of<R: Files + Input + Eprint + AllocGlobal>(
         balances: balances_of(rt, matches, explains)?,
         files: files_of(rt, matches, explains)?,
     })
-}
-
-/// In how many places standard input is named.
-fn times_of_input(matches: &ArgMatches<'_>) -> usize {
-    let others = [matches.get_str(PLAN), matches.get_str(BALANCES)];
-    let files = matches.get_strs(FILE).unwrap_or(&[]);
-    let named = others.iter().filter(|path| **path == Some(STREAM)).count();
-    named.saturating_add(files.iter().filter(|path| **path == STREAM).count())
 }
 
 fn balances_of<R: Files + Input + Eprint + AllocGlobal>(

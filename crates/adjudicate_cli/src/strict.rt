@@ -2,7 +2,7 @@
 
 ghost use Rattle.std.specs.Prelude.{◌≤◌};
 
-use crate::telling::{DONE, REFUSED, RESOURCE, no_memory};
+use console::{DONE, REFUSED, RESOURCE, no_memory};
 use explain::push_shown;
 use plan_places::{Unread, unread_keys};
 use std::alloc::{AllocError, Global};

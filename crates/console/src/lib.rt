@@ -1,0 +1,24 @@
+//! What stands between the program and whoever calls it: the command line, the files and the input that it names, lines on standard error,
+//! and the exit statuses.
+//!
+//! `command.rt` is the command line by `clap`, of the arguments of `arguments.rt`; `names.rt` has the names by which their values are asked for,
+//! `texts.rt` what help says behind them, and `words.rt` the words that were given. `files.rt` reads texts whole, `telling.rt` has lines and
+//! statuses, and `pulse.rt` the signs of life while work takes long.
+#![tactic(auto)]
+
+mod arguments;
+mod command;
+mod files;
+pub mod names;
+mod pulse;
+mod telling;
+#[cfg(test)]
+mod tests;
+mod texts;
+mod words;
+
+pub use command::matches_of;
+pub use files::{ReadFault, read_file, read_source};
+pub use pulse::Pulse;
+pub use telling::{DONE, REFUSED, RESOURCE, USAGE, no_memory, told, usage};
+pub use words::{explains, input_once, words_of};
