@@ -50,7 +50,6 @@ pub fn first_outside(given: &Inputs, earlier: &[Answers<'_>], table: &Table) -> 
 {
     table
         .inputs
-        .as_slice()
         .iter()
         .position(|input| is_outside(given, earlier, input))
 }

@@ -1,6 +1,6 @@
 //! What a plan's document holds at a key, or the fault where that isn't there or is of another type.
 ghost use Rattle.std.specs.Prelude.{◌≡◌, ◌≢◌, ◌≤◌, Some, None, length, option_map, IsUtf8, IfOk, IfErr, OnOk, OnErr};
-ghost use Rattle.toml.specs.Data.{table, get};
+ghost use Rattle.toml.specs.Data.{table, get, as_str};
 ghost use Rattle.toml.specs.Parse.{parse_document};
 ghost use Rattle.toml.specs.View.{view, items_view};
 ghost use Rattle.dtable.specs.Document.{string_at, array_at, optional_array_at, item_count};
@@ -41,6 +41,14 @@ pub fn required_text<'a>(entry: &'a Value, key: &str, place: Place) -> Result<&'
     ensures refused { OnErr result (string_at key.now (view entry.now) ≡ None) }
 {
     let value = required(entry, key, place)?;
+    text_of(value, place)
+}
+
+/// The text of a value that has to be a string.
+pub fn text_of(value: &Value, place: Place) -> Result<&str, PlanFault>
+    ensures ok { IfOk result (λ text. as_str (view value.now) ≡ Some text.now) }
+    ensures refused { OnErr result (as_str (view value.now) ≡ None) }
+{
     match value.as_str() {
         Some(text) => Ok(text),
         None => Err(place.fault(PlanCause::Kind)),

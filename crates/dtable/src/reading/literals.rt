@@ -4,8 +4,9 @@ ghost use Rattle.toml.specs.View.{view};
 ghost use Rattle.dtable.specs.PlanFile.{IsCellOf, IsLiteral};
 ghost use Rattle.dtable.specs.Reading.{Reads};
 
+use super::document::text_of;
 use super::place::Place;
-use crate::plan_fault::{PlanCause, PlanFault};
+use crate::plan_fault::PlanFault;
 use feel_tests::{Cell, Kind, Value as Literal, read_cell, read_value};
 use std::alloc::Global;
 use toml::Value;
@@ -19,9 +20,7 @@ pub fn read_cell_entry(
 ) -> Result<Cell, PlanFault>
     ensures { Reads (IsCellOf kind (view entry.now)) result }
 {
-    let Some(text) = entry.as_str() else {
-        return Err(place.fault(PlanCause::Kind));
-    };
+    let text = text_of(entry, place)?;
     match read_cell(alloc, kind, text) {
         Ok(cell) => Ok(cell),
         Err(fault) => Err(place.cell_fault(fault)),
@@ -37,9 +36,7 @@ pub fn read_literal_entry(
 ) -> Result<Literal, PlanFault>
     ensures { Reads (IsLiteral kind (view entry.now)) result }
 {
-    let Some(text) = entry.as_str() else {
-        return Err(place.fault(PlanCause::Kind));
-    };
+    let text = text_of(entry, place)?;
     match read_value(alloc, kind, text) {
         Ok(literal) => Ok(literal),
         Err(fault) => Err(place.cell_fault(fault)),

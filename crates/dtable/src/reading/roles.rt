@@ -63,60 +63,17 @@ fn read_role_table(
     if !roles.is_table() {
         return Err(Place::TEXT.fault(PlanCause::Kind));
     }
-    let cover = read_role(
-        alloc,
+    let table = RoleTable {
         roles,
-        "cover",
-        Asked::Flag,
         names,
         tables,
-        Place::TEXT.in_column(1),
-    )?;
-    let fee = read_role(
-        alloc,
-        roles,
-        "fee",
-        Asked::Money,
-        names,
-        tables,
-        Place::TEXT.in_column(2),
-    )?;
-    let deductible = read_role(
-        alloc,
-        roles,
-        "deductible",
-        Asked::Money,
-        names,
-        tables,
-        Place::TEXT.in_column(3),
-    )?;
-    let copay = read_role(
-        alloc,
-        roles,
-        "copay",
-        Asked::Money,
-        names,
-        tables,
-        Place::TEXT.in_column(4),
-    )?;
-    let rate = read_role(
-        alloc,
-        roles,
-        "rate",
-        Asked::Rate,
-        names,
-        tables,
-        Place::TEXT.in_column(5),
-    )?;
-    let oop_max = read_role(
-        alloc,
-        roles,
-        "oop_max",
-        Asked::Money,
-        names,
-        tables,
-        Place::TEXT.in_column(6),
-    )?;
+    };
+    let cover = table.read(alloc, "cover", Asked::Flag, 1)?;
+    let fee = table.read(alloc, "fee", Asked::Money, 2)?;
+    let deductible = table.read(alloc, "deductible", Asked::Money, 3)?;
+    let copay = table.read(alloc, "copay", Asked::Money, 4)?;
+    let rate = table.read(alloc, "rate", Asked::Rate, 5)?;
+    let oop_max = table.read(alloc, "oop_max", Asked::Money, 6)?;
     let remarks = read_remarks(alloc, roles, tables, Place::TEXT.in_column(7))?;
     Ok(Roles {
         cover,
@@ -129,20 +86,30 @@ fn read_role_table(
     })
 }
 
-fn read_role(
-    alloc: Global,
-    roles: &Value,
-    key: &str,
-    asked: Asked,
-    names: &[InputData],
-    tables: &[Table],
-    place: Place,
-) -> Result<Source, PlanFault>
-    ensures { Reads (IsRole names.now (map seen_of tables.now) asked key.now (view roles.now)) result }
-{
-    match text_at(roles, key) {
-        Some(text) => read_source(alloc, text, asked, names, tables, place),
-        None => Err(place.fault(PlanCause::Role)),
+/// The table `roles`, behind the names and the tables whose values its strings can name.
+#[derive(Drop)]
+struct RoleTable<'a> {
+    roles: &'a Value,
+    names: &'a [InputData],
+    tables: &'a [Table],
+}
+
+impl RoleTable<'_> {
+    /// Reads the role at a key, which is told as the column of a fault.
+    fn read(
+        &self,
+        alloc: Global,
+        key: &str,
+        asked: Asked,
+        column: usize,
+    ) -> Result<Source, PlanFault>
+        ensures { Reads (IsRole self.now.names.now (map seen_of self.now.tables.now) asked key.now (view self.now.roles.now)) result }
+    {
+        let place = Place::TEXT.in_column(column);
+        match text_at(self.roles, key) {
+            Some(text) => read_source(alloc, text, asked, self.names, self.tables, place),
+            None => Err(place.fault(PlanCause::Role)),
+        }
     }
 }
 

@@ -6,7 +6,7 @@ ghost use Rattle.dtable.specs.PlanFile.{IsHit, IsHitWord, IsTable, AreTables, Ar
 ghost use Rattle.dtable.specs.Reading.{Reads};
 ghost use Rattle.dtable.specs.Scope.{seen_of};
 
-use super::document::{check_count, optional_array};
+use super::document::{check_count, optional_array, text_of};
 use super::inputs::read_inputs;
 use super::limits::TABLES_LIMIT;
 use super::outputs::read_outputs;
@@ -108,10 +108,7 @@ fn read_hit(table: &Value, place: Place) -> Result<Hit, PlanFault>
 fn read_hit_word(word: &Value, place: Place) -> Result<Hit, PlanFault>
     ensures { Reads (IsHitWord (view word.now)) result }
 {
-    let Some(word) = word.as_str() else {
-        return Err(place.fault(PlanCause::Kind));
-    };
-    match word {
+    match text_of(word, place)? {
         "U" => Ok(Hit::U),
         "A" => Ok(Hit::A),
         "P" => Ok(Hit::P),
