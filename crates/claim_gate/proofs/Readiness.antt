@@ -10,7 +10,6 @@ use Rattle.std.proofs.lemmas.Slice.Eq.{bytes_eq-Decides}
 use Rattle.settlement.specs.Accounts.{Account, account_of, family_of}
 use Rattle.settlement.specs.Opening.{opening}
 use Rattle.settlement.specs.declared.acc.Acc.{Acc}
-use Rattle.settlement.specs.declared.claim.Claim.{Claim}
 use Rattle.lanes.specs.Places.{Place, is_of, is_waiting, is_ready, is_decided, all_decided, phase_at, standing, started, InTurn}
 use Rattle.lanes.specs.declared.phase.Phase.{Phase}
 use Rattle.lanes.specs.declared.phase.Phase.TheVariants.{Waiting, Ready, InWork, Decided}

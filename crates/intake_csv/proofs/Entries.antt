@@ -18,7 +18,7 @@ use Rattle.std.specs.Str.{bytes_eq}
 use Rattle.std.proofs.lemmas.Bool.{cases_Bool, false≢true}
 use Rattle.std.proofs.lemmas.Slice.Eq.{bytes_eq-Decides}
 use Rattle.std.proofs.lemmas.Map.Text.{is_eq-slice_cmp}
-use Rattle.settlement.specs.Accounts.{alone, part}
+use Rattle.settlement.specs.Accounts.{alone}
 use Rattle.settlement.specs.declared.acc.Acc.{Acc}
 use Rattle.settlement.specs.declared.account.Balance.{Balance}
 use Rattle.settlement.specs.Claim.{nothing_yet}

@@ -1,11 +1,11 @@
 -- The columns that a plan's claims need have distinct names, as all names of a plan.
-use Rattle.std.proofs.Common.{◌≡◌, ◌≢◌, ◌<◌, ◌≤◌, ℕ, List, [], ◌∷◌, ◌++◌, length, map, get_or, refl, sym, ap, subst, ◌∙◌, arith, append_assoc}
+use Rattle.std.proofs.Common.{◌≡◌, ℕ, List, [], ◌∷◌, ◌++◌, map, refl, sym, ap, subst, ◌∙◌, arith, append_assoc}
 use Rattle.std.specs.List.{flat_map}
 use Rattle.std.proofs.lemmas.List.{get_or-map, get_or_append_left, length-append, length-map, map-append}
 use Rattle.dtable.specs.declared.table.InputData.{InputData}
-use Rattle.dtable.specs.Names.{accumulator_names, claim_names, names_of}
+use Rattle.dtable.specs.Names.{accumulator_names, claim_names}
 use Rattle.dtable.specs.Plan.{AreDistinct, IsPlan, PlanParts, plan_names}
-use Rattle.intake_csv.specs.Columns.{AreColumnsOf, claim_columns, fields_among, needed, own_columns}
+use Rattle.intake_csv.specs.Columns.{AreColumnsOf, claim_columns, fields_among, needed}
 use Rattle.intake_csv.specs.Laws.{StandApart}
 use Rattle.intake_csv.specs.Records.{Fields}
 use Rattle.intake_csv.specs.declared.column.Column.{Column}

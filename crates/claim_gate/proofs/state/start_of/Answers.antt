@@ -1,4 +1,4 @@
-use Rattle.std.proofs.Common.{rules, ap, sym, ◌∙◌}
+use Rattle.std.proofs.Common.{sym, ◌∙◌}
 use Rattle.claim_gate.proofs.Replying.{begun_alike}
 use Rattle.claim_gate.proofs.state.start_of.Goals as goal
 

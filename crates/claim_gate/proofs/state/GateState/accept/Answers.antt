@@ -1,4 +1,4 @@
-use Rattle.std.proofs.Common.{rules, ◌≤◌, length, refl, arith}
+use Rattle.std.proofs.Common.{rules, ◌≤◌, length, arith}
 use Rattle.claim_gate.specs.Intakes.{intake_of}
 use Rattle.journal.specs.Leading.{running_leads}
 use Rattle.claim_gate.proofs.Replying.{IsAccepted, accepts, accepted_within}
