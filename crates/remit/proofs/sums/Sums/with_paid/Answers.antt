@@ -1,4 +1,4 @@
-use Rattle.std.proofs.Common.{◌≡◌, ◌<◌, ◌+◌, pos, ◌+ℤ◌, get_or, length, ap, ◌∙◌}
+use Rattle.std.proofs.Common.{◌≡◌, ◌<◌, pos, ◌+ℤ◌, get_or, length, ap, ◌∙◌}
 use Rattle.std.proofs.lemmas.Option.{slice_get-get_or}
 use Rattle.std.specs.Prelude.{slice_index}
 use Rattle.remit.specs.declared.amount.Amount.TheVariants.{Allowed}
