@@ -74,7 +74,6 @@ pub fn fill_row(
 }
 
 /// Fills the record with how many claims are accepted, and the sums over those that are paid.
-#[tactic(auto, using(crate::proofs::Adding::sums_told))]
 pub fn fill_total(
     alloc: Global,
     line: &mut ByteRecord,
