@@ -1,0 +1,6 @@
+use Rattle.adjudicate.specs.Pieces.{at}
+use Rattle.adjudicate.proofs.Piecewise.{puts-then, puts-three}
+use Rattle.adjudicate.proofs.check.text.put_numbered.Goals as goal
+
+pub returns : goal.returns
+returns g c = puts-then (at _ _ c.args.pieces.now) (at _ _ c.put.new.self) (at _ _ c.put-2.new.self) _ _ c.put.ensures c.put-2.ensures
