@@ -1,6 +1,9 @@
 -- What a writer has got of a text that is put in pieces, and what is gathered of it.
-use Rattle.std.proofs.Common.{◌≡◌, ℕ, zero, suc, ◌+◌, ◌-◌, ◌/◌, ◌%◌, ◌^◌, ◌<◌, ◌≤◌, Bool, true, false, List, [], ◌∷◌, ◌++◌, length, get_or, take, drop, max, min, cond, Option, Some, None, Result, Ok, Err, IfErr, IfOk, OnOk, OnErr, refl, ap, sym, subst, ◌∙◌, append_assoc, append-nil, take-append-drop, length-append, length-take-le, length-drop, arith}
+use Rattle.std.proofs.Common.{◌≡◌, ℕ, zero, suc, ◌+◌, ◌-◌, ◌/◌, ◌%◌, ◌^◌, ◌<◌, ◌≤◌, inl, inr, Bool, true, false, List, [], ◌∷◌, ◌++◌, length, get_or, take, drop, max, min, cond, Option, Some, None, Result, Ok, Err, IfErr, IfOk, OnOk, OnErr, refl, ap, sym, subst, ◌∙◌, append_assoc, append-nil, take-append-drop, length-append, length-take-le, length-drop, arith}
+use Rattle.std.specs.Prelude.{nat_lt}
+use Rattle.std.specs.Bool.{OnTrue}
 use Rattle.std.specs.List.{flat_map}
+use Rattle.std.proofs.lemmas.Bool.{cases_lt, le-ltb, lt-ltb}
 use Rattle.std.specs.Io.KnownBytes.{Appends}
 use Rattle.std.proofs.KnownBytes.{Appends-trans}
 use Rattle.fixpoint.specs.Out.{PutsFront}
@@ -42,7 +45,7 @@ whole-passes a b failed later old new more whole still appended counted same sta
     let before : IsGone start text (at_progress a failed old) = subst (λ cut. GoneBy cut start text (at_progress a failed old)) whole gone in
     let after : IsGone start (text ++ more) (at_progress b later new) = record {
       appended = Appends-trans start.contents a b text more before.appended appended;
-      counted = (let joined = length-append text more in let was = before.counted in omega (arith, joined, was, counted));
+      counted = (let joined = length-append text more in let was : old.written ≡ min (length text) greatest_count = before.counted in omega (arith, joined, was, counted));
       same = same ∙ before.same;
     } in
     subst (λ cut. GoneBy cut start (text ++ more) (at_progress b later new)) (sym still) after
@@ -62,7 +65,7 @@ part-passes a b failed later old new more written whole now puts counted failing
       counted =
           let taken : length (take written more) ≡ written = length-take-le written more (omega (arith, short)) in
           let joined = length-append text (take written more) in
-          let was = before.counted in
+          let was : old.written ≡ min (length text) greatest_count = before.counted in
           omega (arith, joined, taken, was, counted);
       has_failed = failing;
     } in
@@ -181,3 +184,10 @@ puts-tables a b c number table more tables are first second =
 pub puts-no-tables : (a : At) (number : ℕ) (tables : List ToldTable) → length tables ≡ 0 → Puts a a (told_lines number tables)
 puts-no-tables a number [] none = puts-none a
 puts-no-tables a number (t ∷ ts) none = absurd (omega (arith, none))
+
+-- what holds where a count is less holds on that answer
+pub on_less : (count limit : ℕ) (P : Type 0) → (count < limit → P) → OnTrue (nat_lt count limit) P
+on_less count limit P holds = elim (cases_lt count limit) [
+  | inl less ↦ subst (λ b. OnTrue b P) (sym (lt-ltb count limit less)) (holds less)
+  | inr most ↦ subst (λ b. OnTrue b P) (sym (le-ltb count limit most)) tt
+]
