@@ -6,6 +6,7 @@ pub mod Piecewise
 pub mod ReadNames
 pub mod Refusals
 pub mod Remittances
+pub mod Spelled
 pub mod Splits
 pub mod TableLines
 pub mod ToldLines

@@ -22,7 +22,8 @@ mod stop;
 mod testing;
 mod value;
 
-pub use check::{do_check, do_harmful_check};
+pub use check::told::Telling;
+pub use check::{do_check, do_harmful_check, do_telling_check};
 pub use crew::WORKERS_LIMIT;
 pub use dtable::{Name, PLAN_LIMIT_BYTES};
 pub use intake_csv::FILE_LIMIT_BYTES;

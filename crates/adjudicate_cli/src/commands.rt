@@ -3,9 +3,8 @@
 ghost use Rattle.std.specs.Prelude.{◌≡◌, ◌≢◌, ◌≤◌};
 ghost use Rattle.std.specs.Io.KnownBytes.{Keeps};
 ghost use Rattle.adjudicate.specs.Arguments.{texts_of};
-ghost use Rattle.adjudicate.specs.CheckText.{IsCheckText};
-ghost use Rattle.adjudicate.specs.HarmfulText.{IsHarmfulCheckText};
 ghost use Rattle.adjudicate.specs.Stop.{IsPlanReason, IsReason};
+ghost use Rattle.adjudicate.specs.Telling.{IsToldText};
 ghost use Rattle.adjudicate.specs.ValueText.{IsValueText};
 ghost use Rattle.adjudicate_cli.specs.Ends.{HasText, IsStatusOfRefusal, PutsText};
 
@@ -15,7 +14,7 @@ use crate::output::{output_of, placed, unwritable};
 use crate::run::run_of;
 use crate::strict::unread;
 use crate::telling::ended;
-use adjudicate::{WORKERS_LIMIT, do_check, do_harmful_check, do_value};
+use adjudicate::{Telling, WORKERS_LIMIT, do_telling_check, do_value};
 use clap::ArgMatches;
 use console::names::{ASSIGNMENT, CHECK, HARMFUL, RUN, STRICT, VALUE};
 use console::{DONE, REFUSED, RESOURCE, USAGE, explains, matches_of, usage, words_of};
@@ -138,15 +137,15 @@ fn check_of<R: Files + Input + Print + Eprint + AllocGlobal>(
         Ok(plan) => plan,
         Err(status) => return status,
     };
-    let is_harmful = matches.get_flag(HARMFUL);
+    let telling = if matches.get_flag(HARMFUL) {
+        Telling::Harmful
+    } else {
+        Telling::All
+    };
     let about = About::of_plan(explains, &*matches, plan.as_slice());
     let status = match output_of(rt, &about) {
-        Ok(Some(mut file)) if is_harmful => {
-            harmful_check_into(rt, &about, plan.as_slice(), &mut file)
-        }
-        Ok(Some(mut file)) => check_into(rt, &about, plan.as_slice(), &mut file),
-        Ok(None) if is_harmful => harmful_check(rt, &about, plan.as_slice()),
-        Ok(None) => check(rt, &about, plan.as_slice()),
+        Ok(Some(mut file)) => check_into(rt, &about, plan.as_slice(), telling, &mut file),
+        Ok(None) => check(rt, &about, plan.as_slice(), telling),
         Err(status) => status,
     };
     // Also of a plan that is refused: such a key may be why.
@@ -158,13 +157,18 @@ fn check_of<R: Files + Input + Print + Eprint + AllocGlobal>(
 
 /// The command `check` over the text of a plan.
 #[tactic(auto, using(crate::proofs::Ends::ends_known, crate::proofs::Ends::ends_done, crate::proofs::Ends::ends_refused))]
-fn check<R: Print + Eprint + AllocGlobal>(rt: &R, about: &About, plan: &[u8]) -> u8
+fn check<R: Print + Eprint + AllocGlobal>(
+    rt: &R,
+    about: &About,
+    plan: &[u8],
+    telling: Telling,
+) -> u8
     ensures known { result ≤ RESOURCE }
-    ensures done { result ≡ DONE → HasText (IsCheckText plan.now) }
+    ensures done { result ≡ DONE → HasText (IsToldText telling plan.now) }
     ensures refused { result ≢ DONE → IsStatusOfRefusal (IsPlanReason plan.now) result }
 {
     let mut out = Out::new(io::writer(rt));
-    let answer = do_check(rt.alloc(), plan, &mut out);
+    let answer = do_telling_check(rt.alloc(), plan, telling, &mut out);
     ended(rt, about, &answer)
 }
 
@@ -174,10 +178,11 @@ fn check_into<R: Eprint + AllocGlobal, P: Place>(
     rt: &R,
     about: &About,
     plan: &[u8],
+    telling: Telling,
     place: &mut P,
 ) -> u8
     ensures known { result ≤ RESOURCE }
-    ensures done { result ≡ DONE → PutsText (IsCheckText plan.now) (P.stands place.old) (P.stands place.new) }
+    ensures done { result ≡ DONE → PutsText (IsToldText telling plan.now) (P.stands place.old) (P.stands place.new) }
     ensures kept { result ≢ DONE → Keeps (P.stands place.old) (P.stands place.new) }
     ensures refused { result ≢ DONE → IsStatusOfRefusal (IsPlanReason plan.now) result }
 {
@@ -186,40 +191,6 @@ fn check_into<R: Eprint + AllocGlobal, P: Place>(
         Err(fault) => return unwritable(rt, about, &fault),
     };
     let mut out = Out::new(text);
-    let outcome = do_check(rt.alloc(), plan, &mut out);
-    placed(rt, about, place, out.into_inner(), &outcome)
-}
-
-/// The command `check` of the gaps and overlaps that are faults, over the text of a plan.
-#[tactic(auto, using(crate::proofs::Ends::ends_known, crate::proofs::Ends::ends_done, crate::proofs::Ends::ends_refused))]
-fn harmful_check<R: Print + Eprint + AllocGlobal>(rt: &R, about: &About, plan: &[u8]) -> u8
-    ensures known { result ≤ RESOURCE }
-    ensures done { result ≡ DONE → HasText (IsHarmfulCheckText plan.now) }
-    ensures refused { result ≢ DONE → IsStatusOfRefusal (IsPlanReason plan.now) result }
-{
-    let mut out = Out::new(io::writer(rt));
-    let answer = do_harmful_check(rt.alloc(), plan, &mut out);
-    ended(rt, about, &answer)
-}
-
-/// The same into a place, which has the whole text then or what stood there before.
-#[tactic(auto, using(crate::proofs::Ends::placed_done, crate::proofs::Ends::kept_twice))]
-fn harmful_check_into<R: Eprint + AllocGlobal, P: Place>(
-    rt: &R,
-    about: &About,
-    plan: &[u8],
-    place: &mut P,
-) -> u8
-    ensures known { result ≤ RESOURCE }
-    ensures done { result ≡ DONE → PutsText (IsHarmfulCheckText plan.now) (P.stands place.old) (P.stands place.new) }
-    ensures kept { result ≢ DONE → Keeps (P.stands place.old) (P.stands place.new) }
-    ensures refused { result ≢ DONE → IsStatusOfRefusal (IsPlanReason plan.now) result }
-{
-    let text = match place.begin() {
-        Ok(text) => text,
-        Err(fault) => return unwritable(rt, about, &fault),
-    };
-    let mut out = Out::new(text);
-    let outcome = do_harmful_check(rt.alloc(), plan, &mut out);
+    let outcome = do_telling_check(rt.alloc(), plan, telling, &mut out);
     placed(rt, about, place, out.into_inner(), &outcome)
 }
