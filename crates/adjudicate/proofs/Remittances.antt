@@ -1,5 +1,5 @@
 -- The remittance of a run, from the journal of its batch and the bytes of its report, and what becomes of it at a refusal.
-use Rattle.std.proofs.Common.{◌≡◌, ◌≢◌, ◌↔◌, ℕ, List, [], ◌∷◌, map, Option, Result, IfErr, OnOk, inl, inr, refl, sym, subst}
+use Rattle.std.proofs.Common.{◌≡◌, ◌≢◌, ◌↔◌, ℕ, Bool, List, [], ◌∷◌, map, Option, Result, IfErr, OnOk, inl, inr, refl, sym, subst}
 use Rattle.std.proofs.KnownBytes.{Keeps-refl}
 use Rattle.std.proofs.lemmas.Result.{on_ok_weaker, IfErr-weaker}
 use Rattle.std.specs.List.{AllZip}
@@ -28,7 +28,7 @@ use Rattle.adjudicate.specs.declared.stop.Stop.{Stop}
 use Rattle.adjudicate.specs.declared.stop.Stop.TheVariants as stop
 use Rattle.adjudicate.specs.RunText.{AreTermsOfTexts, IsRemittance, IsRemittanceOf, RunTexts, WritesRemittanceFront}
 use Rattle.adjudicate.specs.RunStop.{IsRunReason, IsStopOfRun, IsStopOfTerms, IsStopOfWrite, StopsRemittance, WritesRemittanceUntil}
-use Rattle.adjudicate.specs.Stop.{IsStopOfPlan, WritesText}
+use Rattle.adjudicate.specs.Stop.{IsStopOfPlan, WritesText, failed_after}
 
 -- the claims of files are those among their rows
 claims_of_rows : (names : List InputData) (texts : List (List ℕ)) (files : List (List Row)) → AllZip (AreRowsOf names) texts files
@@ -129,6 +129,12 @@ pub kept_by_terms : (texts : RunTexts) (contents : Option (List ℕ)) (fault : T
 kept_by_terms texts contents fault (stop.Terms same) made = Keeps-refl contents
 kept_by_terms texts contents fault stop.NoMemory made = inl (Keeps-refl contents)
 kept_by_terms texts contents fault _ made = absurd made
+
+-- and the writer has failed where it had before
+pub failed_by_terms : (failed : Bool) (fault : TermsFault) (s : Stop) → IsStopOfTerms fault s → failed ≡ failed_after failed s
+failed_by_terms failed fault (stop.Terms same) made = refl
+failed_by_terms failed fault stop.NoMemory made = refl
+failed_by_terms failed fault _ made = absurd made
 
 -- what is written for the terms of the texts is written for the texts
 module _ (texts : RunTexts) (parts : TermsParts) (over : AreTermsOfTexts texts parts) (old new : Option (List ℕ)) where

@@ -1,6 +1,6 @@
 use Rattle.std.proofs.lemmas.Result.{err_from_is_err_and}
 use Rattle.adjudicate.specs.RunText.{AreTermsOfTexts, run_texts}
-use Rattle.adjudicate.proofs.Remittances.{kept_by_terms, reason_of_plan, reason_of_terms, reasons_over, stopped_over, whole_over}
+use Rattle.adjudicate.proofs.Remittances.{failed_by_terms, kept_by_terms, reason_of_plan, reason_of_terms, reasons_over, stopped_over, whole_over}
 use Rattle.adjudicate.proofs.run.do_run.Goals as goal
 
 pub returns-in_err-plan-clause-reason : goal.returns-in_err-plan-clause-reason
@@ -17,6 +17,11 @@ pub returns-in_err-terms-clause-stopped : goal.returns-in_err-terms-clause-stopp
 returns-in_err-terms-clause-stopped g c =
     let stopped = err_from_is_err_and c.from_residual-in_err-terms.result c.from_residual-in_err-terms.ensures.1 in
     rw stopped.1 (kept_by_terms (run_texts c.args.input) _ _ _ stopped.2)
+
+pub returns-in_err-terms-clause-failed : goal.returns-in_err-terms-clause-failed
+returns-in_err-terms-clause-failed g c =
+    let stopped = err_from_is_err_and c.from_residual-in_err-terms.result c.from_residual-in_err-terms.ensures.1 in
+    rw stopped.1 (failed_by_terms _ _ _ stopped.2)
 
 pub returns-clause-written : goal.returns-clause-written
 returns-clause-written g c =
