@@ -132,7 +132,8 @@ end-whole a b failed later old new count puts none whole is start text h =
     let front : text ≡ held.front = all-gone text held.front new.gathered.items held.text_is none in
     let gone : IsGone start held.front (at_progress b later new.progress) = subst (λ cut. GoneBy cut start held.front (at_progress b later new.progress)) whole held.gone in (
       subst (λ t. Appends start.contents b t) (sym front) gone.appended,
-      (sym is ∙ gone.counted ∙ ap (λ t. min (length t) greatest_count) (sym front), gone.same),
+      sym is ∙ gone.counted ∙ ap (λ t. min (length t) greatest_count) (sym front),
+      gone.same,
     )
 
 -- or in part
