@@ -46,7 +46,7 @@ slice_left (x ∷ xs) ys (suc n) below = slice_left xs ys n (omega (arith, below
 
 slice_right : {X : Type 0} (xs ys : List X) (n : ℕ) → slice_get (xs ++ ys) (length xs + n) ≡ slice_get ys n
 slice_right [] ys n = let here : 0 + n ≡ n = omega arith in ap (slice_get ys) here
-slice_right (x ∷ xs) ys n = slice_right xs ys n
+slice_right (x ∷ xs) ys n = let next : suc (length xs) + n ≡ suc (length xs + n) = omega arith in ap (slice_get (x ∷ (xs ++ ys))) next ∙ slice_right xs ys n
 
 slice_mapped : {X Y : Type 0} (f : X → Y) (xs : List X) (n : ℕ) (y : Y) → slice_get (map f xs) n ≡ Some y → (x : X) × (slice_get xs n ≡ Some x) × (y ≡ f x)
 slice_mapped f [] n y at = absurd (none-some y at)

@@ -142,7 +142,6 @@ fn told_table(
     ensures { IfOk result (IsTold telling plan.now table) }
 {
     let check = check_table(alloc, plan, table)?;
-    let check = check_table(alloc, plan, table)?;
     let is_wide = check.gaps.is_none();
     let overlaps = told_overlaps(alloc, plan, table, telling, check.overlaps)?;
     let gaps = told_gaps(alloc, plan, table, telling, check.gaps);
