@@ -1,6 +1,10 @@
 -- What a writer has got of a text that is put in pieces, and what is gathered of it.
-use Rattle.std.proofs.Common.{◌≡◌, ℕ, zero, suc, ◌+◌, ◌-◌, ◌/◌, ◌%◌, ◌^◌, ◌<◌, ◌≤◌, Bool, true, false, List, [], ◌∷◌, ◌++◌, length, get_or, take, drop, max, min, cond, Option, Some, None, Result, Ok, Err, IfErr, IfOk, OnOk, OnErr, refl, ap, sym, subst, ◌∙◌, append_assoc, append-nil, take-append-drop, length-append, length-take-le, length-drop, arith}
+use Rattle.std.proofs.Common.{◌≡◌, ℕ, zero, suc, ◌+◌, ◌-◌, ◌/◌, ◌%◌, ◌^◌, ◌<◌, ◌≤◌, inl, inr, Bool, true, false, List, [], ◌∷◌, ◌++◌, length, get_or, take, drop, max, min, cond, Option, Some, None, Result, Ok, Err, IfErr, IfOk, OnOk, OnErr, codes, decimal, refl, ap, ap₂, sym, subst, ◌∙◌, append_assoc, append-nil, take-append-drop, length-append, length-take-le, length-drop, arith}
+use Rattle.std.specs.Prelude.{nat_lt}
+use Rattle.std.specs.Bool.{OnTrue}
 use Rattle.std.specs.List.{flat_map}
+use Rattle.std.proofs.lemmas.Bool.{cases_lt, le-ltb, lt-ltb}
+use Rattle.std.proofs.lemmas.List.{take_all}
 use Rattle.std.specs.Io.KnownBytes.{Appends}
 use Rattle.std.proofs.KnownBytes.{Appends-trans}
 use Rattle.fixpoint.specs.Out.{PutsFront}
@@ -10,7 +14,8 @@ use Rattle.adjudicate.specs.declared.check.pieces.Progress.{Progress}
 use Rattle.adjudicate.specs.Pieces.{At, AtProgress, Ends, EndsText, Gone, GoneBy, Holds, IsCutAt, IsEmpty, IsGone, Passes, Puts, Start, at, at_progress, greatest_count, starting}
 use Rattle.adjudicate.specs.declared.check.told.ColumnText.{ColumnText}
 use Rattle.adjudicate.specs.declared.check.told.ToldTable.{ToldTable}
-use Rattle.adjudicate.specs.Told.{cell_text, told_lines, told_table_lines}
+use Rattle.adjudicate.specs.CheckText.{wide_line}
+use Rattle.adjudicate.specs.Told.{cell_text, told_lines, told_table_lines, told_wide_lines}
 use Rattle.adjudicate.proofs.TableLines.{flat_more}
 
 -- nothing is appended
@@ -31,9 +36,24 @@ pub puts-three : (a b c d : At) (one other last : List ℕ) → Puts a b one →
 puts-three a b c d one other last first second third = puts-then a b d one (other ++ last) first (puts-then b c d other last second third)
 
 -- the lines of one item more
-pub puts-more : {X : Type 0} (line : X → List ℕ) (xs : List X) (i : ℕ) (x : X) (a b c : At) → i < length xs → x ≡ get_or xs i x → Puts a b (flat_map line (take i xs)) → Puts b c (line x) → Puts a c (flat_map line (take (i + 1) xs))
-puts-more line xs i x a b c below is so_far last =
-    subst (Puts a c) (ap (λ y. flat_map line (take i xs) ++ line y) is ∙ sym (flat_more line xs i x below)) (puts-then a b c (flat_map line (take i xs)) (line x) so_far last)
+pub puts-more : {X : Type 0} (line : X → List ℕ) (xs : List X) (i : ℕ) (d : X) (a b c : At) → i < length xs → Puts a b (flat_map line (take i xs)) → Puts b c (line (get_or xs i d)) → Puts a c (flat_map line (take (i + 1) xs))
+puts-more line xs i d a b c below so_far last =
+    subst (Puts a c) (sym (flat_more line xs i d below)) (puts-then a b c (flat_map line (take i xs)) (line (get_or xs i d)) so_far last)
+
+-- the lines of all items
+pub puts-all : {X : Type 0} (line : X → List ℕ) (xs : List X) (i : ℕ) (a b : At) → length xs ≤ i → Puts a b (flat_map line (take i xs)) → Puts a b (flat_map line xs)
+puts-all line xs i a b end so_far = subst (λ items. Puts a b (flat_map line items)) (take_all i xs end) so_far
+
+-- some words, and a number's digits
+pub puts-numbered : (a b c : At) (words first second : List ℕ) (number : ℕ) → first ≡ words → second ≡ decimal number → Puts a b first → Puts b c second → Puts a c (words ++ decimal number)
+puts-numbered a b c words first second number first_is second_is one other = subst (Puts a c) (ap₂ (λ s t. s ++ t) first_is second_is) (puts-then a b c first second one other)
+
+-- the line of a table that is wide, and none of another
+pub puts-wide : (a c : At) (table : ℕ) (wide : Bool) → wide ≡ true → Puts a c (wide_line table) → Puts a c (told_wide_lines table wide)
+puts-wide a c table wide is line = subst (λ w. Puts a c (told_wide_lines table w)) (sym is) line
+
+pub puts-not-wide : (a : At) (table : ℕ) (wide : Bool) → wide ≡ false → Puts a a (told_wide_lines table wide)
+puts-not-wide a table wide is = subst (λ w. Puts a a (told_wide_lines table w)) (sym is) (puts-none a)
 
 -- the text goes on where the writer takes it
 pub whole-passes : (a b : Option (List ℕ)) (failed later : Bool) (old new : Progress) (more : List ℕ) → old.is_cut ≡ false → new.is_cut ≡ false → Appends a b more → new.written ≡ min (old.written + length more) greatest_count → later ≡ failed
@@ -42,7 +62,7 @@ whole-passes a b failed later old new more whole still appended counted same sta
     let before : IsGone start text (at_progress a failed old) = subst (λ cut. GoneBy cut start text (at_progress a failed old)) whole gone in
     let after : IsGone start (text ++ more) (at_progress b later new) = record {
       appended = Appends-trans start.contents a b text more before.appended appended;
-      counted = (let joined = length-append text more in let was = before.counted in omega (arith, joined, was, counted));
+      counted = (let joined = length-append text more in let was : old.written ≡ min (length text) greatest_count = before.counted in omega (arith, joined, was, counted));
       same = same ∙ before.same;
     } in
     subst (λ cut. GoneBy cut start (text ++ more) (at_progress b later new)) (sym still) after
@@ -62,7 +82,7 @@ part-passes a b failed later old new more written whole now puts counted failing
       counted =
           let taken : length (take written more) ≡ written = length-take-le written more (omega (arith, short)) in
           let joined = length-append text (take written more) in
-          let was = before.counted in
+          let was : old.written ≡ min (length text) greatest_count = before.counted in
           omega (arith, joined, taken, was, counted);
       has_failed = failing;
     } in
@@ -129,7 +149,8 @@ end-whole a b failed later old new count puts none whole is start text h =
     let front : text ≡ held.front = all-gone text held.front new.gathered.items held.text_is none in
     let gone : IsGone start held.front (at_progress b later new.progress) = subst (λ cut. GoneBy cut start held.front (at_progress b later new.progress)) whole held.gone in (
       subst (λ t. Appends start.contents b t) (sym front) gone.appended,
-      (sym is ∙ gone.counted ∙ ap (λ t. min (length t) greatest_count) (sym front), gone.same),
+      sym is ∙ gone.counted ∙ ap (λ t. min (length t) greatest_count) (sym front),
+      gone.same,
     )
 
 -- or in part
@@ -181,3 +202,10 @@ puts-tables a b c number table more tables are first second =
 pub puts-no-tables : (a : At) (number : ℕ) (tables : List ToldTable) → length tables ≡ 0 → Puts a a (told_lines number tables)
 puts-no-tables a number [] none = puts-none a
 puts-no-tables a number (t ∷ ts) none = absurd (omega (arith, none))
+
+-- what holds where a count is less holds on that answer
+pub on_less : (count limit : ℕ) (P : Type 0) → (count < limit → P) → OnTrue (nat_lt count limit) P
+on_less count limit P holds = elim (cases_lt count limit) [
+  | inl less ↦ subst (λ b. OnTrue b P) (sym (lt-ltb count limit less)) (holds less)
+  | inr most ↦ subst (λ b. OnTrue b P) (sym (le-ltb count limit most)) tt
+]

@@ -3,7 +3,7 @@ use Rattle.std.proofs.Common.{◌≡◌, ℕ, zero, suc, ◌+◌, ◌-◌, ◌*�
 use Rattle.std.specs.Global.{Vec}
 use Rattle.std.specs.List.{flat_map, join_by, list_any, range_with_len, slice_get}
 use Rattle.std.specs.Option.{option_map_or}
-use Rattle.std.proofs.lemmas.Bool.{cases_lt, false≢true, le-ltb, lt-ltb}
+use Rattle.std.proofs.lemmas.Bool.{cases_lt, false≢true, ne_eqb, le-ltb, lt-ltb}
 use Rattle.std.proofs.lemmas.List.{length-map}
 use Rattle.std.proofs.lemmas.List.Folds.{flat_map-map}
 use Rattle.std.proofs.lemmas.Nat.{div-mul-add, mod-mul-add}
@@ -45,8 +45,8 @@ slice_left (x ∷ xs) ys zero below = refl
 slice_left (x ∷ xs) ys (suc n) below = slice_left xs ys n (omega (arith, below))
 
 slice_right : {X : Type 0} (xs ys : List X) (n : ℕ) → slice_get (xs ++ ys) (length xs + n) ≡ slice_get ys n
-slice_right [] ys n = refl
-slice_right (x ∷ xs) ys n = slice_right xs ys n
+slice_right [] ys n = let here : 0 + n ≡ n = omega arith in ap (slice_get ys) here
+slice_right (x ∷ xs) ys n = let next : suc (length xs) + n ≡ suc (length xs + n) = omega arith in ap (slice_get (x ∷ (xs ++ ys))) next ∙ slice_right xs ys n
 
 slice_mapped : {X Y : Type 0} (f : X → Y) (xs : List X) (n : ℕ) (y : Y) → slice_get (map f xs) n ≡ Some y → (x : X) × (slice_get xs n ≡ Some x) × (y ≡ f x)
 slice_mapped f [] n y at = absurd (none-some y at)
@@ -148,12 +148,12 @@ made_alike f g test k (x ∷ xs) alike =
 gap_texts : (test : List Region → Bool) (columns : List (List Region)) → length (cells columns) ≤ cell_limit
     → map (cell_text (column_texts [] columns)) (places test 0 (cells columns)) ≡ map (join_by region_text separator) (filter test (cells columns))
 gap_texts test columns narrow =
-    made_alike (cell_text (column_texts [] columns)) (join_by region_text separator) test 0 (cells columns) (λ n cell at. cell_at [] columns n cell narrow at ∙ marked_all cell)
+    made_alike (cell_text (column_texts [] columns)) (join_by region_text separator) test 0 (cells columns) (λ n cell at. let here : 0 + n ≡ n = omega arith in ap (cell_text (column_texts [] columns)) here ∙ cell_at [] columns n cell narrow at ∙ marked_all cell)
 
 -- no columns are wanted where there are no gaps
-texts_if : (texts : List ColumnText) (found : List ℕ) (cells : List (List ℕ)) → map (cell_text texts) found ≡ cells → map (cell_text (cond (eqb (length found) 0) [] texts)) found ≡ cells
-texts_if texts [] cells is = is
-texts_if texts (n ∷ ns) cells is = is
+texts_if : (texts : List ColumnText) (found : List ℕ) (wanted : List (List ℕ)) → map (cell_text texts) found ≡ wanted → map (cell_text (cond (eqb (length found) 0) [] texts)) found ≡ wanted
+texts_if texts [] wanted is = is
+texts_if texts (n ∷ ns) wanted is = ap (λ b. map (cell_text (cond b [] texts)) (n ∷ ns)) (ne_eqb (suc (length ns)) 0 (λ e. absurd (omega (arith, e)))) ∙ is
 
 -- the same of the table with this number, if there is one
 table_texts : (p : PlanParts) (number : ℕ) (found : Option Table) → slice_get p.tables (number - 1) ≡ found → length (option_map_or (λ t. cells (table_regions p t)) found []) ≤ cell_limit

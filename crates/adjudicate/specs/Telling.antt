@@ -7,8 +7,8 @@ use Rattle.cutplan.specs.Numbered.{overlaps_of}
 use Rattle.harm.specs.Harm.{gap_harms}
 use Rattle.adjudicate.specs.declared.check.told.Telling.{Telling}
 use Rattle.adjudicate.specs.declared.check.told.Telling.TheVariants.{All, Harmful}
-use Rattle.adjudicate.specs.CheckText.{counts_line, gap_line, overlap_line, table_numbers, told_gaps, wide_lines}
-use Rattle.adjudicate.specs.HarmfulText.{harmful_overlaps}
+use Rattle.adjudicate.specs.CheckText.{IsCheckText, counts_line, gap_line, overlap_line, table_numbers, told_gaps, wide_lines}
+use Rattle.adjudicate.specs.HarmfulText.{IsHarmfulCheckText, harmful_overlaps}
 
 -- the gaps of a table are told
 abbrev pub tells_gaps : Telling → PlanParts → ℕ → Bool
@@ -41,3 +41,8 @@ abbrev pub text_in : Telling → PlanParts → List ℕ
 text_in telling plan =
     let tables = table_numbers (length plan.tables) in
     flat_map (table_lines telling plan) tables ++ counts_line (gap_count_in telling plan tables) (overlap_count_in telling plan tables)
+
+-- the text that is printed of what a plan's text spells
+abbrev pub IsToldText : Telling → List ℕ → List ℕ → Type 0
+IsToldText All = IsCheckText
+IsToldText Harmful = IsHarmfulCheckText

@@ -6,6 +6,7 @@ ghost use Rattle.std.specs.Io.KnownBytes.{Appends};
 ghost use Rattle.fixpoint.specs.Out.{writer_of, has_failed};
 ghost use Rattle.adjudicate.specs.CheckText.{IsCheckText};
 ghost use Rattle.adjudicate.specs.HarmfulText.{IsHarmfulCheckText};
+ghost use Rattle.adjudicate.specs.Telling.{IsToldText};
 ghost use Rattle.adjudicate.specs.Pieces.{greatest_count};
 ghost use Rattle.adjudicate.specs.Stop.{PutsUntil, WritesText, WritesUntil, IsPlanReason, failed_after, RefusesPlan};
 ghost use Rattle.adjudicate.specs.Told.{told_text};
@@ -26,7 +27,6 @@ use told::{Telling, ToldPlan};
 /// region of inputs that no rule covers (`gap`), a line for each table with too many regions (`wide`), and the counts.
 /// All of them are found before the first byte is written, so that nothing but the writer can fail then. The text is put in
 /// pieces, and no more of it is held than one of them.
-#[tactic(auto, using(crate::proofs::Refusals::writes_whole, crate::proofs::Refusals::writes_front))]
 pub fn do_check<W: Write>(alloc: Global, plan: &[u8], out: &mut Out<W>) -> Result<(), Stop>
     ensures written { OnOk result (WritesText (IsCheckText plan.now)
         (W.contents (writer_of out.old)) (W.contents (writer_of out.new))) }
@@ -38,25 +38,12 @@ pub fn do_check<W: Write>(alloc: Global, plan: &[u8], out: &mut Out<W>) -> Resul
     ensures ok_failed { OnOk result (has_failed out.new ≡ has_failed out.old) }
     ensures failed { IfErr result (λ stop. has_failed out.new ≡ failed_after (has_failed out.old) stop) }
 {
-    let told = told_of_text(alloc, plan)?;
-    put_check(alloc, &told, out)
-}
-
-// What the command tells of a plan's text.
-#[tactic(auto, using(crate::proofs::Refusals::refuses_spelling))]
-fn told_of_text(alloc: Global, plan: &[u8]) -> Result<ToldPlan, Stop>
-    ensures text { IfOk result (λ told. IsCheckText plan.now (told_text told)) }
-    ensures counted { IfOk result (λ told. length (told_text told) < greatest_count) }
-    ensures refused { IfErr result (RefusesPlan plan.now) }
-{
-    let plan = read_plan(alloc, plan)?;
-    Ok(checked(alloc, &plan, Telling::All)?)
+    do_telling_check(alloc, plan, Telling::All, out)
 }
 
 /// Checks the plan's tables as `do_check` does, and writes the gaps and overlaps that are faults alone: the gaps of tables
 /// that answer by `norule` there, and the overlaps of rules that clash where both match. Wide tables are told as well, and
 /// the counts are of what is told.
-#[tactic(auto, using(crate::proofs::Refusals::writes_whole, crate::proofs::Refusals::writes_front))]
 pub fn do_harmful_check<W: Write>(alloc: Global, plan: &[u8], out: &mut Out<W>) -> Result<(), Stop>
     ensures written { OnOk result (WritesText (IsHarmfulCheckText plan.now)
         (W.contents (writer_of out.old)) (W.contents (writer_of out.new))) }
@@ -68,19 +55,38 @@ pub fn do_harmful_check<W: Write>(alloc: Global, plan: &[u8], out: &mut Out<W>) 
     ensures ok_failed { OnOk result (has_failed out.new ≡ has_failed out.old) }
     ensures failed { IfErr result (λ stop. has_failed out.new ≡ failed_after (has_failed out.old) stop) }
 {
-    let told = harmful_of_text(alloc, plan)?;
+    do_telling_check(alloc, plan, Telling::Harmful, out)
+}
+
+/// Checks the plan's tables as `do_check` or `do_harmful_check` does, by what is to be told.
+#[tactic(auto, using(crate::proofs::Refusals::writes_whole, crate::proofs::Refusals::writes_front))]
+pub fn do_telling_check<W: Write>(
+    alloc: Global,
+    plan: &[u8],
+    telling: Telling,
+    out: &mut Out<W>,
+) -> Result<(), Stop>
+    ensures written { OnOk result (WritesText (IsToldText telling plan.now)
+        (W.contents (writer_of out.old)) (W.contents (writer_of out.new))) }
+    ensures reason { IfErr result (IsPlanReason plan.now) }
+    ensures stopped { IfErr result (WritesUntil (IsToldText telling plan.now)
+        (W.contents (writer_of out.old)) (W.contents (writer_of out.new))) }
+    ensures ok_failed { OnOk result (has_failed out.new ≡ has_failed out.old) }
+    ensures failed { IfErr result (λ stop. has_failed out.new ≡ failed_after (has_failed out.old) stop) }
+{
+    let told = told_of_text(alloc, plan, telling)?;
     put_check(alloc, &told, out)
 }
 
-// What the command tells of what is harmful in a plan's text.
-#[tactic(auto, using(crate::proofs::Refusals::refuses_spelling))]
-fn harmful_of_text(alloc: Global, plan: &[u8]) -> Result<ToldPlan, Stop>
-    ensures text { IfOk result (λ told. IsHarmfulCheckText plan.now (told_text told)) }
+// What is told of a plan's text.
+#[tactic(auto, using(crate::proofs::Refusals::refuses_spelling, crate::proofs::Spelled::told_is_spelled))]
+fn told_of_text(alloc: Global, plan: &[u8], telling: Telling) -> Result<ToldPlan, Stop>
+    ensures text { IfOk result (λ told. IsToldText telling plan.now (told_text told)) }
     ensures counted { IfOk result (λ told. length (told_text told) < greatest_count) }
     ensures refused { IfErr result (RefusesPlan plan.now) }
 {
     let plan = read_plan(alloc, plan)?;
-    Ok(checked(alloc, &plan, Telling::Harmful)?)
+    Ok(checked(alloc, &plan, telling)?)
 }
 
 // Writes the text of what is told. A writer that fails in its midst is a refusal.

@@ -7,7 +7,7 @@ ghost use Rattle.adjudicate.specs.CheckText.{region_text};
 ghost use Rattle.adjudicate.specs.Telling.{overlaps_in, tells_gaps};
 ghost use Rattle.adjudicate.specs.Told.{IsTold, IsToldOf, column_text, column_texts, column_texts_if, marked_region, told_places};
 
-use cutplan::{Region, TableCheck, cell_count, check_table};
+use cutplan::{Region, cell_count, check_table};
 use dtable::{Plan, Sequence};
 use feel_tests::{Literals, Value, append_joined};
 use harm::{is_gap_harmful, is_overlap_harmful};
@@ -142,15 +142,10 @@ fn told_table(
     ensures { IfOk result (IsTold telling plan.now table) }
 {
     let check = check_table(alloc, plan, table)?;
-    let TableCheck {
-        overlaps,
-        columns,
-        gaps,
-    } = check_table(alloc, plan, table)?;
-    let overlaps = told_overlaps(alloc, plan, table, telling, overlaps)?;
-    let is_wide = gaps.is_none();
-    let gaps = told_gaps(alloc, plan, table, telling, gaps);
-    let columns = told_columns(alloc, columns.as_slice(), gaps.as_slice())?;
+    let is_wide = check.gaps.is_none();
+    let overlaps = told_overlaps(alloc, plan, table, telling, check.overlaps)?;
+    let gaps = told_gaps(alloc, plan, table, telling, check.gaps);
+    let columns = told_columns(alloc, check.columns.as_slice(), gaps.as_slice())?;
     Ok(ToldTable {
         overlaps,
         is_wide,

@@ -1,7 +1,5 @@
 //! The check of one table, its gaps by their places.
-use super::{
-    APART, AT_FIVE, FLAG_AND_CODE, SEVENTEEN_REGIONS, SIXTEEN_REGIONS, is_pair, read,
-};
+use super::{APART, AT_FIVE, FLAG_AND_CODE, SEVENTEEN_REGIONS, SIXTEEN_REGIONS, is_pair, read};
 use crate::{TableCheck, cell_count, check_table};
 use std::alloc::{AllocError, Global};
 use std::process::Abort;

@@ -1,5 +1,5 @@
 use Rattle.adjudicate.proofs.Piecewise.{cut-passes, part-passes, whole-passes}
-use Rattle.std.proofs.Common.{rules}
+use Rattle.std.proofs.Common.{refl, rules}
 use Rattle.adjudicate.proofs.check.pieces.Progress.pass.Goals as goal
 
 pub returns-then-self : goal.returns-then-self
