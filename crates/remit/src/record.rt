@@ -183,7 +183,7 @@ fn push_sums(
 fn push_remarks(alloc: Global, line: &mut ByteRecord, decision: &Outcome) -> Result<(), AllocError>
     ensures { OnOk result (Pushes line.old line.new (remarks_text decision.now.remarks ∷ [])) }
 {
-    let text = remarks_text(alloc, decision.remarks.as_slice())?;
+    let text = remarks_text(alloc, &decision.remarks)?;
     line.push_field(text.as_slice())
 }
 

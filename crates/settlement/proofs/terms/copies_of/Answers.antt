@@ -1,8 +1,8 @@
 use Rattle.std.proofs.Common.{ap, sym, ◌∙◌}
 use Rattle.settlement.specs.Roles.{text_of}
 use Rattle.settlement.proofs.Texts.{text_more, other_more}
-use Rattle.settlement.proofs.terms.texts_in.Goals.{in-Some+in_ok-new+in_ok-push, in_default}
-use Rattle.settlement.proofs.terms.texts_in.Goals as goal
+use Rattle.settlement.proofs.terms.copies_of.Goals.{in-Some+in_ok-new+in_ok-push, in_default}
+use Rattle.settlement.proofs.terms.copies_of.Goals as goal
 
 pub loop-value-preserved : goal.loop-value-preserved
 loop-value-preserved c =
