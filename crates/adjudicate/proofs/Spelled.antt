@@ -2,8 +2,8 @@
 use Rattle.std.proofs.Common.{◌≡◌, ℕ, List}
 use Rattle.dtable.specs.Plan.{PlanParts}
 use Rattle.dtable.specs.PlanFile.{IsPlanText}
-use Rattle.adjudicate.specs.declared.check.text.Telling.{Telling}
-use Rattle.adjudicate.specs.declared.check.text.Telling.TheVariants.{All, Harmful}
+use Rattle.adjudicate.specs.declared.check.told.Telling.{Telling}
+use Rattle.adjudicate.specs.declared.check.told.Telling.TheVariants.{All, Harmful}
 use Rattle.adjudicate.specs.Telling.{IsToldText, text_in}
 
 -- whatever is told

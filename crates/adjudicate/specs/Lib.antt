@@ -1,8 +1,10 @@
 pub mod Arguments
+pub mod Told
 pub mod ValueText
 pub mod CheckText
 pub mod HarmfulText
 pub mod Telling
 pub mod Stop
 pub mod RunText
+pub mod Pieces
 pub mod RunStop

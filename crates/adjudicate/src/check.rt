@@ -1,26 +1,32 @@
 //! The command `check`: which inputs no rule of a table covers, and which pairs of its rules can match together; all of
 //! them, or those that are faults.
 
-ghost use Rattle.std.specs.Prelude.{◌≡◌, IfOk, IfErr, OnOk};
+ghost use Rattle.std.specs.Prelude.{◌≡◌, ◌<◌, true, IfOk, IfErr, OnErr, OnOk, length};
+ghost use Rattle.std.specs.Io.KnownBytes.{Appends};
 ghost use Rattle.fixpoint.specs.Out.{writer_of, has_failed};
 ghost use Rattle.adjudicate.specs.CheckText.{IsCheckText};
 ghost use Rattle.adjudicate.specs.HarmfulText.{IsHarmfulCheckText};
 ghost use Rattle.adjudicate.specs.Telling.{IsToldText};
-ghost use Rattle.adjudicate.specs.Stop.{WritesText, WritesUntil, IsPlanReason, failed_after, RefusesPlan};
+ghost use Rattle.adjudicate.specs.Pieces.{greatest_count};
+ghost use Rattle.adjudicate.specs.Stop.{PutsUntil, WritesText, WritesUntil, IsPlanReason, failed_after, RefusesPlan};
+ghost use Rattle.adjudicate.specs.Told.{told_text};
 
+pub mod pieces;
 pub mod text;
+pub mod told;
 
-use crate::output::put_text;
 use crate::stop::Stop;
 use dtable::read_plan;
-use fixpoint::Out;
+use fixpoint::{Cut, Out};
 use std::alloc::Global;
 use std::io::Write;
-use text::{Telling, check_text};
+use text::{checked, put_told};
+use told::{Telling, ToldPlan};
 
 /// Checks the plan's tables, and writes a line for each pair of rules that can match together (`overlap`) and each
 /// region of inputs that no rule covers (`gap`), a line for each table with too many regions (`wide`), and the counts.
-/// The whole text is made before its first byte is written.
+/// All of them are found before the first byte is written, so that nothing but the writer can fail then. The text is put in
+/// pieces, and no more of it is held than one of them.
 pub fn do_check<W: Write>(alloc: Global, plan: &[u8], out: &mut Out<W>) -> Result<(), Stop>
     ensures written { OnOk result (WritesText (IsCheckText plan.now)
         (W.contents (writer_of out.old)) (W.contents (writer_of out.new))) }
@@ -65,23 +71,36 @@ pub fn do_telling_check<W: Write>(
     ensures reason { IfErr result (IsPlanReason plan.now) }
     ensures stopped { IfErr result (WritesUntil (IsToldText telling plan.now)
         (W.contents (writer_of out.old)) (W.contents (writer_of out.new))) }
-
-    // The writer has failed after a write fault, and otherwise only where it had failed before.
     ensures ok_failed { OnOk result (has_failed out.new ≡ has_failed out.old) }
     ensures failed { IfErr result (λ stop. has_failed out.new ≡ failed_after (has_failed out.old) stop) }
 {
-    let text = spelled_text(alloc, plan, telling)?;
-    put_text(text.as_slice(), out)
+    let told = told_of_text(alloc, plan, telling)?;
+    put_check(alloc, &told, out)
 }
 
-// The text that the command prints.
+// What is told of a plan's text.
 #[tactic(auto, using(crate::proofs::Refusals::refuses_spelling, crate::proofs::Spelled::told_is_spelled))]
-fn spelled_text(alloc: Global, plan: &[u8], telling: Telling) -> Result<Vec<u8>, Stop>
-    ensures text { IfOk result (λ text. IsToldText telling plan.now text.items) }
+fn told_of_text(alloc: Global, plan: &[u8], telling: Telling) -> Result<ToldPlan, Stop>
+    ensures text { IfOk result (λ told. IsToldText telling plan.now (told_text told)) }
+    ensures counted { IfOk result (λ told. length (told_text told) < greatest_count) }
     ensures refused { IfErr result (RefusesPlan plan.now) }
 {
     let plan = read_plan(alloc, plan)?;
-    Ok(check_text(alloc, &plan, telling)?)
+    Ok(checked(alloc, &plan, telling)?)
+}
+
+// Writes the text of what is told. A writer that fails in its midst is a refusal.
+fn put_check<W: Write>(alloc: Global, told: &ToldPlan, out: &mut Out<W>) -> Result<(), Stop>
+    requires { length (told_text told.now) < greatest_count }
+    ensures ok { OnOk result (Appends (W.contents (writer_of out.old)) (W.contents (writer_of out.new)) (told_text told.now)) }
+    ensures ok_failed { OnOk result (has_failed out.new ≡ has_failed out.old) }
+    ensures err { IfErr result (PutsUntil (told_text told.now) (W.contents (writer_of out.old)) (W.contents (writer_of out.new))) }
+    ensures failed { OnErr result (has_failed out.new ≡ true) }
+{
+    match put_told(alloc, told, out) {
+        Ok(_) => Ok(()),
+        Err(Cut { written }) => Err(Stop::Write { written }),
+    }
 }
 
 #[cfg(test)]

@@ -22,7 +22,7 @@ mod stop;
 mod testing;
 mod value;
 
-pub use check::text::Telling;
+pub use check::told::Telling;
 pub use check::{do_check, do_harmful_check, do_telling_check};
 pub use crew::WORKERS_LIMIT;
 pub use dtable::{Name, PLAN_LIMIT_BYTES};

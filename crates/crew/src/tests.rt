@@ -105,8 +105,10 @@ pub fn terms<'a>(
 fn write_outcome(text: &mut String, outcome: &Outcome) -> Result<(), AllocError> {
     write!(text, "{:?}", outcome.verdict)?;
     write_amounts(text, outcome)?;
-    for remark in outcome.remarks.as_slice() {
-        write!(text, " {}", remark.as_str())?;
+    for place in 0..outcome.remarks.len() {
+        if let Some(remark) = outcome.remarks.get(place) {
+            write!(text, " {remark}")?;
+        }
     }
     Ok(())
 }

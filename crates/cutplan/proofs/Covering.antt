@@ -66,8 +66,12 @@ pub end_is : (t : Table) (column : ℕ) (rules : List ℕ) (columns : List (List
 end_is t column rules [] e = ap (λ b. cond b ([] ∷ []) []) (uncovered_end t column rules)
 end_is t column rules (c ∷ cs) e = absurd (omega (arith, e))
 
+-- none of all rules covers a cell from the first column on exactly where no rule covers it
+pub gap_is : (t : Table) (cell : List Region) → uncovered t 0 (range_with_len 0 (length t.rules)) cell ≡ not (list_any (λ r. covers r.cells cell) t.rules)
+gap_is t cell = ap not (any_by_place (λ rule. covers rule cell) t 0 t.rules refl)
+
 -- the cells that no rule covers are those that none of all rules covers from the first column on
 pub gaps_are : (t : Table) (columns : List (List Region)) → filter (uncovered t 0 (range_with_len 0 (length t.rules))) (cells columns) ≡ filter (λ cell. not (list_any (λ r. covers r.cells cell) t.rules)) (cells columns)
 gaps_are t columns =
     filter_agree (uncovered t 0 (range_with_len 0 (length t.rules))) (λ cell. not (list_any (λ r. covers r.cells cell) t.rules))
-    (λ cell. ap not (any_by_place (λ rule. covers rule cell) t 0 t.rules refl)) (cells columns)
+    (gap_is t) (cells columns)

@@ -32,4 +32,5 @@ pub mod Partners
 pub mod Between
 pub mod Asking
 pub mod Meeting
+pub mod Places
 pub mod Sorting

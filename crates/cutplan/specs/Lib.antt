@@ -3,6 +3,7 @@ pub mod Regions
 pub mod Check
 pub mod Numbered
 pub mod Parts
+pub mod Places
 pub mod Laws
 pub mod Masks
 pub mod Found

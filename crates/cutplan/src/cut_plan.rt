@@ -1,7 +1,7 @@
 //! A plan that can be checked, and is valued by masks.
-ghost use Rattle.std.specs.Prelude.{◌≡◌, ◌≤◌, ◌<◌, ◌-◌, ◌+◌, ◌^◌, ℕ, [], false, Some, IfOk, IfErr, IfSome, OnOk, OnSome, length, slice_get};
+ghost use Rattle.std.specs.Prelude.{◌≡◌, ◌≤◌, ◌<◌, ◌-◌, ◌+◌, ◌^◌, ℕ, [], false, Ok, Some, IfOk, IfErr, IfSome, OnOk, OnSome, length, slice_get};
 ghost use Rattle.dtable.specs.Environment.{answers_of, table_value};
-ghost use Rattle.dtable.specs.HitPolicy.{Gives, by_hit, lists};
+ghost use Rattle.dtable.specs.HitPolicy.{Gives, IsFaultOf, by_hit, lists};
 ghost use Rattle.dtable.specs.Priority.{all_ranked, in_priority_order};
 ghost use Rattle.cutplan.specs.Check.{cells, gaps, overlaps};
 ghost use Rattle.cutplan.specs.Found.{IsMatchingMask};
@@ -13,24 +13,27 @@ ghost use Rattle.cutplan.specs.Numbered.{cell_limit as CELL_LIMIT, IsTableNumber
 use crate::fault::CheckFault;
 use crate::found::matching_mask;
 use crate::kept::regions_and_masks;
+use crate::keys::keys_of_tables;
 use crate::lent::{KeptAnswers, answers_of_tables, lent, ranked_in};
-use crate::mask::rules_in;
+use crate::mask::{INLINE_RULES, list_rules};
 use crate::region::Region;
 use crate::{gap, overlap};
 use dtable::{
     Answer, Answers, AnswersByTable, Env, Fault, Hit, Inputs, Plan, Sequence, Table, Valuer,
     answers_by_hit, lists_of, table_value,
 };
+use smallvec::SmallVec;
 use std::alloc::{AllocError, Global};
 use std::marker::Model;
 
-/// A plan that can be checked, which contracts see as the plan. It borrows the plan, and keeps the regions of its columns and
-/// their masks, and answers of its tables, which it lends.
+/// A plan that can be checked, which contracts see as the plan. It borrows the plan, and keeps the regions of its columns,
+/// their masks and the keys of their texts, and answers of its tables, which it lends.
 #[derive(Debug, Drop)]
 pub struct CutPlan<'a> {
     plan: &'a Plan,
     regions: Sequence<Sequence<Sequence<Region>>>,
     masks: Sequence<Sequence<Sequence<[u64; 4]>>>,
+    keys: Sequence<Sequence<Sequence<u64>>>,
     answers: Sequence<KeptAnswers>,
 }
 
@@ -51,11 +54,13 @@ pub fn compile(alloc: Global, plan: &Plan) -> Result<CutPlan<'_>, AllocError>
     ensures { IfOk result (λ made. made ≡ plan.now) }
 {
     let (regions, masks) = regions_and_masks(alloc, plan, plan.tables())?;
+    let keys = keys_of_tables(alloc, regions.as_slice())?;
     let answers = answers_of_tables(alloc, plan.tables())?;
     Ok(CutPlan {
         plan,
         regions,
         masks,
+        keys,
         answers,
     })
 }
@@ -68,7 +73,8 @@ impl<'a> Valuer for CutPlan<'a> {
     }
 
     fn value<'b>(&'b self, alloc: Global, inputs: &Inputs) -> Result<Env<'b>, Fault> {
-        let answers = self.answers_of(alloc, inputs, self.plan.tables())?;
+        let mut answers = AnswersByTable::new(alloc);
+        self.push_answers(alloc, inputs, self.plan.tables(), &mut answers)?;
         Ok(Env::new(self.plan.tables(), answers))
     }
 }
@@ -114,22 +120,24 @@ impl<'a> CutPlan<'a> {
         columns.as_slice()[column - 1].as_slice()
     }
 
-    // The answers of the plan's tables in order, or the first fault.
-    fn answers_of<'b>(
+    // Puts the answers of the plan's tables in order where there are none yet, or tells the first fault.
+    fn push_answers<'b>(
         &'b self,
         alloc: Global,
         given: &Inputs,
         tables: &[Table],
-    ) -> Result<AnswersByTable<'b>, Fault>
-        requires { tables.now ≡ self.now.tables }
-        ensures { Gives (answers_of given.now [] tables.now) result }
+        answers: &mut AnswersByTable<'b>,
+    ) -> Result<(), Fault>
+        requires tables { tables.now ≡ self.now.tables }
+        requires none { answers.old ≡ [] }
+        ensures answers { OnOk result (answers_of given.now [] tables.now ≡ Ok answers.new) }
+        ensures fault { IfErr result (IsFaultOf (answers_of given.now [] tables.now)) }
     {
-        let mut answers = AnswersByTable::new(alloc);
         for (place, table) in tables.iter().enumerate() {
             let next = self.table_value(alloc, given, answers.as_slice(), place, table)?;
             answers.push(next)?;
         }
-        Ok(answers)
+        Ok(())
     }
 
     // The answers of the table at the place, behind the tables with these answers: by masks, where they tell, and else as
@@ -176,6 +184,7 @@ impl<'a> CutPlan<'a> {
     {
         let regions = self.regions.as_slice().get(place)?;
         let masks = self.masks.as_slice().get(place)?;
+        let keys = self.keys.as_slice().get(place)?;
         matching_mask(
             self.plan,
             given,
@@ -183,6 +192,7 @@ impl<'a> CutPlan<'a> {
             table,
             regions.as_slice(),
             masks.as_slice(),
+            keys.as_slice(),
         )
     }
 }
@@ -201,7 +211,8 @@ fn value_of_mask<'k>(
     requires within { (place : ℕ) → length table.now.rules ≤ place → place < 256 → has_rule mask.now place ≡ false }
     ensures { Gives (by_hit table.now.hit number table.now (rules_in (length table.now.rules) mask.now)) result }
 {
-    let rules = rules_in(alloc, mask, table.rules.len())?;
+    let mut rules = SmallVec::<usize, INLINE_RULES>::new(alloc);
+    list_rules(mask, table.rules.len(), &mut rules)?;
     if let Some(answers) = lent(table, kept, mask, rules.as_slice()) {
         return Ok(Answers::lent(answers));
     }

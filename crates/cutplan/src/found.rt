@@ -12,7 +12,7 @@ use crate::region::{Region, is_value};
 use dtable::{Answers, Input, Inputs, Plan, Sequence, Table, value_read};
 
 /// The rules of a table that match, where each of its inputs reads a value of its column's kind that lies in a region.
-/// These are the regions of its columns and their masks.
+/// These are the regions of its columns, their masks, and the keys of their texts.
 pub fn matching_mask(
     plan: &Plan,
     given: &Inputs,
@@ -20,6 +20,7 @@ pub fn matching_mask(
     table: &Table,
     regions: &[Sequence<Region>],
     masks: &[Sequence<[u64; 4]>],
+    keys: &[Sequence<u64>],
 ) -> Option<[u64; 4]>
     requires few { length table.now.rules ≤ MASK_RULES }
     requires regions { regions.now ≡ table_regions plan.now table.now }
@@ -30,6 +31,7 @@ pub fn matching_mask(
     for (column, input) in table.inputs.as_slice().iter().enumerate() {
         let regions = regions.get(column)?;
         let masks = masks.get(column)?;
+        let keys = keys.get(column)?;
         let read = mask_read(
             plan,
             given,
@@ -37,6 +39,7 @@ pub fn matching_mask(
             input,
             regions.as_slice(),
             masks.as_slice(),
+            keys.as_slice(),
         )?;
         mask = meet(&mask, read);
     }
@@ -51,6 +54,7 @@ fn mask_read<'m>(
     input: &Input,
     regions: &[Region],
     masks: &'m [[u64; 4]],
+    keys: &[u64],
 ) -> Option<&'m [u64; 4]>
     requires { OthersRise regions.now }
     ensures { IfSome result (λ mask. IsMaskRead plan.now given.now earlier.now input.now regions.now masks.now mask.now) }
@@ -59,5 +63,5 @@ fn mask_read<'m>(
     if !is_value(kind_read(plan, input.origin), value) {
         return None;
     }
-    masks.get(place_of(regions, value)?)
+    masks.get(place_of(regions, keys, value)?)
 }

@@ -1,9 +1,10 @@
-//! Gaps: cells of the check that no rule covers.
+//! Gaps: cells of the check that no rule covers, and their places among the cells.
 ghost use Rattle.std.specs.Prelude.{◌≡◌, ◌+◌, ◌*◌, ◌≤◌, ◌<◌, ◌^◌, ◌++◌, ◌∷◌, IfOk, OnOk, filter, map, min, length, not, [], ◌==◌, if◌then◌else◌};
 ghost use Rattle.std.specs.Bool.{OnTrue, OnFalse};
 ghost use Rattle.std.specs.List.{list_any};
 ghost use Rattle.cutplan.specs.Check.{cells, covers};
 ghost use Rattle.cutplan.specs.Masks.{AreTableMasks, rules_in};
+ghost use Rattle.cutplan.specs.Places.{ArePlaces, is_gap, places};
 ghost use Rattle.cutplan.specs.Parts.{uncovered, AreRules, HasMasksFrom};
 ghost use Rattle.cutplan.specs.Numbered.{cell_limit};
 ghost use Rattle.cutplan.specs.declared.mask.TheConstants.{MASK_RULES};
@@ -24,8 +25,8 @@ pub fn is_wide(columns: &[Sequence<Region>]) -> bool
     cell_count(columns) > CELL_LIMIT
 }
 
-// The number of cells, or one more than the limit where it is larger.
-fn cell_count(columns: &[Sequence<Region>]) -> usize
+/// The number of cells of the columns, or one more than the limit where it is larger.
+pub fn cell_count(columns: &[Sequence<Region>]) -> usize
     ensures { result ≡ min (length (cells columns.now)) (cell_limit + 1) }
 {
     let mut count = 1;
@@ -130,5 +131,85 @@ fn put_behind(
         whole.insert(0, region.duplicate(alloc)?)?;
         found.push(whole)?;
     }
+    Ok(())
+}
+
+/// The places of the gaps among the cells of the columns, from 0, in order; none are listed where there are more cells than
+/// the limit. These are the masks of the columns.
+pub fn gap_places(
+    alloc: Global,
+    table: &Table,
+    columns: &[Sequence<Region>],
+    masks: &[Sequence<[u64; 4]>],
+) -> Result<Option<Vec<u32>>, AllocError>
+    requires far { length columns.now < 2 ^ 59 }
+    requires few { length table.now.rules ≤ MASK_RULES }
+    requires masks { AreTableMasks table.now columns.now masks.now }
+    ensures { IfOk result (ArePlaces (cells columns.now) (is_gap table.now)) }
+{
+    if is_wide(columns) {
+        return Ok(None);
+    }
+    let mut walk = Walk {
+        found: Vec::new(alloc),
+        passed: 0,
+    };
+    let rules = first_rules(table.rules.len());
+    walk_cells(table, 0, columns, masks, &rules, &mut walk)?;
+    Ok(Some(walk.found))
+}
+
+/// A walk over cells: the places of the gaps among those that it has passed, and how many these are.
+#[derive(Debug, Drop)]
+struct Walk {
+    found: Vec<u32>,
+    passed: u32,
+}
+
+// Walks over the cells of the columns from a place on, in order, and finds those that none of these rules covers there. The
+// masks are those of all columns.
+fn walk_cells(
+    table: &Table,
+    place: usize,
+    columns: &[Sequence<Region>],
+    masks: &[Sequence<[u64; 4]>],
+    rules: &[u64; 4],
+    walk: &mut Walk,
+) -> Result<(), AllocError>
+    requires far { place + length columns.now < 2 ^ 59 }
+    requires few { length table.now.rules ≤ MASK_RULES }
+    requires masks { HasMasksFrom table.now place columns.now masks.now }
+    requires rules { AreRules (length table.now.rules) rules.now }
+    requires room { walk.old.passed + length (cells columns.now) ≤ cell_limit }
+    ensures found { OnOk result (walk.new.found.items ≡ walk.old.found.items
+        ++ places (uncovered table.now place (rules_in (length table.now.rules) rules.now)) walk.old.passed (cells columns.now)) }
+    ensures passed { OnOk result (walk.new.passed ≡ walk.old.passed + length (cells columns.now)) }
+{
+    match columns.split_first() {
+        Some((regions, more)) => {
+            let here = masks[place].as_slice();
+            for at in 0..regions.len() {
+                let left = meet(rules, &here[at]);
+                walk_cells(table, place + 1, more, masks, &left, walk)?;
+            }
+            Ok(())
+        }
+        None => walk_end(table.rules.len(), rules, walk),
+    }
+}
+
+// Passes the cell of no column, which is a gap unless there is a rule among the first so many.
+fn walk_end(count: usize, rules: &[u64; 4], walk: &mut Walk) -> Result<(), AllocError>
+    requires few { count ≤ MASK_RULES }
+    requires rules { AreRules count rules.now }
+    requires room { walk.old.passed < cell_limit }
+    ensures found { OnOk result (walk.new.found.items ≡ walk.old.found.items
+        ++ (if length (rules_in count rules.now) == 0 then walk.old.passed ∷ [] else [])) }
+    ensures passed { OnOk result (walk.new.passed ≡ walk.old.passed + 1) }
+{
+    if is_none(count, rules) {
+        walk.found.push(walk.passed)?;
+    }
+    walk.passed += 1;
     Ok(())
 }

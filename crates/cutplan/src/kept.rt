@@ -38,8 +38,8 @@ pub fn regions_and_masks(
     Ok((regions, masks))
 }
 
-// The masks of a table's columns.
-fn masks_of_columns(
+/// The masks of a table's columns.
+pub fn masks_of_columns(
     alloc: Global,
     plan: &Plan,
     table: &Table,

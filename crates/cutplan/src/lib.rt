@@ -3,7 +3,8 @@
 //!
 //! `compile` makes a `CutPlan`, which borrows its plan and values it as the plan does. The literals of a column cut its
 //! values into `Region`s, within which each cell holds of all values or of none; so `gaps` tries one value of each.
-//! `overlaps` lists the pairs of rules that share an allowed input. A region's mask has the rules whose cell holds in it:
+//! `overlaps` lists the pairs of rules that share an allowed input. `check_table` gives both of one table, without a compiled
+//! plan: the gaps by their places among all cells, in little memory. A region's mask has the rules whose cell holds in it:
 //! the rules of a table that match are those that the masks of the regions of what it reads have all. Tables, and their
 //! answers once the rules are known, come from `dtable`, cells and values from `feel_tests`, the list of rules from `smallvec`.
 //!
@@ -20,6 +21,7 @@ mod fault;
 mod found;
 mod gap;
 mod kept;
+mod keys;
 mod law;
 mod lent;
 mod lookup;
@@ -29,15 +31,17 @@ mod region;
 mod rising;
 mod sharing;
 mod stretch;
+mod table_check;
 #[cfg(test)]
 mod tests;
 
 pub use cut_plan::{CutPlan, compile};
 pub use fault::CheckFault;
-pub use gap::CELL_LIMIT;
+pub use gap::{CELL_LIMIT, cell_count};
 pub use law::{
     allowed_are_inside, cells_hold_alike, cuts_are_literals, cuts_rise, fits_are_matches,
     gaps_are_told, gaps_match_nothing, masks_list_matches, overlaps_are_told,
     overlaps_match_together, regions_hold_values, regions_part_values,
 };
 pub use region::Region;
+pub use table_check::{TableCheck, check_table};

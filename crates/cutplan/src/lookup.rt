@@ -10,21 +10,39 @@ ghost use Rattle.cutplan.specs.declared.region.Region.TheVariants.{Other};
 ghost use Rattle.cutplan.specs.Regions.{is_in};
 ghost use Rattle.cutplan.specs.Found.{bytes_of, has_at, AreRisingTexts, OthersRise};
 
+use crate::keys::key_of;
 use crate::region::{Region, is_among, is_in, is_less};
 use feel_tests::{Text, Value};
 use std::cmp::Ordering;
 
-/// The place of a region that has the value, if one has it. The regions of a column stand in rising order, so that it is
-/// sought by halves; what is found is asked, and so nothing rests on the search. Any other text is in the last.
-pub fn place_of(regions: &[Region], value: &Value) -> Option<usize>
+/// The place of a region that has the value, if one has it. The keys of texts tell it mostly. The regions of a column stand in
+/// rising order, so that it is sought by halves else; what is found is asked, and so nothing rests on keys and search. Any
+/// other text is in the last.
+pub fn place_of(regions: &[Region], keys: &[u64], value: &Value) -> Option<usize>
     requires { OthersRise regions.now }
     ensures { IfSome result (λ place. IsTrue (has_at regions.now place value.now)) }
 {
+    let place = likely(regions, keys, value);
+    if has_at(regions, place, value) {
+        return Some(place);
+    }
     let place = sought(regions, value);
     if has_at(regions, place, value) {
         Some(place)
     } else {
         None
+    }
+}
+
+// Where the value is to be asked for first: a text by its key, and a flag behind the other one.
+fn likely(regions: &[Region], keys: &[u64], value: &Value) -> usize {
+    match value {
+        Value::Flag(flag) => usize::from(*flag),
+        Value::Text(text) => match keys.binary_search(&key_of(text)) {
+            Ok(place) => place,
+            Err(_) => regions.len().saturating_sub(1),
+        },
+        _ => sought(regions, value),
     }
 }
 

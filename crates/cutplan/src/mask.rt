@@ -1,5 +1,5 @@
 //! Masks: the rules of a table as 256 bits in four words.
-ghost use Rattle.std.specs.Prelude.{◌≡◌, ◌<◌, ◌≤◌, ◌==◌, ◌&&◌, ◌||◌, ◌++◌, ℕ, false, length, nat_lt, IfOk, OnOk};
+ghost use Rattle.std.specs.Prelude.{◌≡◌, ◌<◌, ◌≤◌, ◌==◌, ◌&&◌, ◌||◌, ◌++◌, ℕ, [], false, length, nat_lt, OnOk};
 ghost use Rattle.std.specs.Int.{bit_at};
 ghost use Rattle.cutplan.specs.Found.{places_set};
 ghost use Rattle.cutplan.specs.Masks.{has_rule, rules_in, Marks};
@@ -10,13 +10,13 @@ use crate::asked::Asked;
 use crate::region::Region;
 use feel_tests::Value;
 use smallvec::SmallVec;
-use std::alloc::{AllocError, Global};
+use std::alloc::AllocError;
 
 /// How many rules a mask has a bit for: no table has more.
 pub const MASK_RULES: usize = 256;
 
 /// How many rules are listed without memory of their own.
-const INLINE_RULES: usize = 16;
+pub const INLINE_RULES: usize = 8;
 
 /// The rules whose cell holds in the region, of which this is the first value: each of the cells is that of a rule.
 pub fn mask_of(asked: &mut [Asked<'_>], region: &Region, first: &Option<Value>) -> [u64; 4]
@@ -99,22 +99,22 @@ fn low_bits(count: usize) -> u64
     }
 }
 
-/// The rules of a mask, in order, which has none behind so many.
-pub fn rules_in(
-    alloc: Global,
+/// Lists the rules of a mask, in order, which has none behind so many, where none is listed yet.
+pub fn list_rules(
     mask: &[u64; 4],
     count: usize,
-) -> Result<SmallVec<usize, INLINE_RULES>, AllocError>
+    found: &mut SmallVec<usize, INLINE_RULES>,
+) -> Result<(), AllocError>
     requires words { length mask.now ≡ 4 }
     requires few { count ≤ MASK_RULES }
     requires within { (place : ℕ) → count ≤ place → place < 256 → has_rule mask.now place ≡ false }
-    ensures { IfOk result (λ rules. rules.items ≡ rules_in count mask.now) }
+    requires none { found.old.items ≡ [] }
+    ensures { OnOk result (found.new.items ≡ rules_in count mask.now) }
 {
-    let mut found = SmallVec::new(alloc);
     'words: for word in 0..4 {
-        push_places(mask[word], 64 * word, &mut found)?;
+        push_places(mask[word], 64 * word, found)?;
     }
-    Ok(found)
+    Ok(())
 }
 
 // Puts the places of the bits that are set in a word behind others: the places count on from the first bit's.

@@ -1,6 +1,7 @@
 //! The check of tables by worked examples, on its calls. Regions of each kind stand as text in cases of the built program's
 //! `check`.
 mod alike;
+mod places;
 
 use crate::{CELL_LIMIT, CheckFault, Region, compile};
 use dtable::{Answer, Inputs, Plan, PlanFault, Sequence, Valuer, read_plan};

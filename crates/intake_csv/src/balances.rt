@@ -133,7 +133,7 @@ fn entry_of(values: Vec<Value>) -> (Text, Balance)
     requires { IsEntryShaped values.items }
     ensures { values.items ≡ entry_values result }
 {
-    let mut values = values;
+    let mut values = values.into_iter();
     let member = take_text(&mut values);
     let met = take_money(&mut values);
     let oop = take_money(&mut values);

@@ -72,7 +72,7 @@ fn claim_of(alloc: Global, values: Vec<Value>) -> Result<Claim, AllocError>
     requires { IsClaimShaped values.items }
     ensures { IfOk result (λ claim. claim_values claim ≡ values.items) }
 {
-    let mut values = values;
+    let mut values = values.into_iter();
     let id = take_text(&mut values);
     let member = take_text(&mut values);
     let service = take_day(&mut values);

@@ -1,5 +1,6 @@
 //! The values of a record, taken one after another.
 ghost use Rattle.std.specs.Prelude.{◌≡◌, ◌∷◌, IfOk};
+ghost use Rattle.std.specs.Vec.Iter.{into_iter_items};
 ghost use Rattle.intake_csv.specs.Values.{BeginsWithText, BeginsWithDay, BeginsWithMoney};
 ghost use Rattle.feel_tests.specs.declared.value.Value.TheVariants as kinds;
 
@@ -7,35 +8,45 @@ use dtable::Sequence;
 use feel_tests::{Day, Text, Value};
 use settlement::Money;
 use std::alloc::{AllocError, Global};
+use std::vec;
 
 /// Takes the first value, a text.
-pub fn take_text(values: &mut Vec<Value>) -> Text
-    requires { BeginsWithText values.old.items }
-    ensures { values.old.items ≡ kinds.Text result ∷ values.new.items }
+pub fn take_text(values: &mut vec::IntoIter<Value>) -> Text
+    requires { BeginsWithText (into_iter_items values.old) }
+    ensures { into_iter_items values.old ≡ kinds.Text result ∷ into_iter_items values.new }
 {
-    let Value::Text(text) = values.remove(0) else {
+    let Some(value) = values.next() else {
+        unreachable!();
+    };
+    let Value::Text(text) = value else {
         unreachable!();
     };
     text
 }
 
 /// Takes the first value, a day.
-pub fn take_day(values: &mut Vec<Value>) -> Day
-    requires { BeginsWithDay values.old.items }
-    ensures { values.old.items ≡ kinds.Day result ∷ values.new.items }
+pub fn take_day(values: &mut vec::IntoIter<Value>) -> Day
+    requires { BeginsWithDay (into_iter_items values.old) }
+    ensures { into_iter_items values.old ≡ kinds.Day result ∷ into_iter_items values.new }
 {
-    let Value::Day(day) = values.remove(0) else {
+    let Some(value) = values.next() else {
+        unreachable!();
+    };
+    let Value::Day(day) = value else {
         unreachable!();
     };
     day
 }
 
 /// Takes the first value, an amount of money.
-pub fn take_money(values: &mut Vec<Value>) -> Money
-    requires { BeginsWithMoney values.old.items }
-    ensures { values.old.items ≡ kinds.Number result ∷ values.new.items }
+pub fn take_money(values: &mut vec::IntoIter<Value>) -> Money
+    requires { BeginsWithMoney (into_iter_items values.old) }
+    ensures { into_iter_items values.old ≡ kinds.Number result ∷ into_iter_items values.new }
 {
-    let Value::Number(number) = values.remove(0) else {
+    let Some(value) = values.next() else {
+        unreachable!();
+    };
+    let Value::Number(number) = value else {
         unreachable!();
     };
     match Money::new(number) {
@@ -44,9 +55,9 @@ pub fn take_money(values: &mut Vec<Value>) -> Money
     }
 }
 
-/// The values as a list.
-pub fn list_of(alloc: Global, values: Vec<Value>) -> Result<Sequence<Value>, AllocError>
-    ensures { IfOk result (λ list. list ≡ values.items) }
+/// The values that are left, as a list.
+pub fn list_of(alloc: Global, values: vec::IntoIter<Value>) -> Result<Sequence<Value>, AllocError>
+    ensures { IfOk result (λ list. list ≡ into_iter_items values) }
 {
     let mut list = Sequence::new(alloc);
     for value in values {

@@ -1,14 +1,22 @@
 -- Sums over paid claims, one event after another.
-use Rattle.std.proofs.Common.{◌≡◌, ◌<◌, ◌≤◌, ◌+◌, ◌*◌, ◌^◌, ◌+ℤ◌, ℕ, ℤ, List, [], ◌∷◌, ◌++◌, get_or, length, take, ap, sym, ◌∙◌, append-nil, arith}
-use Rattle.std.proofs.Math.IntN.{+ℤ_assoc, +ℤ_idl}
+use Rattle.std.proofs.Common.{◌≡◌, ◌<◌, ◌≤◌, ◌+◌, ◌*◌, ◌^◌, ◌+ℤ◌, ℕ, suc, ℤ, pos, List, [], ◌∷◌, ◌++◌, get_or, length, map, take, Some, slice_get, inl, inr, refl, ap, sym, ◌∙◌, append-nil, arith}
+use Rattle.std.proofs.Math.IntN.{+ℤ_assoc, +ℤ_idl, +ℤ_idr}
 use Rattle.std.proofs.lemmas.Grind.{flat_map-append}
-use Rattle.std.proofs.lemmas.List.{take_more}
+use Rattle.std.proofs.lemmas.List.{get_or-set_other, get_or-set_same, length-set, take_more}
+use Rattle.std.proofs.lemmas.Bool.{cases_lt}
+use Rattle.std.proofs.Math.ListN.{set}
+use Rattle.std.specs.Prelude.{slice_index}
+use Rattle.std.proofs.lemmas.Option.{same_Some, slice_get-get_or, slice_get_within}
+use Rattle.fixpoint.specs.Money.{money_text}
 use Rattle.fixpoint.specs.Number.{greatest_units}
 use Rattle.settlement.specs.declared.outcome.Outcome.{Outcome}
 use Rattle.journal.specs.declared.event.Event.{Event}
 use Rattle.remit.specs.Decided.{paid_in, paid_outcomes, sum_of}
-use Rattle.remit.specs.Amounts.{amount_of}
-use Rattle.remit.specs.Looked.{AreGrown, AreSums, HaveRoom, IsGrown, IsSum, sum_in}
+use Rattle.remit.specs.Amounts.{amounts, amount_of}
+use Rattle.remit.specs.Looked.{AreGrown, AreSums, HaveRoom, IsGrown, IsSum}
+use Rattle.remit.specs.Records.{total_text}
+use Rattle.remit.specs.declared.amount.Amount.{Amount}
+use Rattle.remit.specs.declared.amount.Amount.TheVariants.{Allowed}
 use Rattle.remit.specs.declared.sums.Sums.{Sums}
 
 -- the sum over outcomes and others behind them
@@ -34,7 +42,11 @@ sum-more amount J event count old new before grown = record {
 -- the sums with one event more
 sums-more : (J : List Event) (event : Event) (count : ℕ) (old new : Sums) → AreSums J count old → AreGrown (paid_in event) old new
     → AreSums (J ++ event ∷ []) (count + 1) new
-sums-more J event count old new before grown = λ amount. sum-more (amount_of amount) J event count (sum_in old amount) (sum_in new amount) (before amount) (grown amount)
+sums-more J event count old new before grown = record {
+  size = grown.size ∙ before.size;
+  each = λ place amount stands.
+      sum-more (amount_of amount) J event count (slice_index old.units place) (slice_index new.units place) (before.each place amount stands) (grown.each place amount stands);
+}
 
 -- the sums over the events of a journal up to a place, with the one at that place
 pub sums-next : (J : List Event) (place : ℕ) (event : Event) (old new : Sums) → place < length J → event ≡ get_or J place event → AreSums (take place J) place old
@@ -48,4 +60,56 @@ sum-room count sum few bound = omega (arith, few, bound)
 
 -- the sums over no more events than a journal can have leave room
 pub sums-room : (J : List Event) (count : ℕ) (sums : Sums) → count < 2 ^ 64 → AreSums J count sums → HaveRoom sums
-sums-room J count sums few are = λ amount. sum-room count (sum_in sums amount) few (are amount).bound
+sums-room J count sums few are = record {
+  size = are.size;
+  each = λ place within.
+      sum-room count (slice_index sums.units place) few (are.each place (get_or amounts place Allowed) (slice_get-get_or amounts place Allowed within)).bound;
+}
+
+-- the sums whose amounts are added so far, those in front of a place, and the others
+pub record AddedTo (decision : Outcome) (old new : List ℕ) (place : ℕ) : Type 0 where
+  pub size : length new ≡ length old
+  pub added : (at : ℕ) (amount : Amount) → slice_get amounts at ≡ Some amount → at < place → IsGrown (amount_of amount) (decision ∷ []) (slice_index old at) (slice_index new at)
+  pub others : (at : ℕ) → place ≤ at → slice_index new at ≡ slice_index old at
+
+-- one amount more is added
+pub added-next : (decision : Outcome) (old new : List ℕ) (place : ℕ) (amount : Amount) (sum : ℕ) → slice_get amounts place ≡ Some amount → place < length old
+    → pos sum ≡ pos (slice_index new place) +ℤ amount_of amount decision → sum ≤ slice_index new place + greatest_units
+    → AddedTo decision old new place → AddedTo decision old (set new place sum) (place + 1)
+added-next decision old new place amount sum stands within value bound so_far = record {
+  size = length-set new place sum ∙ so_far.size;
+  added = λ at other is less. elim (cases_lt at place) [
+    | inl before ↦
+        rw (get_or-set_other new place at sum 0 (λ e. omega (arith, before, e))) (so_far.added at other is before)
+    | inr behind ↦
+        let here : at ≡ place = omega (arith, behind, less) in
+        let same : other ≡ amount = same_Some other amount (sym is ∙ ap (slice_get amounts) here ∙ stands) in
+        rw (here, same, get_or-set_same new place sum 0 (rw so_far.size within)) (record {
+          value = value ∙ ap (λ s. pos s +ℤ amount_of amount decision) (so_far.others place (omega arith)) ∙ ap (λ a. pos (slice_index old place) +ℤ a) (sym (+ℤ_idr (amount_of amount decision)));
+          bound = rw (so_far.others place (omega arith)) at bound;
+        })
+  ];
+  others = λ at least. get_or-set_other new place at sum 0 (λ e. omega (arith, least, e)) ∙ so_far.others at (omega (arith, least));
+}
+
+-- all amounts are added
+pub added-all : (decision : Outcome) (old new : Sums) (place : ℕ) → length amounts ≤ place → AddedTo decision old.units new.units place → AreGrown (decision ∷ []) old new
+added-all decision old new place all added = record {
+  size = added.size;
+  each = λ at amount is. added.added at amount is (omega (arith, all, slice_get_within amounts at amount is));
+}
+
+-- the texts of values that stand beside amounts
+texts-beside : (text : ℤ → List ℕ) (value : Amount → ℤ) (list : List Amount) (units : List ℕ) → length units ≡ length list
+    → ((place : ℕ) (amount : Amount) → slice_get list place ≡ Some amount → pos (slice_index units place) ≡ value amount) → map (λ u. text (pos u)) units ≡ map (λ a. text (value a)) list
+texts-beside text value [] [] size each = refl
+texts-beside text value [] (u ∷ units) size each = absurd (omega (arith, size))
+texts-beside text value (a ∷ list) [] size each = absurd (omega (arith, size))
+texts-beside text value (a ∷ list) (u ∷ units) size each =
+    ap (λ v. text v ∷ map (λ w. text (pos w)) units) (each 0 a refl)
+    ∙ ap (λ texts. text (value a) ∷ texts) (texts-beside text value list units (omega (arith, size)) (λ place amount is. each (suc place) amount is))
+
+-- the texts of the sums over a journal are those of its totals
+pub sums_told : (J : List Event) (count : ℕ) (sums : Sums) → AreSums J count sums → map (λ sum. money_text (pos sum)) sums.units ≡ map (total_text J) amounts
+sums_told J count sums are =
+    texts-beside money_text (λ amount. sum_of (amount_of amount) (paid_outcomes J)) amounts sums.units are.size (λ place amount is. (are.each place amount is).value)

@@ -1,15 +1,13 @@
 -- What a journal tells, laid out so that a claim's decision is found at once, and its sums.
-use Rattle.std.specs.Prelude.{◌≡◌, ◌<◌, ◌≤◌, ◌+◌, ◌-◌, ◌*◌, ◌^◌, ◌+ℤ◌, ℕ, suc, ℤ, pos, ◌==◌, cond, List, [], ◌∷◌, get_or, length, ◌++◌, slice_get, Option, Some, None, option_map, map}
+use Rattle.std.specs.Prelude.{◌≡◌, ◌<◌, ◌≤◌, ◌+◌, ◌-◌, ◌*◌, ◌^◌, ◌+ℤ◌, ℕ, suc, ℤ, pos, ◌==◌, cond, List, [], ◌∷◌, get_or, length, ◌++◌, slice_get, slice_index, Option, Some, None, option_map}
 use Rattle.std.specs.Global.{Vec}
 use Rattle.std.specs.Borrow.{Bor}
 use Rattle.std.specs.Option.{option_and_then}
-use Rattle.fixpoint.specs.Money.{money_text}
 use Rattle.fixpoint.specs.Number.{greatest_units}
 use Rattle.settlement.specs.declared.outcome.Outcome.{Outcome}
 use Rattle.journal.specs.Events.{Filed, accepted, accepts}
 use Rattle.journal.specs.declared.event.Event.{Event}
 use Rattle.remit.specs.declared.amount.Amount.{Amount}
-use Rattle.remit.specs.declared.amount.Amount.TheVariants.{Allowed, Deductible, Copay, Coinsurance, Share, Paid}
 use Rattle.remit.specs.Amounts.{amounts, amount_of}
 use Rattle.remit.specs.Decided.{decision_at, paid_outcomes, sum_of}
 use Rattle.remit.specs.declared.decisions.Decisions.{Decisions}
@@ -63,22 +61,15 @@ pub record IsSum (amount : Outcome → ℤ) (outcomes : List Outcome) (count sum
   pub value : pos sum ≡ sum_of amount outcomes
   pub bound : sum ≤ count * greatest_units
 
--- the sum of an amount among the sums
-abbrev pub sum_in : Sums → Amount → ℕ
-sum_in sums Allowed = sums.allowed
-sum_in sums Deductible = sums.ded
-sum_in sums Copay = sums.copay
-sum_in sums Coinsurance = sums.coins
-sum_in sums Share = sums.share
-sum_in sums Paid = sums.paid
-
--- the sums of the amounts over the paid claims of a journal of no more than so many events
-abbrev pub AreSums : List Event → ℕ → Sums → Type 0
-AreSums J count sums = (amount : Amount) → IsSum (amount_of amount) (paid_outcomes J) count (sum_in sums amount)
+-- the sums of the amounts over the paid claims of a journal of no more than so many events, in the order of the amounts
+pub record AreSums (J : List Event) (count : ℕ) (sums : Sums) : Type 0 where
+  pub size : length sums.units ≡ length amounts
+  pub each : (place : ℕ) (amount : Amount) → slice_get amounts place ≡ Some amount → IsSum (amount_of amount) (paid_outcomes J) count (slice_index sums.units place)
 
 -- one amount more fits in 128 bits behind each sum
-abbrev pub HaveRoom : Sums → Type 0
-HaveRoom sums = (amount : Amount) → sum_in sums amount + greatest_units < 2 ^ 128
+pub record HaveRoom (sums : Sums) : Type 0 where
+  pub size : length sums.units ≡ length amounts
+  pub each : (place : ℕ) → place < length amounts → slice_index sums.units place + greatest_units < 2 ^ 128
 
 -- the sum has grown by the amount of these outcomes, and by no more than the greatest number
 pub record IsGrown (amount : Outcome → ℤ) (outcomes : List Outcome) (old new : ℕ) : Type 0 where
@@ -86,9 +77,6 @@ pub record IsGrown (amount : Outcome → ℤ) (outcomes : List Outcome) (old new
   pub bound : new ≤ old + greatest_units
 
 -- each sum has grown by its amount of these outcomes
-abbrev pub AreGrown : List Outcome → Sums → Sums → Type 0
-AreGrown outcomes old new = (amount : Amount) → IsGrown (amount_of amount) outcomes (sum_in old amount) (sum_in new amount)
-
--- the texts of sums
-abbrev pub sum_texts : Sums → List (List ℕ)
-sum_texts sums = map (λ amount. money_text (pos (sum_in sums amount))) amounts
+pub record AreGrown (outcomes : List Outcome) (old new : Sums) : Type 0 where
+  pub size : length new.units ≡ length old.units
+  pub each : (place : ℕ) (amount : Amount) → slice_get amounts place ≡ Some amount → IsGrown (amount_of amount) outcomes (slice_index old.units place) (slice_index new.units place)

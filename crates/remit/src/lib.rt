@@ -10,6 +10,7 @@
 mod amount;
 mod decisions;
 mod fault;
+mod held_text;
 mod parts;
 mod record;
 mod record_writer;

@@ -7,7 +7,7 @@ ghost use Rattle.journal.specs.declared.event.Event.{Event as AnyEvent};
 ghost use Rattle.claim_terms.specs.Terms.{texts_of};
 ghost use Rattle.remit.specs.Amounts.{amount_of, name_of};
 ghost use Rattle.remit.specs.Held.{Pushes};
-ghost use Rattle.remit.specs.Looked.{AreSums, looked_up, outcome_in, sum_in, sum_texts};
+ghost use Rattle.remit.specs.Looked.{AreSums, looked_up, outcome_in};
 ghost use Rattle.remit.specs.Texts.{remarks_text};
 ghost use Rattle.remit.specs.Records.{header_fields, record_of, told_by, told_fields, told_of, told_refused, total_fields};
 
@@ -86,7 +86,7 @@ pub fn fill_total(
     line.push_field(b"total")?;
     push_number(line, accepted)?;
     push_repeated(line, b"", FIELDS_BEFORE.len() - 2)?;
-    push_sums(alloc, line, sums, &AMOUNTS)?;
+    push_sums(alloc, line, sums.as_slice())?;
     line.push_field(b"")
 }
 
@@ -165,17 +165,12 @@ fn push_amounts(
     Ok(())
 }
 
-// The sums of these amounts.
-fn push_sums(
-    alloc: Global,
-    line: &mut ByteRecord,
-    sums: Sums,
-    amounts: &[Amount],
-) -> Result<(), AllocError>
-    ensures { OnOk result (Pushes line.old line.new (map (λ amount. money_text (pos (sum_in sums amount))) amounts.now)) }
+// These sums.
+fn push_sums(alloc: Global, line: &mut ByteRecord, sums: &[u128]) -> Result<(), AllocError>
+    ensures { OnOk result (Pushes line.old line.new (map (λ sum. money_text (pos sum)) sums.now)) }
 {
-    for amount in amounts {
-        push_sum(alloc, line, sums.of(*amount))?;
+    for sum in sums {
+        push_sum(alloc, line, *sum)?;
     }
     Ok(())
 }
@@ -183,7 +178,7 @@ fn push_sums(
 fn push_remarks(alloc: Global, line: &mut ByteRecord, decision: &Outcome) -> Result<(), AllocError>
     ensures { OnOk result (Pushes line.old line.new (remarks_text decision.now.remarks ∷ [])) }
 {
-    let text = remarks_text(alloc, decision.remarks.as_slice())?;
+    let text = remarks_text(alloc, &decision.remarks)?;
     line.push_field(text.as_slice())
 }
 

@@ -16,6 +16,7 @@ ghost use Rattle.remit.specs.declared.fault.WriteCause.TheVariants.{Device, OutO
 
 use crate::decisions::Decisions;
 use crate::fault::{WriteCause, WriteFault};
+use crate::held_text::NotHeld;
 use crate::parts::parts_by_threads;
 use crate::record::{fill_header, fill_row, fill_total};
 use crate::record_writer::RecordWriter;
@@ -54,8 +55,8 @@ pub fn write_report<W: Write>(
 }
 
 /// Writes the same report by threads: the records of each file become text by a thread of their own, and the caller's
-/// thread hands the texts to the writer in the order of the files. Until it is written the text of each file is held,
-/// so that this takes as much memory as the report is long.
+/// thread hands the texts to the writer in the order of the files. Until it is written the text of each file is held, if
+/// it is not much longer than the file; where one is, as by long remarks, one thread writes the report in pieces.
 ///
 /// What holds of the bytes, of a refusal and of the writer holds as for `write_report`.
 #[tactic(auto, using(crate::proofs::Reporting::finished_written, crate::proofs::Reporting::finished_refused))]
@@ -130,12 +131,10 @@ pub(crate) fn write_journal_by_threads<R: Threads + Sync, W: Write>(
             cause: WriteCause::OutOfMemory,
         });
     };
-    // Memory that is wanting for one text is told before the first byte is written.
+    // What can't be held as a whole, one thread hands on in pieces.
     if parts.as_slice().iter().any(|part| part.is_err()) {
-        return Err(WriteFault {
-            written: 0,
-            cause: WriteCause::OutOfMemory,
-        });
+        drop(parts);
+        return write_journal(alloc, terms, journal, out);
     }
     let mut report = Report::new(alloc, &decisions);
     report.write_header(out)?;
@@ -203,7 +202,7 @@ impl<'d, 'j> Report<'d, 'j> {
     // Writes the parts of all files, each of which is the text of a file's rows.
     fn write_parts<W: Write>(
         &mut self,
-        parts: Vec<Result<Vec<u8>, AllocError>>,
+        parts: Vec<Result<Vec<u8>, NotHeld>>,
         out: &mut Out<W>,
     ) -> Result<(), WriteFault>
         ensures writes { (names : List InputData) (texts : List (List ℕ)) → AreParts (looked_up self.old.decisions.now) names texts 0 parts.items
@@ -218,10 +217,10 @@ impl<'d, 'j> Report<'d, 'j> {
         Ok(())
     }
 
-    // Writes the text of a file's rows, and gives its memory back; no memory, where that was wanting for it.
+    // Writes the text of a file's rows, and gives its memory back; no memory, where it isn't held.
     fn write_part<W: Write>(
         &mut self,
-        part: Result<Vec<u8>, AllocError>,
+        part: Result<Vec<u8>, NotHeld>,
         out: &mut Out<W>,
     ) -> Result<(), WriteFault>
         ensures writes { (provider : ℕ) (names : List InputData) (text : List ℕ) → MayBePart (looked_up self.old.decisions.now) provider names text part
@@ -232,7 +231,7 @@ impl<'d, 'j> Report<'d, 'j> {
     {
         match part {
             Ok(text) => self.writer.write_text(text, out),
-            Err(AllocError) => Err(self.writer.no_memory()),
+            Err(NotHeld) => Err(self.writer.no_memory()),
         }
     }
 

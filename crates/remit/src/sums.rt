@@ -1,22 +1,17 @@
 //! The sums over a journal's paid claims.
-ghost use Rattle.std.specs.Prelude.{◌≡◌, ◌≤◌, ◌<◌, ◌+◌, ◌^◌, pos, ◌+ℤ◌, length};
+ghost use Rattle.std.specs.Prelude.{◌≡◌, ◌≤◌, ◌<◌, ◌+◌, ◌^◌, pos, ◌+ℤ◌, [], ◌∷◌, length};
 ghost use Rattle.fixpoint.specs.Number.{greatest_units};
 ghost use Rattle.remit.specs.Decided.{paid_by, paid_in};
-ghost use Rattle.remit.specs.Looked.{AreGrown, AreSums, HaveRoom, sum_in};
+ghost use Rattle.remit.specs.Looked.{AreGrown, AreSums, HaveRoom};
 
-use crate::amount::Amount;
+use crate::amount::AMOUNTS;
 use journal::Event;
 use settlement::{Money, Outcome, Verdict};
 
-/// The sums of the amounts over paid claims, in units. No journal is so long that they leave 128 bits.
+/// The sums of the amounts over paid claims, in units, in the order of the amounts. No journal is so long that they leave 128 bits.
 #[derive(Clone, Copy, Debug, PartialEq, Eq)]
 pub struct Sums {
-    pub allowed: u128,
-    pub ded: u128,
-    pub copay: u128,
-    pub coins: u128,
-    pub share: u128,
-    pub paid: u128,
+    units: [u128; AMOUNTS.len()],
 }
 
 impl Sums {
@@ -25,12 +20,7 @@ impl Sums {
         ensures { AreSums journal.now (length journal.now) result }
     {
         let mut sums = Sums {
-            allowed: 0,
-            ded: 0,
-            copay: 0,
-            coins: 0,
-            share: 0,
-            paid: 0,
+            units: [0; AMOUNTS.len()],
         };
         for event in journal {
             sums = sums.with(event);
@@ -38,18 +28,11 @@ impl Sums {
         sums
     }
 
-    /// The sum of an amount.
-    pub fn of(self, amount: Amount) -> u128
-        ensures { result ≡ sum_in self amount }
+    /// The sums, one behind another.
+    pub fn as_slice(&self) -> &[u128]
+        ensures { result.now ≡ self.now.units }
     {
-        match amount {
-            Amount::Allowed => self.allowed,
-            Amount::Deductible => self.ded,
-            Amount::Copay => self.copay,
-            Amount::Coinsurance => self.coins,
-            Amount::Share => self.share,
-            Amount::Paid => self.paid,
-        }
+        &self.units
     }
 
     // With the amounts of what the event decides, if that is paid.
@@ -71,14 +54,19 @@ impl Sums {
         let Verdict::Paid = decision.verdict else {
             return self;
         };
-        Sums {
-            allowed: plus(self.allowed, decision.allowed),
-            ded: plus(self.ded, decision.ded),
-            copay: plus(self.copay, decision.copay),
-            coins: plus(self.coins, decision.coins),
-            share: plus(self.share, decision.share),
-            paid: plus(self.paid, decision.paid),
+        self.with_paid(decision)
+    }
+
+    // With the amounts of a paid claim's outcome.
+    fn with_paid(self, decision: &Outcome) -> Sums
+        requires { HaveRoom self }
+        ensures { AreGrown (decision.now ∷ []) self result }
+    {
+        let mut units = self.units;
+        for (place, amount) in AMOUNTS.iter().enumerate() {
+            units[place] = plus(units[place], amount.of(decision));
         }
+        Sums { units }
     }
 }
 

@@ -7,7 +7,7 @@ use dtable::{Sequence, read_plan};
 use feel_tests::{TEXT_LIMIT_BYTES, Text};
 use fixpoint::{Fixed, Out};
 use journal::{Decision, Event};
-use settlement::{Money, Outcome, Reason, Role, Verdict};
+use settlement::{Money, Outcome, Reason, Remarks, Role, Verdict};
 use std::alloc::{AllocError, Global};
 use std::io;
 use std::io::{ErrorKind, Write};
@@ -98,14 +98,14 @@ fn money(cents: i64) -> Money {
     }
 }
 
-fn texts(alloc: Global, remarks: &[&str]) -> Result<Sequence<Text>, AllocError> {
+fn remarks_of(alloc: Global, remarks: &[&str]) -> Result<Remarks, AllocError> {
     let mut texts = Sequence::new(alloc);
     for remark in remarks {
         if remark.len() <= TEXT_LIMIT_BYTES {
             texts.push(Text::new(alloc, remark)?)?;
         }
     }
-    Ok(texts)
+    Remarks::new(alloc, texts)
 }
 
 // The decision of a position: its verdict, its amounts in cents, and its remarks.
@@ -125,7 +125,7 @@ fn decide(
         coins: money(coins),
         share: money(share),
         paid: money(paid),
-        remarks: texts(alloc, remarks)?,
+        remarks: remarks_of(alloc, remarks)?,
     };
     match Decision::new(alloc, outcome) {
         Ok(outcome) => Ok(Event::Decide { position, outcome }),

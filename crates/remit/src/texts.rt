@@ -4,9 +4,8 @@ ghost use Rattle.fixpoint.specs.Money.{money_text};
 ghost use Rattle.settlement.specs.ReasonText.{reason_text};
 ghost use Rattle.remit.specs.Texts.{fault_text, remarks_text};
 
-use feel_tests::{Bytes, Text, append_joined};
 use intake_csv::{RowCause, RowFault};
-use settlement::Reason;
+use settlement::{Reason, Remarks};
 use std::alloc::{AllocError, Global};
 
 /// Why a claim is pended.
@@ -39,11 +38,11 @@ pub fn fault_text(alloc: Global, fault: RowFault) -> Result<String, AllocError>
 }
 
 /// The remarks, as they stand, with a semicolon between two of them.
-pub fn remarks_text(alloc: Global, remarks: &[Text]) -> Result<Vec<u8>, AllocError>
+pub fn remarks_text(alloc: Global, remarks: &Remarks) -> Result<Vec<u8>, AllocError>
     ensures { IfOk result (λ text. text.items ≡ remarks_text remarks.now) }
 {
     let mut text = Vec::new(alloc);
-    append_joined::<Text, Bytes>(&mut text, ";", remarks)?;
+    remarks.append_joined(&mut text, ";")?;
     Ok(text)
 }
 

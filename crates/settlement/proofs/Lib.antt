@@ -5,4 +5,5 @@ pub mod AllGiven
 pub mod Fields
 pub mod Outcomes
 pub mod Texts
+pub mod Remarked
 pub mod PlacedRoles

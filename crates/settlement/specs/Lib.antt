@@ -5,6 +5,7 @@ pub mod Given
 pub mod Reads
 pub mod Placed
 pub mod Roles
+pub mod Remarked
 pub mod Accumulators
 pub mod Accounts
 pub mod Settlement

@@ -18,6 +18,7 @@ use crate::money::Money;
 use crate::outcome::{Outcome, Reason};
 use crate::placed::{RolePlaces, role_places};
 use crate::terms::{is_covered, remarks, terms_of};
+use crate::vocabulary::Vocabulary;
 use dtable::{Env, Inputs, Roles, Sequence, Valuer};
 use std::alloc::{AllocError, Global};
 use std::marker::Model;
@@ -29,6 +30,7 @@ pub struct Adjudicator<'v, V: Valuer> {
     places: Sequence<usize>,
     inputs: Inputs,
     roles: RolePlaces,
+    vocabulary: Vocabulary,
 }
 
 impl<'v, V: Valuer> Model for Adjudicator<'v, V> {
@@ -52,11 +54,13 @@ impl<'v, V: Valuer> Adjudicator<'v, V> {
         let places = places_read(alloc, plan)?;
         let inputs = Inputs::new(alloc, plan)?;
         let roles = role_places(plan);
+        let vocabulary = Vocabulary::new(alloc, plan, roles.remarks)?;
         Ok(Adjudicator {
             valuer,
             places,
             inputs,
             roles,
+            vocabulary,
         })
     }
 
@@ -73,6 +77,7 @@ impl<'v, V: Valuer> Adjudicator<'v, V> {
             self.valuer,
             &self.inputs,
             &self.roles,
+            &self.vocabulary,
             claim.billed,
             acc,
         )?;
@@ -102,6 +107,7 @@ fn settled<V: Valuer>(
     valuer: &V,
     inputs: &Inputs,
     places: &RolePlaces,
+    vocabulary: &Vocabulary,
     billed: Money,
     acc: Acc,
 ) -> Result<Outcome, AllocError>
@@ -113,44 +119,44 @@ fn settled<V: Valuer>(
     let roles = valuer.plan().roles().unwrap();
     match valuer.value(alloc, inputs) {
         Ok(env) => {
-            let decided = by_roles(alloc, inputs, &env, roles, places, billed, acc)?;
+            let decided = by_roles(inputs, &env, roles, places, vocabulary, billed, &acc)?;
             Ok(decided)
         }
         Err(fault) => {
             let reason = Reason::of(fault).ok_or(AllocError)?;
-            Ok(Outcome::pended(alloc, reason))
+            Ok(Outcome::pended(reason))
         }
     }
 }
 
 // The outcome of a claim, over what the tables answer.
 fn by_roles(
-    alloc: Global,
     inputs: &Inputs,
     env: &Env,
     roles: &Roles,
     places: &RolePlaces,
+    vocabulary: &Vocabulary,
     billed: Money,
-    acc: Acc,
+    acc: &Acc,
 ) -> Result<Outcome, AllocError>
     requires { ArePlaced env.now.tables roles.now places.now }
-    ensures { IfOk result (λ decided. decided ≡ by_roles roles.now billed acc inputs.now env.now) }
+    ensures { IfOk result (λ decided. decided ≡ by_roles roles.now billed acc.now inputs.now env.now) }
 {
     if !is_covered(inputs, env, roles, places) {
-        return Ok(Outcome::denied(remarks(alloc, env, &roles.remarks, places.remarks)?));
+        let remarks = remarks(env, &roles.remarks, places.remarks, vocabulary)?;
+        return Ok(Outcome::denied(remarks));
     }
     let terms = match terms_of(inputs, env, roles, places) {
         Ok(terms) => terms,
-        Err(role) => return Ok(Outcome::pended(alloc, Reason::Term(role))),
+        Err(role) => return Ok(Outcome::pended(Reason::Term(role))),
     };
-    let amounts = amounts_of(billed, terms, acc);
+    let amounts = amounts_of(billed, terms, *acc);
+    let acc = *acc;
     if acc.plus(amounts.ded, amounts.share, amounts.paid).is_none() {
-        return Ok(Outcome::pended(alloc, Reason::Range { table: 0 }));
+        return Ok(Outcome::pended(Reason::Range { table: 0 }));
     }
-    Ok(Outcome::paid(
-        amounts,
-        remarks(alloc, env, &roles.remarks, places.remarks)?,
-    ))
+    let remarks = remarks(env, &roles.remarks, places.remarks, vocabulary)?;
+    Ok(Outcome::paid(amounts, remarks))
 }
 
 /// The accumulators after an outcome, where each is in the number range. After a settlement's outcome each is.

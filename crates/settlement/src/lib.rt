@@ -19,10 +19,12 @@ mod money;
 mod outcome;
 mod placed;
 mod rate;
+mod remarks;
 mod role;
 mod terms;
 #[cfg(test)]
 mod tests;
+mod vocabulary;
 
 pub use acc::Acc;
 pub use account::{Balance, account_year};
@@ -30,4 +32,5 @@ pub use claim::{Claim, fields_of};
 pub use deciding::{Adjudicator, after, decide};
 pub use money::Money;
 pub use outcome::{Outcome, Reason, Verdict};
+pub use remarks::Remarks;
 pub use role::Role;

@@ -5,10 +5,9 @@ ghost use Rattle.settlement.specs.Settlement.{paid, unpaid, pended, denied, reas
 
 use crate::amounts::Amounts;
 use crate::money::Money;
+use crate::remarks::Remarks;
 use crate::role::Role;
-use dtable::{Fault, Sequence};
-use feel_tests::Text;
-use std::alloc::Global;
+use dtable::Fault;
 
 /// What is done with a claim.
 #[derive(Clone, Copy, Debug, PartialEq, Eq, Drop)]
@@ -53,12 +52,12 @@ pub struct Outcome {
     /// What the plan pays.
     pub paid: Money,
     /// What the plan's tables remark on; a pended claim has none.
-    pub remarks: Sequence<Text>,
+    pub remarks: Remarks,
 }
 
 impl Outcome {
     /// A claim that is paid.
-    pub(crate) fn paid(amounts: Amounts, remarks: Sequence<Text>) -> Outcome
+    pub(crate) fn paid(amounts: Amounts, remarks: Remarks) -> Outcome
         ensures { result ≡ paid amounts remarks }
     {
         Outcome {
@@ -74,21 +73,21 @@ impl Outcome {
     }
 
     /// A claim that is denied.
-    pub(crate) fn denied(remarks: Sequence<Text>) -> Outcome
+    pub(crate) fn denied(remarks: Remarks) -> Outcome
         ensures { result ≡ denied remarks }
     {
         unpaid(Verdict::Denied, remarks)
     }
 
     /// A claim that waits.
-    pub(crate) fn pended(alloc: Global, reason: Reason) -> Outcome
+    pub(crate) fn pended(reason: Reason) -> Outcome
         ensures { result ≡ pended reason }
     {
-        unpaid(Verdict::Pended(reason), Sequence::new(alloc))
+        unpaid(Verdict::Pended(reason), Remarks::none())
     }
 }
 
-fn unpaid(verdict: Verdict, remarks: Sequence<Text>) -> Outcome
+fn unpaid(verdict: Verdict, remarks: Remarks) -> Outcome
     ensures { result ≡ unpaid verdict remarks }
 {
     Outcome {

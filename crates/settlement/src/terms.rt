@@ -1,5 +1,5 @@
 //! What a plan's roles say of a claim.
-ghost use Rattle.std.specs.Prelude.{◌≡◌, IfOk};
+ghost use Rattle.std.specs.Prelude.{◌≡◌, Some, slice_get, IfOk, IsTrue};
 ghost use Rattle.std.specs.List.{filter_map};
 ghost use Rattle.std.specs.Option.{option_and_then, option_copied};
 ghost use Rattle.fixpoint.specs.Money.{is_money, is_rate};
@@ -10,7 +10,9 @@ ghost use Rattle.settlement.specs.Roles.{value_of, is_true_flag, units_where, te
 use crate::money::Money;
 use crate::placed::RolePlaces;
 use crate::rate::Rate;
+use crate::remarks::Remarks;
 use crate::role::Role;
+use crate::vocabulary::Vocabulary;
 use dtable::{Answer, Env, Inputs, Name, OutputPlace, Roles, Sequence, Source};
 use feel_tests::{Text, Value};
 use std::alloc::{AllocError, Global};
@@ -64,32 +66,72 @@ pub fn terms_of(
     })
 }
 
-/// The remarks of the tables' output of this name, which stands at the place, if the plan names one.
+/// The remarks of the tables' output of this name, which stands at the place, if the plan names one. Those of the
+/// vocabulary's words cost no copy of a text.
 pub fn remarks(
-    alloc: Global,
     env: &Env,
     name: &Option<Name>,
     place: Option<OutputPlace>,
-) -> Result<Sequence<Text>, AllocError>
+    vocabulary: &Vocabulary,
+) -> Result<Remarks, AllocError>
     requires { AreRemarksPlaced env.now.tables name.now place }
     ensures { IfOk result (λ remarks. remarks ≡ remarks_of env.now name.now) }
 {
     match name {
-        Some(_) => texts(alloc, answered(env, place)),
-        None => Ok(Sequence::new(alloc)),
+        Some(_) => texts(answered(env, place), vocabulary),
+        None => Ok(Remarks::none()),
     }
 }
 
-fn texts(alloc: Global, answer: Option<&Answer>) -> Result<Sequence<Text>, AllocError>
+fn texts(answer: Option<&Answer>, vocabulary: &Vocabulary) -> Result<Remarks, AllocError>
     ensures { IfOk result (λ texts. texts ≡ texts_of (option_copied answer.entry)) }
 {
     match answer {
-        Some(Answer::Many(values)) => texts_in(alloc, values.as_slice()),
-        _ => Ok(Sequence::new(alloc)),
+        Some(Answer::Many(values)) => texts_in(values.as_slice(), vocabulary),
+        _ => Ok(Remarks::none()),
     }
 }
 
-fn texts_in(alloc: Global, values: &[Value]) -> Result<Sequence<Text>, AllocError>
+// The texts by the vocabulary; it is asked whether they are, and where not, they are copied.
+fn texts_in(values: &[Value], vocabulary: &Vocabulary) -> Result<Remarks, AllocError>
+    ensures { IfOk result (λ texts. texts ≡ filter_map text_of values.now) }
+{
+    let found = vocabulary.look_up(values)?;
+    if are_texts_of(&found, values) {
+        return Ok(found);
+    }
+    let alloc = vocabulary.alloc();
+    Remarks::new(alloc, copies_of(alloc, values)?)
+}
+
+// Whether the remarks are the texts among the values.
+fn are_texts_of(remarks: &Remarks, values: &[Value]) -> bool
+    ensures { IsTrue result → remarks.now ≡ filter_map text_of values.now }
+{
+    let count = remarks.len();
+    let mut compared = 0;
+    for value in values {
+        if let Some(text) = text_of(value) {
+            if !is_at(remarks, compared, text) {
+                return false;
+            }
+            compared += 1;
+        }
+    }
+    compared == count
+}
+
+fn is_at(remarks: &Remarks, place: usize, text: &Text) -> bool
+    ensures { IsTrue result → slice_get remarks.now place ≡ Some text.now }
+{
+    match remarks.get(place) {
+        Some(remark) => remark == text.as_str(),
+        None => false,
+    }
+}
+
+// Copies of the texts among the values.
+fn copies_of(alloc: Global, values: &[Value]) -> Result<Sequence<Text>, AllocError>
     ensures { IfOk result (λ texts. texts ≡ filter_map text_of values.now) }
 {
     let mut texts = Sequence::new(alloc);
@@ -101,7 +143,8 @@ fn texts_in(alloc: Global, values: &[Value]) -> Result<Sequence<Text>, AllocErro
     Ok(texts)
 }
 
-fn text_of(value: &Value) -> Option<&Text>
+/// The text that a value is, if it is one.
+pub fn text_of(value: &Value) -> Option<&Text>
     ensures { option_copied result ≡ text_of value.now }
 {
     match value {

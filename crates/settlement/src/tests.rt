@@ -4,7 +4,9 @@ ghost use Rattle.std.specs.Prelude.{◌≡◌};
 mod examples;
 mod plans;
 
-use crate::{Acc, Adjudicator, Claim, Money, Outcome, Role, Verdict, after, decide, fields_of};
+use crate::{
+    Acc, Adjudicator, Claim, Money, Outcome, Remarks, Role, Verdict, after, decide, fields_of,
+};
 use dtable::{Plan, PlanFault, Sequence, read_plan};
 use examples::{
     BEFORE_CAPPED, BEHIND_A_PENDED, CAPPED, Example, FIRST, MOST, NAMING, PAID, RATES, SCORED,
@@ -115,8 +117,10 @@ fn told(alloc: Global, outcome: &Outcome, before: Acc) -> Result<String, AllocEr
     let mut told = String::new(alloc);
     write!(told, "{:?}", outcome.verdict)?;
     tell_amounts(&mut told, outcome)?;
-    for remark in &outcome.remarks {
-        write!(told, " {}", remark.as_str())?;
+    for place in 0..outcome.remarks.len() {
+        if let Some(remark) = outcome.remarks.get(place) {
+            write!(told, " {remark}")?;
+        }
     }
     tell_left(&mut told, after(before, outcome))?;
     Ok(told)
@@ -304,7 +308,7 @@ fn a_claim_is_copied_or_no_memory(rt: HostRuntime) {
     }
 }
 
-fn some_paid(rt: &impl Abort, alloc: Global) -> Outcome {
+fn some_paid(rt: &impl Abort) -> Outcome {
     Outcome {
         verdict: Verdict::Paid,
         allowed: money(rt, 900),
@@ -313,7 +317,7 @@ fn some_paid(rt: &impl Abort, alloc: Global) -> Outcome {
         coins: money(rt, 700),
         share: money(rt, 200),
         paid: money(rt, 300),
-        remarks: Sequence::new(alloc),
+        remarks: Remarks::none(),
     }
 }
 
@@ -344,11 +348,18 @@ fn leaves(
 
 #[test]
 fn accumulators_leave_the_range_one_by_one(rt: HostRuntime) {
-    let outcome = some_paid(&rt, rt.alloc());
+    let outcome = some_paid(&rt);
     for (before, wanted) in &ADDED {
         let before = acc(&rt, *before);
         assert!(rt; leaves(&rt, rt.alloc(), &outcome, before, wanted).is_ok());
     }
+}
+
+fn may_cross_threads<T: Send + Sync>(_value: &T) {}
+
+#[test]
+fn an_outcome_may_cross_threads(rt: HostRuntime) {
+    may_cross_threads(&some_paid(&rt));
 }
 
 // The claim has the fields of its plan, and not those of another, which has more.

@@ -1,293 +1,201 @@
-//! The printed text: table by table its overlaps, and its gaps or that it is wide; last the counts. Of overlaps and gaps all
-//! are told, or those that are faults.
+//! The printed text of what is told, put piece by piece: table by table its overlaps, and its gaps or that it is wide; last
+//! the counts.
 
-ghost use Rattle.std.specs.Prelude.{◌≡◌, ◌+◌, ◌<◌, ◌^◌, ◌++◌, IfOk, OnOk, codes, decimal, filter, flat_map, length};
-ghost use Rattle.std.specs.List.{join_by};
-ghost use Rattle.cutplan.specs.Numbered.{IsTableNumber};
-ghost use Rattle.adjudicate.specs.CheckText.{counts_line, gap_line, overlap_line, region_text, rules_text, wide_line, wide_lines};
-ghost use Rattle.harm.specs.Harm.{overlap_harms};
-ghost use Rattle.adjudicate.specs.Telling.{gaps_in, overlaps_in, table_lines, tells_gaps, text_in};
+ghost use Rattle.std.specs.Prelude.{◌≡◌, ◌+◌, ◌<◌, ◌^◌, ◌++◌, IfOk, codes, decimal, flat_map, length};
+ghost use Rattle.std.specs.Bool.{OnTrue};
+ghost use Rattle.fixpoint.specs.Out.{has_failed, writer_of};
+ghost use Rattle.adjudicate.specs.CheckText.{counts_line, overlap_line, rules_text, wide_line};
+ghost use Rattle.adjudicate.specs.Pieces.{EndsText, Puts, at, greatest_count, starting};
+ghost use Rattle.adjudicate.specs.Telling.{text_in};
+ghost use Rattle.adjudicate.specs.Told.{cell_text, told_gap_line, told_lines, told_table_lines, told_text, told_wide_lines};
 
-use cutplan::{CheckFault, CutPlan, Region, compile};
-use dtable::{Plan, Sequence, Valuer};
-use feel_tests::{Literals, Spelling, Value, append_joined};
-use harm::{is_gap_harmful, is_overlap_harmful};
+use super::pieces::Pieces;
+use super::told::{ColumnText, Telling, ToldPlan, ToldTable, told_plan};
+use dtable::Plan;
+use fixpoint::{Cut, Out};
 use itoa::Buffer;
 use std::alloc::{AllocError, Global};
+use std::io::{Write, sink};
 
-/// Which gaps and overlaps are told.
-#[derive(Clone, Copy, Debug)]
-pub enum Telling {
-    /// All.
-    All,
-    /// Those that are faults where they are met.
-    Harmful,
-}
-
-/// The lines of a plan's check.
-pub fn check_text(alloc: Global, plan: &Plan, telling: Telling) -> Result<Vec<u8>, AllocError>
-    ensures { IfOk result (λ text. text.items ≡ text_in telling plan.now) }
+/// Checks a plan, whose text has fewer bytes than a count can tell. No text has as many; that is refused here, so that the
+/// count of a write fault is exact.
+pub fn checked(alloc: Global, plan: &Plan, telling: Telling) -> Result<ToldPlan, AllocError>
+    ensures text { IfOk result (λ told. told_text told ≡ text_in telling plan.now) }
+    ensures counted { IfOk result (λ told. length (told_text told) < greatest_count) }
 {
-    let cut_plan = compile(alloc, plan)?;
-    let mut text = Vec::new(alloc);
-    let mut told = Told {
-        gaps: 0,
-        overlaps: 0,
-    };
-    for place in 0..plan.tables().len() {
-        let more = append_table(alloc, &mut text, &cut_plan, place + 1, telling)?;
-        told.add(&more);
+    let told = told_plan(alloc, plan, telling)?;
+    if !is_counted(alloc, &told) {
+        return Err(AllocError);
     }
-    append_counts(&mut text, told.gaps, told.overlaps)?;
-    Ok(text)
+    Ok(told)
 }
 
-/// How many gaps and overlaps are told.
-#[derive(Debug, Drop)]
-struct Told {
-    gaps: usize,
-    overlaps: usize,
+// Whether the text has fewer bytes than a count can tell. It is put to nobody for that.
+fn is_counted(alloc: Global, told: &ToldPlan) -> bool
+    ensures { OnTrue result (length (told_text told.now) < greatest_count) }
+{
+    match put_told(alloc, told, &mut Out::new(sink())) {
+        Ok(count) => count < usize::MAX,
+        Err(_) => false,
+    }
 }
 
-impl Told {
-    // Adds what is told of one table more.
-    fn add(&mut self, more: &Told)
-        requires few_gaps { self.old.gaps + more.now.gaps < 2 ^ 64 }
-        requires few_overlaps { self.old.overlaps + more.now.overlaps < 2 ^ 64 }
-        ensures gaps { self.new.gaps ≡ self.old.gaps + more.now.gaps }
-        ensures overlaps { self.new.overlaps ≡ self.old.overlaps + more.now.overlaps }
-    {
-        self.gaps += more.gaps;
-        self.overlaps += more.overlaps;
+/// Writes the text of what is told, and returns how many bytes it has, or the greatest number where there are more.
+pub fn put_told<W: Write>(alloc: Global, told: &ToldPlan, out: &mut Out<W>) -> Result<usize, Cut>
+    ensures { EndsText (starting (W.contents (writer_of out.old)) (has_failed out.old)) (told_text told.now)
+        (W.contents (writer_of out.new)) (has_failed out.new) result }
+{
+    let mut pieces = Pieces::new(alloc);
+    put_tables(1, told.tables.as_slice(), &mut pieces, out);
+    put_counts(told.gaps, told.overlaps, &mut pieces, out);
+    pieces.end(out)
+}
+
+// The lines of these tables, of which the first has this number.
+fn put_tables<W: Write>(number: usize, tables: &[ToldTable], pieces: &mut Pieces, out: &mut Out<W>)
+    requires { number + length tables.now < 2 ^ 64 }
+    ensures { Puts (at (W.contents (writer_of out.old)) (has_failed out.old) pieces.old)
+        (at (W.contents (writer_of out.new)) (has_failed out.new) pieces.new) (told_lines number tables.now) }
+{
+    match tables.split_first() {
+        Some((table, more)) => {
+            put_table(number, table, pieces, out);
+            put_tables(number + 1, more, pieces, out);
+        }
+        None => {}
     }
 }
 
 // The lines of the table with this number.
-fn append_table(
-    alloc: Global,
-    text: &mut Vec<u8>,
-    plan: &CutPlan<'_>,
-    table: usize,
-    telling: Telling,
-) -> Result<Told, AllocError>
-    requires { IsTableNumber plan.now table }
-    ensures text { OnOk result (text.new.items ≡ text.old.items ++ table_lines telling plan.now table) }
-    ensures gaps { IfOk result (λ told. told.gaps ≡ length (gaps_in telling plan.now table)) }
-    ensures overlaps { IfOk result (λ told. told.overlaps ≡ length (overlaps_in telling plan.now table)) }
+fn put_table<W: Write>(number: usize, table: &ToldTable, pieces: &mut Pieces, out: &mut Out<W>)
+    ensures { Puts (at (W.contents (writer_of out.old)) (has_failed out.old) pieces.old)
+        (at (W.contents (writer_of out.new)) (has_failed out.new) pieces.new) (told_table_lines number table.now) }
 {
-    let overlaps = told_overlaps(alloc, plan, table, telling)?;
-    append_overlaps(text, table, overlaps.as_slice())?;
-    let gaps = append_gaps(alloc, text, plan, table, telling)?;
-    Ok(Told {
-        gaps,
-        overlaps: overlaps.len(),
-    })
+    put_overlaps(number, table.overlaps.as_slice(), pieces, out);
+    put_wide(number, table.is_wide, pieces, out);
+    put_gaps(
+        number,
+        table.columns.as_slice(),
+        table.gaps.as_slice(),
+        pieces,
+        out,
+    );
 }
 
-// The overlaps that are told of a table, in order.
-fn told_overlaps(
-    alloc: Global,
-    plan: &CutPlan<'_>,
-    table: usize,
-    telling: Telling,
-) -> Result<Vec<(usize, usize)>, AllocError>
-    requires { IsTableNumber plan.now table }
-    ensures { IfOk result (λ found. found.items ≡ overlaps_in telling plan.now table) }
-{
-    let overlaps = plan.overlaps(alloc, table)?;
-    match telling {
-        Telling::All => Ok(overlaps),
-        Telling::Harmful => harmful(alloc, plan.plan(), table, overlaps.as_slice()),
-    }
-}
-
-// Those of these overlaps of a table that are harmful.
-fn harmful(
-    alloc: Global,
-    plan: &Plan,
+// A line for each of these overlaps of a table, in order.
+fn put_overlaps<W: Write>(
     table: usize,
     overlaps: &[(usize, usize)],
-) -> Result<Vec<(usize, usize)>, AllocError>
-    requires { IsTableNumber plan.now table }
-    ensures { IfOk result (λ found. found.items ≡ filter (λ rules. overlap_harms plan.now table rules.0 rules.1) overlaps.now) }
-{
-    let mut found = Vec::new(alloc);
-    for rules in overlaps {
-        if is_overlap_harmful(plan, table, rules.0, rules.1) {
-            found.push(*rules)?;
-        }
-    }
-    Ok(found)
-}
-
-// A line for each overlap of a table, in order.
-fn append_overlaps(
-    text: &mut Vec<u8>,
-    table: usize,
-    overlaps: &[(usize, usize)],
-) -> Result<(), AllocError>
-    ensures { OnOk result (text.new.items ≡ text.old.items ++ flat_map (overlap_line table) overlaps.now) }
+    pieces: &mut Pieces,
+    out: &mut Out<W>,
+)
+    ensures { Puts (at (W.contents (writer_of out.old)) (has_failed out.old) pieces.old)
+        (at (W.contents (writer_of out.new)) (has_failed out.new) pieces.new) (flat_map (overlap_line table) overlaps.now) }
 {
     for rules in overlaps {
-        append_overlap(text, table, rules.0, rules.1)?;
+        put_overlap(table, rules.0, rules.1, pieces, out);
     }
-    Ok(())
 }
 
 // `overlap table T: rules I J`, and the end of the line.
-fn append_overlap(
-    text: &mut Vec<u8>,
+fn put_overlap<W: Write>(
     table: usize,
     first: usize,
     second: usize,
-) -> Result<(), AllocError>
-    ensures { OnOk result (text.new.items ≡ text.old.items ++ overlap_line table (first, second)) }
+    pieces: &mut Pieces,
+    out: &mut Out<W>,
+)
+    ensures { Puts (at (W.contents (writer_of out.old)) (has_failed out.old) pieces.old)
+        (at (W.contents (writer_of out.new)) (has_failed out.new) pieces.new) (overlap_line table (first, second)) }
 {
-    append_numbered(text, "overlap table ", table)?;
-    append_rules(text, first, second)
+    put_numbered("overlap table ", table, pieces, out);
+    put_rules(first, second, pieces, out);
 }
 
 // `: rules I J`, and the end of the line.
-fn append_rules(text: &mut Vec<u8>, first: usize, second: usize) -> Result<(), AllocError>
-    ensures { OnOk result (text.new.items ≡ text.old.items ++ rules_text (first, second)) }
+fn put_rules<W: Write>(first: usize, second: usize, pieces: &mut Pieces, out: &mut Out<W>)
+    ensures { Puts (at (W.contents (writer_of out.old)) (has_failed out.old) pieces.old)
+        (at (W.contents (writer_of out.new)) (has_failed out.new) pieces.new) (rules_text (first, second)) }
 {
-    append_numbered(text, ": rules ", first)?;
-    append_numbered(text, " ", second)?;
-    text.extend_from_slice(b"\n")
+    put_numbered(": rules ", first, pieces, out);
+    put_numbered(" ", second, pieces, out);
+    pieces.put(b"\n", out);
 }
 
-// The lines of a table's gaps, in order, or that it is wide; and how many gaps are told.
-fn append_gaps(
-    alloc: Global,
-    text: &mut Vec<u8>,
-    plan: &CutPlan<'_>,
+// `wide table T`, and the end of the line, if it is wide.
+fn put_wide<W: Write>(table: usize, is_wide: bool, pieces: &mut Pieces, out: &mut Out<W>)
+    ensures { Puts (at (W.contents (writer_of out.old)) (has_failed out.old) pieces.old)
+        (at (W.contents (writer_of out.new)) (has_failed out.new) pieces.new) (told_wide_lines table is_wide) }
+{
+    if is_wide {
+        put_numbered("wide table ", table, pieces, out);
+        pieces.put(b"\n", out);
+    }
+}
+
+// A line for each of these gaps of a table, in order.
+fn put_gaps<W: Write>(
     table: usize,
-    telling: Telling,
-) -> Result<usize, AllocError>
-    requires { IsTableNumber plan.now table }
-    ensures text { OnOk result (text.new.items ≡ text.old.items ++ (wide_lines plan.now table ++ flat_map (gap_line table) (gaps_in telling plan.now table))) }
-    ensures count { IfOk result (λ count. count ≡ length (gaps_in telling plan.now table)) }
+    columns: &[ColumnText],
+    gaps: &[u32],
+    pieces: &mut Pieces,
+    out: &mut Out<W>,
+)
+    ensures { Puts (at (W.contents (writer_of out.old)) (has_failed out.old) pieces.old)
+        (at (W.contents (writer_of out.new)) (has_failed out.new) pieces.new) (flat_map (told_gap_line table columns.now) gaps.now) }
 {
-    match plan.gaps(alloc, table) {
-        Ok(gaps) => {
-            if !tells_gaps(plan.plan(), table, telling) {
-                return Ok(0);
-            }
-            append_cells(text, table, gaps.as_slice())?;
-            Ok(gaps.len())
-        }
-        Err(CheckFault::TooWide) => {
-            append_wide(text, table)?;
-            Ok(0)
-        }
-        Err(CheckFault::OutOfMemory) => Err(AllocError),
+    for place in gaps {
+        put_gap(table, columns, *place as usize, pieces, out);
     }
-}
-
-// Whether the gaps of a table are told.
-fn tells_gaps(plan: &Plan, table: usize, telling: Telling) -> bool
-    requires { IsTableNumber plan.now table }
-    ensures { result ≡ tells_gaps telling plan.now table }
-{
-    match telling {
-        Telling::All => true,
-        Telling::Harmful => is_gap_harmful(plan, table),
-    }
-}
-
-// A line for each of these gaps, in order.
-fn append_cells(
-    text: &mut Vec<u8>,
-    table: usize,
-    gaps: &[Sequence<Region>],
-) -> Result<(), AllocError>
-    ensures { OnOk result (text.new.items ≡ text.old.items ++ flat_map (gap_line table) gaps.now) }
-{
-    for gap in gaps {
-        append_gap(text, table, gap.as_slice())?;
-    }
-    Ok(())
 }
 
 // `gap table T: `, the region of each column, and the end of the line.
-fn append_gap(text: &mut Vec<u8>, table: usize, regions: &[Region]) -> Result<(), AllocError>
-    ensures { OnOk result (text.new.items ≡ text.old.items ++ gap_line table regions.now) }
+fn put_gap<W: Write>(
+    table: usize,
+    columns: &[ColumnText],
+    place: usize,
+    pieces: &mut Pieces,
+    out: &mut Out<W>,
+)
+    ensures { Puts (at (W.contents (writer_of out.old)) (has_failed out.old) pieces.old)
+        (at (W.contents (writer_of out.new)) (has_failed out.new) pieces.new) (told_gap_line table columns.now place) }
 {
-    append_numbered(text, "gap table ", table)?;
-    text.extend_from_slice(b": ")?;
-    append_regions(text, regions)?;
-    text.extend_from_slice(b"\n")
+    put_numbered("gap table ", table, pieces, out);
+    pieces.put(b": ", out);
+    put_cell(columns, place, pieces, out);
+    pieces.put(b"\n", out);
 }
 
-// `wide table T`, and the end of the line.
-fn append_wide(text: &mut Vec<u8>, table: usize) -> Result<(), AllocError>
-    ensures { OnOk result (text.new.items ≡ text.old.items ++ wide_line table) }
+// The regions of the cell at this place among those of the columns.
+fn put_cell<W: Write>(columns: &[ColumnText], place: usize, pieces: &mut Pieces, out: &mut Out<W>)
+    ensures { Puts (at (W.contents (writer_of out.old)) (has_failed out.old) pieces.old)
+        (at (W.contents (writer_of out.new)) (has_failed out.new) pieces.new) (cell_text columns.now place) }
 {
-    append_numbered(text, "wide table ", table)?;
-    text.extend_from_slice(b"\n")
+    match columns.split_first() {
+        Some((column, more)) => {
+            let behind = column.behind.max(1);
+            pieces.put(column.region(place / behind), out);
+            put_cell(more, place % behind, pieces, out);
+        }
+        None => {}
+    }
 }
 
 // `gaps G overlaps O`, and the end of the line.
-fn append_counts(text: &mut Vec<u8>, gaps: usize, overlaps: usize) -> Result<(), AllocError>
-    ensures { OnOk result (text.new.items ≡ text.old.items ++ counts_line gaps overlaps) }
+fn put_counts<W: Write>(gaps: usize, overlaps: usize, pieces: &mut Pieces, out: &mut Out<W>)
+    ensures { Puts (at (W.contents (writer_of out.old)) (has_failed out.old) pieces.old)
+        (at (W.contents (writer_of out.new)) (has_failed out.new) pieces.new) (counts_line gaps overlaps) }
 {
-    append_numbered(text, "gaps ", gaps)?;
-    append_numbered(text, " overlaps ", overlaps)?;
-    text.extend_from_slice(b"\n")
-}
-
-// The regions of a cell, with ` ; ` between two of them.
-fn append_regions(text: &mut Vec<u8>, regions: &[Region]) -> Result<(), AllocError>
-    ensures { OnOk result (text.new.items ≡ text.old.items ++ join_by region_text (codes " ; ") regions.now) }
-{
-    append_joined::<Region, Regions>(text, " ; ", regions)
-}
-
-// Regions as they are printed.
-struct Regions;
-
-impl Spelling<Region> for Regions {
-    ghost text_of = { region_text };
-
-    fn append(text: &mut Vec<u8>, item: &Region) -> Result<(), AllocError> {
-        append_region(text, item)
-    }
-}
-
-// The text of a region: which values it has.
-fn append_region(text: &mut Vec<u8>, region: &Region) -> Result<(), AllocError>
-    ensures { OnOk result (text.new.items ≡ text.old.items ++ region_text region.now) }
-{
-    match region {
-        Region::Below(cut) => {
-            text.extend_from_slice(b"<")?;
-            cut.write_text(text)
-        }
-        Region::At(value) => value.write_text(text),
-        Region::Between(low, high) => {
-            text.extend_from_slice(b"]")?;
-            low.write_text(text)?;
-            text.extend_from_slice(b"..")?;
-            high.write_text(text)?;
-            text.extend_from_slice(b"[")
-        }
-        Region::Above(cut) => {
-            text.extend_from_slice(b">")?;
-            cut.write_text(text)
-        }
-        Region::Other(names) => {
-            text.extend_from_slice(b"not(")?;
-            append_joined::<Value, Literals>(text, ",", names.as_slice())?;
-            text.extend_from_slice(b")")
-        }
-        Region::Every => text.extend_from_slice(b"-"),
-    }
+    put_numbered("gaps ", gaps, pieces, out);
+    put_numbered(" overlaps ", overlaps, pieces, out);
+    pieces.put(b"\n", out);
 }
 
 // Some words, and a number's decimal digits.
-fn append_numbered(text: &mut Vec<u8>, words: &str, number: usize) -> Result<(), AllocError>
-    ensures { OnOk result (text.new.items ≡ text.old.items ++ (words.now ++ decimal number)) }
+fn put_numbered<W: Write>(words: &str, number: usize, pieces: &mut Pieces, out: &mut Out<W>)
+    ensures { Puts (at (W.contents (writer_of out.old)) (has_failed out.old) pieces.old)
+        (at (W.contents (writer_of out.new)) (has_failed out.new) pieces.new) (words.now ++ decimal number) }
 {
-    text.extend_from_slice(words.as_bytes())?;
-    text.extend_from_slice(Buffer::new().format(number).as_bytes())
+    pieces.put(words.as_bytes(), out);
+    pieces.put(Buffer::new().format(number).as_bytes(), out);
 }

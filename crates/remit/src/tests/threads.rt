@@ -1,5 +1,6 @@
 //! Reports whose records become text by threads: the same bytes as one thread's, and the same answers.
 use super::{ACCEPTS, Bounded, DECISIONS, is_cut_at, journal_of, whole_or_front};
+use crate::held_text::HeldText;
 use crate::report::write_journal_by_threads;
 use crate::{WriteFault, write_report_by_threads};
 use claim_gate::{Batch, GateState};
@@ -101,4 +102,13 @@ fn a_report_by_threads_or_no_memory(rt: HostRuntime) {
     let mut out = Out::new(Vec::new(alloc));
     let answer = write_by_threads(&rt, alloc, journal.as_slice(), &mut out);
     assert!(rt; whole_or_front(answer, out.into_inner().as_slice(), remittance().as_bytes()));
+}
+
+#[test]
+fn a_text_is_held_up_to_its_limit(rt: HostRuntime) {
+    let mut held = HeldText::new(rt.alloc(), 3);
+    assert!(rt; matches!(held.write(b"ab"), Ok(2)));
+    assert!(rt; held.write(b"cd").is_err());
+    assert!(rt; matches!(held.write(b"c"), Ok(1)));
+    assert!(rt; held.into_text().as_slice() == b"abc");
 }

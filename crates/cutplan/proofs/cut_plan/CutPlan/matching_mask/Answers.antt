@@ -20,7 +20,7 @@ matching_mask-requires-clause-masks c =
     let kept_at : slice_get c.self.inside.masks place ≡ Some kept = ap (λ xs. slice_get xs place) (sym c.as_slice-2.ensures) ∙ found_at c.as_slice-2.result.now place kept masks.0 masks.1 in
     let few = few_of p.tables place t c.self.invariant.cut.few at in
     let are = masks_kept p c.self.inside.regions c.self.inside.masks place t rs kept c.self.invariant.cut at rs_at kept_at few in
-    subst (λ x. AreTableMasks t x c.as_slice-4.result.now) (sym c.as_slice-3.ensures) (subst (λ y. AreTableMasks t rs y) (sym c.as_slice-4.ensures) are)
+    subst (λ x. AreTableMasks t x c.as_slice-5.result.now) (sym c.as_slice-4.ensures) (subst (λ y. AreTableMasks t rs y) (sym c.as_slice-5.ensures) are)
 
 pub matching_mask-requires-clause-few : goal.matching_mask-requires-clause-few
 matching_mask-requires-clause-few c =

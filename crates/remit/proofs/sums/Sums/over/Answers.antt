@@ -1,5 +1,10 @@
-use Rattle.remit.proofs.Adding.{sums-next}
+use Rattle.std.proofs.Common.{take, arith}
+use Rattle.remit.proofs.Adding.{sums-next, sums-room}
 use Rattle.remit.proofs.sums.Sums.over.Goals as goal
+
+pub with-sums-requires : goal.with-sums-requires
+with-sums-requires c =
+    sums-room (take c.loop-event.event-index c.args.journal.now) c.loop-event.event-index c.loop-event.sums (omega (arith, c.loop-event-test.true)) c.loop-event.invariant
 
 pub loop-event-preserved : goal.loop-event-preserved
 loop-event-preserved c =

@@ -1,0 +1,211 @@
+-- What a writer has got of a text that is put in pieces, and what is gathered of it.
+use Rattle.std.proofs.Common.{◌≡◌, ℕ, zero, suc, ◌+◌, ◌-◌, ◌/◌, ◌%◌, ◌^◌, ◌<◌, ◌≤◌, inl, inr, Bool, true, false, List, [], ◌∷◌, ◌++◌, length, get_or, take, drop, max, min, cond, Option, Some, None, Result, Ok, Err, IfErr, IfOk, OnOk, OnErr, codes, decimal, refl, ap, ap₂, sym, subst, ◌∙◌, append_assoc, append-nil, take-append-drop, length-append, length-take-le, length-drop, arith}
+use Rattle.std.specs.Prelude.{nat_lt}
+use Rattle.std.specs.Bool.{OnTrue}
+use Rattle.std.specs.List.{flat_map}
+use Rattle.std.proofs.lemmas.Bool.{cases_lt, le-ltb, lt-ltb}
+use Rattle.std.proofs.lemmas.List.{take_all}
+use Rattle.std.specs.Io.KnownBytes.{Appends}
+use Rattle.std.proofs.KnownBytes.{Appends-trans}
+use Rattle.fixpoint.specs.Out.{PutsFront}
+use Rattle.fixpoint.specs.declared.whole_text.Cut.{Cut}
+use Rattle.adjudicate.specs.declared.check.pieces.Pieces.{Pieces}
+use Rattle.adjudicate.specs.declared.check.pieces.Progress.{Progress}
+use Rattle.adjudicate.specs.Pieces.{At, AtProgress, Ends, EndsText, Gone, GoneBy, Holds, IsCutAt, IsEmpty, IsGone, Passes, Puts, Start, at, at_progress, greatest_count, starting}
+use Rattle.adjudicate.specs.declared.check.told.ColumnText.{ColumnText}
+use Rattle.adjudicate.specs.declared.check.told.ToldTable.{ToldTable}
+use Rattle.adjudicate.specs.CheckText.{wide_line}
+use Rattle.adjudicate.specs.Told.{cell_text, told_lines, told_table_lines, told_wide_lines}
+use Rattle.adjudicate.proofs.TableLines.{flat_more}
+
+-- nothing is appended
+appends-none : (contents : Option (List ℕ)) → Appends contents contents []
+appends-none None = tt
+appends-none (Some bytes) = sym (append-nil bytes)
+
+-- nothing is put
+pub puts-none : (a : At) → Puts a a []
+puts-none a start text h = subst (λ t. Holds start t a) (sym (append-nil text)) h
+
+-- one text is put, and then another
+pub puts-then : (a b c : At) (one other : List ℕ) → Puts a b one → Puts b c other → Puts a c (one ++ other)
+puts-then a b c one other first second start text h = subst (λ t. Holds start t c) (append_assoc text one other) (second start (text ++ one) (first start text h))
+
+-- three texts
+pub puts-three : (a b c d : At) (one other last : List ℕ) → Puts a b one → Puts b c other → Puts c d last → Puts a d (one ++ (other ++ last))
+puts-three a b c d one other last first second third = puts-then a b d one (other ++ last) first (puts-then b c d other last second third)
+
+-- the lines of one item more
+pub puts-more : {X : Type 0} (line : X → List ℕ) (xs : List X) (i : ℕ) (d : X) (a b c : At) → i < length xs → Puts a b (flat_map line (take i xs)) → Puts b c (line (get_or xs i d)) → Puts a c (flat_map line (take (i + 1) xs))
+puts-more line xs i d a b c below so_far last =
+    subst (Puts a c) (sym (flat_more line xs i d below)) (puts-then a b c (flat_map line (take i xs)) (line (get_or xs i d)) so_far last)
+
+-- the lines of all items
+pub puts-all : {X : Type 0} (line : X → List ℕ) (xs : List X) (i : ℕ) (a b : At) → length xs ≤ i → Puts a b (flat_map line (take i xs)) → Puts a b (flat_map line xs)
+puts-all line xs i a b end so_far = subst (λ items. Puts a b (flat_map line items)) (take_all i xs end) so_far
+
+-- some words, and a number's digits
+pub puts-numbered : (a b c : At) (words first second : List ℕ) (number : ℕ) → first ≡ words → second ≡ decimal number → Puts a b first → Puts b c second → Puts a c (words ++ decimal number)
+puts-numbered a b c words first second number first_is second_is one other = subst (Puts a c) (ap₂ (λ s t. s ++ t) first_is second_is) (puts-then a b c first second one other)
+
+-- the line of a table that is wide, and none of another
+pub puts-wide : (a c : At) (table : ℕ) (wide : Bool) → wide ≡ true → Puts a c (wide_line table) → Puts a c (told_wide_lines table wide)
+puts-wide a c table wide is line = subst (λ w. Puts a c (told_wide_lines table w)) (sym is) line
+
+pub puts-not-wide : (a : At) (table : ℕ) (wide : Bool) → wide ≡ false → Puts a a (told_wide_lines table wide)
+puts-not-wide a table wide is = subst (λ w. Puts a a (told_wide_lines table w)) (sym is) (puts-none a)
+
+-- the text goes on where the writer takes it
+pub whole-passes : (a b : Option (List ℕ)) (failed later : Bool) (old new : Progress) (more : List ℕ) → old.is_cut ≡ false → new.is_cut ≡ false → Appends a b more → new.written ≡ min (old.written + length more) greatest_count → later ≡ failed
+    → Passes (at_progress a failed old) (at_progress b later new) more
+whole-passes a b failed later old new more whole still appended counted same start text gone =
+    let before : IsGone start text (at_progress a failed old) = subst (λ cut. GoneBy cut start text (at_progress a failed old)) whole gone in
+    let after : IsGone start (text ++ more) (at_progress b later new) = record {
+      appended = Appends-trans start.contents a b text more before.appended appended;
+      counted = (let joined = length-append text more in let was : old.written ≡ min (length text) greatest_count = before.counted in omega (arith, joined, was, counted));
+      same = same ∙ before.same;
+    } in
+    subst (λ cut. GoneBy cut start (text ++ more) (at_progress b later new)) (sym still) after
+
+-- it ends where the writer fails in its midst
+pub part-passes : (a b : Option (List ℕ)) (failed later : Bool) (old new : Progress) (more : List ℕ) (written : ℕ) → old.is_cut ≡ false → new.is_cut ≡ true → PutsFront more written a b → new.written ≡ min (old.written + written) greatest_count → later ≡ true
+    → Passes (at_progress a failed old) (at_progress b later new) more
+part-passes a b failed later old new more written whole now puts counted failing start text gone =
+    let before : IsGone start text (at_progress a failed old) = subst (λ cut. GoneBy cut start text (at_progress a failed old)) whole gone in
+    let short = puts.cut in
+    let after : IsCutAt start (text ++ more) b later new.written = record {
+      gone = text ++ take written more;
+      rest = drop written more;
+      text_is = ap (λ t. text ++ t) (sym (take-append-drop written more)) ∙ sym (append_assoc text (take written more) (drop written more));
+      cut = (let left = length-drop written more in omega (arith, left, short));
+      appended = Appends-trans start.contents a b text (take written more) before.appended puts.appended;
+      counted =
+          let taken : length (take written more) ≡ written = length-take-le written more (omega (arith, short)) in
+          let joined = length-append text (take written more) in
+          let was : old.written ≡ min (length text) greatest_count = before.counted in
+          omega (arith, joined, taken, was, counted);
+      has_failed = failing;
+    } in
+    subst (λ cut. GoneBy cut start (text ++ more) (at_progress b later new)) (sym now) after
+
+-- and nothing more is written then
+pub cut-passes : (a : Option (List ℕ)) (failed : Bool) (old : Progress) (more : List ℕ) → old.is_cut ≡ true → Passes (at_progress a failed old) (at_progress a failed old) more
+cut-passes a failed old more now start text gone =
+    let before : IsCutAt start text a failed old.written = subst (λ cut. GoneBy cut start text (at_progress a failed old)) now gone in
+    let after : IsCutAt start (text ++ more) a failed old.written = record {
+      gone = before.gone;
+      rest = before.rest ++ more;
+      text_is = ap (λ t. t ++ more) before.text_is ∙ append_assoc before.gone before.rest more;
+      cut = (let some = before.cut in omega (arith, some, length-append before.rest more));
+      appended = before.appended;
+      counted = before.counted;
+      has_failed = before.has_failed;
+    } in
+    subst (λ cut. GoneBy cut start (text ++ more) (at_progress a failed old)) (sym now) after
+
+-- a text is gathered
+pub gathers : (contents : Option (List ℕ)) (failed : Bool) (old new : Pieces) (more : List ℕ) → new.gathered.items ≡ old.gathered.items ++ more → new.progress ≡ old.progress → Puts (at contents failed old) (at contents failed new) more
+gathers contents failed old new more grown same start text h = record {
+  front = h.front;
+  text_is = ap (λ t. t ++ more) h.text_is ∙ append_assoc h.front old.gathered.items more ∙ ap (λ t. h.front ++ t) (sym grown);
+  gone = subst (λ progress. Gone start h.front (at_progress contents failed progress)) (sym same) h.gone;
+}
+
+-- what is gathered is handed over
+pub hands-over : (a b : Option (List ℕ)) (failed later : Bool) (old new : Pieces) (gathered : List ℕ) → gathered ≡ old.gathered.items → Passes (at_progress a failed old.progress) (at_progress b later new.progress) gathered → new.gathered.items ≡ []
+    → Puts (at a failed old) (at b later new) []
+hands-over a b failed later old new gathered is passes none start text h = record {
+  front = text;
+  text_is = ap (λ t. text ++ t) (sym none);
+  gone = subst (λ t. Gone start t (at_progress b later new.progress)) (ap (λ t. h.front ++ t) is ∙ sym h.text_is) (passes start h.front h.gone);
+}
+
+all-gone : (text front items : List ℕ) → text ++ [] ≡ front ++ items → items ≡ [] → text ≡ front
+all-gone text front items is none = sym (append-nil text) ∙ is ∙ ap (λ t. front ++ t) none ∙ append-nil front
+
+-- a text that can't be gathered is handed over behind what is
+pub hands-more : (a b c : Option (List ℕ)) (failed later last : Bool) (old kept mid new : Pieces) (more : List ℕ) → kept.gathered.items ≡ old.gathered.items → kept.progress ≡ old.progress
+    → Puts (at a failed kept) (at b later mid) [] → mid.gathered.items ≡ []
+    → Passes (at_progress b later mid.progress) (at_progress c last new.progress) more → new.gathered.items ≡ mid.gathered.items → Puts (at a failed old) (at c last new) more
+hands-more a b c failed later last old kept mid new more items progress puts none passes same start text h =
+    let before : Holds start text (at a failed kept) = record {
+      front = h.front;
+      text_is = h.text_is ∙ ap (λ t. h.front ++ t) (sym items);
+      gone = subst (λ p. Gone start h.front (at_progress a failed p)) (sym progress) h.gone;
+    } in
+    let held = puts start text before in
+    let front : text ≡ held.front = all-gone text held.front mid.gathered.items held.text_is none in
+    record {
+      front = held.front ++ more;
+      text_is = ap (λ t. t ++ more) front ∙ sym (append-nil (held.front ++ more)) ∙ ap (λ t. (held.front ++ more) ++ t) (sym (same ∙ none));
+      gone = passes start held.front held.gone;
+    }
+
+-- at its end the text has gone whole
+pub end-whole : (a b : Option (List ℕ)) (failed later : Bool) (old new : Pieces) (count : ℕ) → Puts (at a failed old) (at b later new) [] → new.gathered.items ≡ [] → new.progress.is_cut ≡ false → new.progress.written ≡ count
+    → Ends (at a failed old) b later (Ok count)
+end-whole a b failed later old new count puts none whole is start text h =
+    let held = puts start text h in
+    let front : text ≡ held.front = all-gone text held.front new.gathered.items held.text_is none in
+    let gone : IsGone start held.front (at_progress b later new.progress) = subst (λ cut. GoneBy cut start held.front (at_progress b later new.progress)) whole held.gone in (
+      subst (λ t. Appends start.contents b t) (sym front) gone.appended,
+      sym is ∙ gone.counted ∙ ap (λ t. min (length t) greatest_count) (sym front),
+      gone.same,
+    )
+
+-- or in part
+pub end-cut : (a b : Option (List ℕ)) (failed later : Bool) (old new : Pieces) (cut : Cut) → Puts (at a failed old) (at b later new) [] → new.gathered.items ≡ [] → new.progress.is_cut ≡ true → new.progress.written ≡ cut.written
+    → Ends (at a failed old) b later (Err cut)
+end-cut a b failed later old new cut puts none now is start text h =
+    let held = puts start text h in
+    let front : text ≡ held.front = all-gone text held.front new.gathered.items held.text_is none in
+    let gone : IsCutAt start held.front b later new.progress.written = subst (λ cut. GoneBy cut start held.front (at_progress b later new.progress)) now held.gone in
+    subst (λ t. IsCutAt start t b later cut.written) (sym front) (subst (λ n. IsCutAt start held.front b later n) is gone)
+
+-- nothing is put at first
+pub starts : (contents : Option (List ℕ)) (failed : Bool) (pieces : Pieces) → IsEmpty pieces → Holds (starting contents failed) [] (at contents failed pieces)
+starts contents failed pieces empty =
+    let gone : IsGone (starting contents failed) [] (at_progress contents failed pieces.progress) = record { appended = appends-none contents; counted = empty.written; same = refl } in
+    record {
+      front = [];
+      text_is = sym empty.gathered;
+      gone = subst (λ cut. GoneBy cut (starting contents failed) [] (at_progress contents failed pieces.progress)) (sym empty.whole) gone;
+    }
+
+-- the end of a text that was put from the start
+pub ends-text : (contents after : Option (List ℕ)) (failed later : Bool) (pieces : Pieces) (last : At) (text : List ℕ) (result : Result ℕ Cut) → IsEmpty pieces → Puts (at contents failed pieces) last text
+    → Ends last after later result → EndsText (starting contents failed) text after later result
+ends-text contents after failed later pieces last text result empty puts ends =
+    ends (starting contents failed) text (puts (starting contents failed) [] (starts contents failed pieces empty))
+
+-- a text that has gone whole has fewer bytes than a count can tell, where the count is less
+pub count_tells : (text : List ℕ) (count : ℕ) → count ≡ min (length text) greatest_count → count < greatest_count → length text < greatest_count
+count_tells text count is less = omega (arith, is, less)
+
+-- the regions of one column, and of those behind it
+pub puts-cell : (a b c : At) (column : ColumnText) (more columns : List ColumnText) (place behind : ℕ) (text : List ℕ) → columns ≡ column ∷ more → behind ≡ max column.behind 1 → text ≡ get_or column.regions (place / behind) []
+    → Puts a b text → Puts b c (cell_text more (place % behind)) → Puts a c (cell_text columns place)
+puts-cell a b c column more columns place behind text columns_are behind_is text_is first second =
+    let joined : text ++ cell_text more (place % behind) ≡ cell_text columns place =
+    ap (λ t. t ++ cell_text more (place % behind)) text_is ∙ ap (λ n. get_or column.regions (place / n) [] ++ cell_text more (place % n)) behind_is ∙ ap (λ cs. cell_text cs place) (sym columns_are) in
+    subst (Puts a c) joined (puts-then a b c text (cell_text more (place % behind)) first second)
+
+pub puts-no-cell : (a : At) (columns : List ColumnText) (place : ℕ) → length columns ≡ 0 → Puts a a (cell_text columns place)
+puts-no-cell a [] place none = puts-none a
+puts-no-cell a (c ∷ cs) place none = absurd (omega (arith, none))
+
+-- the lines of one table, and of those behind it
+pub puts-tables : (a b c : At) (number : ℕ) (table : ToldTable) (more tables : List ToldTable) → tables ≡ table ∷ more → Puts a b (told_table_lines number table) → Puts b c (told_lines (number + 1) more) → Puts a c (told_lines number tables)
+puts-tables a b c number table more tables are first second =
+    subst (Puts a c) (ap (told_lines number) (sym are)) (puts-then a b c (told_table_lines number table) (told_lines (number + 1) more) first second)
+
+pub puts-no-tables : (a : At) (number : ℕ) (tables : List ToldTable) → length tables ≡ 0 → Puts a a (told_lines number tables)
+puts-no-tables a number [] none = puts-none a
+puts-no-tables a number (t ∷ ts) none = absurd (omega (arith, none))
+
+-- what holds where a count is less holds on that answer
+pub on_less : (count limit : ℕ) (P : Type 0) → (count < limit → P) → OnTrue (nat_lt count limit) P
+on_less count limit P holds = elim (cases_lt count limit) [
+  | inl less ↦ subst (λ b. OnTrue b P) (sym (lt-ltb count limit less)) (holds less)
+  | inr most ↦ subst (λ b. OnTrue b P) (sym (le-ltb count limit most)) tt
+]

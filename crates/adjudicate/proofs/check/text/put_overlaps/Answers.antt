@@ -1,0 +1,16 @@
+use Rattle.adjudicate.specs.CheckText.{overlap_line}
+use Rattle.adjudicate.specs.Pieces.{at}
+use Rattle.adjudicate.proofs.Piecewise.{puts-all, puts-more, puts-none}
+use Rattle.adjudicate.proofs.check.text.put_overlaps.Goals as goal
+
+pub loop-rules-init : goal.loop-rules-init
+loop-rules-init g c = puts-none (at _ _ c.args.pieces.now)
+
+pub loop-rules-preserved : goal.loop-rules-preserved
+loop-rules-preserved g c =
+    puts-more (overlap_line c.args.table) c.args.overlaps.now c.loop-rules.rules-index (0, 0) (at _ _ c.args.pieces.now) (at _ _ c.loop-rules.pieces) (at _ _ c.put_overlap.new.pieces) c.loop-rules-test.true c.loop-rules.invariant
+    c.put_overlap.ensures
+
+pub returns : goal.returns
+returns g c =
+    puts-all (overlap_line c.args.table) c.args.overlaps.now c.loop-rules.rules-index (at _ _ c.args.pieces.now) (at _ _ c.loop-rules.pieces) c.loop-rules-test.false c.loop-rules.invariant

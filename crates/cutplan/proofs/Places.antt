@@ -1,0 +1,104 @@
+-- The places of cells that pass a test, region by region.
+use Rattle.std.proofs.Common.{◌≡◌, ℕ, zero, suc, ◌+◌, ◌≤◌, ◌<◌, Bool, true, false, cond, eqb, List, [], ◌∷◌, ◌++◌, length, get_or, take, drop, map, filter, refl, ap, sym, ◌∙◌, length-append, take-append-drop, arith}
+use Rattle.std.specs.List.{flat_map, enumerate_from, range_with_len}
+use Rattle.std.proofs.lemmas.List.{length-map}
+use Rattle.std.proofs.lemmas.List.Concat.{flat_map-append}
+use Rattle.dtable.specs.declared.table.Table.{Table}
+use Rattle.cutplan.specs.declared.region.Region.{Region}
+use Rattle.cutplan.specs.Check.{cells}
+use Rattle.cutplan.specs.Parts.{alive_in, uncovered}
+use Rattle.cutplan.specs.Places.{is_gap, places}
+use Rattle.cutplan.proofs.Covering.{gap_is, uncovered_end, uncovered_step}
+use Rattle.cutplan.proofs.Keeping.{at_number}
+use Rattle.cutplan.proofs.Steps.{flat_more}
+
+-- the first and the others
+pub places-cons : {X : Type 0} (test : X → Bool) (k : ℕ) (x : X) (xs : List X) → places test k (x ∷ xs) ≡ cond (test x) (k ∷ places test (k + 1) xs) (places test (k + 1) xs)
+places-cons {X} test k x xs =
+    elim (test x) as (λ b. map (λ (p : ℕ × X). p.0) (cond b (at_number k x ∷ filter (λ (p : ℕ × X). test p.1) (enumerate_from (k + 1) xs)) (filter (λ (p : ℕ × X). test p.1) (enumerate_from (k + 1) xs)))
+    ≡ cond b (k ∷ places test (k + 1) xs) (places test (k + 1) xs)) [
+      | true ↦ refl
+      | false ↦ refl
+    ]
+
+-- the places of two lists, one behind the other
+places-append : {X : Type 0} (test : X → Bool) (k : ℕ) (xs ys : List X) → places test k (xs ++ ys) ≡ places test k xs ++ places test (k + length xs) ys
+places-append test k [] ys = let here : k ≡ k + 0 = omega arith in ap (λ n. places test n ys) here
+places-append test k (x ∷ xs) ys =
+    let there : (k + 1) + length xs ≡ k + suc (length xs) = omega arith in
+    let more = places-append test (k + 1) xs ys ∙ ap (λ n. places test (k + 1) xs ++ places test n ys) there in
+    let last = places test (k + suc (length xs)) ys in
+    places-cons test k x (xs ++ ys)
+    ∙ (elim (test x) as (λ b. cond b (k ∷ places test (k + 1) (xs ++ ys)) (places test (k + 1) (xs ++ ys)) ≡ cond b (k ∷ places test (k + 1) xs) (places test (k + 1) xs) ++ last) [
+      | true ↦ ap (λ rest. k ∷ rest) more
+      | false ↦ more
+    ])
+    ∙ ap (λ front. front ++ last) (sym (places-cons test k x xs))
+
+-- the places of what is mapped, by a test that tells alike
+places-map : {X Y : Type 0} (f : X → Y) (test : Y → Bool) (alike : X → Bool) → ((x : X) → test (f x) ≡ alike x) → (k : ℕ) (xs : List X) → places test k (map f xs) ≡ places alike k xs
+places-map f test alike agree k [] = refl
+places-map f test alike agree k (x ∷ xs) =
+    let more = places-map f test alike agree (k + 1) xs in
+    places-cons test k (f x) (map f xs) ∙ ap (λ b. cond b (k ∷ places test (k + 1) (map f xs)) (places test (k + 1) (map f xs))) (agree x)
+    ∙ ap (λ rest. cond (alike x) (k ∷ rest) rest) more ∙ sym (places-cons alike k x xs)
+
+-- the cells of one region
+abbrev pub cells_with : List (List Region) → Region → List (List Region)
+cells_with more x = map (λ cell. x ∷ cell) (cells more)
+
+-- the cells of one region more
+pub cells_more : (regions : List Region) (more : List (List Region)) (i : ℕ) (d : Region) → i < length regions
+    → length (flat_map (cells_with more) (take (i + 1) regions)) ≡ length (flat_map (cells_with more) (take i regions)) + length (cells more)
+cells_more regions more i d below =
+    let put = cells_with more in
+    let one = length-map (cells more) (λ (cell : List Region). get_or regions i d ∷ cell) in
+    ap length (flat_more put regions i d below) ∙ length-append (flat_map put (take i regions)) (put (get_or regions i d)) ∙ ap (λ n. length (flat_map put (take i regions)) + n) one
+
+-- the first regions have no more than all
+pub cells_within : (regions : List Region) (more : List (List Region)) (n : ℕ) → length (flat_map (cells_with more) (take n regions)) ≤ length (cells (regions ∷ more))
+cells_within regions more n =
+    let put = cells_with more in
+    let whole = ap (λ rs. length (flat_map put rs)) (take-append-drop n regions) in
+    let split = ap length (flat_map-append put (take n regions) (drop n regions)) in
+    omega (arith, whole, split, length-append (flat_map put (take n regions)) (flat_map put (drop n regions)))
+
+-- the places of the uncovered cells of one region more
+pub places_more : (t : Table) (column : ℕ) (rules : List ℕ) (regions : List Region) (more : List (List Region)) (i k : ℕ) (d : Region) → i < length regions
+    → places (uncovered t column rules) k (flat_map (cells_with more) (take (i + 1) regions))
+    ≡ places (uncovered t column rules) k (flat_map (cells_with more) (take i regions))
+    ++ places (uncovered t (column + 1) (alive_in t column (get_or regions i d) rules)) (k + length (flat_map (cells_with more) (take i regions))) (cells more)
+places_more t column rules regions more i k d below =
+    let put = cells_with more in
+    let r = get_or regions i d in
+    let front = flat_map put (take i regions) in
+    ap (places (uncovered t column rules) k) (flat_more put regions i d below)
+    ∙ places-append (uncovered t column rules) k front (put r)
+    ∙ ap (λ last. places (uncovered t column rules) k front ++ last)
+    (places-map (λ (cell : List Region). r ∷ cell) (uncovered t column rules) (uncovered t (column + 1) (alive_in t column r rules)) (λ cell. uncovered_step t column rules r cell) (k + length front) (cells more))
+
+-- an element at its place, whatever is given for none
+pub got_alike : {X : Type 0} (xs : List X) (i : ℕ) (d e : X) → i < length xs → get_or xs i d ≡ get_or xs i e
+got_alike [] i d e below = absurd (omega (arith, below))
+got_alike (x ∷ xs) zero d e below = refl
+got_alike (x ∷ xs) (suc i) d e below = got_alike xs i d e (omega (arith, below))
+
+-- the place of the cell of no column
+pub end_places : (t : Table) (column : ℕ) (rules : List ℕ) (k : ℕ) (columns : List (List Region)) → length columns ≡ 0 → places (uncovered t column rules) k (cells columns) ≡ cond (eqb (length rules) 0) (k ∷ []) []
+end_places t column rules k [] e = places-cons (uncovered t column rules) k [] [] ∙ ap (λ b. cond b (k ∷ []) []) (uncovered_end t column rules)
+end_places t column rules k (c ∷ cs) e = absurd (omega (arith, e))
+
+pub end_count : (columns : List (List Region)) → length columns ≡ 0 → length (cells columns) ≡ 1
+end_count [] e = refl
+end_count (c ∷ cs) e = absurd (omega (arith, e))
+
+-- places by a test that tells alike
+places-alike : {X : Type 0} (p q : X → Bool) → ((x : X) → p x ≡ q x) → (k : ℕ) (xs : List X) → places p k xs ≡ places q k xs
+places-alike p q agree k [] = refl
+places-alike p q agree k (x ∷ xs) =
+    places-cons p k x xs ∙ ap (λ b. cond b (k ∷ places p (k + 1) xs) (places p (k + 1) xs)) (agree x) ∙ ap (λ rest. cond (q x) (k ∷ rest) rest) (places-alike p q agree (k + 1) xs)
+    ∙ sym (places-cons q k x xs)
+
+-- the places of the gaps are those of the cells that none of all rules covers from the first column on
+pub gap_places_are : (t : Table) (columns : List (List Region)) → places (uncovered t 0 (range_with_len 0 (length t.rules))) 0 (cells columns) ≡ places (is_gap t) 0 (cells columns)
+gap_places_are t columns = places-alike (uncovered t 0 (range_with_len 0 (length t.rules))) (is_gap t) (λ cell. gap_is t cell) 0 (cells columns)

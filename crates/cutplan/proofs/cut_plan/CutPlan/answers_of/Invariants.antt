@@ -1,6 +1,0 @@
-use Rattle.std.proofs.Common.{◌≡◌, [], drop}
-use Rattle.dtable.specs.Environment.{answers_of}
-use Rattle.cutplan.proofs.cut_plan.CutPlan.answers_of.Given as goal
-
-abbrev pub invariant-loop-place : goal.invariant-loop-place
-invariant-loop-place l = answers_of l.given l.answers (drop l.place l.tables) ≡ answers_of l.given [] l.tables

@@ -1,0 +1,18 @@
+use Rattle.std.proofs.Common.{◌≡◌, [], get_or, ◌+◌, ◌++◌, take, length}
+use Rattle.std.specs.List.{flat_map}
+use Rattle.cutplan.specs.Masks.{rules_in}
+use Rattle.cutplan.specs.Parts.{uncovered}
+use Rattle.cutplan.specs.Places.{places}
+use Rattle.cutplan.proofs.Places.{cells_with}
+use Rattle.cutplan.proofs.gap.+walk_cells.Given as goal
+
+abbrev pub decreases-walk_cells : goal.decreases-walk_cells
+decreases-walk_cells l = length l.columns.now
+
+-- the cells of the regions so far
+abbrev pub invariant-loop-at : goal.invariant-loop-at
+invariant-loop-at l = record {
+  found : l.walk.found.items ≡ l.initial.walk.found.items
+      ++ places (uncovered l.table l.place (rules_in (length l.table.rules) l.rules)) l.initial.walk.passed (flat_map (cells_with l.more) (take l.at (get_or l.columns 0 [])));
+  passed : l.walk.passed ≡ l.initial.walk.passed + length (flat_map (cells_with l.more) (take l.at (get_or l.columns 0 [])));
+}

@@ -1,0 +1,32 @@
+use Rattle.std.proofs.Common.{◌≡◌, ◌++◌, ap, arith, length, subst, sym, ◌∙◌}
+use Rattle.std.specs.Prelude.{nat_lt}
+use Rattle.cutplan.specs.Check.{cells}
+use Rattle.cutplan.specs.Masks.{Marks, rules_in}
+use Rattle.cutplan.specs.Parts.{uncovered}
+use Rattle.cutplan.specs.Places.{places}
+use Rattle.cutplan.proofs.Places.{gap_places_are}
+use Rattle.cutplan.proofs.Meeting.{first_are, first_rules, table_masks}
+use Rattle.cutplan.proofs.gap.gap_places.Goals as goal
+
+pub walk_cells-requires : goal.walk_cells-requires
+walk_cells-requires c =
+    let t = c.args.table.now in
+    let marks = subst (λ n. Marks (λ place. nat_lt place n) c.first_rules-rules.result) c.len.ensures c.first_rules-rules.ensures in
+    let narrow = c.if-is_wide.ensures.narrow in
+    record {
+      far = (let few = c.requires.far in omega (arith, few));
+      few = c.requires.few;
+      masks = table_masks t c.args.columns.now c.args.masks.now c.requires.masks;
+      rules = first_rules (length t.rules) c.first_rules-rules.result marks;
+      room = omega (arith, narrow);
+    }
+
+pub returns : goal.returns
+returns c =
+    let t = c.args.table.now in
+    let columns = c.args.columns.now in
+    let marks = subst (λ n. Marks (λ place. nat_lt place n) c.first_rules-rules.result) c.len.ensures c.first_rules-rules.ensures in
+    let rules = first_are (length t.rules) c.first_rules-rules.result c.requires.few marks in (
+      c.if-is_wide.ensures.narrow,
+      c.in_ok-walk_cells.ensures.found ∙ ap (λ front. front ++ places (uncovered t 0 (rules_in (length t.rules) c.first_rules-rules.result)) 0 (cells columns)) c.new.ensures.items ∙ ap (λ found. places (uncovered t 0 found) 0 (cells columns)) rules ∙ gap_places_are t columns,
+    )

@@ -1,0 +1,56 @@
+//! What the check of one table finds, with no more in memory than that table's regions and masks.
+ghost use Rattle.std.specs.Prelude.{◌≡◌, ◌≤◌, IfOk, length};
+ghost use Rattle.cutplan.specs.Check.{cells, overlaps};
+ghost use Rattle.cutplan.specs.Numbered.{IsTableNumber, cells_of, overlaps_of};
+ghost use Rattle.cutplan.specs.Places.{ArePlaces, is_gap, is_gap_of, regions_of};
+ghost use Rattle.cutplan.specs.Regions.{table_regions};
+ghost use Rattle.cutplan.specs.declared.mask.TheConstants.{MASK_RULES};
+
+use crate::column::table_regions;
+use crate::gap::gap_places;
+use crate::kept::masks_of_columns;
+use crate::overlap::overlaps;
+use crate::region::Region;
+use dtable::{Plan, Sequence, Table};
+use std::alloc::{AllocError, Global};
+
+/// What the check of a table finds. A cell of the check is a region of each column; cells are in order column by column from
+/// the left, the last changing fastest, and count from 0.
+#[derive(Debug, Drop)]
+pub struct TableCheck {
+    /// The pairs of rules that share an allowed input: the smaller first, in order, each once. Rules are numbered from 1.
+    pub overlaps: Vec<(usize, usize)>,
+    /// The regions of each input column.
+    pub columns: Sequence<Sequence<Region>>,
+    /// The places among the cells of those that no rule covers, in order. Where the check has more than `CELL_LIMIT` cells
+    /// there is no list.
+    pub gaps: Option<Vec<u32>>,
+}
+
+/// Checks a table of the plan. Tables are numbered from 1.
+pub fn check_table(alloc: Global, plan: &Plan, table: usize) -> Result<TableCheck, AllocError>
+    requires { IsTableNumber plan.now table }
+    ensures overlaps { IfOk result (λ check. check.overlaps.items ≡ overlaps_of plan.now table) }
+    ensures columns { IfOk result (λ check. check.columns ≡ regions_of plan.now table) }
+    ensures gaps { IfOk result (λ check. ArePlaces (cells_of plan.now table) (is_gap_of plan.now table) check.gaps) }
+{
+    check_of(alloc, plan, &plan.tables()[table - 1])
+}
+
+// Checks a table of the plan.
+fn check_of(alloc: Global, plan: &Plan, table: &Table) -> Result<TableCheck, AllocError>
+    requires { length table.now.rules ≤ MASK_RULES }
+    ensures overlaps { IfOk result (λ check. check.overlaps.items ≡ overlaps plan.now table.now) }
+    ensures columns { IfOk result (λ check. check.columns ≡ table_regions plan.now table.now) }
+    ensures gaps { IfOk result (λ check. ArePlaces (cells (table_regions plan.now table.now)) (is_gap table.now) check.gaps) }
+{
+    let columns = table_regions(alloc, plan, table)?;
+    let masks = masks_of_columns(alloc, plan, table, columns.as_slice())?;
+    let overlaps = overlaps(alloc, table.rules.len(), masks.as_slice())?;
+    let gaps = gap_places(alloc, table, columns.as_slice(), masks.as_slice())?;
+    Ok(TableCheck {
+        overlaps,
+        columns,
+        gaps,
+    })
+}

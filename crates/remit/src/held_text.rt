@@ -1,0 +1,51 @@
+//! Texts in memory that aren't longer than they may be.
+ghost use Rattle.std.specs.Prelude.{◌≡◌, [], Some};
+
+use std::alloc::Global;
+use std::io;
+use std::io::{ErrorKind, Write};
+
+/// A text that isn't held: it would be longer than it may be, or memory is wanting for it.
+#[derive(Clone, Copy, Debug, PartialEq, Eq, Drop)]
+pub struct NotHeld;
+
+/// A text that takes bytes as long as it isn't longer than it may be.
+#[derive(Drop)]
+pub struct HeldText {
+    text: Vec<u8>,
+    most: usize,
+}
+
+impl HeldText {
+    /// An empty text of at most so many bytes.
+    pub fn new(alloc: Global, most: usize) -> HeldText
+        ensures { result.text.items ≡ [] }
+    {
+        HeldText {
+            text: Vec::new(alloc),
+            most,
+        }
+    }
+
+    /// The text.
+    pub fn into_text(self) -> Vec<u8>
+        ensures { result ≡ self.text }
+    {
+        self.text
+    }
+}
+
+impl Write for HeldText {
+    ghost contents = { λ held. Some held.text.items };
+
+    fn write(&mut self, piece: &[u8]) -> io::Result<usize> {
+        if piece.len() > self.most.saturating_sub(self.text.len()) {
+            return Err(io::Error::from(ErrorKind::Other));
+        }
+        self.text.write(piece)
+    }
+
+    fn flush(&mut self) -> io::Result<()> {
+        Ok(())
+    }
+}

@@ -1,0 +1,21 @@
+use Rattle.std.proofs.Common.{ap, sym, ◌∙◌}
+use Rattle.settlement.specs.Roles.{text_of}
+use Rattle.settlement.proofs.Texts.{text_more, other_more}
+use Rattle.settlement.proofs.terms.copies_of.Goals.{in-Some+in_ok-new+in_ok-push, in_default}
+use Rattle.settlement.proofs.terms.copies_of.Goals as goal
+
+pub loop-value-preserved : goal.loop-value-preserved
+loop-value-preserved c =
+    let values = c.args.values.now in
+    let i = c.loop-value.value-index in
+    let standing = ap text_of (sym c.value-item.is) in
+    elim c.match-text_of.branch [
+      | in-Some+in_ok-new+in_ok-push w ↦
+          let step = text_more values i c.value-item.result w.in-Some.text.now c.loop-value-test.true (standing ∙ sym w.in-Some.ensures) in
+          let copied = w.in_ok-new.ensures in
+          let pushed = w.in_ok-push.ensures.ok in
+          cc
+      | in_default w ↦
+          let step = other_more values i c.value-item.result c.loop-value-test.true (standing ∙ sym w.in_default.ensures) in
+          cc
+    ]
