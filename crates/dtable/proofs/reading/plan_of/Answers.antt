@@ -25,5 +25,5 @@ pub new-requires : goal.new-requires
 new-requires c =
     let tables = rw c.as_slice.ensures at c.in_ok-tables.ensures in
     let roles = rw (c.as_slice-2.ensures, c.as_slice-3.ensures) at c.in_ok-roles.ensures in
-    IsPlan-of (view c.args.document.now) (record { names = c.in_ok-names.names; tables = c.in_ok-tables.tables; roles = c.in_ok-roles.roles })
-    (plan_made (view c.args.document.now) c.in_ok-names.names c.in_ok-tables.tables c.in_ok-roles.roles c.in_ok-check_version.ensures.ok c.in_ok-names.ensures tables roles)
+    IsPlan-of (view c.args.document.now) (record { version = c.in_ok-version.version; names = c.in_ok-names.names; tables = c.in_ok-tables.tables; roles = c.in_ok-roles.roles })
+    (plan_made (view c.args.document.now) c.in_ok-version.version c.in_ok-names.names c.in_ok-tables.tables c.in_ok-roles.roles c.in_ok-version.ensures c.in_ok-names.ensures tables roles)
