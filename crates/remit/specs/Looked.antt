@@ -1,5 +1,5 @@
 -- What a journal tells, laid out so that a claim's decision is found at once, and its sums.
-use Rattle.std.specs.Prelude.{◌≡◌, ◌<◌, ◌≤◌, ◌+◌, ◌-◌, ◌*◌, ◌^◌, ◌+ℤ◌, ℕ, suc, ℤ, pos, ◌==◌, Bool, cond, List, [], ◌∷◌, get_or, length, ◌++◌, slice_get, slice_index, Option, Some, None, option_map, map}
+use Rattle.std.specs.Prelude.{◌≡◌, ◌<◌, ◌≤◌, ◌+◌, ◌-◌, ◌*◌, ◌^◌, ◌+ℤ◌, ℕ, suc, ℤ, pos, ◌==◌, Bool, cond, List, [], ◌∷◌, get_or, length, ◌++◌, slice_get, slice_index, Option, Some, None, option_map}
 use Rattle.std.specs.Global.{Vec}
 use Rattle.std.specs.Borrow.{Bor}
 use Rattle.std.specs.Option.{option_and_then}
