@@ -3,6 +3,11 @@ use Rattle.toml.specs.View.{view}
 use Rattle.dtable.proofs.ReadPlan.{IsPlan-of, plan_made, no_tables, no_roles}
 use Rattle.dtable.proofs.reading.plan_of.Goals as goal
 
+pub returns-in_err-version : goal.returns-in_err-version
+returns-in_err-version c =
+    let p = err_from_is_err_and c.from_residual.result c.from_residual.ensures.1 in
+    rw (p.1, p.2) (λ memory plan h. c.in_err-version.ensures memory plan.version h.version)
+
 pub returns-in_err-names : goal.returns-in_err-names
 returns-in_err-names c =
     let p = err_from_is_err_and c.from_residual-in_err-names.result c.from_residual-in_err-names.ensures.1 in
