@@ -113,7 +113,7 @@ entry-shaped false fields (a ∷ columns) (v ∷ values) e h =
       member = member;
       year = 0;
       amounts = values;
-      values_are = rw is_member refl;
+      values_are = ap (λ (m : Value). m ∷ values) is_member;
       kept = refl;
       are_amounts = amounts fields columns values others h.1;
     }
@@ -129,7 +129,7 @@ entry-shaped true fields (a ∷ b ∷ columns) (v ∷ w ∷ values) e h =
       member = member;
       year = year;
       amounts = values;
-      values_are = rw (is_member, is_year) refl;
+      values_are = ap (λ (m : Value). m ∷ w ∷ values) is_member ∙ ap (λ (y : Value). Text member ∷ y ∷ values) is_year;
       kept = within;
       are_amounts = amounts fields columns values others h.1.1;
     }

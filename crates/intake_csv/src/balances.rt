@@ -1,6 +1,7 @@
 //! Opening balances: what the members' accumulators are before the first claim.
-ghost use Rattle.std.specs.Prelude.{◌≡◌, ◌≤◌, ◌<◌, ◌+◌, ◌++◌, ◌∷◌, [], List, length, map, drop, get_or, cond, string_bytes, IfOk, IfErr, OnOk, slice_index_or, Some};
+ghost use Rattle.std.specs.Prelude.{◌≡◌, ◌≤◌, ◌<◌, ◌+◌, ◌++◌, ◌∷◌, [], List, length, map, drop, get_or, cond, string_bytes, IfOk, IfErr, OnOk, slice_index_or, Some, is_some, true, false};
 ghost use Rattle.std.specs.List.{slice_get};
+ghost use Rattle.std.specs.Vec.Iter.{into_iter_items};
 ghost use Rattle.csv.specs.Records.{fields_of};
 ghost use Rattle.dtable.specs.Plan.{keeps_years};
 ghost use Rattle.settlement.specs.Accounts.{alone};
@@ -10,6 +11,7 @@ ghost use Rattle.intake_csv.specs.Columns.{balance_columns, year_columns};
 ghost use Rattle.intake_csv.specs.Rows.{HasFault};
 ghost use Rattle.intake_csv.specs.Sheet.{IsWithin};
 ghost use Rattle.intake_csv.specs.declared.column.Column.{Column as AnyColumn};
+ghost use Rattle.intake_csv.specs.declared.fault.RowCause.TheVariants.{Repeated as Again};
 
 use crate::column::{Content, Layout, Needed, needed_column};
 use crate::fault::{BalanceFault, FileFault, RowCause, RowFault};
@@ -23,6 +25,7 @@ use settlement::{Acc, Balance};
 use std::alloc::{AllocError, Global};
 use std::collections::BTreeMap;
 use std::marker::Model;
+use std::vec;
 
 /// What the members' accounts begin with in each year. Contracts see the members of each year, each with that; a year's place is
 /// its number. Where accumulators aren't kept by the year, all members stand at the place 0.
@@ -131,10 +134,27 @@ impl Balances {
         ensures refused { IfOk result (λ read. IfErr read (λ fault. (front : List AnyEntry) → HoldsEntries front self.old
             → IsRecordFault keeps_years layout.now front (fields_of row.now) fault)) }
     {
-        let entry = match read_record(alloc, layout, row)? {
-            Ok(values) => entry_of(values, keeps_years),
-            Err(fault) => return Ok(Err(fault)),
-        };
+        match read_record(alloc, layout, row)? {
+            Ok(values) => self.take_in(alloc, layout, entry_of(values, keeps_years)),
+            Err(fault) => Ok(Err(fault)),
+        }
+    }
+
+    // Takes an entry in, or tells that its member stands there in its year already.
+    fn take_in(
+        &mut self,
+        alloc: Global,
+        layout: &Layout,
+        entry: Entry,
+    ) -> Result<Result<(), RowFault>, AllocError>
+        requires { 0 < length layout.now.columns }
+        ensures entry { IfOk result (λ taken. OnOk taken (is_some (found_in self.old (entry.member, entry.year)) ≡ false)) }
+        ensures found { IfOk result (λ taken. OnOk taken ((holder : AnyHolder) → found_in self.new holder
+            ≡ cond (is_holder (entry.member, entry.year) holder) (Some entry.balance) (found_in self.old holder))) }
+        ensures once { AreOnce self.new }
+        ensures again { IfOk result (λ taken. IfErr taken (λ fault. is_some (found_in self.old (entry.member, entry.year)) ≡ true)) }
+        ensures told { IfOk result (λ taken. IfErr taken (λ fault. (d : AnyColumn) → fault ≡ record { column = (get_or layout.now.columns 0 d).place + 1; cause = Again })) }
+    {
         if self.find(entry.member.as_str(), entry.year).is_some() {
             let column = layout.columns.as_slice()[0].place + 1;
             return Ok(Err(RowFault {
@@ -142,10 +162,19 @@ impl Balances {
                 cause: RowCause::Repeated,
             }));
         }
+        self.put(alloc, entry)?;
+        Ok(Ok(()))
+    }
+
+    // Puts an entry to the others.
+    fn put(&mut self, alloc: Global, entry: Entry) -> Result<(), AllocError>
+        ensures found { OnOk result ((holder : AnyHolder) → found_in self.new holder
+            ≡ cond (is_holder (entry.member, entry.year) holder) (Some entry.balance) (found_in self.old holder)) }
+        ensures once { AreOnce self.new }
+    {
         let name = String::from_str(alloc, entry.member.as_str())?;
         make_room(alloc, &mut self.years, entry.year)?;
-        add(&mut self.years, name, entry.year, entry.balance)?;
-        Ok(Ok(()))
+        add(&mut self.years, name, entry.year, entry.balance)
     }
 }
 
@@ -242,9 +271,9 @@ fn entry_of(values: Vec<Value>, keeps_years: bool) -> Entry
 }
 
 // The balance of three amounts.
-fn balance_of(values: Vec<Value>) -> Balance
-    requires { AreAmounts values.items }
-    ensures { values.items ≡ balance_values result }
+fn balance_of(values: vec::IntoIter<Value>) -> Balance
+    requires { AreAmounts (into_iter_items values) }
+    ensures { into_iter_items values ≡ balance_values result }
 {
     let mut values = values;
     let met = take_money(&mut values);
@@ -254,9 +283,9 @@ fn balance_of(values: Vec<Value>) -> Balance
 }
 
 // Takes the first value, a year; 0, and no value, where there is no column of years.
-fn take_year(values: &mut Vec<Value>, keeps_years: bool) -> u16
-    requires { BeginsWithYear keeps_years values.old.items }
-    ensures { TakesYear keeps_years values.old.items result values.new.items }
+fn take_year(values: &mut vec::IntoIter<Value>, keeps_years: bool) -> u16
+    requires { BeginsWithYear keeps_years (into_iter_items values.old) }
+    ensures { TakesYear keeps_years (into_iter_items values.old) result (into_iter_items values.new) }
 {
     if !keeps_years {
         return 0;
