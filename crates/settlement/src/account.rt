@@ -20,18 +20,25 @@ pub struct Balance {
 }
 
 impl Balance {
-    ghost use Rattle.settlement.specs.Opening.{begun};
+    ghost use Rattle.settlement.specs.Opening.{begun, begun_beside};
 
     /// The accumulators of an account that begins with it, and is alone in its family.
     pub fn alone(self) -> Acc
         ensures { result ≡ begun self }
     {
+        self.beside(self.met, self.oop)
+    }
+
+    /// The accumulators of an account that begins with it, and whose family has these sums.
+    pub fn beside(self, fmet: Money, foop: Money) -> Acc
+        ensures { result ≡ begun_beside fmet foop self }
+    {
         Acc {
             met: self.met,
             oop: self.oop,
             paid: self.paid,
-            fmet: self.met,
-            foop: self.oop,
+            fmet,
+            foop,
         }
     }
 }
