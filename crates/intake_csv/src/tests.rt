@@ -384,7 +384,7 @@ fn are_balances(rt: &impl Abort, alloc: Global, text: &[u8], members: &[(&str, i
     let plan = plan(rt, alloc, PLAN);
     let balances = read_balances(alloc, &plan, text).expect(rt, "balances");
     for (member, met, oop, paid) in members {
-        assert!(rt; same(balances.of(member, 0), *met, *oop, *paid), "{member}");
+        assert!(rt; same(balances.of(member, member, 0), *met, *oop, *paid), "{member}");
     }
 }
 
@@ -406,7 +406,7 @@ fn balances_of_years(rt: HostRuntime) {
     let plan = plan(&rt, rt.alloc(), BY_YEAR);
     let balances = read_balances(rt.alloc(), &plan, OF_YEARS).expect(&rt, "balances");
     for (member, year, met, oop, paid) in &MEMBERS_BY_YEAR {
-        let found = same(balances.of(member, *year), *met, *oop, *paid);
+        let found = same(balances.of(member, member, *year), *met, *oop, *paid);
         assert!(rt; found, "{member} {year}");
     }
 }
@@ -619,7 +619,7 @@ fn balances_or_no_memory(rt: HostRuntime) {
         return;
     };
     match read_balances(rt.alloc(), &plan, OF_YEARS) {
-        Ok(balances) => assert!(rt; same(balances.of("M1", 2024), 500_000, 100_000, 50_000)),
+        Ok(balances) => assert!(rt; same(balances.of("M1", "M1", 2024), 500_000, 100_000, 50_000)),
         Err(fault) => assert!(rt; fault == BalanceFault::OutOfMemory),
     }
 }

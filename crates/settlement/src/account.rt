@@ -20,13 +20,17 @@ pub struct Balance {
 }
 
 impl Balance {
-    ghost use Rattle.settlement.specs.Opening.{begun, begun_beside};
+    ghost use Rattle.settlement.specs.Opening.{begun_beside, no_balance};
 
-    /// The accumulators of an account that begins with it, and is alone in its family.
-    pub fn alone(self) -> Acc
-        ensures { result ≡ begun self }
+    /// No balance: zeros.
+    pub fn zero() -> Balance
+        ensures { result ≡ no_balance }
     {
-        self.beside(self.met, self.oop)
+        Balance {
+            met: Money::zero(),
+            oop: Money::zero(),
+            paid: Money::zero(),
+        }
     }
 
     /// The accumulators of an account that begins with it, and whose family has these sums.
