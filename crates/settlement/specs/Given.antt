@@ -1,4 +1,4 @@
--- What a claim and its member's accumulators give the names that a plan's tables read.
+-- What a claim and its account's accumulators give the names that a plan's tables read.
 use Rattle.std.specs.Prelude.{ℕ, List, [], ◌∷◌, ◌++◌, map, Option, Some, None}
 use Rattle.feel_tests.specs.Value.{kind_of}
 use Rattle.feel_tests.specs.declared.kind.Kind.{Kind}
