@@ -11,6 +11,7 @@ use feel_tests::read_value;
 use std::alloc::Global;
 use std::process::Abort;
 use std::test::Fail;
+use worked_examples::health_plan;
 
 /// The place of the first field among the names.
 const FIRST: usize = 4;
@@ -149,27 +150,6 @@ const CHAINED: [Row; 1] = [(
     ],
     NONE,
 )];
-
-/// A claim is paid by its code, and remarked on where it is large or the deductible is met.
-const REMARKS: &[u8] = br#"version = 1
-fields = [{name = "code", kind = "text"}]
-[[tables]]
-inputs = [{name = "code"}]
-outputs = [{name = "covered", kind = "flag"}, {name = "fee", kind = "number"}]
-rules = [
-  {when = ['"A"'], then = ['true', '100']},
-  {when = ['"B"'], then = ['true', '40']},
-  {when = ['"X"'], then = ['false', '0']},
-]
-[[tables]]
-hit = "R"
-inputs = [{name = "billed"}, {name = "met"}]
-outputs = [{name = "note", kind = "text"}]
-rules = [
-  {when = ['>100', '-'], then = ['"OVER"']},
-  {when = ['-', '>=50'], then = ['"MET"']},
-]
-"#;
 
 /// The places of the amount billed and of what was met among its names.
 const BILLED: usize = 3;
@@ -332,7 +312,7 @@ fn stretches_side_by_side_are_valued_alike(rt: HostRuntime) -> Result<(), Fail> 
 
 #[test]
 fn remarks_are_valued_alike(rt: HostRuntime) -> Result<(), Fail> {
-    let plan = read(&rt, rt.alloc(), REMARKS)?;
+    let plan = read(&rt, rt.alloc(), health_plan().as_bytes())?;
     let cut = compile(rt.alloc(), &plan)?;
     for code in &REMARK_CODES {
         for (billed, met) in &REMARK_AMOUNTS {

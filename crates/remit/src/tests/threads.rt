@@ -110,5 +110,5 @@ fn a_text_is_held_up_to_its_limit(rt: HostRuntime) {
     assert!(rt; matches!(held.write(b"ab"), Ok(2)));
     assert!(rt; held.write(b"cd").is_err());
     assert!(rt; matches!(held.write(b"c"), Ok(1)));
-    assert!(rt; held.into_text().as_slice() == b"abc");
+    assert!(rt; held.into_text().as_slice() == b"abc".as_slice());
 }
