@@ -102,6 +102,3 @@ fn put_check<W: Write>(alloc: Global, told: &ToldPlan, out: &mut Out<W>) -> Resu
         Err(Cut { written }) => Err(Stop::Write { written }),
     }
 }
-
-#[cfg(test)]
-mod tests;

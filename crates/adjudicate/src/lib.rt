@@ -18,8 +18,6 @@ mod check;
 mod output;
 mod run;
 mod stop;
-#[cfg(test)]
-mod testing;
 mod value;
 
 pub use check::told::Telling;

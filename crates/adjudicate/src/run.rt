@@ -83,6 +83,3 @@ fn write_remittance<R: Threads + Wait + Sync + AllocGlobal, W: Write>(
     write_report_by_threads(rt, rt.alloc(), terms, &batch, out)?;
     Ok(())
 }
-
-#[cfg(test)]
-mod tests;

@@ -218,6 +218,3 @@ impl<T: Drop> From<AllocFailed<T>> for Stop {
         Stop::NoMemory
     }
 }
-
-#[cfg(test)]
-mod tests;

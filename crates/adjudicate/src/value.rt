@@ -62,6 +62,3 @@ fn plan_text(alloc: Global, plan: &Plan, arguments: &[&str]) -> Result<Vec<u8>, 
     let values = plan.value(alloc, &inputs)?;
     Ok(value_lines(alloc, plan.tables(), &values)?)
 }
-
-#[cfg(test)]
-mod tests;

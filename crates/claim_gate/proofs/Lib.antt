@@ -7,5 +7,4 @@ pub mod Readiness
 pub mod Decisions
 pub mod Calls
 pub mod Replying
-pub mod Filing
 pub mod Sharing

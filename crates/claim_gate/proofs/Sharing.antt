@@ -1,6 +1,6 @@
 -- Calls of a gate behind a lock, by those of the gate of one thread.
 use Rattle.std.proofs.Common.{◌≡◌, ◌+◌, ℕ, max, refl, sym, ap, inl, inr, ◌∙◌, subst}
-use Rattle.claim_terms.specs.Terms.{ForTerms, IsTermsOf, TermsParts}
+use Rattle.claim_terms.specs.Terms.{ForTerms, IsTermsOf}
 use Rattle.settlement.specs.declared.acc.Acc.{Acc}
 use Rattle.settlement.specs.declared.claim.Claim.{Claim}
 use Rattle.journal.specs.Terms.{Terms}
@@ -11,7 +11,7 @@ use Rattle.turn_lock.specs.Ticket.{last_word}
 use Rattle.turn_lock.specs.TicketShown.{HasMet}
 use Rattle.turn_lock.specs.declared.ticket.view.LiveView.{LiveView as Seen}
 use Rattle.claim_gate.specs.Parts.{GateParts, at}
-use Rattle.claim_gate.specs.Shared.{HadSection, HaveMet, IsLawful, Known}
+use Rattle.claim_gate.specs.Shared.{HadSection, IsLawful, Known}
 
 -- what leads to another state as contracts see the two does so as journals see them
 pub leads_at : (T : Terms) (earlier later : GateParts) → LeadsTo earlier later → LeadsTo (at T earlier) (at T later)
@@ -45,12 +45,4 @@ met_worn leads one other both met worn behind =
     elim met [
       | inl is ↦ ap (λ k. k.next) is.1 ∙ greater
       | inr is ↦ ap (λ k. k.next) is.1 ∙ greater
-    ]
-
--- passes that have met have seen the terms that both had
-pub met_terms : (first second both : Known) (parts : TermsParts) → HaveMet first second both → first.seen.terms ≡ parts → second.seen.terms ≡ parts → both.seen.terms ≡ parts
-met_terms first second both parts met one other =
-    elim met.later [
-      | inl same ↦ ap (λ (g : GateParts). g.terms) same.0 ∙ one
-      | inr same ↦ ap (λ (g : GateParts). g.terms) same.0 ∙ other
     ]

@@ -5,4 +5,3 @@ pub mod Replies
 pub mod FaultNumber
 pub mod Shared
 pub mod Locked
-pub mod TestWords

@@ -22,8 +22,6 @@ mod offer;
 mod reply;
 mod serial;
 mod state;
-#[cfg(test)]
-mod tests;
 
 pub use batch::Batch;
 pub use claim_terms::{Terms, TermsFault};

@@ -10,8 +10,6 @@
 mod fault;
 mod laws;
 mod terms;
-#[cfg(test)]
-mod tests;
 
 pub use fault::TermsFault;
 pub use laws::terms_are_seen;

@@ -12,8 +12,6 @@ mod files;
 pub mod names;
 mod pulse;
 mod telling;
-#[cfg(test)]
-mod tests;
 mod texts;
 mod words;
 

@@ -171,7 +171,7 @@ impl<'a> CutPlan<'a> {
     }
 
     /// The rules of the table at the place that match, where its masks tell.
-    pub(crate) fn matching_mask(
+    pub fn matching_mask(
         &self,
         given: &Inputs,
         earlier: &[Answers<'_>],

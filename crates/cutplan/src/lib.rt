@@ -32,8 +32,6 @@ mod rising;
 mod sharing;
 mod stretch;
 mod table_check;
-#[cfg(test)]
-mod tests;
 
 pub use cut_plan::{CutPlan, compile};
 pub use fault::CheckFault;

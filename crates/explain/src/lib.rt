@@ -14,8 +14,6 @@ mod plan;
 mod shown;
 mod spot;
 mod table;
-#[cfg(test)]
-mod tests;
 mod words;
 
 pub use argument::explain_literal;

@@ -24,8 +24,6 @@ mod refusal;
 mod sequence;
 mod strings;
 mod symbol;
-#[cfg(test)]
-mod tests;
 mod text;
 mod unary;
 mod value;

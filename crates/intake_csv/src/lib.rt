@@ -20,8 +20,6 @@ mod record;
 mod records;
 mod rows;
 mod sheet;
-#[cfg(test)]
-mod tests;
 mod values;
 
 pub use balances::{Balances, read_balances};

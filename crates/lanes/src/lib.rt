@@ -15,8 +15,6 @@ mod phase;
 mod picked;
 mod short;
 mod slot;
-#[cfg(test)]
-mod tests;
 
 pub use board::Lanes;
 pub use picked::Picked;

@@ -9,8 +9,6 @@ mod places;
 mod position;
 mod scanner;
 mod shape;
-#[cfg(test)]
-mod tests;
 mod unread;
 
 pub use edits::is_one_edit;

@@ -22,8 +22,6 @@ mod rate;
 mod remarks;
 mod role;
 mod terms;
-#[cfg(test)]
-mod tests;
 mod vocabulary;
 
 pub use acc::Acc;

@@ -1,0 +1,153 @@
+//! Worked values of the command, and what no clause says: that it succeeds where memory and the writer allow.
+use crate::testing::{
+    Narrow, WhenFull, is_cut, is_printed, is_refused, is_whole, is_whole_or_none,
+};
+use adjudicate::do_value;
+use fixpoint::Out;
+use std::alloc::{AllocError, Global};
+use std::process::Abort;
+use std::test::Fail;
+
+mod hit_policies;
+mod plan_faults;
+mod values;
+
+/// One table over one number.
+const PLAN: &str = "version = 1
+fields = [{name = \"x\", kind = \"number\"}]
+[[tables]]
+inputs = [{name = \"x\"}]
+outputs = [{name = \"y\", kind = \"number\"}]
+rules = [{when = ['[0..10['], then = ['1']}, {when = ['>=10'], then = ['2.5']}]
+";
+
+/// Two inputs, in another order than their fields, and two outputs.
+const CROSSED: &str = "version = 1
+fields = [{name = \"a\", kind = \"number\"}, {name = \"b\", kind = \"number\"}]
+[[tables]]
+inputs = [{name = \"b\"}, {name = \"a\"}]
+outputs = [{name = \"z\", kind = \"number\"}, {name = \"y\", kind = \"number\"}]
+rules = [{when = ['<1', '-'], then = ['1', '-2']}, {when = ['>=1', '>5'], then = ['3', '.5']}]
+";
+
+/// A plan, arguments, and what is printed.
+const PRINTED: &[(&str, &[&str], &str)] = &[
+    (PLAN, &["x=10"], "y = 2.5\n"),
+    (PLAN, &["x=9.9999"], "y = 1\n"),
+    (PLAN, &["x= 0 "], "y = 1\n"),
+    (CROSSED, &["a=0", "b=0"], "z = 1\ny = -2\n"),
+    (CROSSED, &["b=1", "a=5.0001"], "z = 3\ny = 0.5\n"),
+    ("version = 1\n", &[], ""),
+];
+
+/// A plan, arguments, and the line of the refusal.
+const REFUSED: &[(&str, &[&str], &str)] = &[
+    (PLAN, &["x=-1"], "fault norule:1\n"),
+    (PLAN, &[], "missing x\n"),
+    (CROSSED, &["b=1"], "missing a\n"),
+    (CROSSED, &[], "missing a\n"),
+    (
+        "version = 3\n",
+        &["x"],
+        "plan fault 3 table 0 rule 0 column 0\n",
+    ),
+    (PLAN, &["x"], "argument 1 fault 1\n"),
+    (PLAN, &["z=1"], "argument 1 fault 2\n"),
+    (PLAN, &["x=1", "x=2"], "argument 2 fault 3\n"),
+    (PLAN, &["x=["], "argument 1 fault 4 cell 1 at 0\n"),
+    (PLAN, &["x==1"], "argument 1 fault 4 cell 1 at 0\n"),
+    (PLAN, &["x="], "argument 1 fault 4 cell 1 at 0\n"),
+    (PLAN, &["x=1", "x"], "argument 2 fault 1\n"),
+    (PLAN, &["=1"], "argument 1 fault 2\n"),
+];
+
+/// Writers that take so many bytes a write.
+const WRITERS: &[(usize, WhenFull)] = &[
+    (1, WhenFull::Fails),
+    (3, WhenFull::Fails),
+    (32, WhenFull::Fails),
+    (1, WhenFull::TakesNothing),
+    (3, WhenFull::TakesNothing),
+    (32, WhenFull::TakesNothing),
+];
+
+const ARGUMENTS: &[&str] = &["a=6", "b=1"];
+
+const TEXT: &str = "z = 3\ny = 0.5\n";
+
+// The command prints this text for a plan at the arguments.
+fn gives(alloc: Global, plan: &str, arguments: &[&str], text: &str) -> bool {
+    let mut out = Out::new(Vec::new(alloc));
+    let result = do_value(alloc, plan.as_bytes(), arguments, &mut out);
+    is_printed(result, out, text)
+}
+
+// The command refuses a plan or its arguments with this line.
+fn refuses(alloc: Global, plan: &str, arguments: &[&str], line: &str) -> bool {
+    let mut out = Out::new(Vec::new(alloc));
+    let result = do_value(alloc, plan.as_bytes(), arguments, &mut out);
+    is_refused(result, out, line)
+}
+
+fn all_give(rt: &impl Abort, alloc: Global, rows: &[(&str, &[&str], &str)]) {
+    for row in rows {
+        let (plan, arguments, text) = *row;
+        assert!(rt; gives(alloc, plan, arguments, text), "{text}");
+    }
+}
+
+fn all_refuse(rt: &impl Abort, alloc: Global, rows: &[(&str, &[&str], &str)]) {
+    for row in rows {
+        let (plan, arguments, line) = *row;
+        assert!(rt; refuses(alloc, plan, arguments, line), "{line}");
+    }
+}
+
+#[test]
+fn prints_the_one_match(rt: HostRuntime) {
+    all_give(&rt, rt.alloc(), PRINTED);
+}
+
+#[test]
+fn refuses_what_has_no_value(rt: HostRuntime) {
+    all_refuse(&rt, rt.alloc(), REFUSED);
+}
+
+// A writer that has room for so many bytes of the text gets these.
+fn fills(
+    alloc: Global,
+    limit: usize,
+    width: usize,
+    when_full: WhenFull,
+) -> Result<bool, AllocError> {
+    let mut out = Out::new(Narrow::new(alloc, limit, width, when_full)?);
+    let result = do_value(alloc, CROSSED.as_bytes(), ARGUMENTS, &mut out);
+    if limit < TEXT.len() {
+        Ok(is_cut(result, out, TEXT, limit))
+    } else {
+        Ok(is_whole(result, out, TEXT))
+    }
+}
+
+#[test]
+fn a_full_writer_has_the_first_bytes(rt: HostRuntime) -> Result<(), Fail> {
+    for writer in WRITERS {
+        let (width, when_full) = *writer;
+        for limit in 0..15 {
+            assert!(rt; fills(rt.alloc(), limit, width, when_full)?, "{limit}");
+        }
+    }
+    Ok(())
+}
+
+/// Run it with each allocation refused in turn: all of them but the writer's are the command's.
+#[test]
+fn want_of_memory_writes_nothing(rt: HostRuntime) {
+    let alloc = rt.alloc();
+    let Ok(writer) = Narrow::new(alloc, 32, 32, WhenFull::Fails) else {
+        return;
+    };
+    let mut out = Out::new(writer);
+    let result = do_value(alloc, PLAN.as_bytes(), &["x=10"], &mut out);
+    assert!(rt; is_whole_or_none(result, out, "y = 2.5\n"));
+}

@@ -1,0 +1,13 @@
+-- Callers that have met.
+use Rattle.std.proofs.Common.{◌≡◌, ap, inl, inr, ◌∙◌}
+use Rattle.claim_terms.specs.Terms.{TermsParts}
+use Rattle.claim_gate.specs.Parts.{GateParts}
+use Rattle.claim_gate.specs.Shared.{HaveMet, Known}
+
+-- passes that have met have seen the terms that both had
+pub met_terms : (first second both : Known) (parts : TermsParts) → HaveMet first second both → first.seen.terms ≡ parts → second.seen.terms ≡ parts → both.seen.terms ≡ parts
+met_terms first second both parts met one other =
+    elim met.later [
+      | inl same ↦ ap (λ (g : GateParts). g.terms) same.0 ∙ one
+      | inr same ↦ ap (λ (g : GateParts). g.terms) same.0 ∙ other
+    ]

@@ -1,0 +1,130 @@
+//! Calls that are made once more where memory is refused: what was given has come back, and nothing has changed. A second refusal ends
+//! the test, which is run once for each of its allocations, with that one refused.
+ghost use Rattle.std.specs.Prelude.{◌≡◌, ◌++◌, ◌∷◌, [], true, IfOk, IfErr, OnOk, OnErr};
+ghost use Rattle.claim_terms.specs.Terms.{ForTerms};
+ghost use Rattle.journal.specs.Events.{taken, IsJob};
+ghost use Rattle.journal.specs.Gate.{Continues, Takes};
+ghost use Rattle.journal.specs.Settled.{outcome_of};
+ghost use Rattle.journal.specs.declared.event.Event.TheVariants as events;
+ghost use Rattle.claim_gate.specs.Parts.{at};
+ghost use Rattle.claim_gate.specs.Replies.{take_reply, HasClaims, IsFiled, IsWorkOf};
+
+use claim_gate::{
+    Accepted, Counts, EndFault, Ended, FinishFault, GateState, Job, Offer, OfferFault, Recorded,
+    TakeFault, Taken,
+};
+use settlement::Outcome;
+use std::alloc::{AllocError, Global};
+use std::process::Abort;
+
+// How far a gate is, and how long its journal.
+fn mark(gate: &GateState) -> (Counts, usize) {
+    (gate.counts(), gate.journal().len())
+}
+
+/// `GateState::offer`.
+pub fn offer<'t>(
+    rt: &impl Abort,
+    gate: &mut GateState<'t>,
+    offer: Offer,
+) -> Result<Accepted, (OfferFault, Offer)>
+    requires filed { ForTerms gate.old.terms (λ T. IsFiled T offer) }
+    ensures terms { gate.new.terms ≡ gate.old.terms }
+    ensures goes_on { OnOk result (Continues gate.old.journal gate.new.journal) }
+{
+    let before = mark(gate);
+    let filed = (offer.provider, offer.place);
+    match gate.offer(offer) {
+        Ok(accepted) => Ok(accepted),
+        Err((OfferFault::OutOfMemory, back)) => {
+            assert!(rt; mark(gate) == before && (back.provider, back.place) == filed);
+            let answer = gate.offer(back);
+            assert!(rt; !matches!(answer, Err((OfferFault::OutOfMemory, _))));
+            answer
+        }
+        Err(refused) => Err(refused),
+    }
+}
+
+/// `GateState::end`.
+pub fn end<'t>(
+    rt: &impl Abort,
+    gate: &mut GateState<'t>,
+    provider: usize,
+    count: usize,
+) -> Result<Ended, EndFault>
+    requires { ForTerms gate.old.terms (λ T. HasClaims T provider count) }
+    ensures terms { gate.new.terms ≡ gate.old.terms }
+{
+    let before = mark(gate);
+    match gate.end(provider, count) {
+        Err(EndFault::OutOfMemory) => {
+            assert!(rt; mark(gate) == before);
+            let answer = gate.end(provider, count);
+            assert!(rt; !matches!(answer, Err(EndFault::OutOfMemory)));
+            answer
+        }
+        Ok(ended) => Ok(ended),
+        Err(refused) => Err(refused),
+    }
+}
+
+/// `GateState::take`.
+pub fn take<'t>(rt: &impl Abort, gate: &mut GateState<'t>) -> Result<Taken, TakeFault>
+    ensures reply { ForTerms gate.old.terms (λ T. Takes (at T gate.old) (take_reply result) (at T gate.new)) }
+    ensures work { IfOk result (IsWorkOf gate.old gate.new) }
+    ensures terms { gate.new.terms ≡ gate.old.terms }
+    ensures goes_on { OnOk result (Continues gate.old.journal gate.new.journal) }
+{
+    let before = mark(gate);
+    match gate.take() {
+        Err(_) => {
+            assert!(rt; mark(gate) == before);
+            let answer = gate.take();
+            assert!(rt; answer.is_ok());
+            answer
+        }
+        Ok(taken) => Ok(taken),
+    }
+}
+
+/// `GateState::finish`.
+pub fn finish<'t>(
+    rt: &impl Abort,
+    gate: &mut GateState<'t>,
+    job: Job,
+    outcome: Outcome,
+) -> Result<Recorded, (FinishFault, Job, Outcome)>
+    requires in_work { taken gate.old.journal job.position ≡ true }
+    requires job { ForTerms gate.old.terms (λ T. IsJob T gate.old.journal job.position job.claim job.acc) }
+    requires settled { outcome ≡ outcome_of gate.old.terms.plan job.claim job.acc }
+    ensures terms { gate.new.terms ≡ gate.old.terms }
+    ensures recorded { OnOk result (gate.new ≡ record gate.old { journal = gate.old.journal ++ events.Decide job.position outcome ∷ [] }) }
+{
+    let before = mark(gate);
+    let given = (job.position, outcome.paid);
+    match gate.finish(job, outcome) {
+        Ok(recorded) => Ok(recorded),
+        Err((FinishFault::OutOfMemory, job, outcome)) => {
+            assert!(rt; mark(gate) == before && (job.position, outcome.paid) == given);
+            let answer = gate.finish(job, outcome);
+            assert!(rt; !matches!(answer, Err((FinishFault::OutOfMemory, _, _))));
+            answer
+        }
+        Err(refused) => Err(refused),
+    }
+}
+
+/// `Job::again`.
+pub fn copy(rt: &impl Abort, alloc: Global, job: &Job) -> Result<Job, AllocError>
+    ensures { IfOk result (λ copy. copy ≡ job.now) }
+{
+    match job.again(alloc) {
+        Ok(copy) => Ok(copy),
+        Err(_) => {
+            let copy = job.again(alloc);
+            assert!(rt; copy.is_ok());
+            copy
+        }
+    }
+}

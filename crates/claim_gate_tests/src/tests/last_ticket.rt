@@ -1,0 +1,183 @@
+//! A gate behind a lock of which two tickets are left, one, or none: each call behind the last one is answered so, and the pass
+//! and the values come back.
+ghost use Rattle.std.specs.Prelude.{◌≡◌, IfOk, IfErr};
+ghost use Rattle.claim_gate_tests.specs.Words.{IsAtWork, IsCaller};
+
+use super::calls::settled;
+use super::filing::{is_offer, offer_at, plan_of, read_all, terms_of};
+use super::shared::{accept_at, take_job};
+use super::worked::{is_job, is_paid_40};
+use claim_gate::{Gate, GateState, Job, LockedGate, SerialGate, Terms};
+use std::alloc::{AllocError, Global};
+use std::process::Abort;
+use std::sync::Wait;
+use std::test::Fail;
+use turn_lock::{Section, TicketLock};
+use worked_examples::{first_file, health_plan, second_file};
+
+// The calls of an intake.
+fn worn_intake<G: Gate>(
+    rt: &(impl Abort + Wait),
+    alloc: Global,
+    terms: &Terms,
+    gate: &G,
+    pass: G::Pass,
+) -> Result<G::Pass, AllocError>
+    requires caller { IsCaller (G.has_pass gate.now) G.known terms.now pass }
+    ensures caller { IfOk result (IsCaller (G.has_pass gate.now) G.known terms.now) }
+{
+    let offer = offer_at(rt, alloc, terms, 1, 0)?;
+    read_all(rt, alloc, terms, 1, 4)?;
+    let Err((_, pass, back)) = gate.offer(rt, pass, offer) else {
+        panic!(rt; "no ticket for an offer");
+    };
+    assert!(rt; is_offer(&back, 1, 0, "c1"));
+    let Err((_, pass)) = gate.end(rt, pass, 1, 4) else {
+        panic!(rt; "no ticket for an end");
+    };
+    Ok(pass)
+}
+
+// The other calls.
+fn worn_calls<G: Gate>(rt: &(impl Abort + Wait), gate: &G, pass: G::Pass) -> G::Pass
+    requires { G.has_pass gate.now pass }
+    ensures { G.has_pass gate.now result }
+{
+    let Err((_, pass)) = gate.take(rt, pass) else {
+        panic!(rt; "no ticket for a take");
+    };
+    let Err((_, pass)) = gate.stop(rt, pass) else {
+        panic!(rt; "no ticket for a stop");
+    };
+    let Err((_, pass)) = gate.counts(rt, pass) else {
+        panic!(rt; "no ticket for the counts");
+    };
+    pass
+}
+
+// The first claim is accepted by the last ticket.
+fn calls_over<S: Section + Drop>(
+    rt: &(impl Abort + Wait),
+    alloc: Global,
+    terms: &Terms,
+    lock: S,
+    pass: S::Pass,
+) -> Result<(), AllocError>
+where
+    S::Value: SerialGate + Drop,
+    S::Pass: Send + Drop,
+    requires own { S.has_pass lock pass }
+    requires terms { (S.Value.shown (S.seen pass)).terms ≡ terms.now }
+{
+    let gate = LockedGate::over(lock);
+    let pass = accept_at(rt, alloc, terms, &gate, pass, (1, 0), 0)?;
+    let pass = worn_intake(rt, alloc, terms, &gate, pass)?;
+    let pass = worn_calls(rt, &gate, pass);
+    assert!(rt; gate.retire(rt, pass).is_err());
+    Ok(())
+}
+
+// No claim is accepted at all.
+fn calls_without<S: Section + Drop>(
+    rt: &(impl Abort + Wait),
+    alloc: Global,
+    terms: &Terms,
+    lock: S,
+    pass: S::Pass,
+) -> Result<(), AllocError>
+where
+    S::Value: SerialGate + Drop,
+    S::Pass: Send + Drop,
+    requires own { S.has_pass lock pass }
+    requires terms { (S.Value.shown (S.seen pass)).terms ≡ terms.now }
+{
+    let gate = LockedGate::over(lock);
+    let pass = worn_intake(rt, alloc, terms, &gate, pass)?;
+    let _pass = worn_calls(rt, &gate, pass);
+    Ok(())
+}
+
+// The outcome of a job: both come back.
+fn worn_finish<G: Gate>(
+    rt: &(impl Abort + Wait),
+    alloc: Global,
+    terms: &Terms,
+    gate: &G,
+    pass: G::Pass,
+    job: Job,
+) -> Result<(), AllocError>
+    requires caller { IsCaller (G.has_pass gate.now) G.known terms.now pass }
+    requires at_work { IsAtWork (G.known pass).seen job }
+{
+    let outcome = settled(rt, alloc, terms, &job)?;
+    let Err((_, _pass, job, outcome)) = gate.finish(rt, pass, job, outcome) else {
+        panic!(rt; "no ticket for a finish");
+    };
+    assert!(rt; is_job(&job, 0, "c1") && is_paid_40(&outcome));
+    Ok(())
+}
+
+// The first claim is taken by the last ticket.
+fn finish_over<S: Section + Drop>(
+    rt: &(impl Abort + Wait),
+    alloc: Global,
+    terms: &Terms,
+    lock: S,
+    pass: S::Pass,
+) -> Result<(), AllocError>
+where
+    S::Value: SerialGate + Drop,
+    S::Pass: Send + Drop,
+    requires own { S.has_pass lock pass }
+    requires terms { (S.Value.shown (S.seen pass)).terms ≡ terms.now }
+{
+    let gate = LockedGate::over(lock);
+    let pass = accept_at(rt, alloc, terms, &gate, pass, (1, 0), 0)?;
+    let (pass, job) = take_job(rt, terms, &gate, pass, 0)?;
+    worn_finish(rt, alloc, terms, &gate, pass, job)
+}
+
+fn one_ticket(rt: &(impl Abort + Wait), alloc: Global, terms: &Terms) -> Result<(), AllocError> {
+    let state = GateState::new(alloc, terms)?;
+    let (lock, pass) = TicketLock::new_at(alloc, state, u64::MAX - 1)?;
+    calls_over(rt, alloc, terms, lock, pass)
+}
+
+fn no_ticket(rt: &(impl Abort + Wait), alloc: Global, terms: &Terms) -> Result<(), AllocError> {
+    let state = GateState::new(alloc, terms)?;
+    let (lock, pass) = TicketLock::new_at(alloc, state, u64::MAX)?;
+    calls_without(rt, alloc, terms, lock, pass)
+}
+
+fn two_tickets(rt: &(impl Abort + Wait), alloc: Global, terms: &Terms) -> Result<(), AllocError> {
+    let state = GateState::new(alloc, terms)?;
+    let (lock, pass) = TicketLock::new_at(alloc, state, u64::MAX - 2)?;
+    finish_over(rt, alloc, terms, lock, pass)
+}
+
+fn by_few_tickets(rt: &(impl Abort + Wait), alloc: Global) -> Result<(), AllocError> {
+    let plan = plan_of(alloc, health_plan().as_bytes())?;
+    let files = [first_file(), second_file()];
+    let terms = terms_of(alloc, &plan, &files, None)?;
+    no_ticket(rt, alloc, &terms)?;
+    one_ticket(rt, alloc, &terms)
+}
+
+fn by_two_tickets(rt: &(impl Abort + Wait), alloc: Global) -> Result<(), AllocError> {
+    let plan = plan_of(alloc, health_plan().as_bytes())?;
+    let files = [first_file(), second_file()];
+    let terms = terms_of(alloc, &plan, &files, None)?;
+    two_tickets(rt, alloc, &terms)
+}
+
+#[test]
+fn no_call_without_a_ticket(rt: HostRuntime) -> Result<(), Fail> {
+    by_few_tickets(&rt, rt.alloc())?;
+    Ok(())
+}
+
+#[test]
+fn no_outcome_without_a_ticket(rt: HostRuntime) -> Result<(), Fail> {
+    by_two_tickets(&rt, rt.alloc())?;
+    Ok(())
+}

@@ -1,0 +1,273 @@
+//! The calls of a gate behind a lock, each with the answer that is wanted: another one ends the test, unless it is want of memory.
+ghost use Rattle.std.specs.Prelude.{◌≡◌, IfOk};
+ghost use Rattle.claim_terms.specs.Terms.{ForTerms};
+ghost use Rattle.claim_gate.specs.Replies.{HasClaims, IsFiled};
+ghost use Rattle.journal.specs.Gate.{LeadsTo};
+ghost use Rattle.claim_gate_tests.specs.Words.{IsAtWork, IsCaller};
+
+use super::again_shared;
+use super::calls::settled;
+use super::filing::offer_at;
+use claim_gate::{EndFault, FinishFault, Gate, Job, Offer, OfferFault, TakeFault, Taken, Terms};
+use journal::jobs_stay;
+use settlement::Outcome;
+use std::alloc::{AllocError, Global};
+use std::process::Abort;
+use std::sync::Wait;
+
+// Offers a claim, which is accepted at a position.
+fn accept<G: Gate>(
+    rt: &(impl Abort + Wait),
+    terms: &Terms,
+    gate: &G,
+    pass: G::Pass,
+    offer: Offer,
+    position: usize,
+) -> Result<G::Pass, AllocError>
+    requires caller { IsCaller (G.has_pass gate.now) G.known terms.now pass }
+    requires filed { ForTerms terms.now (λ T. IsFiled T offer) }
+    ensures caller { IfOk result (IsCaller (G.has_pass gate.now) G.known terms.now) }
+    ensures leads { IfOk result (λ p. LeadsTo (G.known pass).seen (G.known p).seen) }
+{
+    let _plan = terms.plan();
+    let filed = (offer.provider, offer.place);
+    let Ok((reply, pass)) = gate.offer(rt, pass, offer) else {
+        panic!(rt; "a reply");
+    };
+    match reply {
+        Ok(accepted) => {
+            assert!(rt; accepted.position == position);
+            Ok(pass)
+        }
+        Err((OfferFault::OutOfMemory, back)) => {
+            assert!(rt; (back.provider, back.place) == filed);
+            Ok(again_shared::accept(rt, terms, gate, pass, back, position))
+        }
+        Err(_) => panic!(rt; "an accepted claim"),
+    }
+}
+
+// Offers a claim, which is refused: it comes back.
+fn refuse<G: Gate>(
+    rt: &(impl Abort + Wait),
+    terms: &Terms,
+    gate: &G,
+    pass: G::Pass,
+    offer: Offer,
+    fault: OfferFault,
+) -> (G::Pass, Offer)
+    requires caller { IsCaller (G.has_pass gate.now) G.known terms.now pass }
+    requires filed { ForTerms terms.now (λ T. IsFiled T offer) }
+    ensures caller { IsCaller (G.has_pass gate.now) G.known terms.now result.0 }
+    ensures leads { LeadsTo (G.known pass).seen (G.known result.0).seen }
+    ensures back { result.1 ≡ offer }
+{
+    let _plan = terms.plan();
+    let Ok((reply, pass)) = gate.offer(rt, pass, offer) else {
+        panic!(rt; "a reply");
+    };
+    match reply {
+        Ok(_) => panic!(rt; "a refusal"),
+        Err((given, back)) => {
+            assert!(rt; given == fault);
+            (pass, back)
+        }
+    }
+}
+
+// Offers the claim at a place of a provider's file, which is accepted at a position.
+pub fn accept_at<G: Gate>(
+    rt: &(impl Abort + Wait),
+    alloc: Global,
+    terms: &Terms,
+    gate: &G,
+    pass: G::Pass,
+    filed: (usize, usize),
+    position: usize,
+) -> Result<G::Pass, AllocError>
+    requires caller { IsCaller (G.has_pass gate.now) G.known terms.now pass }
+    ensures caller { IfOk result (IsCaller (G.has_pass gate.now) G.known terms.now) }
+    ensures leads { IfOk result (λ p. LeadsTo (G.known pass).seen (G.known p).seen) }
+{
+    let (provider, place) = filed;
+    let offer = offer_at(rt, alloc, terms, provider, place)?;
+    accept(rt, terms, gate, pass, offer, position)
+}
+
+// Offers the claim at a place of a provider's file, which is refused.
+pub fn refuse_at<G: Gate>(
+    rt: &(impl Abort + Wait),
+    alloc: Global,
+    terms: &Terms,
+    gate: &G,
+    pass: G::Pass,
+    filed: (usize, usize),
+    fault: OfferFault,
+) -> Result<(G::Pass, Offer), AllocError>
+    requires caller { IsCaller (G.has_pass gate.now) G.known terms.now pass }
+    ensures caller { IfOk result (λ r. IsCaller (G.has_pass gate.now) G.known terms.now r.0) }
+    ensures leads { IfOk result (λ r. LeadsTo (G.known pass).seen (G.known r.0).seen) }
+{
+    let (provider, place) = filed;
+    let offer = offer_at(rt, alloc, terms, provider, place)?;
+    Ok(refuse(rt, terms, gate, pass, offer, fault))
+}
+
+// Takes a claim, which is that at a position.
+pub fn take_job<G: Gate>(
+    rt: &(impl Abort + Wait),
+    terms: &Terms,
+    gate: &G,
+    pass: G::Pass,
+    position: usize,
+) -> Result<(G::Pass, Job), AllocError>
+    requires caller { IsCaller (G.has_pass gate.now) G.known terms.now pass }
+    ensures caller { IfOk result (λ r. IsCaller (G.has_pass gate.now) G.known terms.now r.0) }
+    ensures leads { IfOk result (λ r. LeadsTo (G.known pass).seen (G.known r.0).seen) }
+    ensures at_work { IfOk result (λ r. IsAtWork (G.known r.0).seen r.1) }
+{
+    jobs_stay();
+    let _plan = terms.plan();
+    let Ok((reply, pass)) = gate.take(rt, pass) else {
+        panic!(rt; "a reply");
+    };
+    match reply {
+        Ok(Taken::Work(job)) => {
+            assert!(rt; job.position == position);
+            Ok((pass, job))
+        }
+        Err(TakeFault::OutOfMemory) => {
+            Ok(again_shared::take_job(rt, terms, gate, pass, position))
+        }
+        Ok(_) => panic!(rt; "work"),
+    }
+}
+
+// Takes nothing, since nothing is ready.
+pub fn find_nothing<G: Gate>(
+    rt: &(impl Abort + Wait),
+    terms: &Terms,
+    gate: &G,
+    pass: G::Pass,
+) -> Result<G::Pass, AllocError>
+    requires caller { IsCaller (G.has_pass gate.now) G.known terms.now pass }
+    ensures caller { IfOk result (IsCaller (G.has_pass gate.now) G.known terms.now) }
+    ensures leads { IfOk result (λ p. LeadsTo (G.known pass).seen (G.known p).seen) }
+{
+    let _plan = terms.plan();
+    let Ok((reply, pass)) = gate.take(rt, pass) else {
+        panic!(rt; "a reply");
+    };
+    match reply {
+        Ok(Taken::NothingReady) => Ok(pass),
+        Err(TakeFault::OutOfMemory) => Ok(again_shared::find_nothing(rt, terms, gate, pass)),
+        Ok(_) => panic!(rt; "nothing ready"),
+    }
+}
+
+// Finishes a job with its outcome, which is recorded.
+pub fn record<G: Gate>(
+    rt: &(impl Abort + Wait),
+    alloc: Global,
+    terms: &Terms,
+    gate: &G,
+    pass: G::Pass,
+    job: Job,
+) -> Result<G::Pass, AllocError>
+    requires caller { IsCaller (G.has_pass gate.now) G.known terms.now pass }
+    requires at_work { IsAtWork (G.known pass).seen job }
+    ensures caller { IfOk result (IsCaller (G.has_pass gate.now) G.known terms.now) }
+    ensures leads { IfOk result (λ p. LeadsTo (G.known pass).seen (G.known p).seen) }
+{
+    jobs_stay();
+    let outcome = settled(rt, alloc, terms, &job)?;
+    let given = (job.position, outcome.paid);
+    let Ok((reply, pass)) = gate.finish(rt, pass, job, outcome) else {
+        panic!(rt; "a reply");
+    };
+    match reply {
+        Ok(_) => Ok(pass),
+        Err((FinishFault::OutOfMemory, job, outcome)) => {
+            assert!(rt; (job.position, outcome.paid) == given);
+            Ok(again_shared::record(rt, terms, gate, pass, job, outcome))
+        }
+        Err(_) => panic!(rt; "a recorded outcome"),
+    }
+}
+
+// Finishes a job, which is refused: the job and the outcome come back.
+pub fn refuse_outcome<G: Gate>(
+    rt: &(impl Abort + Wait),
+    alloc: Global,
+    terms: &Terms,
+    gate: &G,
+    pass: G::Pass,
+    job: Job,
+    fault: FinishFault,
+) -> Result<(G::Pass, Job, Outcome), AllocError>
+    requires caller { IsCaller (G.has_pass gate.now) G.known terms.now pass }
+    requires at_work { IsAtWork (G.known pass).seen job }
+    ensures caller { IfOk result (λ r. IsCaller (G.has_pass gate.now) G.known terms.now r.0) }
+    ensures leads { IfOk result (λ r. LeadsTo (G.known pass).seen (G.known r.0).seen) }
+{
+    let outcome = settled(rt, alloc, terms, &job)?;
+    let Ok((reply, pass)) = gate.finish(rt, pass, job, outcome) else {
+        panic!(rt; "a reply");
+    };
+    match reply {
+        Ok(_) => panic!(rt; "a refusal"),
+        Err((given, job, outcome)) => {
+            assert!(rt; given == fault);
+            Ok((pass, job, outcome))
+        }
+    }
+}
+
+// Ends a provider, which is refused.
+pub fn refuse_end<G: Gate>(
+    rt: &(impl Abort + Wait),
+    terms: &Terms,
+    gate: &G,
+    pass: G::Pass,
+    provider: usize,
+    count: usize,
+    fault: EndFault,
+) -> G::Pass
+    requires caller { IsCaller (G.has_pass gate.now) G.known terms.now pass }
+    requires claims { ForTerms terms.now (λ T. HasClaims T provider count) }
+    ensures caller { IsCaller (G.has_pass gate.now) G.known terms.now result }
+    ensures leads { LeadsTo (G.known pass).seen (G.known result).seen }
+{
+    let _plan = terms.plan();
+    let Ok((reply, pass)) = gate.end(rt, pass, provider, count) else {
+        panic!(rt; "a reply");
+    };
+    match reply {
+        Ok(_) => panic!(rt; "a refusal"),
+        Err(given) => {
+            assert!(rt; given == fault);
+            pass
+        }
+    }
+}
+
+// Takes nothing, since the gate is stopped.
+pub fn find_stopped<G: Gate>(
+    rt: &(impl Abort + Wait),
+    terms: &Terms,
+    gate: &G,
+    pass: G::Pass,
+) -> G::Pass
+    requires caller { IsCaller (G.has_pass gate.now) G.known terms.now pass }
+    ensures caller { IsCaller (G.has_pass gate.now) G.known terms.now result }
+    ensures leads { LeadsTo (G.known pass).seen (G.known result).seen }
+{
+    let _plan = terms.plan();
+    let Ok((reply, pass)) = gate.take(rt, pass) else {
+        panic!(rt; "a reply");
+    };
+    match reply {
+        Ok(Taken::Stopped) => pass,
+        _ => panic!(rt; "a stopped gate"),
+    }
+}
