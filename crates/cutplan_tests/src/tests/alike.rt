@@ -281,6 +281,15 @@ fn numbers_are_valued_alike(rt: HostRuntime) -> Result<(), Fail> {
 }
 
 #[test]
+fn two_of_three_rules_answer_by_masks(rt: HostRuntime) -> Result<(), Fail> {
+    let plan = read(&rt, rt.alloc(), THREE_RULES)?;
+    let cut = compile(rt.alloc(), &plan)?;
+    let answers = told(&rt, rt.alloc(), &cut, &[(FIRST, "2")])?;
+    assert!(rt; answers.as_slice() == b"1 1 \n".as_slice());
+    Ok(())
+}
+
+#[test]
 fn four_columns_are_valued_alike(rt: HostRuntime) -> Result<(), Fail> {
     are_alike(&rt, rt.alloc(), &MANY_COLUMNS)
 }
