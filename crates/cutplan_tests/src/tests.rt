@@ -4,7 +4,7 @@ mod alike;
 mod places;
 
 use cutplan::{CELL_LIMIT, CheckFault, Region, compile};
-use dtable::{Answer, Inputs, Plan, PlanFault, Sequence, Valuer, read_plan};
+use dtable::{Plan, PlanFault, Sequence, read_plan};
 use feel_tests::Value;
 use std::alloc::{AllocError, Global};
 use std::process::Abort;
@@ -237,36 +237,6 @@ fn seventeen_regions_in_each_of_four_columns(rt: HostRuntime) {
     let fault = gaps(&rt, rt.alloc(), SEVENTEEN_REGIONS).err();
     assert_eq!(rt; fault, Some(CheckFault::TooWide));
     assert_eq!(rt; CELL_LIMIT, 65_536);
-}
-
-// Whether the answer is a list of so many ones.
-fn are_ones(answer: Option<&Answer>, count: usize) -> bool {
-    match answer {
-        Some(Answer::Many(values)) => values.len() == count && values.as_slice().iter().all(is_one),
-        _ => false,
-    }
-}
-
-fn is_one(value: &Value) -> bool {
-    is_number(value, 10_000)
-}
-
-#[test]
-fn a_cut_plan_values_as_its_plan(rt: HostRuntime) -> Result<(), Fail> {
-    let alloc = rt.alloc();
-    let plan = read(&rt, alloc, THREE_RULES)?;
-    let cut = compile(alloc, &plan)?;
-    let mut inputs = Inputs::new(alloc, cut.plan())?;
-    let number = fixpoint::Fixed::parse(b"2").expect(&rt, "a number");
-    if let Some(feel_tests::Kind::Number) = inputs.kind_at(4) {
-        inputs.set(4, Value::Number(number));
-    }
-    assert!(rt; cut.plan().ready(&inputs));
-    match cut.value(alloc, &inputs) {
-        Ok(values) => assert!(rt; are_ones(values.get("y"), 2)),
-        Err(_) => assert!(rt; false),
-    }
-    Ok(())
 }
 
 /// A flag and a text, with two gaps and one overlap.

@@ -250,22 +250,32 @@ fn is_alike_at(
     Ok(())
 }
 
-/// The plan of the row and its cut plan answer alike.
-fn is_alike(rt: &impl Abort, alloc: Global, row: &Row) -> Result<(), Fail> {
-    let plan = read(rt, alloc, row.0)?;
-    let cut = compile(alloc, &plan)?;
+/// A plan and its cut plan answer alike at each of the row's literals.
+fn are_alike_at(
+    rt: &impl Abort,
+    alloc: Global,
+    plan: &Plan,
+    cut: &CutPlan,
+    row: &Row,
+) -> Result<(), Fail> {
     for first in row.1 {
         for second in row.2 {
-            is_alike_at(
-                rt,
-                alloc,
-                &plan,
-                &cut,
-                &[(FIRST, *first), (FIRST + 1, *second)],
-            )?;
+            let given = [(FIRST, *first), (FIRST + 1, *second)];
+            is_alike_at(rt, alloc, plan, cut, &given)?;
         }
     }
     Ok(())
+}
+
+fn is_cut_alike(rt: &impl Abort, alloc: Global, plan: &Plan, row: &Row) -> Result<(), Fail> {
+    let cut = compile(alloc, plan)?;
+    are_alike_at(rt, alloc, plan, &cut, row)
+}
+
+/// The plan of the row and its cut plan answer alike.
+fn is_alike(rt: &impl Abort, alloc: Global, row: &Row) -> Result<(), Fail> {
+    let plan = read(rt, alloc, row.0)?;
+    is_cut_alike(rt, alloc, &plan, row)
 }
 
 fn are_alike(rt: &impl Abort, alloc: Global, rows: &[Row]) -> Result<(), Fail> {
@@ -278,6 +288,15 @@ fn are_alike(rt: &impl Abort, alloc: Global, rows: &[Row]) -> Result<(), Fail> {
 #[test]
 fn numbers_are_valued_alike(rt: HostRuntime) -> Result<(), Fail> {
     are_alike(&rt, rt.alloc(), &NUMBERS)
+}
+
+#[test]
+fn two_of_three_rules_answer_by_masks(rt: HostRuntime) -> Result<(), Fail> {
+    let plan = read(&rt, rt.alloc(), THREE_RULES)?;
+    let cut = compile(rt.alloc(), &plan)?;
+    let answers = told(&rt, rt.alloc(), &cut, &[(FIRST, "2")])?;
+    assert!(rt; answers.as_slice() == b"1 1 \n".as_slice());
+    Ok(())
 }
 
 #[test]
@@ -310,17 +329,31 @@ fn stretches_side_by_side_are_valued_alike(rt: HostRuntime) -> Result<(), Fail> 
     are_alike(&rt, rt.alloc(), &SIDE_BY_SIDE)
 }
 
-#[test]
-fn remarks_are_valued_alike(rt: HostRuntime) -> Result<(), Fail> {
-    let plan = read(&rt, rt.alloc(), health_plan().as_bytes())?;
-    let cut = compile(rt.alloc(), &plan)?;
+/// The health plan and its cut plan answer alike at each code and amount.
+fn are_remarks_alike(
+    rt: &impl Abort,
+    alloc: Global,
+    plan: &Plan,
+    cut: &CutPlan,
+) -> Result<(), Fail> {
     for code in &REMARK_CODES {
         for (billed, met) in &REMARK_AMOUNTS {
             let given = [(FIRST, *code), (BILLED, *billed), (MET, *met)];
-            is_alike_at(&rt, rt.alloc(), &plan, &cut, &given)?;
+            is_alike_at(rt, alloc, plan, cut, &given)?;
         }
     }
     Ok(())
+}
+
+fn are_cut_remarks_alike(rt: &impl Abort, alloc: Global, plan: &Plan) -> Result<(), Fail> {
+    let cut = compile(alloc, plan)?;
+    are_remarks_alike(rt, alloc, plan, &cut)
+}
+
+#[test]
+fn remarks_are_valued_alike(rt: HostRuntime) -> Result<(), Fail> {
+    let plan = read(&rt, rt.alloc(), health_plan().as_bytes())?;
+    are_cut_remarks_alike(&rt, rt.alloc(), &plan)
 }
 
 /// A plan of one table that reads one field, and literals of the field.
@@ -369,20 +402,25 @@ fn is_told(alloc: Global, plan: &Plan, cut: &CutPlan, literal: &str) -> Result<b
     Ok(true)
 }
 
-fn are_told(rt: &impl Abort, alloc: Global, row: &Known) -> Result<(), Fail> {
-    let plan = read(rt, alloc, row.0)?;
-    let cut = compile(alloc, &plan)?;
-    for literal in row.1 {
-        let told = is_told(alloc, &plan, &cut, literal)?;
+fn are_told(rt: &impl Abort, alloc: Global, plan: &Plan, literals: &[&str]) -> Result<(), Fail> {
+    let cut = compile(alloc, plan)?;
+    for literal in literals {
+        let literal: &str = literal;
+        let told = is_told(alloc, plan, &cut, literal)?;
         assert!(rt; told, "{literal}");
     }
     Ok(())
 }
 
+fn is_known(rt: &impl Abort, alloc: Global, row: &Known) -> Result<(), Fail> {
+    let plan = read(rt, alloc, row.0)?;
+    are_told(rt, alloc, &plan, row.1)
+}
+
 #[test]
 fn masks_tell_of_allowed_values(rt: HostRuntime) -> Result<(), Fail> {
     for row in &KNOWN {
-        are_told(&rt, rt.alloc(), row)?;
+        is_known(&rt, rt.alloc(), row)?;
     }
     Ok(())
 }
