@@ -113,7 +113,7 @@ gives-at names texts files place d file E (Err e) are within at is = tt
 
 -- a fault of the balances, behind a plan with roles and files of claims
 pub refused-balances : (plan : PlanParts) (texts : List (List ℕ)) (balances : Option (List ℕ)) (fault : TermsFault) → IsSome plan.roles → IsFileCount (length texts)
-    → All (IsClaimFile plan.names) texts → IsFaultOfBalances balances fault → HasTermsFault plan texts balances fault
+    → All (IsClaimFile plan.names) texts → IsFaultOfBalances plan balances fault → HasTermsFault plan texts balances fault
 refused-balances plan texts balances NoRoles roles count claims refused = absurd refused
 refused-balances plan texts balances Files roles count claims refused = absurd refused
 refused-balances plan texts balances (File provider fault) roles count claims refused = absurd refused

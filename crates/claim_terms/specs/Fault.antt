@@ -1,7 +1,7 @@
 -- Why texts make no terms.
 use Rattle.std.specs.Prelude.{◌≡◌, ◌≢◌, ◌+◌, ℕ, List, take, length, slice_get, Option, Some, None, IsSome}
 use Rattle.std.specs.List.{All}
-use Rattle.dtable.specs.Plan.{PlanParts}
+use Rattle.dtable.specs.Plan.{PlanParts, keeps_years}
 use Rattle.dtable.specs.declared.table.InputData.{InputData}
 use Rattle.intake_csv.specs.Columns.{HasFileFault, claim_columns}
 use Rattle.intake_csv.specs.Balances.{HasBalanceFault}
@@ -35,11 +35,11 @@ pub record RefusesFile (names : List InputData) (files : List (List ℕ)) (provi
   pub refused : IsRefused names text fault
   pub before : All (IsClaimFile names) (take place files)
 
--- the text of the balances is refused for this reason
-pub record RefusesBalances (balances : Option (List ℕ)) (fault : BalanceFault) : Type 0 where
+-- the text of the balances is refused under the plan for this reason
+pub record RefusesBalances (plan : PlanParts) (balances : Option (List ℕ)) (fault : BalanceFault) : Type 0 where
   pub text : List ℕ
   pub given : balances ≡ Some text
-  pub refused : HasBalanceFault text fault
+  pub refused : HasBalanceFault (keeps_years plan) text fault
   pub told : fault ≢ balance.OutOfMemory
 
 -- the plan, the files and the balances make no terms, for this reason: each fault supposes that those tried before it
@@ -50,7 +50,7 @@ HasTermsFault plan files balances Files = IsSome plan.roles × ¬ IsFileCount (l
 HasTermsFault plan files balances (File provider fault) =
     IsSome plan.roles × IsFileCount (length files) × RefusesFile plan.names files provider fault
 HasTermsFault plan files balances (Balances fault) =
-    IsSome plan.roles × IsFileCount (length files) × All (IsClaimFile plan.names) files × RefusesBalances balances fault
+    IsSome plan.roles × IsFileCount (length files) × All (IsClaimFile plan.names) files × RefusesBalances plan balances fault
 HasTermsFault plan files balances OutOfMemory = Unit {0}
 
 -- the provider's file makes no terms, for this reason; want of memory can come with any file
@@ -66,7 +66,7 @@ IsFaultOfFiles names files OutOfMemory = Unit {0}
 IsFaultOfFiles names files _ = ⊥
 
 -- the balances make no terms, for this reason; want of memory can come with any balances
-abbrev pub IsFaultOfBalances : Option (List ℕ) → TermsFault → Type 0
-IsFaultOfBalances balances (Balances fault) = RefusesBalances balances fault
-IsFaultOfBalances balances OutOfMemory = Unit {0}
-IsFaultOfBalances balances _ = ⊥
+abbrev pub IsFaultOfBalances : PlanParts → Option (List ℕ) → TermsFault → Type 0
+IsFaultOfBalances plan balances (Balances fault) = RefusesBalances plan balances fault
+IsFaultOfBalances plan balances OutOfMemory = Unit {0}
+IsFaultOfBalances plan balances _ = ⊥

@@ -2,14 +2,14 @@
 use Rattle.std.specs.Prelude.{◌≡◌, ◌≤◌, ℕ, List, [], length, map, option_map, Option, Some, None, IsSome}
 use Rattle.std.specs.Borrow.{Bor}
 use Rattle.std.specs.List.{All, AllZip}
-use Rattle.dtable.specs.Plan.{PlanParts}
+use Rattle.dtable.specs.Plan.{PlanParts, keeps_years}
 use Rattle.dtable.specs.declared.table.InputData.{InputData}
 use Rattle.settlement.specs.declared.claim.Claim.{Claim}
 use Rattle.intake_csv.specs.Records.{Fields}
 use Rattle.intake_csv.specs.ClaimFile.{FileParts, IsFileOf}
 use Rattle.intake_csv.specs.Columns.{IsSheet, claim_columns}
 use Rattle.intake_csv.specs.Rows.{AreRowsOf, claims_among}
-use Rattle.intake_csv.specs.Balances.{AreBalances, Entry, accounts_of}
+use Rattle.intake_csv.specs.Balances.{AreBalances, Book, accounts_of}
 use Rattle.intake_csv.specs.declared.column.Layout.{Layout}
 use Rattle.intake_csv.specs.declared.rows.Row.{Row}
 use Rattle.settlement.specs.Accounts.{Account}
@@ -19,12 +19,12 @@ use Rattle.journal.specs.Lawful.{Finished}
 use Rattle.journal.specs.declared.event.Event.{Event}
 use Rattle.claim_terms.specs.declared.terms.TheConstants.{FILES_LIMIT}
 
--- what a run is fixed over: the plan, the text of each provider's file, the members that have balances, with these, and how
--- many claims are accepted at most, if that is limited
+-- what a run is fixed over: the plan, the text of each provider's file, the members that have balances in each year, with these,
+-- and how many claims are accepted at most, if that is limited
 pub record TermsParts : Type 0 where
   pub plan : PlanParts
   pub files : List (List ℕ)
-  pub balances : List Entry
+  pub balances : List Book
   pub cutoff : Option ℕ
 
 -- the claims of a file: those among its rows
@@ -77,15 +77,15 @@ pub record AreTerms (parts : TermsParts) : Type 0 where
   pub count : IsFileCount (length parts.files)
   pub files : All (IsClaimFile parts.plan.names) parts.files
 
--- the balances of a text; without a text there are none
-abbrev pub AreBalancesOf : Option (List ℕ) → List Entry → Type 0
-AreBalancesOf None entries = entries ≡ []
-AreBalancesOf (Some text) entries = AreBalances text entries
+-- the balances of a text under a plan; without a text there are none
+abbrev pub AreBalancesOf : PlanParts → Option (List ℕ) → List Book → Type 0
+AreBalancesOf plan None balances = balances ≡ []
+AreBalancesOf plan (Some text) balances = AreBalances (keeps_years plan) text balances
 
 -- the terms of a plan, of the files' texts, of the text of the balances, if there is one, and of a cutoff
 pub record AreTermsOf (plan : PlanParts) (files : List (List ℕ)) (balances : Option (List ℕ)) (cutoff : Option ℕ) (parts : TermsParts) : Type 0 where
   pub plan_is : parts.plan ≡ plan
   pub files_are : parts.files ≡ files
-  pub balances_are : AreBalancesOf balances parts.balances
+  pub balances_are : AreBalancesOf plan balances parts.balances
   pub cutoff_is : parts.cutoff ≡ cutoff
   pub holds : AreTerms parts

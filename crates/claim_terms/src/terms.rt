@@ -14,7 +14,7 @@ ghost use Rattle.claim_terms.specs.Terms.{AreBalancesOf, AreFilesOf, AreTerms, A
 use crate::fault::TermsFault;
 use dtable::{Plan, Sequence};
 use intake_csv::{BalanceFault, Balances, ClaimFile, FileFault, Rows, read_balances};
-use settlement::{Acc, Claim};
+use settlement::{Acc, Claim, account_year};
 use std::alloc::{AllocError, Global};
 use std::marker::Model;
 
@@ -67,7 +67,7 @@ impl<'a> Terms<'a> {
             plan,
             files,
             judged: judge_files(alloc, plan, files)?,
-            balances: balances_of(alloc, balances)?,
+            balances: balances_of(alloc, plan, balances)?,
             cutoff,
         })
     }
@@ -106,12 +106,12 @@ impl<'a> Terms<'a> {
         self.cutoff
     }
 
-    /// What the account of a claim begins with: zeros where the balances don't name its member.
+    /// What the account of a claim begins with: zeros where the balances don't name its member, or not in its year.
     pub fn opening(&self, claim: &Claim) -> Acc
         ensures { result ≡ opening (accounts_of self.now.balances) (account_of self.now.plan claim.now) }
     {
         match &self.balances {
-            Some(balances) => balances.of(claim.member.as_str()),
+            Some(balances) => balances.of(claim.member.as_str(), account_year(self.plan, claim)),
             None => Acc::zero(),
         }
     }
@@ -151,14 +151,18 @@ fn judge_file<'t>(
 }
 
 // The balances of a text, if there is one.
-fn balances_of(alloc: Global, text: Option<&[u8]>) -> Result<Option<Balances>, TermsFault>
-    ensures ok { IfOk result (λ balances. AreBalancesOf (text_in text.entry) (unwrap_or balances [])) }
-    ensures fault { IfErr result (IsFaultOfBalances (text_in text.entry)) }
+fn balances_of(
+    alloc: Global,
+    plan: &Plan,
+    text: Option<&[u8]>,
+) -> Result<Option<Balances>, TermsFault>
+    ensures ok { IfOk result (λ balances. AreBalancesOf plan.now (text_in text.entry) (unwrap_or balances [])) }
+    ensures fault { IfErr result (IsFaultOfBalances plan.now (text_in text.entry)) }
 {
     let Some(given) = text else {
         return Ok(None);
     };
-    match read_balances(alloc, given) {
+    match read_balances(alloc, plan, given) {
         Ok(balances) => Ok(Some(balances)),
         Err(BalanceFault::OutOfMemory) => Err(TermsFault::OutOfMemory),
         Err(fault) => Err(TermsFault::Balances(fault)),

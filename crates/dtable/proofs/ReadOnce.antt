@@ -1,7 +1,7 @@
 -- A text spells one plan at most.
-use Rattle.std.proofs.Common.{◌≡◌, ℕ, List, [], map, codes, Option, sym, ap, ◌∙◌}
+use Rattle.std.proofs.Common.{◌≡◌, ℕ, pos, List, [], map, codes, Option, sym, ap, ◌∙◌}
 use Rattle.std.proofs.lemmas.Option.{same_Some}
-use Rattle.toml.specs.Data.{Data, string, table as whole_table, get}
+use Rattle.toml.specs.Data.{Data, integer, string, table as whole_table, get}
 use Rattle.feel_tests.specs.declared.cell.Cell.{Cell}
 use Rattle.feel_tests.specs.declared.value.Value.{Value}
 use Rattle.feel_tests.specs.Cell.{SpellsOneCell, SpellsOneValue}
@@ -17,11 +17,16 @@ use Rattle.dtable.specs.declared.table.Output.{Output}
 use Rattle.dtable.specs.declared.table.Rule.{Rule}
 use Rattle.dtable.specs.declared.table.Table.{Table}
 use Rattle.dtable.specs.Plan.{PlanParts}
-use Rattle.dtable.specs.PlanFile.{IsEntry, IsCellUnder, IsRule, AreRules, IsTable, AreTables, AreTablesOf, IsPlanDocument, SpellsOnePlan}
+use Rattle.dtable.specs.PlanFile.{IsEntry, IsCellUnder, IsRule, AreRules, IsTable, AreTables, AreTablesOf, IsPlanDocument, IsVersionOf, SpellsOnePlan}
 use Rattle.dtable.specs.RoleFile.{IsSource, IsRole, AreRoles, AreRemarks, asked_kind}
 use Rattle.dtable.specs.Scope.{SeenOutput, seen_of, taken_names}
 use Rattle.dtable.proofs.Entries.{Optionally-same, Each-same, EachBehind-same, EachUnder-same}
 use Rattle.dtable.proofs.ReadParts.{IsHit-same, AreNames-same, IsLiteral-same, IsCell-same, AreInputs-same, AreOutputs-same}
+
+version-same : (d : Data) (v w : ℕ) → IsVersionOf d v → IsVersionOf d w → v ≡ w
+version-same d v w h k =
+    let same : integer (pos v) ≡ integer (pos w) = same_Some (integer (pos v)) (integer (pos w)) (sym h.written ∙ k.written) in
+    cc
 
 module _ (once_cell : SpellsOneCell) (once_value : SpellsOneValue) where
   IsEntry-same : (o : Output) (d : Data) (v w : Value) → IsEntry o d v → IsEntry o d w → v ≡ w
@@ -111,8 +116,9 @@ module _ (once_cell : SpellsOneCell) (once_value : SpellsOneValue) where
       let names : p.names ≡ q.names = AreNames-same d p.names q.names h.names k.names in
       let tables : p.tables ≡ q.tables = AreTablesOf-same q.names d p.tables q.tables (rw names at h.tables) k.tables in
       let roles : p.roles ≡ q.roles = Optionally-same (AreRoles q.names (map seen_of q.tables)) (AreRoles-same q.names (map seen_of q.tables)) (get (codes "roles") d) p.roles q.roles (rw (names, tables) at h.roles) k.roles in
-      let made : List InputData → List Table → Option Roles → PlanParts = λ n t r. record { names = n; tables = t; roles = r } in
-      ap (λ n. made n p.tables p.roles) names ∙ ap (λ t. made q.names t p.roles) tables ∙ ap (made q.names q.tables) roles
+      let versions : p.version ≡ q.version = version-same d p.version q.version h.version k.version in
+      let made : ℕ → List InputData → List Table → Option Roles → PlanParts = λ v n t r. record { version = v; names = n; tables = t; roles = r } in
+      ap (λ v. made v p.names p.tables p.roles) versions ∙ ap (λ n. made q.version n p.tables p.roles) names ∙ ap (λ t. made q.version q.names t p.roles) tables ∙ ap (made q.version q.names q.tables) roles
 
   pub spells_one_plan : SpellsOnePlan
   spells_one_plan text p q h k =

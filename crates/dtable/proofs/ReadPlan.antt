@@ -37,7 +37,7 @@ use Rattle.dtable.specs.declared.table.Table.{Table}
 use Rattle.dtable.specs.Document.{optional_array_at, Optionally, Each, EachBehind, EachUnder}
 use Rattle.dtable.specs.Environment.{or_else}
 use Rattle.dtable.specs.Plan.{PlanParts, IsPlan, same_kind, has_kind, gives_one, seen_kind, is_known, are_known, entry_fits, rule_fits, is_ranked, meets_demands, default_fits, some_output, source_fits, remarks_fit, roles_fit}
-use Rattle.dtable.specs.PlanFile.{IsLiteral, IsEntry, IsInput, IsOutput, IsRule, IsCellUnder, AreFields, AreNames, IsTable, AreTables, AreTablesOf, IsPlanDocument, IsPlanText}
+use Rattle.dtable.specs.PlanFile.{IsLiteral, IsEntry, IsInput, IsOutput, IsRule, IsCellUnder, AreFields, AreNames, IsTable, AreTables, AreTablesOf, IsPlanDocument, IsPlanText, IsVersionOf}
 use Rattle.dtable.specs.RoleFile.{IsSource, IsRole, AreRoles, AreRemarks, asked_kind, lists_texts}
 use Rattle.dtable.specs.Scope.{SeenOutput, seen_output, seen_of, earlier_origin, kind_at}
 use Rattle.dtable.proofs.DistinctNames.{distinct-document}
@@ -253,6 +253,7 @@ pub IsPlan-of : (d : Data) (p : PlanParts) → IsPlanDocument d p → IsPlan p
 IsPlan-of d p h =
     let tables = h.tables.spelled.each in
     record {
+      version = h.version.known;
       fields = h.names.fields;
       names = h.names.named;
       limits = within-document d p h;
@@ -289,9 +290,9 @@ AreTables-of names d ds read ts h =
     rw same at h.spelled
 
 -- a document's plan, from its parts
-pub plan_made : (d : Data) (names : List InputData) (tables : List Table) (roles : Option Roles) → get (codes "version") d ≡ Some (integer (pos 1)) → AreNames d names → AreTablesOf names d tables
-    → Optionally (AreRoles names (map seen_of tables)) (get (codes "roles") d) roles → IsPlanDocument d (record { names = names; tables = tables; roles = roles })
-plan_made d names tables roles version named spelled given = record { version = version; names = named; tables = spelled; roles = given }
+pub plan_made : (d : Data) (version : ℕ) (names : List InputData) (tables : List Table) (roles : Option Roles) → IsVersionOf d version → AreNames d names → AreTablesOf names d tables
+    → Optionally (AreRoles names (map seen_of tables)) (get (codes "roles") d) roles → IsPlanDocument d (record { version = version; names = names; tables = tables; roles = roles })
+plan_made d version names tables roles written named spelled given = record { version = written; names = named; tables = spelled; roles = given }
 
 pub no_tables : (d : Data) (names : List InputData) → AreNames d names → ((ts : List Table) → ¬ AreTablesOf names d ts) → (p : PlanParts) → ¬ IsPlanDocument d p
 no_tables d names known none p h =

@@ -1,5 +1,5 @@
 -- What contracts see of a plan, and what holds of every plan.
-use Rattle.std.specs.Prelude.{◌≡◌, ◌≢◌, ◌≤◌, ℕ, Bool, true, false, not, ◌&&◌, ◌==◌, nat_lt, List, [], ◌∷◌, ◌++◌, length, map, flat_map, All, AllPairs, IfSome, Option, Some, None, is_some, slice_get, IsTrue}
+use Rattle.std.specs.Prelude.{◌≡◌, ◌≢◌, ◌≤◌, ◌⊎◌, ℕ, Bool, true, false, not, ◌&&◌, ◌==◌, nat_lt, List, [], ◌∷◌, ◌++◌, length, map, flat_map, All, AllPairs, IfSome, Option, Some, None, is_some, slice_get, IsTrue}
 use Rattle.std.specs.List.{list_all, list_any, zip}
 use Rattle.std.specs.Option.{option_map_or}
 use Rattle.std.specs.Str.{bytes_eq}
@@ -22,11 +22,21 @@ use Rattle.dtable.specs.declared.roles.Roles.{Roles}
 use Rattle.dtable.specs.Limits.{fields_limit, tables_limit, inputs_limit, outputs_limit, rules_limit, priority_limit}
 use Rattle.dtable.specs.Names.{names_of}
 
--- what contracts see of a plan: the names that tables may read from outside, the tables in order, and the roles
+-- what contracts see of a plan: the version of its format, the names that tables may read from outside, the tables in order, and
+-- the roles
 pub record PlanParts : Type 0 where
+  pub version : ℕ
   pub names : List InputData
   pub tables : List Table
   pub roles : Option Roles
+
+-- the versions of the format: in the second one accumulators are kept by the benefit year
+abbrev pub IsVersion : ℕ → Type 0
+IsVersion version = (version ≡ 1) ⊎ (version ≡ 2)
+
+-- accumulators are kept by the benefit year, the calendar year of service
+abbrev pub keeps_years : PlanParts → Bool
+keeps_years plan = not (plan.version == 1)
 
 -- the kinds are the same
 abbrev pub same_kind : Kind → Kind → Bool
@@ -137,6 +147,7 @@ AreDistinct names = AllPairs (λ a b. a ≢ b) names
 
 -- what holds of every plan; each of its names is a `Name`, which has at most `name_limit_bytes`
 pub record IsPlan (p : PlanParts) : Type 0 where
+  pub version : IsVersion p.version
   pub fields : List InputData
   pub names : p.names ≡ names_of fields
   pub limits : IsWithin fields p.tables

@@ -20,7 +20,7 @@ use Rattle.dtable.specs.Document.{string_at, array_at, optional_array_at, item_c
 use Rattle.dtable.specs.Limits.{plan_limit_bytes, fields_limit, tables_limit, inputs_limit, outputs_limit, rules_limit, priority_limit, name_limit_bytes}
 use Rattle.dtable.specs.NameForm.{has_name_form, is_among, reserved_names}
 use Rattle.dtable.specs.Names.{names_of}
-use Rattle.dtable.specs.Plan.{PlanParts, is_ranked, meets_demands, seen_kind}
+use Rattle.dtable.specs.Plan.{PlanParts, IsVersion, is_ranked, meets_demands, seen_kind}
 use Rattle.dtable.specs.RoleFile.{AreRoles}
 use Rattle.dtable.specs.Scope.{SeenOutput, seen_of, origin_of, kind_at, taken_names}
 
@@ -202,9 +202,14 @@ pub record AreTablesOf (names : List InputData) (document : Data) (tables : List
   pub written : optional_array_at (codes "tables") document ≡ Some entries
   pub spelled : AreTables names entries tables
 
--- a document of version 1 spells this plan
+-- the key `version` of a document holds this version
+pub record IsVersionOf (document : Data) (version : ℕ) : Type 0 where
+  pub written : get (codes "version") document ≡ Some (integer (pos version))
+  pub known : IsVersion version
+
+-- a document spells this plan
 pub record IsPlanDocument (document : Data) (plan : PlanParts) : Type 0 where
-  pub version : get (codes "version") document ≡ Some (integer (pos 1))
+  pub version : IsVersionOf document plan.version
   pub names : AreNames document plan.names
   pub tables : AreTablesOf plan.names document plan.tables
   pub roles : Optionally (AreRoles plan.names (map seen_of plan.tables)) (get (codes "roles") document) plan.roles

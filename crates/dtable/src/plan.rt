@@ -7,7 +7,7 @@ ghost use Rattle.dtable.specs.Environment.{answer_of, answer_at};
 ghost use Rattle.dtable.specs.Limits.{name_limit_bytes};
 ghost use Rattle.dtable.specs.Inputs.{needs, is_served, IsReady};
 ghost use Rattle.dtable.specs.Names.{named, claim_names, accumulator_names, names_of};
-ghost use Rattle.dtable.specs.Plan.{IsPlan};
+ghost use Rattle.dtable.specs.Plan.{IsPlan, keeps_years};
 
 use crate::inputs::Inputs;
 use crate::name::Name;
@@ -18,9 +18,10 @@ use feel_tests::{Kind, Sequence};
 use std::alloc::{AllocError, Global};
 use std::marker::Model;
 
-/// A plan. Contracts see its names, its tables and its roles; `IsPlan` holds of every one.
+/// A plan. Contracts see its version, its names, its tables and its roles; `IsPlan` holds of every one.
 #[derive(Debug, Drop)]
 pub struct Plan {
+    version: u8,
     names: Sequence<InputData>,
     tables: Sequence<Table>,
     roles: Option<Roles>,
@@ -31,22 +32,43 @@ impl Model for Plan {
 
     ghost Value = { PlanParts };
 
-    ghost view = { λ p. record { names = p.names; tables = p.tables; roles = p.roles } };
+    ghost view = { λ p. record { version = p.version; names = p.names; tables = p.tables; roles = p.roles } };
 
-    ghost invariant = { λ p. IsPlan (record { names = p.names; tables = p.tables; roles = p.roles }) };
+    ghost invariant = { λ p. IsPlan (record { version = p.version; names = p.names; tables = p.tables; roles = p.roles }) };
 }
 
 impl Plan {
     /// The plan of these parts.
-    pub fn new(names: Sequence<InputData>, tables: Sequence<Table>, roles: Option<Roles>) -> Plan
-        requires { IsPlan (record { names = names; tables = tables; roles = roles }) }
-        ensures { result ≡ record { names = names; tables = tables; roles = roles } }
+    pub fn new(
+        version: u8,
+        names: Sequence<InputData>,
+        tables: Sequence<Table>,
+        roles: Option<Roles>,
+    ) -> Plan
+        requires { IsPlan (record { version = version; names = names; tables = tables; roles = roles }) }
+        ensures { result ≡ record { version = version; names = names; tables = tables; roles = roles } }
     {
         Plan {
+            version,
             names,
             tables,
             roles,
         }
+    }
+
+    /// The version of the plan's format: 1, or 2 where accumulators are kept by the benefit year.
+    pub fn version(&self) -> u8
+        ensures version { result ≡ self.now.version }
+        ensures sound { IsPlan self.now }
+    {
+        self.version
+    }
+
+    /// Whether accumulators are kept by the benefit year, the calendar year of service.
+    pub fn keeps_years(&self) -> bool
+        ensures { result ≡ keeps_years self.now }
+    {
+        self.version != 1
     }
 
     /// The names that tables may read from outside: claim, member, service, billed, the fields in order, and the

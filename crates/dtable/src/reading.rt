@@ -4,11 +4,10 @@
 //! `document` finds what the TOML holds at a key, `place` says where a fault stands, `limits` has the limits of a plan,
 //! and `scope` finds what a name stands for. The keys are read by `names`, `inputs`, `outputs`, `rules`, `tables` and
 //! `roles`, each with `literals` where a string is a cell or a literal.
-ghost use Rattle.std.specs.Prelude.{◌≡◌, ◌≢◌, ◌≤◌, pos, codes, length, Some, OnOk, OnErr, IfOk, IfErr};
-ghost use Rattle.toml.specs.Data.{integer, get};
+ghost use Rattle.std.specs.Prelude.{◌≡◌, ◌≢◌, ◌≤◌, length, IfOk, IfErr};
 ghost use Rattle.toml.specs.View.{view};
 ghost use Rattle.dtable.specs.Plan.{PlanParts};
-ghost use Rattle.dtable.specs.PlanFile.{IsPlanText, IsPlanDocument, SpellsOnePlan};
+ghost use Rattle.dtable.specs.PlanFile.{IsPlanText, IsPlanDocument, IsVersionOf, SpellsOnePlan};
 ghost use Rattle.dtable.specs.Reading.{Reads};
 
 mod document;
@@ -60,22 +59,22 @@ pub fn text_spells_at_most_one_plan()
 fn plan_of(alloc: Global, document: &Value) -> Result<Plan, PlanFault>
     ensures { Reads (IsPlanDocument (view document.now)) result }
 {
-    check_version(document)?;
+    let version = read_version(document)?;
     // Known from here: a text spells one value or cell at most, so that what was refused spells none.
     text_spells_at_most_one_value();
     let names = read_names(alloc, document)?;
     let tables = read_tables(alloc, document, names.as_slice())?;
     let roles = read_roles(alloc, document, names.as_slice(), tables.as_slice())?;
-    Ok(Plan::new(names, tables, roles))
+    Ok(Plan::new(version, names, tables, roles))
 }
 
-fn check_version(document: &Value) -> Result<(), PlanFault>
-    ensures ok { OnOk result (get (codes "version") (view document.now) ≡ Some (integer (pos 1))) }
-    ensures refused { OnErr result (get (codes "version") (view document.now) ≢ Some (integer (pos 1))) }
+fn read_version(document: &Value) -> Result<u8, PlanFault>
+    ensures { Reads (IsVersionOf (view document.now)) result }
 {
     let version = required(document, "version", Place::TEXT)?;
     match version.as_integer() {
-        Some(1) => Ok(()),
+        Some(1) => Ok(1),
+        Some(2) => Ok(2),
         Some(_) => Err(Place::TEXT.fault(PlanCause::Unknown)),
         None => Err(Place::TEXT.fault(PlanCause::Kind)),
     }

@@ -69,9 +69,11 @@ fn a_plan_has_its_roles(rt: HostRuntime) -> Result<(), Fail> {
 type Edit = (&'static str, &'static str, &'static str);
 
 /// Edits of the plan with one table.
-const TABLE_FAULTS: [Edit; 7] = [
+const TABLE_FAULTS: [Edit; 9] = [
     ("version = 1", "", "2 0 0 0"),
-    ("version = 1", "version = 4", "3 0 0 0"),
+    ("version = 1", "version = 0", "3 0 0 0"),
+    ("version = 1", "version = 3", "3 0 0 0"),
+    ("version = 1", "version = 2.0", "5 0 0 0"),
     (
         r#""number"}]"#,
         r#""number"}, {name = "x", kind = "number"}]"#,

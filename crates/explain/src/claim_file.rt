@@ -95,18 +95,44 @@ fn add_columns(
     for place in 0..4 {
         add_column(page, header, needed(kind, place), wanted)?;
     }
-    if kind == FileKind::Claims
-        && let Ok(members) = toml::table_from_slice(alloc, plan)
-    {
-        let document = Value::Table(members);
-        for place in 0..count_at(&document, &[], "fields") {
-            let steps = [Step::Key("fields"), Step::Item(place), Step::Key("name")];
-            if let Some(name) = value_at(&document, &steps).and_then(Value::as_str) {
-                add_column(page, header, name, wanted)?;
-            }
+    let Ok(members) = toml::table_from_slice(alloc, plan) else {
+        return Ok(());
+    };
+    let document = Value::Table(members);
+    match kind {
+        FileKind::Claims => add_fields(page, header, &document, wanted),
+        FileKind::Balances => add_year(page, header, &document, wanted),
+    }
+}
+
+// Names the plan's fields among those columns.
+fn add_fields(
+    page: &mut Page,
+    header: &ByteRecord,
+    plan: &Value,
+    wanted: usize,
+) -> Result<(), AllocError> {
+    for place in 0..count_at(plan, &[], "fields") {
+        let steps = [Step::Key("fields"), Step::Item(place), Step::Key("name")];
+        if let Some(name) = value_at(plan, &steps).and_then(Value::as_str) {
+            add_column(page, header, name, wanted)?;
         }
     }
     Ok(())
+}
+
+// Names the year among those columns, where the plan keeps accumulators by it.
+fn add_year(
+    page: &mut Page,
+    header: &ByteRecord,
+    plan: &Value,
+    wanted: usize,
+) -> Result<(), AllocError> {
+    let steps = [Step::Key("version")];
+    match value_at(plan, &steps).and_then(Value::as_integer) {
+        Some(version) if version > 1 => add_column(page, header, "year", wanted),
+        _ => Ok(()),
+    }
 }
 
 // The columns that each such file needs.

@@ -27,7 +27,7 @@ pub fn plan_words(cause: PlanCause) -> Words {
             "add the key",
         ),
         PlanCause::Unknown => both(
-            "`version` is another integer than 1; an input's name is no field, none of the names that every plan has, and no single value of an earlier table: misspelt, of a later table, of the same table, or a list",
+            "`version` is another integer than 1 and 2; an input's name is no field, none of the names that every plan has, and no single value of an earlier table: misspelt, of a later table, of the same table, or a list",
             "correct the name, or put the tables in another order",
         ),
         PlanCause::Duplicate => both(
@@ -162,7 +162,7 @@ pub fn file_words(fault: FileFault) -> Words {
             "give it a header",
         ),
         FileFault::MissingColumn => both(
-            "the header lacks a column that is needed: `claim`, `member`, `service`, `billed` and the plan's fields; of balances `member`, `met`, `oop`, `paid`",
+            "the header lacks a column that is needed: `claim`, `member`, `service`, `billed` and the plan's fields; of balances `member`, `met`, `oop`, `paid`, and under version 2 `year`",
             "add the column",
         ),
         FileFault::DuplicateColumn => {
@@ -179,10 +179,10 @@ pub fn record_words(cause: RowCause) -> &'static str {
         RowCause::Utf8 => "the field is not UTF-8",
         RowCause::TooLong => "the field is longer than 256 bytes",
         RowCause::EmptyId => "the member is empty",
-        RowCause::Value => "an amount is no number",
+        RowCause::Value => "an amount is no number, or a year isn't four digits, 0001 to 9999",
         RowCause::NotCents => "an amount has part of a cent",
         RowCause::Negative => "an amount is below zero",
-        RowCause::Repeated => "the member stood in an earlier record",
+        RowCause::Repeated => "the member stood in an earlier record, under version 2 in one of the same year",
     }
 }
 

@@ -167,3 +167,23 @@ date_text_is d number e range =
     let there = at_year d.year d.month d.day low.0 low.1 h in
     let same : days_from_civil (pos low.0) d.month d.day ≡ number = ap (λ (y : ℤ). days_from_civil y d.month d.day) (sym low.1) ∙ e in
     civil_text d low.0 low.1 ∙ sym (text_is low.0 d.month d.day there low.2 low.3) ∙ ap day_text same
+
+-- a date and its day number have one year
+dated : (d : Date) (number : ℤ) → epoch_day d ≡ number → IsDayNumber number → (year : ℕ) × (d.year ≡ pos year) × (year_of number ≡ year) × IsInRange 1 9999 year
+dated d number e range =
+    let h = civil d in
+    let (year, is, low, most) = year_low d.year d.month d.day h (subst (λ (n : ℤ). IsDayNumber n) (sym e) range) in
+    let same : days_from_civil (pos year) d.month d.day ≡ number = ap (λ (y : ℤ). days_from_civil y d.month d.day) (sym is) ∙ e in
+    (year, is, sym (ap year_of same) ∙ year_is year d.month d.day (at_year d.year d.month d.day year is h) low most, (low, most))
+
+-- the year of a date is that of its day number
+pub date_year_is : (d : Date) (number : ℤ) → epoch_day d ≡ number → IsDayNumber number → d.year ≡ pos (year_of number)
+date_year_is d number e range =
+    let (year, of_date, of_number, within) = dated d number e range in
+    of_date ∙ ap pos (sym of_number)
+
+-- and one of the years 1 to 9999
+pub year_within : (d : Date) (number : ℤ) → epoch_day d ≡ number → IsDayNumber number → IsInRange 1 9999 (unsigned_abs d.year)
+year_within d number e range =
+    let (year, of_date, of_number, within) = dated d number e range in
+    rw of_date within

@@ -24,6 +24,15 @@ day_of day = unsigned_abs (day -ℤ days_from_civil (pos (year_of day)) (month_o
 abbrev pub two_digits : ℕ → List ℕ
 two_digits n = (48 + n / 10) ∷ (48 + n % 10) ∷ []
 
+-- a year in four digits
+abbrev pub year_text : ℕ → List ℕ
+year_text year = two_digits (year / 100) ++ two_digits (year % 100)
+
+-- four digits that are this year, 0001 to 9999
+pub record IsYearText (text : List ℕ) (year : ℕ) : Type 0 where
+  pub spelled : text ≡ year_text year
+  pub year_in : IsInRange 1 9999 year
+
 -- a date as `YYYY-MM-DD`
 abbrev pub ymd_text : ℕ → ℕ → ℕ → List ℕ
 ymd_text year month day =

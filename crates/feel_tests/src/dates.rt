@@ -1,8 +1,9 @@
 //! Dates as text: `YYYY-MM-DD` on the Gregorian calendar of `jiff`.
 ghost use Rattle.std.specs.Prelude.{◌≡◌, ℕ, ℤ, pos, ◌+◌, ◌/◌, ◌%◌, ◌<◌, IfOk, IfSome, IfNone, string_bytes};
+ghost use Rattle.std.specs.Int.{IsInRange};
 ghost use Rattle.jiff_core.specs.Date.{epoch_day};
 ghost use Rattle.feel_tests.specs.DayNumber.{IsDayNumber};
-ghost use Rattle.feel_tests.specs.Calendar.{ymd_text, day_text, IsDateText};
+ghost use Rattle.feel_tests.specs.Calendar.{ymd_text, day_text, year_of, year_text, IsDateText, IsYearText};
 
 use crate::day::Day;
 use jiff::civil::Date;
@@ -43,6 +44,45 @@ pub fn date_of(day: Day) -> Date
     }
 }
 
+/// The year of a day by its number, which counts from 1 January 1970.
+#[tactic(auto, using(crate::proofs::DayText::date_year_is, crate::proofs::DayText::year_within))]
+pub fn day_year(number: i32) -> u16
+    requires { IsDayNumber number }
+    ensures year { result ≡ year_of number }
+    ensures in_range { IsInRange 1 9999 result }
+{
+    match Day::from_epoch_day(number) {
+        Some(day) => date_of(day).year().unsigned_abs(),
+        None => unreachable!(),
+    }
+}
+
+/// The year that a text of four digits is, `0001` to `9999`.
+pub fn year_in(text: &[u8]) -> Option<u16>
+    ensures some { IfSome result (IsYearText text.now) }
+    ensures none { IfNone result ((year : ℕ) → ¬ IsYearText text.now year) }
+{
+    let [y3, y2, y1, y0] = text else {
+        return None;
+    };
+    let century = two_digits(*y3, *y2)?;
+    let rest = two_digits(*y1, *y0)?;
+    if century == 0 && rest == 0 {
+        return None;
+    }
+    Some(century as u16 * 100 + rest as u16)
+}
+
+/// The text of a year, in four digits.
+pub fn year_text(year: u16) -> [u8; 4]
+    requires { year < 10000 }
+    ensures { result ≡ year_text year }
+{
+    let (y3, y2) = digits_of((year / 100) as u8);
+    let (y1, y0) = digits_of((year % 100) as u8);
+    [y3, y2, y1, y0]
+}
+
 // The three numbers of a text of this form, on the calendar or not.
 fn ymd_of(text: &[u8]) -> Option<(u16, u8, u8)>
     ensures some { IfSome result (λ ymd. (text.now ≡ ymd_text ymd.0 ymd.1 ymd.2) × (ymd.0 < 10000) × (ymd.1 < 100) × (ymd.2 < 100)) }
@@ -70,4 +110,12 @@ fn two_digits(tens: u8, ones: u8) -> Option<u8>
         return None;
     }
     Some((tens - b'0') * 10 + (ones - b'0'))
+}
+
+// The two digits of a number below 100.
+fn digits_of(number: u8) -> (u8, u8)
+    requires { number < 100 }
+    ensures { (result.0 ≡ 48 + number / 10) × (result.1 ≡ 48 + number % 10) }
+{
+    (b'0' + number / 10, b'0' + number % 10)
 }

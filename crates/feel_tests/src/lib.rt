@@ -30,6 +30,7 @@ mod value;
 mod word;
 
 pub use cell::{Cell, Op, TEST_LIMIT, Test, Tests};
+pub use dates::{day_year, year_in, year_text};
 pub use day::{Day, FIRST_DAY};
 pub use fault::{CellCause, CellFault};
 pub use joined::{Bytes, Literals, Spelling, append_joined};

@@ -18,13 +18,13 @@ not_below (ℤ.negsuc n) h e = omega (arith, ints)
 pub money_read : DenotesAtMostOne → (bytes : List ℕ) (units : ℤ) → IsText bytes → Denotes bytes units → IsCents units → pos 0 ≤ℤ units
     → Holds Money bytes (Number units) × IsFaultless Money bytes
 money_read one bytes units text denotes cents above =
-    (record { text = text; spells = (refl, denotes); allowed = (units, refl, (cents, above)) }, faultless)
+    (record { text = text; spells = record { plain = (refl, denotes); year = λ e. cc e }; allowed = (units, refl, (cents, above)) }, faultless)
   where
     faultless : IsFaultless Money bytes
     faultless Utf8 h = h text.0
     faultless TooLong h = omega (arith, h.1, text.1)
     faultless EmptyId h = cc h.0
-    faultless NoValue h = h.1 (Number units) (refl, denotes)
+    faultless NoValue h = h.1 (Number units) (record { plain = (refl, denotes); year = λ e. cc e })
     faultless NotCents h = let same = one bytes units h.1.units denotes h.1.denotes in h.1.finer (rw same at cents)
     faultless Negative h = let same = one bytes units h.1.units denotes h.1.denotes in not_below units above (rw same h.1.below)
     faultless FieldCount h = h

@@ -39,7 +39,7 @@ kinds-under header row [] (c ∷ cs) values h k = absurd h
 kinds-under header row (f ∷ fs) [] values h k = absurd h
 kinds-under header row (f ∷ fs) (c ∷ cs) [] h k = absurd k
 kinds-under header row (f ∷ fs) (c ∷ cs) (v ∷ vs) h k =
-    let kind : kind_of v ≡ f.kind = spelled-kind (kind_under c.content) k.0.bytes v k.0.holds.spells ∙ ap kind_under h.0.content in
+    let kind : kind_of v ≡ f.kind = spelled-kind (kind_under c.content) k.0.bytes v k.0.holds.spells.plain ∙ ap kind_under h.0.content in
     let others = kinds-under header row fs cs vs h.1 k.1 in
     rw (kind, others) refl
 

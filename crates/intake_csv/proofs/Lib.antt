@@ -5,6 +5,7 @@ pub mod Headers
 pub mod RecordSteps
 pub mod Shapes
 pub mod Handing
+pub mod Books
 pub mod Entries
 pub mod ClaimFields
 pub mod OneFile
@@ -12,3 +13,4 @@ pub mod PlanColumns
 pub mod OneField
 pub mod OneRow
 pub mod SomeRow
+pub mod Spelling

@@ -3,12 +3,12 @@ use Rattle.std.proofs.Common.{inl, inr, ◌≡◌, ◌<◌, ℕ, ℤ, zero, suc,
 use Rattle.std.proofs.lemmas.Bool.{cases_lt}
 use Rattle.std.proofs.lemmas.Str.{IsUtf8-nil}
 use Rattle.fixpoint.specs.NumberText.{Denotes, DenotesAtMostOne}
-use Rattle.feel_tests.specs.Plain.{SpellsOnePlain, SpellsPlain}
+use Rattle.feel_tests.specs.Plain.{SpellsOnePlain}
 use Rattle.feel_tests.specs.declared.value.Value.{Value}
 use Rattle.feel_tests.specs.declared.value.Value.TheVariants.{Number, Text}
 use Rattle.intake_csv.specs.Columns.{kind_under}
 use Rattle.intake_csv.specs.FaultNumber.{cause_number_of}
-use Rattle.intake_csv.specs.Fields.{Holds, IsFaulty}
+use Rattle.intake_csv.specs.Fields.{Holds, IsFaulty, Spells}
 use Rattle.intake_csv.specs.declared.column.Content.{Content}
 use Rattle.intake_csv.specs.declared.column.Content.TheVariants.{Identifier, Money}
 use Rattle.intake_csv.specs.declared.fault.RowCause.{RowCause}
@@ -38,12 +38,12 @@ numbered Negative = refl
 numbered Repeated = refl
 
 -- an empty text is a value of an identifier's kind
-empty-text : (content : Content) (bytes : List ℕ) → content ≡ Identifier → bytes ≡ [] → SpellsPlain (kind_under content) bytes (Text [])
-empty-text content bytes e f = rw (e, f) (refl, refl, omega arith)
+empty-text : (content : Content) (bytes : List ℕ) → content ≡ Identifier → bytes ≡ [] → Spells content bytes (Text [])
+empty-text content bytes e f = record { plain = rw (e, f) (refl, refl, omega arith); year = λ g. cc (sym e ∙ g) }
 
 -- a number is a value of an amount's kind
-number-spelled : (content : Content) (bytes : List ℕ) (units : ℤ) → content ≡ Money → Denotes bytes units → SpellsPlain (kind_under content) bytes (Number units)
-number-spelled content bytes units e d = rw e (refl, d)
+number-spelled : (content : Content) (bytes : List ℕ) (units : ℤ) → content ≡ Money → Denotes bytes units → Spells content bytes (Number units)
+number-spelled content bytes units e d = record { plain = rw e (refl, d); year = λ f. cc (sym e ∙ f) }
 
 module _ (one : DenotesAtMostOne) where
   -- a cause leaves no room for one that is tried after it
@@ -91,15 +91,15 @@ module _ (one : DenotesAtMostOne) where
   held-faultless content bytes v NoValue h k = k.1 v h.spells
   held-faultless content bytes v NotCents h k =
       let (units, is, money) = rw k.0 at h.allowed in
-      let spells = rw (is, k.0) at h.spells in
+      let spells = rw (is, k.0) at h.spells.plain in
       let same = one bytes units k.1.units spells.1 k.1.denotes in
       k.1.finer (rw same at money.0)
   held-faultless content bytes v Negative h k =
       let (units, is, money) = rw k.0 at h.allowed in
-      let spells = rw (is, k.0) at h.spells in
+      let spells = rw (is, k.0) at h.spells.plain in
       let same = one bytes units k.1.units spells.1 k.1.denotes in
       not_below units money.1 (rw (← same) at k.1.below)
 
 -- a field holds one value at most
 pub held-one : SpellsOnePlain → (content : Content) (bytes : List ℕ) (v w : Value) → Holds content bytes v → Holds content bytes w → v ≡ w
-held-one plain content bytes v w h k = plain (kind_under content) bytes v w h.spells k.spells
+held-one plain content bytes v w h k = plain (kind_under content) bytes v w h.spells.plain k.spells.plain

@@ -1,32 +1,35 @@
 -- The kinds of a record's values, by the columns that they stand under.
-use Rattle.std.proofs.Common.{◌≡◌, ℕ, ℤ, List, [], ◌∷◌, map, refl}
+use Rattle.std.proofs.Common.{◌≡◌, ℕ, ℤ, Bool, true, false, List, [], ◌∷◌, ◌++◌, map, codes, refl, ap, sym, subst, ◌∙◌}
+use Rattle.std.specs.Int.{IsInRange}
 use Rattle.std.specs.List.{AllZip}
 use Rattle.fixpoint.specs.Money.{IsMoney}
 use Rattle.feel_tests.specs.declared.kind.Kind.TheVariants as kinds
 use Rattle.feel_tests.specs.declared.value.Value.{Value}
 use Rattle.feel_tests.specs.declared.value.Value.TheVariants.{Number, Text, Flag, Day}
+use Rattle.feel_tests.specs.Calendar.{year_text}
 use Rattle.dtable.specs.declared.table.InputData.{InputData}
+use Rattle.settlement.specs.declared.account.Balance.{Balance}
 use Rattle.intake_csv.specs.Records.{Fields}
-use Rattle.intake_csv.specs.Columns.{AreColumnsOf, claim_columns, balance_columns}
+use Rattle.intake_csv.specs.Columns.{AreColumnsOf, balance_columns, claim_columns, needed}
 use Rattle.intake_csv.specs.Fields.{Holds}
 use Rattle.intake_csv.specs.Rows.{HoldsUnder}
 use Rattle.intake_csv.specs.Record.{IsClaimShaped}
-use Rattle.intake_csv.specs.Balances.{IsEntryShaped}
+use Rattle.intake_csv.specs.Balances.{AreAmounts, BeginsWithYear, IsEntryShaped, balance_values, entry_values, year_contents, year_values}
 use Rattle.intake_csv.specs.declared.column.Column.{Column}
 use Rattle.intake_csv.specs.declared.column.Content.{Content}
-use Rattle.intake_csv.specs.declared.column.Content.TheVariants.{Identifier, Money, Plain}
+use Rattle.intake_csv.specs.declared.column.Content.TheVariants.{Identifier, Money, Plain, Year}
 
 text-value : (content : Content) (bytes : List ℕ) (v : Value) → content ≡ Identifier → Holds content bytes v → (t : List ℕ) × (v ≡ Text t)
 text-value content bytes (Text t) e h = (t, refl)
-text-value content bytes (Number u) e h = let s = rw e at h.spells in absurd (cc s.0)
-text-value content bytes (Flag b) e h = let s = rw e at h.spells in absurd (cc s.0)
-text-value content bytes (Day d) e h = let s = rw e at h.spells in absurd (cc s.0)
+text-value content bytes (Number u) e h = let s = rw e at h.spells.plain in absurd (cc s.0)
+text-value content bytes (Flag b) e h = let s = rw e at h.spells.plain in absurd (cc s.0)
+text-value content bytes (Day d) e h = let s = rw e at h.spells.plain in absurd (cc s.0)
 
 day-value : (content : Content) (bytes : List ℕ) (v : Value) → content ≡ Plain kinds.Day → Holds content bytes v → (d : ℤ) × (v ≡ Day d)
 day-value content bytes (Day d) e h = (d, refl)
-day-value content bytes (Number u) e h = let s = rw e at h.spells in absurd (cc s.0)
-day-value content bytes (Flag b) e h = let s = rw e at h.spells in absurd (cc s.0)
-day-value content bytes (Text t) e h = let s = rw e at h.spells in absurd (cc s.0)
+day-value content bytes (Number u) e h = let s = rw e at h.spells.plain in absurd (cc s.0)
+day-value content bytes (Flag b) e h = let s = rw e at h.spells.plain in absurd (cc s.0)
+day-value content bytes (Text t) e h = let s = rw e at h.spells.plain in absurd (cc s.0)
 
 money-value : (content : Content) (bytes : List ℕ) (v : Value) → content ≡ Money → Holds content bytes v → (u : ℤ) × (v ≡ Number u) × IsMoney u
 money-value content bytes v e h = rw e at h.allowed
@@ -57,29 +60,102 @@ claim-shaped fields (a ∷ b ∷ c ∷ d ∷ ds) (v ∷ w ∷ x ∷ y ∷ ys) re
     let (units, is_units, money) = money-value d.content h.1.1.1.0.bytes y ed h.1.1.1.0.holds in
     record { id = id; member = member; service = day; billed = units; fields = ys; values_are = four v w x y (Text id) (Text member) (Day day) (Number units) ys is_id is_member is_day is_units; money = money }
 
--- the values of an entry of balances
-pub entry-shaped : (fields : Fields) (columns : List Column) (values : List Value)
-    → map (λ c. c.content) columns ≡ Identifier ∷ Money ∷ Money ∷ Money ∷ [] → AllZip (HoldsUnder fields) columns values → IsEntryShaped values
-entry-shaped fields [] values e h = absurd (cc e)
-entry-shaped fields (a ∷ []) values e h = absurd (cc e)
-entry-shaped fields (a ∷ b ∷ []) values e h = absurd (cc e)
-entry-shaped fields (a ∷ b ∷ c ∷ []) values e h = absurd (cc e)
-entry-shaped fields (a ∷ b ∷ c ∷ d ∷ z ∷ zs) values e h = absurd (cc e)
-entry-shaped fields (a ∷ b ∷ c ∷ d ∷ []) [] e h = absurd h
-entry-shaped fields (a ∷ b ∷ c ∷ d ∷ []) (v ∷ []) e h = absurd h.1
-entry-shaped fields (a ∷ b ∷ c ∷ d ∷ []) (v ∷ w ∷ []) e h = absurd h.1.1
-entry-shaped fields (a ∷ b ∷ c ∷ d ∷ []) (v ∷ w ∷ x ∷ []) e h = absurd h.1.1.1
-entry-shaped fields (a ∷ b ∷ c ∷ d ∷ []) (v ∷ w ∷ x ∷ y ∷ z ∷ zs) e h = absurd h.1.1.1.1
-entry-shaped fields (a ∷ b ∷ c ∷ d ∷ []) (v ∷ w ∷ x ∷ y ∷ []) e h =
-    let ea : a.content ≡ Identifier = cc e in
+-- the text of a year that stands under its column
+year-value : (content : Content) (bytes : List ℕ) (v : Value) → content ≡ Year → Holds content bytes v → (year : ℕ) × (v ≡ Text (year_text year)) × IsInRange 1 9999 year
+year-value content bytes (Text t) e h =
+    let s = rw e at h.spells.plain in
+    let (year, is) = h.spells.year e in
+    let text : t ≡ year_text year = s.1 ∙ is.spelled in
+    (year, ap Text text, is.year_in)
+year-value content bytes (Number u) e h = let s = rw e at h.spells.plain in absurd (cc s.0)
+year-value content bytes (Flag b) e h = let s = rw e at h.spells.plain in absurd (cc s.0)
+year-value content bytes (Day d) e h = let s = rw e at h.spells.plain in absurd (cc s.0)
+
+three : (w x y b c d : Value) → w ≡ b → x ≡ c → y ≡ d → w ∷ x ∷ y ∷ [] ≡ b ∷ c ∷ d ∷ []
+three w x y b c d f g h = rw (f, g, h) refl
+
+-- three amounts under their columns
+amounts : (fields : Fields) (columns : List Column) (values : List Value)
+    → map (λ c. c.content) columns ≡ Money ∷ Money ∷ Money ∷ [] → AllZip (HoldsUnder fields) columns values → AreAmounts values
+amounts fields [] values e h = absurd (cc e)
+amounts fields (b ∷ []) values e h = absurd (cc e)
+amounts fields (b ∷ c ∷ []) values e h = absurd (cc e)
+amounts fields (b ∷ c ∷ d ∷ z ∷ zs) values e h = absurd (cc e)
+amounts fields (b ∷ c ∷ d ∷ []) [] e h = absurd h
+amounts fields (b ∷ c ∷ d ∷ []) (w ∷ []) e h = absurd h.1
+amounts fields (b ∷ c ∷ d ∷ []) (w ∷ x ∷ []) e h = absurd h.1.1
+amounts fields (b ∷ c ∷ d ∷ []) (w ∷ x ∷ y ∷ z ∷ zs) e h = absurd h.1.1.1
+amounts fields (b ∷ c ∷ d ∷ []) (w ∷ x ∷ y ∷ []) e h =
     let eb : b.content ≡ Money = cc e in
     let ec : c.content ≡ Money = cc e in
     let ed : d.content ≡ Money = cc e in
+    let (met, is_met, met_money) = money-value b.content h.0.bytes w eb h.0.holds in
+    let (oop, is_oop, oop_money) = money-value c.content h.1.0.bytes x ec h.1.0.holds in
+    let (paid, is_paid, paid_money) = money-value d.content h.1.1.0.bytes y ed h.1.1.0.holds in
+    record {
+      balance = record { met = met; oop = oop; paid = paid };
+      values_are = three w x y (Number met) (Number oop) (Number paid) is_met is_oop is_paid;
+      met_money = met_money;
+      oop_money = oop_money;
+      paid_money = paid_money;
+    }
+
+-- the values of an entry of balances
+pub entry-shaped : (years : Bool) (fields : Fields) (columns : List Column) (values : List Value)
+    → map (λ c. c.content) columns ≡ Identifier ∷ (year_contents years ++ Money ∷ Money ∷ Money ∷ []) → AllZip (HoldsUnder fields) columns values → IsEntryShaped years values
+entry-shaped years fields [] values e h = absurd (cc e)
+entry-shaped years fields (a ∷ columns) [] e h = absurd h
+entry-shaped false fields (a ∷ columns) (v ∷ values) e h =
+    let ea : a.content ≡ Identifier = cc e in
+    let others : map (λ c. c.content) columns ≡ Money ∷ Money ∷ Money ∷ [] = cc e in
     let (member, is_member) = text-value a.content h.0.bytes v ea h.0.holds in
-    let (met, is_met, met_money) = money-value b.content h.1.0.bytes w eb h.1.0.holds in
-    let (oop, is_oop, oop_money) = money-value c.content h.1.1.0.bytes x ec h.1.1.0.holds in
-    let (paid, is_paid, paid_money) = money-value d.content h.1.1.1.0.bytes y ed h.1.1.1.0.holds in
-    record { member = member; met = met; oop = oop; paid = paid; values_are = four v w x y (Text member) (Number met) (Number oop) (Number paid) [] is_member is_met is_oop is_paid; met_money = met_money; oop_money = oop_money; paid_money = paid_money }
+    record {
+      member = member;
+      year = 0;
+      amounts = values;
+      values_are = ap (λ (m : Value). m ∷ values) is_member;
+      kept = refl;
+      are_amounts = amounts fields columns values others h.1;
+    }
+entry-shaped true fields (a ∷ []) (v ∷ values) e h = absurd (cc e)
+entry-shaped true fields (a ∷ b ∷ columns) (v ∷ []) e h = absurd h.1
+entry-shaped true fields (a ∷ b ∷ columns) (v ∷ w ∷ values) e h =
+    let ea : a.content ≡ Identifier = cc e in
+    let eb : b.content ≡ Year = cc e in
+    let others : map (λ c. c.content) columns ≡ Money ∷ Money ∷ Money ∷ [] = cc e in
+    let (member, is_member) = text-value a.content h.0.bytes v ea h.0.holds in
+    let (year, is_year, within) = year-value b.content h.1.0.bytes w eb h.1.0.holds in
+    record {
+      member = member;
+      year = year;
+      amounts = values;
+      values_are = ap (λ (m : Value). m ∷ w ∷ values) is_member ∙ ap (λ (y : Value). Text member ∷ y ∷ values) is_year;
+      kept = within;
+      are_amounts = amounts fields columns values others h.1.1;
+    }
+
+-- what stands behind the member begins with the year
+pub year-first : (years : Bool) (values : List Value) (shaped : IsEntryShaped years values) (member : List ℕ) (behind : List Value) → values ≡ Text member ∷ behind → BeginsWithYear years behind
+year-first years values shaped member behind e =
+    let rest : behind ≡ year_values years shaped.year ++ shaped.amounts = cc (sym e ∙ shaped.values_are) in
+    (shaped.year, shaped.amounts, (rest, shaped.kept))
+
+same-rest : (years : Bool) (y z : ℕ) (rest left : List Value) → year_values years y ++ rest ≡ year_values years z ++ left → rest ≡ left
+same-rest true y z rest left e = cc e
+same-rest false y z rest left e = e
+
+-- and behind the year the amounts
+pub amounts-behind : (years : Bool) (values : List Value) (shaped : IsEntryShaped years values) (member : List ℕ) (behind left : List Value) (year : ℕ)
+    → values ≡ Text member ∷ behind → behind ≡ year_values years year ++ left → AreAmounts left
+amounts-behind years values shaped member behind left year e f =
+    let rest : behind ≡ year_values years shaped.year ++ shaped.amounts = cc (sym e ∙ shaped.values_are) in
+    subst AreAmounts (same-rest years shaped.year year shaped.amounts left (sym rest ∙ f)) shaped.are_amounts
+
+-- the values of an entry, taken one after another
+pub entry-taken : (years : Bool) (values behind left : List Value) (member : List ℕ) (year : ℕ) (balance : Balance) → values ≡ Text member ∷ behind
+    → behind ≡ year_values years year ++ left → left ≡ balance_values balance → values ≡ entry_values years ((member, year), balance)
+entry-taken years values behind left member year balance e f g =
+    e ∙ ap (λ vs. Text member ∷ vs) (f ∙ ap (λ vs. year_values years year ++ vs) g)
 
 -- the columns of a file of claims
 pub claim-layout : (names : List InputData) (header : Fields) (columns : List Column) → AreColumnsOf header (claim_columns names) columns
@@ -92,11 +168,17 @@ claim-layout names header (a ∷ b ∷ c ∷ d ∷ ds) h =
     (map (λ c. c.content) ds, rw (h.0.content, h.1.0.content, h.1.1.0.content, h.1.1.1.0.content) refl)
 
 -- the columns of a file of balances
-pub balance-layout : (header : Fields) (columns : List Column) → AreColumnsOf header balance_columns columns
-    → map (λ c. c.content) columns ≡ Identifier ∷ Money ∷ Money ∷ Money ∷ []
-balance-layout header [] h = absurd h
-balance-layout header (a ∷ []) h = absurd h.1
-balance-layout header (a ∷ b ∷ []) h = absurd h.1.1
-balance-layout header (a ∷ b ∷ c ∷ []) h = absurd h.1.1.1
-balance-layout header (a ∷ b ∷ c ∷ d ∷ z ∷ zs) h = absurd h.1.1.1.1
-balance-layout header (a ∷ b ∷ c ∷ d ∷ []) h = rw (h.0.content, h.1.0.content, h.1.1.0.content, h.1.1.1.0.content) refl
+amount-layout : (header : Fields) (columns : List Column) → AreColumnsOf header (needed (codes "met") Money ∷ needed (codes "oop") Money ∷ needed (codes "paid") Money ∷ []) columns
+    → map (λ c. c.content) columns ≡ Money ∷ Money ∷ Money ∷ []
+amount-layout header [] h = absurd h
+amount-layout header (b ∷ []) h = absurd h.1
+amount-layout header (b ∷ c ∷ []) h = absurd h.1.1
+amount-layout header (b ∷ c ∷ d ∷ z ∷ zs) h = absurd h.1.1.1
+amount-layout header (b ∷ c ∷ d ∷ []) h = rw (h.0.content, h.1.0.content, h.1.1.0.content) refl
+
+pub balance-layout : (years : Bool) (header : Fields) (columns : List Column) → AreColumnsOf header (balance_columns years) columns
+    → map (λ c. c.content) columns ≡ Identifier ∷ (year_contents years ++ Money ∷ Money ∷ Money ∷ [])
+balance-layout years header [] h = absurd h
+balance-layout false header (a ∷ columns) h = rw (h.0.content, amount-layout header columns h.1) refl
+balance-layout true header (a ∷ []) h = absurd h.1
+balance-layout true header (a ∷ b ∷ columns) h = rw (h.0.content, h.1.0.content, amount-layout header columns h.1.1) refl

@@ -6,7 +6,6 @@ use Rattle.std.proofs.lemmas.Int.{ints}
 use Rattle.std.proofs.lemmas.List.Elements.{All-cons, All-nil, All-weaker}
 use Rattle.csv.specs.Records.{field_at}
 use Rattle.fixpoint.specs.Number.{is_negative}
-use Rattle.feel_tests.specs.Plain.{SpellsPlain}
 use Rattle.feel_tests.specs.TextBytes.{IsText}
 use Rattle.feel_tests.specs.declared.kind.Kind.TheVariants as kinds
 use Rattle.feel_tests.specs.declared.text.TheConstants.{TEXT_LIMIT_BYTES}
@@ -15,12 +14,12 @@ use Rattle.feel_tests.specs.declared.value.Value.TheVariants.{Number, Text, Flag
 use Rattle.dtable.specs.declared.table.InputData.{InputData}
 use Rattle.settlement.specs.declared.claim.Claim.{Claim}
 use Rattle.intake_csv.specs.Records.{Fields}
-use Rattle.intake_csv.specs.Columns.{AreColumnsOf, IsSheet, claim_columns, kind_under}
-use Rattle.intake_csv.specs.Fields.{Holds, IsFaultless, IsFaulty}
+use Rattle.intake_csv.specs.Columns.{AreColumnsOf, IsSheet, claim_columns}
+use Rattle.intake_csv.specs.Fields.{Holds, IsFaultless, IsFaulty, Spells}
 use Rattle.intake_csv.specs.Rows.{AreRows, AreValues, HoldsUnder, IsFaultlessUnder, IsFaultyUnder, IsFirstFault, IsRow, claim_values, claims_in, field_count, is_claim}
 use Rattle.intake_csv.specs.declared.column.Column.{Column}
 use Rattle.intake_csv.specs.declared.column.Content.{Content}
-use Rattle.intake_csv.specs.declared.column.Content.TheVariants.{Identifier, Money, Plain}
+use Rattle.intake_csv.specs.declared.column.Content.TheVariants.{Identifier, Money, Plain, Year}
 use Rattle.intake_csv.specs.declared.column.Layout.{Layout}
 use Rattle.intake_csv.specs.declared.column.Needed.{Needed}
 use Rattle.intake_csv.specs.declared.fault.RowCause.{RowCause}
@@ -37,28 +36,29 @@ not_negative (ℤ.pos n) e = omega (arith, ints)
 not_negative (ℤ.negsuc n) e = absurd (cc e)
 
 -- a number under a column of money, where nothing is wrong
-money : (bytes : List ℕ) (units : ℤ) → IsText bytes → SpellsPlain kinds.Number bytes (Number units) → IsFaultless Money bytes → ¬ ¬ Holds Money bytes (Number units)
+money : (bytes : List ℕ) (units : ℤ) → IsText bytes → Spells Money bytes (Number units) → IsFaultless Money bytes → ¬ ¬ Holds Money bytes (Number units)
 money bytes units text spells none k = none NotCents (
   refl,
   record {
     text = text;
     units = units;
-    denotes = spells.1;
+    denotes = spells.plain.1;
     finer = λ cents. elim (cases_Bool (is_negative units)) [
-      | inl below ↦ none Negative (refl, record { text = text; units = units; denotes = spells.1; cents = cents; below = below })
+      | inl below ↦ none Negative (refl, record { text = text; units = units; denotes = spells.plain.1; cents = cents; below = below })
       | inr above ↦ k (record { text = text; spells = spells; allowed = (units, refl, (cents, not_negative units above)) })
     ];
   },
 )
 
 -- a value that is spelled, where nothing is wrong
-value : (content : Content) (bytes : List ℕ) (v : Value) → IsText bytes → SpellsPlain (kind_under content) bytes v → IsFaultless content bytes → ¬ ¬ Holds content bytes v
+value : (content : Content) (bytes : List ℕ) (v : Value) → IsText bytes → Spells content bytes v → IsFaultless content bytes → ¬ ¬ Holds content bytes v
 value Identifier bytes v text spells none k = k (record { text = text; spells = spells; allowed = λ e. none EmptyId (refl, e) })
+value Year bytes v text spells none k = k (record { text = text; spells = spells; allowed = tt })
 value (Plain kind) bytes v text spells none k = k (record { text = text; spells = spells; allowed = tt })
 value Money bytes (Number units) text spells none k = money bytes units text spells none k
-value Money bytes (Text t) text spells none k = cc spells.0
-value Money bytes (Flag f) text spells none k = cc spells.0
-value Money bytes (Day d) text spells none k = cc spells.0
+value Money bytes (Text t) text spells none k = cc spells.plain.0
+value Money bytes (Flag f) text spells none k = cc spells.plain.0
+value Money bytes (Day d) text spells none k = cc spells.plain.0
 
 -- a field's value, with nothing wrong, or what is wrong
 abbrev FieldOf : Content → List ℕ → Type 0
@@ -150,21 +150,21 @@ module _ (fields : Fields) where
 
 text-value : (content : Content) (bytes : List ℕ) (v : Value) → content ≡ Identifier → Holds content bytes v → (t : List ℕ) × (v ≡ Text t)
 text-value content bytes (Text t) e h = (t, refl)
-text-value content bytes (Number u) e h = let s = rw e at h.spells in absurd (cc s.0)
-text-value content bytes (Flag b) e h = let s = rw e at h.spells in absurd (cc s.0)
-text-value content bytes (Day d) e h = let s = rw e at h.spells in absurd (cc s.0)
+text-value content bytes (Number u) e h = let s = rw e at h.spells.plain in absurd (cc s.0)
+text-value content bytes (Flag b) e h = let s = rw e at h.spells.plain in absurd (cc s.0)
+text-value content bytes (Day d) e h = let s = rw e at h.spells.plain in absurd (cc s.0)
 
 day-value : (content : Content) (bytes : List ℕ) (v : Value) → content ≡ Plain kinds.Day → Holds content bytes v → (d : ℤ) × (v ≡ Day d)
 day-value content bytes (Day d) e h = (d, refl)
-day-value content bytes (Number u) e h = let s = rw e at h.spells in absurd (cc s.0)
-day-value content bytes (Flag b) e h = let s = rw e at h.spells in absurd (cc s.0)
-day-value content bytes (Text t) e h = let s = rw e at h.spells in absurd (cc s.0)
+day-value content bytes (Number u) e h = let s = rw e at h.spells.plain in absurd (cc s.0)
+day-value content bytes (Flag b) e h = let s = rw e at h.spells.plain in absurd (cc s.0)
+day-value content bytes (Text t) e h = let s = rw e at h.spells.plain in absurd (cc s.0)
 
 money-value : (content : Content) (bytes : List ℕ) (v : Value) → content ≡ Money → Holds content bytes v → (u : ℤ) × (v ≡ Number u)
 money-value content bytes (Number u) e h = (u, refl)
-money-value content bytes (Text t) e h = let s = rw e at h.spells in absurd (cc s.0)
-money-value content bytes (Flag b) e h = let s = rw e at h.spells in absurd (cc s.0)
-money-value content bytes (Day d) e h = let s = rw e at h.spells in absurd (cc s.0)
+money-value content bytes (Text t) e h = let s = rw e at h.spells.plain in absurd (cc s.0)
+money-value content bytes (Flag b) e h = let s = rw e at h.spells.plain in absurd (cc s.0)
+money-value content bytes (Day d) e h = let s = rw e at h.spells.plain in absurd (cc s.0)
 
 four : (v w x y a b c d : Value) (ys : List Value) → v ≡ a → w ≡ b → x ≡ c → y ≡ d → a ∷ b ∷ c ∷ d ∷ ys ≡ v ∷ w ∷ x ∷ y ∷ ys
 four v w x y a b c d ys e f g h = rw (e, f, g, h) refl

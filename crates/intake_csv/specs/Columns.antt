@@ -1,5 +1,5 @@
 -- The columns that a file needs, and where its header has them.
-use Rattle.std.specs.Prelude.{◌≡◌, ◌<◌, ◌≤◌, ◌-◌, ℕ, List, [], ◌∷◌, ◌++◌, length, take, drop, map, codes, Some}
+use Rattle.std.specs.Prelude.{◌≡◌, ◌<◌, ◌≤◌, ◌-◌, ℕ, Bool, true, false, List, [], ◌∷◌, ◌++◌, length, take, drop, map, codes, Some}
 use Rattle.std.specs.List.{All, AllZip, Any, count_by}
 use Rattle.std.specs.Str.{bytes_eq}
 use Rattle.csv.specs.Records.{field_at}
@@ -8,7 +8,7 @@ use Rattle.feel_tests.specs.declared.kind.Kind.TheVariants as kinds
 use Rattle.dtable.specs.declared.table.InputData.{InputData}
 use Rattle.intake_csv.specs.Records.{Fields, AreRecordsOf}
 use Rattle.intake_csv.specs.declared.column.Content.{Content}
-use Rattle.intake_csv.specs.declared.column.Content.TheVariants.{Identifier, Money, Plain}
+use Rattle.intake_csv.specs.declared.column.Content.TheVariants.{Identifier, Money, Plain, Year}
 use Rattle.intake_csv.specs.declared.column.Needed.{Needed}
 use Rattle.intake_csv.specs.declared.column.Column.{Column}
 use Rattle.intake_csv.specs.declared.column.Layout.{Layout}
@@ -20,6 +20,7 @@ use Rattle.intake_csv.specs.declared.sheet.TheConstants.{FILE_LIMIT_BYTES}
 abbrev pub kind_under : Content → Kind
 kind_under Identifier = kinds.Text
 kind_under Money = kinds.Number
+kind_under Year = kinds.Text
 kind_under (Plain kind) = kind
 
 abbrev pub needed : List ℕ → Content → Needed
@@ -39,9 +40,15 @@ own_columns =
 abbrev pub claim_columns : List InputData → List Needed
 claim_columns names = own_columns ++ map (λ d. needed d.name (Plain d.kind)) (fields_among names)
 
+-- the column of a balance's year, where accumulators are kept by the year
+abbrev pub year_columns : Bool → List Needed
+year_columns true = needed (codes "year") Year ∷ []
+year_columns false = []
+
 -- what a file of balances needs
-abbrev pub balance_columns : List Needed
-balance_columns = needed (codes "member") Identifier ∷ needed (codes "met") Money ∷ needed (codes "oop") Money ∷ needed (codes "paid") Money ∷ []
+abbrev pub balance_columns : Bool → List Needed
+balance_columns years =
+    needed (codes "member") Identifier ∷ (year_columns years ++ needed (codes "met") Money ∷ needed (codes "oop") Money ∷ needed (codes "paid") Money ∷ [])
 
 -- how often the name stands in the header, byte for byte
 abbrev pub times : List ℕ → Fields → ℕ

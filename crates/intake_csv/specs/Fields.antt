@@ -3,6 +3,7 @@ use Rattle.std.specs.Prelude.{◌≡◌, ◌≢◌, ◌<◌, ℕ, ℤ, true, Lis
 use Rattle.fixpoint.specs.Number.{is_negative}
 use Rattle.fixpoint.specs.NumberText.{Denotes}
 use Rattle.fixpoint.specs.Money.{IsCents, IsMoney}
+use Rattle.feel_tests.specs.Calendar.{IsYearText}
 use Rattle.feel_tests.specs.Plain.{SpellsPlain}
 use Rattle.feel_tests.specs.TextBytes.{IsText}
 use Rattle.feel_tests.specs.Limits.{text_limit_bytes}
@@ -14,16 +15,26 @@ use Rattle.intake_csv.specs.declared.column.Content.TheVariants as contents
 use Rattle.intake_csv.specs.declared.fault.RowCause.{RowCause}
 use Rattle.intake_csv.specs.declared.fault.RowCause.TheVariants.{FieldCount, Utf8, TooLong, EmptyId, Value as NoValue, NotCents, Negative, Repeated}
 
--- what is asked of a value beside its kind: an identifier isn't empty, an amount is money
+-- four digits that are a year
+abbrev pub IsYear : List ℕ → Type 0
+IsYear bytes = (year : ℕ) × IsYearText bytes year
+
+-- the whole field spells the value: a value of the column's kind, and under a year's column a year
+pub record Spells (content : Content) (bytes : List ℕ) (value : Value) : Type 0 where
+  pub plain : SpellsPlain (kind_under content) bytes value
+  pub year : content ≡ contents.Year → IsYear bytes
+
+-- what is asked of a value beside its spelling: an identifier isn't empty, an amount is money
 abbrev pub IsAllowed : Content → List ℕ → Value → Type 0
 IsAllowed contents.Identifier bytes value = bytes ≢ []
 IsAllowed contents.Money bytes value = (units : ℤ) × (value ≡ Number units) × IsMoney units
+IsAllowed contents.Year bytes value = Unit {0}
 IsAllowed (contents.Plain kind) bytes value = Unit {0}
 
 -- the whole field spells the value, and it is allowed under the column
 pub record Holds (content : Content) (bytes : List ℕ) (value : Value) : Type 0 where
   pub text : IsText bytes
-  pub spells : SpellsPlain (kind_under content) bytes value
+  pub spells : Spells content bytes value
   pub allowed : IsAllowed content bytes value
 
 -- the field is a number that isn't in whole cents
@@ -46,7 +57,7 @@ abbrev pub IsFaulty : Content → List ℕ → RowCause → Type 0
 IsFaulty content bytes Utf8 = ¬ IsUtf8 bytes
 IsFaulty content bytes TooLong = IsUtf8 bytes × (text_limit_bytes < length bytes)
 IsFaulty content bytes EmptyId = (content ≡ contents.Identifier) × (bytes ≡ [])
-IsFaulty content bytes NoValue = IsText bytes × ((value : Value) → ¬ SpellsPlain (kind_under content) bytes value)
+IsFaulty content bytes NoValue = IsText bytes × ((value : Value) → ¬ Spells content bytes value)
 IsFaulty content bytes NotCents = (content ≡ contents.Money) × IsNotCents bytes
 IsFaulty content bytes Negative = (content ≡ contents.Money) × IsBelowZero bytes
 IsFaulty content bytes FieldCount = ⊥

@@ -14,6 +14,8 @@ pub enum Content {
     Identifier,
     /// Whole cents, not below zero.
     Money,
+    /// A year in four digits, `0001` to `9999`, as a text.
+    Year,
     /// Any value of the kind.
     Plain(Kind),
 }
@@ -26,6 +28,7 @@ impl Content {
         match self {
             Content::Identifier => Kind::Text,
             Content::Money => Kind::Number,
+            Content::Year => Kind::Text,
             Content::Plain(kind) => kind,
         }
     }

@@ -8,7 +8,7 @@ ghost use Rattle.intake_csv.specs.declared.column.Content.TheVariants as content
 
 use crate::column::Content;
 use crate::fault::RowCause;
-use feel_tests::{Kind, PlainFault, TEXT_LIMIT_BYTES, Value, read_plain};
+use feel_tests::{Kind, PlainFault, TEXT_LIMIT_BYTES, Value, read_plain, year_in};
 use fixpoint::{Fixed, text_denotes_at_most_one};
 use std::alloc::{AllocError, Global};
 use std::str;
@@ -30,10 +30,12 @@ pub fn read_field(
     match content {
         Content::Identifier => read_identifier(alloc, text),
         Content::Money => Ok(read_money(text)),
+        Content::Year => read_year(alloc, text),
         Content::Plain(kind) => read_of_kind(alloc, kind, text),
     }
 }
 
+#[tactic(auto, using(crate::proofs::Spelling::identifier_read, crate::proofs::Spelling::unread))]
 fn read_identifier(alloc: Global, text: &str) -> Result<Result<Value, RowCause>, AllocError>
     requires { IsText text.now }
     ensures { IfOk result (IsFieldRead contents.Identifier text.now) }
@@ -66,6 +68,22 @@ fn read_money(text: &str) -> Result<Value, RowCause>
     Ok(Value::Number(amount))
 }
 
+#[tactic(auto, using(crate::proofs::Spelling::year_read, crate::proofs::Spelling::unread, crate::proofs::Spelling::year_unread))]
+fn read_year(alloc: Global, text: &str) -> Result<Result<Value, RowCause>, AllocError>
+    requires { IsText text.now }
+    ensures { IfOk result (IsFieldRead contents.Year text.now) }
+{
+    if year_in(text.as_bytes()).is_none() {
+        return Ok(Err(RowCause::Value));
+    }
+    match read_plain(alloc, Kind::Text, text) {
+        Ok(value) => Ok(Ok(value)),
+        Err(PlainFault::Bad) => Ok(Err(RowCause::Value)),
+        Err(PlainFault::OutOfMemory) => Err(AllocError),
+    }
+}
+
+#[tactic(auto, using(crate::proofs::Spelling::plain_read, crate::proofs::Spelling::unread))]
 fn read_of_kind(
     alloc: Global,
     kind: Kind,

@@ -16,6 +16,9 @@ use std::test::Fail;
 /// A plan with one field, of text.
 const PLAN: &[u8] = b"version = 1\nfields = [{name = \"code\", kind = \"text\"}]\n";
 
+/// The same, whose accumulators are kept by the year.
+const BY_YEAR: &[u8] = b"version = 2\nfields = [{name = \"code\", kind = \"text\"}]\n";
+
 /// A plan with a field of each kind.
 const KINDS: &[u8] =
     b"version = 1\nfields = [{name = \"days\", kind = \"number\"}, {name = \"urgent\", kind = \"flag\"}, {name = \"admitted\", kind = \"day\"}]\n";
@@ -376,11 +379,35 @@ fn same(acc: Acc, met: i64, oop: i64, paid: i64) -> bool {
         && acc.foop == acc.oop
 }
 
-// Reads the balances, and compares what these members have.
+// Reads the balances, and compares what these members have in no year.
 fn are_balances(rt: &impl Abort, alloc: Global, text: &[u8], members: &[(&str, i64, i64, i64)]) {
-    let balances = read_balances(alloc, text).expect(rt, "balances");
+    let plan = plan(rt, alloc, PLAN);
+    let balances = read_balances(alloc, &plan, text).expect(rt, "balances");
     for (member, met, oop, paid) in members {
-        assert!(rt; same(balances.of(member), *met, *oop, *paid), "{member}");
+        assert!(rt; same(balances.of(member, 0), *met, *oop, *paid), "{member}");
+    }
+}
+
+/// Balances of several years, and what members have of them in a year.
+const OF_YEARS: &[u8] =
+    b"member,year,met,oop,paid\nM1,2024,50.00,10.00,5.00\nM2,9999,1,2,3\nM1,2025,4,0,0\n";
+
+const MEMBERS_BY_YEAR: [(&str, u16, i64, i64, i64); 6] = [
+    ("M1", 2024, 500_000, 100_000, 50_000),
+    ("M1", 2025, 40_000, 0, 0),
+    ("M1", 2026, 0, 0, 0),
+    ("M2", 2024, 0, 0, 0),
+    ("M2", 9999, 10_000, 20_000, 30_000),
+    ("M3", 2024, 0, 0, 0),
+];
+
+#[test]
+fn balances_of_years(rt: HostRuntime) {
+    let plan = plan(&rt, rt.alloc(), BY_YEAR);
+    let balances = read_balances(rt.alloc(), &plan, OF_YEARS).expect(&rt, "balances");
+    for (member, year, met, oop, paid) in &MEMBERS_BY_YEAR {
+        let found = same(balances.of(member, *year), *met, *oop, *paid);
+        assert!(rt; found, "{member} {year}");
     }
 }
 
@@ -414,14 +441,55 @@ const REFUSED_BALANCES: [(&[u8], FileFault); 3] = [
     (b"member,met,met,oop,paid\n", FileFault::DuplicateColumn),
 ];
 
-fn refused_balances(alloc: Global, text: &[u8]) -> Option<BalanceFault> {
-    read_balances(alloc, text).err()
+// The fault of a text that is no file of balances under the plan.
+fn refused_balances(alloc: Global, plan: &Plan, text: &[u8]) -> Option<BalanceFault> {
+    read_balances(alloc, plan, text).err()
 }
 
 #[test]
 fn each_fault_of_a_file_of_balances(rt: HostRuntime) {
+    let plan = plan(&rt, rt.alloc(), PLAN);
     for (text, fault) in &REFUSED_BALANCES {
-        assert!(rt; refused_balances(rt.alloc(), text) == Some(BalanceFault::File(*fault)));
+        assert!(rt; refused_balances(rt.alloc(), &plan, text) == Some(BalanceFault::File(*fault)));
+    }
+}
+
+/// Files of balances of several years with a record that is refused: its number, the column, and why.
+const REFUSED_YEARS: [(&[u8], usize, usize, RowCause); 4] = [
+    (
+        b"member,year,met,oop,paid\nM1,2024,1,1,1\nM1,2025,1,1,1\nM1,2024,1,1,1\n",
+        3,
+        1,
+        RowCause::Repeated,
+    ),
+    (
+        b"member,year,met,oop,paid\nM1,24,1,1,1\n",
+        1,
+        2,
+        RowCause::Value,
+    ),
+    (
+        b"member,met,oop,paid,year\nM1,1,1,1,0000\n",
+        1,
+        5,
+        RowCause::Value,
+    ),
+    (
+        b"member,year,met,oop,paid\nM1,2024,1,-1,1\n",
+        1,
+        4,
+        RowCause::Negative,
+    ),
+];
+
+#[test]
+fn each_fault_of_a_year(rt: HostRuntime) {
+    let plan = plan(&rt, rt.alloc(), BY_YEAR);
+    let refused = refused_balances(rt.alloc(), &plan, BALANCES);
+    assert!(rt; refused == Some(BalanceFault::File(FileFault::MissingColumn)));
+    for (text, number, column, cause) in &REFUSED_YEARS {
+        let wanted = row(*number, *column, *cause);
+        assert!(rt; refused_balances(rt.alloc(), &plan, text) == Some(wanted));
     }
 }
 
@@ -457,9 +525,10 @@ const REFUSED_RECORDS: [(&[u8], usize, usize, RowCause); 6] = [
 
 #[test]
 fn each_fault_of_a_record_of_balances(rt: HostRuntime) {
+    let plan = plan(&rt, rt.alloc(), PLAN);
     for (text, number, column, cause) in &REFUSED_RECORDS {
         let wanted = row(*number, *column, *cause);
-        assert!(rt; refused_balances(rt.alloc(), text) == Some(wanted));
+        assert!(rt; refused_balances(rt.alloc(), &plan, text) == Some(wanted));
     }
 }
 
@@ -475,8 +544,9 @@ fn every_prefix_of_balances_is_answered(rt: HostRuntime) {
 
 // A prefix is a file of balances where it has the header's 19 bytes and no record, or a whole one.
 fn check_prefixes_of_balances(rt: &impl Abort, alloc: Global, text: &[u8]) {
+    let plan = plan(rt, alloc, PLAN);
     for length in 0..text.len() {
-        match refused_balances(alloc, &text[..length]) {
+        match refused_balances(alloc, &plan, &text[..length]) {
             None => assert!(rt; length >= 19),
             Some(BalanceFault::File(FileFault::NoHeader)) => assert!(rt; length == 0),
             Some(BalanceFault::File(fault)) => {
@@ -545,8 +615,11 @@ fn check_rows_or_no_memory(rt: &impl Abort, rows: &mut Rows) {
 
 #[test]
 fn balances_or_no_memory(rt: HostRuntime) {
-    match read_balances(rt.alloc(), BALANCES) {
-        Ok(balances) => assert!(rt; same(balances.of("M1"), 500_000, 100_000, 50_000)),
+    let Ok(plan) = read_plan(rt.alloc(), BY_YEAR) else {
+        return;
+    };
+    match read_balances(rt.alloc(), &plan, OF_YEARS) {
+        Ok(balances) => assert!(rt; same(balances.of("M1", 2024), 500_000, 100_000, 50_000)),
         Err(fault) => assert!(rt; fault == BalanceFault::OutOfMemory),
     }
 }

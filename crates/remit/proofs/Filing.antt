@@ -8,10 +8,10 @@ use Rattle.dtable.specs.declared.table.InputData.{InputData}
 use Rattle.intake_csv.specs.Laws.{StandApart, StartHasTheRows}
 use Rattle.intake_csv.specs.Rows.{AreRowsLeft, AreRowsOf, IsAtStart, RowsLeft}
 use Rattle.intake_csv.specs.declared.rows.Row.{Row}
-use Rattle.remit.specs.Records.{record_of, records_of}
+use Rattle.remit.specs.Records.{Deciding, record_of, records_of}
 use Rattle.remit.specs.Report.{record_text, text_of}
 use Rattle.remit.specs.Held.{At, IsNoMemory, Writes, at}
-use Rattle.remit.specs.Rows.{AreRead, Begin, Deciding, GivesAll, GivesFirst, IsRead, IsReadFirst, WritesFile, WritesFiles, WritesLeft, files_text, rows_text}
+use Rattle.remit.specs.Rows.{AreRead, Begin, GivesAll, GivesFirst, IsRead, IsReadFirst, WritesFile, WritesFiles, WritesLeft, files_text, rows_text}
 use Rattle.remit.specs.declared.fault.WriteFault.{WriteFault}
 use Rattle.remit.specs.declared.record_writer.RecordWriter.{RecordWriter}
 use Rattle.remit.proofs.Holding.{no-memory, writes-none, writes-then}

@@ -1,9 +1,10 @@
 -- What a journal tells of claims, one event after another.
-use Rattle.std.proofs.Common.{inl, inr, ◌≡◌, ◌<◌, ◌+◌, ℕ, suc, cond, ◌==◌, List, [], ◌∷◌, ◌++◌, flat_map, get_or, length, take, Option, Some, None, Bor, ap, sym, subst, ◌∙◌, refl, append-nil, zero-add, arith}
+use Rattle.std.proofs.Common.{Bool, inl, inr, ◌≡◌, ◌<◌, ◌+◌, ℕ, suc, cond, ◌==◌, List, [], ◌∷◌, ◌++◌, flat_map, get_or, length, take, Option, Some, None, Bor, Result, IfOk, ap, sym, subst, ◌∙◌, refl, append-nil, zero-add, arith}
 use Rattle.std.specs.List.{slice_get}
 use Rattle.std.proofs.lemmas.Bool.{cases_Bool, cases_lt}
 use Rattle.std.proofs.lemmas.Grind.{flat_map-append}
 use Rattle.std.proofs.lemmas.List.{get_or_append_left, get_or_push, length_push, take_more}
+use Rattle.dtable.specs.Plan.{PlanParts, keeps_years}
 use Rattle.settlement.specs.declared.outcome.Outcome.{Outcome}
 use Rattle.journal.specs.Events.{Filed, accept_in, accepted, accepts}
 use Rattle.journal.specs.declared.event.Event.{Event}
@@ -34,11 +35,12 @@ positions-push first (g ∷ fs) f provider =
     ]
 
 -- an event that accepts no claim changes nothing
-pub noted-other : (providers : ℕ) (J : List Event) (event : Event) (decisions : Decisions) → accept_in event ≡ [] → Noted providers J [] decisions
-    → Noted providers (J ++ event ∷ []) [] decisions
-noted-other providers J event decisions none noted =
+pub noted-other : (years : Bool) (providers : ℕ) (J : List Event) (event : Event) (decisions : Decisions) → accept_in event ≡ [] → Noted years providers J [] decisions
+    → Noted years providers (J ++ event ∷ []) [] decisions
+noted-other years providers J event decisions none noted =
     let same : accepts (J ++ event ∷ []) ≡ accepts J = accepts-push J event ∙ ap (λ behind. accepts J ++ behind) none ∙ append-nil (accepts J) in
     record {
+      years_are = noted.years_are;
       count = noted.count;
       positions = λ i d within. rw same (noted.positions i d within);
       size = rw same noted.size;
@@ -55,15 +57,16 @@ undecided-push accepting items size undecided k d within = elim (cases_lt k (len
 ]
 
 -- an accept
-pub noted-accept : (providers : ℕ) (J : List Event) (event : Event) (provider place : ℕ) (old new : Decisions) → event ≡ Accept provider place
+pub noted-accept : (years : Bool) (providers : ℕ) (J : List Event) (event : Event) (provider place : ℕ) (old new : Decisions) → event ≡ Accept provider place → new.keeps_years ≡ old.keeps_years
     → new.decided.items ≡ old.decided.items ++ None ∷ [] → NotesPosition old.positions.items new.positions.items provider (length old.decided.items)
-    → Noted providers J [] old → Noted providers (J ++ event ∷ []) [] new
-noted-accept providers J event provider place old new is decided notes noted =
+    → Noted years providers J [] old → Noted years providers (J ++ event ∷ []) [] new
+noted-accept years providers J event provider place old new is kept decided notes noted =
     let filed : Filed = record { provider = provider; place = place } in
     let grown : accepts (J ++ event ∷ []) ≡ accepts J ++ filed ∷ [] = accepts-push J event ∙ ap (λ e. accepts J ++ accept_in e) is in
     let longer = ap length decided ∙ length_push old.decided.items None in
     let counted = ap length grown ∙ length_push (accepts J) filed in
     record {
+      years_are = kept ∙ noted.years_are;
       count = notes.count ∙ noted.count;
       positions = λ i d within.
           notes.each i d (omega (arith, within, noted.count))
@@ -99,10 +102,11 @@ decision-here position k outcome = elim (cases_Bool (position == k)) [
 ]
 
 -- a decision
-pub noted-decision : (providers : ℕ) (accepting J : List Event) (event : Event) (position : ℕ) (outcome : Outcome) (old new : Decisions)
-    → event ≡ Decide position outcome → new.positions.items ≡ old.positions.items → NotesOutcome old.decided.items new.decided.items position outcome
-    → Noted providers accepting J old → Noted providers accepting (J ++ event ∷ []) new
-noted-decision providers accepting J event position outcome old new is positions notes noted = record {
+pub noted-decision : (years : Bool) (providers : ℕ) (accepting J : List Event) (event : Event) (position : ℕ) (outcome : Outcome) (old new : Decisions)
+    → event ≡ Decide position outcome → new.keeps_years ≡ old.keeps_years → new.positions.items ≡ old.positions.items → NotesOutcome old.decided.items new.decided.items position outcome
+    → Noted years providers accepting J old → Noted years providers accepting (J ++ event ∷ []) new
+noted-decision years providers accepting J event position outcome old new is kept positions notes noted = record {
+  years_are = kept ∙ noted.years_are;
   count = ap length positions ∙ noted.count;
   positions = λ i d within. ap (λ items. (get_or items i d).items) positions ∙ noted.positions i d within;
   size = notes.count ∙ noted.size;
@@ -114,9 +118,10 @@ noted-decision providers accepting J event position outcome old new is positions
 }
 
 -- an event that decides nothing changes nothing
-pub noted-no-decision : (providers : ℕ) (accepting J : List Event) (event : Event) (decisions : Decisions) → ((k : ℕ) → decision_in k event ≡ [])
-    → Noted providers accepting J decisions → Noted providers accepting (J ++ event ∷ []) decisions
-noted-no-decision providers accepting J event decisions none noted = record {
+pub noted-no-decision : (years : Bool) (providers : ℕ) (accepting J : List Event) (event : Event) (decisions : Decisions) → ((k : ℕ) → decision_in k event ≡ [])
+    → Noted years providers accepting J decisions → Noted years providers accepting (J ++ event ∷ []) decisions
+noted-no-decision years providers accepting J event decisions none noted = record {
+  years_are = noted.years_are;
   count = noted.count;
   positions = noted.positions;
   size = noted.size;
@@ -126,12 +131,17 @@ noted-no-decision providers accepting J event decisions none noted = record {
 }
 
 -- the events up to a place, with the one at that place
-pub noted-next : (providers : ℕ) (J : List Event) (place : ℕ) (event : Event) (decisions : Decisions) → place < length J → event ≡ get_or J place event
-    → Noted providers (take place J ++ event ∷ []) [] decisions → Noted providers (take (place + 1) J) [] decisions
-noted-next providers J place event decisions within is noted =
-    subst (λ taken. Noted providers taken [] decisions) (sym (take_more J place event within ∙ ap (λ e. take place J ++ e ∷ []) (sym is))) noted
+pub noted-next : (years : Bool) (providers : ℕ) (J : List Event) (place : ℕ) (event : Event) (decisions : Decisions) → place < length J → event ≡ get_or J place event
+    → Noted years providers (take place J ++ event ∷ []) [] decisions → Noted years providers (take (place + 1) J) [] decisions
+noted-next years providers J place event decisions within is noted =
+    subst (λ taken. Noted years providers taken [] decisions) (sym (take_more J place event within ∙ ap (λ e. take place J ++ e ∷ []) (sym is))) noted
 
-pub noted-next-decision : (providers : ℕ) (accepting J : List Event) (place : ℕ) (event : Event) (decisions : Decisions) → place < length J → event ≡ get_or J place event
-    → Noted providers accepting (take place J ++ event ∷ []) decisions → Noted providers accepting (take (place + 1) J) decisions
-noted-next-decision providers accepting J place event decisions within is noted =
-    subst (λ taken. Noted providers accepting taken decisions) (sym (take_more J place event within ∙ ap (λ e. take place J ++ e ∷ []) (sym is))) noted
+pub noted-next-decision : (years : Bool) (providers : ℕ) (accepting J : List Event) (place : ℕ) (event : Event) (decisions : Decisions) → place < length J → event ≡ get_or J place event
+    → Noted years providers accepting (take place J ++ event ∷ []) decisions → Noted years providers accepting (take (place + 1) J) decisions
+noted-next-decision years providers accepting J place event decisions within is noted =
+    subst (λ taken. Noted years providers accepting taken decisions) (sym (take_more J place event within ∙ ap (λ e. take place J ++ e ∷ []) (sym is))) noted
+
+-- what is noted by whether the plan keeps years is noted under the plan
+pub noted_under : {E : Type 0} (plan other : PlanParts) (years : Bool) (providers : ℕ) (J : List Event) (made : Result Decisions E) → years ≡ keeps_years other → other ≡ plan
+    → IfOk made (Noted years providers J J) → IfOk made (Noted (keeps_years plan) providers J J)
+noted_under plan other years providers J made is same noted = subst (λ y. IfOk made (Noted y providers J J)) (is ∙ ap keeps_years same) noted

@@ -8,7 +8,8 @@ use Rattle.intake_csv.specs.declared.rows.Row.{Row}
 use Rattle.remit.specs.Held.{At, Writes, gathered_of}
 use Rattle.remit.specs.Looked.{looked_up}
 use Rattle.remit.specs.Parts.{AreParts, IsPart, MayBePart}
-use Rattle.remit.specs.Rows.{Deciding, IsRead, IsReadFirst, WritesFile, WritesFiles, rows_text}
+use Rattle.remit.specs.Records.{Deciding}
+use Rattle.remit.specs.Rows.{IsRead, IsReadFirst, WritesFile, WritesFiles, rows_text}
 use Rattle.remit.specs.declared.decisions.Decisions.{Decisions}
 use Rattle.remit.specs.declared.fault.WriteFault.{WriteFault}
 use Rattle.remit.proofs.Filing.{FilesSoFar, files-done, files-next, files-none, files-refused}

@@ -5,9 +5,9 @@ use Rattle.std.proofs.lemmas.List.{map-append}
 use Rattle.intake_csv.specs.Laws.{GivenRowIsTheFirst, NoRecordsNoRows, StandApart}
 use Rattle.intake_csv.specs.Rows.{AreRowsLeft, GivesRow, RowsLeft}
 use Rattle.intake_csv.specs.declared.rows.Row.{Row}
-use Rattle.remit.specs.Records.{record_of}
+use Rattle.remit.specs.Records.{Deciding, record_of}
 use Rattle.remit.specs.Report.{record_text, text_of}
-use Rattle.remit.specs.Rows.{Deciding, GivesAll, GivesFirst, WritesLeft, rows_text}
+use Rattle.remit.specs.Rows.{GivesAll, GivesFirst, WritesLeft, rows_text}
 use Rattle.remit.specs.Held.{At, IsNoMemory, Writes, at}
 use Rattle.remit.specs.declared.fault.WriteFault.{WriteFault}
 use Rattle.remit.specs.declared.record_writer.RecordWriter.{RecordWriter}

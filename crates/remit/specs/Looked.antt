@@ -1,5 +1,5 @@
 -- What a journal tells, laid out so that a claim's decision is found at once, and its sums.
-use Rattle.std.specs.Prelude.{◌≡◌, ◌<◌, ◌≤◌, ◌+◌, ◌-◌, ◌*◌, ◌^◌, ◌+ℤ◌, ℕ, suc, ℤ, pos, ◌==◌, cond, List, [], ◌∷◌, get_or, length, ◌++◌, slice_get, slice_index, Option, Some, None, option_map}
+use Rattle.std.specs.Prelude.{◌≡◌, ◌<◌, ◌≤◌, ◌+◌, ◌-◌, ◌*◌, ◌^◌, ◌+ℤ◌, ℕ, suc, ℤ, pos, ◌==◌, Bool, cond, List, [], ◌∷◌, get_or, length, ◌++◌, slice_get, slice_index, Option, Some, None, option_map}
 use Rattle.std.specs.Global.{Vec}
 use Rattle.std.specs.Borrow.{Bor}
 use Rattle.std.specs.Option.{option_and_then}
@@ -10,6 +10,7 @@ use Rattle.journal.specs.declared.event.Event.{Event}
 use Rattle.remit.specs.declared.amount.Amount.{Amount}
 use Rattle.remit.specs.Amounts.{amounts, amount_of}
 use Rattle.remit.specs.Decided.{decision_at, paid_outcomes, sum_of}
+use Rattle.remit.specs.Records.{Deciding}
 use Rattle.remit.specs.declared.decisions.Decisions.{Decisions}
 use Rattle.remit.specs.declared.sums.Sums.{Sums}
 
@@ -27,8 +28,10 @@ positions_of J provider = positions_from 0 (accepts J) provider
 abbrev pub outcome_in : Option (Bor Outcome) → Option Outcome
 outcome_in outcome = option_map (λ o. o.now) outcome
 
--- the positions of so many providers' claims that one journal accepts, and what another decides of these positions
-pub record Noted (providers : ℕ) (accepting deciding : List Event) (decisions : Decisions) : Type 0 where
+-- whether accumulators are kept by the year, the positions of so many providers' claims that one journal accepts, and what another
+-- decides of these positions
+pub record Noted (years : Bool) (providers : ℕ) (accepting deciding : List Event) (decisions : Decisions) : Type 0 where
+  pub years_are : decisions.keeps_years ≡ years
   pub count : length decisions.positions.items ≡ providers
   pub positions : (i : ℕ) (d : Vec ℕ) → i < providers → (get_or decisions.positions.items i d).items ≡ positions_of accepting (suc i)
   pub size : length decisions.decided.items ≡ accepted accepting
@@ -51,10 +54,14 @@ pub record NotesOutcome (old new : List (Option (Bor Outcome))) (position : ℕ)
       → outcome_in (get_or new k d) ≡ or_else (outcome_in (get_or old k d)) (cond (position == k) (Some outcome) None)
 
 -- what is found of a provider's claim at a place
-abbrev pub looked_up : Decisions → ℕ → ℕ → Option Outcome
-looked_up decisions provider place =
+abbrev pub found_of : Decisions → ℕ → ℕ → Option Outcome
+found_of decisions provider place =
     option_and_then (λ position. option_and_then outcome_in (slice_get decisions.decided.items position))
     (option_and_then (λ positions. slice_get positions.items place) (slice_get decisions.positions.items (provider - 1)))
+
+-- what records are told by, as it is found
+abbrev pub looked_up : Decisions → Deciding
+looked_up decisions = record { years = decisions.keeps_years; decided = found_of decisions }
 
 -- the sum of an amount over outcomes, where each is at most the greatest number, and there are no more than so many
 pub record IsSum (amount : Outcome → ℤ) (outcomes : List Outcome) (count sum : ℕ) : Type 0 where

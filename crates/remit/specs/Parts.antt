@@ -3,7 +3,8 @@ use Rattle.std.specs.Prelude.{◌≡◌, ◌<◌, ◌+◌, ◌-◌, ℕ, List, [
 use Rattle.std.specs.Global.{Vec}
 use Rattle.dtable.specs.declared.table.InputData.{InputData}
 use Rattle.intake_csv.specs.declared.rows.Row.{Row}
-use Rattle.remit.specs.Rows.{Deciding, IsRead, rows_text}
+use Rattle.remit.specs.Records.{Deciding}
+use Rattle.remit.specs.Rows.{IsRead, rows_text}
 
 -- the text of a provider's rows, which are those of its file
 pub record IsPart (decided : Deciding) (provider : ℕ) (names : List InputData) (text part : List ℕ) : Type 0 where

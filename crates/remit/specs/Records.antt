@@ -1,6 +1,7 @@
 -- The records of the report, by their fields.
-use Rattle.std.specs.Prelude.{ℕ, suc, List, [], ◌∷◌, ◌++◌, codes, decimal, map, Option, Some, None}
+use Rattle.std.specs.Prelude.{ℕ, suc, Bool, true, false, List, [], ◌∷◌, ◌++◌, codes, decimal, map, Option, Some, None}
 use Rattle.fixpoint.specs.Money.{money_text}
+use Rattle.feel_tests.specs.Calendar.{year_of, year_text}
 use Rattle.settlement.specs.declared.outcome.Outcome.{Outcome}
 use Rattle.settlement.specs.declared.outcome.Verdict.{Verdict}
 use Rattle.settlement.specs.declared.outcome.Verdict.TheVariants.{Paid, Denied, Pended}
@@ -15,11 +16,29 @@ use Rattle.remit.specs.Amounts.{amounts, name_of, amount_of}
 use Rattle.remit.specs.Decided.{paid_outcomes, sum_of}
 use Rattle.remit.specs.Texts.{fault_text, remarks_text}
 
+-- what records are told by: whether accumulators are kept by the year, and what the providers' claims are decided to be, by their
+-- places
+pub record Deciding : Type 0 where
+  pub years : Bool
+  pub decided : ℕ → ℕ → Option Outcome
+
+-- the field of the year, where accumulators are kept by it
+abbrev pub year_fields : Bool → List ℕ → List (List ℕ)
+year_fields true text = text ∷ []
+year_fields false text = []
+
+-- the fields that tell whose a record is
+abbrev pub whose_fields : Bool → List ℕ → List ℕ → List ℕ → List (List ℕ)
+whose_fields years claim member year = claim ∷ member ∷ year_fields years year
+
+-- the names of the fields in front of the amounts
+abbrev pub front_names : Bool → List (List ℕ)
+front_names years =
+    codes "provider" ∷ codes "record" ∷ (whose_fields years (codes "claim") (codes "member") (codes "year") ++ codes "status" ∷ codes "reason" ∷ [])
+
 -- the names of the fields
-abbrev pub header_fields : List (List ℕ)
-header_fields =
-    codes "provider" ∷ codes "record" ∷ codes "claim" ∷ codes "member" ∷ codes "status" ∷ codes "reason"
-    ∷ (map name_of amounts ++ codes "remarks" ∷ [])
+abbrev pub header_fields : Bool → List (List ℕ)
+header_fields years = front_names years ++ (map name_of amounts ++ codes "remarks" ∷ [])
 
 -- what the report tells of a record behind whose it is: the fields from the status on
 pub record Told : Type 0 where
@@ -58,26 +77,29 @@ told_of None = record { status = codes "late"; reason = []; amounts = no_amounts
 abbrev pub told_refused : RowFault → Told
 told_refused fault = record { status = codes "refused"; reason = fault_text fault; amounts = no_amounts; remarks = [] }
 
--- a record of a provider's file: its number, the claim's and the member's numbers, and what is told of it
-abbrev pub line_of : ℕ → ℕ → List ℕ → List ℕ → Told → List (List ℕ)
-line_of provider number claim member told =
-    decimal provider ∷ decimal number ∷ claim ∷ member ∷ told_fields told
+-- a record of a provider's file: its number, whose it is, and what is told of it
+abbrev pub line_of : ℕ → ℕ → List (List ℕ) → Told → List (List ℕ)
+line_of provider number whose told = decimal provider ∷ decimal number ∷ (whose ++ told_fields told)
 
--- a row of a provider's file, where this is what the provider's claims are decided to be, by their places
-abbrev pub record_of : (ℕ → ℕ → Option Outcome) → ℕ → Row → List (List ℕ)
-record_of decided provider (Good number place claim) = line_of provider number claim.id claim.member (told_of (decided provider place))
-record_of decided provider (Bad number fault) = line_of provider number [] [] (told_refused fault)
+-- a row of a provider's file, where this is what records are told by; a claim's year is that of its service
+abbrev pub record_of : Deciding → ℕ → Row → List (List ℕ)
+record_of by provider (Good number place claim) =
+    line_of provider number (whose_fields by.years claim.id claim.member (year_text (year_of claim.service))) (told_of (by.decided provider place))
+record_of by provider (Bad number fault) = line_of provider number (whose_fields by.years [] [] []) (told_refused fault)
 
 -- the rows of the providers' files, the first of them of this provider: provider by provider, in file order
-abbrev pub records_of : (ℕ → ℕ → Option Outcome) → ℕ → List (List Row) → List (List (List ℕ))
-records_of decided provider [] = []
-records_of decided provider (rows ∷ rest) = map (record_of decided provider) rows ++ records_of decided (suc provider) rest
+abbrev pub records_of : Deciding → ℕ → List (List Row) → List (List (List ℕ))
+records_of by provider [] = []
+records_of by provider (rows ∷ rest) = map (record_of by provider) rows ++ records_of by (suc provider) rest
 
 -- the sum of an amount over the paid claims of a journal, as money
 abbrev pub total_text : List Event → Amount → List ℕ
 total_text J amount = money_text (sum_of (amount_of amount) (paid_outcomes J))
 
+-- the fields of the record at the end that stand in front of the amounts: of the text ones two are filled
+abbrev pub total_front : Bool → ℕ → List (List ℕ)
+total_front years count = codes "total" ∷ decimal count ∷ (whose_fields years [] [] [] ++ [] ∷ [] ∷ [])
+
 -- the record at the end: how many claims are accepted, and the sums over the paid claims
-abbrev pub total_fields : List Event → List (List ℕ)
-total_fields J =
-    codes "total" ∷ decimal (accepted J) ∷ [] ∷ [] ∷ [] ∷ [] ∷ (map (total_text J) amounts ++ [] ∷ [])
+abbrev pub total_fields : Bool → List Event → List (List ℕ)
+total_fields years J = total_front years (accepted J) ++ (map (total_text J) amounts ++ [] ∷ [])

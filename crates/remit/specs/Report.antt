@@ -1,15 +1,16 @@
 -- The report of a run: a CSV text (RFC 4180) over the rows of the providers' files and a journal.
-use Rattle.std.specs.Prelude.{◌≡◌, ℕ, List, [], ◌∷◌, ◌++◌, flat_map}
+use Rattle.std.specs.Prelude.{◌≡◌, ℕ, Bool, List, [], ◌∷◌, ◌++◌, flat_map}
 use Rattle.std.specs.List.{AllZip}
 use Rattle.csv.specs.Writing.{default_writer, row_text, with_terminator}
 use Rattle.csv.specs.declared.parser.Terminator.TheVariants.{CRLF}
 use Rattle.csv.specs.declared.writer.WriterBuilder.{WriterBuilder}
+use Rattle.dtable.specs.Plan.{keeps_years}
 use Rattle.intake_csv.specs.Rows.{AreRowsOf}
 use Rattle.intake_csv.specs.declared.rows.Row.{Row}
 use Rattle.journal.specs.declared.event.Event.{Event}
 use Rattle.claim_terms.specs.Terms.{TermsParts}
 use Rattle.remit.specs.Decided.{decided_as}
-use Rattle.remit.specs.Records.{header_fields, records_of, total_fields}
+use Rattle.remit.specs.Records.{Deciding, header_fields, records_of, total_fields}
 
 -- how the report is written: commas, quotes where a field needs them, and CRLF behind each record
 abbrev pub report_style : WriterBuilder
@@ -23,12 +24,16 @@ record_text fields = row_text report_style fields
 abbrev pub text_of : List (List (List ℕ)) → List ℕ
 text_of records = flat_map record_text records
 
+-- what the records of a journal's report are told by
+abbrev pub told_by_journal : Bool → List Event → Deciding
+told_by_journal years J = record { years = years; decided = decided_as J }
+
 -- the records of the report: the header, each row of each provider's file, and the totals
-abbrev pub report_records : List Event → List (List Row) → List (List (List ℕ))
-report_records J files = header_fields ∷ (records_of (decided_as J) 1 files ++ total_fields J ∷ [])
+abbrev pub report_records : Bool → List Event → List (List Row) → List (List (List ℕ))
+report_records years J files = header_fields years ∷ (records_of (told_by_journal years J) 1 files ++ total_fields years J ∷ [])
 
 -- the bytes are the report of these terms and this journal
 pub record IsReport (parts : TermsParts) (J : List Event) (bytes : List ℕ) : Type 0 where
   pub files : List (List Row)
   pub are_rows : AllZip (AreRowsOf parts.plan.names) parts.files files
-  pub bytes_are : bytes ≡ text_of (report_records J files)
+  pub bytes_are : bytes ≡ text_of (report_records (keeps_years parts.plan) J files)

@@ -1,19 +1,14 @@
 -- The rows of a file, as far as they are given one after another, and their text.
-use Rattle.std.specs.Prelude.{◌≡◌, ℕ, List, ◌++◌, map, Option, Result, Ok, Err}
+use Rattle.std.specs.Prelude.{◌≡◌, ℕ, List, ◌++◌, map, Result, Ok, Err}
 use Rattle.std.specs.List.{AllZip}
 use Rattle.dtable.specs.declared.table.InputData.{InputData}
-use Rattle.settlement.specs.declared.outcome.Outcome.{Outcome}
 use Rattle.intake_csv.specs.Laws.{StandApart}
 use Rattle.intake_csv.specs.Rows.{AreRowsLeft, AreRowsOf, RowsLeft}
 use Rattle.intake_csv.specs.declared.rows.Row.{Row}
 use Rattle.remit.specs.Held.{At, Writes}
-use Rattle.remit.specs.Records.{record_of, records_of}
+use Rattle.remit.specs.Records.{Deciding, record_of, records_of}
 use Rattle.remit.specs.Report.{text_of}
 use Rattle.remit.specs.declared.fault.WriteFault.{WriteFault}
-
--- what the providers' claims are decided to be, by their places
-abbrev pub Deciding : Type 0
-Deciding = ℕ → ℕ → Option Outcome
 
 -- the text of a provider's rows
 abbrev pub rows_text : Deciding → ℕ → List Row → List ℕ

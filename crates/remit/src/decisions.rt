@@ -1,30 +1,48 @@
 //! What a journal decides of the claims, laid out so that a claim's decision is found at once.
-ghost use Rattle.std.specs.Prelude.{◌≡◌, ◌≤◌, ◌++◌, ◌∷◌, [], List, ℕ, length, OnOk, IfOk};
+ghost use Rattle.std.specs.Prelude.{◌≡◌, ◌≤◌, ◌++◌, ◌∷◌, [], List, ℕ, Bool, length, OnOk, IfOk};
+ghost use Rattle.dtable.specs.Plan.{keeps_years};
 ghost use Rattle.journal.specs.Events.{accepted};
 ghost use Rattle.journal.specs.declared.event.Event.{Event as AnyEvent};
-ghost use Rattle.remit.specs.Looked.{Noted, NotesOutcome, NotesPosition, looked_up, outcome_in};
+ghost use Rattle.remit.specs.Looked.{Noted, NotesOutcome, NotesPosition, found_of, outcome_in};
 
+use claim_terms::Terms;
 use journal::Event;
 use settlement::Outcome;
 use std::alloc::{AllocError, Global};
 
-/// The positions of each provider's claims, in order, and what the claim at each position is decided to be.
+/// The positions of each provider's claims, in order, what the claim at each position is decided to be, and whether accumulators
+/// are kept by the year.
 #[derive(Drop)]
 pub struct Decisions<'j> {
+    keeps_years: bool,
     positions: Vec<Vec<usize>>,
     decided: Vec<Option<&'j Outcome>>,
 }
 
 impl<'j> Decisions<'j> {
-    /// The decisions of a journal about the claims of so many providers. The journal is walked twice, whatever it holds.
+    /// The decisions of a journal over these terms about the claims of so many providers. The journal is walked twice, whatever it
+    /// holds.
+    #[tactic(auto, using(crate::proofs::Noting::noted_under))]
     pub fn new(
         alloc: Global,
+        terms: &Terms,
         providers: usize,
         journal: &'j [Event],
     ) -> Result<Decisions<'j>, AllocError>
-        ensures { IfOk result (Noted providers journal.now journal.now) }
+        ensures { IfOk result (Noted (keeps_years terms.now.plan) providers journal.now journal.now) }
     {
-        let mut decisions = Decisions::of_none(alloc, providers)?;
+        Decisions::of_journal(alloc, terms.plan().keeps_years(), providers, journal)
+    }
+
+    fn of_journal(
+        alloc: Global,
+        keeps_years: bool,
+        providers: usize,
+        journal: &'j [Event],
+    ) -> Result<Decisions<'j>, AllocError>
+        ensures { IfOk result (Noted keeps_years providers journal.now journal.now) }
+    {
+        let mut decisions = Decisions::of_none(alloc, keeps_years, providers)?;
         for event in journal {
             decisions.note_accept(event)?;
         }
@@ -35,11 +53,18 @@ impl<'j> Decisions<'j> {
     /// What a provider's claim is decided to be, if it is accepted. Providers count from 1, places from 0.
     pub fn outcome(&self, provider: usize, place: usize) -> Option<&'j Outcome>
         requires { 1 ≤ provider }
-        ensures { outcome_in result ≡ looked_up self.now provider place }
+        ensures { outcome_in result ≡ found_of self.now provider place }
     {
         let positions = self.positions.get(provider - 1)?;
         let position = *positions.get(place)?;
         *self.decided.get(position)?
+    }
+
+    /// Whether accumulators are kept by the year.
+    pub fn keeps_years(&self) -> bool
+        ensures { result ≡ self.now.keeps_years }
+    {
+        self.keeps_years
     }
 
     /// How many claims are accepted.
@@ -49,14 +74,19 @@ impl<'j> Decisions<'j> {
         self.decided.len()
     }
 
-    fn of_none(alloc: Global, providers: usize) -> Result<Decisions<'j>, AllocError>
-        ensures { IfOk result (Noted providers [] []) }
+    fn of_none(
+        alloc: Global,
+        keeps_years: bool,
+        providers: usize,
+    ) -> Result<Decisions<'j>, AllocError>
+        ensures { IfOk result (Noted keeps_years providers [] []) }
     {
         let mut positions = Vec::with_capacity(alloc, providers)?;
         for _ in 0..providers {
             positions.push(Vec::new(alloc))?;
         }
         Ok(Decisions {
+            keeps_years,
             positions,
             decided: Vec::new(alloc),
         })
@@ -64,7 +94,7 @@ impl<'j> Decisions<'j> {
 
     // Notes the claim that the event accepts, if it accepts one.
     fn note_accept(&mut self, event: &Event) -> Result<(), AllocError>
-        ensures { OnOk result ((providers : ℕ) (front : List AnyEvent) → Noted providers front [] self.old → Noted providers (front ++ event.now ∷ []) [] self.new) }
+        ensures { OnOk result ((years : Bool) (providers : ℕ) (front : List AnyEvent) → Noted years providers front [] self.old → Noted years providers (front ++ event.now ∷ []) [] self.new) }
     {
         let Event::Accept { provider, .. } = event else {
             return Ok(());
@@ -76,7 +106,7 @@ impl<'j> Decisions<'j> {
 
     // Notes each decision of the journal.
     fn note_decisions(&mut self, journal: &'j [Event])
-        ensures { (providers : ℕ) (accepting : List AnyEvent) → Noted providers accepting [] self.old → Noted providers accepting journal.now self.new }
+        ensures { (years : Bool) (providers : ℕ) (accepting : List AnyEvent) → Noted years providers accepting [] self.old → Noted years providers accepting journal.now self.new }
     {
         for event in journal {
             self.note_decision(event);
@@ -85,7 +115,7 @@ impl<'j> Decisions<'j> {
 
     // Notes what the event decides, if it decides a claim.
     fn note_decision(&mut self, event: &'j Event)
-        ensures { (providers : ℕ) (accepting front : List AnyEvent) → Noted providers accepting front self.old → Noted providers accepting (front ++ event.now ∷ []) self.new }
+        ensures { (years : Bool) (providers : ℕ) (accepting front : List AnyEvent) → Noted years providers accepting front self.old → Noted years providers accepting (front ++ event.now ∷ []) self.new }
     {
         let Event::Decide { position, outcome } = event else {
             return;

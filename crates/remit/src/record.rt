@@ -2,6 +2,7 @@
 ghost use Rattle.std.specs.Prelude.{◌≡◌, ◌≤◌, ℕ, pos, List, [], ◌∷◌, decimal, map, replicate, OnOk};
 ghost use Rattle.csv.specs.Records.{fields_of};
 ghost use Rattle.fixpoint.specs.Money.{money_text};
+ghost use Rattle.feel_tests.specs.Calendar.{year_of, year_text};
 ghost use Rattle.journal.specs.Events.{accepted as accepted_in};
 ghost use Rattle.journal.specs.declared.event.Event.{Event as AnyEvent};
 ghost use Rattle.claim_terms.specs.Terms.{texts_of};
@@ -9,34 +10,31 @@ ghost use Rattle.remit.specs.Amounts.{amount_of, name_of};
 ghost use Rattle.remit.specs.Held.{Pushes};
 ghost use Rattle.remit.specs.Looked.{AreSums, looked_up, outcome_in};
 ghost use Rattle.remit.specs.Texts.{remarks_text};
-ghost use Rattle.remit.specs.Records.{header_fields, record_of, told_by, told_fields, told_of, told_refused, total_fields};
+ghost use Rattle.remit.specs.Records.{front_names, header_fields, record_of, told_by, told_fields, told_of, told_refused, total_fields, total_front, whose_fields, year_fields};
 
 use crate::amount::{AMOUNTS, Amount};
 use crate::decisions::Decisions;
 use crate::sums::Sums;
 use crate::texts::{fault_text, reason_text, remarks_text, sum_text};
 use csv::ByteRecord;
+use feel_tests::{day_year, year_text};
 use intake_csv::{Row, RowFault};
 use itoa::Buffer;
-use settlement::{Money, Outcome, Verdict};
+use settlement::{Claim, Money, Outcome, Verdict};
 use std::alloc::{AllocError, Global};
 
-/// The names of the fields in front of the amounts. The record with the totals fills the first two of them.
-const FIELDS_BEFORE: [&[u8]; 6] = [
-    b"provider",
-    b"record",
-    b"claim",
-    b"member",
-    b"status",
-    b"reason",
-];
+/// The names of the fields in front of those that tell whose a record is. The record with the totals fills them.
+const FIELDS_BEFORE: [&[u8]; 2] = [b"provider", b"record"];
+
+/// The names of the fields between those that tell whose a record is and the amounts.
+const FIELDS_BETWEEN: [&[u8]; 2] = [b"status", b"reason"];
 
 /// Fills the record with the names of the fields.
-pub fn fill_header(line: &mut ByteRecord) -> Result<(), AllocError>
-    ensures { OnOk result (fields_of line.new ≡ header_fields) }
+pub fn fill_header(line: &mut ByteRecord, keeps_years: bool) -> Result<(), AllocError>
+    ensures { OnOk result (fields_of line.new ≡ header_fields keeps_years) }
 {
     line.clear();
-    push_all(line, &FIELDS_BEFORE)?;
+    push_front_names(line, keeps_years)?;
     push_names(line, &AMOUNTS)?;
     line.push_field(b"remarks")
 }
@@ -61,13 +59,12 @@ pub fn fill_row(
             claim,
         } => {
             push_number(line, *number)?;
-            line.push_field(claim.id.as_str().as_bytes())?;
-            line.push_field(claim.member.as_str().as_bytes())?;
+            push_claimant(line, decisions.keeps_years(), claim)?;
             push_claim(alloc, line, decisions.outcome(provider, *place))
         }
         Row::Bad { number, fault } => {
             push_number(line, *number)?;
-            push_repeated(line, b"", 2)?;
+            push_whose(line, decisions.keeps_years(), b"", b"", b"")?;
             push_refused(alloc, line, *fault)
         }
     }
@@ -77,17 +74,79 @@ pub fn fill_row(
 pub fn fill_total(
     alloc: Global,
     line: &mut ByteRecord,
+    keeps_years: bool,
     accepted: usize,
     sums: Sums,
 ) -> Result<(), AllocError>
-    ensures { OnOk result ((J : List AnyEvent) (count : ℕ) → accepted ≡ accepted_in J → AreSums J count sums → fields_of line.new ≡ total_fields J) }
+    ensures { OnOk result ((J : List AnyEvent) (count : ℕ) → accepted ≡ accepted_in J → AreSums J count sums → fields_of line.new ≡ total_fields keeps_years J) }
 {
     line.clear();
-    line.push_field(b"total")?;
-    push_number(line, accepted)?;
-    push_repeated(line, b"", FIELDS_BEFORE.len() - 2)?;
+    push_total_front(line, keeps_years, accepted)?;
     push_sums(alloc, line, sums.as_slice())?;
     line.push_field(b"")
+}
+
+// The names of the fields in front of the amounts.
+fn push_front_names(line: &mut ByteRecord, keeps_years: bool) -> Result<(), AllocError>
+    ensures { OnOk result (Pushes line.old line.new (front_names keeps_years)) }
+{
+    push_all(line, &FIELDS_BEFORE)?;
+    push_whose(line, keeps_years, b"claim", b"member", b"year")?;
+    push_all(line, &FIELDS_BETWEEN)
+}
+
+// The fields in front of the totals.
+fn push_total_front(
+    line: &mut ByteRecord,
+    keeps_years: bool,
+    accepted: usize,
+) -> Result<(), AllocError>
+    ensures { OnOk result (Pushes line.old line.new (total_front keeps_years accepted)) }
+{
+    line.push_field(b"total")?;
+    push_number(line, accepted)?;
+    push_whose(line, keeps_years, b"", b"", b"")?;
+    push_repeated(line, b"", FIELDS_BETWEEN.len())
+}
+
+// Whose the claim is, and the year of its service, where there is a field for it.
+fn push_claimant(line: &mut ByteRecord, keeps_years: bool, claim: &Claim) -> Result<(), AllocError>
+    ensures { OnOk result (Pushes line.old line.new (whose_fields keeps_years claim.now.id claim.now.member (year_text (year_of claim.now.service)))) }
+{
+    let id = claim.id.as_str().as_bytes();
+    let member = claim.member.as_str().as_bytes();
+    if keeps_years {
+        let year = year_text(day_year(claim.service.epoch_day()));
+        push_whose(line, true, id, member, year.as_slice())
+    } else {
+        push_whose(line, false, id, member, b"")
+    }
+}
+
+// The fields that tell whose a record is: the year's one only where there is one.
+fn push_whose(
+    line: &mut ByteRecord,
+    keeps_years: bool,
+    claim: &[u8],
+    member: &[u8],
+    year: &[u8],
+) -> Result<(), AllocError>
+    ensures { OnOk result (Pushes line.old line.new (whose_fields keeps_years claim.now member.now year.now)) }
+{
+    line.push_field(claim)?;
+    line.push_field(member)?;
+    push_year(line, keeps_years, year)
+}
+
+// The field of the year, where there is one.
+fn push_year(line: &mut ByteRecord, keeps_years: bool, year: &[u8]) -> Result<(), AllocError>
+    ensures { OnOk result (Pushes line.old line.new (year_fields keeps_years year.now)) }
+{
+    if keeps_years {
+        line.push_field(year)
+    } else {
+        Ok(())
+    }
 }
 
 // What is told of a claim: what it is decided to be, or that it came too late to be accepted.

@@ -1,6 +1,6 @@
 //! The report of a run: one record for each record of the providers' files, and one with the totals.
 ghost use Rattle.std.specs.Prelude.{◌≡◌, ◌≤◌, ◌-◌, ℕ, [], ◌∷◌, List, get_or, length, IfErr, OnOk, true};
-ghost use Rattle.dtable.specs.Plan.{PlanParts};
+ghost use Rattle.dtable.specs.Plan.{PlanParts, keeps_years};
 ghost use Rattle.dtable.specs.declared.table.InputData.{InputData};
 ghost use Rattle.fixpoint.specs.Out.{has_failed, writer_of};
 ghost use Rattle.journal.specs.Events.{accepted};
@@ -91,16 +91,16 @@ pub(crate) fn write_journal<W: Write>(
     ensures ok_failed { OnOk result (has_failed out.new ≡ has_failed out.old) }
 {
     let files = terms.files();
-    let Ok(decisions) = Decisions::new(alloc, files.len(), journal) else {
+    let Ok(decisions) = Decisions::new(alloc, terms, files.len(), journal) else {
         return Err(WriteFault {
             written: 0,
             cause: WriteCause::OutOfMemory,
         });
     };
     let mut report = Report::new(alloc, &decisions);
-    report.write_header(out)?;
+    report.write_header(terms, out)?;
     report.write_files(terms, files.len(), out)?;
-    report.write_total(journal, out)?;
+    report.write_total(terms, journal, out)?;
     report.writer.hand_over(out)
 }
 
@@ -119,7 +119,7 @@ pub(crate) fn write_journal_by_threads<R: Threads + Sync, W: Write>(
     ensures ok_failed { OnOk result (has_failed out.new ≡ has_failed out.old) }
 {
     let files = terms.files();
-    let Ok(decisions) = Decisions::new(alloc, files.len(), journal) else {
+    let Ok(decisions) = Decisions::new(alloc, terms, files.len(), journal) else {
         return Err(WriteFault {
             written: 0,
             cause: WriteCause::OutOfMemory,
@@ -137,9 +137,9 @@ pub(crate) fn write_journal_by_threads<R: Threads + Sync, W: Write>(
         return write_journal(alloc, terms, journal, out);
     }
     let mut report = Report::new(alloc, &decisions);
-    report.write_header(out)?;
+    report.write_header(terms, out)?;
     report.write_parts(parts, out)?;
-    report.write_total(journal, out)?;
+    report.write_total(terms, journal, out)?;
     report.finish(out)
 }
 
@@ -169,12 +169,12 @@ impl<'d, 'j> Report<'d, 'j> {
         }
     }
 
-    fn write_header<W: Write>(&mut self, out: &mut Out<W>) -> Result<(), WriteFault>
+    fn write_header<W: Write>(&mut self, terms: &Terms, out: &mut Out<W>) -> Result<(), WriteFault>
         ensures writes { Writes (at (W.contents (writer_of out.old)) (has_failed out.old) self.old.writer)
-            (at (W.contents (writer_of out.new)) (has_failed out.new) self.new.writer) (record_text header_fields) result }
+            (at (W.contents (writer_of out.new)) (has_failed out.new) self.new.writer) (record_text (header_fields (keeps_years terms.now.plan))) result }
         ensures decisions { self.new.decisions ≡ self.old.decisions }
     {
-        if fill_header(&mut self.line).is_err() {
+        if fill_header(&mut self.line, terms.plan().keeps_years()).is_err() {
             return Err(self.writer.no_memory());
         }
         self.writer.write(&self.line, out)
@@ -314,16 +314,18 @@ impl<'d, 'j> Report<'d, 'j> {
 
     fn write_total<W: Write>(
         &mut self,
+        terms: &Terms,
         journal: &[Event],
         out: &mut Out<W>,
     ) -> Result<(), WriteFault>
         requires { length self.old.decisions.now.decided.items ≡ accepted journal.now }
         ensures { Writes (at (W.contents (writer_of out.old)) (has_failed out.old) self.old.writer)
-            (at (W.contents (writer_of out.new)) (has_failed out.new) self.new.writer) (record_text (total_fields journal.now)) result }
+            (at (W.contents (writer_of out.new)) (has_failed out.new) self.new.writer) (record_text (total_fields (keeps_years terms.now.plan) journal.now)) result }
     {
         let accepted = self.decisions.accepted();
         let sums = Sums::over(journal);
-        if fill_total(self.alloc, &mut self.line, accepted, sums).is_err() {
+        let keeps_years = terms.plan().keeps_years();
+        if fill_total(self.alloc, &mut self.line, keeps_years, accepted, sums).is_err() {
             return Err(self.writer.no_memory());
         }
         self.writer.write(&self.line, out)

@@ -1,7 +1,8 @@
 -- Accounts: whose accumulators a claim is settled at.
 use Rattle.std.specs.Prelude.{ℕ, ℤ, pos, ◌+ℤ◌, ◌==◌, ◌&&◌, Bool, cond, List}
 use Rattle.std.specs.Str.{bytes_eq}
-use Rattle.dtable.specs.Plan.{PlanParts}
+use Rattle.feel_tests.specs.Calendar.{year_of}
+use Rattle.dtable.specs.Plan.{PlanParts, keeps_years}
 use Rattle.settlement.specs.declared.acc.Acc.{Acc}
 use Rattle.settlement.specs.declared.claim.Claim.{Claim}
 use Rattle.settlement.specs.declared.outcome.Outcome.{Outcome}
@@ -16,9 +17,9 @@ pub record Account : Type 0 where
 abbrev pub family_of : Claim → List ℕ
 family_of claim = claim.member
 
--- the year whose accumulators a claim is settled at
+-- the year whose accumulators a claim is settled at: that of its service, or 0 where they aren't kept by the year
 abbrev pub account_year : PlanParts → Claim → ℕ
-account_year plan claim = 0
+account_year plan claim = cond (keeps_years plan) (year_of claim.service) 0
 
 -- the account of a claim in a year
 abbrev pub account_in : ℕ → Claim → Account
@@ -28,9 +29,9 @@ account_in year claim = record { family = family_of claim; member = claim.member
 abbrev pub account_of : PlanParts → Claim → Account
 account_of plan claim = account_in (account_year plan claim) claim
 
--- the account of a member who is a family of its own, in no year
-abbrev pub alone : List ℕ → Account
-alone member = record { family = member; member = member; year = 0 }
+-- the account in a year of a member who is a family of its own
+abbrev pub alone : List ℕ → ℕ → Account
+alone member year = record { family = member; member = member; year = year }
 
 -- both are of one family, in one year
 abbrev pub is_household : Account → Account → Bool

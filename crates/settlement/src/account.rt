@@ -6,6 +6,7 @@ use crate::acc::Acc;
 use crate::claim::Claim;
 use crate::money::Money;
 use dtable::Plan;
+use feel_tests::day_year;
 
 /// What an account begins with.
 #[derive(Clone, Copy, Debug, PartialEq, Eq)]
@@ -35,9 +36,13 @@ impl Balance {
     }
 }
 
-/// The year whose accumulators a claim is settled at: 0, where these aren't kept by the year.
+/// The year whose accumulators a claim is settled at: that of its service, or 0 where they aren't kept by the year.
 pub fn account_year(plan: &Plan, claim: &Claim) -> u16
     ensures { result ≡ account_year plan.now claim.now }
 {
-    0
+    if plan.keeps_years() {
+        day_year(claim.service.epoch_day())
+    } else {
+        0
+    }
 }

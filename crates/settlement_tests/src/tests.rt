@@ -11,9 +11,10 @@ use examples::{
 };
 use feel_tests::{Day, PlainFault, TEXT_LIMIT_BYTES, Text, Value, read_plain};
 use fixpoint::Fixed;
-use plans::{CHAINED, FAULTY, FLAT, NAMED, OPEN, RATE_OF_CLAIM};
+use plans::{CHAINED, FAULTY, FLAT, FLAT_BY_YEAR, NAMED, OPEN, RATE_OF_CLAIM};
 use settlement::{
-    Acc, Adjudicator, Claim, Money, Outcome, Remarks, Role, Verdict, after, decide, fields_of,
+    Acc, Adjudicator, Claim, Money, Outcome, Remarks, Role, Verdict, account_year, after, decide,
+    fields_of,
 };
 use std::alloc::{AllocError, Global};
 use std::fmt::Write;
@@ -381,6 +382,19 @@ fn claims_have_the_fields_of_their_plan(rt: HostRuntime) {
     let health = plan(&rt, rt.alloc(), health_plan());
     assert!(rt; fields_of(&health).len() == 1);
     assert!(rt; fits_one(&rt, rt.alloc(), &health).is_ok());
+}
+
+// The year whose accumulators a claim of 5 January 2024 is settled at.
+fn year_under(rt: &impl Abort, alloc: Global, text: &str) -> Result<u16, AllocError> {
+    let plan = plan(rt, alloc, text);
+    let claim = claim(rt, alloc, &plan, 100, &[])?;
+    Ok(account_year(&plan, &claim))
+}
+
+#[test]
+fn accumulators_are_kept_by_the_year_under_version_2(rt: HostRuntime) {
+    assert!(rt; matches!(year_under(&rt, rt.alloc(), FLAT), Ok(0)));
+    assert!(rt; matches!(year_under(&rt, rt.alloc(), FLAT_BY_YEAR), Ok(2024)));
 }
 
 // Copies a claim, and looks at the copy.

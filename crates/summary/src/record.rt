@@ -7,15 +7,6 @@ const WORD_BYTES: usize = 40;
 /// Which field of a record holds the provider.
 const PROVIDER: usize = 0;
 
-/// Which field of a record holds the status.
-const STATUS: usize = 4;
-
-/// Which field of a record holds the reason.
-const REASON: usize = 5;
-
-/// Which field of a record holds the amount paid.
-const PAID: usize = 11;
-
 /// The first bytes of a field.
 #[derive(Clone, Copy, Debug, PartialEq, Eq)]
 pub struct Word {
@@ -69,20 +60,54 @@ impl Record {
         }
     }
 
-    fn push(&mut self, field: usize, byte: u8) {
-        match field {
-            PROVIDER => self.provider.push(byte),
-            STATUS => self.status.push(byte),
-            REASON => self.reason.push(byte),
-            PAID => self.paid.push(byte),
+    fn push(&mut self, columns: Columns, field: usize, byte: u8) {
+        if field == PROVIDER {
+            self.provider.push(byte);
+        } else if columns.status == Some(field) {
+            self.status.push(byte);
+        } else if columns.reason == Some(field) {
+            self.reason.push(byte);
+        } else if columns.paid == Some(field) {
+            self.paid.push(byte);
+        }
+    }
+}
+
+/// Which fields of a record a tally looks at, as far as the header has told: where a plan keeps accumulators by the year, one more field
+/// stands in front of them.
+#[derive(Clone, Copy)]
+struct Columns {
+    status: Option<usize>,
+    reason: Option<usize>,
+    paid: Option<usize>,
+}
+
+impl Columns {
+    fn new() -> Columns {
+        Columns {
+            status: None,
+            reason: None,
+            paid: None,
+        }
+    }
+
+    // Notes that the field has this name.
+    fn note(&mut self, name: &[u8], field: usize) {
+        match name {
+            b"status" => self.status = Some(field),
+            b"reason" => self.reason = Some(field),
+            b"paid" => self.paid = Some(field),
             _ => {}
         }
     }
 }
 
-/// A reader of records, byte by byte.
+/// A reader of records, byte by byte. The first one is the header.
 #[derive(Clone, Copy)]
 pub struct Records {
+    columns: Columns,
+    is_header: bool,
+    name: Word,
     record: Record,
     field: usize,
     is_quoted: bool,
@@ -92,6 +117,9 @@ impl Records {
     /// A reader that has read nothing.
     pub fn new() -> Records {
         Records {
+            columns: Columns::new(),
+            is_header: true,
+            name: Word::new(),
             record: Record::new(),
             field: 0,
             is_quoted: false,
@@ -108,14 +136,31 @@ impl Records {
             return None;
         }
         match byte {
-            b',' => self.field = self.field.saturating_add(1),
+            b',' => self.end_field(),
             b'\n' => {
-                let record = self.record;
-                *self = Records::new();
-                return Some(record);
+                self.end_field();
+                return Some(self.end_record());
             }
-            byte => self.record.push(self.field, byte),
+            byte if self.is_header => self.name.push(byte),
+            byte => self.record.push(self.columns, self.field, byte),
         }
         None
+    }
+
+    fn end_field(&mut self) {
+        if self.is_header {
+            let name = self.name;
+            self.columns.note(name.as_bytes(), self.field);
+            self.name = Word::new();
+        }
+        self.field = self.field.saturating_add(1);
+    }
+
+    fn end_record(&mut self) -> Record {
+        let record = self.record;
+        self.record = Record::new();
+        self.is_header = false;
+        self.field = 0;
+        record
     }
 }

@@ -1,9 +1,9 @@
 //! Cells and the values of which they hold, values and their literals, and each public call once with ample memory.
 use super::{field_fault_of, hold, holds};
 use feel_tests::{
-    Cell, CellCause, CellFault, Day, Kind, PlainFault, Text, Value, field_spells_at_most_one_value,
-    literal_spells_its_value, read_cell, read_plain, read_value, text_spells_at_most_one_cell,
-    text_spells_at_most_one_value,
+    Cell, CellCause, CellFault, Day, Kind, PlainFault, Text, Value, day_year,
+    field_spells_at_most_one_value, literal_spells_its_value, read_cell, read_plain, read_value,
+    text_spells_at_most_one_cell, text_spells_at_most_one_value, year_in, year_text,
 };
 use fixpoint::Fixed;
 use std::alloc::Global;
@@ -226,17 +226,30 @@ fn is_day(alloc: Global, field: &str, number: i32) -> Option<bool> {
 
 #[test]
 fn days_are_those_of_the_years_1_to_9999(rt: HostRuntime) {
-    for (field, number) in [
-        ("0001-01-01", -719_162),
-        ("1969-12-31", -1),
-        ("1970-01-01", 0),
-        ("2000-02-29", 11_016),
-        ("9999-12-31", 2_932_896),
+    for (field, number, year) in [
+        ("0001-01-01", -719_162, 1),
+        ("1969-12-31", -1, 1969),
+        ("1970-01-01", 0, 1970),
+        ("2000-02-29", 11_016, 2000),
+        ("9999-12-31", 2_932_896, 9999),
     ] {
         assert_eq!(rt; is_day(rt.alloc(), field, number), Some(true), "{field}");
+        assert_eq!(rt; day_year(number), year, "{field}");
     }
     assert_eq!(rt; Day::from_epoch_day(-719_163), None);
     assert_eq!(rt; Day::from_epoch_day(2_932_897), None);
+}
+
+#[test]
+fn years_are_four_digits(rt: HostRuntime) {
+    for (text, year) in [("0001", 1), ("0970", 970), ("2024", 2024), ("9999", 9999)] {
+        assert_eq!(rt; year_in(text.as_bytes()), Some(year), "{text}");
+        assert!(rt; year_text(year).as_slice() == text.as_bytes(), "{text}");
+    }
+    for text in ["", "24", "0000", "02024", "+024", "20 4", "2O24"] {
+        let text: &str = text;
+        assert_eq!(rt; year_in(text.as_bytes()), None, "{text}");
+    }
 }
 
 // Whether the field is the value that the literal spells.

@@ -12,6 +12,18 @@ rate = "0"
 oop_max = "1000"
 "#;
 
+/// The same, but accumulators are kept by the year.
+pub const FLAT_BY_YEAR: &str = r#"
+version = 2
+[roles]
+cover = "true"
+fee = "5"
+deductible = "100"
+copay = "0"
+rate = "0"
+oop_max = "1000"
+"#;
+
 /// The same, but the rate is a field of the claim.
 pub const RATE_OF_CLAIM: &str = r#"
 version = 1

@@ -3,6 +3,11 @@ use Rattle.toml.specs.View.{view}
 use Rattle.dtable.proofs.ReadPlan.{IsPlan-of, plan_made, no_tables, no_roles}
 use Rattle.dtable.proofs.reading.plan_of.Goals as goal
 
+pub returns-in_err-version : goal.returns-in_err-version
+returns-in_err-version c =
+    let p = err_from_is_err_and c.from_residual.result c.from_residual.ensures.1 in
+    rw (p.1, p.2) (λ memory plan h. c.in_err-version.ensures memory plan.version h.version)
+
 pub returns-in_err-names : goal.returns-in_err-names
 returns-in_err-names c =
     let p = err_from_is_err_and c.from_residual-in_err-names.result c.from_residual-in_err-names.ensures.1 in
@@ -25,5 +30,5 @@ pub new-requires : goal.new-requires
 new-requires c =
     let tables = rw c.as_slice.ensures at c.in_ok-tables.ensures in
     let roles = rw (c.as_slice-2.ensures, c.as_slice-3.ensures) at c.in_ok-roles.ensures in
-    IsPlan-of (view c.args.document.now) (record { names = c.in_ok-names.names; tables = c.in_ok-tables.tables; roles = c.in_ok-roles.roles })
-    (plan_made (view c.args.document.now) c.in_ok-names.names c.in_ok-tables.tables c.in_ok-roles.roles c.in_ok-check_version.ensures.ok c.in_ok-names.ensures tables roles)
+    IsPlan-of (view c.args.document.now) (record { version = c.in_ok-version.version; names = c.in_ok-names.names; tables = c.in_ok-tables.tables; roles = c.in_ok-roles.roles })
+    (plan_made (view c.args.document.now) c.in_ok-version.version c.in_ok-names.names c.in_ok-tables.tables c.in_ok-roles.roles c.in_ok-version.ensures c.in_ok-names.ensures tables roles)

@@ -1,0 +1,48 @@
+-- What a field spells under its column, where that is no amount.
+use Rattle.std.proofs.Common.{◌≡◌, ◌≢◌, ℕ, List, [], refl, sym, ap, ◌∙◌, arith}
+use Rattle.feel_tests.specs.Calendar.{IsYearText}
+use Rattle.feel_tests.specs.Plain.{SpellsPlain}
+use Rattle.feel_tests.specs.TextBytes.{IsText}
+use Rattle.feel_tests.specs.declared.kind.Kind.{Kind}
+use Rattle.feel_tests.specs.declared.kind.Kind.TheVariants as kinds
+use Rattle.feel_tests.specs.declared.value.Value.{Value}
+use Rattle.intake_csv.specs.Columns.{kind_under}
+use Rattle.intake_csv.specs.Fields.{Holds, IsFaultless, IsFaulty, IsYear, Spells}
+use Rattle.intake_csv.specs.declared.column.Content.{Content}
+use Rattle.intake_csv.specs.declared.column.Content.TheVariants.{Identifier, Money, Plain, Year}
+use Rattle.intake_csv.specs.declared.fault.RowCause.TheVariants.{FieldCount, Utf8, TooLong, EmptyId, Value as NoValue, NotCents, Negative, Repeated}
+
+-- nothing is wrong with a value that is spelled, unless it is an empty identifier or an amount
+faultless : (content : Content) (bytes : List ℕ) (v : Value) → IsText bytes → Spells content bytes v → ¬ ((content ≡ Identifier) × (bytes ≡ [])) → ¬ (content ≡ Money)
+    → IsFaultless content bytes
+faultless content bytes v text spells named other Utf8 h = h text.0
+faultless content bytes v text spells named other TooLong h = omega (arith, h.1, text.1)
+faultless content bytes v text spells named other EmptyId h = named h
+faultless content bytes v text spells named other NoValue h = h.1 v spells
+faultless content bytes v text spells named other NotCents h = other h.0
+faultless content bytes v text spells named other Negative h = other h.0
+faultless content bytes v text spells named other FieldCount h = h
+faultless content bytes v text spells named other Repeated h = h
+
+pub identifier_read : (bytes : List ℕ) (v : Value) → IsText bytes → bytes ≢ [] → SpellsPlain kinds.Text bytes v → Holds Identifier bytes v × IsFaultless Identifier bytes
+identifier_read bytes v text some plain =
+    let spells : Spells Identifier bytes v = record { plain = plain; year = λ e. cc e } in
+    (record { text = text; spells = spells; allowed = some }, faultless Identifier bytes v text spells (λ empty. some empty.1) (λ e. cc e))
+
+pub plain_read : (kind : Kind) (bytes : List ℕ) (v : Value) → IsText bytes → SpellsPlain kind bytes v → Holds (Plain kind) bytes v × IsFaultless (Plain kind) bytes
+plain_read kind bytes v text plain =
+    let spells : Spells (Plain kind) bytes v = record { plain = plain; year = λ e. cc e } in
+    (record { text = text; spells = spells; allowed = tt }, faultless (Plain kind) bytes v text spells (λ empty. cc empty.0) (λ e. cc e))
+
+pub year_read : (bytes : List ℕ) (v : Value) (year : ℕ) → IsText bytes → IsYearText bytes year → SpellsPlain kinds.Text bytes v → Holds Year bytes v × IsFaultless Year bytes
+year_read bytes v year text is plain =
+    let spells : Spells Year bytes v = record { plain = plain; year = λ e. (year, is) } in
+    (record { text = text; spells = spells; allowed = tt }, faultless Year bytes v text spells (λ empty. cc empty.0) (λ e. cc e))
+
+-- a field that is no value of the column's kind
+pub unread : (content : Content) (bytes : List ℕ) → IsText bytes → ((v : Value) → ¬ SpellsPlain (kind_under content) bytes v) → IsFaulty content bytes NoValue
+unread content bytes text none = (text, λ v spells. none v spells.plain)
+
+-- a field that is no year
+pub year_unread : (bytes : List ℕ) → IsText bytes → ((year : ℕ) → ¬ IsYearText bytes year) → IsFaulty Year bytes NoValue
+year_unread bytes text none = (text, λ v spells. none (spells.year refl).0 (spells.year refl).1)
