@@ -12,7 +12,8 @@ use Rattle.feel_tests.specs.Value.{kind_of}
 use Rattle.dtable.specs.declared.inputs.Slot.{Slot}
 use Rattle.dtable.specs.declared.table.InputData.{InputData}
 use Rattle.dtable.specs.Inputs.{value_at, kind_at, empty_slots, filled, Takes}
-use Rattle.adjudicate.specs.Arguments.{Assignment, IsSplit, NamesData, texts_of, IsArgument, EachArgument, AreApart, Gives, assigned}
+use Rattle.claim_terms.specs.Terms.{texts_of}
+use Rattle.adjudicate.specs.Arguments.{Assignment, IsSplit, NamesData, IsArgument, EachArgument, AreApart, Gives, assigned}
 
 -- a reference that is there leads to a value
 pub some_value : (found : Option (Bor Value)) (given : Option Value) → is_some found ≡ true → option_copied found ≡ given → IsSome given

@@ -1,6 +1,5 @@
 -- The arguments `NAME=LITERAL` of the command `value`, and what they give.
-use Rattle.std.specs.Prelude.{◌≡◌, ℕ, ◌<◌, ◌++◌, ◌==◌, cond, List, [], ◌∷◌, map, Option, Some, None, option_map, Contains, slice_get, IsTrue, IsSome}
-use Rattle.std.specs.Borrow.{Bor}
+use Rattle.std.specs.Prelude.{◌≡◌, ℕ, ◌<◌, ◌++◌, ◌==◌, cond, List, [], ◌∷◌, Option, Some, None, option_map, Contains, slice_get, IsTrue, IsSome}
 use Rattle.feel_tests.specs.declared.value.Value.{Value}
 use Rattle.feel_tests.specs.Cell.{SpellsValue}
 use Rattle.feel_tests.specs.Value.{kind_of}
@@ -12,10 +11,6 @@ use Rattle.dtable.specs.Inputs.{needs, value_at, kind_at}
 -- the byte `=`
 abbrev pub equals_sign : ℕ
 equals_sign = 61
-
--- the texts behind the arguments' references
-abbrev pub texts_of : List (Bor (List ℕ)) → List (List ℕ)
-texts_of arguments = map (λ a. a.now) arguments
 
 -- the name in front of an argument's first `=`, and the literal behind it
 pub record IsSplit (text name literal : List ℕ) : Type 0 where

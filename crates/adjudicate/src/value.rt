@@ -2,7 +2,7 @@
 
 ghost use Rattle.std.specs.Prelude.{◌≡◌, IfOk, IfErr, OnOk};
 ghost use Rattle.fixpoint.specs.Out.{writer_of, has_failed};
-ghost use Rattle.adjudicate.specs.Arguments.{texts_of};
+ghost use Rattle.claim_terms.specs.Terms.{texts_of};
 ghost use Rattle.adjudicate.specs.ValueText.{IsTextOf, IsValueText};
 ghost use Rattle.adjudicate.specs.Stop.{WritesText, WritesUntil, IsReason, failed_after, RefusesText, RefusesValue};
 

@@ -142,7 +142,7 @@ fn a_full_writer_has_the_first_bytes(rt: HostRuntime) -> Result<(), Fail> {
 
 /// Run it with each allocation refused in turn: all of them but the writer's are the command's.
 #[test]
-fn want_of_memory_writes_nothing(rt: HostRuntime) {
+fn a_value_or_no_memory(rt: HostRuntime) {
     let alloc = rt.alloc();
     let Ok(writer) = Narrow::new(alloc, 32, 32, WhenFull::Fails) else {
         return;

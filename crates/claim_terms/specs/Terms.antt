@@ -17,7 +17,6 @@ use Rattle.settlement.specs.Opening.{opening}
 use Rattle.journal.specs.Terms.{Terms}
 use Rattle.journal.specs.Lawful.{Finished}
 use Rattle.journal.specs.declared.event.Event.{Event}
-use Rattle.claim_terms.specs.declared.terms.TheConstants.{FILES_LIMIT}
 
 -- what a run is fixed over: the plan, the text of each provider's file, the members that have balances in each year, with these,
 -- and how many claims are accepted at most, if that is limited
@@ -66,10 +65,14 @@ pub record IsClaimFile (names : List InputData) (text : List ℕ) : Type 0 where
 abbrev pub AreFilesOf : List InputData → List (List ℕ) → List FileParts → Type 0
 AreFilesOf names = AllZip (IsFileOf names)
 
--- a run has one file at least
+-- how many files a run has at most
+abbrev pub files_limit : ℕ
+files_limit = 64
+
+-- a run has one file at least, and so many at most
 pub record IsFileCount (count : ℕ) : Type 0 where
   pub least : 1 ≤ count
-  pub most : count ≤ FILES_LIMIT
+  pub most : count ≤ files_limit
 
 -- what holds of all terms: the plan has roles, there are as many files as a run may have, and each is one of claims
 pub record AreTerms (parts : TermsParts) : Type 0 where

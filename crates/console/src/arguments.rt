@@ -92,7 +92,7 @@ pub fn workers_argument<'a>(alloc: Global, limit: u64) -> Arg<'a>
         .value_name("N")
         .value_parser(ValueParser::unsigned(1, limit))
         .default_value("4")
-        .help("How many threads decide claims, from 1 to 64")
+        .help("How many threads decide claims, from 1 to 64; the program's own helps them")
 }
 
 /// The flag for a line of what a run did.

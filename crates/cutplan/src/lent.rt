@@ -124,6 +124,7 @@ fn stand_in(table: &Table, order: &[usize], mask: &[u64; 4], rules: &[usize]) ->
     requires rules { rules.now ≡ rules_in (length table.now.rules) mask.now }
     ensures { IfSome result (λ rule. (number : ℕ) → by_hit table.now.hit number table.now rules.now ≡ by_hit table.now.hit number table.now (rule ∷ [])) }
 {
+    // Known from here: those of the ranked rules that the mask has stand as they would be ranked alone.
     rules_are_ranked_once();
     match rules {
         [] => None,
@@ -168,6 +169,7 @@ pub fn ranked_in(
     requires words { length mask.now ≡ 4 }
     ensures { IfOk result (λ ranked. ranked ≡ in_priority_order table.now (rules_in (length table.now.rules) mask.now)) }
 {
+    // Known from here: those of the ranked rules that the mask has stand as they would be ranked alone.
     rules_are_ranked_once();
     let mut ranked = Sequence::new(alloc);
     for rule in order {

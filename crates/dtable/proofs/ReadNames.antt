@@ -10,7 +10,8 @@ use Rattle.dtable.specs.declared.hit.Hit.TheVariants as hits
 use Rattle.dtable.specs.declared.table.InputData.{InputData}
 use Rattle.dtable.specs.declared.table.Output.{Output}
 use Rattle.dtable.specs.declared.table.Table.{Table}
-use Rattle.dtable.specs.NameForm.{is_among, reserved_names, has_name_form, is_name_start, is_name_byte}
+use Rattle.feel_tests.specs.Words.{is_name_start, is_name_byte}
+use Rattle.dtable.specs.NameForm.{is_among, reserved_names, has_name_form}
 use Rattle.dtable.specs.Plan.{gives_one, same_kind, seen_kind}
 use Rattle.dtable.specs.Scope.{SeenOutput, seen_output, seen_of, data_names, output_names, seen_names, taken_names, is_single_of}
 

@@ -1,15 +1,8 @@
 -- The names of fields and outputs, as a plan may write them.
-use Rattle.std.specs.Prelude.{ℕ, Bool, false, ◌&&◌, ◌||◌, ◌==◌, nat_le, List, [], ◌∷◌, codes}
+use Rattle.std.specs.Prelude.{ℕ, Bool, false, ◌&&◌, List, [], ◌∷◌, codes}
 use Rattle.std.specs.List.{list_all, list_any}
 use Rattle.std.specs.Str.{bytes_eq}
-
--- an ASCII letter or `_`
-abbrev pub is_name_start : ℕ → Bool
-is_name_start byte = (nat_le 65 byte && nat_le byte 90) || (nat_le 97 byte && nat_le byte 122) || (byte == 95)
-
--- a letter, a digit or `_`
-abbrev pub is_name_byte : ℕ → Bool
-is_name_byte byte = is_name_start byte || (nat_le 48 byte && nat_le byte 57)
+use Rattle.feel_tests.specs.Words.{is_name_start, is_name_byte}
 
 -- a letter or `_`, then letters, digits or `_`
 abbrev pub has_name_form : List ℕ → Bool

@@ -1,7 +1,8 @@
 -- The date of a day number, in the Gregorian calendar of `jiff`.
-use Rattle.std.specs.Prelude.{◌≡◌, ℕ, ◌+◌, ◌/◌, ◌%◌, ℤ, pos, ◌-ℤ◌, int_le, unsigned_abs, List, [], ◌∷◌, ◌++◌, count_by}
+use Rattle.std.specs.Prelude.{◌≡◌, ℕ, ◌/◌, ◌%◌, ℤ, pos, ◌-ℤ◌, int_le, unsigned_abs, List, [], ◌∷◌, ◌++◌, count_by}
 use Rattle.std.specs.List.{range_with_len}
 use Rattle.std.specs.Int.{IsInRange}
+use Rattle.fixpoint.specs.Money.{two_digits}
 use Rattle.jiff_core.specs.Calendar.{days_from_civil, IsCivilDate}
 
 -- how many of the years from 1 to the last have begun by the day
@@ -19,10 +20,6 @@ month_of day = count_by (λ month. int_le (days_from_civil (pos (year_of day)) m
 -- the day's place in its month, from 1
 unfoldable pub day_of : ℤ → ℕ
 day_of day = unsigned_abs (day -ℤ days_from_civil (pos (year_of day)) (month_of day) 1) + 1
-
--- a number below 100 in two digits
-abbrev pub two_digits : ℕ → List ℕ
-two_digits n = (48 + n / 10) ∷ (48 + n % 10) ∷ []
 
 -- a year in four digits
 abbrev pub year_text : ℕ → List ℕ

@@ -16,6 +16,7 @@ pub fn day_of(text: &[u8]) -> Option<Day>
     ensures none { IfNone result ((day : ℤ) → ¬ IsDateText text.now day) }
 {
     let (year, month, place) = ymd_of(text)?;
+    // The calendar has a year 0, a literal has none.
     if year == 0 {
         return None;
     }

@@ -44,3 +44,4 @@ pub use reading::{read_cell, read_value};
 pub use sequence::{Sequence, duplicates};
 pub use text::{TEXT_LIMIT_BYTES, Text};
 pub use value::Value;
+pub use word::{is_name_byte, is_name_start};

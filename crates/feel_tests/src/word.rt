@@ -169,13 +169,15 @@ fn name_bytes_len(bytes: &[u8]) -> usize
     len
 }
 
-fn is_name_start(byte: u8) -> bool
+/// Whether a name may begin with the byte: an ASCII letter or `_`.
+pub fn is_name_start(byte: u8) -> bool
     ensures { result ≡ is_name_start byte }
 {
     byte.is_ascii_alphabetic() || byte == b'_'
 }
 
-fn is_name_byte(byte: u8) -> bool
+/// Whether a name may go on with the byte: an ASCII letter, a digit or `_`.
+pub fn is_name_byte(byte: u8) -> bool
     ensures { result ≡ is_name_byte byte }
 {
     byte.is_ascii_alphanumeric() || byte == b'_'

@@ -14,7 +14,7 @@ use Rattle.intake_csv.specs.declared.column.Column.{Column}
 use Rattle.intake_csv.specs.declared.column.Layout.{Layout}
 use Rattle.intake_csv.specs.declared.fault.FileFault.{FileFault}
 use Rattle.intake_csv.specs.declared.fault.FileFault.TheVariants.{TooLarge, NoHeader, MissingColumn, DuplicateColumn, OutOfMemory}
-use Rattle.intake_csv.specs.declared.sheet.TheConstants.{FILE_LIMIT_BYTES}
+use Rattle.intake_csv.specs.Limits.{file_limit_bytes}
 
 -- the kind of the values under a column
 abbrev pub kind_under : Content → Kind
@@ -66,7 +66,7 @@ AreColumnsOf header = AllZip (IsColumnOf header)
 
 -- the text is within the limit, and these are its header and the records behind it
 pub record IsFile (text : List ℕ) (header : Fields) (records : List Fields) : Type 0 where
-  pub small : length text ≤ FILE_LIMIT_BYTES
+  pub small : length text ≤ file_limit_bytes
   pub read : AreRecordsOf text (header ∷ records)
 
 -- the text is a file with the needed columns
@@ -105,8 +105,8 @@ pub record RepeatsColumn (needed : List Needed) (text : List ℕ) : Type 0 where
 
 -- the text is no file with the needed columns, for this reason; of want of memory nothing is said
 abbrev pub HasFileFault : List Needed → List ℕ → FileFault → Type 0
-HasFileFault needed text TooLarge = FILE_LIMIT_BYTES < length text
-HasFileFault needed text NoHeader = (length text ≤ FILE_LIMIT_BYTES) × AreRecordsOf text []
+HasFileFault needed text TooLarge = file_limit_bytes < length text
+HasFileFault needed text NoHeader = (length text ≤ file_limit_bytes) × AreRecordsOf text []
 HasFileFault needed text MissingColumn = LacksColumn needed text
 HasFileFault needed text DuplicateColumn = RepeatsColumn needed text
 HasFileFault needed text OutOfMemory = Unit {0}

@@ -7,7 +7,7 @@ use Rattle.intake_csv.specs.declared.column.Needed.{Needed}
 use Rattle.intake_csv.specs.declared.column.Layout.{Layout}
 use Rattle.intake_csv.specs.declared.records.Stage.TheVariants.{Reading}
 use Rattle.intake_csv.specs.declared.sheet.Sheet.{Sheet}
-use Rattle.intake_csv.specs.declared.sheet.TheConstants.{FILE_LIMIT_BYTES}
+use Rattle.intake_csv.specs.Limits.{file_limit_bytes}
 
 -- the needed columns stand within the header
 abbrev pub IsWithin : Layout → Type 0
@@ -17,5 +17,5 @@ IsWithin layout = All (λ c. c.place < layout.width) layout.columns
 pub record IsSheetOf (needed : List Needed) (text : List ℕ) (sheet : Sheet) : Type 0 where
   pub is_sheet : IsSheet needed text sheet.layout (drop 1 (records_of text))
   pub within : IsWithin sheet.layout
-  pub small : length text ≤ FILE_LIMIT_BYTES
+  pub small : length text ≤ file_limit_bytes
   pub records : sheet.records ≡ record { text = text; given = 1; stage = Reading }

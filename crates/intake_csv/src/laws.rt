@@ -15,6 +15,7 @@ pub fn reader_begins_with_all_rows()
 pub fn given_row_is_the_first()
     ensures { GivenRowIsTheFirst }
 {
+    // Known from here: what two readings of one field find is the same.
     fixpoint::text_denotes_at_most_one();
     feel_tests::field_spells_at_most_one_value();
 }
@@ -23,6 +24,7 @@ pub fn given_row_is_the_first()
 pub fn given_row_has_the_claim()
     ensures { GivenRowHasTheClaim }
 {
+    // Known from here: what two readings of one field find is the same.
     fixpoint::text_denotes_at_most_one();
     feel_tests::field_spells_at_most_one_value();
 }

@@ -6,7 +6,7 @@ ghost use Rattle.intake_csv.specs.Record.{IsClaimLayout};
 ghost use Rattle.intake_csv.specs.Records.{records_of};
 ghost use Rattle.intake_csv.specs.Sheet.{IsWithin};
 ghost use Rattle.intake_csv.specs.declared.records.Stage.TheVariants.{Reading, Over, Failed};
-ghost use Rattle.intake_csv.specs.declared.sheet.TheConstants.{FILE_LIMIT_BYTES};
+ghost use Rattle.intake_csv.specs.Limits.{file_limit_bytes};
 
 use crate::claim::read_claim;
 use crate::column::Layout;
@@ -50,13 +50,13 @@ impl<'t> Model for Rows<'t> {
     ghost use Rattle.intake_csv.specs.Rows.{RowsLeft};
     ghost use Rattle.intake_csv.specs.Sheet.{IsWithin};
     ghost use Rattle.intake_csv.specs.Record.{IsClaimLayout};
-    ghost use Rattle.intake_csv.specs.declared.sheet.TheConstants.{FILE_LIMIT_BYTES};
+    ghost use Rattle.intake_csv.specs.Limits.{file_limit_bytes};
 
     ghost Value = { RowsLeft };
 
     ghost view = { λ r. record { layout = r.layout; number = r.next; place = r.claims; records = drop r.next (records_of r.records.text); stage = r.records.stage } };
 
-    ghost invariant = { λ r. IsWithin r.layout × IsClaimLayout r.layout × (r.claims < r.next) × (length r.records.text ≤ FILE_LIMIT_BYTES) × (is_failed r.records.stage ≡ false → r.records.given ≡ r.next) };
+    ghost invariant = { λ r. IsWithin r.layout × IsClaimLayout r.layout × (r.claims < r.next) × (length r.records.text ≤ file_limit_bytes) × (is_failed r.records.stage ≡ false → r.records.given ≡ r.next) };
 }
 
 impl<'t> Rows<'t> {
@@ -64,7 +64,7 @@ impl<'t> Rows<'t> {
     pub(crate) fn behind_header(alloc: Global, layout: Layout, records: Records<'t>) -> Rows<'t>
         requires within { IsWithin layout }
         requires columns { IsClaimLayout layout }
-        requires small { length records.text ≤ FILE_LIMIT_BYTES }
+        requires small { length records.text ≤ file_limit_bytes }
         requires records { records ≡ record { text = records.text; given = 1; stage = Reading } }
         ensures { result ≡ record { layout = layout; number = 1; place = 0; records = drop 1 (records_of records.entry.text); stage = Reading } }
     {

@@ -4,13 +4,14 @@ use Rattle.std.specs.List.{slice_get}
 use Rattle.std.proofs.lemmas.Bool.{cases_Bool, cases_lt}
 use Rattle.std.proofs.lemmas.Grind.{flat_map-append}
 use Rattle.std.proofs.lemmas.List.{get_or_append_left, get_or_push, length_push, take_more}
+use Rattle.dtable.specs.Environment.{or_else}
 use Rattle.dtable.specs.Plan.{PlanParts, keeps_years}
 use Rattle.settlement.specs.declared.outcome.Outcome.{Outcome}
 use Rattle.journal.specs.Events.{Filed, accept_in, accepted, accepts}
 use Rattle.journal.specs.declared.event.Event.{Event}
 use Rattle.journal.specs.declared.event.Event.TheVariants.{Accept, Decide}
 use Rattle.remit.specs.Decided.{decision_at, decision_in}
-use Rattle.remit.specs.Looked.{Noted, NotesOutcome, NotesPosition, or_else, outcome_in, positions_from, positions_of}
+use Rattle.remit.specs.Looked.{Noted, NotesOutcome, NotesPosition, outcome_in, positions_from, positions_of}
 use Rattle.remit.specs.declared.decisions.Decisions.{Decisions}
 
 -- the claims accepted with one event more

@@ -4,6 +4,7 @@ use Rattle.std.specs.Global.{Vec}
 use Rattle.std.specs.Borrow.{Bor}
 use Rattle.std.specs.Option.{option_and_then}
 use Rattle.fixpoint.specs.Number.{greatest_units}
+use Rattle.dtable.specs.Environment.{or_else}
 use Rattle.settlement.specs.declared.outcome.Outcome.{Outcome}
 use Rattle.journal.specs.Events.{Filed, accepted, accepts}
 use Rattle.journal.specs.declared.event.Event.{Event}
@@ -41,11 +42,6 @@ pub record Noted (years : Bool) (providers : ℕ) (accepting deciding : List Eve
 pub record NotesPosition (old new : List (Vec ℕ)) (provider position : ℕ) : Type 0 where
   pub count : length new ≡ length old
   pub each : (i : ℕ) (d : Vec ℕ) → i < length old → (get_or new i d).items ≡ (get_or old i d).items ++ cond (provider == suc i) (position ∷ []) []
-
--- the first of two, if there is one, or else the second
-abbrev pub or_else : Option Outcome → Option Outcome → Option Outcome
-or_else None second = second
-or_else (Some first) second = Some first
 
 -- the outcome is noted at this position, where none is yet
 pub record NotesOutcome (old new : List (Option (Bor Outcome))) (position : ℕ) (outcome : Outcome) : Type 0 where

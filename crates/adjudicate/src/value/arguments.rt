@@ -3,7 +3,8 @@
 ghost use Rattle.std.specs.Prelude.{◌≡◌, Some, None, IfOk, IfErr, IfSome, IfNone, slice_get, Contains};
 ghost use Rattle.dtable.specs.Inputs.{IsReady, value_at};
 ghost use Rattle.dtable.specs.Scope.{data_names};
-ghost use Rattle.adjudicate.specs.Arguments.{equals_sign, texts_of, IsSplit, Gives, IsArgument, IsFirstMissing};
+ghost use Rattle.claim_terms.specs.Terms.{texts_of};
+ghost use Rattle.adjudicate.specs.Arguments.{equals_sign, IsSplit, Gives, IsArgument, IsFirstMissing};
 ghost use Rattle.adjudicate.specs.Stop.{IsArgumentFault, IsMemoryFault, RefusesArguments};
 
 use crate::stop::{ArgumentFault, Stop};

@@ -1,7 +1,7 @@
 //! Reads the names and kinds of a plan's columns, and its fields.
 ghost use Rattle.std.specs.Prelude.{◌≡◌, ◌++◌};
 ghost use Rattle.toml.specs.View.{view, items_view};
-ghost use Rattle.dtable.specs.NameForm.{has_name_form, is_name_start, is_name_byte, is_among, reserved_names};
+ghost use Rattle.dtable.specs.NameForm.{has_name_form, is_among, reserved_names};
 ghost use Rattle.dtable.specs.PlanFile.{IsNamed, IsNewlyNamed, IsOfKind, IsField, AreFields, AreNames};
 ghost use Rattle.dtable.specs.Reading.{Reads};
 ghost use Rattle.dtable.specs.Scope.{data_names};
@@ -14,7 +14,7 @@ use crate::name::{NAME_LIMIT_BYTES, Name};
 use crate::plan::all_names;
 use crate::plan_fault::{PlanCause, PlanFault};
 use crate::table::InputData;
-use feel_tests::{Kind, Sequence};
+use feel_tests::{Kind, Sequence, is_name_byte, is_name_start};
 use std::alloc::Global;
 use toml::Value;
 
@@ -116,20 +116,8 @@ fn has_name_form(text: &str) -> bool
 {
     match text.as_bytes() {
         [] => false,
-        [first, rest @ ..] => is_start(*first) && rest.iter().all(|byte| is_part(*byte)),
+        [first, rest @ ..] => is_name_start(*first) && rest.iter().all(|byte| is_name_byte(*byte)),
     }
-}
-
-fn is_start(byte: u8) -> bool
-    ensures { result ≡ is_name_start byte }
-{
-    byte.is_ascii_alphabetic() || byte == b'_'
-}
-
-fn is_part(byte: u8) -> bool
-    ensures { result ≡ is_name_byte byte }
-{
-    is_start(byte) || byte.is_ascii_digit()
 }
 
 /// Whether a name is taken from the start.

@@ -1,5 +1,5 @@
 use Rattle.std.proofs.lemmas.Result.{err_from_is_err_and}
-use Rattle.adjudicate.specs.Arguments.{texts_of}
+use Rattle.claim_terms.specs.Terms.{texts_of}
 use Rattle.adjudicate.proofs.Answered.{AreAnswered-from_env}
 use Rattle.adjudicate.proofs.Refusals.{refuses_arguments, refuses_tables}
 use Rattle.adjudicate.proofs.value.plan_text.Goals as goal

@@ -1,5 +1,6 @@
 use Rattle.std.proofs.Common.{take}
-use Rattle.adjudicate.specs.Arguments.{Gives, texts_of}
+use Rattle.claim_terms.specs.Terms.{texts_of}
+use Rattle.adjudicate.specs.Arguments.{Gives}
 use Rattle.adjudicate.proofs.value.arguments.read_arguments.Given as goal
 
 -- the arguments so far give what is in the inputs
