@@ -1,5 +1,5 @@
 -- The date of a day number, in the Gregorian calendar of `jiff`.
-use Rattle.std.specs.Prelude.{◌≡◌, ℕ, ◌/◌, ◌%◌, ℤ, pos, ◌-ℤ◌, int_le, unsigned_abs, List, [], ◌∷◌, ◌++◌, count_by}
+use Rattle.std.specs.Prelude.{◌≡◌, ℕ, ◌+◌, ◌/◌, ◌%◌, ℤ, pos, ◌-ℤ◌, int_le, unsigned_abs, List, [], ◌∷◌, ◌++◌, count_by}
 use Rattle.std.specs.List.{range_with_len}
 use Rattle.std.specs.Int.{IsInRange}
 use Rattle.fixpoint.specs.Money.{two_digits}
