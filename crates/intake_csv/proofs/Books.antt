@@ -1,5 +1,5 @@
 -- Books: the members of each year, with what their accounts begin with.
-use Rattle.std.proofs.Common.{inl, inr, ◌≡◌, ◌≢◌, ◌<◌, ◌≤◌, ◌+◌, ◌==◌, ◌&&◌, ◌+ℤ◌, ℕ, ℤ, pos, suc, zero, Bool, true, false, List, [], ◌∷◌, ◌++◌, length, map, get_or, set, Option, Some, None, String, string_bytes, nat_cmp, cond, refl, sym, ap, subst, ◌∙◌, arith}
+use Rattle.std.proofs.Common.{inl, inr, ◌≡◌, ◌≢◌, ◌<◌, ◌≤◌, ◌+◌, ◌==◌, ◌&&◌, ◌+ℤ◌, ℕ, ℤ, pos, suc, zero, Bool, true, false, List, [], ◌∷◌, ◌++◌, length, map, get_or, set, Option, Some, None, Result, Ok, Err, OnOk, String, string_bytes, nat_cmp, cond, refl, sym, ap, subst, ◌∙◌, arith}
 use Rattle.std.specs.List.{AllByRecursion}
 use Rattle.std.specs.List.Sorted.{IsStrictlySortedBy}
 use Rattle.std.specs.Map.{keys_of, lookup}
@@ -248,6 +248,15 @@ put_found years y d members m balance q within updated =
     let more : (p : List ℕ) → lookup (bytes_eq p) (book_of members) ≡ cond (bytes_eq m p) (Some balance) (lookup (bytes_eq p) (get_or (books_of years) y [])) =
     λ p. sym (get-member members p) ∙ updated p ∙ ap (cond (bytes_eq m p) (Some balance)) (get-member (get_or years y d) p ∙ ap (lookup (bytes_eq p)) (sym at)) in
     ap (λ bs. found_in bs q) (map-set book_of years y members) ∙ put-book (books_of years) y (book_of members) m balance q (omega (arith, within, size)) more
+
+-- the same of books in which there is room for the year, under the member's name as a text of its own
+pub put-more : {U E : Type 0} (member name : List ℕ) (year : ℕ) (balance : Balance) (old room new : List Book) (put : Result U E) → name ≡ member
+    → ((q : Holder) → found_in room q ≡ found_in old q)
+    → OnOk put ((q : Holder) → found_in new q ≡ cond (is_holder (name, year) q) (Some balance) (found_in room q))
+    → OnOk put ((q : Holder) → found_in new q ≡ cond (is_holder (member, year) q) (Some balance) (found_in old q))
+put-more member name year balance old room new (Ok u) named same found =
+    λ q. found q ∙ ap (λ (m : List ℕ). cond (is_holder (m, year) q) (Some balance) (found_in room q)) named ∙ ap (cond (is_holder (member, year) q) (Some balance)) (same q)
+put-more member name year balance old room new (Err e) named same found = tt
 
 -- no books have nobody twice
 pub none_once : {Y : Type 0} (years : List (BTreeMap (String Y) Balance)) → years ≡ [] → AreOnce (books_of years)

@@ -1,5 +1,5 @@
 -- Entries of balances, with one more.
-use Rattle.std.proofs.Common.{inl, inr, ◌≡◌, ◌<◌, ◌+◌, ◌-◌, ◌==◌, ◌&&◌, ◌+ℤ◌, ℕ, ℤ, pos, suc, zero, Bool, true, false, subst, List, [], ◌∷◌, ◌++◌, length, map, take, drop, get_or, Option, Some, None, cond, refl, sym, ap, ◌∙◌, arith}
+use Rattle.std.proofs.Common.{inl, inr, ◌≡◌, ◌<◌, ◌+◌, ◌-◌, ◌==◌, ◌&&◌, ◌+ℤ◌, ℕ, ℤ, pos, suc, zero, Bool, true, false, subst, List, [], ◌∷◌, ◌++◌, length, map, take, drop, get_or, Option, Some, None, Result, Ok, Err, IfOk, IfErr, OnOk, cond, refl, sym, ap, ◌∙◌, arith}
 use Rattle.std.specs.List.{AllPairs, AllZip, Any}
 use Rattle.std.specs.Map.{lookup}
 use Rattle.std.specs.Option.{is_some}
@@ -209,19 +209,47 @@ module _ (years : Bool) where
             opened-books balances member year held.once ∙ ap begins (held.found (member, year)) ∙ sym (opened before.entries (once-pairs before.entries held.distinct) (member, year));
       }
 
+  -- a file of balances has columns
+  pub has-columns : (layout : Layout) → IsBalanceLayout years layout → 0 < length layout.columns
+  has-columns layout contents =
+      let size = ap length contents in
+      let mapped = length-map layout.columns (λ c. c.content) in
+      omega (arith, size, mapped)
+
   -- the fault of a record whose member stands among the entries in its year
   pub repeats : (layout : Layout) (front : List Entry) (balances : List Book) (fields : Fields) (entry : Entry) (d : Column)
       → IsBalanceLayout years layout → IsEntry years layout fields entry
       → HoldsEntries front balances → is_some (found_in balances entry.0) ≡ true
       → IsRecordFault years layout front fields (record { column = (get_or layout.columns 0 d).place + 1; cause = Repeated })
   repeats layout front balances fields entry d contents read h known =
-      let size = ap length contents in
-      let mapped = length-map layout.columns (λ c. c.content) in
       inr (record {
         entry = entry;
         read = read;
         again = found-again front entry.0 (ap is_some (sym (h.found entry.0)) ∙ known);
         column = get_or layout.columns 0 d;
-        member = slice_get-get_or layout.columns 0 d (omega (arith, size, mapped));
+        member = slice_get-get_or layout.columns 0 d (has-columns layout contents);
         fault_is = refl;
       })
+
+  -- an entry that was taken in stands behind the others
+  pub takes-entry : {U E : Type 0} (layout : Layout) (fields : Fields) (holder : Holder) (balance : Balance) (old new : List Book) (taken : Result (Result U RowFault) E)
+      → IsEntry years layout fields (holder, balance) → AreOnce new
+      → IfOk taken (λ t. OnOk t (is_some (found_in old holder) ≡ false))
+      → IfOk taken (λ t. OnOk t ((q : Holder) → found_in new q ≡ cond (is_holder holder q) (Some balance) (found_in old q)))
+      → IfOk taken (λ t. OnOk t ((front : List Entry) → HoldsEntries front old → (entry : Entry) × IsEntry years layout fields entry × HoldsEntries (front ++ entry ∷ []) new))
+  takes-entry layout fields holder balance old new (Ok (Ok u)) read once absent found =
+      λ front h. ((holder, balance), read, holds-more front holder balance old new once h absent found)
+  takes-entry layout fields holder balance old new (Ok (Err fault)) read once absent found = tt
+  takes-entry layout fields holder balance old new (Err e) read once absent found = tt
+
+  -- and one that was not is refused at the first column, since its member stands there
+  pub refuses-entry : {U E : Type 0} (layout : Layout) (fields : Fields) (holder : Holder) (balance : Balance) (old : List Book) (columns : List Column) (d : Column)
+      → (taken : Result (Result U RowFault) E) → IsBalanceLayout years layout → columns ≡ layout.columns → IsEntry years layout fields (holder, balance)
+      → IfOk taken (λ t. IfErr t (λ fault. is_some (found_in old holder) ≡ true))
+      → IfOk taken (λ t. IfErr t (λ fault. fault ≡ record { column = (get_or columns 0 d).place + 1; cause = Repeated }))
+      → IfOk taken (λ t. IfErr t (λ fault. (front : List Entry) → HoldsEntries front old → IsRecordFault years layout front fields fault))
+  refuses-entry layout fields holder balance old columns d (Ok (Ok u)) contents same read known told = tt
+  refuses-entry layout fields holder balance old columns d (Ok (Err fault)) contents same read known told =
+      let there = rw same at told in
+      λ front h. subst (IsRecordFault years layout front fields) (sym there) (repeats layout front old fields (holder, balance) d contents read h known)
+  refuses-entry layout fields holder balance old columns d (Err e) contents same read known told = tt

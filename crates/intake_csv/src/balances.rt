@@ -10,7 +10,6 @@ ghost use Rattle.intake_csv.specs.Balances.{AreAmounts, AreBalances, AreOnce, Be
 ghost use Rattle.intake_csv.specs.Columns.{balance_columns, year_columns};
 ghost use Rattle.intake_csv.specs.Rows.{HasFault};
 ghost use Rattle.intake_csv.specs.Sheet.{IsWithin};
-ghost use Rattle.intake_csv.specs.declared.column.Column.{Column as AnyColumn};
 ghost use Rattle.intake_csv.specs.declared.fault.RowCause.TheVariants.{Repeated as Again};
 
 use crate::column::{Content, Layout, Needed, needed_column};
@@ -135,28 +134,29 @@ impl Balances {
             → IsRecordFault keeps_years layout.now front (fields_of row.now) fault)) }
     {
         match read_record(alloc, layout, row)? {
-            Ok(values) => self.take_in(alloc, layout, entry_of(values, keeps_years)),
+            Ok(values) => {
+                let column = layout.columns.as_slice()[0].place + 1;
+                self.take_in(alloc, column, entry_of(values, keeps_years))
+            }
             Err(fault) => Ok(Err(fault)),
         }
     }
 
-    // Takes an entry in, or tells that its member stands there in its year already.
+    // Takes an entry in, or tells at the members' column that its member stands there in its year already.
     fn take_in(
         &mut self,
         alloc: Global,
-        layout: &Layout,
+        column: usize,
         entry: Entry,
     ) -> Result<Result<(), RowFault>, AllocError>
-        requires { 0 < length layout.now.columns }
         ensures entry { IfOk result (λ taken. OnOk taken (is_some (found_in self.old (entry.member, entry.year)) ≡ false)) }
         ensures found { IfOk result (λ taken. OnOk taken ((holder : AnyHolder) → found_in self.new holder
             ≡ cond (is_holder (entry.member, entry.year) holder) (Some entry.balance) (found_in self.old holder))) }
         ensures once { AreOnce self.new }
         ensures again { IfOk result (λ taken. IfErr taken (λ fault. is_some (found_in self.old (entry.member, entry.year)) ≡ true)) }
-        ensures told { IfOk result (λ taken. IfErr taken (λ fault. (d : AnyColumn) → fault ≡ record { column = (get_or layout.now.columns 0 d).place + 1; cause = Again })) }
+        ensures told { IfOk result (λ taken. IfErr taken (λ fault. fault ≡ record { column = column; cause = Again })) }
     {
         if self.find(entry.member.as_str(), entry.year).is_some() {
-            let column = layout.columns.as_slice()[0].place + 1;
             return Ok(Err(RowFault {
                 column,
                 cause: RowCause::Repeated,
@@ -172,8 +172,8 @@ impl Balances {
             ≡ cond (is_holder (entry.member, entry.year) holder) (Some entry.balance) (found_in self.old holder)) }
         ensures once { AreOnce self.new }
     {
-        let name = String::from_str(alloc, entry.member.as_str())?;
         make_room(alloc, &mut self.years, entry.year)?;
+        let name = String::from_str(alloc, entry.member.as_str())?;
         add(&mut self.years, name, entry.year, entry.balance)
     }
 }
