@@ -9,7 +9,6 @@ ghost use Rattle.crew.specs.declared.fault.RunFault.TheVariants.{OutOfMemory};
 
 use crate::fault::RunFault;
 use crate::stopping::TRIES;
-use crate::turns::Turns;
 use claim_gate::{EndFault, Gate, Offer, OfferFault};
 use claim_terms::{Terms, terms_are_seen};
 use intake_csv::{
@@ -17,9 +16,7 @@ use intake_csv::{
 };
 use std::alloc::{AllocError, Global};
 use std::sync::Wait;
-
-#[cfg(test)]
-mod tests;
+use turns::Turns;
 
 /// Offers the claims of a provider's file in order, and ends the provider behind the last. What others have offered of it isn't
 /// offered again.

@@ -1,21 +1,17 @@
 //! Runs: the providers' files are read, their claims accepted and decided, until the journal is finished.
 //!
 //! `run` does so by an intake thread for each provider's file and by workers, over terms from `claim_terms` and a gate from
-//! `claim_gate`, which they share behind a lock from `turn_lock`; files come from `intake_csv`, decisions from `settlement`.
-//! `run_with` is the same on a gate of the caller's.
+//! `claim_gate`, which they share behind a lock from `turn_lock`; files come from `intake_csv`, decisions from `settlement`,
+//! and from `turns` a hint which thread is to call the gate next. `run_with` is the same on a gate of the caller's.
 //!
 //! Begin with `threads.rt`, whose `run` and `run_with` carry the promise; `intake.rt` and `worker.rt` are what the threads do.
 #![tactic(auto)]
 
-mod backlog;
 mod fault;
 mod intake;
 mod least;
 mod stopping;
-#[cfg(test)]
-mod tests;
 mod threads;
-mod turns;
 mod worker;
 
 pub use fault::RunFault;

@@ -11,7 +11,6 @@ use crate::fault::RunFault;
 use crate::intake::take_in;
 use crate::least::LeastFault;
 use crate::stopping::stop;
-use crate::turns::Turns;
 use crate::worker::work;
 use claim_gate::{Batch, Gate, GateState, LockedGate, SerialGate};
 use claim_terms::{Terms, terms_are_seen};
@@ -22,6 +21,7 @@ use std::sync::Wait;
 use std::thread;
 use std::thread::Threads;
 use turn_lock::{Section, TicketLock};
+use turns::Turns;
 
 /// How many workers a run may have at most.
 pub const WORKERS_LIMIT: usize = 64;

@@ -10,7 +10,6 @@ ghost use Rattle.crew.specs.Sharing.{IsGathered, IsInWork, IsSettledIn, IsTask, 
 
 use crate::fault::RunFault;
 use crate::stopping::TRIES;
-use crate::turns::{CALLS_LIMIT, Turn, Turns};
 use claim_gate::{FinishFault, Gate, Job, Taken};
 use claim_terms::{Terms, terms_are_seen};
 use cutplan::CutPlan;
@@ -19,6 +18,7 @@ use journal::jobs_stay;
 use settlement::{Adjudicator, Outcome};
 use std::alloc::{AllocError, Global};
 use std::sync::Wait;
+use turns::{CALLS_LIMIT, Turn, Turns};
 
 /// What a worker is to do.
 enum Task {

@@ -19,7 +19,7 @@ mod tests;
 
 /// How many claims a thread offers or takes in one turn. A turn is to be long beside the time that a sleeper takes to wake up, and
 /// short beside the time in which the others run out of work.
-pub(crate) const CALLS_LIMIT: u32 = 256;
+pub const CALLS_LIMIT: u32 = 256;
 
 /// Nobody has the turn.
 const FREE: u32 = 0;
@@ -51,7 +51,7 @@ const DOUBLINGS_LIMIT: u32 = 5;
 
 /// Who has the turn calls the gate, the others wait for a while.
 #[derive(Drop)]
-pub(crate) struct Turns {
+pub struct Turns {
     word: AtomicU64,
     // How many threads sleep until the turn is given back.
     sleepers: AtomicU64,
@@ -62,7 +62,7 @@ pub(crate) struct Turns {
 
 impl Turns {
     /// Nobody has the turn, and no claim waits.
-    pub(crate) fn new() -> Turns {
+    pub fn new() -> Turns {
         Turns {
             word: AtomicU64::new(u64::from(FREE)),
             sleepers: AtomicU64::new(0),
@@ -72,7 +72,7 @@ impl Turns {
     }
 
     /// Waits for a turn, for a while. It ends where what is given is dropped.
-    pub(crate) fn begin<R: Wait>(&self, rt: &R) -> Turn<'_> {
+    pub fn begin<R: Wait>(&self, rt: &R) -> Turn<'_> {
         Turn {
             turns: self,
             has: self.obtain(rt),
@@ -81,7 +81,7 @@ impl Turns {
     }
 
     /// Lets the others go on where there is nothing to do, the longer the more rests there were in a row. Gives their number.
-    pub(crate) fn rest<R: Wait>(&self, rt: &R, rests: u32) -> u32 {
+    pub fn rest<R: Wait>(&self, rt: &R, rests: u32) -> u32 {
         let micros = REST_MICROS << rests.min(DOUBLINGS_LIMIT);
         self.resting
             .park_timeout(rt, 0, Duration::from_micros(micros));
@@ -166,7 +166,7 @@ impl Turns {
 }
 
 /// A row of calls of the gate, with the turn or without it.
-pub(crate) struct Turn<'t> {
+pub struct Turn<'t> {
     turns: &'t Turns,
     has: bool,
     calls_left: u32,
@@ -174,7 +174,7 @@ pub(crate) struct Turn<'t> {
 
 impl Turn<'_> {
     /// Counts an offer. After so many the turn goes to who sleeps, and an intake that is far ahead of the workers sleeps first.
-    pub(crate) fn count_offer<R: Wait>(&mut self, rt: &R) {
+    pub fn count_offer<R: Wait>(&mut self, rt: &R) {
         self.turns.backlog.add_one();
         match self.calls_left.checked_sub(1) {
             Some(left) => self.calls_left = left,
@@ -193,7 +193,7 @@ impl Turn<'_> {
     }
 
     /// Counts a claim that was taken.
-    pub(crate) fn count_taken(&self) {
+    pub fn count_taken(&self) {
         self.turns.backlog.remove_one();
     }
 }

@@ -1,15 +1,15 @@
 //! Runs on a gate that others have called before.
 
-ghost use Rattle.std.specs.Prelude.{◌≡◌, ◌≤◌, ◌+◌, ◌<◌, ◌^◌, length, slice_get, Some, IfOk};
+ghost use Rattle.std.specs.Prelude.{◌≡◌, ◌≤◌, ◌+◌, length, slice_get, Some};
 ghost use Rattle.journal.specs.Terms.{claims_of};
 ghost use Rattle.claim_terms.specs.Terms.{ForTerms};
 ghost use Rattle.crew.specs.Sharing.{HasAccepted};
 
-use super::{offer, open};
-use crate::tests::watched::{WatchedGate, nothing};
-use crate::tests::{both_files, comes_to, plan, terms};
-use crate::{RunFault, run_with};
-use claim_gate::{Gate, GateState, LockedGate, Offer, SerialGate, Terms};
+use super::watched::{WatchedGate, nothing};
+use super::{both_files, comes_to, plan, terms};
+use claim_gate::{Gate, GateState, LockedGate, Offer, SerialGate};
+use claim_terms::{Terms, terms_are_seen};
+use crew::{RunFault, run_with};
 use intake_csv::{Row, given_row_has_the_claim, reader_begins_with_all_rows};
 use settlement::Claim;
 use std::alloc::{AllocError, Global};
@@ -19,7 +19,7 @@ use std::thread::Threads;
 use turn_lock::{Section, SpinLock};
 use worked_examples::{first_file, second_file};
 
-// Offers the first provider's claim at a place, which is accepted.
+// Offers the first provider's claim at a place, which is accepted. Only claims of this provider were before, so its position is that place.
 fn accept<R: Wait + Abort, G: Gate>(
     rt: &R,
     terms: &Terms,
@@ -32,22 +32,26 @@ fn accept<R: Wait + Abort, G: Gate>(
     requires terms { (G.known pass).seen.terms ≡ terms.now }
     requires filed { ForTerms terms.now (λ T. slice_get (claims_of T 1) place ≡ Some claim) }
     requires taken { HasAccepted (G.known pass).seen 1 place }
-    requires few { place < 2 }
     ensures own { G.has_pass gate.now result }
     ensures terms { (G.known result).seen.terms ≡ terms.now }
     ensures taken { HasAccepted (G.known result).seen 1 (place + 1) }
 {
+    // Known from here: the texts have lists of claims, so that what holds for each list says something.
+    terms_are_seen(terms);
     let offered = Offer {
         provider: 1,
         place,
         claim,
     };
-    match offer(rt, terms, gate, pass, offered) {
-        Ok((Some(next), pass)) => {
-            assert!(rt; next == place + 1);
+    let Ok((reply, pass)) = gate.offer(rt, pass, offered) else {
+        panic!(rt; "a reply");
+    };
+    match reply {
+        Ok(accepted) => {
+            assert!(rt; accepted.position == place);
             pass
         }
-        _ => panic!(rt; "an accepted claim"),
+        Err(_) => panic!(rt; "an accepted claim"),
     }
 }
 
@@ -59,7 +63,7 @@ fn first_two(rt: &impl Abort, alloc: Global, terms: &Terms) -> (Claim, Claim)
 {
     reader_begins_with_all_rows();
     given_row_has_the_claim();
-    let mut rows = match open(alloc, terms, 1) {
+    let mut rows = match terms.rows(alloc, 1) {
         Ok(rows) => rows,
         Err(_) => panic!(rt; "rows"),
     };

@@ -3,12 +3,12 @@
 ghost use Rattle.std.specs.Prelude.{◌≡◌};
 
 use super::{plan, terms};
-use crate::run_with;
 use claim_gate::{
     Accepted, Counts, EndFault, Ended, FinishFault, Gate, GateState, Job, LockedGate, Offer,
     OfferFault, Recorded, SerialGate, TakeFault, Taken,
 };
 use claim_terms::Terms;
+use crew::run_with;
 use settlement::Outcome;
 use std::alloc::{AllocError, Global};
 use std::sync::Wait;

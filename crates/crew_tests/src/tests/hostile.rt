@@ -4,9 +4,9 @@ ghost use Rattle.std.specs.Prelude.{◌≡◌};
 
 use super::watched::{Watch, WatchedGate, nothing};
 use super::{plan, terms};
-use crate::{RunFault, run, run_with};
 use claim_gate::{Gate, GateState, LockedGate, SerialGate};
 use claim_terms::Terms;
+use crew::{RunFault, run, run_with};
 use journal::Event;
 use std::alloc::Global;
 use std::process::Abort;

@@ -1,6 +1,6 @@
 //! Runs by worked examples: what each claim comes to is written by hand, whatever the schedule.
-use crate::{RunFault, WORKERS_LIMIT, run};
 use claim_terms::Terms;
+use crew::{RunFault, WORKERS_LIMIT, run};
 use dtable::{Plan, read_plan};
 use journal::Event;
 use settlement::{Money, Outcome};
@@ -12,10 +12,11 @@ use std::test::Fail;
 use std::thread::Threads;
 use worked_examples::{first_file, header, health_plan, second_file};
 
-pub mod hostile;
+mod behind_others;
+mod hostile;
 mod meeting;
 mod stopping;
-pub mod watched;
+mod watched;
 
 const THREE: &[u8] = b"claim,member,service,billed,code
 e1,M3,2024-01-05,120.00,A
@@ -76,7 +77,7 @@ fn balances() -> &'static [u8] {
     BALANCES
 }
 
-pub fn both_files() -> &'static str {
+fn both_files() -> &'static str {
     BOTH_FILES
 }
 
@@ -88,11 +89,11 @@ fn between_refused() -> &'static str {
     BETWEEN_REFUSED
 }
 
-pub fn plan(rt: &impl Abort, alloc: Global) -> Plan {
+fn plan(rt: &impl Abort, alloc: Global) -> Plan {
     read_plan(alloc, health_plan().as_bytes()).expect(rt, "a plan")
 }
 
-pub fn terms<'a>(
+fn terms<'a>(
     rt: &impl Abort,
     alloc: Global,
     plan: &'a Plan,
@@ -167,15 +168,15 @@ fn write_claims(text: &mut String, journal: &[Event], provider: usize) -> Result
 
 /// How many events of each kind there are.
 #[derive(Clone, Copy, Debug, PartialEq)]
-pub struct EventCounts {
-    pub accepts: usize,
-    pub takes: usize,
-    pub decides: usize,
-    pub ends: usize,
-    pub closes: usize,
+struct EventCounts {
+    accepts: usize,
+    takes: usize,
+    decides: usize,
+    ends: usize,
+    closes: usize,
 }
 
-pub fn count_events(journal: &[Event]) -> EventCounts {
+fn count_events(journal: &[Event]) -> EventCounts {
     let mut kinds = EventCounts {
         accepts: 0,
         takes: 0,
@@ -197,7 +198,7 @@ pub fn count_events(journal: &[Event]) -> EventCounts {
 }
 
 // What a journal comes to, whatever the schedule was.
-pub fn summary(alloc: Global, journal: &[Event], providers: usize) -> Result<String, AllocError> {
+fn summary(alloc: Global, journal: &[Event], providers: usize) -> Result<String, AllocError> {
     let mut text = String::new(alloc);
     for place in 0..providers {
         write_claims(&mut text, journal, place + 1)?;
@@ -213,7 +214,7 @@ pub fn summary(alloc: Global, journal: &[Event], providers: usize) -> Result<Str
 }
 
 // Compares what a journal comes to.
-pub fn comes_to(rt: &impl Abort, alloc: Global, journal: &[Event], providers: usize, wanted: &str) {
+fn comes_to(rt: &impl Abort, alloc: Global, journal: &[Event], providers: usize, wanted: &str) {
     let text = summary(alloc, journal, providers).expect(rt, "a summary");
     assert!(rt; text.as_str() == wanted);
 }

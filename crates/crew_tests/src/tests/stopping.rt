@@ -3,8 +3,8 @@
 use super::hostile::watched;
 use super::watched::nothing;
 use super::{plan, terms};
-use crate::RunFault;
 use claim_terms::Terms;
+use crew::RunFault;
 use std::alloc::Global;
 use std::process::Abort;
 use std::sync::Wait;
