@@ -2,7 +2,7 @@
 
 ghost use Rattle.std.specs.Prelude.{◌≡◌, ◌≢◌, ◌≤◌};
 ghost use Rattle.std.specs.Io.KnownBytes.{Keeps};
-ghost use Rattle.adjudicate.specs.Arguments.{texts_of};
+ghost use Rattle.claim_terms.specs.Terms.{texts_of};
 ghost use Rattle.adjudicate.specs.Stop.{IsPlanReason, IsReason};
 ghost use Rattle.adjudicate.specs.Telling.{IsToldText};
 ghost use Rattle.adjudicate.specs.ValueText.{IsValueText};
