@@ -15,6 +15,7 @@ use worked_examples::{first_file, header, health_plan, second_file};
 mod behind_others;
 mod hostile;
 mod meeting;
+mod refusing;
 mod stopping;
 mod watched;
 
@@ -93,12 +94,7 @@ fn plan(rt: &impl Abort, alloc: Global) -> Plan {
     read_plan(alloc, health_plan().as_bytes()).expect(rt, "a plan")
 }
 
-fn terms<'a>(
-    rt: &impl Abort,
-    alloc: Global,
-    plan: &'a Plan,
-    files: &'a [&'a [u8]],
-) -> Terms<'a> {
+fn terms<'a>(rt: &impl Abort, alloc: Global, plan: &'a Plan, files: &'a [&'a [u8]]) -> Terms<'a> {
     Terms::new(alloc, plan, files, None, None).expect(rt, "terms")
 }
 
