@@ -182,7 +182,8 @@ pub fn record_words(cause: RowCause) -> &'static str {
         RowCause::Value => "an amount is no number, or a year isn't four digits, 0001 to 9999",
         RowCause::NotCents => "an amount has part of a cent",
         RowCause::Negative => "an amount is below zero",
-        RowCause::Repeated => "the member stood in an earlier record, under version 2 in one of the same year",
+        RowCause::Repeated =>
+            "the member stood in an earlier record, under version 2 in one of the same year",
     }
 }
 

@@ -16,4 +16,4 @@ pub returns-clause-found : goal.returns-clause-found
 returns-clause-found c =
     let named : string_bytes c.in_ok-name.name ≡ c.args.entry.member = c.in_ok-name.ensures.ok ∙ c.as_str.ensures.value in
     rw (← c.self.view_is) (put-more c.args.entry.member (string_bytes c.in_ok-name.name) c.args.entry.year c.args.entry.balance (books_of c.self.inside.years.items) (books_of c.make_room.new.years.items)
-        (books_of c.add.new.years.items) c.add.result named c.make_room.ensures.same c.add.ensures.added)
+    (books_of c.add.new.years.items) c.add.result named c.make_room.ensures.same c.add.ensures.added)
