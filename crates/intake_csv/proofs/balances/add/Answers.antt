@@ -12,6 +12,6 @@ returns-clause-added c = elim c.match-insert.branch [
       let year : c.from.result ≡ c.args.year = search rules in
       let updates = rw w.in-Ok.is at c.insert.ensures.updates in
       rw w.result-is (λ holder. rw year (put_found c.args.years.now.items c.args.year old c.insert.new.self (string_bytes c.args.member) c.args.balance holder c.requires
-          (λ p. rw (← year, standing) (btree_map_updates_text (string_bytes c.args.member) old c.insert.new.self (Some c.args.balance) updates p))))
+      (λ p. rw (← year, standing) (btree_map_updates_text (string_bytes c.args.member) old c.insert.new.self (Some c.args.balance) updates p))))
   | in-Err w ↦ rw w.result-is tt
 ]
