@@ -20,9 +20,7 @@ use crate::words::{cutoff_of, is_strict, workers_of};
 use adjudicate::{FILE_LIMIT_BYTES, RunInput, do_run};
 use clap::ArgMatches;
 use console::names::{BALANCES, FILE, SUMMARY};
-use console::{
-    DONE, Pulse, REFUSED, RESOURCE, Sources, USAGE, explains, input_once, no_memory,
-};
+use console::{DONE, Pulse, REFUSED, RESOURCE, Sources, USAGE, explains, input_once, no_memory};
 use fixpoint::Out;
 use std::alloc::{AllocError, Global};
 use std::io;
@@ -82,7 +80,12 @@ where
 }
 
 /// Settles the claims of the texts that the command line names.
-fn settle_named<R, S: Sources>(rt: &R, sources: &S, matches: &ArgMatches<'_>, is_watched: bool) -> u8
+fn settle_named<R, S: Sources>(
+    rt: &R,
+    sources: &S,
+    matches: &ArgMatches<'_>,
+    is_watched: bool,
+) -> u8
 where
     R: Files + Print + Eprint + AllocGlobal + Threads + Wait + Sync,
     ensures known { result ≤ RESOURCE }
