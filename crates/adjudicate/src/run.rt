@@ -36,7 +36,7 @@ pub struct RunInput<'a> {
 ///
 /// For all plan, balance and provider texts, every cutoff and number of workers, a run that ends unrefused writes the
 /// remittance of one journal: each provider's accepted claims are the first of its file, once each and in its order, as
-/// many in all as the cutoff admits, and each member's claims are decided in order of acceptance, each by the tables'
+/// many in all as the cutoff admits, and each family's claims are decided in order of acceptance, each by the tables'
 /// value at the accumulators left before it.
 pub fn do_run<R: Threads + Wait + Sync + AllocGlobal, W: Write>(
     rt: &R,

@@ -117,7 +117,7 @@ fn harmful_gaps_and_overlaps(rt: HostRuntime) {
 fn a_text_that_is_no_plan_is_refused(rt: HostRuntime) {
     let alloc = rt.alloc();
     let mut out = Out::new(Vec::new(alloc));
-    let result = do_check(alloc, b"version = 3\n", &mut out);
+    let result = do_check(alloc, b"version = 4\n", &mut out);
     assert!(rt; is_refused(result, out, "plan fault 3 table 0 rule 0 column 0\n"));
 }
 

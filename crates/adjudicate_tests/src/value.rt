@@ -47,7 +47,7 @@ const REFUSED: &[(&str, &[&str], &str)] = &[
     (CROSSED, &["b=1"], "missing a\n"),
     (CROSSED, &[], "missing a\n"),
     (
-        "version = 3\n",
+        "version = 4\n",
         &["x"],
         "plan fault 3 table 0 rule 0 column 0\n",
     ),

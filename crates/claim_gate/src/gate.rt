@@ -73,7 +73,7 @@ pub trait Gate {
         ensures worn { IfErr result (λ e. IsWornOut (has_pass self.now) is_worn known (known pass) e.1) }
         ensures late { is_worn pass → IsErr result };
 
-    /// Takes a claim whose member's earlier claims are all decided.
+    /// Takes a claim whose family's earlier claims are all decided.
     fn take<R: Wait>(
         &self,
         rt: &R,

@@ -1,8 +1,8 @@
-//! The gate of a run: it accepts the providers' claims, hands each out when its member's turn comes, and keeps the journal.
+//! The gate of a run: it accepts the providers' claims, hands each out when its family's turn comes, and keeps the journal.
 //!
 //! A `GateState` is the gate as one thread sees it. `offer` and `end` are the calls of those who read the providers' files,
 //! `take` and `finish` those of who decides claims; `stop` ends all that. Its journal is lawful, always. A `Batch` is a run
-//! whose journal is finished. Terms come from `claim_terms`, the members' turns from `lanes`, and what journals and the
+//! whose journal is finished. Terms come from `claim_terms`, the families' turns from `lanes`, and what journals and the
 //! calls are from `journal`. A `LockedGate` is such a gate behind a lock from `turn_lock`, and `Gate` is what each of the
 //! callers that share it sees of it.
 //!

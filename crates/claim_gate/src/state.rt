@@ -31,7 +31,7 @@ use std::marker::Model;
 /// A gate of one thread: its terms, its journal, which is lawful, and whether it is stopped.
 ///
 /// Each call makes all its growths before its first change, so that a refused one has changed nothing; none walks the
-/// journal, the claims or the members.
+/// journal, the claims or the families.
 #[derive(Debug, Drop)]
 pub struct GateState<'t> {
     alloc: Global,

@@ -3,6 +3,7 @@
 mod again;
 mod again_shared;
 mod calls;
+mod families;
 mod filing;
 mod hostile;
 mod in_turn;

@@ -1,7 +1,7 @@
 -- Why texts make no terms.
 use Rattle.std.specs.Prelude.{◌≡◌, ◌≢◌, ◌+◌, ℕ, List, take, length, slice_get, Option, Some, None, IsSome}
 use Rattle.std.specs.List.{All}
-use Rattle.dtable.specs.Plan.{PlanParts, keeps_years}
+use Rattle.dtable.specs.Plan.{PlanParts}
 use Rattle.dtable.specs.declared.table.InputData.{InputData}
 use Rattle.intake_csv.specs.Columns.{HasFileFault, claim_columns}
 use Rattle.intake_csv.specs.Balances.{HasBalanceFault}
@@ -39,7 +39,7 @@ pub record RefusesFile (names : List InputData) (files : List (List ℕ)) (provi
 pub record RefusesBalances (plan : PlanParts) (balances : Option (List ℕ)) (fault : BalanceFault) : Type 0 where
   pub text : List ℕ
   pub given : balances ≡ Some text
-  pub refused : HasBalanceFault (keeps_years plan) text fault
+  pub refused : HasBalanceFault plan.version text fault
   pub told : fault ≢ balance.OutOfMemory
 
 -- the plan, the files and the balances make no terms, for this reason: each fault supposes that those tried before it

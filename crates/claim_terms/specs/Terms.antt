@@ -2,7 +2,7 @@
 use Rattle.std.specs.Prelude.{◌≡◌, ◌≤◌, ℕ, List, [], length, map, option_map, Option, Some, None, IsSome}
 use Rattle.std.specs.Borrow.{Bor}
 use Rattle.std.specs.List.{All, AllZip}
-use Rattle.dtable.specs.Plan.{PlanParts, keeps_years}
+use Rattle.dtable.specs.Plan.{PlanParts}
 use Rattle.dtable.specs.declared.table.InputData.{InputData}
 use Rattle.settlement.specs.declared.claim.Claim.{Claim}
 use Rattle.intake_csv.specs.Records.{Fields}
@@ -18,8 +18,8 @@ use Rattle.journal.specs.Terms.{Terms}
 use Rattle.journal.specs.Lawful.{Finished}
 use Rattle.journal.specs.declared.event.Event.{Event}
 
--- what a run is fixed over: the plan, the text of each provider's file, the members that have balances in each year, with these,
--- and how many claims are accepted at most, if that is limited
+-- what a run is fixed over: the plan, the text of each provider's file, the families that have balances in each year, with their
+-- members and these, and how many claims are accepted at most, if that is limited
 pub record TermsParts : Type 0 where
   pub plan : PlanParts
   pub files : List (List ℕ)
@@ -83,7 +83,7 @@ pub record AreTerms (parts : TermsParts) : Type 0 where
 -- the balances of a text under a plan; without a text there are none
 abbrev pub AreBalancesOf : PlanParts → Option (List ℕ) → List Book → Type 0
 AreBalancesOf plan None balances = balances ≡ []
-AreBalancesOf plan (Some text) balances = AreBalances (keeps_years plan) text balances
+AreBalancesOf plan (Some text) balances = AreBalances plan.version text balances
 
 -- the terms of a plan, of the files' texts, of the text of the balances, if there is one, and of a cutoff
 pub record AreTermsOf (plan : PlanParts) (files : List (List ℕ)) (balances : Option (List ℕ)) (cutoff : Option ℕ) (parts : TermsParts) : Type 0 where

@@ -106,12 +106,16 @@ impl<'a> Terms<'a> {
         self.cutoff
     }
 
-    /// What the account of a claim begins with: zeros where the balances don't name its member, or not in its year.
+    /// What the account of a claim begins with: of its own zeros where the balances don't name its member, or not in its year.
     pub fn opening(&self, claim: &Claim) -> Acc
         ensures { result ≡ opening (accounts_of self.now.balances) (account_of self.now.plan claim.now) }
     {
         match &self.balances {
-            Some(balances) => balances.of(claim.member.as_str(), account_year(self.plan, claim)),
+            Some(balances) => balances.of(
+                claim.family().as_str(),
+                claim.member.as_str(),
+                account_year(self.plan, claim),
+            ),
             None => Acc::zero(),
         }
     }

@@ -79,6 +79,7 @@ fn claim(rt: &impl Abort, alloc: Global, member: &str) -> Result<Claim, AllocErr
     assert!(rt; member.len() <= TEXT_LIMIT_BYTES);
     Ok(Claim {
         id: Text::new(alloc, "c1")?,
+        family: None,
         member: Text::new(alloc, member)?,
         service: Day::from_epoch_day(19_727).expect(rt, "a day"),
         billed: Acc::zero().met,

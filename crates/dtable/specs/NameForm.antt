@@ -1,5 +1,5 @@
 -- The names of fields and outputs, as a plan may write them.
-use Rattle.std.specs.Prelude.{ℕ, Bool, false, ◌&&◌, List, [], ◌∷◌, codes}
+use Rattle.std.specs.Prelude.{ℕ, Bool, true, false, ◌&&◌, List, [], ◌∷◌, ◌++◌, codes}
 use Rattle.std.specs.List.{list_all, list_any}
 use Rattle.std.specs.Str.{bytes_eq}
 use Rattle.feel_tests.specs.Words.{is_name_start, is_name_byte}
@@ -14,6 +14,15 @@ unfoldable pub reserved_names : List (List ℕ)
 reserved_names =
     codes "claim" ∷ codes "member" ∷ codes "service" ∷ codes "billed" ∷ codes "met" ∷ codes "oop" ∷ codes "paid"
     ∷ codes "true" ∷ codes "false" ∷ codes "not" ∷ codes "date" ∷ []
+
+-- the names that are taken beside them where families are kept
+unfoldable pub family_names : List (List ℕ)
+family_names = codes "family" ∷ codes "fmet" ∷ codes "foop" ∷ []
+
+-- the names that are taken from the start, where families are kept or not
+abbrev pub names_taken : Bool → List (List ℕ)
+names_taken false = reserved_names
+names_taken true = family_names ++ reserved_names
 
 -- the name stands among the names
 abbrev pub is_among : List ℕ → List (List ℕ) → Bool

@@ -18,6 +18,7 @@ use Rattle.dtable.specs.declared.table.Rule.{Rule}
 use Rattle.dtable.specs.declared.table.Table.{Table}
 use Rattle.dtable.specs.declared.roles.Source.{Source}
 use Rattle.dtable.specs.declared.roles.Source.TheVariants.{Literal, Input, Output}
+use Rattle.dtable.specs.declared.roles.FamilyRoles.{FamilyRoles}
 use Rattle.dtable.specs.declared.roles.Roles.{Roles}
 use Rattle.dtable.specs.Limits.{fields_limit, tables_limit, inputs_limit, outputs_limit, rules_limit, priority_limit}
 use Rattle.dtable.specs.Names.{names_of}
@@ -30,13 +31,25 @@ pub record PlanParts : Type 0 where
   pub tables : List Table
   pub roles : Option Roles
 
--- the versions of the format: in the second one accumulators are kept by the benefit year
+-- the versions of the format: in the second one accumulators are kept by the benefit year, in the third one for families, too
 abbrev pub IsVersion : ℕ → Type 0
-IsVersion version = (version ≡ 1) ⊎ (version ≡ 2)
+IsVersion version = (version ≡ 1) ⊎ ((version ≡ 2) ⊎ (version ≡ 3))
 
--- accumulators are kept by the benefit year, the calendar year of service
+-- under this version accumulators are kept by the benefit year, the calendar year of service
+abbrev pub has_years : ℕ → Bool
+has_years version = not (version == 1)
+
+-- under this version they are kept for families, too
+abbrev pub has_families : ℕ → Bool
+has_families version = version == 3
+
+-- accumulators are kept by the benefit year
 abbrev pub keeps_years : PlanParts → Bool
-keeps_years plan = not (plan.version == 1)
+keeps_years plan = has_years plan.version
+
+-- they are kept for families, too
+abbrev pub keeps_families : PlanParts → Bool
+keeps_families plan = has_families plan.version
 
 -- the kinds are the same
 abbrev pub same_kind : Kind → Kind → Bool
@@ -116,13 +129,19 @@ abbrev pub remarks_fit : List Table → Option (List ℕ) → Bool
 remarks_fit tables None = true
 remarks_fit tables (Some name) = some_output (λ hit o. not (gives_one hit) && same_kind kinds.Text o.kind) tables name
 
+-- each of the family's limits has a source of its kind where families are kept, and there are none where they aren't
+abbrev pub family_roles_fit : PlanParts → Option FamilyRoles → Bool
+family_roles_fit p None = not (keeps_families p)
+family_roles_fit p (Some limits) =
+    keeps_families p && source_fits p.names p.tables kinds.Number limits.deductible && source_fits p.names p.tables kinds.Number limits.oop_max
+
 -- each role has a source of its kind
 abbrev pub roles_fit : PlanParts → Roles → Bool
 roles_fit p roles =
     source_fits p.names p.tables kinds.Flag roles.cover && source_fits p.names p.tables kinds.Number roles.fee
     && source_fits p.names p.tables kinds.Number roles.deductible && source_fits p.names p.tables kinds.Number roles.copay
     && source_fits p.names p.tables kinds.Number roles.rate && source_fits p.names p.tables kinds.Number roles.oop_max
-    && remarks_fit p.tables roles.remarks
+    && remarks_fit p.tables roles.remarks && family_roles_fit p roles.family
 
 -- a table is within the limits: so many inputs, outputs and rules, and so many values in each priority list
 pub record IsTableWithin (t : Table) : Type 0 where
@@ -149,7 +168,7 @@ AreDistinct names = AllPairs (λ a b. a ≢ b) names
 pub record IsPlan (p : PlanParts) : Type 0 where
   pub version : IsVersion p.version
   pub fields : List InputData
-  pub names : p.names ≡ names_of fields
+  pub names : p.names ≡ names_of (keeps_families p) fields
   pub limits : IsWithin fields p.tables
   pub distinct : AreDistinct (plan_names p)
   pub origins : IsTrue (are_known p.names [] p.tables)

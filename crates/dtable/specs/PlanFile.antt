@@ -18,9 +18,9 @@ use Rattle.dtable.specs.declared.table.Rule.{Rule}
 use Rattle.dtable.specs.declared.table.Table.{Table}
 use Rattle.dtable.specs.Document.{string_at, array_at, optional_array_at, item_count, Optionally, Each, EachBehind, EachUnder}
 use Rattle.dtable.specs.Limits.{plan_limit_bytes, fields_limit, tables_limit, inputs_limit, outputs_limit, rules_limit, priority_limit, name_limit_bytes}
-use Rattle.dtable.specs.NameForm.{has_name_form, is_among, reserved_names}
+use Rattle.dtable.specs.NameForm.{has_name_form, is_among, names_taken}
 use Rattle.dtable.specs.Names.{names_of}
-use Rattle.dtable.specs.Plan.{PlanParts, IsVersion, is_ranked, meets_demands, seen_kind}
+use Rattle.dtable.specs.Plan.{PlanParts, IsVersion, is_ranked, keeps_families, meets_demands, seen_kind}
 use Rattle.dtable.specs.RoleFile.{AreRoles}
 use Rattle.dtable.specs.Scope.{SeenOutput, seen_of, origin_of, kind_at, taken_names}
 
@@ -84,10 +84,10 @@ pub record IsField (taken : List (List ℕ)) (entry : Data) (field : InputData) 
   pub name : IsNewlyNamed taken entry field.name
   pub kind : IsOfKind entry field.kind
 
--- entries of `fields`: not too many, and no name stands twice
-pub record AreFields (entries : Items) (fields : List InputData) : Type 0 where
+-- entries of `fields`, where families are kept or not: not too many, and no name stands twice
+pub record AreFields (families : Bool) (entries : Items) (fields : List InputData) : Type 0 where
   pub within : item_count entries ≤ fields_limit
-  pub each : EachBehind (λ f. f.name) IsField reserved_names entries fields
+  pub each : EachBehind (λ f. f.name) IsField (names_taken families) entries fields
 
 -- an entry of `inputs`: the name of a single value that is known there, and its allowed values, if they are restricted
 pub record IsInput (names : List InputData) (earlier : List (List SeenOutput)) (entry : Data) (input : Input) : Type 0 where
@@ -188,13 +188,13 @@ pub record AreTables (names : List InputData) (entries : Items) (tables : List T
   pub within : item_count entries ≤ tables_limit
   pub each : EachBehind seen_of (IsTable names) [] entries tables
 
--- the key `fields` of a document, which may be left out, and the names of a plan with these fields
-pub record AreNames (document : Data) (names : List InputData) : Type 0 where
+-- the key `fields` of a document, which may be left out, and the names of a plan with these fields, where families are kept or not
+pub record AreNames (families : Bool) (document : Data) (names : List InputData) : Type 0 where
   pub entries : Items
   pub written : optional_array_at (codes "fields") document ≡ Some entries
   pub fields : List InputData
-  pub spelled : AreFields entries fields
-  pub named : names ≡ names_of fields
+  pub spelled : AreFields families entries fields
+  pub named : names ≡ names_of families fields
 
 -- the key `tables` of a document, which may be left out
 pub record AreTablesOf (names : List InputData) (document : Data) (tables : List Table) : Type 0 where
@@ -210,9 +210,9 @@ pub record IsVersionOf (document : Data) (version : ℕ) : Type 0 where
 -- a document spells this plan
 pub record IsPlanDocument (document : Data) (plan : PlanParts) : Type 0 where
   pub version : IsVersionOf document plan.version
-  pub names : AreNames document plan.names
+  pub names : AreNames (keeps_families plan) document plan.names
   pub tables : AreTablesOf plan.names document plan.tables
-  pub roles : Optionally (AreRoles plan.names (map seen_of plan.tables)) (get (codes "roles") document) plan.roles
+  pub roles : Optionally (AreRoles (keeps_families plan) plan.names (map seen_of plan.tables)) (get (codes "roles") document) plan.roles
 
 -- a text spells this plan
 pub record IsPlanText (text : List ℕ) (plan : PlanParts) : Type 0 where

@@ -1,5 +1,5 @@
 -- The roles that the key `roles` of a plan's document spells.
-use Rattle.std.specs.Prelude.{◌≡◌, ℕ, Bool, not, ◌&&◌, List, codes, Some, IsTrue}
+use Rattle.std.specs.Prelude.{◌≡◌, ℕ, Bool, true, false, not, ◌&&◌, List, codes, Option, Some, None, IsTrue}
 use Rattle.std.specs.List.{list_any}
 use Rattle.std.specs.Str.{bytes_eq}
 use Rattle.toml.specs.Data.{Data, string, get}
@@ -10,6 +10,7 @@ use Rattle.feel_tests.specs.declared.value.Value.{Value}
 use Rattle.feel_tests.specs.declared.value.Value.TheVariants as values
 use Rattle.feel_tests.specs.Cell.{SpellsValue}
 use Rattle.feel_tests.specs.Value.{kind_of}
+use Rattle.dtable.specs.declared.roles.FamilyRoles.{FamilyRoles}
 use Rattle.dtable.specs.declared.roles.Roles.{Roles}
 use Rattle.dtable.specs.declared.roles.Source.{Source}
 use Rattle.dtable.specs.declared.roles.Source.TheVariants.{Literal, Input, Output}
@@ -84,8 +85,21 @@ pub record AreRemarks (earlier : List (List SeenOutput)) (entry : Data) (name : 
   pub written : entry ≡ string name
   pub lists : IsTrue (lists_texts earlier name)
 
--- the table `roles`: a flag, amounts of money and a rate, and the output of the remarks, if there is one
-pub record AreRoles (names : List InputData) (earlier : List (List SeenOutput)) (entry : Data) (roles : Roles) : Type 0 where
+-- the limits of the family: amounts of money
+pub record AreLimits (names : List InputData) (earlier : List (List SeenOutput)) (entry : Data) (limits : FamilyRoles) : Type 0 where
+  pub deductible : IsRole names earlier Money (codes "family_deductible") entry limits.deductible
+  pub oop_max : IsRole names earlier Money (codes "family_oop_max") entry limits.oop_max
+
+-- so where families are kept; where they aren't there are none, whatever the keys hold
+abbrev pub AreFamilyRoles : Bool → List InputData → List (List SeenOutput) → Data → Option FamilyRoles → Type 0
+AreFamilyRoles false names earlier entry None = Unit {0}
+AreFamilyRoles false names earlier entry (Some limits) = ⊥
+AreFamilyRoles true names earlier entry None = ⊥
+AreFamilyRoles true names earlier entry (Some limits) = AreLimits names earlier entry limits
+
+-- the table `roles`: a flag, amounts of money and a rate, the output of the remarks, if there is one, and the limits of the family,
+-- where families are kept
+pub record AreRoles (families : Bool) (names : List InputData) (earlier : List (List SeenOutput)) (entry : Data) (roles : Roles) : Type 0 where
   pub cover : IsRole names earlier Flag (codes "cover") entry roles.cover
   pub fee : IsRole names earlier Money (codes "fee") entry roles.fee
   pub deductible : IsRole names earlier Money (codes "deductible") entry roles.deductible
@@ -93,3 +107,4 @@ pub record AreRoles (names : List InputData) (earlier : List (List SeenOutput)) 
   pub rate : IsRole names earlier Rate (codes "rate") entry roles.rate
   pub oop_max : IsRole names earlier Money (codes "oop_max") entry roles.oop_max
   pub remarks : Optionally (AreRemarks earlier) (get (codes "remarks") entry) roles.remarks
+  pub family : AreFamilyRoles families names earlier entry roles.family

@@ -7,7 +7,7 @@ ghost use Rattle.dtable.specs.Environment.{answer_of, answer_at};
 ghost use Rattle.dtable.specs.Limits.{name_limit_bytes};
 ghost use Rattle.dtable.specs.Inputs.{needs, is_served, IsReady};
 ghost use Rattle.dtable.specs.Names.{named, claim_names, accumulator_names, names_of};
-ghost use Rattle.dtable.specs.Plan.{IsPlan, keeps_years};
+ghost use Rattle.dtable.specs.Plan.{IsPlan, has_families, has_years, keeps_families, keeps_years};
 
 use crate::inputs::Inputs;
 use crate::name::Name;
@@ -56,7 +56,8 @@ impl Plan {
         }
     }
 
-    /// The version of the plan's format: 1, or 2 where accumulators are kept by the benefit year.
+    /// The version of the plan's format: 1, or 2 where accumulators are kept by the benefit year, or 3 where they are kept so and for
+    /// families, too.
     pub fn version(&self) -> u8
         ensures version { result ≡ self.now.version }
         ensures sound { IsPlan self.now }
@@ -68,11 +69,18 @@ impl Plan {
     pub fn keeps_years(&self) -> bool
         ensures { result ≡ keeps_years self.now }
     {
-        self.version != 1
+        has_years(self.version)
+    }
+
+    /// Whether accumulators are kept for families, too.
+    pub fn keeps_families(&self) -> bool
+        ensures { result ≡ keeps_families self.now }
+    {
+        has_families(self.version)
     }
 
     /// The names that tables may read from outside: claim, member, service, billed, the fields in order, and the
-    /// accumulators met, oop and paid.
+    /// accumulators met, oop and paid; where families are kept, family in front of member, and fmet and foop behind paid.
     pub fn names(&self) -> &[InputData]
         ensures names { result.now ≡ self.now.names }
         ensures sound { IsPlan self.now }
@@ -119,34 +127,65 @@ impl Plan {
     }
 }
 
-/// All names of a plan with these fields: claim, member, service and billed, the fields, then met, oop and paid.
+/// Whether accumulators are kept by the benefit year under a version of the format.
+pub fn has_years(version: u8) -> bool
+    ensures { result ≡ has_years version }
+{
+    version != 1
+}
+
+/// Whether accumulators are kept for families, too, under a version of the format.
+pub fn has_families(version: u8) -> bool
+    ensures { result ≡ has_families version }
+{
+    version == 3
+}
+
+/// All names of a plan with these fields: claim, member, service and billed, the fields, then met, oop and paid; where families are
+/// kept, those of families among them.
 pub fn all_names(
     alloc: Global,
+    families: bool,
     fields: Sequence<InputData>,
 ) -> Result<Sequence<InputData>, AllocError>
-    ensures { IfOk result (λ names. names ≡ names_of fields) }
+    ensures { IfOk result (λ names. names ≡ names_of families fields) }
 {
     let mut names = fields;
-    for_member(alloc, &mut names)?;
-    for_claim(alloc, &mut names)?;
+    for_member(alloc, families, &mut names)?;
+    for_claim(alloc, families, &mut names)?;
     Ok(names)
 }
 
-fn for_member(alloc: Global, names: &mut Sequence<InputData>) -> Result<(), AllocError>
-    ensures { OnOk result (names.new ≡ names.old ++ accumulator_names) }
+fn for_member(
+    alloc: Global,
+    families: bool,
+    names: &mut Sequence<InputData>,
+) -> Result<(), AllocError>
+    ensures { OnOk result (names.new ≡ names.old ++ accumulator_names families) }
 {
     names.push(named(alloc, "met", Kind::Number)?)?;
     names.push(named(alloc, "oop", Kind::Number)?)?;
     names.push(named(alloc, "paid", Kind::Number)?)?;
+    if families {
+        names.push(named(alloc, "fmet", Kind::Number)?)?;
+        names.push(named(alloc, "foop", Kind::Number)?)?;
+    }
     Ok(())
 }
 
-fn for_claim(alloc: Global, names: &mut Sequence<InputData>) -> Result<(), AllocError>
-    ensures { OnOk result (names.new ≡ claim_names ++ names.old) }
+fn for_claim(
+    alloc: Global,
+    families: bool,
+    names: &mut Sequence<InputData>,
+) -> Result<(), AllocError>
+    ensures { OnOk result (names.new ≡ claim_names families ++ names.old) }
 {
     names.insert(0, named(alloc, "billed", Kind::Number)?)?;
     names.insert(0, named(alloc, "service", Kind::Day)?)?;
     names.insert(0, named(alloc, "member", Kind::Text)?)?;
+    if families {
+        names.insert(0, named(alloc, "family", Kind::Text)?)?;
+    }
     names.insert(0, named(alloc, "claim", Kind::Text)?)?;
     Ok(())
 }

@@ -22,7 +22,7 @@ mod rules;
 mod scope;
 mod tables;
 
-use crate::plan::Plan;
+use crate::plan::{Plan, has_families};
 use crate::plan_fault::{PlanCause, PlanFault};
 use document::{read_document, required};
 use feel_tests::{text_spells_at_most_one_cell, text_spells_at_most_one_value};
@@ -62,9 +62,16 @@ fn plan_of(alloc: Global, document: &Value) -> Result<Plan, PlanFault>
     let version = read_version(document)?;
     // Known from here: a text spells one value or cell at most, so that what was refused spells none.
     text_spells_at_most_one_value();
-    let names = read_names(alloc, document)?;
+    let families = has_families(version);
+    let names = read_names(alloc, document, families)?;
     let tables = read_tables(alloc, document, names.as_slice())?;
-    let roles = read_roles(alloc, document, names.as_slice(), tables.as_slice())?;
+    let roles = read_roles(
+        alloc,
+        document,
+        families,
+        names.as_slice(),
+        tables.as_slice(),
+    )?;
     Ok(Plan::new(version, names, tables, roles))
 }
 
@@ -75,6 +82,7 @@ fn read_version(document: &Value) -> Result<u8, PlanFault>
     match version.as_integer() {
         Some(1) => Ok(1),
         Some(2) => Ok(2),
+        Some(3) => Ok(3),
         Some(_) => Err(Place::TEXT.fault(PlanCause::Unknown)),
         None => Err(Place::TEXT.fault(PlanCause::Kind)),
     }

@@ -14,7 +14,16 @@ pub enum Source {
     Output(Name),
 }
 
-/// What settles a claim: whether it is covered, the amounts and the rate, and the output that lists remarks.
+/// The limits of a family, which stand beside those of its members.
+#[derive(Debug, Drop)]
+pub struct FamilyRoles {
+    /// A number: what the family pays before the plan does for all its members.
+    pub deductible: Source,
+    /// A number: the most that the family pays in all.
+    pub oop_max: Source,
+}
+
+/// What settles a claim: whether it is covered, the amounts and the rate, the output that lists remarks, and the family's limits.
 #[derive(Debug, Drop)]
 pub struct Roles {
     /// A flag: whether the service is covered.
@@ -31,4 +40,6 @@ pub struct Roles {
     pub oop_max: Source,
     /// The name of an output of kind text that lists its values.
     pub remarks: Option<Name>,
+    /// The family's limits, where the plan keeps families.
+    pub family: Option<FamilyRoles>,
 }

@@ -171,7 +171,7 @@ fn names_stand_in_order_and_laws_hold(rt: HostRuntime) -> Result<(), Fail> {
         name: Name::new(rt.alloc(), "code")?,
         kind: Kind::Text,
     })?;
-    let names = all_names(rt.alloc(), fields)?;
+    let names = all_names(rt.alloc(), false, fields)?;
     assert_eq!(rt; names.len(), 8);
     assert!(rt;
         names

@@ -36,6 +36,82 @@ fn a_plan_has_its_names(rt: HostRuntime) -> Result<(), Fail> {
     Ok(())
 }
 
+/// A plan that keeps families, with a field, and roles alone.
+const FAMILIES: &str = r#"
+version = 3
+fields = [{name = "code", kind = "text"}]
+[roles]
+cover = "true"
+fee = "100"
+deductible = "50"
+copay = "10"
+rate = "0.2"
+oop_max = "60"
+family_deductible = "80"
+family_oop_max = "fmet"
+"#;
+
+/// Its names, and their kinds.
+const FAMILY_NAMES: [(&str, Kind); 11] = [
+    ("claim", Kind::Text),
+    ("family", Kind::Text),
+    ("member", Kind::Text),
+    ("service", Kind::Day),
+    ("billed", Kind::Number),
+    ("code", Kind::Text),
+    ("met", Kind::Number),
+    ("oop", Kind::Number),
+    ("paid", Kind::Number),
+    ("fmet", Kind::Number),
+    ("foop", Kind::Number),
+];
+
+#[test]
+fn a_plan_that_keeps_families_has_their_names(rt: HostRuntime) -> Result<(), Fail> {
+    let plan = read_plan(rt.alloc(), FAMILIES.as_bytes())?;
+    assert!(rt; plan.version() == 3 && plan.keeps_years() && plan.keeps_families());
+    assert_eq!(rt; plan.names().len(), FAMILY_NAMES.len());
+    for (place, (name, kind)) in FAMILY_NAMES.iter().enumerate() {
+        assert!(rt; has_name(plan.names(), place, name, *kind), "{name}");
+    }
+    Ok(())
+}
+
+#[test]
+fn a_plan_that_keeps_families_has_their_limits(rt: HostRuntime) -> Result<(), Fail> {
+    let plan = read_plan(rt.alloc(), FAMILIES.as_bytes())?;
+    let roles = plan.roles().ok_or("no roles")?;
+    let limits = roles.family.as_ref().ok_or("no limits")?;
+    assert!(rt; matches!(&limits.deductible, Source::Literal(_)));
+    assert!(rt; matches!(&limits.oop_max, Source::Input(9)));
+    Ok(())
+}
+
+/// Edits of this plan.
+const FAMILY_FAULTS: [Edit; 8] = [
+    ("family_deductible = \"80\"", "", "8 0 0 8"),
+    (
+        "family_deductible = \"80\"",
+        "family_deductible = \"-80\"",
+        "9 0 0 8",
+    ),
+    ("family_oop_max = \"fmet\"", "", "8 0 0 9"),
+    (
+        "family_oop_max = \"fmet\"",
+        "family_oop_max = \"0.005\"",
+        "9 0 0 9",
+    ),
+    ("name = \"code\"", "name = \"family\"", "4 0 0 1"),
+    ("name = \"code\"", "name = \"foop\"", "4 0 0 1"),
+    ("version = 3", "version = 2", ""),
+    ("version = 3", "version = 4", "3 0 0 0"),
+];
+
+#[test]
+fn faults_of_families(rt: HostRuntime) -> Result<(), Fail> {
+    are_refused(&rt, rt.alloc(), FAMILIES, &FAMILY_FAULTS)
+}
+
 fn has_hit(tables: &[Table], place: usize, hit: Hit) -> bool {
     tables.get(place).is_some_and(|table| table.hit == hit)
 }
@@ -72,7 +148,7 @@ type Edit = (&'static str, &'static str, &'static str);
 const TABLE_FAULTS: [Edit; 9] = [
     ("version = 1", "", "2 0 0 0"),
     ("version = 1", "version = 0", "3 0 0 0"),
-    ("version = 1", "version = 3", "3 0 0 0"),
+    ("version = 1", "version = 4", "3 0 0 0"),
     ("version = 1", "version = 2.0", "5 0 0 0"),
     (
         r#""number"}]"#,

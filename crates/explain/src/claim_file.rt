@@ -99,9 +99,10 @@ fn add_columns(
         return Ok(());
     };
     let document = Value::Table(members);
+    add_since(page, header, &document, (3, "family"), wanted)?;
     match kind {
         FileKind::Claims => add_fields(page, header, &document, wanted),
-        FileKind::Balances => add_year(page, header, &document, wanted),
+        FileKind::Balances => add_since(page, header, &document, (2, "year"), wanted),
     }
 }
 
@@ -121,16 +122,18 @@ fn add_fields(
     Ok(())
 }
 
-// Names the year among those columns, where the plan keeps accumulators by it.
-fn add_year(
+// Names a column among those that is needed from a version of the plan on.
+fn add_since(
     page: &mut Page,
     header: &ByteRecord,
     plan: &Value,
+    needed: (i64, &str),
     wanted: usize,
 ) -> Result<(), AllocError> {
+    let (first, name) = needed;
     let steps = [Step::Key("version")];
     match value_at(plan, &steps).and_then(Value::as_integer) {
-        Some(version) if version > 1 => add_column(page, header, "year", wanted),
+        Some(version) if version >= first => add_column(page, header, name, wanted),
         _ => Ok(()),
     }
 }

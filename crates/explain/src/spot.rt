@@ -15,6 +15,8 @@ pub fn role_name(number: usize) -> &'static str {
         5 => "rate",
         6 => "oop_max",
         7 => "remarks",
+        8 => "family_deductible",
+        9 => "family_oop_max",
         _ => "",
     }
 }

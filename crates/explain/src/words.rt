@@ -27,7 +27,7 @@ pub fn plan_words(cause: PlanCause) -> Words {
             "add the key",
         ),
         PlanCause::Unknown => both(
-            "`version` is another integer than 1 and 2; an input's name is no field, none of the names that every plan has, and no single value of an earlier table: misspelt, of a later table, of the same table, or a list",
+            "`version` is another integer than 1, 2 and 3; an input's name is no field, none of the names that every plan has, and no single value of an earlier table: misspelt, of a later table, of the same table, or a list",
             "correct the name, or put the tables in another order",
         ),
         PlanCause::Duplicate => both(
@@ -47,11 +47,11 @@ pub fn plan_words(cause: PlanCause) -> Words {
             "add the list, or correct it",
         ),
         PlanCause::Role => both(
-            "one of the first six roles is missing; a role is no string; it is neither a literal of its kind nor the name of a single value of that kind; `remarks` names no text output under `R`, `O` or `C`",
+            "one of the first six roles is missing, or under version 3 one of the family's two; a role is no string; it is neither a literal of its kind nor the name of a single value of that kind; `remarks` names no text output under `R`, `O` or `C`",
             "correct the role",
         ),
         PlanCause::Money => both(
-            "a literal `fee`, `deductible`, `copay` or `oop_max` that is negative or has part of a cent; a literal `rate` below 0 or above 1",
+            "a literal `fee`, `deductible`, `copay`, `oop_max`, `family_deductible` or `family_oop_max` that is negative or has part of a cent; a literal `rate` below 0 or above 1",
             "correct the amount or the rate",
         ),
         PlanCause::Limit => both(
@@ -162,7 +162,7 @@ pub fn file_words(fault: FileFault) -> Words {
             "give it a header",
         ),
         FileFault::MissingColumn => both(
-            "the header lacks a column that is needed: `claim`, `member`, `service`, `billed` and the plan's fields; of balances `member`, `met`, `oop`, `paid`, and under version 2 `year`",
+            "the header lacks a column that is needed: `claim`, `member`, `service`, `billed` and the plan's fields; of balances `member`, `met`, `oop`, `paid`, and from version 2 on `year`; of both under version 3 `family`",
             "add the column",
         ),
         FileFault::DuplicateColumn => {
@@ -178,12 +178,14 @@ pub fn record_words(cause: RowCause) -> &'static str {
         RowCause::FieldCount => "it has another number of fields than the header; K is 0",
         RowCause::Utf8 => "the field is not UTF-8",
         RowCause::TooLong => "the field is longer than 256 bytes",
-        RowCause::EmptyId => "the member is empty",
+        RowCause::EmptyId => "the member is empty, or under version 3 the family",
         RowCause::Value => "an amount is no number, or a year isn't four digits, 0001 to 9999",
         RowCause::NotCents => "an amount has part of a cent",
         RowCause::Negative => "an amount is below zero",
         RowCause::Repeated =>
-            "the member stood in an earlier record, under version 2 in one of the same year",
+            "the member stood in an earlier record, from version 2 on in one of the same year, under version 3 of the same family",
+        RowCause::Sum =>
+            "with this record the sum of the amount over the family's members in the year leaves the number range",
     }
 }
 

@@ -109,7 +109,7 @@ fn missing_column_is_named(rt: HostRuntime) -> Result<(), Fail> {
     )?;
     let wanted = "  a.csv
   the header has no column age
-  It means: the header lacks a column that is needed: `claim`, `member`, `service`, `billed` and the plan's fields; of balances `member`, `met`, `oop`, `paid`, and under version 2 `year`
+  It means: the header lacks a column that is needed: `claim`, `member`, `service`, `billed` and the plan's fields; of balances `member`, `met`, `oop`, `paid`, and from version 2 on `year`; of both under version 3 `family`
   What to do: add the column
 ";
     assert!(rt; page.as_str() == wanted, "{}", page.as_str());

@@ -1,10 +1,12 @@
 -- The columns that a file needs, and where its header has them.
-use Rattle.std.specs.Prelude.{◌≡◌, ◌<◌, ◌≤◌, ◌-◌, ℕ, Bool, true, false, List, [], ◌∷◌, ◌++◌, length, take, drop, map, codes, Some}
-use Rattle.std.specs.List.{All, AllZip, Any, count_by}
+use Rattle.std.specs.Prelude.{◌≡◌, ◌<◌, ◌≤◌, ◌+◌, ◌-◌, ℕ, Bool, true, false, List, [], ◌∷◌, ◌++◌, length, take, drop, map, codes, Some}
+use Rattle.std.specs.List.{All, AllZip, Any, count_by, slice_get}
+use Rattle.std.specs.Option.{option_map_or}
 use Rattle.std.specs.Str.{bytes_eq}
 use Rattle.csv.specs.Records.{field_at}
 use Rattle.feel_tests.specs.declared.kind.Kind.{Kind}
 use Rattle.feel_tests.specs.declared.kind.Kind.TheVariants as kinds
+use Rattle.dtable.specs.Plan.{has_families, has_years}
 use Rattle.dtable.specs.declared.table.InputData.{InputData}
 use Rattle.intake_csv.specs.Records.{Fields, AreRecordsOf}
 use Rattle.intake_csv.specs.declared.column.Content.{Content}
@@ -26,29 +28,61 @@ kind_under (Plain kind) = kind
 abbrev pub needed : List ℕ → Content → Needed
 needed name content = record { name = name; content = content }
 
+-- the names are those of a plan that keeps families: of such a plan's names alone the second is `family`
+abbrev pub have_family : List InputData → Bool
+have_family names = option_map_or (λ d. bytes_eq d.name (codes "family")) (slice_get names 1) false
+
+-- how many of a plan's names stand in front of its fields, and behind them, where families are kept or not
+abbrev pub names_before : Bool → ℕ
+names_before false = 4
+names_before true = 5
+
+abbrev pub names_behind : Bool → ℕ
+names_behind false = 3
+names_behind true = 5
+
 -- a plan's names without those of every claim in front, and without the accumulators behind
+abbrev pub fields_between : Bool → List InputData → List InputData
+fields_between families names = take (length names - names_behind families - names_before families) (drop (names_before families) names)
+
 abbrev pub fields_among : List InputData → List InputData
-fields_among names = take (length names - 3 - 4) (drop 4 names)
+fields_among names = fields_between (have_family names) names
+
+-- the column of a family, where families are kept
+abbrev pub family_columns : Bool → List Needed
+family_columns true = needed (codes "family") Identifier ∷ []
+family_columns false = []
 
 -- a claim's own columns
-abbrev pub own_columns : List Needed
-own_columns =
-    needed (codes "claim") Identifier ∷ needed (codes "member") Identifier ∷ needed (codes "service") (Plain kinds.Day)
-    ∷ needed (codes "billed") Money ∷ []
+abbrev pub own_columns : Bool → List Needed
+own_columns families =
+    needed (codes "claim") Identifier ∷ (family_columns families ++ needed (codes "member") Identifier
+    ∷ needed (codes "service") (Plain kinds.Day) ∷ needed (codes "billed") Money ∷ [])
 
 -- what a file of claims needs: the claim's own columns, and one for each field of the plan
 abbrev pub claim_columns : List InputData → List Needed
-claim_columns names = own_columns ++ map (λ d. needed d.name (Plain d.kind)) (fields_among names)
+claim_columns names = own_columns (have_family names) ++ map (λ d. needed d.name (Plain d.kind)) (fields_among names)
 
 -- the column of a balance's year, where accumulators are kept by the year
 abbrev pub year_columns : Bool → List Needed
 year_columns true = needed (codes "year") Year ∷ []
 year_columns false = []
 
--- what a file of balances needs
-abbrev pub balance_columns : Bool → List Needed
-balance_columns years =
-    needed (codes "member") Identifier ∷ (year_columns years ++ needed (codes "met") Money ∷ needed (codes "oop") Money ∷ needed (codes "paid") Money ∷ [])
+-- what a file of balances needs under a plan of this version
+abbrev pub balance_columns : ℕ → List Needed
+balance_columns version =
+    family_columns (has_families version) ++ needed (codes "member") Identifier
+    ∷ (year_columns (has_years version) ++ needed (codes "met") Money ∷ needed (codes "oop") Money ∷ needed (codes "paid") Money ∷ [])
+
+-- where among these the member's column stands, that of `met`, and that of `oop`
+abbrev pub member_place : ℕ → ℕ
+member_place version = length (family_columns (has_families version))
+
+abbrev pub met_place : ℕ → ℕ
+met_place version = (member_place version + 1) + length (year_columns (has_years version))
+
+abbrev pub oop_place : ℕ → ℕ
+oop_place version = met_place version + 1
 
 -- how often the name stands in the header, byte for byte
 abbrev pub times : List ℕ → Fields → ℕ

@@ -23,3 +23,4 @@ cause_number_of cause.Value = 5
 cause_number_of cause.NotCents = 6
 cause_number_of cause.Negative = 7
 cause_number_of cause.Repeated = 8
+cause_number_of cause.Sum = 9

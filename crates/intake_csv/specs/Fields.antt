@@ -13,7 +13,7 @@ use Rattle.intake_csv.specs.Columns.{kind_under}
 use Rattle.intake_csv.specs.declared.column.Content.{Content}
 use Rattle.intake_csv.specs.declared.column.Content.TheVariants as contents
 use Rattle.intake_csv.specs.declared.fault.RowCause.{RowCause}
-use Rattle.intake_csv.specs.declared.fault.RowCause.TheVariants.{FieldCount, Utf8, TooLong, EmptyId, Value as NoValue, NotCents, Negative, Repeated}
+use Rattle.intake_csv.specs.declared.fault.RowCause.TheVariants.{FieldCount, Utf8, TooLong, EmptyId, Value as NoValue, NotCents, Negative, Repeated, Sum}
 
 -- four digits that are a year
 abbrev pub IsYear : List ℕ → Type 0
@@ -62,6 +62,7 @@ IsFaulty content bytes NotCents = (content ≡ contents.Money) × IsNotCents byt
 IsFaulty content bytes Negative = (content ≡ contents.Money) × IsBelowZero bytes
 IsFaulty content bytes FieldCount = ⊥
 IsFaulty content bytes Repeated = ⊥
+IsFaulty content bytes Sum = ⊥
 
 -- nothing is wrong with it
 abbrev pub IsFaultless : Content → List ℕ → Type 0

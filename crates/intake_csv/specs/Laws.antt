@@ -3,7 +3,7 @@ use Rattle.std.specs.Prelude.{◌≡◌, ◌≢◌, ℕ, List, [], ◌∷◌}
 use Rattle.std.specs.List.{AllPairs}
 use Rattle.dtable.specs.declared.table.InputData.{InputData}
 use Rattle.dtable.specs.Names.{names_of}
-use Rattle.dtable.specs.Plan.{PlanParts}
+use Rattle.dtable.specs.Plan.{PlanParts, keeps_families}
 use Rattle.settlement.specs.declared.claim.Claim.{Claim}
 use Rattle.settlement.specs.Claim.{IsClaimOf}
 use Rattle.intake_csv.specs.Records.{Fields}
@@ -13,10 +13,11 @@ use Rattle.intake_csv.specs.declared.column.Column.{Column}
 use Rattle.intake_csv.specs.declared.column.Layout.{Layout}
 use Rattle.intake_csv.specs.declared.rows.Row.{Row}
 
--- a claim that a record of a file of claims holds has the fields of the plan that the file was read under
+-- a claim that a record of a file of claims holds has the fields of the plan that the file was read under, and a family where that
+-- plan keeps families
 abbrev pub ClaimsHaveFields : Type 0
 ClaimsHaveFields = (plan : PlanParts) (fields : List InputData) (text : List ℕ) (layout : Layout) (records : List Fields) (row : Fields) (claim : Claim)
-    → plan.names ≡ names_of fields → IsSheet (claim_columns plan.names) text layout records → HasValues layout row (claim_values claim) → IsClaimOf plan claim
+    → plan.names ≡ names_of (keeps_families plan) fields → IsSheet (claim_columns plan.names) text layout records → HasValues layout row (claim_values claim) → IsClaimOf plan claim
 
 -- no two columns stand at the same place of the header
 abbrev pub StandApart : List Column → Type 0

@@ -10,5 +10,6 @@ pub mod Rows
 pub mod ClaimFile
 pub mod Record
 pub mod Values
+pub mod Households
 pub mod Balances
 pub mod Laws

@@ -6,6 +6,7 @@ use Rattle.feel_tests.specs.declared.value.Value.{Value}
 use Rattle.feel_tests.specs.declared.value.Value.TheVariants.{Number, Text, Day}
 use Rattle.dtable.specs.declared.table.InputData.{InputData}
 use Rattle.settlement.specs.declared.claim.Claim.{Claim}
+use Rattle.settlement.specs.Given.{behind_family}
 use Rattle.intake_csv.specs.Records.{Fields}
 use Rattle.intake_csv.specs.Columns.{IsSheet, claim_columns}
 use Rattle.intake_csv.specs.Fields.{Holds, IsFaulty}
@@ -63,9 +64,9 @@ abbrev pub IsRecordRead : Layout → Fields → Result (List Value) RowFault →
 IsRecordRead layout fields (Ok values) = HasValues layout fields values
 IsRecordRead layout fields (Err fault) = HasFault layout fields fault
 
--- a claim's values, in the order of the columns that it needs
+-- a claim's values, in the order of the columns that it needs; it has a family where there is a column for it
 abbrev pub claim_values : Claim → List Value
-claim_values claim = Text claim.id ∷ Text claim.member ∷ Day claim.service ∷ Number claim.billed ∷ claim.fields
+claim_values claim = Text claim.id ∷ behind_family claim.family (Text claim.member ∷ Day claim.service ∷ Number claim.billed ∷ claim.fields)
 
 -- the record of this number gives the row, where so many claims stand in front of it
 abbrev pub IsRow : Layout → ℕ → ℕ → Fields → Row → Type 0

@@ -1,24 +1,28 @@
-//! Opening balances: what the members' accumulators are before the first claim.
-ghost use Rattle.std.specs.Prelude.{◌≡◌, ◌≤◌, ◌<◌, ◌+◌, ◌++◌, ◌∷◌, [], List, length, map, drop, get_or, cond, string_bytes, IfOk, IfErr, OnOk, slice_index_or, Some, is_some, true, false};
+//! Opening balances: what accounts have before the first claim.
+ghost use Rattle.std.specs.Prelude.{◌≡◌, ◌≤◌, ◌<◌, ◌+◌, ◌++◌, ◌∷◌, [], List, length, map, drop, get_or, cond, string_bytes, IfOk, IfErr, OnOk, slice_index_or, IsSome, None, Some};
 ghost use Rattle.std.specs.List.{slice_get};
+ghost use Rattle.std.specs.Option.{option_and_then, option_copied};
 ghost use Rattle.std.specs.Vec.Iter.{into_iter_items};
 ghost use Rattle.csv.specs.Records.{fields_of};
-ghost use Rattle.dtable.specs.Plan.{keeps_years};
-ghost use Rattle.settlement.specs.Accounts.{alone};
+ghost use Rattle.dtable.specs.Plan.{has_families, has_years};
+ghost use Rattle.settlement.specs.Accounts.{named_or};
 ghost use Rattle.settlement.specs.Opening.{opening};
-ghost use Rattle.intake_csv.specs.Balances.{AreAmounts, AreBalances, AreOnce, BeginsWithYear, Entry as AnyEntry, Holder as AnyHolder, HasBalanceFault, HoldsEntries, IsBalanceLayout, IsEntry, IsEntryShaped, IsKept, IsRecordFault, TakesYear, accounts_of, balance_values, books_of, entry_values, found_in, is_holder};
-ghost use Rattle.intake_csv.specs.Columns.{balance_columns, year_columns};
+ghost use Rattle.intake_csv.specs.Balances.{AreAmounts, AreBalances, AreOnce, BeginsWithYear, Entry as AnyEntry, Holder as AnyHolder, HasBalanceFault, HoldsEntries, IsBalanceLayout, JoinsIn, IsEntry, IsEntryShaped, IsKeptUnder, IsRecordFault, TakesYear, accounts_of, balance_values, books_of, entry_values, found_in, is_holder, refusal_cause, refusal_place};
+ghost use Rattle.intake_csv.specs.Columns.{balance_columns, member_place, met_place, year_columns};
+ghost use Rattle.intake_csv.specs.Households.{balance_in, refused_behind};
 ghost use Rattle.intake_csv.specs.Rows.{HasFault};
 ghost use Rattle.intake_csv.specs.Sheet.{IsWithin};
-ghost use Rattle.intake_csv.specs.declared.fault.RowCause.TheVariants.{Repeated as Again};
+ghost use Rattle.intake_csv.specs.declared.column.Column.{Column as AnyColumn};
 
+use crate::claim::push_family;
 use crate::column::{Content, Layout, Needed, needed_column};
 use crate::fault::{BalanceFault, FileFault, RowCause, RowFault};
+use crate::household::{Household, Refusal};
 use crate::record::read_record;
 use crate::sheet::{Sheet, read_sheet};
-use crate::values::{take_money, take_text};
+use crate::values::{take_family, take_money, take_text};
 use csv::ByteRecord;
-use dtable::{Plan, Sequence};
+use dtable::{Plan, Sequence, has_families, has_years};
 use feel_tests::{Text, Value, year_in};
 use settlement::{Acc, Balance};
 use std::alloc::{AllocError, Global};
@@ -26,11 +30,12 @@ use std::collections::BTreeMap;
 use std::marker::Model;
 use std::vec;
 
-/// What the members' accounts begin with in each year. Contracts see the members of each year, each with that; a year's place is
-/// its number. Where accumulators aren't kept by the year, all members stand at the place 0.
+/// What accounts begin with in each year. Contracts see the families of each year, each with its members and what these begin with; a
+/// year's place is its number. Where accumulators aren't kept by the year, all families stand at the place 0; where they aren't kept
+/// for families, each member is one of its own.
 #[derive(Debug, Drop)]
 pub struct Balances {
-    years: Vec<BTreeMap<String, Balance>>,
+    years: Vec<BTreeMap<String, Household>>,
 }
 
 impl Model for Balances {
@@ -44,22 +49,23 @@ impl Model for Balances {
     ghost invariant = { λ balances. AreOnce (books_of balances.years.items) };
 }
 
-/// Reads a file of balances, one record for each member that has any, and for each year where the plan keeps accumulators by
-/// the year. The first record that is refused, or names a member again in a year, refuses the file.
+/// Reads a file of balances, one record for each account that has any: for each member, and for each year, each family, where the
+/// plan keeps accumulators by these. The first record that is refused refuses the file: one that names an account again, too, or
+/// with which a family's sum leaves the number range.
 pub fn read_balances(alloc: Global, plan: &Plan, text: &[u8]) -> Result<Balances, BalanceFault>
-    ensures ok { IfOk result (AreBalances (keeps_years plan.now) text.now) }
-    ensures fault { IfErr result (HasBalanceFault (keeps_years plan.now) text.now) }
+    ensures ok { IfOk result (AreBalances plan.now.version text.now) }
+    ensures fault { IfErr result (HasBalanceFault plan.now.version text.now) }
 {
-    read_by(alloc, plan.keeps_years(), text)
+    read_by(alloc, plan.version(), text)
 }
 
-// Reads a file of balances, which has a column of years or not.
+// Reads a file of balances under a plan of this version.
 #[tactic(auto, using(crate::proofs::Books::none_once, crate::proofs::Entries::read_none))]
-fn read_by(alloc: Global, keeps_years: bool, text: &[u8]) -> Result<Balances, BalanceFault>
-    ensures ok { IfOk result (AreBalances keeps_years text.now) }
-    ensures fault { IfErr result (HasBalanceFault keeps_years text.now) }
+fn read_by(alloc: Global, version: u8, text: &[u8]) -> Result<Balances, BalanceFault>
+    ensures ok { IfOk result (AreBalances version text.now) }
+    ensures fault { IfErr result (HasBalanceFault version text.now) }
 {
-    let needed = balance_columns(alloc, keeps_years)?;
+    let needed = balance_columns(alloc, version)?;
     let sheet = match read_sheet(alloc, needed.as_slice(), text) {
         Ok(sheet) => sheet,
         Err(FileFault::OutOfMemory) => return Err(BalanceFault::OutOfMemory),
@@ -76,7 +82,7 @@ fn read_by(alloc: Global, keeps_years: bool, text: &[u8]) -> Result<Balances, Ba
     let mut number: usize = 0;
     while records.read(&mut record)? {
         number += 1;
-        match balances.read(alloc, keeps_years, &layout, &record)? {
+        match balances.read(alloc, version, &layout, &record)? {
             Ok(()) => {}
             Err(fault) => return Err(BalanceFault::Row { number, fault }),
         }
@@ -87,101 +93,169 @@ fn read_by(alloc: Global, keeps_years: bool, text: &[u8]) -> Result<Balances, Ba
 /// Whose balance a record holds, and the balance.
 #[derive(Drop)]
 struct Entry {
+    family: Option<Text>,
     member: Text,
     year: u16,
     balance: Balance,
 }
 
-impl Balances {
-    /// The accumulators in a year of a member who is a family of its own, zeros where the balances don't name the member in that
-    /// year. Where accumulators aren't kept by the year, the year is 0.
-    #[tactic(auto, using(crate::proofs::Books::begun_some, crate::proofs::Books::begun_none))]
-    pub fn of(&self, member: &str, year: u16) -> Acc
-        ensures { result ≡ opening (accounts_of self.now) (alone member.now year) }
+impl Entry {
+    // The family: the member alone, where the plan keeps no families.
+    fn family(&self) -> &str
+        ensures { result.now ≡ named_or self.now.family self.now.member }
     {
-        match self.find(member, year) {
-            Some(balance) => balance.alone(),
+        match &self.family {
+            Some(family) => family.as_str(),
+            None => self.member.as_str(),
+        }
+    }
+}
+
+impl Balances {
+    /// The accumulators that the account of a member of a family begins with in a year: its own are zeros where the balances don't
+    /// name it; the family's are sums over all its members. Where accumulators aren't kept by the year, the year is 0; where they
+    /// aren't kept for families, the member is the family, too.
+    pub fn of(&self, family: &str, member: &str, year: u16) -> Acc
+        ensures { result ≡ opening (accounts_of self.now) (record { family = family.now; member = member.now; year = year }) }
+    {
+        match self.find(family, year) {
+            Some(household) => household.opening(member),
             None => Acc::zero(),
         }
     }
 
-    // The balance of a member in a year.
+    // The household of a family in a year.
     #[tactic(auto, using(crate::proofs::Books::found_within, crate::proofs::Books::found_beyond))]
-    fn find(&self, member: &str, year: u16) -> Option<Balance>
-        ensures found { result ≡ found_in self.now (member.now, year) }
+    fn find(&self, family: &str, year: u16) -> Option<&Household>
+        ensures found { option_copied result ≡ found_in self.now (family.now, year) }
         ensures once { AreOnce self.now }
     {
         let place = usize::from(year);
         if place >= self.years.len() {
             return None;
         }
-        self.years[place].get(member).copied()
+        self.years[place].get(family)
     }
 
     // Reads one record more: its entry, or why it is refused.
     fn read(
         &mut self,
         alloc: Global,
-        keeps_years: bool,
+        version: u8,
         layout: &Layout,
         row: &ByteRecord,
     ) -> Result<Result<(), RowFault>, AllocError>
         requires within { IsWithin layout.now }
-        requires balances { IsBalanceLayout keeps_years layout.now }
+        requires balances { IsBalanceLayout version layout.now }
         ensures entry { IfOk result (λ read. OnOk read ((front : List AnyEntry) → HoldsEntries front self.old
-            → (entry : AnyEntry) × IsEntry keeps_years layout.now (fields_of row.now) entry × HoldsEntries (front ++ entry ∷ []) self.new)) }
+            → (entry : AnyEntry) × IsEntry version layout.now (fields_of row.now) entry × HoldsEntries (front ++ entry ∷ []) self.new)) }
         ensures refused { IfOk result (λ read. IfErr read (λ fault. (front : List AnyEntry) → HoldsEntries front self.old
-            → IsRecordFault keeps_years layout.now front (fields_of row.now) fault)) }
+            → IsRecordFault version layout.now front (fields_of row.now) fault)) }
     {
-        match read_record(alloc, layout, row)? {
-            Ok(values) => {
-                let column = layout.columns.as_slice()[0].place + 1;
-                self.take_in(alloc, column, entry_of(values, keeps_years))
-            }
-            Err(fault) => Ok(Err(fault)),
-        }
-    }
-
-    // Takes an entry in, or tells at the members' column that its member stands there in its year already.
-    fn take_in(
-        &mut self,
-        alloc: Global,
-        column: usize,
-        entry: Entry,
-    ) -> Result<Result<(), RowFault>, AllocError>
-        ensures entry { IfOk result (λ taken. OnOk taken (is_some (found_in self.old (entry.member, entry.year)) ≡ false)) }
-        ensures found { IfOk result (λ taken. OnOk taken ((holder : AnyHolder) → found_in self.new holder
-            ≡ cond (is_holder (entry.member, entry.year) holder) (Some entry.balance) (found_in self.old holder))) }
-        ensures once { AreOnce self.new }
-        ensures again { IfOk result (λ taken. IfErr taken (λ fault. is_some (found_in self.old (entry.member, entry.year)) ≡ true)) }
-        ensures told { IfOk result (λ taken. IfErr taken (λ fault. fault ≡ record { column = column; cause = Again })) }
-    {
-        if self.find(entry.member.as_str(), entry.year).is_some() {
-            return Ok(Err(RowFault {
-                column,
-                cause: RowCause::Repeated,
-            }));
+        let entry = match read_record(alloc, layout, row)? {
+            Ok(values) => entry_of(values, version),
+            Err(fault) => return Ok(Err(fault)),
+        };
+        if let Some(refusal) = self.refusal(&entry) {
+            return Ok(Err(fault_of(layout, version, refusal)));
         }
         self.put(alloc, entry)?;
         Ok(Ok(()))
     }
 
-    // Puts an entry to the others.
-    fn put(&mut self, alloc: Global, entry: Entry) -> Result<(), AllocError>
-        ensures found { OnOk result ((holder : AnyHolder) → found_in self.new holder
-            ≡ cond (is_holder (entry.member, entry.year) holder) (Some entry.balance) (found_in self.old holder)) }
-        ensures once { AreOnce self.new }
+    // Why an entry can't be put behind the others, if it can't.
+    fn refusal(&self, entry: &Entry) -> Option<Refusal>
+        ensures { result ≡ option_and_then (λ members. refused_behind members (balance_in members entry.now.member) entry.now.balance)
+            (found_in self.now (named_or entry.now.family entry.now.member, entry.now.year)) }
     {
-        make_room(alloc, &mut self.years, entry.year)?;
+        match self.find(entry.family(), entry.year) {
+            Some(household) => household.refusal(entry.member.as_str(), entry.balance),
+            None => None,
+        }
+    }
+
+    // Puts an entry behind the others, where it can be.
+    fn put(&mut self, alloc: Global, entry: Entry) -> Result<(), AllocError>
+        requires { option_and_then (λ members. refused_behind members (balance_in members entry.member) entry.balance)
+            (found_in self.old (named_or entry.family entry.member, entry.year)) ≡ None }
+        ensures { OnOk result ((front : List AnyEntry) → HoldsEntries front self.old
+            → HoldsEntries (front ++ (record { family = named_or entry.family entry.member; member = entry.member; year = entry.year }, entry.balance) ∷ []) self.new) }
+    {
         let name = String::from_str(alloc, entry.member.as_str())?;
-        add(&mut self.years, name, entry.year, entry.balance)
+        if self.find(entry.family(), entry.year).is_some() {
+            return join(
+                &mut self.years,
+                entry.family(),
+                entry.year,
+                name,
+                entry.balance,
+            );
+        }
+        let family = String::from_str(alloc, entry.family())?;
+        let household = Household::new(alloc, name, entry.balance);
+        make_room(alloc, &mut self.years, entry.year)?;
+        add(&mut self.years, family, entry.year, household)
+    }
+}
+
+// The fault that tells a refusal, at the column that it is told at.
+fn fault_of(layout: &Layout, version: u8, refusal: Refusal) -> RowFault
+    requires { refusal_place version refusal < length layout.now.columns }
+    ensures { (column : AnyColumn) → slice_get layout.now.columns (refusal_place version refusal) ≡ Some column
+        → result ≡ record { column = column.place + 1; cause = refusal_cause refusal } }
+{
+    let place = refusal_place(version, refusal);
+    RowFault {
+        column: layout.columns.as_slice()[place].place + 1,
+        cause: refusal_cause(refusal),
+    }
+}
+
+// Where among the needed columns a refusal is told.
+fn refusal_place(version: u8, refusal: Refusal) -> usize
+    ensures { result ≡ refusal_place version refusal }
+{
+    match refusal {
+        Refusal::Again => member_place(version),
+        Refusal::Met => met_place(version),
+        Refusal::Oop => met_place(version) + 1,
+    }
+}
+
+// Where among the needed columns the member's stands.
+fn member_place(version: u8) -> usize
+    ensures value { result ≡ member_place version }
+    ensures small { result ≤ 1 }
+{
+    if has_families(version) { 1 } else { 0 }
+}
+
+// Where the one of what was met stands.
+fn met_place(version: u8) -> usize
+    ensures value { result ≡ met_place version }
+    ensures small { result ≤ 3 }
+{
+    if has_years(version) {
+        member_place(version) + 2
+    } else {
+        member_place(version) + 1
+    }
+}
+
+fn refusal_cause(refusal: Refusal) -> RowCause
+    ensures { result ≡ refusal_cause refusal }
+{
+    match refusal {
+        Refusal::Again => RowCause::Repeated,
+        Refusal::Met => RowCause::Sum,
+        Refusal::Oop => RowCause::Sum,
     }
 }
 
 // Makes room for a year.
 fn make_room(
     alloc: Global,
-    years: &mut Vec<BTreeMap<String, Balance>>,
+    years: &mut Vec<BTreeMap<String, Household>>,
     year: u16,
 ) -> Result<(), AllocError>
     ensures same { (holder : AnyHolder) → found_in (books_of years.new.items) holder ≡ found_in (books_of years.old.items) holder }
@@ -197,7 +271,7 @@ fn make_room(
 
 // One year more, in which nobody has a balance.
 #[tactic(auto, using(crate::proofs::Books::room_found, crate::proofs::Books::room_kept))]
-fn add_year(alloc: Global, years: &mut Vec<BTreeMap<String, Balance>>) -> Result<(), AllocError>
+fn add_year(alloc: Global, years: &mut Vec<BTreeMap<String, Household>>) -> Result<(), AllocError>
     ensures same { (holder : AnyHolder) → found_in (books_of years.new.items) holder ≡ found_in (books_of years.old.items) holder }
     ensures once { AreOnce (books_of years.old.items) → AreOnce (books_of years.new.items) }
     ensures room { OnOk result (length years.new.items ≡ length years.old.items + 1) }
@@ -206,32 +280,53 @@ fn add_year(alloc: Global, years: &mut Vec<BTreeMap<String, Balance>>) -> Result
     Ok(())
 }
 
-// Adds the balance of a member in a year for which there is room.
+// Adds the household of a family that isn't there in a year for which there is room.
 #[tactic(auto, using(crate::proofs::Books::put_found, crate::proofs::Books::put_once))]
 fn add(
-    years: &mut Vec<BTreeMap<String, Balance>>,
-    member: String,
+    years: &mut Vec<BTreeMap<String, Household>>,
+    family: String,
     year: u16,
-    balance: Balance,
+    household: Household,
 ) -> Result<(), AllocError>
     requires { year < length years.old.items }
     ensures added { OnOk result ((holder : AnyHolder) → found_in (books_of years.new.items) holder
-        ≡ cond (is_holder (string_bytes member, year) holder) (Some balance) (found_in (books_of years.old.items) holder)) }
+        ≡ cond (is_holder (string_bytes family, year) holder) (Some household) (found_in (books_of years.old.items) holder)) }
     ensures once { AreOnce (books_of years.old.items) → AreOnce (books_of years.new.items) }
 {
-    match years[usize::from(year)].insert(member, balance) {
+    match years[usize::from(year)].insert(family, household) {
         Ok(_) => Ok(()),
         Err(_) => Err(AllocError),
     }
 }
 
+// Puts a member behind the others of its family, where it can be.
+fn join(
+    years: &mut Vec<BTreeMap<String, Household>>,
+    family: &str,
+    year: u16,
+    member: String,
+    balance: Balance,
+) -> Result<(), AllocError>
+    requires there { IsSome (found_in (books_of years.old.items) (family.now, year)) }
+    requires free { option_and_then (λ members. refused_behind members (balance_in members (string_bytes member)) balance)
+        (found_in (books_of years.old.items) (family.now, year)) ≡ None }
+    ensures joined { OnOk result (JoinsIn (family.now, year) (string_bytes member) balance (books_of years.old.items) (books_of years.new.items)) }
+    ensures once { AreOnce (books_of years.old.items) → AreOnce (books_of years.new.items) }
+{
+    match years[usize::from(year)].get_mut(family) {
+        Some(household) => household.join(member, balance),
+        None => unreachable!(),
+    }
+}
+
 // The columns that a file of balances needs.
-fn balance_columns(alloc: Global, keeps_years: bool) -> Result<Sequence<Needed>, AllocError>
-    ensures { IfOk result (λ needed. needed ≡ balance_columns keeps_years) }
+fn balance_columns(alloc: Global, version: u8) -> Result<Sequence<Needed>, AllocError>
+    ensures { IfOk result (λ needed. needed ≡ balance_columns version) }
 {
     let mut needed = Sequence::new(alloc);
+    push_family(alloc, &mut needed, has_families(version))?;
     needed.push(needed_column(alloc, "member", Content::Identifier)?)?;
-    push_year(alloc, &mut needed, keeps_years)?;
+    push_year(alloc, &mut needed, has_years(version))?;
     needed.push(needed_column(alloc, "met", Content::Money)?)?;
     needed.push(needed_column(alloc, "oop", Content::Money)?)?;
     needed.push(needed_column(alloc, "paid", Content::Money)?)?;
@@ -239,14 +334,10 @@ fn balance_columns(alloc: Global, keeps_years: bool) -> Result<Sequence<Needed>,
 }
 
 // Puts the column of years behind the others, if there is to be one.
-fn push_year(
-    alloc: Global,
-    needed: &mut Sequence<Needed>,
-    keeps_years: bool,
-) -> Result<(), AllocError>
-    ensures { OnOk result (needed.new ≡ needed.old ++ year_columns keeps_years) }
+fn push_year(alloc: Global, needed: &mut Sequence<Needed>, years: bool) -> Result<(), AllocError>
+    ensures { OnOk result (needed.new ≡ needed.old ++ year_columns years) }
 {
-    if keeps_years {
+    if years {
         needed.push(needed_column(alloc, "year", Content::Year)?)
     } else {
         Ok(())
@@ -254,16 +345,18 @@ fn push_year(
 }
 
 // The entry of a record's values.
-fn entry_of(values: Vec<Value>, keeps_years: bool) -> Entry
-    requires { IsEntryShaped keeps_years values.items }
-    ensures values { values.items ≡ entry_values keeps_years ((result.member, result.year), result.balance) }
-    ensures kept { IsKept keeps_years result.year }
+fn entry_of(values: Vec<Value>, version: u8) -> Entry
+    requires { IsEntryShaped version values.items }
+    ensures values { values.items ≡ entry_values version (record { family = named_or result.family result.member; member = result.member; year = result.year }, result.balance) }
+    ensures kept { IsKeptUnder version (record { family = named_or result.family result.member; member = result.member; year = result.year }) }
 {
     let mut values = values.into_iter();
+    let family = take_family(&mut values, has_families(version));
     let member = take_text(&mut values);
-    let year = take_year(&mut values, keeps_years);
+    let year = take_year(&mut values, has_years(version));
     let balance = balance_of(values);
     Entry {
+        family,
         member,
         year,
         balance,
@@ -283,11 +376,11 @@ fn balance_of(values: vec::IntoIter<Value>) -> Balance
 }
 
 // Takes the first value, a year; 0, and no value, where there is no column of years.
-fn take_year(values: &mut vec::IntoIter<Value>, keeps_years: bool) -> u16
-    requires { BeginsWithYear keeps_years (into_iter_items values.old) }
-    ensures { TakesYear keeps_years (into_iter_items values.old) result (into_iter_items values.new) }
+fn take_year(values: &mut vec::IntoIter<Value>, years: bool) -> u16
+    requires { BeginsWithYear years (into_iter_items values.old) }
+    ensures { TakesYear years (into_iter_items values.old) result (into_iter_items values.new) }
 {
-    if !keeps_years {
+    if !years {
         return 0;
     }
     let text = take_text(values);

@@ -1,16 +1,16 @@
 //! Claims from the values of a record.
 ghost use Rattle.std.specs.Prelude.{◌≡◌, ◌++◌, map, IfOk, IfErr, OnOk};
 ghost use Rattle.csv.specs.Records.{fields_of};
-ghost use Rattle.intake_csv.specs.Columns.{claim_columns, needed, own_columns};
+ghost use Rattle.intake_csv.specs.Columns.{claim_columns, family_columns, needed, own_columns};
 ghost use Rattle.intake_csv.specs.declared.column.Content.TheVariants as contents;
-ghost use Rattle.intake_csv.specs.Record.{IsClaimLayout, IsClaimShaped};
+ghost use Rattle.intake_csv.specs.Record.{IsClaimLayout, IsClaimShaped, has_family_column, is_identifier};
 ghost use Rattle.intake_csv.specs.Rows.{HasFault, HasValues, claim_values};
 ghost use Rattle.intake_csv.specs.Sheet.{IsWithin};
 
 use crate::column::{Content, Layout, Needed, needed_column};
 use crate::fault::RowFault;
 use crate::record::read_record;
-use crate::values::{list_of, take_day, take_money, take_text};
+use crate::values::{list_of, take_day, take_family, take_money, take_text};
 use csv::ByteRecord;
 use dtable::{InputData, Plan, Sequence};
 use feel_tests::{Kind, Value};
@@ -21,20 +21,36 @@ use std::alloc::{AllocError, Global};
 pub fn claim_columns(alloc: Global, plan: &Plan) -> Result<Sequence<Needed>, AllocError>
     ensures { IfOk result (λ needed. needed ≡ claim_columns plan.now.names) }
 {
-    let mut needed = own_columns(alloc)?;
+    let mut needed = own_columns(alloc, plan.keeps_families())?;
     push_fields(alloc, &mut needed, fields_of(plan))?;
     Ok(needed)
 }
 
-fn own_columns(alloc: Global) -> Result<Sequence<Needed>, AllocError>
-    ensures { IfOk result (λ needed. needed ≡ own_columns) }
+fn own_columns(alloc: Global, families: bool) -> Result<Sequence<Needed>, AllocError>
+    ensures { IfOk result (λ needed. needed ≡ own_columns families) }
 {
     let mut needed = Sequence::new(alloc);
     needed.push(needed_column(alloc, "claim", Content::Identifier)?)?;
+    push_family(alloc, &mut needed, families)?;
     needed.push(needed_column(alloc, "member", Content::Identifier)?)?;
     needed.push(needed_column(alloc, "service", Content::Plain(Kind::Day))?)?;
     needed.push(needed_column(alloc, "billed", Content::Money)?)?;
     Ok(needed)
+}
+
+/// Puts the column of families behind the others, if there is to be one.
+pub fn push_family(
+    alloc: Global,
+    needed: &mut Sequence<Needed>,
+    families: bool,
+) -> Result<(), AllocError>
+    ensures { OnOk result (needed.new ≡ needed.old ++ family_columns families) }
+{
+    if families {
+        needed.push(needed_column(alloc, "family", Content::Identifier)?)
+    } else {
+        Ok(())
+    }
 }
 
 fn push_fields(
@@ -63,23 +79,41 @@ pub fn read_claim(
     ensures fault { IfOk result (λ read. IfErr read (HasFault layout.now (fields_of row.now))) }
 {
     match read_record(alloc, layout, row)? {
-        Ok(values) => Ok(Ok(claim_of(alloc, values)?)),
+        Ok(values) => Ok(Ok(claim_of(alloc, values, has_family_column(layout))?)),
         Err(fault) => Ok(Err(fault)),
     }
 }
 
-fn claim_of(alloc: Global, values: Vec<Value>) -> Result<Claim, AllocError>
-    requires { IsClaimShaped values.items }
+// Whether a file of claims with these columns has one for families.
+fn has_family_column(layout: &Layout) -> bool
+    ensures { result ≡ has_family_column layout.now }
+{
+    match layout.columns.as_slice().get(2) {
+        Some(column) => is_identifier(column.content),
+        None => false,
+    }
+}
+
+fn is_identifier(content: Content) -> bool
+    ensures { result ≡ is_identifier content }
+{
+    matches!(content, Content::Identifier)
+}
+
+fn claim_of(alloc: Global, values: Vec<Value>, families: bool) -> Result<Claim, AllocError>
+    requires { IsClaimShaped families values.items }
     ensures { IfOk result (λ claim. claim_values claim ≡ values.items) }
 {
     let mut values = values.into_iter();
     let id = take_text(&mut values);
+    let family = take_family(&mut values, families);
     let member = take_text(&mut values);
     let service = take_day(&mut values);
     let billed = take_money(&mut values);
     let fields = list_of(alloc, values)?;
     Ok(Claim {
         id,
+        family,
         member,
         service,
         billed,

@@ -10,7 +10,7 @@ use std::marker::Model;
 /// What the fields under a column hold.
 #[derive(Clone, Copy, Debug, PartialEq, Eq)]
 pub enum Content {
-    /// A text that isn't empty: a claim's number or a member.
+    /// A text that isn't empty: a claim's number, a family or a member.
     Identifier,
     /// Whole cents, not below zero.
     Money,

@@ -63,7 +63,7 @@ pub enum RowCause {
     /// A field has more bytes than a text.
     #[error("a field is too long")]
     TooLong,
-    /// A claim's number or a member is empty.
+    /// A claim's number, a family or a member is empty.
     #[error("an identifier is empty")]
     EmptyId,
     /// A field is no value of its column's kind.
@@ -78,6 +78,9 @@ pub enum RowCause {
     /// The member has a balance already.
     #[error("a member stands twice")]
     Repeated,
+    /// The sum of an amount over the member's family would leave the number range.
+    #[error("a family's sum is out of range")]
+    Sum,
 }
 
 impl RowCause {
@@ -94,6 +97,7 @@ impl RowCause {
             RowCause::NotCents => 6,
             RowCause::Negative => 7,
             RowCause::Repeated => 8,
+            RowCause::Sum => 9,
         }
     }
 }

@@ -1,11 +1,11 @@
 //! Claims and opening balances from CSV files (RFC 4180, as `csv` reads it).
 //!
 //! `ClaimFile` is a provider's file whose header was judged, and `Rows` reads it: it gives its records one after another, each
-//! as a claim or as the first fault that refuses it. `read_balances` reads the file of opening balances, and `Balances::of` finds a member's.
+//! as a claim or as the first fault that refuses it. `read_balances` reads the file of opening balances, and `Balances::of` finds an account's.
 //! The records come from `csv`, values from `feel_tests`, claims and accumulators from `settlement`.
 //!
 //! Begin with `specs/Records.antt` and `specs/Columns.antt`, which say what a file is, go on with `specs/Fields.antt`,
-//! `specs/Rows.antt` and `specs/Balances.antt`, which say what its records are; then read `rows.rt` and `balances.rt`.
+//! `specs/Rows.antt` and `specs/Balances.antt`, which say what its records are; then read `rows.rt`, `balances.rt` and `household.rt`.
 #![tactic(auto)]
 
 mod balances;
@@ -15,6 +15,7 @@ mod column;
 mod fault;
 mod field;
 mod header;
+mod household;
 mod laws;
 mod record;
 mod records;

@@ -1,7 +1,7 @@
 //! The values of a record, taken one after another.
 ghost use Rattle.std.specs.Prelude.{◌≡◌, ◌∷◌, IfOk};
 ghost use Rattle.std.specs.Vec.Iter.{into_iter_items};
-ghost use Rattle.intake_csv.specs.Values.{BeginsWithText, BeginsWithDay, BeginsWithMoney};
+ghost use Rattle.intake_csv.specs.Values.{BeginsWithText, BeginsWithDay, BeginsWithFamily, BeginsWithMoney, TakesFamily};
 ghost use Rattle.feel_tests.specs.declared.value.Value.TheVariants as kinds;
 
 use dtable::Sequence;
@@ -22,6 +22,17 @@ pub fn take_text(values: &mut vec::IntoIter<Value>) -> Text
         unreachable!();
     };
     text
+}
+
+/// Takes the first value, a family; none, and no value, where there is no column of families.
+pub fn take_family(values: &mut vec::IntoIter<Value>, families: bool) -> Option<Text>
+    requires { BeginsWithFamily families (into_iter_items values.old) }
+    ensures { TakesFamily families (into_iter_items values.old) result (into_iter_items values.new) }
+{
+    if !families {
+        return None;
+    }
+    Some(take_text(values))
 }
 
 /// Takes the first value, a day.

@@ -19,6 +19,9 @@ const PLAN: &[u8] = b"version = 1\nfields = [{name = \"code\", kind = \"text\"}]
 /// The same, whose accumulators are kept by the year.
 const BY_YEAR: &[u8] = b"version = 2\nfields = [{name = \"code\", kind = \"text\"}]\n";
 
+/// The same, whose accumulators are kept for families, too.
+const BY_FAMILY: &[u8] = b"version = 3\nfields = [{name = \"code\", kind = \"text\"}]\n";
+
 /// A plan with a field of each kind.
 const KINDS: &[u8] =
     b"version = 1\nfields = [{name = \"days\", kind = \"number\"}, {name = \"urgent\", kind = \"flag\"}, {name = \"admitted\", kind = \"day\"}]\n";
@@ -97,12 +100,11 @@ fn tell(told: &mut String, row: &Row) -> Result<(), AllocError> {
 fn tell_claim(told: &mut String, claim: &Claim) -> Result<(), AllocError> {
     let day = claim.service.epoch_day();
     let units = claim.billed.amount().units();
-    write!(
-        told,
-        "{} {} {day} {units}",
-        claim.id.as_str(),
-        claim.member.as_str()
-    )?;
+    write!(told, "{}", claim.id.as_str())?;
+    if let Some(family) = &claim.family {
+        write!(told, " {}", family.as_str())?;
+    }
+    write!(told, " {} {day} {units}", claim.member.as_str())?;
     for value in &claim.fields {
         match value {
             Value::Number(number) => write!(told, " {}", number.units())?,
@@ -384,7 +386,10 @@ fn are_balances(rt: &impl Abort, alloc: Global, text: &[u8], members: &[(&str, i
     let plan = plan(rt, alloc, PLAN);
     let balances = read_balances(alloc, &plan, text).expect(rt, "balances");
     for (member, met, oop, paid) in members {
-        assert!(rt; same(balances.of(member, 0), *met, *oop, *paid), "{member}");
+        assert!(rt;
+            same(balances.of(member, member, 0), *met, *oop, *paid),
+            "{member}"
+        );
     }
 }
 
@@ -406,8 +411,136 @@ fn balances_of_years(rt: HostRuntime) {
     let plan = plan(&rt, rt.alloc(), BY_YEAR);
     let balances = read_balances(rt.alloc(), &plan, OF_YEARS).expect(&rt, "balances");
     for (member, year, met, oop, paid) in &MEMBERS_BY_YEAR {
-        let found = same(balances.of(member, *year), *met, *oop, *paid);
+        let found = same(balances.of(member, member, *year), *met, *oop, *paid);
         assert!(rt; found, "{member} {year}");
+    }
+}
+
+/// Claims of families, and what is told of them: the column of the family may stand anywhere.
+const FAMILY_CLAIMS: &[u8] = b"claim,code,member,service,billed,family
+e1,A,M1,2024-01-05,120.00,F1
+e2,A,M2,2024-02-01,100.00,
+e3,A,,2024-02-01,100.00,F1
+e4,B,M1,2024-02-01,30.00,F2
+";
+
+#[test]
+fn claims_of_families(rt: HostRuntime) -> Result<(), Fail> {
+    let plan = plan(&rt, rt.alloc(), BY_FAMILY);
+    tells(
+        &rt,
+        rt.alloc(),
+        &plan,
+        FAMILY_CLAIMS,
+        "1.0 e1 F1 M1 19727 1200000 A;2!6.4;3!3.4;4.1 e4 F2 M1 19754 300000 B;",
+    )?;
+    assert!(rt; refused(rt.alloc(), &plan, CLAIMS) == Some(FileFault::MissingColumn));
+    Ok(())
+}
+
+/// Balances of two families, and what members have of them in a year: of their own, and of their families'.
+const OF_FAMILIES: &[u8] =
+    b"year,family,member,met,oop,paid\n2024,F1,M1,50,10,5\n2024,F1,M2,4,3,2\n2025,F1,M1,1,1,1\n2024,F2,M1,7,7,7\n2024,F1,M3,0.50,0,0\n";
+
+/// A family, a member, a year; the member's own in ten-thousandths, and the family's.
+type OfFamily = (&'static str, &'static str, u16, (i64, i64, i64), (i64, i64));
+
+const MEMBERS_BY_FAMILY: [OfFamily; 8] = [
+    (
+        "F1",
+        "M1",
+        2024,
+        (500_000, 100_000, 50_000),
+        (545_000, 130_000),
+    ),
+    (
+        "F1",
+        "M2",
+        2024,
+        (40_000, 30_000, 20_000),
+        (545_000, 130_000),
+    ),
+    ("F1", "M3", 2024, (5_000, 0, 0), (545_000, 130_000)),
+    ("F1", "M4", 2024, (0, 0, 0), (545_000, 130_000)),
+    ("F1", "M2", 2025, (0, 0, 0), (10_000, 10_000)),
+    ("F2", "M1", 2024, (70_000, 70_000, 70_000), (70_000, 70_000)),
+    ("F2", "M1", 2025, (0, 0, 0), (0, 0)),
+    ("M1", "M1", 2024, (0, 0, 0), (0, 0)),
+];
+
+fn has(acc: Acc, own: (i64, i64, i64), family: (i64, i64)) -> bool {
+    acc.met.amount().units() == own.0
+        && acc.oop.amount().units() == own.1
+        && acc.paid.amount().units() == own.2
+        && acc.fmet.amount().units() == family.0
+        && acc.foop.amount().units() == family.1
+}
+
+#[test]
+fn balances_of_families(rt: HostRuntime) {
+    let plan = plan(&rt, rt.alloc(), BY_FAMILY);
+    let balances = read_balances(rt.alloc(), &plan, OF_FAMILIES).expect(&rt, "balances");
+    for (family, member, year, own, sums) in &MEMBERS_BY_FAMILY {
+        let found = has(balances.of(family, member, *year), *own, *sums);
+        assert!(rt; found, "{family} {member} {year}");
+    }
+}
+
+/// Files of balances of families with a record that is refused: its number, the column, and why.
+const REFUSED_FAMILIES: [(&[u8], usize, usize, RowCause); 5] = [
+    (
+        b"family,member,year,met,oop,paid\nF1,M1,2024,99999999999.99,0.00,0.00\nF1,M2,2024,0.01,0.00,0.00\n",
+        2,
+        4,
+        RowCause::Sum,
+    ),
+    (
+        b"oop,paid,year,met,member,family\n99999999999.98,0,2024,1,M1,F1\n0.01,0,2024,1,M2,F1\n0.01,0,2025,1,M3,F1\n0.01,0,2024,1,M3,F1\n",
+        4,
+        1,
+        RowCause::Sum,
+    ),
+    (
+        b"family,member,year,met,oop,paid\nF1,M1,2024,99999999999.99,0,0\nF1,M1,2025,1,1,1\nF2,M1,2024,1,1,1\nF1,M1,2024,99999999999.99,0,0\n",
+        4,
+        2,
+        RowCause::Repeated,
+    ),
+    (
+        b"family,member,year,met,oop,paid\nF1,M1,2024,1,1,1\n,M1,2024,1,1,1\n",
+        2,
+        1,
+        RowCause::EmptyId,
+    ),
+    (
+        b"family,member,year,met,oop,paid\nF1,M1,2024,1,1,99999999999.99\nF1,M2,2024,1,1,99999999999.99\nF1,M3,24,1,1,1\n",
+        3,
+        3,
+        RowCause::Value,
+    ),
+];
+
+#[test]
+fn each_fault_of_a_family(rt: HostRuntime) {
+    let plan = plan(&rt, rt.alloc(), BY_FAMILY);
+    let refused = refused_balances(rt.alloc(), &plan, OF_YEARS);
+    assert!(rt; refused == Some(BalanceFault::File(FileFault::MissingColumn)));
+    for (text, number, column, cause) in &REFUSED_FAMILIES {
+        let wanted = row(*number, *column, *cause);
+        assert!(rt; refused_balances(rt.alloc(), &plan, text) == Some(wanted));
+    }
+}
+
+#[test]
+fn balances_of_families_or_no_memory(rt: HostRuntime) {
+    let Ok(plan) = read_plan(rt.alloc(), BY_FAMILY) else {
+        return;
+    };
+    match read_balances(rt.alloc(), &plan, OF_FAMILIES) {
+        Ok(balances) => {
+            assert!(rt; has(balances.of("F1", "M4", 2024), (0, 0, 0), (545_000, 130_000)));
+        }
+        Err(fault) => assert!(rt; fault == BalanceFault::OutOfMemory),
     }
 }
 
@@ -572,7 +705,7 @@ fn calls_the_laws() {
 #[test]
 fn faults_have_numbers_and_texts(rt: HostRuntime) -> Result<(), Fail> {
     assert!(rt; FileFault::DuplicateColumn.number() == 4);
-    assert!(rt; RowCause::Repeated.number() == 8);
+    assert!(rt; RowCause::Repeated.number() == 8 && RowCause::Sum.number() == 9);
     let mut text = String::new(rt.alloc());
     write!(text, "{}", row(2, 1, RowCause::Repeated))?;
     assert!(rt; text.as_str() == "record 2: column 1: a member stands twice");
@@ -619,7 +752,7 @@ fn balances_or_no_memory(rt: HostRuntime) {
         return;
     };
     match read_balances(rt.alloc(), &plan, OF_YEARS) {
-        Ok(balances) => assert!(rt; same(balances.of("M1", 2024), 500_000, 100_000, 50_000)),
+        Ok(balances) => assert!(rt; same(balances.of("M1", "M1", 2024), 500_000, 100_000, 50_000)),
         Err(fault) => assert!(rt; fault == BalanceFault::OutOfMemory),
     }
 }

@@ -9,3 +9,4 @@ pub mod Finish
 pub mod GateMoves
 pub mod Worked
 pub mod Turns
+pub mod Families

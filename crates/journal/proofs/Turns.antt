@@ -229,7 +229,7 @@ positions_are member n (suc k) (c ∷ cs) h = positions_are member (suc n) k cs 
 
 member_is : (member : List ℕ) (o : Option Claim) → is_of member o ≡ true → option_map family_of o ≡ Some member
 member_is member None h = absurd (both_ways false refl h)
-member_is member (Some c) h = ap Some ((bytes_eq-Decides c.member member).0 h)
+member_is member (Some c) h = ap Some ((bytes_eq-Decides (family_of c) member).0 h)
 
 any_cond : (b : Bool) (test : Step → Bool) (s : Step) → list_any test (cond b (s ∷ []) []) ≡ true → test s ≡ true
 any_cond true test s h =

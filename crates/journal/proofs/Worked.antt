@@ -4,6 +4,7 @@ use Rattle.std.proofs.lemmas.Bool.{both_ways}
 use Rattle.std.proofs.lemmas.Option.{same_Some}
 use Rattle.settlement.specs.declared.claim.Claim.{Claim}
 use Rattle.settlement.specs.declared.outcome.Outcome.{Outcome}
+use Rattle.settlement.specs.Accounts.{family_of}
 use Rattle.journal.specs.Terms.{Terms, IsProvider}
 use Rattle.journal.specs.Events.{closed, lane_at, decided}
 use Rattle.journal.specs.Lawful.{Lawful, Finished, IsReady, IsNextClaim, IsNextEnd}
@@ -52,12 +53,12 @@ module _ (w : TwoFiles) where
 
   waits : ¬ IsReady (terms_of w) in_work 1
   waits r =
-      let same : lane_at (terms_of w) in_work 0 ≡ lane_at (terms_of w) in_work 1 = ap Some (sym w.same_member) in
+      let same : lane_at (terms_of w) in_work 0 ≡ lane_at (terms_of w) in_work 1 = ap Some (sym w.same_family) in
       both_ways (decided in_work 0) refl (r.in_turn 0 (omega arith) same)
 
   turn : (k : ℕ) → k < 2 → lane_at (terms_of w) in_work k ≡ lane_at (terms_of w) in_work 2 → decided in_work k ≡ true
-  turn zero l m = absurd (w.other_member (sym (same_Some w.first.member w.other.member m)))
-  turn (suc zero) l m = absurd (w.other_member (sym (same_Some w.second.member w.other.member m) ∙ w.same_member))
+  turn zero l m = absurd (w.other_family (sym (same_Some (family_of w.first) (family_of w.other) m)))
+  turn (suc zero) l m = absurd (w.other_family (sym (same_Some (family_of w.second) (family_of w.other) m) ∙ w.same_family))
   turn (suc (suc k)) l m = let none : ⊥ = omega arith in absurd none
 
   pub members_take_turns : MembersTakeTurns w

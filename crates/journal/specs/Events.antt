@@ -92,7 +92,7 @@ claims T J = map (claim_filed T) (accepts J)
 abbrev pub claim_at : Terms → List Event → ℕ → Option Claim
 claim_at T J position = get_or (claims T J) position None
 
--- the lane of the claim at a position: its member's family, which is the member alone
+-- the lane of the claim at a position: its member's family, which is the member alone where the plan keeps no families
 abbrev pub lane_at : Terms → List Event → ℕ → Option (List ℕ)
 lane_at T J position = option_map family_of (claim_at T J position)
 

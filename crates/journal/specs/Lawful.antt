@@ -24,7 +24,7 @@ pub record ClosesWhenDue (T : Terms) (J : List Event) (i : ℕ) : Type 0 where
   pub first : (j : ℕ) → j < i → due T (take j J) ≡ false
   pub last : (j : ℕ) (event : Event) → i < j → At J j event → is_intake event ≡ false
 
--- a take: of an accepted claim, once, when each earlier claim of its member is decided
+-- a take: of an accepted claim, once, when each earlier claim of its family is decided
 pub record TakesInTurn (T : Terms) (J : List Event) (i position : ℕ) : Type 0 where
   pub behind : position < accepted (take i J)
   pub once : taken (take i J) position ≡ false
@@ -60,7 +60,7 @@ pub record Finished (T : Terms) (J : List Event) : Type 0 where
 abbrev pub closing : Terms → List Event → List Event
 closing T J = cond (due T J && not (closed J)) (J ++ Close ∷ []) J
 
--- the position may be taken: it has no take, and each earlier claim of its member is decided
+-- the position may be taken: it has no take, and each earlier claim of its family is decided
 pub record IsReady (T : Terms) (J : List Event) (position : ℕ) : Type 0 where
   pub behind : position < accepted J
   pub once : taken J position ≡ false

@@ -6,4 +6,5 @@ pub mod Gate
 pub mod Leading
 pub mod Laws
 pub mod Turns
+pub mod Families
 pub mod TestWords

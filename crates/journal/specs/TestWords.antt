@@ -1,6 +1,7 @@
 -- Words of the tests alone: worked journals, and what the definitions say of them.
 use Rattle.std.specs.Prelude.{◌≡◌, ◌≢◌, true, false, List, [], ◌∷◌, ◌++◌, Some, None}
 use Rattle.dtable.specs.Plan.{PlanParts}
+use Rattle.settlement.specs.Accounts.{family_of}
 use Rattle.settlement.specs.Claim.{nothing_yet}
 use Rattle.settlement.specs.declared.claim.Claim.{Claim}
 use Rattle.settlement.specs.declared.outcome.Outcome.{Outcome}
@@ -18,14 +19,14 @@ EmptyFileFinishes = (plan : PlanParts) → Finished (record { plan = plan; files
 abbrev pub NothingIsAccepted : Type 0
 NothingIsAccepted = (plan : PlanParts) (files : List (List Claim)) → Finished (record { plan = plan; files = files; balances = []; cutoff = Some 0 }) (Close ∷ [])
 
--- two providers, the first with two claims of one member, the second with a claim of another
+-- two providers, the first with two claims of one family, the second with a claim of another
 pub record TwoFiles : Type 0 where
   pub plan : PlanParts
   pub first : Claim
   pub second : Claim
   pub other : Claim
-  pub same_member : second.member ≡ first.member
-  pub other_member : other.member ≢ first.member
+  pub same_family : family_of second ≡ family_of first
+  pub other_family : family_of other ≢ family_of first
 
 abbrev pub terms_of : TwoFiles → Terms
 terms_of w = record { plan = w.plan; files = (w.first ∷ w.second ∷ []) ∷ (w.other ∷ []) ∷ []; balances = []; cutoff = None }
@@ -34,7 +35,7 @@ terms_of w = record { plan = w.plan; files = (w.first ∷ w.second ∷ []) ∷ (
 abbrev pub in_work : List Event
 in_work = Accept 1 0 ∷ Take 0 ∷ Accept 1 1 ∷ Accept 2 0 ∷ []
 
--- a member's claims take turns: the second waits for the first, and the other member's does not
+-- a family's claims take turns: the second waits for the first, and the other family's does not
 pub record MembersTakeTurns (w : TwoFiles) : Type 0 where
   pub lawful : Lawful (terms_of w) in_work
   pub first_in_work : ¬ IsReady (terms_of w) in_work 0
@@ -59,7 +60,7 @@ pub record AnswersInTurn (w : TwoFiles) : Type 0 where
   pub last_closes :
       Ends (gate_at (terms_of w) (in_work ++ End 1 ∷ [])) 2 1 EndReply.Ended (gate_at (terms_of w) (in_work ++ End 1 ∷ End 2 ∷ Close ∷ []))
 
--- a decision is recorded once, and the member's next claim may be taken behind it
+-- a decision is recorded once, and the family's next claim may be taken behind it
 pub record AnswersOnce (w : TwoFiles) (decision : Outcome) : Type 0 where
   pub is_recorded :
       Finishes (gate_at (terms_of w) in_work) 0 decision FinishReply.Recorded (gate_at (terms_of w) (in_work ++ Decide 0 decision ∷ []))

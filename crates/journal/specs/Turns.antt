@@ -1,4 +1,4 @@
--- A member's claims take turns.
+-- A family's claims take turns, those of all its members.
 use Rattle.std.specs.Prelude.{◌≡◌, ℕ, cond, List, [], ◌∷◌, ◌++◌, get_or, flat_map, Option, None}
 use Rattle.settlement.specs.declared.claim.Claim.{Claim}
 use Rattle.journal.specs.Terms.{Terms}
@@ -13,13 +13,13 @@ pub data Step : Type 0 where
   DecisionOf : ℕ → Step
 
 abbrev pub steps_in : List (Option Claim) → List ℕ → Event → List Step
-steps_in cs member (Take k) = cond (is_of member (get_or cs k None)) (TakeOf k ∷ []) []
-steps_in cs member (Decide k decision) = cond (is_of member (get_or cs k None)) (DecisionOf k ∷ []) []
-steps_in cs member _ = []
+steps_in cs lane (Take k) = cond (is_of lane (get_or cs k None)) (TakeOf k ∷ []) []
+steps_in cs lane (Decide k decision) = cond (is_of lane (get_or cs k None)) (DecisionOf k ∷ []) []
+steps_in cs lane _ = []
 
--- the steps of a member's claims, in order
+-- the steps of a family's claims, in order
 abbrev pub steps : Terms → List Event → List ℕ → List Step
-steps T J member = flat_map (steps_in (claims T J) member) J
+steps T J lane = flat_map (steps_in (claims T J) lane) J
 
 -- each of these positions is taken and decided before the next one is taken
 abbrev pub one_by_one : List ℕ → List Step
@@ -31,7 +31,7 @@ pub record BeginsWith (front whole : List Step) : Type 0 where
   pub rest : List Step
   pub is : whole ≡ front ++ rest
 
--- in a lawful journal the takes and decisions of a member's claims are: the first taken, the first decided, the second taken,
+-- in a lawful journal the takes and decisions of a family's claims are: the first taken, the first decided, the second taken,
 -- and so on, as far as the journal goes
 abbrev pub TakeTurns : Type 0
-TakeTurns = (T : Terms) (J : List Event) (member : List ℕ) → Lawful T J → BeginsWith (steps T J member) (one_by_one (positions T J member))
+TakeTurns = (T : Terms) (J : List Event) (lane : List ℕ) → Lawful T J → BeginsWith (steps T J lane) (one_by_one (positions T J lane))

@@ -15,6 +15,7 @@ ghost use Rattle.journal.specs.Laws.{
   JobsStay,
 };
 ghost use Rattle.journal.specs.Turns.{TakeTurns};
+ghost use Rattle.journal.specs.Families.{FamiliesAreTheirMembers};
 
 /// The journal of no event is lawful, with the close where that is due at once.
 pub fn starts_lawful()
@@ -56,14 +57,20 @@ pub fn gate_stays_lawful()
     ensures stop { StopGoes }
 {}
 
-/// A job that was handed out stays one wherever its state leads: what the earlier claims of its member leave is settled with
+/// A job that was handed out stays one wherever its state leads: what the earlier claims of its family leave is settled with
 /// the journal in front of it.
 pub fn jobs_stay()
     ensures { JobsStay }
 {}
 
-/// In a lawful journal a member's claims take turns: each is taken and decided before the next is taken, in the order in
+/// In a lawful journal a family's claims, those of all its members, take turns: each is taken and decided before the next is taken, in the order in
 /// which they were accepted.
 pub fn members_take_turns()
     ensures { TakeTurns }
+{}
+
+/// What a family has before a claim is the sum over its members: of what was met of the deductible, and of what was paid out of
+/// pocket.
+pub fn families_are_their_members()
+    ensures { FamiliesAreTheirMembers }
 {}

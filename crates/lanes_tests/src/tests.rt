@@ -32,9 +32,11 @@ fn text(rt: &impl Abort, alloc: Global, text: &str) -> Result<Text, AllocError> 
     Text::new(alloc, text)
 }
 
+// A claim of a member, who is a family of its own.
 fn claim(rt: &impl Abort, alloc: Global, id: &str, member: &str) -> Result<Claim, AllocError> {
     Ok(Claim {
         id: text(rt, alloc, id)?,
+        family: None,
         member: text(rt, alloc, member)?,
         service: Day::from_epoch_day(19_727).expect(rt, "a day"),
         billed: money(rt, 12_000),

@@ -44,6 +44,14 @@ impl Shape {
         }
     }
 
+    /// The keys that such a value has beside them in a plan that keeps families.
+    pub fn family_keys(self) -> &'static [&'static str] {
+        match self {
+            Shape::Roles => &["family_deductible", "family_oop_max"],
+            _ => &[],
+        }
+    }
+
     /// Whether such a value is a table with keys of a plan.
     pub fn has_keys(self) -> bool {
         !self.keys().is_empty()

@@ -6,6 +6,7 @@ use crate::position::{Position, Positions};
 use crate::scanner::places_of;
 use crate::shape::Shape;
 use std::alloc::{AllocError, Global};
+use toml::Value;
 
 /// A key that nothing reads.
 #[derive(Drop)]
@@ -20,12 +21,13 @@ pub struct Unread {
 /// The keys of a plan's text that nothing reads, in their order; what stands below one is not told again.
 pub fn unread_keys(alloc: Global, text: &str) -> Result<Vec<Unread>, AllocError> {
     let places = places_of(alloc, text)?;
+    let families = keeps_families(alloc, text);
     let mut shapes: Vec<Shape> = Vec::new(alloc);
     let mut unread = Vec::new(alloc);
     let mut positions = Positions::new(text.as_bytes());
     for node in places.nodes() {
         let within = shapes.get(node.parent).copied();
-        let shape = shape_of(node, within);
+        let shape = shape_of(node, within, families);
         if shape == Shape::Unread
             && let Some(within) = within
             && within.has_keys()
@@ -34,7 +36,7 @@ pub fn unread_keys(alloc: Global, text: &str) -> Result<Vec<Unread>, AllocError>
             unread.push(Unread {
                 position: positions.next(node.at),
                 key: key.clone()?,
-                near: near(key.as_str(), within),
+                near: near(key.as_str(), within, families),
             })?;
         }
         shapes.push(shape)?;
@@ -43,12 +45,13 @@ pub fn unread_keys(alloc: Global, text: &str) -> Result<Vec<Unread>, AllocError>
 }
 
 // What a value is, in a table or an array of this shape; the document stands in none.
-fn shape_of(node: &Node, within: Option<Shape>) -> Shape {
+fn shape_of(node: &Node, within: Option<Shape>, families: bool) -> Shape {
     match (within, &node.key) {
         (None, _) => Shape::Plan,
         (Some(within), None) => within.item(),
         (Some(within), Some(key)) => {
-            if within.keys().contains(&key.as_str()) {
+            let is_key = within.keys().contains(&key.as_str());
+            if is_key || (families && within.family_keys().contains(&key.as_str())) {
                 within.behind(key.as_str())
             } else {
                 Shape::Unread
@@ -58,11 +61,29 @@ fn shape_of(node: &Node, within: Option<Shape>) -> Shape {
 }
 
 // The key of such a table that is one edit away.
-fn near(key: &str, within: Shape) -> Option<&'static str> {
-    for known in within.keys() {
+fn near(key: &str, within: Shape, families: bool) -> Option<&'static str> {
+    match near_of(key, within.keys()) {
+        None if families => near_of(key, within.family_keys()),
+        near => near,
+    }
+}
+
+fn near_of(key: &str, keys: &[&'static str]) -> Option<&'static str> {
+    for known in keys {
         if is_one_edit(key.as_bytes(), known.as_bytes()) {
             return Some(*known);
         }
     }
     None
+}
+
+// Whether the plan is of the version that keeps families: it alone has keys for the family's limits.
+fn keeps_families(alloc: Global, text: &str) -> bool {
+    match toml::table_from_slice(alloc, text.as_bytes()) {
+        Ok(members) => Value::Table(members)
+            .get("version")
+            .and_then(Value::as_integer)
+            == Some(3),
+        Err(_) => false,
+    }
 }

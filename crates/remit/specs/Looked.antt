@@ -1,5 +1,5 @@
 -- What a journal tells, laid out so that a claim's decision is found at once, and its sums.
-use Rattle.std.specs.Prelude.{◌≡◌, ◌<◌, ◌≤◌, ◌+◌, ◌-◌, ◌*◌, ◌^◌, ◌+ℤ◌, ℕ, suc, ℤ, pos, ◌==◌, Bool, cond, List, [], ◌∷◌, get_or, length, ◌++◌, slice_get, slice_index, Option, Some, None, option_map}
+use Rattle.std.specs.Prelude.{◌≡◌, ◌<◌, ◌≤◌, ◌+◌, ◌-◌, ◌*◌, ◌^◌, ◌+ℤ◌, ℕ, suc, ℤ, pos, ◌==◌, cond, List, [], ◌∷◌, get_or, length, ◌++◌, slice_get, slice_index, Option, Some, None, option_map}
 use Rattle.std.specs.Global.{Vec}
 use Rattle.std.specs.Borrow.{Bor}
 use Rattle.std.specs.Option.{option_and_then}
@@ -29,10 +29,9 @@ positions_of J provider = positions_from 0 (accepts J) provider
 abbrev pub outcome_in : Option (Bor Outcome) → Option Outcome
 outcome_in outcome = option_map (λ o. o.now) outcome
 
--- whether accumulators are kept by the year, the positions of so many providers' claims that one journal accepts, and what another
--- decides of these positions
-pub record Noted (years : Bool) (providers : ℕ) (accepting deciding : List Event) (decisions : Decisions) : Type 0 where
-  pub years_are : decisions.keeps_years ≡ years
+-- the plan's version, the positions of so many providers' claims that one journal accepts, and what another decides of these positions
+pub record Noted (version : ℕ) (providers : ℕ) (accepting deciding : List Event) (decisions : Decisions) : Type 0 where
+  pub version_is : decisions.version ≡ version
   pub count : length decisions.positions.items ≡ providers
   pub positions : (i : ℕ) (d : Vec ℕ) → i < providers → (get_or decisions.positions.items i d).items ≡ positions_of accepting (suc i)
   pub size : length decisions.decided.items ≡ accepted accepting
@@ -57,7 +56,7 @@ found_of decisions provider place =
 
 -- what records are told by, as it is found
 abbrev pub looked_up : Decisions → Deciding
-looked_up decisions = record { years = decisions.keeps_years; decided = found_of decisions }
+looked_up decisions = record { version = decisions.version; decided = found_of decisions }
 
 -- the sum of an amount over outcomes, where each is at most the greatest number, and there are no more than so many
 pub record IsSum (amount : Outcome → ℤ) (outcomes : List Outcome) (count sum : ℕ) : Type 0 where

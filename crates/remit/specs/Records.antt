@@ -2,6 +2,9 @@
 use Rattle.std.specs.Prelude.{ℕ, suc, Bool, true, false, List, [], ◌∷◌, ◌++◌, codes, decimal, map, Option, Some, None}
 use Rattle.fixpoint.specs.Money.{money_text}
 use Rattle.feel_tests.specs.Calendar.{year_of, year_text}
+use Rattle.dtable.specs.Plan.{has_families, has_years}
+use Rattle.settlement.specs.Accounts.{family_of}
+use Rattle.settlement.specs.declared.claim.Claim.{Claim}
 use Rattle.settlement.specs.declared.outcome.Outcome.{Outcome}
 use Rattle.settlement.specs.declared.outcome.Verdict.{Verdict}
 use Rattle.settlement.specs.declared.outcome.Verdict.TheVariants.{Paid, Denied, Pended}
@@ -16,10 +19,9 @@ use Rattle.remit.specs.Amounts.{amounts, name_of, amount_of}
 use Rattle.remit.specs.Decided.{paid_outcomes, sum_of}
 use Rattle.remit.specs.Texts.{fault_text, remarks_text}
 
--- what records are told by: whether accumulators are kept by the year, and what the providers' claims are decided to be, by their
--- places
+-- what records are told by: the plan's version, and what the providers' claims are decided to be, by their places
 pub record Deciding : Type 0 where
-  pub years : Bool
+  pub version : ℕ
   pub decided : ℕ → ℕ → Option Outcome
 
 -- the field of the year, where accumulators are kept by it
@@ -27,18 +29,24 @@ abbrev pub year_fields : Bool → List ℕ → List (List ℕ)
 year_fields true text = text ∷ []
 year_fields false text = []
 
--- the fields that tell whose a record is
-abbrev pub whose_fields : Bool → List ℕ → List ℕ → List ℕ → List (List ℕ)
-whose_fields years claim member year = claim ∷ member ∷ year_fields years year
+-- the field of the family, where they are kept for families
+abbrev pub family_fields : Bool → List ℕ → List (List ℕ)
+family_fields true text = text ∷ []
+family_fields false text = []
+
+-- the fields that tell whose a record is: the claim, its family, its member and its year
+abbrev pub whose_fields : ℕ → List ℕ → List ℕ → List ℕ → List ℕ → List (List ℕ)
+whose_fields version claim family member year = claim ∷ (family_fields (has_families version) family ++ member ∷ year_fields (has_years version) year)
 
 -- the names of the fields in front of the amounts
-abbrev pub front_names : Bool → List (List ℕ)
-front_names years =
-    codes "provider" ∷ codes "record" ∷ (whose_fields years (codes "claim") (codes "member") (codes "year") ++ codes "status" ∷ codes "reason" ∷ [])
+abbrev pub front_names : ℕ → List (List ℕ)
+front_names version =
+    codes "provider" ∷ codes "record"
+    ∷ (whose_fields version (codes "claim") (codes "family") (codes "member") (codes "year") ++ codes "status" ∷ codes "reason" ∷ [])
 
 -- the names of the fields
-abbrev pub header_fields : Bool → List (List ℕ)
-header_fields years = front_names years ++ (map name_of amounts ++ codes "remarks" ∷ [])
+abbrev pub header_fields : ℕ → List (List ℕ)
+header_fields version = front_names version ++ (map name_of amounts ++ codes "remarks" ∷ [])
 
 -- what the report tells of a record behind whose it is: the fields from the status on
 pub record Told : Type 0 where
@@ -81,11 +89,15 @@ told_refused fault = record { status = codes "refused"; reason = fault_text faul
 abbrev pub line_of : ℕ → ℕ → List (List ℕ) → Told → List (List ℕ)
 line_of provider number whose told = decimal provider ∷ decimal number ∷ (whose ++ told_fields told)
 
--- a row of a provider's file, where this is what records are told by; a claim's year is that of its service
+-- the fields that tell whose a claim is; its year is that of its service
+abbrev pub claimant_fields : ℕ → Claim → List (List ℕ)
+claimant_fields version claim = whose_fields version claim.id (family_of claim) claim.member (year_text (year_of claim.service))
+
+-- a row of a provider's file, where this is what records are told by
 abbrev pub record_of : Deciding → ℕ → Row → List (List ℕ)
 record_of by provider (Good number place claim) =
-    line_of provider number (whose_fields by.years claim.id claim.member (year_text (year_of claim.service))) (told_of (by.decided provider place))
-record_of by provider (Bad number fault) = line_of provider number (whose_fields by.years [] [] []) (told_refused fault)
+    line_of provider number (claimant_fields by.version claim) (told_of (by.decided provider place))
+record_of by provider (Bad number fault) = line_of provider number (whose_fields by.version [] [] [] []) (told_refused fault)
 
 -- the rows of the providers' files, the first of them of this provider: provider by provider, in file order
 abbrev pub records_of : Deciding → ℕ → List (List Row) → List (List (List ℕ))
@@ -97,9 +109,9 @@ abbrev pub total_text : List Event → Amount → List ℕ
 total_text J amount = money_text (sum_of (amount_of amount) (paid_outcomes J))
 
 -- the fields of the record at the end that stand in front of the amounts: of the text ones two are filled
-abbrev pub total_front : Bool → ℕ → List (List ℕ)
-total_front years count = codes "total" ∷ decimal count ∷ (whose_fields years [] [] [] ++ [] ∷ [] ∷ [])
+abbrev pub total_front : ℕ → ℕ → List (List ℕ)
+total_front version count = codes "total" ∷ decimal count ∷ (whose_fields version [] [] [] [] ++ [] ∷ [] ∷ [])
 
 -- the record at the end: how many claims are accepted, and the sums over the paid claims
-abbrev pub total_fields : Bool → List Event → List (List ℕ)
-total_fields years J = total_front years (accepted J) ++ (map (total_text J) amounts ++ [] ∷ [])
+abbrev pub total_fields : ℕ → List Event → List (List ℕ)
+total_fields version J = total_front version (accepted J) ++ (map (total_text J) amounts ++ [] ∷ [])

@@ -1,10 +1,9 @@
 -- The report of a run: a CSV text (RFC 4180) over the rows of the providers' files and a journal.
-use Rattle.std.specs.Prelude.{◌≡◌, ℕ, Bool, List, [], ◌∷◌, ◌++◌, flat_map}
+use Rattle.std.specs.Prelude.{◌≡◌, ℕ, List, [], ◌∷◌, ◌++◌, flat_map}
 use Rattle.std.specs.List.{AllZip}
 use Rattle.csv.specs.Writing.{default_writer, row_text, with_terminator}
 use Rattle.csv.specs.declared.parser.Terminator.TheVariants.{CRLF}
 use Rattle.csv.specs.declared.writer.WriterBuilder.{WriterBuilder}
-use Rattle.dtable.specs.Plan.{keeps_years}
 use Rattle.intake_csv.specs.Rows.{AreRowsOf}
 use Rattle.intake_csv.specs.declared.rows.Row.{Row}
 use Rattle.journal.specs.declared.event.Event.{Event}
@@ -25,15 +24,15 @@ abbrev pub text_of : List (List (List ℕ)) → List ℕ
 text_of records = flat_map record_text records
 
 -- what the records of a journal's report are told by
-abbrev pub told_by_journal : Bool → List Event → Deciding
-told_by_journal years J = record { years = years; decided = decided_as J }
+abbrev pub told_by_journal : ℕ → List Event → Deciding
+told_by_journal version J = record { version = version; decided = decided_as J }
 
 -- the records of the report: the header, each row of each provider's file, and the totals
-abbrev pub report_records : Bool → List Event → List (List Row) → List (List (List ℕ))
-report_records years J files = header_fields years ∷ (records_of (told_by_journal years J) 1 files ++ total_fields years J ∷ [])
+abbrev pub report_records : ℕ → List Event → List (List Row) → List (List (List ℕ))
+report_records version J files = header_fields version ∷ (records_of (told_by_journal version J) 1 files ++ total_fields version J ∷ [])
 
 -- the bytes are the report of these terms and this journal
 pub record IsReport (parts : TermsParts) (J : List Event) (bytes : List ℕ) : Type 0 where
   pub files : List (List Row)
   pub are_rows : AllZip (AreRowsOf parts.plan.names) parts.files files
-  pub bytes_are : bytes ≡ text_of (report_records (keeps_years parts.plan) J files)
+  pub bytes_are : bytes ≡ text_of (report_records parts.plan.version J files)

@@ -3,7 +3,7 @@ use Rattle.std.specs.Prelude.{ℕ, List, codes}
 use Rattle.std.specs.List.{join_by}
 use Rattle.settlement.specs.ReasonText.{numbered}
 use Rattle.intake_csv.specs.declared.fault.RowCause.{RowCause}
-use Rattle.intake_csv.specs.declared.fault.RowCause.TheVariants.{FieldCount, Utf8, TooLong, EmptyId, Value, NotCents, Negative, Repeated}
+use Rattle.intake_csv.specs.declared.fault.RowCause.TheVariants.{FieldCount, Utf8, TooLong, EmptyId, Value, NotCents, Negative, Repeated, Sum}
 use Rattle.intake_csv.specs.declared.fault.RowFault.{RowFault}
 
 -- why a record is refused; a fault of the number of fields is in no column
@@ -16,6 +16,7 @@ cause_text Value column = numbered (codes "value") column
 cause_text NotCents column = numbered (codes "notcents") column
 cause_text Negative column = numbered (codes "negative") column
 cause_text Repeated column = numbered (codes "repeated") column
+cause_text Sum column = numbered (codes "sum") column
 
 abbrev pub fault_text : RowFault → List ℕ
 fault_text fault = cause_text fault.cause fault.column

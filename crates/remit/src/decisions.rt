@@ -1,6 +1,5 @@
 //! What a journal decides of the claims, laid out so that a claim's decision is found at once.
-ghost use Rattle.std.specs.Prelude.{◌≡◌, ◌≤◌, ◌++◌, ◌∷◌, [], List, ℕ, Bool, length, OnOk, IfOk};
-ghost use Rattle.dtable.specs.Plan.{keeps_years};
+ghost use Rattle.std.specs.Prelude.{◌≡◌, ◌≤◌, ◌++◌, ◌∷◌, [], List, ℕ, length, OnOk, IfOk};
 ghost use Rattle.journal.specs.Events.{accepted};
 ghost use Rattle.journal.specs.declared.event.Event.{Event as AnyEvent};
 ghost use Rattle.remit.specs.Looked.{Noted, NotesOutcome, NotesPosition, found_of, outcome_in};
@@ -10,11 +9,10 @@ use journal::Event;
 use settlement::Outcome;
 use std::alloc::{AllocError, Global};
 
-/// The positions of each provider's claims, in order, what the claim at each position is decided to be, and whether accumulators
-/// are kept by the year.
+/// The positions of each provider's claims, in order, what the claim at each position is decided to be, and the plan's version.
 #[derive(Drop)]
 pub struct Decisions<'j> {
-    keeps_years: bool,
+    version: u8,
     positions: Vec<Vec<usize>>,
     decided: Vec<Option<&'j Outcome>>,
 }
@@ -29,20 +27,20 @@ impl<'j> Decisions<'j> {
         providers: usize,
         journal: &'j [Event],
     ) -> Result<Decisions<'j>, AllocError>
-        ensures { IfOk result (Noted (keeps_years terms.now.plan) providers journal.now journal.now) }
+        ensures { IfOk result (Noted terms.now.plan.version providers journal.now journal.now) }
     {
-        Decisions::of_journal(alloc, terms.plan().keeps_years(), providers, journal)
+        Decisions::of_journal(alloc, terms.plan().version(), providers, journal)
     }
 
     fn of_journal(
         alloc: Global,
-        keeps_years: bool,
+        version: u8,
         providers: usize,
         journal: &'j [Event],
     ) -> Result<Decisions<'j>, AllocError>
-        ensures { IfOk result (Noted keeps_years providers journal.now journal.now) }
+        ensures { IfOk result (Noted version providers journal.now journal.now) }
     {
-        let mut decisions = Decisions::of_none(alloc, keeps_years, providers)?;
+        let mut decisions = Decisions::of_none(alloc, version, providers)?;
         for event in journal {
             decisions.note_accept(event)?;
         }
@@ -60,11 +58,11 @@ impl<'j> Decisions<'j> {
         *self.decided.get(position)?
     }
 
-    /// Whether accumulators are kept by the year.
-    pub fn keeps_years(&self) -> bool
-        ensures { result ≡ self.now.keeps_years }
+    /// The plan's version.
+    pub fn version(&self) -> u8
+        ensures { result ≡ self.now.version }
     {
-        self.keeps_years
+        self.version
     }
 
     /// How many claims are accepted.
@@ -74,19 +72,15 @@ impl<'j> Decisions<'j> {
         self.decided.len()
     }
 
-    fn of_none(
-        alloc: Global,
-        keeps_years: bool,
-        providers: usize,
-    ) -> Result<Decisions<'j>, AllocError>
-        ensures { IfOk result (Noted keeps_years providers [] []) }
+    fn of_none(alloc: Global, version: u8, providers: usize) -> Result<Decisions<'j>, AllocError>
+        ensures { IfOk result (Noted version providers [] []) }
     {
         let mut positions = Vec::with_capacity(alloc, providers)?;
         for _ in 0..providers {
             positions.push(Vec::new(alloc))?;
         }
         Ok(Decisions {
-            keeps_years,
+            version,
             positions,
             decided: Vec::new(alloc),
         })
@@ -94,7 +88,7 @@ impl<'j> Decisions<'j> {
 
     // Notes the claim that the event accepts, if it accepts one.
     fn note_accept(&mut self, event: &Event) -> Result<(), AllocError>
-        ensures { OnOk result ((years : Bool) (providers : ℕ) (front : List AnyEvent) → Noted years providers front [] self.old → Noted years providers (front ++ event.now ∷ []) [] self.new) }
+        ensures { OnOk result ((version : ℕ) (providers : ℕ) (front : List AnyEvent) → Noted version providers front [] self.old → Noted version providers (front ++ event.now ∷ []) [] self.new) }
     {
         let Event::Accept { provider, .. } = event else {
             return Ok(());
@@ -106,7 +100,7 @@ impl<'j> Decisions<'j> {
 
     // Notes each decision of the journal.
     fn note_decisions(&mut self, journal: &'j [Event])
-        ensures { (years : Bool) (providers : ℕ) (accepting : List AnyEvent) → Noted years providers accepting [] self.old → Noted years providers accepting journal.now self.new }
+        ensures { (version : ℕ) (providers : ℕ) (accepting : List AnyEvent) → Noted version providers accepting [] self.old → Noted version providers accepting journal.now self.new }
     {
         for event in journal {
             self.note_decision(event);
@@ -115,7 +109,7 @@ impl<'j> Decisions<'j> {
 
     // Notes what the event decides, if it decides a claim.
     fn note_decision(&mut self, event: &'j Event)
-        ensures { (years : Bool) (providers : ℕ) (accepting front : List AnyEvent) → Noted years providers accepting front self.old → Noted years providers accepting (front ++ event.now ∷ []) self.new }
+        ensures { (version : ℕ) (providers : ℕ) (accepting front : List AnyEvent) → Noted version providers accepting front self.old → Noted version providers accepting (front ++ event.now ∷ []) self.new }
     {
         let Event::Decide { position, outcome } = event else {
             return;

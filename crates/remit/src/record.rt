@@ -2,7 +2,7 @@
 ghost use Rattle.std.specs.Prelude.{◌≡◌, ◌≤◌, ℕ, pos, List, [], ◌∷◌, decimal, map, replicate, OnOk};
 ghost use Rattle.csv.specs.Records.{fields_of};
 ghost use Rattle.fixpoint.specs.Money.{money_text};
-ghost use Rattle.feel_tests.specs.Calendar.{year_of, year_text};
+ghost use Rattle.dtable.specs.Plan.{has_families, has_years};
 ghost use Rattle.journal.specs.Events.{accepted as accepted_in};
 ghost use Rattle.journal.specs.declared.event.Event.{Event as AnyEvent};
 ghost use Rattle.claim_terms.specs.Terms.{texts_of};
@@ -10,13 +10,14 @@ ghost use Rattle.remit.specs.Amounts.{amount_of, name_of};
 ghost use Rattle.remit.specs.Held.{Pushes};
 ghost use Rattle.remit.specs.Looked.{AreSums, looked_up, outcome_in};
 ghost use Rattle.remit.specs.Texts.{remarks_text};
-ghost use Rattle.remit.specs.Records.{front_names, header_fields, record_of, told_by, told_fields, told_of, told_refused, total_fields, total_front, whose_fields, year_fields};
+ghost use Rattle.remit.specs.Records.{front_names, header_fields, record_of, told_by, told_fields, told_of, told_refused, total_fields, total_front, claimant_fields, family_fields, whose_fields, year_fields};
 
 use crate::amount::{AMOUNTS, Amount};
 use crate::decisions::Decisions;
 use crate::sums::Sums;
 use crate::texts::{fault_text, reason_text, remarks_text, sum_text};
 use csv::ByteRecord;
+use dtable::{has_families, has_years};
 use feel_tests::{day_year, year_text};
 use intake_csv::{Row, RowFault};
 use itoa::Buffer;
@@ -30,11 +31,11 @@ const FIELDS_BEFORE: [&[u8]; 2] = [b"provider", b"record"];
 const FIELDS_BETWEEN: [&[u8]; 2] = [b"status", b"reason"];
 
 /// Fills the record with the names of the fields.
-pub fn fill_header(line: &mut ByteRecord, keeps_years: bool) -> Result<(), AllocError>
-    ensures { OnOk result (fields_of line.new ≡ header_fields keeps_years) }
+pub fn fill_header(line: &mut ByteRecord, version: u8) -> Result<(), AllocError>
+    ensures { OnOk result (fields_of line.new ≡ header_fields version) }
 {
     line.clear();
-    push_front_names(line, keeps_years)?;
+    push_front_names(line, version)?;
     push_names(line, &AMOUNTS)?;
     line.push_field(b"remarks")
 }
@@ -59,12 +60,12 @@ pub fn fill_row(
             claim,
         } => {
             push_number(line, *number)?;
-            push_claimant(line, decisions.keeps_years(), claim)?;
+            push_claimant(line, decisions.version(), claim)?;
             push_claim(alloc, line, decisions.outcome(provider, *place))
         }
         Row::Bad { number, fault } => {
             push_number(line, *number)?;
-            push_whose(line, decisions.keeps_years(), b"", b"", b"")?;
+            push_whose(line, decisions.version(), b"", b"", b"", b"")?;
             push_refused(alloc, line, *fault)
         }
     }
@@ -74,68 +75,78 @@ pub fn fill_row(
 pub fn fill_total(
     alloc: Global,
     line: &mut ByteRecord,
-    keeps_years: bool,
+    version: u8,
     accepted: usize,
     sums: Sums,
 ) -> Result<(), AllocError>
-    ensures { OnOk result ((J : List AnyEvent) (count : ℕ) → accepted ≡ accepted_in J → AreSums J count sums → fields_of line.new ≡ total_fields keeps_years J) }
+    ensures { OnOk result ((J : List AnyEvent) (count : ℕ) → accepted ≡ accepted_in J → AreSums J count sums → fields_of line.new ≡ total_fields version J) }
 {
     line.clear();
-    push_total_front(line, keeps_years, accepted)?;
+    push_total_front(line, version, accepted)?;
     push_sums(alloc, line, sums.as_slice())?;
     line.push_field(b"")
 }
 
 // The names of the fields in front of the amounts.
-fn push_front_names(line: &mut ByteRecord, keeps_years: bool) -> Result<(), AllocError>
-    ensures { OnOk result (Pushes line.old line.new (front_names keeps_years)) }
+fn push_front_names(line: &mut ByteRecord, version: u8) -> Result<(), AllocError>
+    ensures { OnOk result (Pushes line.old line.new (front_names version)) }
 {
     push_all(line, &FIELDS_BEFORE)?;
-    push_whose(line, keeps_years, b"claim", b"member", b"year")?;
+    push_whose(line, version, b"claim", b"family", b"member", b"year")?;
     push_all(line, &FIELDS_BETWEEN)
 }
 
 // The fields in front of the totals.
-fn push_total_front(
-    line: &mut ByteRecord,
-    keeps_years: bool,
-    accepted: usize,
-) -> Result<(), AllocError>
-    ensures { OnOk result (Pushes line.old line.new (total_front keeps_years accepted)) }
+fn push_total_front(line: &mut ByteRecord, version: u8, accepted: usize) -> Result<(), AllocError>
+    ensures { OnOk result (Pushes line.old line.new (total_front version accepted)) }
 {
     line.push_field(b"total")?;
     push_number(line, accepted)?;
-    push_whose(line, keeps_years, b"", b"", b"")?;
+    push_whose(line, version, b"", b"", b"", b"")?;
     push_repeated(line, b"", FIELDS_BETWEEN.len())
 }
 
 // Whose the claim is, and the year of its service, where there is a field for it.
-fn push_claimant(line: &mut ByteRecord, keeps_years: bool, claim: &Claim) -> Result<(), AllocError>
-    ensures { OnOk result (Pushes line.old line.new (whose_fields keeps_years claim.now.id claim.now.member (year_text (year_of claim.now.service)))) }
+fn push_claimant(line: &mut ByteRecord, version: u8, claim: &Claim) -> Result<(), AllocError>
+    ensures { OnOk result (Pushes line.old line.new (claimant_fields version claim.now)) }
 {
     let id = claim.id.as_str().as_bytes();
+    let family = claim.family().as_str().as_bytes();
     let member = claim.member.as_str().as_bytes();
-    if keeps_years {
+    if has_years(version) {
         let year = year_text(day_year(claim.service.epoch_day()));
-        push_whose(line, true, id, member, year.as_slice())
+        push_whose(line, version, id, family, member, year.as_slice())
     } else {
-        push_whose(line, false, id, member, b"")
+        push_whose(line, version, id, family, member, b"")
     }
 }
 
-// The fields that tell whose a record is: the year's one only where there is one.
+// The fields that tell whose a record is: those of the family and of the year only where there are such.
 fn push_whose(
     line: &mut ByteRecord,
-    keeps_years: bool,
+    version: u8,
     claim: &[u8],
+    family: &[u8],
     member: &[u8],
     year: &[u8],
 ) -> Result<(), AllocError>
-    ensures { OnOk result (Pushes line.old line.new (whose_fields keeps_years claim.now member.now year.now)) }
+    ensures { OnOk result (Pushes line.old line.new (whose_fields version claim.now family.now member.now year.now)) }
 {
     line.push_field(claim)?;
+    push_family(line, has_families(version), family)?;
     line.push_field(member)?;
-    push_year(line, keeps_years, year)
+    push_year(line, has_years(version), year)
+}
+
+// The field of the family, where there is one.
+fn push_family(line: &mut ByteRecord, families: bool, family: &[u8]) -> Result<(), AllocError>
+    ensures { OnOk result (Pushes line.old line.new (family_fields families family.now)) }
+{
+    if families {
+        line.push_field(family)
+    } else {
+        Ok(())
+    }
 }
 
 // The field of the year, where there is one.

@@ -1,6 +1,6 @@
 //! The report of a run: one record for each record of the providers' files, and one with the totals.
 ghost use Rattle.std.specs.Prelude.{◌≡◌, ◌≤◌, ◌-◌, ℕ, [], ◌∷◌, List, get_or, length, IfErr, OnOk, true};
-ghost use Rattle.dtable.specs.Plan.{PlanParts, keeps_years};
+ghost use Rattle.dtable.specs.Plan.{PlanParts};
 ghost use Rattle.dtable.specs.declared.table.InputData.{InputData};
 ghost use Rattle.fixpoint.specs.Out.{has_failed, writer_of};
 ghost use Rattle.journal.specs.Events.{accepted};
@@ -171,10 +171,10 @@ impl<'d, 'j> Report<'d, 'j> {
 
     fn write_header<W: Write>(&mut self, terms: &Terms, out: &mut Out<W>) -> Result<(), WriteFault>
         ensures writes { Writes (at (W.contents (writer_of out.old)) (has_failed out.old) self.old.writer)
-            (at (W.contents (writer_of out.new)) (has_failed out.new) self.new.writer) (record_text (header_fields (keeps_years terms.now.plan))) result }
+            (at (W.contents (writer_of out.new)) (has_failed out.new) self.new.writer) (record_text (header_fields terms.now.plan.version)) result }
         ensures decisions { self.new.decisions ≡ self.old.decisions }
     {
-        if fill_header(&mut self.line, terms.plan().keeps_years()).is_err() {
+        if fill_header(&mut self.line, terms.plan().version()).is_err() {
             return Err(self.writer.no_memory());
         }
         self.writer.write(&self.line, out)
@@ -320,12 +320,12 @@ impl<'d, 'j> Report<'d, 'j> {
     ) -> Result<(), WriteFault>
         requires { length self.old.decisions.now.decided.items ≡ accepted journal.now }
         ensures { Writes (at (W.contents (writer_of out.old)) (has_failed out.old) self.old.writer)
-            (at (W.contents (writer_of out.new)) (has_failed out.new) self.new.writer) (record_text (total_fields (keeps_years terms.now.plan) journal.now)) result }
+            (at (W.contents (writer_of out.new)) (has_failed out.new) self.new.writer) (record_text (total_fields terms.now.plan.version journal.now)) result }
     {
         let accepted = self.decisions.accepted();
         let sums = Sums::over(journal);
-        let keeps_years = terms.plan().keeps_years();
-        if fill_total(self.alloc, &mut self.line, keeps_years, accepted, sums).is_err() {
+        let version = terms.plan().version();
+        if fill_total(self.alloc, &mut self.line, version, accepted, sums).is_err() {
             return Err(self.writer.no_memory());
         }
         self.writer.write(&self.line, out)

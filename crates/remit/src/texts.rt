@@ -34,6 +34,7 @@ pub fn fault_text(alloc: Global, fault: RowFault) -> Result<String, AllocError>
         RowCause::NotCents => format!(in alloc; "notcents:{column}"),
         RowCause::Negative => format!(in alloc; "negative:{column}"),
         RowCause::Repeated => format!(in alloc; "repeated:{column}"),
+        RowCause::Sum => format!(in alloc; "sum:{column}"),
     }
 }
 

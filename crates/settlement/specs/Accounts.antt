@@ -1,5 +1,5 @@
 -- Accounts: whose accumulators a claim is settled at.
-use Rattle.std.specs.Prelude.{ℕ, ℤ, pos, ◌+ℤ◌, ◌==◌, ◌&&◌, Bool, cond, List}
+use Rattle.std.specs.Prelude.{ℕ, ℤ, pos, ◌+ℤ◌, ◌==◌, ◌&&◌, Bool, cond, List, Option, Some, None}
 use Rattle.std.specs.Str.{bytes_eq}
 use Rattle.feel_tests.specs.Calendar.{year_of}
 use Rattle.dtable.specs.Plan.{PlanParts, keeps_years}
@@ -13,9 +13,14 @@ pub record Account : Type 0 where
   pub member : List ℕ
   pub year : ℕ
 
--- the family of a claim: its lane
+-- the name, where there is one, or else the other
+abbrev pub named_or : Option (List ℕ) → List ℕ → List ℕ
+named_or None other = other
+named_or (Some name) other = name
+
+-- the family of a claim, which is its lane: the member alone, where the plan keeps no families
 abbrev pub family_of : Claim → List ℕ
-family_of claim = claim.member
+family_of claim = named_or claim.family claim.member
 
 -- the year whose accumulators a claim is settled at: that of its service, or 0 where they aren't kept by the year
 abbrev pub account_year : PlanParts → Claim → ℕ

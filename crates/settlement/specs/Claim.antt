@@ -1,16 +1,18 @@
 -- Claims and accumulators.
-use Rattle.std.specs.Prelude.{◌≡◌, pos, List, map}
+use Rattle.std.specs.Prelude.{◌≡◌, pos, List, map, is_some}
 use Rattle.feel_tests.specs.Value.{kind_of}
 use Rattle.dtable.specs.declared.table.InputData.{InputData}
 use Rattle.dtable.specs.Names.{names_of}
-use Rattle.dtable.specs.Plan.{PlanParts}
+use Rattle.dtable.specs.Plan.{PlanParts, keeps_families}
 use Rattle.settlement.specs.declared.acc.Acc.{Acc}
 use Rattle.settlement.specs.declared.claim.Claim.{Claim}
 
--- the claim has the plan's fields: a value of its kind for each of them, in order
+-- the claim has a family where the plan keeps families and nowhere else, and the plan's fields: a value of its kind for each of
+-- them, in order
 pub record IsClaimOf (plan : PlanParts) (claim : Claim) : Type 0 where
+  pub family : is_some claim.family ≡ keeps_families plan
   pub fields : List InputData
-  pub names : plan.names ≡ names_of fields
+  pub names : plan.names ≡ names_of (keeps_families plan) fields
   pub kinds : map kind_of claim.fields ≡ map (λ d. d.kind) fields
 
 -- the accumulators of a member without claims

@@ -1,5 +1,5 @@
--- What a claim and its member's accumulators give the names that a plan's tables read.
-use Rattle.std.specs.Prelude.{List, [], ◌∷◌, ◌++◌, map, Some}
+-- What a claim and its account's accumulators give the names that a plan's tables read.
+use Rattle.std.specs.Prelude.{ℕ, List, [], ◌∷◌, ◌++◌, map, Option, Some, None}
 use Rattle.feel_tests.specs.Value.{kind_of}
 use Rattle.feel_tests.specs.declared.kind.Kind.{Kind}
 use Rattle.feel_tests.specs.declared.value.Value.{Value}
@@ -8,17 +8,27 @@ use Rattle.dtable.specs.declared.inputs.Slot.{Slot}
 use Rattle.settlement.specs.declared.acc.Acc.{Acc}
 use Rattle.settlement.specs.declared.claim.Claim.{Claim}
 
--- the accumulators as values
-abbrev pub accumulator_values : Acc → List Value
-accumulator_values acc = Number acc.met ∷ Number acc.oop ∷ Number acc.paid ∷ []
+-- the accumulators as values: the family's sums too, where a claim has a family
+abbrev pub accumulator_values : Option (List ℕ) → Acc → List Value
+accumulator_values None acc = Number acc.met ∷ Number acc.oop ∷ Number acc.paid ∷ []
+accumulator_values (Some family) acc = Number acc.met ∷ Number acc.oop ∷ Number acc.paid ∷ Number acc.fmet ∷ Number acc.foop ∷ []
 
 -- the values behind those that every claim has: the fields, and the accumulators
 abbrev pub values_behind : Claim → Acc → List Value
-values_behind claim acc = claim.fields ++ accumulator_values acc
+values_behind claim acc = claim.fields ++ accumulator_values claim.family acc
 
--- the values for a plan's names, in order: the claim's own, its fields, and the accumulators
+-- the values from the member on
+abbrev pub values_from_member : Claim → Acc → List Value
+values_from_member claim acc = Text claim.member ∷ Day claim.service ∷ Number claim.billed ∷ values_behind claim acc
+
+-- values behind a family, where there is one
+abbrev pub behind_family : Option (List ℕ) → List Value → List Value
+behind_family None values = values
+behind_family (Some family) values = Text family ∷ values
+
+-- the values for a plan's names, in order: the claim's own, with its family, where it has one, its fields, and the accumulators
 abbrev pub values_given : Claim → Acc → List Value
-values_given claim acc = Text claim.id ∷ Text claim.member ∷ Day claim.service ∷ Number claim.billed ∷ values_behind claim acc
+values_given claim acc = Text claim.id ∷ behind_family claim.family (values_from_member claim acc)
 
 -- a place with its value
 abbrev pub slot_of : Value → Slot

@@ -1,5 +1,5 @@
 -- What accounts begin with.
-use Rattle.std.specs.Prelude.{◌+ℤ◌, Bool, List, [], ◌∷◌, cond}
+use Rattle.std.specs.Prelude.{ℤ, pos, ◌+ℤ◌, Bool, List, [], ◌∷◌, cond}
 use Rattle.settlement.specs.Accounts.{Account, is_household, is_same, part}
 use Rattle.settlement.specs.Claim.{nothing_yet}
 use Rattle.settlement.specs.declared.acc.Acc.{Acc}
@@ -22,6 +22,10 @@ abbrev pub opening : List (Account × Balance) → Account → Acc
 opening [] account = nothing_yet
 opening (entry ∷ rest) account = joins (is_same entry.0 account) (is_household entry.0 account) entry.1 (opening rest account)
 
--- what an account begins with that is alone in its household, and has this balance
-abbrev pub begun : Balance → Acc
-begun balance = record { met = balance.met; oop = balance.oop; paid = balance.paid; fmet = balance.met; foop = balance.oop }
+-- no balance: zeros
+abbrev pub no_balance : Balance
+no_balance = record { met = pos 0; oop = pos 0; paid = pos 0 }
+
+-- what an account begins with that has this balance, and whose family has these sums
+abbrev pub begun_beside : ℤ → ℤ → Balance → Acc
+begun_beside fmet foop balance = record { met = balance.met; oop = balance.oop; paid = balance.paid; fmet = fmet; foop = foop }

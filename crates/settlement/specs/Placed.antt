@@ -3,12 +3,14 @@ use Rattle.std.specs.Prelude.{◌≡◌, ℕ, List, Option, Some, None}
 use Rattle.std.specs.Option.{option_and_then}
 use Rattle.dtable.specs.declared.environment.Answer.{Answer}
 use Rattle.dtable.specs.declared.output_place.OutputPlace.{OutputPlace}
+use Rattle.dtable.specs.declared.roles.FamilyRoles.{FamilyRoles}
 use Rattle.dtable.specs.declared.roles.Roles.{Roles}
 use Rattle.dtable.specs.declared.roles.Source.{Source}
 use Rattle.dtable.specs.declared.roles.Source.TheVariants.{Literal, Input, Output}
 use Rattle.dtable.specs.declared.table.Table.{Table}
 use Rattle.dtable.specs.Environment.{answer_of, answer_at}
 use Rattle.dtable.specs.Plan.{PlanParts}
+use Rattle.settlement.specs.declared.placed.FamilyPlaces.{FamilyPlaces}
 use Rattle.settlement.specs.declared.placed.RolePlaces.{RolePlaces}
 
 -- the answer at the place, if there is one, is the answer of the output with the name, whatever the tables answer
@@ -26,6 +28,16 @@ abbrev pub AreRemarksPlaced : List Table → Option (List ℕ) → Option Output
 AreRemarksPlaced tables None place = Unit {0}
 AreRemarksPlaced tables (Some name) place = IsPlaceOf tables name place
 
+-- for the family's limits
+pub record AreLimitsPlaced (tables : List Table) (limits : FamilyRoles) (places : FamilyPlaces) : Type 0 where
+  pub deductible : IsPlaced tables limits.deductible places.deductible
+  pub oop_max : IsPlaced tables limits.oop_max places.oop_max
+
+-- and so, if there are any
+abbrev pub AreFamilyPlaced : List Table → Option FamilyRoles → FamilyPlaces → Type 0
+AreFamilyPlaced tables None places = Unit {0}
+AreFamilyPlaced tables (Some limits) places = AreLimitsPlaced tables limits places
+
 -- so for each role
 pub record ArePlaced (tables : List Table) (roles : Roles) (places : RolePlaces) : Type 0 where
   pub cover : IsPlaced tables roles.cover places.cover
@@ -35,6 +47,7 @@ pub record ArePlaced (tables : List Table) (roles : Roles) (places : RolePlaces)
   pub rate : IsPlaced tables roles.rate places.rate
   pub oop_max : IsPlaced tables roles.oop_max places.oop_max
   pub remarks : AreRemarksPlaced tables roles.remarks places.remarks
+  pub family : AreFamilyPlaced tables roles.family places.family
 
 -- so for the roles of a plan, if it has them
 abbrev pub ArePlacedFor : PlanParts → RolePlaces → Type 0

@@ -1,8 +1,9 @@
 -- What of a claim and its member's accumulators a plan reads.
-use Rattle.std.specs.Prelude.{◌≡◌, ◌==◌, ℕ, Bool, false, ◌||◌, List, filter, length, map, slice_get, IsTrue}
+use Rattle.std.specs.Prelude.{◌≡◌, ◌==◌, ℕ, Bool, false, ◌||◌, List, filter, length, map, slice_get, Option, Some, None, IsTrue}
 use Rattle.std.specs.List.{range_with_len}
 use Rattle.std.specs.Option.{option_map_or}
 use Rattle.dtable.specs.declared.inputs.Slot.{Slot}
+use Rattle.dtable.specs.declared.roles.FamilyRoles.{FamilyRoles}
 use Rattle.dtable.specs.declared.roles.Roles.{Roles}
 use Rattle.dtable.specs.declared.roles.Source.{Source}
 use Rattle.dtable.specs.declared.roles.Source.TheVariants.{Literal, Input, Output}
@@ -18,11 +19,16 @@ source_reads place (Literal value) = false
 source_reads place (Input p) = p == place
 source_reads place (Output name) = false
 
+-- one of the family's limits is what is given for the name at the place
+abbrev pub limits_read : ℕ → Option FamilyRoles → Bool
+limits_read place None = false
+limits_read place (Some limits) = source_reads place limits.deductible || source_reads place limits.oop_max
+
 -- some role's value is what is given for the name at the place
 abbrev pub roles_read : ℕ → Roles → Bool
 roles_read place roles =
     source_reads place roles.cover || (source_reads place roles.fee || (source_reads place roles.deductible || (source_reads place roles.copay
-    || (source_reads place roles.rate || source_reads place roles.oop_max))))
+    || (source_reads place roles.rate || (source_reads place roles.oop_max || limits_read place roles.family)))))
 
 -- some table or role reads the name at the place
 abbrev pub is_read : PlanParts → ℕ → Bool

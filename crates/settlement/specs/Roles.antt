@@ -2,12 +2,14 @@
 use Rattle.std.specs.Prelude.{ℕ, ℤ, Bool, false, if◌then◌else◌, List, [], Option, Some, None, Result, Ok, Err}
 use Rattle.std.specs.List.{filter_map}
 use Rattle.std.specs.Option.{option_and_then}
+use Rattle.std.specs.Result.{result_map_both}
 use Rattle.fixpoint.specs.Money.{is_money, is_rate}
 use Rattle.feel_tests.specs.declared.value.Value.{Value}
 use Rattle.feel_tests.specs.declared.value.Value.TheVariants.{Number, Text, Flag}
 use Rattle.dtable.specs.declared.environment.Answer.{Answer}
 use Rattle.dtable.specs.declared.environment.Answer.TheVariants.{Many}
 use Rattle.dtable.specs.declared.inputs.Slot.{Slot}
+use Rattle.dtable.specs.declared.roles.FamilyRoles.{FamilyRoles}
 use Rattle.dtable.specs.declared.roles.Roles.{Roles}
 use Rattle.dtable.specs.declared.roles.Source.{Source}
 use Rattle.dtable.specs.declared.roles.Source.TheVariants.{Literal, Input, Output}
@@ -15,7 +17,8 @@ use Rattle.dtable.specs.Environment.{Environment, answer_of}
 use Rattle.dtable.specs.Inputs.{value_at}
 use Rattle.dtable.specs.Matching.{single}
 use Rattle.settlement.specs.declared.role.Role.{Role}
-use Rattle.settlement.specs.declared.role.Role.TheVariants.{Fee, Deductible, Copay, Rate, OopMax}
+use Rattle.settlement.specs.declared.role.Role.TheVariants.{Fee, Deductible, Copay, Rate, OopMax, FamilyDeductible, FamilyOopMax}
+use Rattle.settlement.specs.declared.terms.FamilyTerms.{FamilyTerms}
 use Rattle.settlement.specs.declared.terms.RoleTerms.{RoleTerms}
 
 -- the number of a role in a program's messages
@@ -25,6 +28,8 @@ number_of Deductible = 3
 number_of Copay = 4
 number_of Rate = 5
 number_of OopMax = 6
+number_of FamilyDeductible = 8
+number_of FamilyOopMax = 9
 
 -- the answer of the output with this name
 abbrev pub answer_named : Environment → List ℕ → Option Answer
@@ -51,7 +56,24 @@ abbrev pub with_role : {X : Type 0} → Role → Option ℤ → (ℤ → Result 
 with_role role None next = Err role
 with_role role (Some units) next = next units
 
--- the number roles, in order: amounts of money and a rate, or the first role that isn't what it must be
+-- the family's limits, in order: amounts of money, or the first that isn't
+abbrev pub family_terms : List Slot → Environment → FamilyRoles → Result FamilyTerms Role
+family_terms given env limits =
+    with_role FamilyDeductible (units_where is_money (value_of given env limits.deductible)) (λ deductible.
+    with_role FamilyOopMax (units_where is_money (value_of given env limits.oop_max)) (λ oop_max.
+    Ok (record { deductible = deductible; oop_max = oop_max })))
+
+-- the same, if there are any
+abbrev pub limits : List Slot → Environment → Option FamilyRoles → Result (Option FamilyTerms) Role
+limits given env None = Ok None
+limits given env (Some roles) = result_map_both Some (λ role. role) (family_terms given env roles)
+
+-- what follows from the family's limits; one that isn't what it must be is the answer
+abbrev pub with_limits : {X : Type 0} → Result (Option FamilyTerms) Role → (Option FamilyTerms → Result X Role) → Result X Role
+with_limits (Err role) next = Err role
+with_limits (Ok family) next = next family
+
+-- the number roles, in order: amounts of money and a rate, and the family's limits, or the first role that isn't what it must be
 abbrev pub terms : List Slot → Environment → Roles → Result RoleTerms Role
 terms given env roles =
     with_role Fee (units_where is_money (value_of given env roles.fee)) (λ fee.
@@ -59,7 +81,8 @@ terms given env roles =
     with_role Copay (units_where is_money (value_of given env roles.copay)) (λ copay.
     with_role Rate (units_where is_rate (value_of given env roles.rate)) (λ rate.
     with_role OopMax (units_where is_money (value_of given env roles.oop_max)) (λ oop_max.
-    Ok (record { fee = fee; deductible = deductible; copay = copay; rate = rate; oop_max = oop_max }))))))
+    with_limits (limits given env roles.family) (λ family.
+    Ok (record { fee = fee; deductible = deductible; copay = copay; rate = rate; oop_max = oop_max; family = family })))))))
 
 -- the bytes of a text
 abbrev pub text_of : Value → Option (List ℕ)

@@ -1,5 +1,5 @@
 -- The settlement of a claim: its outcome, by a plan's roles, over what the plan's tables answer.
-use Rattle.std.specs.Prelude.{ℤ, pos, ◌+ℤ◌, ◌-ℤ◌, ℕ, List, [], Option, Some, None, Result, Ok, Err, if◌then◌else◌}
+use Rattle.std.specs.Prelude.{ℤ, pos, ◌+ℤ◌, ◌-ℤ◌, ℕ, List, [], Option, Some, None, option_map, Result, Ok, Err, if◌then◌else◌}
 use Rattle.std.specs.Int.{int_min, int_max}
 use Rattle.fixpoint.specs.Money.{cents_of_product}
 use Rattle.dtable.specs.declared.fault.Fault.{Fault}
@@ -26,19 +26,31 @@ use Rattle.settlement.specs.Roles.{value_of, is_true_flag, terms, remarks_of}
 abbrev pub left_of : ℤ → ℤ → ℤ
 left_of limit used = int_max (pos 0) (limit -ℤ used)
 
+-- an amount, and no more of it than is left of the family's limit, of which so much is used up, if there is such a limit
+abbrev pub within_limit : Option ℤ → ℤ → ℤ → ℤ
+within_limit None used amount = amount
+within_limit (Some limit) used amount = int_min amount (left_of limit used)
+
+-- the deductible of the family, and what it pays out of pocket at most, if there are such limits
+abbrev pub family_deductible : RoleTerms → Option ℤ
+family_deductible terms = option_map (λ f. f.deductible) terms.family
+
+abbrev pub family_oop_max : RoleTerms → Option ℤ
+family_oop_max terms = option_map (λ f. f.oop_max) terms.family
+
 -- the amounts of a covered claim that is billed at so much
 abbrev pub amounts : ℤ → RoleTerms → Acc → Amounts
 amounts billed terms acc =
     -- allowed is what is billed, and no more than the fee
     let allowed = int_min billed terms.fee in
-    -- the deductible takes of it what is left to be met
-    let ded = int_min allowed (left_of terms.deductible acc.met) in
+    -- the deductible takes of it what is left to be met, by the member and by the family
+    let ded = within_limit (family_deductible terms) acc.fmet (int_min allowed (left_of terms.deductible acc.met)) in
     -- the copay comes out of the rest
     let copay = int_min (allowed -ℤ ded) terms.copay in
     -- the coinsurance is the rate's part of what is left then, rounded once to whole cents, half to even
     let coins = cents_of_product (allowed -ℤ ded -ℤ copay) terms.rate in
-    -- the member's share is these three, and no more than is left of the out-of-pocket limit
-    let share = int_min (ded +ℤ copay +ℤ coins) (left_of terms.oop_max acc.oop) in
+    -- the member's share is these three, and no more than is left of the out-of-pocket limits, the member's and the family's
+    let share = within_limit (family_oop_max terms) acc.foop (int_min (ded +ℤ copay +ℤ coins) (left_of terms.oop_max acc.oop)) in
     -- the plan pays the rest of what is allowed
     record { allowed = allowed; ded = ded; copay = copay; coins = coins; share = share; paid = allowed -ℤ share }
 

@@ -1,8 +1,8 @@
-//! Accumulators: what is kept of a member's claims.
+//! Accumulators: what is kept of a member's claims, and of its family's.
 
 use crate::money::Money;
 
-/// What a member's claims came to so far.
+/// What a member's claims came to so far, and those of all members of its family.
 #[derive(Clone, Copy, Debug, PartialEq, Eq, Hash)]
 pub struct Acc {
     /// What was met of the deductible.

@@ -20,18 +20,29 @@ pub struct Balance {
 }
 
 impl Balance {
-    ghost use Rattle.settlement.specs.Opening.{begun};
+    ghost use Rattle.settlement.specs.Opening.{begun_beside, no_balance};
 
-    /// The accumulators of an account that begins with it, and is alone in its family.
-    pub fn alone(self) -> Acc
-        ensures { result ≡ begun self }
+    /// No balance: zeros.
+    pub fn zero() -> Balance
+        ensures { result ≡ no_balance }
+    {
+        Balance {
+            met: Money::zero(),
+            oop: Money::zero(),
+            paid: Money::zero(),
+        }
+    }
+
+    /// The accumulators of an account that begins with it, and whose family has these sums.
+    pub fn beside(self, fmet: Money, foop: Money) -> Acc
+        ensures { result ≡ begun_beside fmet foop self }
     {
         Acc {
             met: self.met,
             oop: self.oop,
             paid: self.paid,
-            fmet: self.met,
-            foop: self.oop,
+            fmet,
+            foop,
         }
     }
 }

@@ -1,6 +1,6 @@
 //! The amounts of a covered claim.
 ghost use Rattle.std.specs.Prelude.{◌≡◌, ◌+ℤ◌, ◌≤ℤ◌};
-ghost use Rattle.settlement.specs.Settlement.{amounts};
+ghost use Rattle.settlement.specs.Settlement.{amounts, family_deductible, family_oop_max, within_limit};
 
 use crate::acc::Acc;
 use crate::money::Money;
@@ -22,13 +22,15 @@ pub fn amounts_of(billed: Money, terms: RoleTerms, acc: Acc) -> Amounts
     ensures { result ≡ amounts billed terms acc }
 {
     let allowed = billed.min(terms.fee);
-    let ded = allowed.min(terms.deductible.left(acc.met));
+    let unmet = allowed.min(terms.deductible.left(acc.met));
+    let ded = within_limit(unmet, family_deductible(terms), acc.fmet);
     let behind_ded = allowed.minus(ded);
     let copay = behind_ded.min(terms.copay);
     let behind_copay = behind_ded.minus(copay);
     let coins = behind_copay.part(terms.rate);
     let taken = taken(allowed, ded, copay, coins);
-    let share = taken.min(terms.oop_max.left(acc.oop));
+    let due = taken.min(terms.oop_max.left(acc.oop));
+    let share = within_limit(due, family_oop_max(terms), acc.foop);
     Amounts {
         allowed,
         ded,
@@ -36,6 +38,35 @@ pub fn amounts_of(billed: Money, terms: RoleTerms, acc: Acc) -> Amounts
         coins,
         share,
         paid: allowed.minus(share),
+    }
+}
+
+// An amount, and no more of it than is left of the family's limit, if there is one, of which so much is used up.
+fn within_limit(amount: Money, limit: Option<Money>, used: Money) -> Money
+    ensures value { result ≡ within_limit limit used amount }
+    ensures within { result ≤ℤ amount }
+{
+    match limit {
+        Some(limit) => amount.min(limit.left(used)),
+        None => amount,
+    }
+}
+
+fn family_deductible(terms: RoleTerms) -> Option<Money>
+    ensures { result ≡ family_deductible terms }
+{
+    match terms.family {
+        Some(family) => Some(family.deductible),
+        None => None,
+    }
+}
+
+fn family_oop_max(terms: RoleTerms) -> Option<Money>
+    ensures { result ≡ family_oop_max terms }
+{
+    match terms.family {
+        Some(family) => Some(family.oop_max),
+        None => None,
     }
 }
 

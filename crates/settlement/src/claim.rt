@@ -3,7 +3,7 @@
 ghost use Rattle.std.specs.Prelude.{◌≡◌, ◌↔◌, IsTrue, IfOk};
 ghost use Rattle.std.specs.List.{list_all, zip};
 ghost use Rattle.dtable.specs.Names.{names_of};
-ghost use Rattle.dtable.specs.Plan.{has_kind};
+ghost use Rattle.dtable.specs.Plan.{has_kind, keeps_families};
 ghost use Rattle.settlement.specs.Fields.{have_kinds};
 
 use crate::money::Money;
@@ -16,11 +16,18 @@ const NAMES_BEFORE: usize = 4;
 
 const NAMES_BEHIND: usize = 3;
 
+/// How many they are where the plan keeps families: `family` is one more in front, `fmet` and `foop` are two more behind.
+const NAMES_BEFORE_WITH_FAMILIES: usize = 5;
+
+const NAMES_BEHIND_WITH_FAMILIES: usize = 5;
+
 /// A claim: one service to one member.
 #[derive(Debug, Drop)]
 pub struct Claim {
     /// The provider's number for it.
     pub id: Text,
+    /// The family of the member, where the plan keeps families.
+    pub family: Option<Text>,
     /// Who the service was for.
     pub member: Text,
     /// The day of the service.
@@ -35,18 +42,23 @@ impl Claim {
     ghost use Rattle.settlement.specs.Accounts.{family_of};
     ghost use Rattle.settlement.specs.Claim.{IsClaimOf};
 
-    /// The family of the member: each member is one of its own.
+    /// The family of the member: a member is one of its own where the plan keeps none.
     pub fn family(&self) -> &Text
         ensures { result.now ≡ family_of self.now }
     {
-        &self.member
+        match &self.family {
+            Some(family) => family,
+            None => &self.member,
+        }
     }
 
-    /// Whether the claim has the plan's fields: a value of its kind for each of them, in order.
+    /// Whether the claim has a family exactly where the plan keeps families, and the plan's fields: a value of its kind for each of
+    /// them, in order.
     pub fn is_of(&self, plan: &Plan) -> bool
         ensures { IsTrue result ↔ IsClaimOf plan.now self.now }
     {
-        have_kinds(self.fields.as_slice(), fields_of(plan))
+        self.family.is_some() == plan.keeps_families()
+            && have_kinds(self.fields.as_slice(), fields_of(plan))
     }
 
     /// A copy, in memory of its own.
@@ -55,6 +67,7 @@ impl Claim {
     {
         Ok(Claim {
             id: Text::new(alloc, self.id.as_str())?,
+            family: copy_of(alloc, &self.family)?,
             member: Text::new(alloc, self.member.as_str())?,
             service: self.service,
             billed: self.billed,
@@ -63,12 +76,26 @@ impl Claim {
     }
 }
 
+// A copy of a text, if there is one.
+fn copy_of(alloc: Global, text: &Option<Text>) -> Result<Option<Text>, AllocError>
+    ensures { IfOk result (λ copy. copy ≡ text.now) }
+{
+    match text {
+        Some(text) => Ok(Some(Text::new(alloc, text.as_str())?)),
+        None => Ok(None),
+    }
+}
+
 /// The fields of a plan, in order: its names without those of every claim and of the accumulators.
 pub fn fields_of(plan: &Plan) -> &[InputData]
-    ensures { plan.now.names ≡ names_of result.now }
+    ensures { plan.now.names ≡ names_of (keeps_families plan.now) result.now }
 {
     let names = plan.names();
-    &names[NAMES_BEFORE..names.len() - NAMES_BEHIND]
+    if plan.keeps_families() {
+        &names[NAMES_BEFORE_WITH_FAMILIES..names.len() - NAMES_BEHIND_WITH_FAMILIES]
+    } else {
+        &names[NAMES_BEFORE..names.len() - NAMES_BEHIND]
+    }
 }
 
 // Whether the values have the fields' kinds, one for each.

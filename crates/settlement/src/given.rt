@@ -5,26 +5,27 @@ ghost use Rattle.dtable.specs.Plan.{IsPlan};
 ghost use Rattle.feel_tests.specs.Value.{kind_of};
 ghost use Rattle.feel_tests.specs.declared.value.Value.TheVariants as values;
 ghost use Rattle.settlement.specs.declared.acc.Acc.{Acc};
-ghost use Rattle.settlement.specs.Given.{accumulator_values, slot_kinds, values_behind, values_given};
-ghost use Rattle.settlement.specs.Reads.{is_read, places_read, roles_read, source_reads, HasItsValue};
+ghost use Rattle.settlement.specs.Given.{accumulator_values, behind_family, slot_kinds, values_behind, values_from_member, values_given};
+ghost use Rattle.settlement.specs.Reads.{is_read, limits_read, places_read, roles_read, source_reads, HasItsValue};
 
 use crate::acc::Acc;
 use crate::claim::Claim;
-use dtable::{Inputs, Plan, Roles, Sequence, Source};
+use dtable::{FamilyRoles, Inputs, Plan, Roles, Sequence, Source};
 use feel_tests::{Text, Value};
 use fixpoint::Fixed;
 use std::alloc::{AllocError, Global};
 
-/// The places of a claim's own values among a plan's names, and of its first field.
+/// The place of a claim's number among a plan's names. Behind it stands its family, where it has one.
 const ID: usize = 0;
 
-const MEMBER: usize = 1;
+/// The places of a claim's other values, and of its first field, counted from the member.
+const MEMBER: usize = 0;
 
-const SERVICE: usize = 2;
+const SERVICE: usize = 1;
 
-const BILLED: usize = 3;
+const BILLED: usize = 2;
 
-const FIRST_FIELD: usize = 4;
+const FIRST_FIELD: usize = 3;
 
 /// The places of the names that some table or role of the plan reads, in order.
 pub fn places_read(alloc: Global, plan: &Plan) -> Result<Sequence<usize>, AllocError>
@@ -58,6 +59,18 @@ fn roles_read(place: usize, roles: &Roles) -> bool
         || source_reads(place, &roles.copay)
         || source_reads(place, &roles.rate)
         || source_reads(place, &roles.oop_max)
+        || limits_read(place, &roles.family)
+}
+
+fn limits_read(place: usize, limits: &Option<FamilyRoles>) -> bool
+    ensures { result ≡ limits_read place limits.now }
+{
+    match limits {
+        Some(limits) => {
+            source_reads(place, &limits.deductible) || source_reads(place, &limits.oop_max)
+        }
+        None => false,
+    }
 }
 
 fn source_reads(place: usize, source: &Source) -> bool
@@ -116,6 +129,28 @@ fn text_given(claim: &Claim, place: usize) -> Option<&Text>
 {
     match place {
         ID => Some(&claim.id),
+        _ => text_behind_id(claim, place - 1),
+    }
+}
+
+// The same for a place that is counted from behind the claim's number.
+fn text_behind_id(claim: &Claim, place: usize) -> Option<&Text>
+    ensures { (acc : Acc) → IfSome result (λ text. slice_get (behind_family claim.now.family (values_from_member claim.now acc)) place ≡ Some (values.Text text.now)) }
+{
+    match &claim.family {
+        None => text_from_member(claim, place),
+        Some(family) => match place {
+            0 => Some(family),
+            _ => text_from_member(claim, place - 1),
+        },
+    }
+}
+
+// The same for a place that is counted from the member.
+fn text_from_member(claim: &Claim, place: usize) -> Option<&Text>
+    ensures { (acc : Acc) → IfSome result (λ text. slice_get (values_from_member claim.now acc) place ≡ Some (values.Text text.now)) }
+{
+    match place {
         MEMBER => Some(&claim.member),
         SERVICE | BILLED => None,
         _ => match claim.fields.as_slice().get(place - FIRST_FIELD) {
@@ -132,6 +167,40 @@ fn value_given(alloc: Global, claim: &Claim, acc: &Acc, place: usize) -> Result<
 {
     match place {
         ID => text_value(alloc, &claim.id),
+        _ => value_behind_id(alloc, claim, acc, place - 1),
+    }
+}
+
+// The same for a place that is counted from behind the claim's number.
+fn value_behind_id(
+    alloc: Global,
+    claim: &Claim,
+    acc: &Acc,
+    place: usize,
+) -> Result<Value, AllocError>
+    requires { place < length (behind_family claim.now.family (values_from_member claim.now acc.now)) }
+    ensures { IfOk result (λ value. slice_get (behind_family claim.now.family (values_from_member claim.now acc.now)) place ≡ Some value) }
+{
+    match &claim.family {
+        None => value_from_member(alloc, claim, acc, place),
+        Some(family) => match place {
+            0 => text_value(alloc, family),
+            _ => value_from_member(alloc, claim, acc, place - 1),
+        },
+    }
+}
+
+// The same for a place that is counted from the member.
+fn value_from_member(
+    alloc: Global,
+    claim: &Claim,
+    acc: &Acc,
+    place: usize,
+) -> Result<Value, AllocError>
+    requires { place < length (values_from_member claim.now acc.now) }
+    ensures { IfOk result (λ value. slice_get (values_from_member claim.now acc.now) place ≡ Some value) }
+{
+    match place {
         MEMBER => text_value(alloc, &claim.member),
         SERVICE => Ok(Value::Day(claim.service)),
         BILLED => Ok(Value::Number(claim.billed.amount())),
@@ -146,7 +215,7 @@ fn behind_billed(alloc: Global, claim: &Claim, acc: &Acc, place: usize) -> Resul
     let fields = claim.fields.as_slice();
     match fields.get(place) {
         Some(value) => value.duplicate(alloc),
-        None => Ok(Value::Number(accumulator(acc, place - fields.len()))),
+        None => Ok(Value::Number(accumulator(claim, acc, place - fields.len()))),
     }
 }
 
@@ -156,13 +225,16 @@ fn text_value(alloc: Global, text: &Text) -> Result<Value, AllocError>
     Ok(Value::Text(Text::new(alloc, text.as_str())?))
 }
 
-fn accumulator(acc: &Acc, place: usize) -> Fixed
-    requires { place < 3 }
-    ensures { slice_get (accumulator_values acc.now) place ≡ Some (values.Number result) }
+// The accumulator at a place; of the claim it matters whether it has a family.
+fn accumulator(claim: &Claim, acc: &Acc, place: usize) -> Fixed
+    requires { place < length (accumulator_values claim.now.family acc.now) }
+    ensures { slice_get (accumulator_values claim.now.family acc.now) place ≡ Some (values.Number result) }
 {
     match place {
         0 => acc.met.amount(),
         1 => acc.oop.amount(),
-        _ => acc.paid.amount(),
+        2 => acc.paid.amount(),
+        3 => acc.fmet.amount(),
+        _ => acc.foop.amount(),
     }
 }

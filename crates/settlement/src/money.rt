@@ -62,7 +62,7 @@ impl Money {
     }
 
     /// The sum, where it is in the number range.
-    pub(crate) fn plus(self, other: Money) -> Option<Money>
+    pub fn plus(self, other: Money) -> Option<Money>
         ensures sum { SomeIff result (IsTrue (is_in_range (self +ℤ other))) (self +ℤ other) }
         ensures before { IsTrue (is_in_range self) }
     {

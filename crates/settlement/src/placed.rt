@@ -1,7 +1,14 @@
 //! Where a plan's tables answer its roles, found once so that no decision looks for a name.
-ghost use Rattle.settlement.specs.Placed.{IsPlaced, AreRemarksPlaced, ArePlacedFor};
+ghost use Rattle.settlement.specs.Placed.{IsPlaced, AreFamilyPlaced, AreRemarksPlaced, ArePlacedFor};
 
-use dtable::{Name, OutputPlace, Plan, Source};
+use dtable::{FamilyRoles, Name, OutputPlace, Plan, Source};
+
+/// For each of the family's limits the place of the output that gives its value, if one does.
+#[derive(Debug, Drop)]
+pub struct FamilyPlaces {
+    pub deductible: Option<OutputPlace>,
+    pub oop_max: Option<OutputPlace>,
+}
 
 /// For each role the place of the output that gives its value, if one does.
 #[derive(Debug, Drop)]
@@ -13,6 +20,7 @@ pub struct RolePlaces {
     pub rate: Option<OutputPlace>,
     pub oop_max: Option<OutputPlace>,
     pub remarks: Option<OutputPlace>,
+    pub family: FamilyPlaces,
 }
 
 /// The places of the roles' outputs.
@@ -28,6 +36,7 @@ pub fn role_places(plan: &Plan) -> RolePlaces
             rate: place_of(plan, &roles.rate),
             oop_max: place_of(plan, &roles.oop_max),
             remarks: remarks_place(plan, &roles.remarks),
+            family: family_places(plan, &roles.family),
         },
         None => RolePlaces {
             cover: None,
@@ -37,7 +46,27 @@ pub fn role_places(plan: &Plan) -> RolePlaces
             rate: None,
             oop_max: None,
             remarks: None,
+            family: no_places(),
         },
+    }
+}
+
+fn family_places(plan: &Plan, limits: &Option<FamilyRoles>) -> FamilyPlaces
+    ensures { AreFamilyPlaced plan.now.tables limits.now result }
+{
+    match limits {
+        Some(limits) => FamilyPlaces {
+            deductible: place_of(plan, &limits.deductible),
+            oop_max: place_of(plan, &limits.oop_max),
+        },
+        None => no_places(),
+    }
+}
+
+fn no_places() -> FamilyPlaces {
+    FamilyPlaces {
+        deductible: None,
+        oop_max: None,
     }
 }
 

@@ -15,10 +15,14 @@ pub enum Role {
     Rate,
     /// The most that the member pays in all: money.
     OopMax,
+    /// What the family pays before the plan does for all its members: money.
+    FamilyDeductible,
+    /// The most that the family pays in all: money.
+    FamilyOopMax,
 }
 
 impl Role {
-    /// The role's number in a program's messages, from 2 to 6.
+    /// The role's number in a program's messages, from 2 to 6, or 8 or 9.
     pub fn number(self) -> u8
         ensures { result ≡ number_of self }
     {
@@ -28,6 +32,8 @@ impl Role {
             Role::Copay => 4,
             Role::Rate => 5,
             Role::OopMax => 6,
+            Role::FamilyDeductible => 8,
+            Role::FamilyOopMax => 9,
         }
     }
 }

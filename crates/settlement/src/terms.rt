@@ -4,20 +4,27 @@ ghost use Rattle.std.specs.List.{filter_map};
 ghost use Rattle.std.specs.Option.{option_and_then, option_copied};
 ghost use Rattle.fixpoint.specs.Money.{is_money, is_rate};
 ghost use Rattle.dtable.specs.Environment.{answer_at};
-ghost use Rattle.settlement.specs.Placed.{IsPlaced, AreRemarksPlaced, ArePlaced};
-ghost use Rattle.settlement.specs.Roles.{value_of, is_true_flag, units_where, terms, remarks_of, text_of, texts_of};
+ghost use Rattle.settlement.specs.Placed.{IsPlaced, AreFamilyPlaced, AreLimitsPlaced, AreRemarksPlaced, ArePlaced};
+ghost use Rattle.settlement.specs.Roles.{value_of, is_true_flag, units_where, terms, family_terms, limits, remarks_of, text_of, texts_of};
 
 use crate::money::Money;
-use crate::placed::RolePlaces;
+use crate::placed::{FamilyPlaces, RolePlaces};
 use crate::rate::Rate;
 use crate::remarks::Remarks;
 use crate::role::Role;
 use crate::vocabulary::Vocabulary;
-use dtable::{Answer, Env, Inputs, Name, OutputPlace, Roles, Sequence, Source};
+use dtable::{Answer, Env, FamilyRoles, Inputs, Name, OutputPlace, Roles, Sequence, Source};
 use feel_tests::{Text, Value};
 use std::alloc::{AllocError, Global};
 
-/// The number roles of a claim: amounts of money and a rate.
+/// The limits of a claim's family: amounts of money.
+#[derive(Clone, Copy, Debug)]
+pub struct FamilyTerms {
+    pub deductible: Money,
+    pub oop_max: Money,
+}
+
+/// The number roles of a claim: amounts of money and a rate, and the family's limits, if there are any.
 #[derive(Clone, Copy, Debug)]
 pub struct RoleTerms {
     pub fee: Money,
@@ -25,6 +32,7 @@ pub struct RoleTerms {
     pub copay: Money,
     pub rate: Rate,
     pub oop_max: Money,
+    pub family: Option<FamilyTerms>,
 }
 
 /// Whether the claim is covered. The roles' outputs stand at these places.
@@ -57,11 +65,53 @@ pub fn terms_of(
     let oop_max = money_of(value_of(inputs, env, &roles.oop_max, places.oop_max)).ok_or(
         Role::OopMax,
     )?;
+    let family = limits_of(inputs, env, &roles.family, &places.family)?;
     Ok(RoleTerms {
         fee,
         deductible,
         copay,
         rate,
+        oop_max,
+        family,
+    })
+}
+
+// The family's limits, if there are any, or the first that isn't money.
+fn limits_of(
+    inputs: &Inputs,
+    env: &Env,
+    limits: &Option<FamilyRoles>,
+    places: &FamilyPlaces,
+) -> Result<Option<FamilyTerms>, Role>
+    requires { AreFamilyPlaced env.now.tables limits.now places.now }
+    ensures { result ≡ limits inputs.now env.now limits.now }
+{
+    match limits {
+        Some(limits) => {
+            let terms = family_terms_of(inputs, env, limits, places)?;
+            Ok(Some(terms))
+        }
+        None => Ok(None),
+    }
+}
+
+fn family_terms_of(
+    inputs: &Inputs,
+    env: &Env,
+    limits: &FamilyRoles,
+    places: &FamilyPlaces,
+) -> Result<FamilyTerms, Role>
+    requires { AreLimitsPlaced env.now.tables limits.now places.now }
+    ensures { result ≡ family_terms inputs.now env.now limits.now }
+{
+    let deductible = money_of(value_of(inputs, env, &limits.deductible, places.deductible)).ok_or(
+        Role::FamilyDeductible,
+    )?;
+    let oop_max = money_of(value_of(inputs, env, &limits.oop_max, places.oop_max)).ok_or(
+        Role::FamilyOopMax,
+    )?;
+    Ok(FamilyTerms {
+        deductible,
         oop_max,
     })
 }

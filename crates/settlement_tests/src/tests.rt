@@ -66,6 +66,15 @@ fn values(
     Ok(values)
 }
 
+// The family of a claim, where the plan keeps families.
+fn family_under(rt: &impl Abort, alloc: Global, plan: &Plan) -> Result<Option<Text>, AllocError> {
+    if plan.keeps_families() {
+        Ok(Some(text(rt, alloc, "F1")?))
+    } else {
+        Ok(None)
+    }
+}
+
 fn claim(
     rt: &impl Abort,
     alloc: Global,
@@ -75,6 +84,7 @@ fn claim(
 ) -> Result<Claim, AllocError> {
     Ok(Claim {
         id: text(rt, alloc, "c1")?,
+        family: family_under(rt, alloc, plan)?,
         member: text(rt, alloc, "M1")?,
         service: Day::from_epoch_day(19_727).expect(rt, "a day"),
         billed: money(rt, billed),

@@ -40,6 +40,45 @@ pub fn health_plan() -> &'static str {
     HEALTH_PLAN
 }
 
+const FAMILY_PLAN: &str = r#"version = 3
+fields = [{name = "code", kind = "text"}]
+
+[roles]
+cover = "covered"
+fee = "fee"
+deductible = "50"
+copay = "10"
+rate = "0.2"
+oop_max = "60"
+remarks = "note"
+family_deductible = "80"
+family_oop_max = "100"
+
+[[tables]]
+inputs = [{name = "code"}]
+outputs = [{name = "covered", kind = "flag"}, {name = "fee", kind = "number"}]
+rules = [
+  {when = ['"A"'], then = ['true', '100']},
+  {when = ['"B"'], then = ['true', '40']},
+  {when = ['"X"'], then = ['false', '0']},
+]
+
+[[tables]]
+hit = "R"
+inputs = [{name = "billed"}, {name = "met"}]
+outputs = [{name = "note", kind = "text"}]
+rules = [
+  {when = ['>100', '-'], then = ['"OVER"']},
+  {when = ['-', '>=50'], then = ['"MET"']},
+]
+"#;
+
+/// The same plan for families: beside its member's limits each claim has those of its family, a deductible of 80.00 and a limit of
+/// 100.00.
+pub fn family_plan() -> &'static str {
+    FAMILY_PLAN
+}
+
 const FIRST_FILE: &[u8] = b"claim,member,service,billed,code
 c1,M1,2024-01-05,120.00,A
 c2,M1,2024-02-01,40.00,B
@@ -61,6 +100,18 @@ d3,M2,2024-01-11,10.00,X
 /// Three records of another member. The second is refused: it isn't in whole cents.
 pub fn second_file() -> &'static [u8] {
     SECOND_FILE
+}
+
+const FAMILY_FILE: &[u8] = b"claim,family,member,service,billed,code
+e1,F1,M1,2024-01-05,120.00,A
+e2,F1,M2,2024-02-01,100.00,A
+e3,F1,M3,2024-03-01,100.00,A
+e4,F2,M1,2024-03-02,30.00,B
+";
+
+/// Claims of three members of one family, and of one of another, whose number is that of a member of the first.
+pub fn family_file() -> &'static [u8] {
+    FAMILY_FILE
 }
 
 const FILES: &[&[u8]] = &[FIRST_FILE, SECOND_FILE];
@@ -99,6 +150,20 @@ total,6,,,,,270.00,80.00,30.00,32.00,90.00,180.00,\r
 /// The remittance of both files, from members who begin with nothing.
 pub fn remittance() -> &'static str {
     REMITTANCE
+}
+
+const FAMILY_REMITTANCE: &str =
+    "provider,record,claim,family,member,year,status,reason,allowed,ded,copay,coins,share,paid,remarks\r
+1,1,e1,F1,M1,2024,paid,,100.00,50.00,10.00,8.00,60.00,40.00,OVER\r
+1,2,e2,F1,M2,2024,paid,,100.00,30.00,10.00,12.00,40.00,60.00,\r
+1,3,e3,F1,M3,2024,paid,,100.00,0.00,10.00,18.00,0.00,100.00,\r
+1,4,e4,F2,M1,2024,paid,,30.00,30.00,0.00,0.00,30.00,0.00,\r
+total,4,,,,,,,330.00,110.00,30.00,38.00,130.00,200.00,\r
+";
+
+/// Its remittance, from families that begin with nothing.
+pub fn family_remittance() -> &'static str {
+    FAMILY_REMITTANCE
 }
 
 const LATE: &str =

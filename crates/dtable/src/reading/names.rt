@@ -1,7 +1,7 @@
 //! Reads the names and kinds of a plan's columns, and its fields.
 ghost use Rattle.std.specs.Prelude.{◌≡◌, ◌++◌};
 ghost use Rattle.toml.specs.View.{view, items_view};
-ghost use Rattle.dtable.specs.NameForm.{has_name_form, is_among, reserved_names};
+ghost use Rattle.dtable.specs.NameForm.{family_names, has_name_form, is_among, names_taken, reserved_names};
 ghost use Rattle.dtable.specs.PlanFile.{IsNamed, IsNewlyNamed, IsOfKind, IsField, AreFields, AreNames};
 ghost use Rattle.dtable.specs.Reading.{Reads};
 ghost use Rattle.dtable.specs.Scope.{data_names};
@@ -23,19 +23,30 @@ const RESERVED_NAMES: [&str; 11] = [
     "claim", "member", "service", "billed", "met", "oop", "paid", "true", "false", "not", "date",
 ];
 
-/// Reads the fields of a document, and puts them among the names that every plan has.
-pub fn read_names(alloc: Global, document: &Value) -> Result<Sequence<InputData>, PlanFault>
-    ensures { Reads (AreNames (view document.now)) result }
+/// The names that are taken beside them where families are kept.
+const FAMILY_NAMES: [&str; 3] = ["family", "fmet", "foop"];
+
+/// Reads the fields of a document, and puts them among the names that every plan has, or every plan that keeps families.
+pub fn read_names(
+    alloc: Global,
+    document: &Value,
+    families: bool,
+) -> Result<Sequence<InputData>, PlanFault>
+    ensures { Reads (AreNames families (view document.now)) result }
 {
     let entries = optional_array(document, "fields")?;
-    let fields = read_fields(alloc, entries)?;
-    let names = all_names(alloc, fields)?;
+    let fields = read_fields(alloc, families, entries)?;
+    let names = all_names(alloc, families, fields)?;
     Ok(names)
 }
 
 /// Reads the entries of `fields`.
-fn read_fields(alloc: Global, entries: &[Value]) -> Result<Sequence<InputData>, PlanFault>
-    ensures { Reads (AreFields (items_view entries.now)) result }
+fn read_fields(
+    alloc: Global,
+    families: bool,
+    entries: &[Value],
+) -> Result<Sequence<InputData>, PlanFault>
+    ensures { Reads (AreFields families (items_view entries.now)) result }
 {
     check_count(
         entries,
@@ -46,6 +57,7 @@ fn read_fields(alloc: Global, entries: &[Value]) -> Result<Sequence<InputData>, 
     for (index, entry) in entries.iter().enumerate() {
         let field = read_field(
             alloc,
+            families,
             entry,
             fields.as_slice(),
             Place::TEXT.in_column(index + 1),
@@ -57,27 +69,29 @@ fn read_fields(alloc: Global, entries: &[Value]) -> Result<Sequence<InputData>, 
 
 fn read_field(
     alloc: Global,
+    families: bool,
     entry: &Value,
     front: &[InputData],
     place: Place,
 ) -> Result<InputData, PlanFault>
-    ensures { Reads (IsField (reserved_names ++ data_names front.now) (view entry.now)) result }
+    ensures { Reads (IsField (names_taken families ++ data_names front.now) (view entry.now)) result }
 {
-    let name = read_field_name(alloc, entry, front, place)?;
+    let name = read_field_name(alloc, families, entry, front, place)?;
     let kind = read_kind(entry, place)?;
     Ok(InputData { name, kind })
 }
 
 fn read_field_name(
     alloc: Global,
+    families: bool,
     entry: &Value,
     front: &[InputData],
     place: Place,
 ) -> Result<Name, PlanFault>
-    ensures { Reads (IsNewlyNamed (reserved_names ++ data_names front.now) (view entry.now)) result }
+    ensures { Reads (IsNewlyNamed (names_taken families ++ data_names front.now) (view entry.now)) result }
 {
     let name = read_name(alloc, entry, place)?;
-    if is_taken_field(front, name.as_str()) {
+    if is_taken_field(families, front, name.as_str()) {
         return Err(place.fault(PlanCause::Duplicate));
     }
     Ok(name)
@@ -120,9 +134,26 @@ fn has_name_form(text: &str) -> bool
     }
 }
 
-/// Whether a name is taken from the start.
+/// Whether a name is taken from the start, whatever is kept.
 pub fn is_reserved(name: &str) -> bool
     ensures { result ≡ is_among name.now reserved_names }
 {
     RESERVED_NAMES.iter().any(|reserved| *reserved == name)
+}
+
+/// Whether a name is taken from the start, where families are kept or not.
+pub fn is_taken_from_start(families: bool, name: &str) -> bool
+    ensures { result ≡ is_among name.now (names_taken families) }
+{
+    if families {
+        is_family_name(name) || is_reserved(name)
+    } else {
+        is_reserved(name)
+    }
+}
+
+fn is_family_name(name: &str) -> bool
+    ensures { result ≡ is_among name.now family_names }
+{
+    FAMILY_NAMES.iter().any(|taken| *taken == name)
 }

@@ -10,14 +10,14 @@ ghost use Rattle.dtable.specs.Document.{string_at, Optionally};
 ghost use Rattle.dtable.specs.Limits.{name_limit_bytes};
 ghost use Rattle.dtable.specs.Plan.{same_kind};
 ghost use Rattle.dtable.specs.Reading.{Reads};
-ghost use Rattle.dtable.specs.RoleFile.{AreRoles, AreRemarks, IsRole, IsSource, IsNamedSource, IsLiteralSource, Meets, asked_kind, lists_texts};
+ghost use Rattle.dtable.specs.RoleFile.{AreFamilyRoles, AreLimits, AreRoles, AreRemarks, IsRole, IsSource, IsNamedSource, IsLiteralSource, Meets, asked_kind, lists_texts};
 ghost use Rattle.dtable.specs.Scope.{seen_of};
 
 use super::place::Place;
 use super::scope::{kind_at, origin_of};
 use crate::name::Name;
 use crate::plan_fault::{PlanCause, PlanFault};
-use crate::roles::{Roles, Source};
+use crate::roles::{FamilyRoles, Roles, Source};
 use crate::table::{InputData, Origin, Output, Table};
 use feel_tests::{CellCause, Kind, Value as Literal, read_value, text_spells_at_most_one_value};
 use std::alloc::{AllocError, Global};
@@ -34,19 +34,20 @@ pub enum Asked {
     Rate,
 }
 
-/// Reads the roles of a document, if it has any.
+/// Reads the roles of a document, if it has any; where families are kept, with the family's limits.
 pub fn read_roles(
     alloc: Global,
     document: &Value,
+    families: bool,
     names: &[InputData],
     tables: &[Table],
 ) -> Result<Option<Roles>, PlanFault>
-    ensures { Reads (Optionally (AreRoles names.now (map seen_of tables.now)) (get (codes "roles") (view document.now))) result }
+    ensures { Reads (Optionally (AreRoles families names.now (map seen_of tables.now)) (get (codes "roles") (view document.now))) result }
 {
     match document.get("roles") {
         None => Ok(None),
         Some(roles) => {
-            let roles = read_role_table(alloc, roles, names, tables)?;
+            let roles = read_role_table(alloc, roles, families, names, tables)?;
             Ok(Some(roles))
         }
     }
@@ -55,10 +56,11 @@ pub fn read_roles(
 fn read_role_table(
     alloc: Global,
     roles: &Value,
+    families: bool,
     names: &[InputData],
     tables: &[Table],
 ) -> Result<Roles, PlanFault>
-    ensures { Reads (AreRoles names.now (map seen_of tables.now) (view roles.now)) result }
+    ensures { Reads (AreRoles families names.now (map seen_of tables.now) (view roles.now)) result }
 {
     if !roles.is_table() {
         return Err(Place::TEXT.fault(PlanCause::Kind));
@@ -75,6 +77,7 @@ fn read_role_table(
     let rate = table.read(alloc, "rate", Asked::Rate, 5)?;
     let oop_max = table.read(alloc, "oop_max", Asked::Money, 6)?;
     let remarks = read_remarks(alloc, roles, tables, Place::TEXT.in_column(7))?;
+    let family = read_family_roles(alloc, &table, families)?;
     Ok(Roles {
         cover,
         fee,
@@ -83,6 +86,33 @@ fn read_role_table(
         rate,
         oop_max,
         remarks,
+        family,
+    })
+}
+
+/// Reads the family's limits where families are kept; where they aren't, the keys are none of the plan's.
+fn read_family_roles(
+    alloc: Global,
+    table: &RoleTable,
+    families: bool,
+) -> Result<Option<FamilyRoles>, PlanFault>
+    ensures { Reads (AreFamilyRoles families table.now.names.now (map seen_of table.now.tables.now) (view table.now.roles.now)) result }
+{
+    if !families {
+        return Ok(None);
+    }
+    let limits = read_limits(alloc, table)?;
+    Ok(Some(limits))
+}
+
+fn read_limits(alloc: Global, table: &RoleTable) -> Result<FamilyRoles, PlanFault>
+    ensures { Reads (AreLimits table.now.names.now (map seen_of table.now.tables.now) (view table.now.roles.now)) result }
+{
+    let deductible = table.read(alloc, "family_deductible", Asked::Money, 8)?;
+    let oop_max = table.read(alloc, "family_oop_max", Asked::Money, 9)?;
+    Ok(FamilyRoles {
+        deductible,
+        oop_max,
     })
 }
 

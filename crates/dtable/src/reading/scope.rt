@@ -1,10 +1,10 @@
 //! What a name stands for behind some names and tables.
 ghost use Rattle.std.specs.Prelude.{◌≡◌, ◌++◌, map, position, slice_get, option_map};
 ghost use Rattle.std.specs.Str.{bytes_eq};
-ghost use Rattle.dtable.specs.NameForm.{is_among, reserved_names};
+ghost use Rattle.dtable.specs.NameForm.{is_among, names_taken};
 ghost use Rattle.dtable.specs.Scope.{data_names, output_names, seen_names, taken_names, seen_of, is_single_of, origin_of, earlier_origin, kind_at};
 
-use super::names::is_reserved;
+use super::names::{is_reserved, is_taken_from_start};
 use crate::table::{InputData, Origin, Output, Table};
 use feel_tests::Kind;
 
@@ -83,12 +83,12 @@ pub fn is_taken_output(names: &[InputData], tables: &[Table], front: &[Output], 
     is_taken(names, tables, name) || is_output(front, name)
 }
 
-/// Whether a name is taken behind these fields.
+/// Whether a name is taken behind these fields, where families are kept or not.
 #[tactic(auto, using(crate::proofs::ReadNames::is_among_fields))]
-pub fn is_taken_field(front: &[InputData], name: &str) -> bool
-    ensures { result ≡ is_among name.now (reserved_names ++ data_names front.now) }
+pub fn is_taken_field(families: bool, front: &[InputData], name: &str) -> bool
+    ensures { result ≡ is_among name.now (names_taken families ++ data_names front.now) }
 {
-    is_reserved(name) || is_data(front, name)
+    is_taken_from_start(families, name) || is_data(front, name)
 }
 
 /// Whether input data has the name.

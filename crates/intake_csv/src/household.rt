@@ -1,0 +1,119 @@
+//! Households: the members of a family, with what each begins with in a year.
+ghost use Rattle.std.specs.Prelude.{◌≡◌, ◌∷◌, [], None, OnOk, string_bytes};
+ghost use Rattle.intake_csv.specs.Households.{HasJoined, balance_in, begins, refused_behind, refused_by_sums};
+
+use settlement::{Acc, Balance, Money};
+use std::alloc::{AllocError, Global};
+use std::collections::BTreeMap;
+use std::marker::Model;
+
+/// Why a member with a balance can't be put behind others of its family.
+#[derive(Clone, Copy, Debug, PartialEq, Eq)]
+pub enum Refusal {
+    /// It stands there already.
+    Again,
+    /// With it the family's sum of what was met would leave the number range.
+    Met,
+    /// So would the sum of what was paid out of pocket.
+    Oop,
+}
+
+/// The members of a family in a year, with their balances, and the sums over them. A family of one member, as each is where the plan
+/// keeps no families, takes no map.
+#[derive(Debug, Drop)]
+pub struct Household {
+    first: String,
+    balance: Balance,
+    others: BTreeMap<String, Balance>,
+    met: Money,
+    oop: Money,
+}
+
+impl Model for Household {
+    ghost use Rattle.std.specs.Prelude.{string_bytes};
+    ghost use Rattle.intake_csv.specs.Households.{IsHousehold, Members, members_of};
+
+    ghost Value = { Members };
+
+    ghost view = { λ h. members_of (string_bytes h.first) h.balance h.others };
+
+    ghost invariant = { λ h. IsHousehold (members_of (string_bytes h.first) h.balance h.others) h.met h.oop };
+}
+
+impl Household {
+    /// The household of one member.
+    pub fn new(alloc: Global, member: String, balance: Balance) -> Household
+        ensures { result ≡ (string_bytes member, balance) ∷ [] }
+    {
+        Household {
+            first: member,
+            balance,
+            others: BTreeMap::new(alloc),
+            met: balance.met,
+            oop: balance.oop,
+        }
+    }
+
+    /// What an account of this household begins with: of its own its balance, zeros where it has none.
+    pub fn opening(&self, member: &str) -> Acc
+        ensures { result ≡ begins self.now (balance_in self.now member.now) }
+    {
+        match self.balance_of(member) {
+            Some(balance) => balance.beside(self.met, self.oop),
+            None => Balance::zero().beside(self.met, self.oop),
+        }
+    }
+
+    /// Why a member with this balance can't be put behind the others, if it can't.
+    pub fn refusal(&self, member: &str, balance: Balance) -> Option<Refusal>
+        ensures { result ≡ refused_behind self.now (balance_in self.now member.now) balance }
+    {
+        match self.balance_of(member) {
+            Some(_) => Some(Refusal::Again),
+            None => self.refusal_by_sums(balance),
+        }
+    }
+
+    /// Puts a member behind the others, where it can be.
+    pub fn join(&mut self, member: String, balance: Balance) -> Result<(), AllocError>
+        requires { refused_behind self.old (balance_in self.old (string_bytes member)) balance ≡ None }
+        ensures joined { OnOk result (HasJoined (string_bytes member) balance self.old self.new) }
+    {
+        let Some(met) = self.met.plus(balance.met) else {
+            unreachable!();
+        };
+        let Some(oop) = self.oop.plus(balance.oop) else {
+            unreachable!();
+        };
+        match self.others.insert(member, balance) {
+            Ok(_) => {
+                self.met = met;
+                self.oop = oop;
+                Ok(())
+            }
+            Err(_) => Err(AllocError),
+        }
+    }
+
+    // The balance of a member, if it has one.
+    fn balance_of(&self, member: &str) -> Option<Balance>
+        ensures { result ≡ balance_in self.now member.now }
+    {
+        if self.first.as_str() == member {
+            return Some(self.balance);
+        }
+        self.others.get(member).copied()
+    }
+
+    fn refusal_by_sums(&self, balance: Balance) -> Option<Refusal>
+        ensures { result ≡ refused_by_sums self.now balance }
+    {
+        if self.met.plus(balance.met).is_none() {
+            return Some(Refusal::Met);
+        }
+        if self.oop.plus(balance.oop).is_none() {
+            return Some(Refusal::Oop);
+        }
+        None
+    }
+}
