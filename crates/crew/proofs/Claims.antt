@@ -1,5 +1,5 @@
 -- The claims of terms have the plan's fields.
-use Rattle.std.proofs.Common.{inl, inr, ◌≡◌, ℕ, zero, suc, ◌<◌, List, [], ◌∷◌, ◌++◌, map, length, get_or, Some, None, refl, sym, ap, subst, ◌∙◌, arith, length-append}
+use Rattle.std.proofs.Common.{inl, inr, ◌≡◌, ℕ, zero, suc, ◌<◌, Bool, true, false, is_some, List, [], ◌∷◌, ◌++◌, map, length, get_or, Some, None, refl, sym, ap, subst, ◌∙◌, arith, length-append}
 use Rattle.std.specs.List.{AllZip, slice_get}
 use Rattle.std.specs.Str.{bytes_eq}
 use Rattle.std.proofs.lemmas.Bool.{cases_Bool, false≢true}
@@ -10,7 +10,7 @@ use Rattle.feel_tests.specs.Value.{kind_of}
 use Rattle.feel_tests.specs.declared.kind.Kind.{Kind}
 use Rattle.feel_tests.specs.declared.kind.Kind.TheVariants as kinds
 use Rattle.dtable.specs.Names.{accumulator_names, claim_names, names_of}
-use Rattle.dtable.specs.Plan.{IsPlan, PlanParts}
+use Rattle.dtable.specs.Plan.{IsPlan, PlanParts, keeps_families}
 use Rattle.dtable.specs.declared.table.InputData.{InputData}
 use Rattle.settlement.specs.Claim.{IsClaimOf}
 use Rattle.settlement.specs.declared.claim.Claim.{Claim}
@@ -115,17 +115,25 @@ kinds-decided ks ls h = elim (cases_Bool (bytes_eq (map number_of ks) (map numbe
 ]
 
 -- a plan's names have the same fields in each way to part them
-fields_one : (fields others : List InputData) → names_of fields ≡ names_of others → fields ≡ others
-fields_one fields others e =
-    append_cancel_right fields others accumulator_names
-    (append_cancel_left claim_names (fields ++ accumulator_names) (others ++ accumulator_names) e)
+fields_one : (families : Bool) (fields others : List InputData) → names_of families fields ≡ names_of families others → fields ≡ others
+fields_one families fields others e =
+    append_cancel_right fields others (accumulator_names families)
+    (append_cancel_left (claim_names families) (fields ++ accumulator_names families) (others ++ accumulator_names families) e)
+
+-- answers that can't differ are the same
+answers-decided : (a b : Bool) → ¬ ¬ (a ≡ b) → a ≡ b
+answers-decided true true h = refl
+answers-decided false false h = refl
+answers-decided true false h = absurd (h (λ e. false≢true (sym e)))
+answers-decided false true h = absurd (h (λ e. false≢true e))
 
 -- a claim that can't lack the plan's fields has them
 pub fields-decided : (plan : PlanParts) (claim : Claim) → IsPlan plan → ¬ ¬ IsClaimOf plan claim → IsClaimOf plan claim
 fields-decided plan claim sound h = record {
+  family = answers-decided (is_some claim.family) (keeps_families plan) (λ other. h (λ is. other is.family));
   fields = sound.fields;
   names = sound.names;
   kinds = kinds-decided (map kind_of claim.fields) (map (λ d. d.kind) sound.fields) (λ other. h (λ is.
-      let same = fields_one is.fields sound.fields (sym is.names ∙ sound.names) in
+      let same = fields_one (keeps_families plan) is.fields sound.fields (sym is.names ∙ sound.names) in
       other (is.kinds ∙ ap (map (λ d. d.kind)) same)));
 }

@@ -1,6 +1,6 @@
 -- No name of a plan that a document spells stands twice.
 use Rattle.std.proofs.Common.{◌≡◌, ◌≢◌, ◌<◌, ◌+◌, ◌-◌, ◌||◌, ◌&&◌, ℕ, zero, suc, Bool, true, false, not, inl, inr, List, [], ◌∷◌, ◌++◌, length, map, get_or, drop, refl, sym, ap, subst, ◌∙◌, arith, append_assoc}
-use Rattle.std.specs.List.{All, flat_map}
+use Rattle.std.specs.List.{All, flat_map, list_all}
 use Rattle.std.specs.Str.{bytes_eq}
 use Rattle.std.proofs.lemmas.Bool.{cases_Bool, cases_lt, false≢true, and_parts}
 use Rattle.std.proofs.lemmas.Grind.{flat_map-append}
@@ -13,9 +13,9 @@ use Rattle.dtable.specs.declared.table.InputData.{InputData}
 use Rattle.dtable.specs.declared.table.Output.{Output}
 use Rattle.dtable.specs.declared.table.Table.{Table}
 use Rattle.dtable.specs.Document.{EachBehind}
-use Rattle.dtable.specs.NameForm.{is_among, reserved_names}
+use Rattle.dtable.specs.NameForm.{family_names, is_among, names_taken, reserved_names}
 use Rattle.dtable.specs.Names.{accumulator_names, claim_names, names_of}
-use Rattle.dtable.specs.Plan.{PlanParts, AreDistinct, plan_names}
+use Rattle.dtable.specs.Plan.{PlanParts, AreDistinct, keeps_families, plan_names}
 use Rattle.dtable.specs.PlanFile.{IsField, IsOutput, IsPlanDocument, IsTable}
 use Rattle.dtable.specs.Scope.{data_names, output_names, seen_names, seen_of, taken_names}
 use Rattle.dtable.proofs.ReadNames.{is_among-append, is_among_taken, output_names-seen}
@@ -135,38 +135,46 @@ distinct-tested (n ∷ names) test =
     let parts = and_parts (not (is_among n names)) (all_new names) test in
     AllPairs-cons (λ a b. a ≢ b) n names (differs-all n names (not_true (is_among n names) parts.0)) (distinct-tested names parts.1)
 
--- the names of every claim, and of a member's accumulators
-own_first : List (List ℕ)
-own_first = data_names accumulator_names ++ data_names claim_names
+-- names that are taken, by a test which computes
+taken-tested : (names taken : List (List ℕ)) → list_all (λ n. is_among n taken) names ≡ true → AreTaken names taken
+unfolding AreTaken
+taken-tested [] taken test name there = cc
+taken-tested (n ∷ names) taken test name there =
+    let parts = and_parts (is_among n taken) (list_all (λ n. is_among n taken) names) test in
+    elim (cases_Bool (bytes_eq n name)) [
+      | inl same ↦ subst (λ m. is_among m taken ≡ true) ((bytes_eq-Decides n name).0 same) parts.0
+      | inr other ↦ taken-tested names taken parts.1 name (rw other at there)
+    ]
 
-own-distinct : AreDistinct own_first
+-- the names of every claim, and of a member's accumulators, where families are kept or not
+own_first : Bool → List (List ℕ)
+own_first families = data_names (accumulator_names families) ++ data_names (claim_names families)
+
+own-distinct : (families : Bool) → AreDistinct (own_first families)
 unfolding own_first all_new
-own-distinct = distinct-tested own_first refl
+own-distinct false = distinct-tested (own_first false) refl
+own-distinct true = distinct-tested (own_first true) refl
 
--- they stand in front of the words of cells among the names that are taken from the start
-own-taken : AreTaken own_first reserved_names
-unfolding AreTaken own_first reserved_names
-own-taken name there =
-    let words : List (List ℕ) = drop 7 reserved_names in
-    let split = is_among-append name (data_names accumulator_names) (data_names claim_names) in
-    let swapped : (is_among name (data_names claim_names) || is_among name (data_names accumulator_names)) ≡ true =
-    or_swapped (is_among name (data_names claim_names)) (is_among name (data_names accumulator_names)) ∙ sym split ∙ there in
-    let here = is_among-append name (data_names claim_names) (data_names accumulator_names) ∙ swapped in
-    is_among-append name (data_names claim_names ++ data_names accumulator_names) words ∙ or_left (is_among name (data_names claim_names ++ data_names accumulator_names)) (is_among name words) here
+-- they are taken from the start
+own-taken : (families : Bool) → AreTaken (own_first families) (names_taken families)
+unfolding own_first reserved_names family_names
+own-taken false = taken-tested (own_first false) reserved_names refl
+own-taken true = taken-tested (own_first true) (family_names ++ reserved_names) refl
 
 fresh-field : (taken : List (List ℕ)) (d : Data) (f : InputData) → IsField taken d f → is_among f.name taken ≡ false
 fresh-field taken d f h = h.name.new
 
 -- no name that tables may read from outside stands twice
-fields-distinct : (ds : Items) (fields : List InputData) → EachBehind (λ f. f.name) IsField reserved_names ds fields → AreDistinct (data_names (names_of fields))
+fields-distinct : (families : Bool) (ds : Items) (fields : List InputData) → EachBehind (λ f. f.name) IsField (names_taken families) ds fields → AreDistinct (data_names (names_of families fields))
 unfolding own_first
-fields-distinct ds fields h =
-    let accumulators = data_names accumulator_names in
-    let claims = data_names claim_names in
-    let behind = distinct-behind (λ f. f.name) IsField fresh-field own_first reserved_names ds fields own-distinct own-taken h in
+fields-distinct families ds fields h =
+    let accumulators = data_names (accumulator_names families) in
+    let claims = data_names (claim_names families) in
+    let behind = distinct-behind (λ f. f.name) IsField fresh-field (own_first families) (names_taken families) ds fields (own-distinct families) (own-taken families) h in
     let swapped = distinct-swapped accumulators (claims ++ data_names fields) (subst AreDistinct (append_assoc accumulators claims (data_names fields)) behind) in
-    let named : data_names (names_of fields) ≡ (claims ++ data_names fields) ++ accumulators =
-    ap (λ ns. claims ++ ns) (map-append (λ d. d.name) fields accumulator_names) ∙ sym (append_assoc claims (data_names fields) accumulators) in
+    let named : data_names (names_of families fields) ≡ (claims ++ data_names fields) ++ accumulators =
+    map-append (λ d. d.name) (claim_names families) (fields ++ accumulator_names families)
+    ∙ ap (λ ns. claims ++ ns) (map-append (λ d. d.name) fields (accumulator_names families)) ∙ sym (append_assoc claims (data_names fields) accumulators) in
     subst AreDistinct (sym named) swapped
 
 -- the names of the outputs of tables
@@ -213,6 +221,6 @@ tables-distinct names earlier (item d ds) (t ∷ ts) distinct h =
 pub distinct-document : (d : Data) (p : PlanParts) → IsPlanDocument d p → AreDistinct (plan_names p)
 unfolding outputs_of
 distinct-document d p h =
-    let fields = fields-distinct h.names.entries h.names.fields h.names.spelled.each in
+    let fields = fields-distinct (keeps_families p) h.names.entries h.names.fields h.names.spelled.each in
     let names : AreDistinct (data_names p.names) = subst (λ ns. AreDistinct (data_names ns)) (sym h.names.named) fields in
     tables-distinct p.names [] h.tables.entries p.tables (rw append-nil names) h.tables.spelled.each

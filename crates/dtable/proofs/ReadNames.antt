@@ -11,7 +11,7 @@ use Rattle.dtable.specs.declared.table.InputData.{InputData}
 use Rattle.dtable.specs.declared.table.Output.{Output}
 use Rattle.dtable.specs.declared.table.Table.{Table}
 use Rattle.feel_tests.specs.Words.{is_name_start, is_name_byte}
-use Rattle.dtable.specs.NameForm.{is_among, reserved_names, has_name_form}
+use Rattle.dtable.specs.NameForm.{family_names, is_among, names_taken, reserved_names, has_name_form}
 use Rattle.dtable.specs.Plan.{gives_one, same_kind, seen_kind}
 use Rattle.dtable.specs.Scope.{SeenOutput, seen_output, seen_of, data_names, output_names, seen_names, taken_names, is_single_of}
 
@@ -49,8 +49,18 @@ is_among_taken name names ts =
     is_among-append name reserved_names (data_names names ++ seen_names (map seen_of ts))
     ∙ ap (λ b. is_among name reserved_names || b) (is_among-append name (data_names names) (seen_names (map seen_of ts)))
 
-pub is_among_fields : (name : List ℕ) (front : List InputData) → is_among name (reserved_names ++ data_names front) ≡ (is_among name reserved_names || is_among name (data_names front))
-is_among_fields name front = is_among-append name reserved_names (data_names front)
+pub is_among_fields : (families : Bool) (name : List ℕ) (front : List InputData)
+    → is_among name (names_taken families ++ data_names front) ≡ (is_among name (names_taken families) || is_among name (data_names front))
+is_among_fields families name front = is_among-append name (names_taken families) (data_names front)
+
+-- a name among those that are taken from the start, where families are kept, and where they aren't
+pub among_taken_with_families : (families : Bool) (name : List ℕ) → families ≡ true → is_among name (names_taken families) ≡ (is_among name family_names || is_among name reserved_names)
+among_taken_with_families false name kept = cc
+among_taken_with_families true name kept = is_among-append name family_names reserved_names
+
+pub among_taken_without : (families : Bool) (name : List ℕ) → families ≡ false → is_among name (names_taken families) ≡ is_among name reserved_names
+among_taken_without false name kept = refl
+among_taken_without true name kept = cc
 
 pub is_among_outputs : (name : List ℕ) (taken : List (List ℕ)) (front : List Output) → is_among name (taken ++ output_names front) ≡ (is_among name taken || is_among name (output_names front))
 is_among_outputs name taken front = is_among-append name taken (output_names front)

@@ -1,11 +1,12 @@
 -- A text spells one plan at most.
-use Rattle.std.proofs.Common.{◌≡◌, ℕ, pos, List, [], map, codes, Option, sym, ap, ◌∙◌}
+use Rattle.std.proofs.Common.{◌≡◌, ℕ, Bool, true, false, List, [], map, codes, Option, Some, None, refl, sym, ap, subst, ◌∙◌}
 use Rattle.std.proofs.lemmas.Option.{same_Some}
-use Rattle.toml.specs.Data.{Data, integer, string, table as whole_table, get}
+use Rattle.toml.specs.Data.{Data, string, table as whole_table, get}
 use Rattle.feel_tests.specs.declared.cell.Cell.{Cell}
 use Rattle.feel_tests.specs.declared.value.Value.{Value}
 use Rattle.feel_tests.specs.Cell.{SpellsOneCell, SpellsOneValue}
 use Rattle.dtable.specs.declared.hit.Hit.{Hit}
+use Rattle.dtable.specs.declared.roles.FamilyRoles.{FamilyRoles}
 use Rattle.dtable.specs.declared.roles.Roles.{Roles}
 use Rattle.dtable.specs.declared.roles.Source.{Source}
 use Rattle.dtable.specs.declared.roles.Source.TheVariants.{Literal, Input as InputSource, Output as OutputSource}
@@ -16,17 +17,12 @@ use Rattle.dtable.specs.declared.table.Origin.TheVariants.{Given, Earlier}
 use Rattle.dtable.specs.declared.table.Output.{Output}
 use Rattle.dtable.specs.declared.table.Rule.{Rule}
 use Rattle.dtable.specs.declared.table.Table.{Table}
-use Rattle.dtable.specs.Plan.{PlanParts}
-use Rattle.dtable.specs.PlanFile.{IsEntry, IsCellUnder, IsRule, AreRules, IsTable, AreTables, AreTablesOf, IsPlanDocument, IsVersionOf, SpellsOnePlan}
-use Rattle.dtable.specs.RoleFile.{IsSource, IsRole, AreRoles, AreRemarks, asked_kind}
+use Rattle.dtable.specs.Plan.{PlanParts, has_families, keeps_families}
+use Rattle.dtable.specs.PlanFile.{IsEntry, IsCellUnder, IsRule, AreRules, IsTable, AreTables, AreTablesOf, AreNames, IsPlanDocument, SpellsOnePlan}
+use Rattle.dtable.specs.RoleFile.{IsSource, IsRole, AreFamilyRoles, AreLimits, AreRoles, AreRemarks, asked_kind}
 use Rattle.dtable.specs.Scope.{SeenOutput, seen_of, taken_names}
 use Rattle.dtable.proofs.Entries.{Optionally-same, Each-same, EachBehind-same, EachUnder-same}
-use Rattle.dtable.proofs.ReadParts.{IsHit-same, AreNames-same, IsLiteral-same, IsCell-same, AreInputs-same, AreOutputs-same}
-
-version-same : (d : Data) (v w : ℕ) → IsVersionOf d v → IsVersionOf d w → v ≡ w
-version-same d v w h k =
-    let same : integer (pos v) ≡ integer (pos w) = same_Some (integer (pos v)) (integer (pos w)) (sym h.written ∙ k.written) in
-    cc
+use Rattle.dtable.proofs.ReadParts.{IsHit-same, AreNames-same, IsLiteral-same, IsCell-same, AreInputs-same, AreOutputs-same, version-same}
 
 module _ (once_cell : SpellsOneCell) (once_value : SpellsOneValue) where
   IsEntry-same : (o : Output) (d : Data) (v w : Value) → IsEntry o d v → IsEntry o d w → v ≡ w
@@ -91,8 +87,25 @@ module _ (once_cell : SpellsOneCell) (once_value : SpellsOneValue) where
       let second : d ≡ string b = k.written in
       cc
 
-  AreRoles-same : (names : List InputData) (earlier : List (List SeenOutput)) (d : Data) (r s : Roles) → AreRoles names earlier d r → AreRoles names earlier d s → r ≡ s
-  AreRoles-same names earlier d r s h k =
+  AreLimits-same : (names : List InputData) (earlier : List (List SeenOutput)) (d : Data) (l m : FamilyRoles) → AreLimits names earlier d l → AreLimits names earlier d m → l ≡ m
+  AreLimits-same names earlier d l m h k =
+      let same = IsRole-same names earlier in
+      let deductible : l.deductible ≡ m.deductible = same _ _ d l.deductible m.deductible h.deductible k.deductible in
+      let oop_max : l.oop_max ≡ m.oop_max = same _ _ d l.oop_max m.oop_max h.oop_max k.oop_max in
+      let made : Source → Source → FamilyRoles = λ e o. record { deductible = e; oop_max = o } in
+      ap (λ x. made x l.oop_max) deductible ∙ ap (made m.deductible) oop_max
+
+  AreFamilyRoles-same : (families : Bool) (names : List InputData) (earlier : List (List SeenOutput)) (d : Data) (a b : Option FamilyRoles)
+      → AreFamilyRoles families names earlier d a → AreFamilyRoles families names earlier d b → a ≡ b
+  AreFamilyRoles-same false names earlier d None None h k = refl
+  AreFamilyRoles-same false names earlier d None (Some m) h k = absurd k
+  AreFamilyRoles-same false names earlier d (Some l) b h k = absurd h
+  AreFamilyRoles-same true names earlier d None b h k = absurd h
+  AreFamilyRoles-same true names earlier d (Some l) None h k = absurd k
+  AreFamilyRoles-same true names earlier d (Some l) (Some m) h k = ap Some (AreLimits-same names earlier d l m h k)
+
+  AreRoles-same : (families : Bool) (names : List InputData) (earlier : List (List SeenOutput)) (d : Data) (r s : Roles) → AreRoles families names earlier d r → AreRoles families names earlier d s → r ≡ s
+  AreRoles-same families names earlier d r s h k =
       let same = IsRole-same names earlier in
       let remarks : r.remarks ≡ s.remarks = Optionally-same (AreRemarks earlier) (AreRemarks-same earlier) (get (codes "remarks") d) r.remarks s.remarks h.remarks k.remarks in
       let cover : r.cover ≡ s.cover = same _ _ d r.cover s.cover h.cover k.cover in
@@ -101,22 +114,27 @@ module _ (once_cell : SpellsOneCell) (once_value : SpellsOneValue) where
       let copay : r.copay ≡ s.copay = same _ _ d r.copay s.copay h.copay k.copay in
       let rate : r.rate ≡ s.rate = same _ _ d r.rate s.rate h.rate k.rate in
       let oop_max : r.oop_max ≡ s.oop_max = same _ _ d r.oop_max s.oop_max h.oop_max k.oop_max in
-      let made : Source → Source → Source → Source → Source → Source → Option (List ℕ) → Roles =
-      λ c f e p q o m. record { cover = c; fee = f; deductible = e; copay = p; rate = q; oop_max = o; remarks = m } in
-      ap (λ x. made x r.fee r.deductible r.copay r.rate r.oop_max r.remarks) cover
-      ∙ ap (λ x. made s.cover x r.deductible r.copay r.rate r.oop_max r.remarks) fee
-      ∙ ap (λ x. made s.cover s.fee x r.copay r.rate r.oop_max r.remarks) deductible
-      ∙ ap (λ x. made s.cover s.fee s.deductible x r.rate r.oop_max r.remarks) copay
-      ∙ ap (λ x. made s.cover s.fee s.deductible s.copay x r.oop_max r.remarks) rate
-      ∙ ap (λ x. made s.cover s.fee s.deductible s.copay s.rate x r.remarks) oop_max
-      ∙ ap (made s.cover s.fee s.deductible s.copay s.rate s.oop_max) remarks
+      let family : r.family ≡ s.family = AreFamilyRoles-same families names earlier d r.family s.family h.family k.family in
+      let made : Source → Source → Source → Source → Source → Source → Option (List ℕ) → Option FamilyRoles → Roles =
+      λ c f e p q o m l. record { cover = c; fee = f; deductible = e; copay = p; rate = q; oop_max = o; remarks = m; family = l } in
+      ap (λ x. made x r.fee r.deductible r.copay r.rate r.oop_max r.remarks r.family) cover
+      ∙ ap (λ x. made s.cover x r.deductible r.copay r.rate r.oop_max r.remarks r.family) fee
+      ∙ ap (λ x. made s.cover s.fee x r.copay r.rate r.oop_max r.remarks r.family) deductible
+      ∙ ap (λ x. made s.cover s.fee s.deductible x r.rate r.oop_max r.remarks r.family) copay
+      ∙ ap (λ x. made s.cover s.fee s.deductible s.copay x r.oop_max r.remarks r.family) rate
+      ∙ ap (λ x. made s.cover s.fee s.deductible s.copay s.rate x r.remarks r.family) oop_max
+      ∙ ap (λ x. made s.cover s.fee s.deductible s.copay s.rate s.oop_max x r.family) remarks
+      ∙ ap (made s.cover s.fee s.deductible s.copay s.rate s.oop_max s.remarks) family
 
   IsPlanDocument-same : (d : Data) (p q : PlanParts) → IsPlanDocument d p → IsPlanDocument d q → p ≡ q
   IsPlanDocument-same d p q h k =
-      let names : p.names ≡ q.names = AreNames-same d p.names q.names h.names k.names in
-      let tables : p.tables ≡ q.tables = AreTablesOf-same q.names d p.tables q.tables (rw names at h.tables) k.tables in
-      let roles : p.roles ≡ q.roles = Optionally-same (AreRoles q.names (map seen_of q.tables)) (AreRoles-same q.names (map seen_of q.tables)) (get (codes "roles") d) p.roles q.roles (rw (names, tables) at h.roles) k.roles in
       let versions : p.version ≡ q.version = version-same d p.version q.version h.version k.version in
+      let under : AreNames (keeps_families q) d p.names = subst (λ v. AreNames (has_families v) d p.names) versions h.names in
+      let names : p.names ≡ q.names = AreNames-same (keeps_families q) d p.names q.names under k.names in
+      let tables : p.tables ≡ q.tables = AreTablesOf-same q.names d p.tables q.tables (rw names at h.tables) k.tables in
+      let roles : p.roles ≡ q.roles =
+      Optionally-same (AreRoles (keeps_families q) q.names (map seen_of q.tables)) (AreRoles-same (keeps_families q) q.names (map seen_of q.tables)) (get (codes "roles") d) p.roles q.roles
+      (rw (versions, names, tables) at h.roles) k.roles in
       let made : ℕ → List InputData → List Table → Option Roles → PlanParts = λ v n t r. record { version = v; names = n; tables = t; roles = r } in
       ap (λ v. made v p.names p.tables p.roles) versions ∙ ap (λ n. made q.version n p.tables p.roles) names ∙ ap (λ t. made q.version q.names t p.roles) tables ∙ ap (made q.version q.names q.tables) roles
 

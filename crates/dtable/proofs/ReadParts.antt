@@ -1,9 +1,9 @@
 -- The parts of a plan's document: each entry spells one thing at most, and what leaves none.
-use Rattle.std.proofs.Common.{◌≡◌, ℕ, true, false, if◌then◌else◌, List, [], map, codes, Option, Some, None, Result, Ok, Err, refl, sym, ap, ◌∙◌}
+use Rattle.std.proofs.Common.{◌≡◌, ℕ, pos, Bool, true, false, if◌then◌else◌, List, [], map, codes, Option, Some, None, Result, Ok, Err, refl, sym, ap, subst, ◌∙◌}
 use Rattle.std.specs.Str.{bytes_eq}
 use Rattle.std.proofs.lemmas.Bool.{false≢true}
 use Rattle.std.proofs.lemmas.Option.{same_Some}
-use Rattle.toml.specs.Data.{Data, Items, string, get, as_str}
+use Rattle.toml.specs.Data.{Data, Items, integer, string, get, as_str}
 use Rattle.feel_tests.specs.declared.kind.Kind.{Kind}
 use Rattle.feel_tests.specs.declared.kind.Kind.TheVariants as kinds
 use Rattle.feel_tests.specs.declared.cell.Cell.{Cell}
@@ -17,12 +17,12 @@ use Rattle.dtable.specs.declared.table.Origin.{Origin}
 use Rattle.dtable.specs.declared.table.Output.{Output}
 use Rattle.dtable.specs.declared.table.Table.{Table}
 use Rattle.dtable.specs.Document.{Optionally}
-use Rattle.dtable.specs.NameForm.{is_among, reserved_names}
+use Rattle.dtable.specs.NameForm.{is_among, names_taken}
 use Rattle.dtable.specs.Names.{names_of}
 use Rattle.dtable.specs.declared.plan_fault.PlanFault.{PlanFault}
-use Rattle.dtable.specs.Plan.{is_ranked, seen_kind}
+use Rattle.dtable.specs.Plan.{PlanParts, has_families, is_ranked, seen_kind}
 use Rattle.dtable.specs.Reading.{Reads}
-use Rattle.dtable.specs.PlanFile.{IsEntry, is_listed, kind_word, hit_word, IsNamed, IsNewlyNamed, IsOfKind, IsLiteral, IsCellOf, IsCell, IsField, AreFields, IsInput, IsPriority, ArePriorities, IsOutput, IsHit, AreInputs, AreOutputs, IsTable, AreTables, AreNames, AreTablesOf}
+use Rattle.dtable.specs.PlanFile.{IsEntry, is_listed, kind_word, hit_word, IsNamed, IsNewlyNamed, IsOfKind, IsLiteral, IsCellOf, IsCell, IsField, AreFields, IsInput, IsPriority, ArePriorities, IsOutput, IsHit, AreInputs, AreOutputs, IsTable, AreTables, AreNames, AreTablesOf, IsPlanDocument, IsVersionOf}
 use Rattle.dtable.specs.Scope.{SeenOutput, seen_of, seen_output, origin_of, kind_at, taken_names}
 use Rattle.dtable.proofs.Entries.{Optionally-same, Each-same, EachBehind-same, EachBehind-seen}
 
@@ -93,13 +93,24 @@ IsField-same taken d f g h k =
     let made : List ℕ → Kind → InputData = λ n j. record { name = n; kind = j } in
     ap (λ n. made n f.kind) (IsField-name taken d f g h k) ∙ ap (made g.name) (IsOfKind-same d f.kind g.kind h.kind k.kind)
 
-pub AreFields-same : (ds : Items) (fs gs : List InputData) → AreFields ds fs → AreFields ds gs → fs ≡ gs
-AreFields-same ds fs gs h k = EachBehind-same (λ f. f.name) IsField IsField-same reserved_names ds fs gs h.each k.each
+pub AreFields-same : (families : Bool) (ds : Items) (fs gs : List InputData) → AreFields families ds fs → AreFields families ds gs → fs ≡ gs
+AreFields-same families ds fs gs h k = EachBehind-same (λ f. f.name) IsField IsField-same (names_taken families) ds fs gs h.each k.each
 
-pub AreNames-same : (document : Data) (ms ns : List InputData) → AreNames document ms → AreNames document ns → ms ≡ ns
-AreNames-same document ms ns h k =
+pub AreNames-same : (families : Bool) (document : Data) (ms ns : List InputData) → AreNames families document ms → AreNames families document ns → ms ≡ ns
+AreNames-same families document ms ns h k =
     let entries : k.entries ≡ h.entries = same_Some k.entries h.entries (sym k.written ∙ h.written) in
-    h.named ∙ ap names_of (AreFields-same h.entries h.fields k.fields h.spelled (rw entries at k.spelled)) ∙ sym k.named
+    h.named ∙ ap (names_of families) (AreFields-same families h.entries h.fields k.fields h.spelled (rw entries at k.spelled)) ∙ sym k.named
+
+-- a document has one version at most, and one list of names under it
+pub version-same : (d : Data) (v w : ℕ) → IsVersionOf d v → IsVersionOf d w → v ≡ w
+version-same d v w h k =
+    let same : integer (pos v) ≡ integer (pos w) = same_Some (integer (pos v)) (integer (pos w)) (sym h.written ∙ k.written) in
+    cc
+
+pub names-same : (d : Data) (version : ℕ) (names : List InputData) → IsVersionOf d version → AreNames (has_families version) d names → (p : PlanParts) → IsPlanDocument d p → p.names ≡ names
+names-same d version names written known p h =
+    let versions : p.version ≡ version = version-same d p.version version h.version written in
+    AreNames-same (has_families version) d p.names names (subst (λ v. AreNames (has_families v) d p.names) versions h.names) known
 
 -- literals and cells, where a text spells one at most
 module _ (once : SpellsOneValue) where

@@ -1,5 +1,5 @@
 -- A plan that a document spells holds what every plan holds.
-use Rattle.std.proofs.Common.{◌≡◌, ◌≢◌, ℕ, ◌+◌, ◌<◌, ◌≤◌, pos, Result, Ok, Err, IfOk, IfErr, ◌==◌, zero, suc, Bool, true, false, not, ◌&&◌, nat_lt, List, [], ◌∷◌, ◌++◌, length, map, codes, Option, Some, None, option_map, slice_get, IsTrue, inl, inr, refl, sym, ap, ◌∙◌, arith}
+use Rattle.std.proofs.Common.{◌≡◌, ◌≢◌, ℕ, ◌+◌, ◌<◌, ◌≤◌, pos, Result, Ok, Err, IfOk, IfErr, ◌==◌, zero, suc, Bool, true, false, not, ◌&&◌, nat_lt, List, [], ◌∷◌, ◌++◌, length, map, codes, Option, Some, None, option_map, slice_get, IsTrue, inl, inr, refl, sym, ap, subst, ◌∙◌, arith}
 use Rattle.std.specs.List.{list_all, list_any, zip, position}
 use Rattle.std.specs.Option.{option_map_or}
 use Rattle.std.specs.Str.{bytes_eq}
@@ -22,6 +22,7 @@ use Rattle.feel_tests.specs.declared.kind.Kind.TheVariants as kinds
 use Rattle.feel_tests.specs.declared.value.Value.{Value}
 use Rattle.feel_tests.specs.Value.{kind_of}
 use Rattle.dtable.specs.declared.hit.Hit.{Hit}
+use Rattle.dtable.specs.declared.roles.FamilyRoles.{FamilyRoles}
 use Rattle.dtable.specs.declared.roles.Roles.{Roles}
 use Rattle.dtable.specs.declared.roles.Source.{Source}
 use Rattle.dtable.specs.declared.roles.Source.TheVariants.{Literal, Input as InputSource, Output as OutputSource}
@@ -36,15 +37,15 @@ use Rattle.dtable.specs.declared.table.Rule.{Rule}
 use Rattle.dtable.specs.declared.table.Table.{Table}
 use Rattle.dtable.specs.Document.{optional_array_at, Optionally, Each, EachBehind, EachUnder}
 use Rattle.dtable.specs.Environment.{or_else}
-use Rattle.dtable.specs.Plan.{PlanParts, IsPlan, same_kind, has_kind, gives_one, seen_kind, is_known, are_known, entry_fits, rule_fits, is_ranked, meets_demands, default_fits, some_output, source_fits, remarks_fit, roles_fit}
+use Rattle.dtable.specs.Plan.{PlanParts, IsPlan, same_kind, has_kind, gives_one, seen_kind, is_known, are_known, entry_fits, rule_fits, is_ranked, meets_demands, default_fits, some_output, source_fits, remarks_fit, family_roles_fit, roles_fit, has_families, keeps_families}
 use Rattle.dtable.specs.PlanFile.{IsLiteral, IsEntry, IsInput, IsOutput, IsRule, IsCellUnder, AreFields, AreNames, IsTable, AreTables, AreTablesOf, IsPlanDocument, IsPlanText, IsVersionOf}
-use Rattle.dtable.specs.RoleFile.{IsSource, IsRole, AreRoles, AreRemarks, asked_kind, lists_texts}
+use Rattle.dtable.specs.RoleFile.{IsSource, IsRole, AreFamilyRoles, AreRoles, AreRemarks, asked_kind, lists_texts}
 use Rattle.dtable.specs.Scope.{SeenOutput, seen_output, seen_of, earlier_origin, kind_at}
 use Rattle.dtable.proofs.DistinctNames.{distinct-document}
 use Rattle.dtable.proofs.FoundOutput.{IsFound, found}
 use Rattle.dtable.proofs.PlanLimits.{within-document}
 use Rattle.dtable.proofs.ReadNames.{seen_kind-listed}
-use Rattle.dtable.proofs.ReadParts.{AreNames-same, AreTablesOf-seen}
+use Rattle.dtable.proofs.ReadParts.{AreTablesOf-seen, names-same, version-same}
 
 is_true : (b : Bool) → b ≡ true → IsTrue b
 is_true b e = e
@@ -234,7 +235,19 @@ remarks_ok ts None (Some name) h = absurd h
 remarks_ok ts (Some d) None h = absurd h
 remarks_ok ts (Some d) (Some name) h = sym (lists_same name ts) ∙ true_of (lists_texts (map seen_of ts) name) h.lists
 
-roles_ok : (p : PlanParts) (o : Option Data) (roles : Option Roles) → Optionally (AreRoles p.names (map seen_of p.tables)) o roles → option_map_or (roles_fit p) roles true ≡ true
+-- the family's limits fit
+family_ok : (p : PlanParts) (families : Bool) (d : Data) (limits : Option FamilyRoles) → keeps_families p ≡ families → AreFamilyRoles families p.names (map seen_of p.tables) d limits → family_roles_fit p limits ≡ true
+family_ok p false d None kept h = rw kept
+family_ok p false d (Some limits) kept h = absurd h
+family_ok p true d None kept h = absurd h
+family_ok p true d (Some limits) kept h =
+    rw (
+      kept,
+      source_ok p asked.Money (codes "family_deductible") d limits.deductible h.deductible,
+      source_ok p asked.Money (codes "family_oop_max") d limits.oop_max h.oop_max,
+    )
+
+roles_ok : (p : PlanParts) (o : Option Data) (roles : Option Roles) → Optionally (AreRoles (keeps_families p) p.names (map seen_of p.tables)) o roles → option_map_or (roles_fit p) roles true ≡ true
 roles_ok p None None h = refl
 roles_ok p None (Some r) h = absurd h
 roles_ok p (Some d) None h = absurd h
@@ -247,7 +260,7 @@ roles_ok p (Some d) (Some r) h =
       source_ok p asked.Rate (codes "rate") d r.rate h.rate,
       source_ok p asked.Money (codes "oop_max") d r.oop_max h.oop_max,
       remarks_ok p.tables (get (codes "remarks") d) r.remarks h.remarks,
-    )
+    ) (family_ok p (keeps_families p) d r.family refl h.family)
 
 pub IsPlan-of : (d : Data) (p : PlanParts) → IsPlanDocument d p → IsPlan p
 IsPlan-of d p h =
@@ -266,16 +279,17 @@ IsPlan-of d p h =
     }
 
 -- the names of a document, from its entries
-pub AreNames-unwritten : (d : Data) → optional_array_at (codes "fields") d ≡ None → (names : List InputData) → ¬ AreNames d names
-AreNames-unwritten d none names h = let clash : None ≡ Some h.entries = sym none ∙ h.written in cc
+pub AreNames-unwritten : (families : Bool) (d : Data) → optional_array_at (codes "fields") d ≡ None → (names : List InputData) → ¬ AreNames families d names
+AreNames-unwritten families d none names h = let clash : None ≡ Some h.entries = sym none ∙ h.written in cc
 
-pub AreNames-no_fields : (d : Data) (ds : Items) → optional_array_at (codes "fields") d ≡ Some ds → ((fs : List InputData) → ¬ AreFields ds fs) → (names : List InputData) → ¬ AreNames d names
-AreNames-no_fields d ds read none names h =
+pub AreNames-no_fields : (families : Bool) (d : Data) (ds : Items) → optional_array_at (codes "fields") d ≡ Some ds → ((fs : List InputData) → ¬ AreFields families ds fs) → (names : List InputData) → ¬ AreNames families d names
+AreNames-no_fields families d ds read none names h =
     let same : h.entries ≡ ds = same_Some h.entries ds (sym h.written ∙ read) in
     none h.fields (rw same at h.spelled)
 
-pub AreNames-made : (d : Data) (ds : Items) (fs names : List InputData) → optional_array_at (codes "fields") d ≡ Some ds → AreFields ds fs → names ≡ names_of fs → AreNames d names
-AreNames-made d ds fs names read spelled named = record { entries = ds; written = read; fields = fs; spelled = spelled; named = named }
+pub AreNames-made : (families : Bool) (d : Data) (ds : Items) (fs names : List InputData) → optional_array_at (codes "fields") d ≡ Some ds → AreFields families ds fs → names ≡ names_of families fs
+    → AreNames families d names
+AreNames-made families d ds fs names read spelled named = record { entries = ds; written = read; fields = fs; spelled = spelled; named = named }
 
 -- the tables of a document, from its entries
 pub AreTablesOf-unwritten : (names : List InputData) (d : Data) → optional_array_at (codes "tables") d ≡ None → (ts : List Table) → ¬ AreTablesOf names d ts
@@ -290,22 +304,28 @@ AreTables-of names d ds read ts h =
     rw same at h.spelled
 
 -- a document's plan, from its parts
-pub plan_made : (d : Data) (version : ℕ) (names : List InputData) (tables : List Table) (roles : Option Roles) → IsVersionOf d version → AreNames d names → AreTablesOf names d tables
-    → Optionally (AreRoles names (map seen_of tables)) (get (codes "roles") d) roles → IsPlanDocument d (record { version = version; names = names; tables = tables; roles = roles })
+pub plan_made : (d : Data) (version : ℕ) (names : List InputData) (tables : List Table) (roles : Option Roles) → IsVersionOf d version → AreNames (has_families version) d names → AreTablesOf names d tables
+    → Optionally (AreRoles (has_families version) names (map seen_of tables)) (get (codes "roles") d) roles → IsPlanDocument d (record { version = version; names = names; tables = tables; roles = roles })
 plan_made d version names tables roles written named spelled given = record { version = written; names = named; tables = spelled; roles = given }
 
-pub no_tables : (d : Data) (names : List InputData) → AreNames d names → ((ts : List Table) → ¬ AreTablesOf names d ts) → (p : PlanParts) → ¬ IsPlanDocument d p
-no_tables d names known none p h =
-    let same : p.names ≡ names = AreNames-same d p.names names h.names known in
+pub no_names : (d : Data) (version : ℕ) → IsVersionOf d version → ((names : List InputData) → ¬ AreNames (has_families version) d names) → (p : PlanParts) → ¬ IsPlanDocument d p
+no_names d version written none p h =
+    let versions : p.version ≡ version = version-same d p.version version h.version written in
+    none p.names (subst (λ v. AreNames (has_families v) d p.names) versions h.names)
+
+pub no_tables : (d : Data) (version : ℕ) (names : List InputData) → IsVersionOf d version → AreNames (has_families version) d names → ((ts : List Table) → ¬ AreTablesOf names d ts) → (p : PlanParts) → ¬ IsPlanDocument d p
+no_tables d version names written known none p h =
+    let same : p.names ≡ names = names-same d version names written known p h in
     none p.tables (rw same at h.tables)
 
-pub no_roles : SpellsOneValue → (d : Data) (names : List InputData) (tables : List Table) → AreNames d names → AreTablesOf names d tables → ((r : Option Roles) → ¬ Optionally (AreRoles names (map seen_of tables)) (get (codes "roles") d) r)
-    → (p : PlanParts) → ¬ IsPlanDocument d p
-no_roles once d names tables known spelled none p h =
-    let same : p.names ≡ names = AreNames-same d p.names names h.names known in
+pub no_roles : SpellsOneValue → (d : Data) (version : ℕ) (names : List InputData) (tables : List Table) → IsVersionOf d version → AreNames (has_families version) d names → AreTablesOf names d tables
+    → ((r : Option Roles) → ¬ Optionally (AreRoles (has_families version) names (map seen_of tables)) (get (codes "roles") d) r) → (p : PlanParts) → ¬ IsPlanDocument d p
+no_roles once d version names tables written known spelled none p h =
+    let versions : p.version ≡ version = version-same d p.version version h.version written in
+    let same : p.names ≡ names = names-same d version names written known p h in
     let mine : AreTablesOf names d p.tables = rw same at h.tables in
     let seen : map seen_of p.tables ≡ map seen_of tables = AreTablesOf-seen once names d p.tables tables mine spelled in
-    none p.roles (rw (same, seen) at h.roles)
+    none p.roles (rw (versions, same, seen) at h.roles)
 
 -- a text's plan is that of its document
 pub document_of_text : (text : List ℕ) (d : Data) (p : PlanParts) → option_map whole_table (parse_document text) ≡ Some d → IsPlanText text p → IsPlanDocument d p

@@ -1,5 +1,5 @@
 -- What a role's string spells, and what leaves no source.
-use Rattle.std.proofs.Common.{◌≡◌, ℕ, false, List, Some, None, Result, Ok, Err, IfOk, OnOk, OnErr, is_some, subst, sym, ◌∙◌}
+use Rattle.std.proofs.Common.{◌≡◌, ℕ, Bool, true, false, List, Option, Some, None, Result, Ok, Err, IfOk, OnOk, OnErr, is_some, subst, sym, ◌∙◌}
 use Rattle.std.proofs.lemmas.Bool.{false≢true}
 use Rattle.std.proofs.lemmas.Option.{same_Some}
 use Rattle.toml.specs.Data.{Data, string, integer, float, boolean, datetime, array, table, as_table}
@@ -8,6 +8,7 @@ use Rattle.feel_tests.specs.declared.value.Value.{Value}
 use Rattle.feel_tests.specs.Cell.{SpellsValue, SpellsOneValue}
 use Rattle.feel_tests.specs.Value.{kind_of}
 use Rattle.dtable.specs.declared.plan_fault.PlanFault.{PlanFault}
+use Rattle.dtable.specs.declared.roles.FamilyRoles.{FamilyRoles}
 use Rattle.dtable.specs.declared.roles.Roles.{Roles}
 use Rattle.dtable.specs.declared.roles.Source.{Source}
 use Rattle.dtable.specs.declared.roles.Source.TheVariants.{Literal, Input, Output}
@@ -17,7 +18,7 @@ use Rattle.dtable.specs.declared.table.Origin.{Origin}
 use Rattle.dtable.specs.declared.table.Origin.TheVariants.{Given, Earlier}
 use Rattle.dtable.specs.Document.{string_at}
 use Rattle.dtable.specs.Reading.{Reads}
-use Rattle.dtable.specs.RoleFile.{IsSource, IsNamedSource, SpellsNone, IsRole, AreRoles, Meets, asked_kind}
+use Rattle.dtable.specs.RoleFile.{IsSource, IsNamedSource, SpellsNone, IsRole, AreFamilyRoles, AreLimits, AreRoles, Meets, asked_kind}
 use Rattle.dtable.specs.Scope.{SeenOutput, origin_of, kind_at}
 
 module _ (names : List InputData) (earlier : List (List SeenOutput)) where
@@ -69,12 +70,26 @@ module _ (names : List InputData) (earlier : List (List SeenOutput)) where
       let same : h.text ≡ text = same_Some h.text text (sym h.written ∙ read) in
       rw same at h.spelled
 
+  -- the family's limits, which there are where families are kept
+  pub no_limits_kept : (families : Bool) (d : Data) → families ≡ false → AreFamilyRoles families names earlier d None
+  no_limits_kept false d kept = tt
+  no_limits_kept true d kept = cc
+
+  pub limits_kept : (families : Bool) (d : Data) (limits : FamilyRoles) → families ≡ true → AreLimits names earlier d limits → AreFamilyRoles families names earlier d (Some limits)
+  limits_kept false d limits kept h = cc
+  limits_kept true d limits kept h = h
+
+  pub no_limits : (families : Bool) (d : Data) → families ≡ true → ((limits : FamilyRoles) → ¬ AreLimits names earlier d limits) → (o : Option FamilyRoles) → ¬ AreFamilyRoles families names earlier d o
+  no_limits false d kept none o h = cc
+  no_limits true d kept none None h = h
+  no_limits true d kept none (Some limits) h = none limits h
+
   -- what is no table has no roles
-  pub no_table : (d : Data) → is_some (as_table d) ≡ false → (r : Roles) → ¬ AreRoles names earlier d r
-  no_table (string s) none r h = let clash = h.cover.written in cc
-  no_table (integer z) none r h = let clash = h.cover.written in cc
-  no_table (float x) none r h = let clash = h.cover.written in cc
-  no_table (boolean b) none r h = let clash = h.cover.written in cc
-  no_table (datetime t) none r h = let clash = h.cover.written in cc
-  no_table (array ds) none r h = let clash = h.cover.written in cc
-  no_table (table ms) none r h = false≢true (sym none)
+  pub no_table : (families : Bool) (d : Data) → is_some (as_table d) ≡ false → (r : Roles) → ¬ AreRoles families names earlier d r
+  no_table families (string s) none r h = let clash = h.cover.written in cc
+  no_table families (integer z) none r h = let clash = h.cover.written in cc
+  no_table families (float x) none r h = let clash = h.cover.written in cc
+  no_table families (boolean b) none r h = let clash = h.cover.written in cc
+  no_table families (datetime t) none r h = let clash = h.cover.written in cc
+  no_table families (array ds) none r h = let clash = h.cover.written in cc
+  no_table families (table ms) none r h = false≢true (sym none)

@@ -1,11 +1,13 @@
 -- A record gives one row at most, and the rows that a reader has left begin with it.
-use Rattle.std.proofs.Common.{inl, inr, ◌≡◌, ◌<◌, ◌+◌, ℕ, suc, zero, List, [], ◌∷◌, ◌++◌, length, get_or, Some, refl, sym, ap, ◌∙◌, arith}
+use Rattle.std.proofs.Common.{inl, inr, ◌≡◌, ◌<◌, ◌+◌, ℕ, suc, zero, ℤ, List, [], ◌∷◌, ◌++◌, length, get_or, Option, Some, None, refl, sym, ap, ◌∙◌, arith}
 use Rattle.std.specs.List.{count_by, slice_get}
 use Rattle.std.proofs.lemmas.Bool.{cases_lt}
 use Rattle.std.proofs.lemmas.List.Elements.{All-get_or}
 use Rattle.fixpoint.specs.NumberText.{DenotesAtMostOne}
 use Rattle.feel_tests.specs.Plain.{SpellsOnePlain}
 use Rattle.feel_tests.specs.declared.value.Value.{Value}
+use Rattle.feel_tests.specs.declared.value.Value.TheVariants.{Number, Text, Day}
+use Rattle.settlement.specs.Given.{behind_family}
 use Rattle.settlement.specs.declared.claim.Claim.{Claim}
 use Rattle.intake_csv.specs.Records.{Fields}
 use Rattle.intake_csv.specs.Laws.{BeginLike, BeginWith, StandApart}
@@ -63,14 +65,24 @@ none-left-of fields columns f g h k less =
 same-place : (place other column others : ℕ) → place + 1 ≡ column → other + 1 ≡ others → column ≡ others → place ≡ other
 same-place place other column others a b c = omega (arith, a, b, c)
 
+-- a family, if there is one, is told by the value behind it: a member is a text, and a service a day
+family-one : (f g : Option (List ℕ)) (id other m n : List ℕ) (s t u v : ℤ) (vs ws : List Value)
+    → Text id ∷ behind_family f (Text m ∷ Day s ∷ Number u ∷ vs) ≡ Text other ∷ behind_family g (Text n ∷ Day t ∷ Number v ∷ ws)
+    → (f ≡ g) × (Text m ∷ Day s ∷ Number u ∷ vs ≡ Text n ∷ Day t ∷ Number v ∷ ws)
+family-one None None id other m n s t u v vs ws e = (refl, cc e)
+family-one None (Some g) id other m n s t u v vs ws e = absurd (cc e)
+family-one (Some f) None id other m n s t u v vs ws e = absurd (cc e)
+family-one (Some f) (Some g) id other m n s t u v vs ws e = let same : f ≡ g = cc e in (ap Some same, cc e)
+
 claim-one : (c d : Claim) → claim_values c ≡ claim_values d → c ≡ d
 claim-one c d e =
+    let (family, rest) = family-one c.family d.family c.id d.id c.member d.member c.service d.service c.billed d.billed c.fields d.fields e in
     let id : c.id ≡ d.id = cc e in
-    let member : c.member ≡ d.member = cc e in
-    let service : c.service ≡ d.service = cc e in
-    let billed : c.billed ≡ d.billed = cc e in
-    let fields : c.fields ≡ d.fields = cc e in
-    λ i. record { id = id i; member = member i; service = service i; billed = billed i; fields = fields i }
+    let member : c.member ≡ d.member = cc rest in
+    let service : c.service ≡ d.service = cc rest in
+    let billed : c.billed ≡ d.billed = cc rest in
+    let fields : c.fields ≡ d.fields = cc rest in
+    λ i. record { id = id i; family = family i; member = member i; service = service i; billed = billed i; fields = fields i }
 
 module _ (one : DenotesAtMostOne) (plain : SpellsOnePlain) where
   -- a record's field under a column holds one value at most

@@ -1,17 +1,17 @@
 -- The columns that a plan's claims need have distinct names, as all names of a plan.
-use Rattle.std.proofs.Common.{◌≡◌, ℕ, List, [], ◌∷◌, ◌++◌, map, refl, sym, ap, subst, ◌∙◌, arith, append_assoc}
+use Rattle.std.proofs.Common.{◌≡◌, ℕ, Bool, true, false, List, [], ◌∷◌, ◌++◌, map, refl, sym, ap, subst, ◌∙◌, arith, append_assoc}
 use Rattle.std.specs.List.{flat_map}
 use Rattle.std.proofs.lemmas.List.{get_or-map, get_or_append_left, length-append, length-map, map-append}
 use Rattle.dtable.specs.declared.table.InputData.{InputData}
 use Rattle.dtable.specs.Names.{accumulator_names, claim_names}
-use Rattle.dtable.specs.Plan.{AreDistinct, IsPlan, PlanParts, plan_names}
-use Rattle.intake_csv.specs.Columns.{AreColumnsOf, claim_columns, fields_among, needed}
+use Rattle.dtable.specs.Plan.{AreDistinct, IsPlan, PlanParts, keeps_families, plan_names}
+use Rattle.intake_csv.specs.Columns.{AreColumnsOf, claim_columns, fields_among, have_family, needed, own_columns}
 use Rattle.intake_csv.specs.Laws.{StandApart}
 use Rattle.intake_csv.specs.Records.{Fields}
 use Rattle.intake_csv.specs.declared.column.Column.{Column}
 use Rattle.intake_csv.specs.declared.column.Content.TheVariants.{Plain}
 use Rattle.intake_csv.specs.declared.column.Needed.{Needed}
-use Rattle.intake_csv.proofs.ClaimFields.{fields-among}
+use Rattle.intake_csv.proofs.ClaimFields.{fields-among, have_family-names}
 use Rattle.intake_csv.proofs.OneFile.{HaveDistinctNames, columns-apart}
 
 -- the first of distinct names are distinct
@@ -32,19 +32,34 @@ field_names : (fields : List InputData) → map (λ c. c.name) (map (λ d. neede
 field_names [] = refl
 field_names (f ∷ fs) = ap (λ ns. f.name ∷ ns) (field_names fs)
 
+own_titles : (families : Bool) → map (λ c. c.name) (own_columns families) ≡ map (λ d. d.name) (claim_names families)
+own_titles false = refl
+own_titles true = refl
+
+-- the names of these columns are those of each claim and those of the fields
+titles : (families : Bool) (names fields : List InputData) → have_family names ≡ families → fields_among names ≡ fields
+    → map (λ c. c.name) (claim_columns names) ≡ map (λ d. d.name) (claim_names families) ++ map (λ d. d.name) fields
+titles families names fields have among =
+    let of : List InputData → List Needed = λ fs. map (λ d. needed d.name (Plain d.kind)) fs in
+    ap (λ (b : Bool). map (λ c. c.name) (own_columns b ++ of (fields_among names))) have ∙ ap (λ (fs : List InputData). map (λ c. c.name) (own_columns families ++ of fs)) among
+    ∙ map-append (λ c. c.name) (own_columns families) (of fields) ∙ ap (λ ns. ns ++ map (λ c. c.name) (of fields)) (own_titles families)
+    ∙ ap (λ ns. map (λ d. d.name) (claim_names families) ++ ns) (field_names fields)
+
 columns-distinct : (plan : PlanParts) → IsPlan plan → HaveDistinctNames (claim_columns plan.names)
 columns-distinct plan is =
-    let own : List (List ℕ) = map (λ d. d.name) claim_names in
-    let accumulators : List (List ℕ) = map (λ d. d.name) accumulator_names in
+    let families = keeps_families plan in
+    let own : List (List ℕ) = map (λ d. d.name) (claim_names families) in
+    let accumulators : List (List ℕ) = map (λ d. d.name) (accumulator_names families) in
     let fields : List (List ℕ) = map (λ d. d.name) is.fields in
     let outputs = flat_map (λ t. map (λ o. o.name) t.outputs) plan.tables in
     let names : map (λ d. d.name) plan.names ≡ (own ++ fields) ++ accumulators =
-    ap (map (λ d. d.name)) is.names ∙ ap (λ ns. own ++ ns) (map-append (λ d. d.name) is.fields accumulator_names) ∙ sym (append_assoc own fields accumulators) in
+    ap (map (λ d. d.name)) is.names ∙ map-append (λ d. d.name) (claim_names families) (is.fields ++ accumulator_names families)
+    ∙ ap (λ ns. own ++ ns) (map-append (λ d. d.name) is.fields (accumulator_names families)) ∙ sym (append_assoc own fields accumulators) in
     let all : plan_names plan ≡ (own ++ fields) ++ (accumulators ++ outputs) = ap (λ ns. ns ++ outputs) names ∙ append_assoc (own ++ fields) accumulators outputs in
-    let among : fields_among plan.names ≡ is.fields = ap fields_among is.names ∙ fields-among is.fields in
-    let titles : map (λ c. c.name) (claim_columns plan.names) ≡ own ++ fields =
-    ap (λ (fs : List InputData). own ++ map (λ c. c.name) (map (λ d. needed d.name (Plain d.kind)) fs)) among ∙ ap (λ ns. own ++ ns) (field_names is.fields) in
-    titles-distinct (claim_columns plan.names) (subst AreDistinct (sym titles) (distinct-front (own ++ fields) (accumulators ++ outputs) (subst AreDistinct all is.distinct)))
+    let have : have_family plan.names ≡ families = ap have_family is.names ∙ have_family-names families is.fields in
+    let among : fields_among plan.names ≡ is.fields = ap fields_among is.names ∙ fields-among families is.fields in
+    titles-distinct (claim_columns plan.names)
+    (subst AreDistinct (sym (titles families plan.names is.fields have among)) (distinct-front (own ++ fields) (accumulators ++ outputs) (subst AreDistinct all is.distinct)))
 
 -- so they stand apart in each file that has them
 pub columns-apart-under : (plan : PlanParts) (header : Fields) (columns : List Column) → IsPlan plan → AreColumnsOf header (claim_columns plan.names) columns → StandApart columns

@@ -1,7 +1,8 @@
 -- The kinds of a record's values, by the columns that they stand under.
-use Rattle.std.proofs.Common.{◌≡◌, ℕ, ℤ, Bool, true, false, List, [], ◌∷◌, ◌++◌, map, codes, refl, ap, sym, subst, ◌∙◌}
+use Rattle.std.proofs.Common.{◌≡◌, ℕ, ℤ, Bool, true, false, List, [], ◌∷◌, ◌++◌, map, codes, Some, None, refl, ap, sym, subst, ◌∙◌}
 use Rattle.std.specs.Int.{IsInRange}
-use Rattle.std.specs.List.{AllZip}
+use Rattle.std.specs.List.{AllZip, slice_get}
+use Rattle.std.specs.Option.{option_map_or}
 use Rattle.fixpoint.specs.Money.{IsMoney}
 use Rattle.feel_tests.specs.declared.kind.Kind.TheVariants as kinds
 use Rattle.feel_tests.specs.declared.value.Value.{Value}
@@ -10,12 +11,14 @@ use Rattle.feel_tests.specs.Calendar.{year_text}
 use Rattle.dtable.specs.declared.table.InputData.{InputData}
 use Rattle.settlement.specs.declared.account.Balance.{Balance}
 use Rattle.intake_csv.specs.Records.{Fields}
-use Rattle.intake_csv.specs.Columns.{AreColumnsOf, balance_columns, claim_columns, needed}
+use Rattle.intake_csv.specs.Columns.{AreColumnsOf, balance_columns, claim_columns, fields_among, have_family, needed, own_columns}
 use Rattle.intake_csv.specs.Fields.{Holds}
 use Rattle.intake_csv.specs.Rows.{HoldsUnder}
-use Rattle.intake_csv.specs.Record.{IsClaimShaped}
+use Rattle.intake_csv.specs.Record.{IsClaimLayout, IsClaimShaped, family_contents, is_identifier}
 use Rattle.intake_csv.specs.Balances.{AreAmounts, BeginsWithYear, IsEntryShaped, balance_values, entry_values, year_contents, year_values}
 use Rattle.intake_csv.specs.declared.column.Column.{Column}
+use Rattle.intake_csv.specs.declared.column.Layout.{Layout}
+use Rattle.intake_csv.specs.declared.column.Needed.{Needed}
 use Rattle.intake_csv.specs.declared.column.Content.{Content}
 use Rattle.intake_csv.specs.declared.column.Content.TheVariants.{Identifier, Money, Plain, Year}
 
@@ -34,31 +37,78 @@ day-value content bytes (Text t) e h = let s = rw e at h.spells.plain in absurd 
 money-value : (content : Content) (bytes : List ℕ) (v : Value) → content ≡ Money → Holds content bytes v → (u : ℤ) × (v ≡ Number u) × IsMoney u
 money-value content bytes v e h = rw e at h.allowed
 
--- four values and others
-four : (v w x y a b c d : Value) (ys : List Value) → v ≡ a → w ≡ b → x ≡ c → y ≡ d → v ∷ w ∷ x ∷ y ∷ ys ≡ a ∷ b ∷ c ∷ d ∷ ys
-four v w x y a b c d ys e f g h = rw (e, f, g, h) refl
+-- three values and others
+three_and : (w x y b c d : Value) (ys : List Value) → w ≡ b → x ≡ c → y ≡ d → w ∷ x ∷ y ∷ ys ≡ b ∷ c ∷ d ∷ ys
+three_and w x y b c d ys f g h = rw (f, g, h) refl
 
--- the values of a claim
-pub claim-shaped : (fields : Fields) (columns : List Column) (values : List Value) (rest : List Content)
-    → map (λ c. c.content) columns ≡ Identifier ∷ Identifier ∷ Plain kinds.Day ∷ Money ∷ rest → AllZip (HoldsUnder fields) columns values → IsClaimShaped values
-claim-shaped fields [] values rest e h = absurd (cc e)
-claim-shaped fields (a ∷ []) values rest e h = absurd (cc e)
-claim-shaped fields (a ∷ b ∷ []) values rest e h = absurd (cc e)
-claim-shaped fields (a ∷ b ∷ c ∷ []) values rest e h = absurd (cc e)
-claim-shaped fields (a ∷ b ∷ c ∷ d ∷ ds) [] rest e h = absurd h
-claim-shaped fields (a ∷ b ∷ c ∷ d ∷ ds) (v ∷ []) rest e h = absurd h.1
-claim-shaped fields (a ∷ b ∷ c ∷ d ∷ ds) (v ∷ w ∷ []) rest e h = absurd h.1.1
-claim-shaped fields (a ∷ b ∷ c ∷ d ∷ ds) (v ∷ w ∷ x ∷ []) rest e h = absurd h.1.1.1
-claim-shaped fields (a ∷ b ∷ c ∷ d ∷ ds) (v ∷ w ∷ x ∷ y ∷ ys) rest e h =
-    let ea : a.content ≡ Identifier = cc e in
+-- the values of a claim from its member on
+record IsShapedBehind (values : List Value) : Type 0 where
+  pub member : List ℕ
+  pub service : ℤ
+  pub billed : ℤ
+  pub fields : List Value
+  pub values_are : values ≡ Text member ∷ Day service ∷ Number billed ∷ fields
+  pub money : IsMoney billed
+
+shaped-behind : (fields : Fields) (columns : List Column) (values : List Value) (rest : List Content)
+    → map (λ c. c.content) columns ≡ Identifier ∷ Plain kinds.Day ∷ Money ∷ rest → AllZip (HoldsUnder fields) columns values → IsShapedBehind values
+shaped-behind fields [] values rest e h = absurd (cc e)
+shaped-behind fields (b ∷ []) values rest e h = absurd (cc e)
+shaped-behind fields (b ∷ c ∷ []) values rest e h = absurd (cc e)
+shaped-behind fields (b ∷ c ∷ d ∷ ds) [] rest e h = absurd h
+shaped-behind fields (b ∷ c ∷ d ∷ ds) (w ∷ []) rest e h = absurd h.1
+shaped-behind fields (b ∷ c ∷ d ∷ ds) (w ∷ x ∷ []) rest e h = absurd h.1.1
+shaped-behind fields (b ∷ c ∷ d ∷ ds) (w ∷ x ∷ y ∷ ys) rest e h =
     let eb : b.content ≡ Identifier = cc e in
     let ec : c.content ≡ Plain kinds.Day = cc e in
     let ed : d.content ≡ Money = cc e in
+    let (member, is_member) = text-value b.content h.0.bytes w eb h.0.holds in
+    let (day, is_day) = day-value c.content h.1.0.bytes x ec h.1.0.holds in
+    let (units, is_units, money) = money-value d.content h.1.1.0.bytes y ed h.1.1.0.holds in
+    record { member = member; service = day; billed = units; fields = ys; values_are = three_and w x y (Text member) (Day day) (Number units) ys is_member is_day is_units; money = money }
+
+-- the values of a claim
+pub claim-shaped : (families : Bool) (fields : Fields) (columns : List Column) (values : List Value) (rest : List Content)
+    → map (λ c. c.content) columns ≡ Identifier ∷ (family_contents families ++ Identifier ∷ Plain kinds.Day ∷ Money ∷ rest) → AllZip (HoldsUnder fields) columns values
+    → IsClaimShaped families values
+claim-shaped families fields [] values rest e h = absurd (cc e)
+claim-shaped families fields (a ∷ columns) [] rest e h = absurd h
+claim-shaped false fields (a ∷ columns) (v ∷ values) rest e h =
+    let ea : a.content ≡ Identifier = cc e in
+    let others : map (λ c. c.content) columns ≡ Identifier ∷ Plain kinds.Day ∷ Money ∷ rest = cc e in
     let (id, is_id) = text-value a.content h.0.bytes v ea h.0.holds in
-    let (member, is_member) = text-value b.content h.1.0.bytes w eb h.1.0.holds in
-    let (day, is_day) = day-value c.content h.1.1.0.bytes x ec h.1.1.0.holds in
-    let (units, is_units, money) = money-value d.content h.1.1.1.0.bytes y ed h.1.1.1.0.holds in
-    record { id = id; member = member; service = day; billed = units; fields = ys; values_are = four v w x y (Text id) (Text member) (Day day) (Number units) ys is_id is_member is_day is_units; money = money }
+    let b = shaped-behind fields columns values rest others h.1 in
+    record {
+      id = id;
+      family = None;
+      has_family = refl;
+      member = b.member;
+      service = b.service;
+      billed = b.billed;
+      fields = b.fields;
+      values_are = ap (λ x. x ∷ values) is_id ∙ ap (λ xs. Text id ∷ xs) b.values_are;
+      money = b.money;
+    }
+claim-shaped true fields (a ∷ []) (v ∷ values) rest e h = absurd (cc e)
+claim-shaped true fields (a ∷ b ∷ columns) (v ∷ []) rest e h = absurd h.1
+claim-shaped true fields (a ∷ b ∷ columns) (v ∷ w ∷ values) rest e h =
+    let ea : a.content ≡ Identifier = cc e in
+    let eb : b.content ≡ Identifier = cc e in
+    let others : map (λ c. c.content) columns ≡ Identifier ∷ Plain kinds.Day ∷ Money ∷ rest = cc e in
+    let (id, is_id) = text-value a.content h.0.bytes v ea h.0.holds in
+    let (family, is_family) = text-value b.content h.1.0.bytes w eb h.1.0.holds in
+    let s = shaped-behind fields columns values rest others h.1.1 in
+    record {
+      id = id;
+      family = Some family;
+      has_family = refl;
+      member = s.member;
+      service = s.service;
+      billed = s.billed;
+      fields = s.fields;
+      values_are = ap (λ x. x ∷ w ∷ values) is_id ∙ ap (λ x. Text id ∷ x ∷ values) is_family ∙ ap (λ xs. Text id ∷ Text family ∷ xs) s.values_are;
+      money = s.money;
+    }
 
 -- the text of a year that stands under its column
 year-value : (content : Content) (bytes : List ℕ) (v : Value) → content ≡ Year → Holds content bytes v → (year : ℕ) × (v ≡ Text (year_text year)) × IsInRange 1 9999 year
@@ -157,15 +207,36 @@ pub entry-taken : (years : Bool) (values behind left : List Value) (member : Lis
 entry-taken years values behind left member year balance e f g =
     e ∙ ap (λ vs. Text member ∷ vs) (f ∙ ap (λ vs. year_values years year ++ vs) g)
 
--- the columns of a file of claims
-pub claim-layout : (names : List InputData) (header : Fields) (columns : List Column) → AreColumnsOf header (claim_columns names) columns
-    → (fields : List Content) × (map (λ c. c.content) columns ≡ Identifier ∷ Identifier ∷ Plain kinds.Day ∷ Money ∷ fields)
-claim-layout names header [] h = absurd h
-claim-layout names header (a ∷ []) h = absurd h.1
-claim-layout names header (a ∷ b ∷ []) h = absurd h.1.1
-claim-layout names header (a ∷ b ∷ c ∷ []) h = absurd h.1.1.1
-claim-layout names header (a ∷ b ∷ c ∷ d ∷ ds) h =
-    (map (λ c. c.content) ds, rw (h.0.content, h.1.0.content, h.1.1.0.content, h.1.1.1.0.content) refl)
+-- the columns of a file of claims: whether there is one for families is told by the third of them
+record AreOwnColumns (families : Bool) (columns : List Column) : Type 0 where
+  pub third : option_map_or (λ c. is_identifier c.content) (slice_get columns 2) false ≡ families
+  pub fields : List Content
+  pub contents : map (λ c. c.content) columns ≡ Identifier ∷ (family_contents families ++ Identifier ∷ Plain kinds.Day ∷ Money ∷ fields)
+
+own-columns : (families : Bool) (more : List Needed) (header : Fields) (columns : List Column) → AreColumnsOf header (own_columns families ++ more) columns → AreOwnColumns families columns
+own-columns false more header [] h = absurd h
+own-columns false more header (a ∷ []) h = absurd h.1
+own-columns false more header (a ∷ b ∷ []) h = absurd h.1.1
+own-columns false more header (a ∷ b ∷ c ∷ []) h = absurd h.1.1.1
+own-columns false more header (a ∷ b ∷ c ∷ d ∷ ds) h =
+    record { third = ap is_identifier h.1.1.0.content; fields = map (λ c. c.content) ds; contents = rw (h.0.content, h.1.0.content, h.1.1.0.content, h.1.1.1.0.content) refl }
+own-columns true more header [] h = absurd h
+own-columns true more header (a ∷ []) h = absurd h.1
+own-columns true more header (a ∷ b ∷ []) h = absurd h.1.1
+own-columns true more header (a ∷ b ∷ c ∷ []) h = absurd h.1.1.1
+own-columns true more header (a ∷ b ∷ c ∷ d ∷ []) h = absurd h.1.1.1.1
+own-columns true more header (a ∷ b ∷ c ∷ d ∷ e ∷ es) h =
+    record {
+      third = ap is_identifier h.1.1.0.content;
+      fields = map (λ c. c.content) es;
+      contents = rw (h.0.content, h.1.0.content, h.1.1.0.content, h.1.1.1.0.content, h.1.1.1.1.0.content) refl;
+    }
+
+pub claim-layout : (names : List InputData) (header : Fields) (layout : Layout) → AreColumnsOf header (claim_columns names) layout.columns → IsClaimLayout layout
+claim-layout names header layout h =
+    let own = own-columns (have_family names) (map (λ d. needed d.name (Plain d.kind)) (fields_among names)) header layout.columns h in
+    let contents : Bool → Type 0 = λ b. map (λ c. c.content) layout.columns ≡ Identifier ∷ (family_contents b ++ Identifier ∷ Plain kinds.Day ∷ Money ∷ own.fields) in
+    record { fields = own.fields; contents = subst contents (sym own.third) own.contents }
 
 -- the columns of a file of balances
 amount-layout : (header : Fields) (columns : List Column) → AreColumnsOf header (needed (codes "met") Money ∷ needed (codes "oop") Money ∷ needed (codes "paid") Money ∷ []) columns

@@ -1,5 +1,5 @@
 -- No record is without its row: it is a claim, or it has a first fault.
-use Rattle.std.proofs.Common.{inl, inr, ◌≡◌, ◌<◌, ◌≤◌, ◌≤ℤ◌, ◌+◌, ◌⊎◌, ℕ, ℤ, pos, suc, false, List, [], ◌∷◌, ◌++◌, length, get_or, Some, refl, sym, ap, ◌∙◌, arith}
+use Rattle.std.proofs.Common.{inl, inr, ◌≡◌, ◌<◌, ◌≤◌, ◌≤ℤ◌, ◌+◌, ◌⊎◌, ℕ, ℤ, pos, suc, Bool, true, false, List, [], ◌∷◌, ◌++◌, length, map, codes, get_or, Some, None, refl, sym, ap, ◌∙◌, arith}
 use Rattle.std.specs.List.{All, Any, count_by, slice_get}
 use Rattle.std.proofs.lemmas.Bool.{cases_Bool, cases_eq, cases_lt}
 use Rattle.std.proofs.lemmas.Int.{ints}
@@ -14,7 +14,7 @@ use Rattle.feel_tests.specs.declared.value.Value.TheVariants.{Number, Text, Flag
 use Rattle.dtable.specs.declared.table.InputData.{InputData}
 use Rattle.settlement.specs.declared.claim.Claim.{Claim}
 use Rattle.intake_csv.specs.Records.{Fields}
-use Rattle.intake_csv.specs.Columns.{AreColumnsOf, IsSheet, claim_columns}
+use Rattle.intake_csv.specs.Columns.{AreColumnsOf, IsSheet, claim_columns, fields_among, have_family, needed, own_columns}
 use Rattle.intake_csv.specs.Fields.{Holds, IsFaultless, IsFaulty, Spells}
 use Rattle.intake_csv.specs.Rows.{AreRows, AreValues, HoldsUnder, IsFaultlessUnder, IsFaultyUnder, IsFirstFault, IsRow, claim_values, claims_in, field_count, is_claim}
 use Rattle.intake_csv.specs.declared.column.Column.{Column}
@@ -166,33 +166,62 @@ money-value content bytes (Text t) e h = let s = rw e at h.spells.plain in absur
 money-value content bytes (Flag b) e h = let s = rw e at h.spells.plain in absurd (cc s.0)
 money-value content bytes (Day d) e h = let s = rw e at h.spells.plain in absurd (cc s.0)
 
-four : (v w x y a b c d : Value) (ys : List Value) → v ≡ a → w ≡ b → x ≡ c → y ≡ d → a ∷ b ∷ c ∷ d ∷ ys ≡ v ∷ w ∷ x ∷ y ∷ ys
-four v w x y a b c d ys e f g h = rw (e, f, g, h) refl
+three : (w x y b c d : Value) (ys : List Value) → w ≡ b → x ≡ c → y ≡ d → b ∷ c ∷ d ∷ ys ≡ w ∷ x ∷ y ∷ ys
+three w x y b c d ys f g h = rw (f, g, h) refl
+
+-- a member, a day of service and an amount that is billed stand in front of values
+record AreBehind (vs : List Value) : Type 0 where
+  pub member : List ℕ
+  pub service : ℤ
+  pub billed : ℤ
+  pub fields : List Value
+  pub values : Text member ∷ Day service ∷ Number billed ∷ fields ≡ vs
+
+behind-of : (header row : Fields) (more : List Needed) (columns : List Column) (vs : List Value)
+    → AreColumnsOf header (needed (codes "member") Identifier ∷ needed (codes "service") (Plain kinds.Day) ∷ needed (codes "billed") Money ∷ more) columns → AreValues row columns vs
+    → AreBehind vs
+behind-of header row more [] vs h values = absurd h
+behind-of header row more (b ∷ []) vs h values = absurd h.1
+behind-of header row more (b ∷ c ∷ []) vs h values = absurd h.1.1
+behind-of header row more (b ∷ c ∷ d ∷ ds) [] h values = absurd values
+behind-of header row more (b ∷ c ∷ d ∷ ds) (w ∷ []) h values = absurd values.1
+behind-of header row more (b ∷ c ∷ d ∷ ds) (w ∷ x ∷ []) h values = absurd values.1.1
+behind-of header row more (b ∷ c ∷ d ∷ ds) (w ∷ x ∷ y ∷ ys) h values =
+    let (member, is_member) = text-value b.content values.0.bytes w h.0.content values.0.holds in
+    let (day, is_day) = day-value c.content values.1.0.bytes x h.1.0.content values.1.0.holds in
+    let (units, is_units) = money-value d.content values.1.1.0.bytes y h.1.1.0.content values.1.1.0.holds in
+    record { member = member; service = day; billed = units; fields = ys; values = three w x y (Text member) (Day day) (Number units) ys is_member is_day is_units }
 
 -- values under the columns of a file of claims are those of a claim
 record ClaimOf (vs : List Value) : Type 0 where
   pub claim : Claim
   pub values : claim_values claim ≡ vs
 
-claim-of : (header fields : Fields) (names : List InputData) (columns : List Column) (vs : List Value) → AreColumnsOf header (claim_columns names) columns
-    → AreValues fields columns vs → ClaimOf vs
-claim-of header fields names [] vs h values = absurd h
-claim-of header fields names (a ∷ []) vs h values = absurd h.1
-claim-of header fields names (a ∷ b ∷ []) vs h values = absurd h.1.1
-claim-of header fields names (a ∷ b ∷ c ∷ []) vs h values = absurd h.1.1.1
-claim-of header fields names (a ∷ b ∷ c ∷ d ∷ ds) [] h values = absurd values
-claim-of header fields names (a ∷ b ∷ c ∷ d ∷ ds) (v ∷ []) h values = absurd values.1
-claim-of header fields names (a ∷ b ∷ c ∷ d ∷ ds) (v ∷ w ∷ []) h values = absurd values.1.1
-claim-of header fields names (a ∷ b ∷ c ∷ d ∷ ds) (v ∷ w ∷ x ∷ []) h values = absurd values.1.1.1
-claim-of header fields names (a ∷ b ∷ c ∷ d ∷ ds) (v ∷ w ∷ x ∷ y ∷ ys) h values =
+claim-by : (header row : Fields) (families : Bool) (more : List Needed) (columns : List Column) (vs : List Value) → AreColumnsOf header (own_columns families ++ more) columns
+    → AreValues row columns vs → ClaimOf vs
+claim-by header row families more [] vs h values = absurd h
+claim-by header row families more (a ∷ columns) [] h values = absurd values
+claim-by header row false more (a ∷ columns) (v ∷ vs) h values =
     let (id, is_id) = text-value a.content values.0.bytes v h.0.content values.0.holds in
-    let (member, is_member) = text-value b.content values.1.0.bytes w h.1.0.content values.1.0.holds in
-    let (day, is_day) = day-value c.content values.1.1.0.bytes x h.1.1.0.content values.1.1.0.holds in
-    let (units, is_units) = money-value d.content values.1.1.1.0.bytes y h.1.1.1.0.content values.1.1.1.0.holds in
+    let b = behind-of header row more columns vs h.1 values.1 in
     record {
-      claim = record { id = id; member = member; service = day; billed = units; fields = ys };
-      values = four v w x y (Text id) (Text member) (Day day) (Number units) ys is_id is_member is_day is_units;
+      claim = record { id = id; family = None; member = b.member; service = b.service; billed = b.billed; fields = b.fields };
+      values = ap (λ ws. Text id ∷ ws) b.values ∙ ap (λ w. w ∷ vs) (sym is_id);
     }
+claim-by header row true more (a ∷ []) (v ∷ vs) h values = absurd h.1
+claim-by header row true more (a ∷ b ∷ columns) (v ∷ []) h values = absurd values.1
+claim-by header row true more (a ∷ b ∷ columns) (v ∷ w ∷ vs) h values =
+    let (id, is_id) = text-value a.content values.0.bytes v h.0.content values.0.holds in
+    let (family, is_family) = text-value b.content values.1.0.bytes w h.1.0.content values.1.0.holds in
+    let b = behind-of header row more columns vs h.1.1 values.1.1 in
+    record {
+      claim = record { id = id; family = Some family; member = b.member; service = b.service; billed = b.billed; fields = b.fields };
+      values = ap (λ xs. Text id ∷ Text family ∷ xs) b.values ∙ ap (λ x. Text id ∷ x ∷ vs) (sym is_family) ∙ ap (λ x. x ∷ w ∷ vs) (sym is_id);
+    }
+
+claim-of : (header row : Fields) (names : List InputData) (columns : List Column) (vs : List Value) → AreColumnsOf header (claim_columns names) columns
+    → AreValues row columns vs → ClaimOf vs
+claim-of header row names columns vs h values = claim-by header row (have_family names) (map (λ d. needed d.name (Plain d.kind)) (fields_among names)) columns vs h values
 
 -- what a file's header says of the columns that claims need
 record HasColumns (names : List InputData) (layout : Layout) : Type 0 where

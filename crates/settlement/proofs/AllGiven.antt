@@ -1,5 +1,5 @@
 -- A claim of a plan gives each name that the plan's tables read a value.
-use Rattle.std.proofs.Common.{◌≡◌, ℕ, ◌<◌, ◌≤◌, zero, suc, true, false, nat_lt, inl, inr, List, [], ◌∷◌, ◌++◌, map, length, slice_get, Option, None, is_some, ◌⊎◌, refl, sym, ap, subst, ◌∙◌, arith}
+use Rattle.std.proofs.Common.{◌≡◌, ℕ, ◌<◌, ◌≤◌, zero, suc, Bool, true, false, nat_lt, inl, inr, List, [], ◌∷◌, ◌++◌, map, length, slice_get, Option, Some, None, is_some, ◌⊎◌, refl, sym, ap, subst, ◌∙◌, arith}
 use Rattle.std.specs.List.{list_all, list_any, range_with_len, All}
 use Rattle.std.specs.Option.{option_and_then, option_map_or}
 use Rattle.std.proofs.lemmas.Bool.{ltb-true, false≢true, eqb-true, and_parts, or_cases, or_left}
@@ -10,6 +10,7 @@ use Rattle.std.proofs.lemmas.Option.{slice_get_past}
 use Rattle.feel_tests.specs.declared.kind.Kind.{Kind}
 use Rattle.feel_tests.specs.declared.kind.Kind.TheVariants.{Number, Text, Day}
 use Rattle.feel_tests.specs.declared.value.Value.{Value}
+use Rattle.feel_tests.specs.declared.value.Value.TheVariants as values
 use Rattle.feel_tests.specs.Value.{kind_of}
 use Rattle.dtable.specs.declared.table.Input.{Input}
 use Rattle.dtable.specs.declared.table.InputData.{InputData}
@@ -18,25 +19,48 @@ use Rattle.dtable.specs.declared.table.Origin.TheVariants.{Given, Earlier}
 use Rattle.dtable.specs.declared.table.Table.{Table}
 use Rattle.dtable.specs.declared.inputs.Slot.{Slot}
 use Rattle.dtable.specs.Inputs.{value_at, reads, needs, empty_slots, IsReady}
-use Rattle.dtable.specs.Names.{accumulator_names}
-use Rattle.dtable.specs.Plan.{PlanParts, IsPlan, is_known, are_known}
+use Rattle.dtable.specs.Names.{accumulator_names, names_of}
+use Rattle.dtable.specs.Plan.{PlanParts, IsPlan, is_known, are_known, keeps_families}
 use Rattle.settlement.specs.declared.acc.Acc.{Acc}
 use Rattle.settlement.specs.declared.claim.Claim.{Claim}
 use Rattle.settlement.specs.Claim.{IsClaimOf}
 use Rattle.settlement.proofs.Giving.{at_each}
-use Rattle.settlement.specs.Given.{accumulator_values, values_behind, values_given, slot_kinds, slot_of, given_by}
+use Rattle.settlement.specs.Given.{accumulator_values, behind_family, values_from_member, values_given, slot_kinds, slot_of, given_by}
 use Rattle.settlement.specs.Reads.{is_read, places_read, roles_read, HasItsValue, IsLaidOut, Serves}
+
+-- the kinds of the accumulators' names are those of their values, where a claim has a family or not
+accumulator_kinds :
+    (families : Bool) (family : Option (List ℕ)) (acc : Acc) → is_some family ≡ families
+    → map (λ (d : InputData). d.kind) (accumulator_names families) ≡ map kind_of (accumulator_values family acc)
+accumulator_kinds false None acc has = refl
+accumulator_kinds false (Some family) acc has = cc
+accumulator_kinds true None acc has = cc
+accumulator_kinds true (Some family) acc has = refl
+
+-- and so, behind those of the fields
+kinds_behind :
+    (families : Bool) (claim : Claim) (fields : List InputData) (acc : Acc) → is_some claim.family ≡ families → map kind_of claim.fields ≡ map (λ (d : InputData). d.kind) fields
+    → map (λ (d : InputData). d.kind) (fields ++ accumulator_names families) ≡ map kind_of (claim.fields ++ accumulator_values claim.family acc)
+kinds_behind families claim fields acc has kinds =
+    let kind = λ (d : InputData). d.kind in
+    map-append kind fields (accumulator_names families) ∙ ap (λ (l : List Kind). l ++ map kind (accumulator_names families)) (sym kinds)
+    ∙ ap (λ (l : List Kind). map kind_of claim.fields ++ l) (accumulator_kinds families claim.family acc has) ∙ sym (map-append kind_of claim.fields (accumulator_values claim.family acc))
+
+-- in front of these stand those of the claim's own values
+kinds_in_front :
+    (families : Bool) (family : Option (List ℕ)) (fields : List InputData) (claim : Claim) (acc : Acc) → is_some family ≡ families
+    → map (λ (d : InputData). d.kind) (fields ++ accumulator_names families) ≡ map kind_of (claim.fields ++ accumulator_values claim.family acc)
+    → map (λ (d : InputData). d.kind) (names_of families fields) ≡ map kind_of (values.Text claim.id ∷ behind_family family (values_from_member claim acc))
+kinds_in_front false None fields claim acc has same = ap (λ (l : List Kind). Text ∷ Text ∷ Day ∷ Number ∷ l) same
+kinds_in_front false (Some family) fields claim acc has same = cc
+kinds_in_front true None fields claim acc has same = cc
+kinds_in_front true (Some family) fields claim acc has same = ap (λ (l : List Kind). Text ∷ Text ∷ Text ∷ Day ∷ Number ∷ l) same
 
 -- the kinds of a plan's names are those of the values that its claim gives
 pub kinds_given : (plan : PlanParts) (claim : Claim) (acc : Acc) → IsClaimOf plan claim → map (λ (d : InputData). d.kind) plan.names ≡ map kind_of (values_given claim acc)
 kinds_given plan claim acc is =
-    let kind = λ (d : InputData). d.kind in
-    let left : map kind (is.fields ++ accumulator_names) ≡ map kind is.fields ++ map kind accumulator_names = map-append kind is.fields accumulator_names in
-    let right : map kind_of (values_behind claim acc) ≡ map kind_of claim.fields ++ map kind_of (accumulator_values acc) =
-    map-append kind_of claim.fields (accumulator_values acc) in
-    let same : map kind (is.fields ++ accumulator_names) ≡ map kind_of (values_behind claim acc) =
-    left ∙ ap (λ (l : List Kind). l ++ Number ∷ Number ∷ Number ∷ []) (sym is.kinds) ∙ sym right in
-    ap (map kind) is.names ∙ ap (λ (l : List Kind). Text ∷ Text ∷ Day ∷ Number ∷ l) same
+    let behind = kinds_behind (keeps_families plan) claim is.fields acc is.family is.kinds in
+    ap (map (λ (d : InputData). d.kind)) is.names ∙ kinds_in_front (keeps_families plan) claim.family is.fields claim acc is.family behind
 
 read_below : (names : List InputData) (earlier : List Table) (place : ℕ) (o : Origin) → is_known names earlier o ≡ true → reads place o ≡ true → nat_lt place (length names) ≡ true
 read_below names earlier place (Given p) known e = subst (λ n. nat_lt n (length names) ≡ true) (eqb-true p place e) known

@@ -1,22 +1,24 @@
 -- The fields of a plan.
-use Rattle.std.proofs.Common.{◌≡◌, ◌==◌, true, List, [], ◌∷◌, map, length, drop, refl, ap, sym, ◌∙◌, arith}
+use Rattle.std.proofs.Common.{◌≡◌, ◌==◌, Bool, true, List, [], ◌∷◌, ◌++◌, map, length, is_some, refl, ap, sym, ◌∙◌, arith}
 use Rattle.std.specs.List.{list_all, zip}
 use Rattle.std.proofs.lemmas.Bool.{false≢true, eqb-true, eq-eqb, and_parts, and_from}
-use Rattle.std.proofs.lemmas.List.{append_cancel_right, length-map}
+use Rattle.std.proofs.lemmas.List.{append_cancel_left, append_cancel_right, length-map}
 use Rattle.feel_tests.specs.declared.kind.Kind.{Kind}
 use Rattle.feel_tests.specs.declared.kind.Kind.TheVariants.{Number, Text, Flag, Day}
 use Rattle.feel_tests.specs.declared.value.Value.{Value}
 use Rattle.feel_tests.specs.Value.{kind_of}
 use Rattle.dtable.specs.declared.table.InputData.{InputData}
-use Rattle.dtable.specs.Names.{names_of, accumulator_names}
-use Rattle.dtable.specs.Plan.{PlanParts, same_kind, has_kind}
+use Rattle.dtable.specs.Names.{accumulator_names, claim_names, names_of}
+use Rattle.dtable.specs.Plan.{PlanParts, keeps_families, same_kind, has_kind}
 use Rattle.settlement.specs.declared.claim.Claim.{Claim}
 use Rattle.settlement.specs.Claim.{IsClaimOf}
 use Rattle.settlement.specs.Fields.{have_kinds}
 
--- names are those of one list of fields
-pub one_list : (fields others : List InputData) → names_of fields ≡ names_of others → fields ≡ others
-one_list fields others same = append_cancel_right fields others accumulator_names (ap (drop 4) same)
+-- names are those of one list of fields, where families are kept or not
+pub one_list : (families : Bool) (fields others : List InputData) → names_of families fields ≡ names_of families others → fields ≡ others
+one_list families fields others same =
+    append_cancel_right fields others (accumulator_names families)
+    (append_cancel_left (claim_names families) (fields ++ accumulator_names families) (others ++ accumulator_names families) same)
 
 same_kinds : (one other : Kind) → same_kind one other ≡ true → one ≡ other
 same_kinds Number Number e = refl
@@ -67,17 +69,18 @@ zip_from_kinds (v ∷ vs) (d ∷ ds) e =
 
 -- a claim whose values pass the test has the plan's fields
 pub claim_from_test :
-    (plan : PlanParts) (claim : Claim) (fields : List InputData) → plan.names ≡ names_of fields → have_kinds claim.fields fields ≡ true → IsClaimOf plan claim
-claim_from_test plan claim fields names e =
+    (plan : PlanParts) (claim : Claim) (fields : List InputData) → plan.names ≡ names_of (keeps_families plan) fields → is_some claim.family ≡ keeps_families plan
+    → have_kinds claim.fields fields ≡ true → IsClaimOf plan claim
+claim_from_test plan claim fields names family e =
     let both = and_parts (length claim.fields == length fields) (list_all (λ p. has_kind p.1.kind p.0) (zip claim.fields fields)) e in
-    record { fields = fields; names = names; kinds = kinds_from_zip claim.fields fields (eqb-true (length claim.fields) (length fields) both.0) both.1 }
+    record { family = family; fields = fields; names = names; kinds = kinds_from_zip claim.fields fields (eqb-true (length claim.fields) (length fields) both.0) both.1 }
 
 -- and one that has them passes
 pub test_from_claim :
-    (plan : PlanParts) (claim : Claim) (fields : List InputData) → plan.names ≡ names_of fields → IsClaimOf plan claim → have_kinds claim.fields fields ≡ true
+    (plan : PlanParts) (claim : Claim) (fields : List InputData) → plan.names ≡ names_of (keeps_families plan) fields → IsClaimOf plan claim → have_kinds claim.fields fields ≡ true
 test_from_claim plan claim fields names is =
     let kind = λ (d : InputData). d.kind in
-    let same : is.fields ≡ fields = one_list is.fields fields (sym is.names ∙ names) in
+    let same : is.fields ≡ fields = one_list (keeps_families plan) is.fields fields (sym is.names ∙ names) in
     let kinds : map kind_of claim.fields ≡ map kind fields = is.kinds ∙ ap (map kind) same in
     let long : length claim.fields ≡ length fields = omega (arith, ap length kinds, length-map claim.fields kind_of, length-map fields kind) in
     and_from (length claim.fields == length fields) (list_all (λ p. has_kind p.1.kind p.0) (zip claim.fields fields))

@@ -9,6 +9,7 @@ use Rattle.feel_tests.specs.declared.value.Value.{Value}
 use Rattle.dtable.specs.declared.environment.Answer.{Answer}
 use Rattle.dtable.specs.declared.fault.Fault.{Fault}
 use Rattle.dtable.specs.declared.inputs.Slot.{Slot}
+use Rattle.dtable.specs.declared.roles.FamilyRoles.{FamilyRoles}
 use Rattle.dtable.specs.declared.roles.Roles.{Roles}
 use Rattle.dtable.specs.declared.roles.Source.{Source}
 use Rattle.dtable.specs.declared.roles.Source.TheVariants.{Literal, Input as Place, Output}
@@ -27,8 +28,8 @@ use Rattle.settlement.specs.declared.claim.Claim.{Claim}
 use Rattle.settlement.specs.declared.role.Role.{Role}
 use Rattle.settlement.specs.declared.terms.RoleTerms.{RoleTerms}
 use Rattle.settlement.specs.Given.{given_by, values_given}
-use Rattle.settlement.specs.Reads.{source_reads, roles_read, is_read, Serves}
-use Rattle.settlement.specs.Roles.{value_of, is_true_flag, terms, remarks_of}
+use Rattle.settlement.specs.Reads.{source_reads, limits_read, roles_read, is_read, Serves}
+use Rattle.settlement.specs.Roles.{value_of, is_true_flag, limits, terms, remarks_of}
 use Rattle.settlement.specs.Settlement.{by_roles, by_tables, by_terms, denied, outcome}
 use Rattle.settlement.proofs.AllGiven.{value_given}
 
@@ -131,6 +132,16 @@ source_alike given other answers (Literal value) alike = refl
 source_alike given other answers (Place p) alike = alike p (eq-eqb p p refl)
 source_alike given other answers (Output name) alike = refl
 
+limits_alike :
+    (given other : List Slot) (answers : Environment) (family : Option FamilyRoles) → AlikeWhere (λ place. limits_read place family) given other
+    → limits given answers family ≡ limits other answers family
+limits_alike given other answers None alike = refl
+limits_alike given other answers (Some roles) alike =
+    let deductible =
+    source_alike given other answers roles.deductible (λ place e. alike place (or_left (source_reads place roles.deductible) (source_reads place roles.oop_max) e)) in
+    let oop_max = source_alike given other answers roles.oop_max (λ place e. alike place (or_right (source_reads place roles.deductible) (source_reads place roles.oop_max) e)) in
+    rw (deductible, oop_max) refl
+
 -- each role has the same value
 record SameRoles (given other : List Slot) (answers : Environment) (roles : Roles) : Type 0 where
   cover : value_of given answers roles.cover ≡ value_of other answers roles.cover
@@ -139,6 +150,7 @@ record SameRoles (given other : List Slot) (answers : Environment) (roles : Role
   copay : value_of given answers roles.copay ≡ value_of other answers roles.copay
   rate : value_of given answers roles.rate ≡ value_of other answers roles.rate
   oop_max : value_of given answers roles.oop_max ≡ value_of other answers roles.oop_max
+  family : limits given answers roles.family ≡ limits other answers roles.family
 
 same_roles :
     (given other : List Slot) (answers : Environment) (roles : Roles) → AlikeWhere (λ place. roles_read place roles) given other
@@ -150,12 +162,13 @@ same_roles given other answers roles alike = record {
   copay = source_alike given other answers roles.copay (λ place e. alike place (grind (arith, e)));
   rate = source_alike given other answers roles.rate (λ place e. alike place (grind (arith, e)));
   oop_max = source_alike given other answers roles.oop_max (λ place e. alike place (grind (arith, e)));
+  family = limits_alike given other answers roles.family (λ place e. alike place (grind (arith, e)));
 }
 
 terms_alike :
     (given other : List Slot) (answers : Environment) (roles : Roles) → SameRoles given other answers roles
     → terms given answers roles ≡ terms other answers roles
-terms_alike given other answers roles same = rw (same.fee, same.deductible, same.copay, same.rate, same.oop_max) refl
+terms_alike given other answers roles same = rw (same.fee, same.deductible, same.copay, same.rate, same.oop_max, same.family) refl
 
 roles_alike :
     (roles : Roles) (billed : ℤ) (acc : Acc) (given other : List Slot) (answers : Environment) → SameRoles given other answers roles

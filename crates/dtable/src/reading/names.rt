@@ -142,6 +142,7 @@ pub fn is_reserved(name: &str) -> bool
 }
 
 /// Whether a name is taken from the start, where families are kept or not.
+#[tactic(auto, using(crate::proofs::ReadNames::among_taken_with_families, crate::proofs::ReadNames::among_taken_without))]
 pub fn is_taken_from_start(families: bool, name: &str) -> bool
     ensures { result ≡ is_among name.now (names_taken families) }
 {

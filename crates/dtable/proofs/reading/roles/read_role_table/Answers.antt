@@ -35,3 +35,8 @@ pub returns-in_err-remarks : goal.returns-in_err-remarks
 returns-in_err-remarks c =
     let p = err_from_is_err_and c.from_residual-in_err-remarks.result c.from_residual-in_err-remarks.ensures.1 in
     rw (p.1, p.2) (λ memory r h. c.in_err-remarks.ensures memory r.remarks h.remarks)
+
+pub returns-in_err-family : goal.returns-in_err-family
+returns-in_err-family c =
+    let p = err_from_is_err_and c.from_residual-in_err-family.result c.from_residual-in_err-family.ensures.1 in
+    rw (p.1, p.2) (λ memory r h. c.in_err-family.ensures memory r.family h.family)

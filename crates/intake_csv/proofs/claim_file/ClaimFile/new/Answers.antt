@@ -5,11 +5,10 @@ use Rattle.intake_csv.proofs.claim_file.ClaimFile.new.Goals as goal
 pub invariant_of-result : goal.invariant_of-result
 invariant_of-result c =
     let s = rw (c.as_slice.ensures, c.in_ok-needed.ensures) at c.in_ok-sheet.ensures.ok in
-    let layout = claim-layout c.args.plan.now.names s.is_sheet.header c.in_ok-sheet.sheet.layout.columns s.is_sheet.columns in
     record {
       names = c.args.plan.now.names;
       under = s.is_sheet;
       within = s.within;
-      columns = record { fields = layout.0; contents = layout.1 };
+      columns = claim-layout c.args.plan.now.names s.is_sheet.header c.in_ok-sheet.sheet.layout s.is_sheet.columns;
       apart = columns-apart-under c.args.plan.now s.is_sheet.header c.in_ok-sheet.sheet.layout.columns c.names-names.ensures.sound s.is_sheet.columns;
     }
