@@ -1,5 +1,5 @@
 -- The place of an output: where names are distinct, the answer there is the answer by the name.
-use Rattle.std.proofs.Common.{◌≡◌, ◌≢◌, ℕ, zero, suc, ◌+◌, ◌<◌, true, List, [], ◌∷◌, ◌++◌, length, map, get_or, drop, Option, Some, None, slice_get, refl, sym, ap, ◌∙◌, subst, add-one, arith}
+use Rattle.std.proofs.Common.{◌≡◌, ◌≢◌, ℕ, zero, suc, ◌+◌, ◌<◌, List, [], ◌∷◌, ◌++◌, length, map, get_or, drop, Option, Some, None, slice_get, refl, sym, ap, ◌∙◌, subst, add-one, arith}
 use Rattle.std.specs.List.{flat_map, position}
 use Rattle.std.specs.Str.{bytes_eq}
 use Rattle.std.specs.Option.{option_and_then}
@@ -11,7 +11,7 @@ use Rattle.feel_tests.specs.declared.kind.Kind.TheVariants as kinds
 use Rattle.dtable.specs.declared.environment.Answer.{Answer}
 use Rattle.dtable.specs.declared.table.Output.{Output}
 use Rattle.dtable.specs.declared.table.Table.{Table}
-use Rattle.dtable.specs.Environment.{answer_of, answer_in, answer_at, or_else}
+use Rattle.dtable.specs.Environment.{answer_of, answer_at, or_else}
 use Rattle.dtable.specs.Plan.{AreDistinct}
 use Rattle.dtable.proofs.Named.{named_end}
 

@@ -1,5 +1,5 @@
 -- A plan that a document spells holds what every plan holds.
-use Rattle.std.proofs.Common.{◌≡◌, ◌≢◌, ℕ, ◌+◌, ◌<◌, ◌≤◌, pos, Result, Ok, Err, IfOk, IfErr, ◌==◌, zero, suc, Bool, true, false, not, ◌&&◌, nat_lt, List, [], ◌∷◌, ◌++◌, length, map, codes, Option, Some, None, option_map, slice_get, IsTrue, inl, inr, refl, sym, ap, subst, ◌∙◌, arith}
+use Rattle.std.proofs.Common.{◌≡◌, ◌≢◌, ℕ, ◌+◌, ◌<◌, ◌≤◌, Result, Ok, Err, IfOk, IfErr, ◌==◌, zero, suc, Bool, true, false, not, ◌&&◌, nat_lt, List, [], ◌∷◌, ◌++◌, length, map, codes, Option, Some, None, option_map, slice_get, IsTrue, inl, inr, refl, sym, ap, subst, ◌∙◌, arith}
 use Rattle.std.specs.List.{list_all, list_any, zip, position}
 use Rattle.std.specs.Option.{option_map_or}
 use Rattle.std.specs.Str.{bytes_eq}
@@ -9,7 +9,7 @@ use Rattle.std.proofs.lemmas.List.{map-append}
 use Rattle.std.proofs.lemmas.List.Quantifiers.{position-Some}
 use Rattle.std.proofs.lemmas.Option.{same_Some, slice_get-map}
 use Rattle.std.specs.Str.{IsUtf8}
-use Rattle.toml.specs.Data.{Data, Items, Members, no_items, item, table as whole_table, integer, get}
+use Rattle.toml.specs.Data.{Data, Items, Members, no_items, item, table as whole_table, get}
 use Rattle.toml.specs.Parse.{parse_document}
 use Rattle.feel_tests.specs.Cell.{SpellsOneValue}
 use Rattle.dtable.specs.declared.plan_fault.PlanFault.{PlanFault}

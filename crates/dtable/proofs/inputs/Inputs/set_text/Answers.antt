@@ -1,4 +1,4 @@
-use Rattle.std.proofs.Common.{◌≡◌, List, map, ap, ◌∙◌}
+use Rattle.std.proofs.Common.{List, map, ap, ◌∙◌}
 use Rattle.dtable.specs.declared.inputs.Slot.{Slot}
 use Rattle.dtable.proofs.SlotKinds.{kinds_stay}
 use Rattle.dtable.proofs.inputs.Inputs.set_text.Goals as goal

@@ -1,4 +1,4 @@
-use Rattle.std.proofs.Common.{◌≡◌, ap, sym, subst, map}
+use Rattle.std.proofs.Common.{sym, subst, map}
 use Rattle.dtable.specs.Plan.{AreDistinct}
 use Rattle.dtable.proofs.OutputPlaces.{names_of_outputs, distinct_behind}
 use Rattle.dtable.proofs.plan.Plan.output_place.Goals as goal
