@@ -1,45 +1,53 @@
 //! The texts that the command line names; where one can't be read, that is told.
 
-ghost use Rattle.std.specs.Prelude.{◌≤◌, IfErr};
+ghost use Rattle.std.specs.Prelude.{◌≡◌, ◌≤◌, IfErr, IfOk};
+ghost use Rattle.console.specs.Reading.{IsReadUpTo};
+ghost use Rattle.adjudicate_cli.specs.Texts.{IsNamedPlan};
 
 use crate::explaining::explain_unreadable;
 use adjudicate::PLAN_LIMIT_BYTES;
 use clap::ArgMatches;
 use console::names::PLAN;
-use console::{RESOURCE, ReadFault, USAGE, no_memory, read_file, told};
-use std::io::Input;
-use std::rt::Files;
+use console::{RESOURCE, ReadFault, Sources, USAGE, no_memory, read_text, told};
 
-/// The text of the plan file that the command line names; where it can't be read, that is told, and its status answered.
-pub fn plan_of<R: Files + Input + Eprint + AllocGlobal>(
+/// The text of the plan that the command line names; where it can't be read, that is told, and its status answered.
+pub fn plan_of<R: Eprint + AllocGlobal, S: Sources>(
     rt: &R,
+    sources: &S,
     matches: &ArgMatches<'_>,
     explains: bool,
 ) -> Result<Vec<u8>, u8>
+    ensures named { IfOk result (λ plan. IsNamedPlan (S.whole sources.now) matches.now plan.items) }
     ensures known { IfErr result (λ status. status ≤ RESOURCE) }
+    ensures failed { IfErr result (λ status. USAGE ≤ status) }
 {
     match matches.get_str(PLAN) {
-        Some(path) => read_or_tell(rt, path, PLAN_LIMIT_BYTES, "cannot read plan", explains),
+        Some(name) => {
+            let line = "cannot read plan";
+            read_or_tell(rt, sources, name, PLAN_LIMIT_BYTES, line, explains)
+        }
         None => Err(USAGE),
     }
 }
 
-/// The bytes of a file; where it can't be read, the line is told, and its status answered.
-pub fn read_or_tell<R: Files + Input + Eprint + AllocGlobal>(
+/// The bytes of the text with this name; where it can't be read, the line is told, and its status answered.
+pub fn read_or_tell<R: Eprint + AllocGlobal, S: Sources>(
     rt: &R,
-    path: &str,
+    sources: &S,
+    name: &str,
     limit_bytes: usize,
     line: &str,
     explains: bool,
 ) -> Result<Vec<u8>, u8>
-    ensures known { IfErr result (λ status. status ≤ RESOURCE) }
+    ensures read { IfOk result (λ bytes. IsReadUpTo limit_bytes (S.whole sources.now name.now) bytes.items) }
+    ensures failed { IfErr result (λ status. status ≡ RESOURCE) }
 {
-    match read_file(rt, path, limit_bytes) {
+    match read_text(rt.alloc(), sources, name, limit_bytes) {
         Ok(bytes) => Ok(bytes),
         Err(ReadFault::Unreadable(fault)) => {
             let status = told(rt, line, RESOURCE);
             if explains {
-                explain_unreadable(rt, line, path, &fault);
+                explain_unreadable(rt, line, name, &fault);
             }
             Err(status)
         }

@@ -1,6 +1,6 @@
 //! The file that a command's results go to, if there is one: they are put into it once they are whole.
 
-ghost use Rattle.std.specs.Prelude.{◌≡◌, ◌≢◌, ◌≤◌, ◌⊎◌, IfErr, IsOk, MatchResult};
+ghost use Rattle.std.specs.Prelude.{◌≡◌, ◌≢◌, ◌⊎◌, IfErr, IsOk, MatchResult};
 ghost use Rattle.std.specs.Io.KnownBytes.{Keeps};
 ghost use Rattle.whole_file.specs.Place.{Becomes};
 ghost use Rattle.adjudicate.specs.Stop.{status_of};
@@ -23,7 +23,7 @@ pub fn output_of<'a, R: Files + Eprint + AllocGlobal>(
     rt: &'a R,
     about: &About,
 ) -> Result<Option<FilePlace<'a, R>>, u8>
-    ensures known { IfErr result (λ status. status ≤ RESOURCE) }
+    ensures { IfErr result (λ status. status ≡ RESOURCE) }
 {
     match about.words.get_str(OUTPUT) {
         None | Some(STREAM) => Ok(None),

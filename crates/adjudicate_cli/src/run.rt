@@ -1,24 +1,29 @@
 //! The command `run`: its options and files, and the remittance on standard output.
 
-ghost use Rattle.std.specs.Prelude.{◌≡◌, ◌≢◌, ◌≤◌, IfErr};
+ghost use Rattle.std.specs.Prelude.{◌≡◌, ◌≢◌, ◌≤◌, IfErr, IfOk, map, option_map};
 ghost use Rattle.std.specs.Io.KnownBytes.{Keeps};
+ghost use Rattle.claim_terms.specs.Terms.{text_in, texts_of as texts_behind};
 ghost use Rattle.adjudicate.specs.RunStop.{IsRunReason};
+ghost use Rattle.console.specs.Reading.{IsReadUpTo};
+ghost use Rattle.intake_csv.specs.Limits.{file_limit_bytes};
 ghost use Rattle.adjudicate.specs.RunText.{IsRemittance, run_texts};
-ghost use Rattle.adjudicate_cli.specs.Ends.{HasText, IsStatusOfRefusal, PutsText};
+ghost use Rattle.adjudicate_cli.specs.Ends.{HasRemittance, HasText, IsStatusOfRefusal, PutsText, RunIsDone, RunIsRefused, IsRefusedRun};
+ghost use Rattle.adjudicate_cli.specs.Texts.{AreNamedBalances, AreNamedFiles, HasNamedTexts};
+ghost use Rattle.adjudicate_cli.specs.Words.{IsStrict};
 
 use crate::explaining::About;
 use crate::files::{plan_of, read_or_tell};
 use crate::output::{output_of, placed, unwritable};
 use crate::strict::unread;
 use crate::telling::ended;
+use crate::words::{cutoff_of, is_strict, workers_of};
 use adjudicate::{FILE_LIMIT_BYTES, RunInput, do_run};
 use clap::ArgMatches;
-use console::names::{BALANCES, CUTOFF, FILE, STRICT, SUMMARY, WORKERS};
-use console::{DONE, Pulse, RESOURCE, USAGE, explains, input_once, no_memory};
+use console::names::{BALANCES, FILE, SUMMARY};
+use console::{DONE, Pulse, REFUSED, RESOURCE, Sources, USAGE, explains, input_once, no_memory};
 use fixpoint::Out;
 use std::alloc::{AllocError, Global};
 use std::io;
-use std::io::Input;
 use std::rt::Files;
 use std::sync::Wait;
 use std::thread::Threads;
@@ -35,39 +40,63 @@ struct Texts {
 }
 
 impl Texts {
+    /// The balances' text, if there is one.
+    fn balances_slice(&self) -> Option<&[u8]>
+        ensures { text_in result ≡ option_map (λ b. b.items) self.now.balances }
+    {
+        match &self.balances {
+            Some(text) => Some(text.as_slice()),
+            None => None,
+        }
+    }
+
     /// What the run is about, as its refusals are told.
     fn about<'a, 'w>(&'a self, explains: bool, words: &'a ArgMatches<'w>) -> About<'a, 'w> {
-        let balances: &[u8] = match &self.balances {
-            Some(text) => text.as_slice(),
-            None => &[],
-        };
         About::of_run(
             explains,
             words,
             self.plan.as_slice(),
-            balances,
+            self.balances_slice().unwrap_or(&[]),
             self.files.as_slice(),
         )
     }
 }
 
 /// The command `run`. Where somebody watches standard error, a run that takes long shows signs of life there.
-pub fn run_of<R>(rt: &R, matches: &ArgMatches<'_>, is_watched: bool) -> u8
+pub fn run_of<R, S: Sources>(rt: &R, sources: &S, matches: &ArgMatches<'_>, is_watched: bool) -> u8
 where
-    R: Files + Input + Print + Eprint + AllocGlobal,
+    R: Files + Print + Eprint + AllocGlobal,
     R: Clock + Threads + Wait + Clone + Drop + Send + Sync + 'static,
     ensures known { result ≤ RESOURCE }
+    ensures done { result ≡ DONE → RunIsDone (S.whole sources.now) matches.now }
+    ensures refused { result ≡ REFUSED → RunIsRefused (S.whole sources.now) matches.now result }
 {
     let pulse = if is_watched { Pulse::start(rt) } else { None };
-    let explains = explains(matches, is_watched);
-    let status = match texts_of(rt, matches, explains) {
-        Ok(texts) => settle(rt, matches, &texts, is_watched, explains),
-        Err(status) => status,
-    };
+    let status = settle_named(rt, sources, matches, is_watched);
     if let Some(pulse) = pulse {
         pulse.end(rt);
     }
     status
+}
+
+/// Settles the claims of the texts that the command line names.
+fn settle_named<R, S: Sources>(
+    rt: &R,
+    sources: &S,
+    matches: &ArgMatches<'_>,
+    is_watched: bool,
+) -> u8
+where
+    R: Files + Print + Eprint + AllocGlobal + Threads + Wait + Sync,
+    ensures known { result ≤ RESOURCE }
+    ensures done { result ≡ DONE → RunIsDone (S.whole sources.now) matches.now }
+    ensures refused { result ≡ REFUSED → RunIsRefused (S.whole sources.now) matches.now result }
+{
+    let explains = explains(matches, is_watched);
+    match texts_of(rt, sources, matches, explains) {
+        Ok(texts) => settle(rt, matches, &texts, is_watched, explains),
+        Err(status) => status,
+    }
 }
 
 /// Settles the claims of the texts.
@@ -81,8 +110,10 @@ fn settle<R>(
 where
     R: Files + Print + Eprint + AllocGlobal + Threads + Wait + Sync,
     ensures known { result ≤ RESOURCE }
+    ensures done { result ≡ DONE → HasRemittance matches.now texts.now }
+    ensures refused { result ≡ REFUSED → IsRefusedRun matches.now texts.now result }
 {
-    let Some(workers) = matches.get_one::<usize>(WORKERS) else {
+    let Some(workers) = workers_of(matches) else {
         return USAGE;
     };
     let Ok(files) = slices_of(rt.alloc(), &texts.files) else {
@@ -90,18 +121,28 @@ where
     };
     let input = RunInput {
         plan: texts.plan.as_slice(),
-        balances: texts.balances.as_ref().map(|text| text.as_slice()),
+        balances: texts.balances_slice(),
         files: files.as_slice(),
-        cutoff: matches.get_one::<u64>(CUTOFF),
+        cutoff: cutoff_of(matches),
         workers,
     };
     let has_summary = is_watched || matches.get_flag(SUMMARY);
-    let about = texts.about(explains, matches);
-    match output_of(rt, &about) {
-        Ok(Some(file)) if has_summary => run_tallied(rt, &about, input, file),
-        Ok(Some(mut file)) => run_into(rt, &about, input, &mut file),
-        Ok(None) if has_summary => run_tallied(rt, &about, input, Stream::new(rt)),
-        Ok(None) => run(rt, &about, input),
+    run_anywhere(rt, &texts.about(explains, matches), input, has_summary)
+}
+
+/// Runs to where the words say, and tells what became of the records where that is wanted.
+fn run_anywhere<R>(rt: &R, about: &About, input: RunInput, has_summary: bool) -> u8
+where
+    R: Files + Print + Eprint + AllocGlobal + Threads + Wait + Sync,
+    ensures known { result ≤ RESOURCE }
+    ensures done { result ≡ DONE → HasText (IsRemittance (run_texts input.entry)) }
+    ensures refused { result ≢ DONE → IsStatusOfRefusal (IsRunReason (run_texts input.entry) input.entry.workers) result }
+{
+    match output_of(rt, about) {
+        Ok(Some(file)) if has_summary => run_tallied(rt, about, input, file),
+        Ok(Some(mut file)) => run_into(rt, about, input, &mut file),
+        Ok(None) if has_summary => run_tallied(rt, about, input, Stream::new(rt)),
+        Ok(None) => run(rt, about, input),
         Err(status) => status,
     }
 }
@@ -160,7 +201,9 @@ where
 }
 
 /// The files' texts, as a run borrows them.
-fn slices_of(alloc: Global, files: &[Vec<u8>]) -> Result<Vec<&[u8]>, AllocError> {
+fn slices_of(alloc: Global, files: &[Vec<u8>]) -> Result<Vec<&[u8]>, AllocError>
+    ensures { IfOk result (λ slices. texts_behind slices.items ≡ map (λ f. f.items) files.now) }
+{
     let mut slices = Vec::with_capacity(alloc, files.len())?;
     for text in files {
         slices.push(text.as_slice())?;
@@ -169,16 +212,20 @@ fn slices_of(alloc: Global, files: &[Vec<u8>]) -> Result<Vec<&[u8]>, AllocError>
 }
 
 /// The texts that the command line names. The first that can't be read is told, and its status answered.
-fn texts_of<R: Files + Input + Eprint + AllocGlobal>(
+fn texts_of<R: Eprint + AllocGlobal, S: Sources>(
     rt: &R,
+    sources: &S,
     matches: &ArgMatches<'_>,
     explains: bool,
 ) -> Result<Texts, u8>
+    ensures named { IfOk result (HasNamedTexts (S.whole sources.now) matches.now) }
     ensures known { IfErr result (λ status. status ≤ RESOURCE) }
+    ensures failed { IfErr result (λ status. status ≢ DONE) }
+    ensures refused { IfErr result (λ status. status ≡ REFUSED → IsStrict matches.now) }
 {
     input_once(rt, matches)?;
-    let plan = plan_of(rt, matches, explains)?;
-    if matches.get_flag(STRICT) {
+    let plan = plan_of(rt, sources, matches, explains)?;
+    if is_strict(matches) {
         let status = unread(rt, plan.as_slice());
         if status != DONE {
             return Err(status);
@@ -186,44 +233,63 @@ fn texts_of<R: Files + Input + Eprint + AllocGlobal>(
     }
     Ok(Texts {
         plan,
-        balances: balances_of(rt, matches, explains)?,
-        files: files_of(rt, matches, explains)?,
+        balances: balances_of(rt, sources, matches, explains)?,
+        files: files_of(rt, sources, matches, explains)?,
     })
 }
 
-fn balances_of<R: Files + Input + Eprint + AllocGlobal>(
+fn balances_of<R: Eprint + AllocGlobal, S: Sources>(
     rt: &R,
+    sources: &S,
     matches: &ArgMatches<'_>,
     explains: bool,
 ) -> Result<Option<Vec<u8>>, u8>
-    ensures known { IfErr result (λ status. status ≤ RESOURCE) }
+    ensures named { IfOk result (λ balances. AreNamedBalances (S.whole sources.now) matches.now (option_map (λ b. b.items) balances)) }
+    ensures failed { IfErr result (λ status. status ≡ RESOURCE) }
 {
-    let Some(path) = matches.get_str(BALANCES) else {
+    let Some(name) = matches.get_str(BALANCES) else {
         return Ok(None);
     };
-    match read_or_tell(rt, path, FILE_LIMIT_BYTES, "cannot read balances", explains) {
+    let line = "cannot read balances";
+    match read_or_tell(rt, sources, name, FILE_LIMIT_BYTES, line, explains) {
         Ok(text) => Ok(Some(text)),
         Err(status) => Err(status),
     }
 }
 
-fn files_of<R: Files + Input + Eprint + AllocGlobal>(
+fn files_of<R: Eprint + AllocGlobal, S: Sources>(
     rt: &R,
+    sources: &S,
     matches: &ArgMatches<'_>,
     explains: bool,
 ) -> Result<Vec<Vec<u8>>, u8>
-    ensures known { IfErr result (λ status. status ≤ RESOURCE) }
+    ensures named { IfOk result (λ files. AreNamedFiles (S.whole sources.now) matches.now (map (λ f. f.items) files.items)) }
+    ensures failed { IfErr result (λ status. status ≡ RESOURCE) }
 {
-    let paths = matches.get_strs(FILE).unwrap_or(&[]);
+    let names = matches.get_strs(FILE).unwrap_or(&[]);
     let mut files = Vec::new(rt.alloc());
-    for place in 0..paths.len() {
-        let Ok(line) = format!(in rt.alloc(); "cannot read file {}", place + 1) else {
-            return Err(no_memory(rt));
-        };
-        let text = read_or_tell(rt, paths[place], FILE_LIMIT_BYTES, line.as_str(), explains)?;
+    for place in 0..names.len() {
+        let text = file_of(rt, sources, names[place], place + 1, explains)?;
         if files.push(text).is_err() {
             return Err(no_memory(rt));
         }
     }
     Ok(files)
+}
+
+// The text of the file with this name and number.
+fn file_of<R: Eprint + AllocGlobal, S: Sources>(
+    rt: &R,
+    sources: &S,
+    name: &str,
+    number: usize,
+    explains: bool,
+) -> Result<Vec<u8>, u8>
+    ensures read { IfOk result (λ bytes. IsReadUpTo file_limit_bytes (S.whole sources.now name.now) bytes.items) }
+    ensures failed { IfErr result (λ status. status ≡ RESOURCE) }
+{
+    let Ok(line) = format!(in rt.alloc(); "cannot read file {number}") else {
+        return Err(no_memory(rt));
+    };
+    read_or_tell(rt, sources, name, FILE_LIMIT_BYTES, line.as_str(), explains)
 }

@@ -1,15 +1,14 @@
-//! Files and standard input, read whole.
+//! Texts that are read whole, from files and standard input.
 
-ghost use Rattle.std.specs.Prelude.{◌≡◌, IfOk, IfSome, take};
-ghost use Rattle.console.specs.Reading.{one_beyond};
+ghost use Rattle.std.specs.Prelude.{IfOk};
+ghost use Rattle.console.specs.Reading.{IsReadUpTo};
 
-use crate::names::STREAM;
+use crate::sources::Sources;
 use std::alloc::Global;
-use std::io::{Input, Read};
-use std::rt::Files;
-use std::{fs, io};
+use std::io;
+use std::io::Read;
 
-/// Why a file gives no text.
+/// Why there is no text.
 #[derive(Debug, Drop)]
 pub enum ReadFault {
     /// It can't be opened or read: it is missing, a folder, not to be read, or its device failed.
@@ -18,28 +17,28 @@ pub enum ReadFault {
     OutOfMemory,
 }
 
-/// The bytes of a file, or of standard input where that is named, at most one beyond the limit.
-pub fn read_file<R: Files + Input + AllocGlobal>(
-    rt: &R,
-    path: &str,
+/// The bytes of the text with this name, at most one beyond the limit: whoever reads the text sees that it is too long.
+pub fn read_text<S: Sources>(
+    alloc: Global,
+    sources: &S,
+    name: &str,
     limit_bytes: usize,
-) -> Result<Vec<u8>, ReadFault> {
-    if path == STREAM {
-        return read_source(rt.alloc(), rt.reader(), limit_bytes);
-    }
-    match fs::open(rt, path) {
-        Ok(file) => read_source(rt.alloc(), file, limit_bytes),
+) -> Result<Vec<u8>, ReadFault>
+    ensures { IfOk result (λ bytes. IsReadUpTo limit_bytes (S.whole sources.now name.now) bytes.items) }
+{
+    match sources.reader_of(name) {
+        Ok(source) => read_source(alloc, source, limit_bytes),
         Err(fault) => Err(read_fault(&fault)),
     }
 }
 
-/// The bytes of a source, at most one beyond the limit: whoever reads the text sees that it is too long.
+/// The bytes of a source, at most one beyond the limit.
 pub fn read_source<S: Read + Drop>(
     alloc: Global,
     source: S,
     limit_bytes: usize,
 ) -> Result<Vec<u8>, ReadFault>
-    ensures { IfOk result (λ bytes. IfSome (S.remaining source) (λ whole. bytes.items ≡ take (one_beyond limit_bytes) whole)) }
+    ensures { IfOk result (λ bytes. IsReadUpTo limit_bytes (S.remaining source) bytes.items) }
 {
     let mut bytes = Vec::new(alloc);
     match source

@@ -2,8 +2,8 @@
 //! and the exit statuses.
 //!
 //! `command.rt` is the command line by `clap`, of the arguments of `arguments.rt`; `names.rt` has the names by which their values are asked for,
-//! `texts.rt` what help says behind them, and `words.rt` the words that were given. `files.rt` reads texts whole, `telling.rt` has lines and
-//! statuses, and `pulse.rt` the signs of life while work takes long.
+//! `texts.rt` what help says behind them, and `words.rt` the words that were given. `sources.rt` finds texts by their names, `files.rt` reads
+//! them whole, `telling.rt` has lines and statuses, and `pulse.rt` the signs of life while work takes long.
 #![tactic(auto)]
 
 mod arguments;
@@ -11,12 +11,14 @@ mod command;
 mod files;
 pub mod names;
 mod pulse;
+mod sources;
 mod telling;
 mod texts;
 mod words;
 
 pub use command::matches_of;
-pub use files::{ReadFault, read_file, read_source};
+pub use files::{ReadFault, read_source, read_text};
 pub use pulse::Pulse;
+pub use sources::{FileSource, FileSources, Sources};
 pub use telling::{DONE, REFUSED, RESOURCE, USAGE, no_memory, told, usage};
 pub use words::{explains, input_once, words_of};

@@ -38,6 +38,7 @@ pub fn no_memory<R: Eprint>(rt: &R) -> u8
 pub fn usage<R: Print + Eprint>(rt: &R, fault: &Error) -> u8
     ensures known { result ≤ RESOURCE }
     ensures fault { kind_of fault.now ≢ DisplayHelp → kind_of fault.now ≢ DisplayVersion → result ≢ DONE }
+    ensures not_refused { result ≢ REFUSED }
 {
     if fault.kind() == ErrorKind::OutOfMemory {
         return no_memory(rt);

@@ -1,9 +1,9 @@
 //! The words of the command line, and what is asked of them.
 
-ghost use Rattle.std.specs.Prelude.{◌≡◌, ◌≢◌, ◌≤◌, IfErr, true};
+ghost use Rattle.std.specs.Prelude.{◌≡◌, ◌≤◌, IfErr, true};
 
 use crate::names::{BALANCES, EXPLAIN, FILE, PLAN, STREAM};
-use crate::telling::{DONE, RESOURCE, USAGE, no_memory, told};
+use crate::telling::{RESOURCE, USAGE, no_memory, told};
 use clap::ArgMatches;
 use std::rt::Env;
 use std::{env, io};
@@ -11,7 +11,7 @@ use std::{env, io};
 /// The words of the command line. Where they can't be had, that is told, and its status answered.
 pub fn words_of<R: Env + Eprint + AllocGlobal>(rt: &R) -> Result<Vec<String>, u8>
     ensures known { IfErr result (λ status. status ≤ RESOURCE) }
-    ensures failed { IfErr result (λ status. status ≢ DONE) }
+    ensures failed { IfErr result (λ status. USAGE ≤ status) }
 {
     match env::args(rt) {
         Ok(words) => match words.collect(rt.alloc()) {
@@ -32,8 +32,7 @@ pub fn explains(matches: &ArgMatches<'_>, is_watched: bool) -> bool
 
 /// Tells where standard input is named in more than one place, since it can be read only once, and answers that status.
 pub fn input_once<R: Eprint>(rt: &R, matches: &ArgMatches<'_>) -> Result<(), u8>
-    ensures known { IfErr result (λ status. status ≤ RESOURCE) }
-    ensures failed { IfErr result (λ status. status ≢ DONE) }
+    ensures { IfErr result (λ status. status ≡ USAGE) }
 {
     if times_of_input(matches) > 1 {
         let line = "error: standard input can stand in one place of a command";

@@ -1,5 +1,5 @@
 use Rattle.adjudicate_cli.proofs.Ends.{placed_refused, resource_refused}
-use Rattle.adjudicate_cli.proofs.commands.check_into.Goals as goal
+use Rattle.adjudicate_cli.proofs.check.check_into.Goals as goal
 
 pub returns-in-Err-clause-refused : goal.returns-in-Err-clause-refused
 returns-in-Err-clause-refused g c = λ not_done. resource_refused _ tt _ c.unwritable.ensures
