@@ -20,6 +20,7 @@ pub fn spin_rule_says<T: Growing>()
 pub fn ticket_steps_keep_the_rule<T: Growing>(first: u64)
     ensures { TicketStepsKeepRule T.leads first }
 {
+    // Known from here: the ticket is in its range.
     let _first = first;
 }
 
@@ -27,6 +28,7 @@ pub fn ticket_steps_keep_the_rule<T: Growing>(first: u64)
 pub fn ticket_rule_says<T: Growing>(first: u64)
     ensures { TicketRuleSays T.leads first }
 {
+    // Known from here: the ticket is in its range.
     let _first = first;
 }
 
@@ -44,5 +46,6 @@ pub fn ticket_steps_keep_the_tally<T: Growing>()
 pub fn tickets_come_once<T: Growing>(first: u64)
     ensures { TicketsComeOnce T.leads first }
 {
+    // Known from here: the ticket is in its range.
     let _first = first;
 }
