@@ -95,7 +95,7 @@ sum-more amount key v [] none = refl
 sum-more amount key v (e ∷ es) none = sum-placed amount key v e es (string_cmp key e.0) none (λ none. sum-more amount key v es none)
 
 -- nobody is refused who isn't lacking
-lacking : (members : Members) (own : Option Balance) (balance : Balance) → refused_behind members own balance ≡ None → own ≡ None
+pub lacking : (members : Members) (own : Option Balance) (balance : Balance) → refused_behind members own balance ≡ None → own ≡ None
 lacking members None balance none = refl
 lacking members (Some own) balance none = cc none
 

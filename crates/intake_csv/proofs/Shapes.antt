@@ -1,5 +1,5 @@
 -- The kinds of a record's values, by the columns that they stand under.
-use Rattle.std.proofs.Common.{◌≡◌, ◌<◌, ◌+◌, ℕ, ℤ, Bool, true, false, List, [], ◌∷◌, ◌++◌, length, map, codes, Option, Some, None, is_some, refl, ap, sym, subst, ◌∙◌, arith}
+use Rattle.std.proofs.Common.{◌≡◌, ℕ, ℤ, Bool, true, false, List, [], ◌∷◌, ◌++◌, map, codes, Option, Some, None, is_some, refl, ap, sym, subst, ◌∙◌}
 use Rattle.std.specs.Int.{IsInRange}
 use Rattle.std.specs.List.{AllZip, slice_get}
 use Rattle.std.specs.Option.{option_map_or}
@@ -8,21 +8,15 @@ use Rattle.feel_tests.specs.declared.kind.Kind.TheVariants as kinds
 use Rattle.feel_tests.specs.declared.value.Value.{Value}
 use Rattle.feel_tests.specs.declared.value.Value.TheVariants.{Number, Text, Flag, Day}
 use Rattle.feel_tests.specs.Calendar.{year_text}
-use Rattle.std.proofs.lemmas.List.{length-map}
 use Rattle.dtable.specs.Plan.{has_families, has_years}
 use Rattle.dtable.specs.declared.table.InputData.{InputData}
-use Rattle.settlement.specs.Accounts.{Account, named_or}
 use Rattle.settlement.specs.Given.{behind_family}
-use Rattle.settlement.specs.declared.account.Balance.{Balance}
 use Rattle.intake_csv.specs.Records.{Fields}
 use Rattle.intake_csv.specs.Columns.{AreColumnsOf, balance_columns, claim_columns, family_columns, fields_among, have_family, needed, own_columns, year_columns}
 use Rattle.intake_csv.specs.Fields.{Holds}
 use Rattle.intake_csv.specs.Rows.{HoldsUnder}
 use Rattle.intake_csv.specs.Record.{IsClaimLayout, IsClaimShaped, family_contents, is_identifier}
-use Rattle.intake_csv.specs.Balances.{AreAmounts, BeginsWithYear, IsBalanceLayout, IsEntryShaped, IsKept, IsKeptUnder, TakesYear, balance_values, entry_values, family_in, refusal_place, year_contents, year_values}
-use Rattle.intake_csv.specs.Values.{BeginsWithFamily, TakesFamily}
-use Rattle.intake_csv.specs.declared.household.Refusal.{Refusal}
-use Rattle.intake_csv.specs.declared.household.Refusal.TheVariants.{Again, Met, Oop}
+use Rattle.intake_csv.specs.Balances.{AreAmounts, IsBalanceLayout, IsEntryShaped, IsKept, year_contents, year_values}
 use Rattle.intake_csv.specs.declared.column.Column.{Column}
 use Rattle.intake_csv.specs.declared.column.Layout.{Layout}
 use Rattle.intake_csv.specs.declared.column.Needed.{Needed}
@@ -158,7 +152,7 @@ amounts fields (b ∷ c ∷ d ∷ []) (w ∷ x ∷ y ∷ []) e h =
     }
 
 -- the values of an entry from its member on
-record IsShapedMember (years : Bool) (values : List Value) : Type 0 where
+record IsEntryBehind (years : Bool) (values : List Value) : Type 0 where
   pub member : List ℕ
   pub year : ℕ
   pub amounts : List Value
@@ -166,11 +160,11 @@ record IsShapedMember (years : Bool) (values : List Value) : Type 0 where
   pub kept : IsKept years year
   pub are_amounts : AreAmounts amounts
 
-member-shaped : (years : Bool) (fields : Fields) (columns : List Column) (values : List Value)
-    → map (λ c. c.content) columns ≡ Identifier ∷ (year_contents years ++ Money ∷ Money ∷ Money ∷ []) → AllZip (HoldsUnder fields) columns values → IsShapedMember years values
-member-shaped years fields [] values e h = absurd (cc e)
-member-shaped years fields (a ∷ columns) [] e h = absurd h
-member-shaped false fields (a ∷ columns) (v ∷ values) e h =
+entry-behind : (years : Bool) (fields : Fields) (columns : List Column) (values : List Value)
+    → map (λ c. c.content) columns ≡ Identifier ∷ (year_contents years ++ Money ∷ Money ∷ Money ∷ []) → AllZip (HoldsUnder fields) columns values → IsEntryBehind years values
+entry-behind years fields [] values e h = absurd (cc e)
+entry-behind years fields (a ∷ columns) [] e h = absurd h
+entry-behind false fields (a ∷ columns) (v ∷ values) e h =
     let ea : a.content ≡ Identifier = cc e in
     let others : map (λ c. c.content) columns ≡ Money ∷ Money ∷ Money ∷ [] = cc e in
     let (member, is_member) = text-value a.content h.0.bytes v ea h.0.holds in
@@ -182,9 +176,9 @@ member-shaped false fields (a ∷ columns) (v ∷ values) e h =
       kept = refl;
       are_amounts = amounts fields columns values others h.1;
     }
-member-shaped true fields (a ∷ []) (v ∷ values) e h = absurd (cc e)
-member-shaped true fields (a ∷ b ∷ columns) (v ∷ []) e h = absurd h.1
-member-shaped true fields (a ∷ b ∷ columns) (v ∷ w ∷ values) e h =
+entry-behind true fields (a ∷ []) (v ∷ values) e h = absurd (cc e)
+entry-behind true fields (a ∷ b ∷ columns) (v ∷ []) e h = absurd h.1
+entry-behind true fields (a ∷ b ∷ columns) (v ∷ w ∷ values) e h =
     let ea : a.content ≡ Identifier = cc e in
     let eb : b.content ≡ Year = cc e in
     let others : map (λ c. c.content) columns ≡ Money ∷ Money ∷ Money ∷ [] = cc e in
@@ -199,98 +193,49 @@ member-shaped true fields (a ∷ b ∷ columns) (v ∷ w ∷ values) e h =
       are_amounts = amounts fields columns values others h.1.1;
     }
 
--- so they are behind a family, where there is a column for it
-family-shaped : (version : ℕ) (families : Bool) (fields : Fields) (columns : List Column) (values : List Value) → has_families version ≡ families
-    → map (λ c. c.content) columns ≡ family_contents families ++ Identifier ∷ (year_contents (has_years version) ++ Money ∷ Money ∷ Money ∷ [])
-    → AllZip (HoldsUnder fields) columns values → IsEntryShaped version values
-family-shaped version false fields columns values is e h =
-    let s = member-shaped (has_years version) fields columns values e h in
-    record { family = None; has_family = sym is; member = s.member; year = s.year; amounts = s.amounts; values_are = s.values_are; kept = s.kept; are_amounts = s.are_amounts }
-family-shaped version true fields [] values is e h = absurd (cc e)
-family-shaped version true fields (a ∷ columns) [] is e h = absurd h
-family-shaped version true fields (a ∷ columns) (v ∷ values) is e h =
+-- and with the family in front, where there is a column for it
+record IsEntryBy (families years : Bool) (values : List Value) : Type 0 where
+  pub family : Option (List ℕ)
+  pub has_family : is_some family ≡ families
+  pub behind : List Value
+  pub values_are : values ≡ behind_family family behind
+  pub entry : IsEntryBehind years behind
+
+entry-by : (families years : Bool) (fields : Fields) (columns : List Column) (values : List Value)
+    → map (λ c. c.content) columns ≡ family_contents families ++ Identifier ∷ (year_contents years ++ Money ∷ Money ∷ Money ∷ []) → AllZip (HoldsUnder fields) columns values
+    → IsEntryBy families years values
+entry-by false years fields columns values e h =
+    record { family = None; has_family = refl; behind = values; values_are = refl; entry = entry-behind years fields columns values e h }
+entry-by true years fields [] values e h = absurd (cc e)
+entry-by true years fields (a ∷ columns) [] e h = absurd h
+entry-by true years fields (a ∷ columns) (v ∷ values) e h =
     let ea : a.content ≡ Identifier = cc e in
-    let others : map (λ c. c.content) columns ≡ Identifier ∷ (year_contents (has_years version) ++ Money ∷ Money ∷ Money ∷ []) = cc e in
+    let others : map (λ c. c.content) columns ≡ Identifier ∷ (year_contents years ++ Money ∷ Money ∷ Money ∷ []) = cc e in
     let (family, is_family) = text-value a.content h.0.bytes v ea h.0.holds in
-    let s = member-shaped (has_years version) fields columns values others h.1 in
     record {
       family = Some family;
-      has_family = sym is;
-      member = s.member;
-      year = s.year;
-      amounts = s.amounts;
-      values_are = ap (λ x. x ∷ values) is_family ∙ ap (λ xs. Text family ∷ xs) s.values_are;
-      kept = s.kept;
-      are_amounts = s.are_amounts;
+      has_family = refl;
+      behind = values;
+      values_are = ap (λ (f : Value). f ∷ values) is_family;
+      entry = entry-behind years fields columns values others h.1;
     }
 
 -- the values of an entry of balances
-pub entry-shaped : (version : ℕ) (fields : Fields) (layout : Layout) (values : List Value) → IsBalanceLayout version layout → AllZip (HoldsUnder fields) layout.columns values
-    → IsEntryShaped version values
-entry-shaped version fields layout values e h = family-shaped version (has_families version) fields layout.columns values refl e h
-
--- they begin with the family
-pub family-first : (version : ℕ) (values : List Value) → IsEntryShaped version values → BeginsWithFamily (has_families version) values
-family-first version values shaped = (shaped.family, Text shaped.member ∷ (year_values (has_years version) shaped.year ++ shaped.amounts), (shaped.values_are, shaped.has_family))
-
-same-behind : (one other : Option (List ℕ)) (rest left : List Value) → is_some one ≡ is_some other → behind_family one rest ≡ behind_family other left → rest ≡ left
-same-behind None None rest left same e = e
-same-behind None (Some name) rest left same e = absurd (cc same)
-same-behind (Some name) None rest left same e = absurd (cc same)
-same-behind (Some name) (Some other) rest left same e = cc e
-
--- behind the family stands the member
-pub member-next : (version : ℕ) (values : List Value) (shaped : IsEntryShaped version values) (family : Option (List ℕ)) (behind : List Value)
-    → TakesFamily (has_families version) values family behind → behind ≡ Text shaped.member ∷ (year_values (has_years version) shaped.year ++ shaped.amounts)
-member-next version values shaped family behind (is, has) =
-    same-behind family shaped.family behind (Text shaped.member ∷ (year_values (has_years version) shaped.year ++ shaped.amounts)) (has ∙ sym shaped.has_family) (sym is ∙ shaped.values_are)
-
--- what stands behind the member begins with the year
-pub year-first : (years : Bool) (year : ℕ) (amounts : List Value) (one other : List ℕ) (behind : List Value) → IsKept years year
-    → Text one ∷ behind ≡ Text other ∷ (year_values years year ++ amounts) → BeginsWithYear years behind
-year-first years year amounts one other behind kept e =
-    let rest : behind ≡ year_values years year ++ amounts = cc e in
-    (year, amounts, (rest, kept))
-
-same-rest : (years : Bool) (y z : ℕ) (rest left : List Value) → year_values years y ++ rest ≡ year_values years z ++ left → rest ≡ left
-same-rest true y z rest left e = cc e
-same-rest false y z rest left e = e
-
--- and behind the year the amounts
-pub amounts-behind : (years : Bool) (year taken : ℕ) (amounts : List Value) (one other : List ℕ) (behind left : List Value) → AreAmounts amounts
-    → Text one ∷ behind ≡ Text other ∷ (year_values years year ++ amounts) → behind ≡ year_values years taken ++ left → AreAmounts left
-amounts-behind years year taken amounts one other behind left are e f =
-    let rest : behind ≡ year_values years year ++ amounts = cc e in
-    subst AreAmounts (same-rest years year taken amounts left (sym rest ∙ f)) are
-
--- the account of an entry, of which the family is the member, where there is no column for it
-abbrev pub account_taken : Option (List ℕ) → List ℕ → ℕ → Account
-account_taken family member year = record { family = named_or family member; member = member; year = year }
-
-family-taken : (families : Bool) (family : Option (List ℕ)) (member : List ℕ) (year : ℕ) → is_some family ≡ families → family_in families (account_taken family member year) ≡ family
-family-taken false None member year has = refl
-family-taken false (Some name) member year has = absurd (cc has)
-family-taken true None member year has = absurd (cc has)
-family-taken true (Some name) member year has = refl
-
--- the values of an entry, taken one after another
-pub entry-taken : (version : ℕ) (values at_member behind left : List Value) (family : Option (List ℕ)) (member : List ℕ) (year : ℕ) (balance : Balance)
-    → TakesFamily (has_families version) values family at_member → at_member ≡ Text member ∷ behind → behind ≡ year_values (has_years version) year ++ left → left ≡ balance_values balance
-    → values ≡ entry_values version (account_taken family member year, balance)
-entry-taken version values at_member behind left family member year balance (is, has) e f g =
-    let rest : at_member ≡ Text member ∷ (year_values (has_years version) year ++ balance_values balance) =
-    e ∙ ap (λ vs. Text member ∷ vs) (f ∙ ap (λ vs. year_values (has_years version) year ++ vs) g) in
-    is ∙ ap (behind_family family) rest
-    ∙ ap (λ (o : Option (List ℕ)). behind_family o (Text member ∷ (year_values (has_years version) year ++ balance_values balance))) (sym (family-taken (has_families version) family member year has))
-
-alone-taken : (families : Bool) (family : Option (List ℕ)) (member : List ℕ) → is_some family ≡ families → families ≡ false → named_or family member ≡ member
-alone-taken families None member has none = refl
-alone-taken families (Some name) member has none = absurd (cc (has ∙ none))
-
--- accumulators are kept for its account
-pub entry-kept : (version : ℕ) (values at_member behind left : List Value) (family : Option (List ℕ)) (member : List ℕ) (year : ℕ)
-    → TakesFamily (has_families version) values family at_member → TakesYear (has_years version) behind year left → IsKeptUnder version (account_taken family member year)
-entry-kept version values at_member behind left family member year (is, has) (taken, kept) = record { year = kept; alone = alone-taken (has_families version) family member has }
+pub entry-shaped : (version : ℕ) (fields : Fields) (columns : List Column) (values : List Value)
+    → map (λ c. c.content) columns ≡ family_contents (has_families version) ++ Identifier ∷ (year_contents (has_years version) ++ Money ∷ Money ∷ Money ∷ [])
+    → AllZip (HoldsUnder fields) columns values → IsEntryShaped version values
+entry-shaped version fields columns values e h =
+    let s = entry-by (has_families version) (has_years version) fields columns values e h in
+    record {
+      family = s.family;
+      has_family = s.has_family;
+      member = s.entry.member;
+      year = s.entry.year;
+      amounts = s.entry.amounts;
+      values_are = s.values_are ∙ ap (behind_family s.family) s.entry.values_are;
+      kept = s.entry.kept;
+      are_amounts = s.entry.are_amounts;
+    }
 
 -- the columns of a file of claims: whether there is one for families is told by the third of them
 record AreOwnColumns (families : Bool) (columns : List Column) : Type 0 where
@@ -332,41 +277,21 @@ amount-layout header (b ∷ c ∷ []) h = absurd h.1.1
 amount-layout header (b ∷ c ∷ d ∷ z ∷ zs) h = absurd h.1.1.1
 amount-layout header (b ∷ c ∷ d ∷ []) h = rw (h.0.content, h.1.0.content, h.1.1.0.content) refl
 
-member-layout : (years : Bool) (header : Fields) (columns : List Column)
+behind-layout : (years : Bool) (header : Fields) (columns : List Column)
     → AreColumnsOf header (needed (codes "member") Identifier ∷ (year_columns years ++ needed (codes "met") Money ∷ needed (codes "oop") Money ∷ needed (codes "paid") Money ∷ [])) columns
     → map (λ c. c.content) columns ≡ Identifier ∷ (year_contents years ++ Money ∷ Money ∷ Money ∷ [])
-member-layout years header [] h = absurd h
-member-layout false header (a ∷ columns) h = rw (h.0.content, amount-layout header columns h.1) refl
-member-layout true header (a ∷ []) h = absurd h.1
-member-layout true header (a ∷ b ∷ columns) h = rw (h.0.content, h.1.0.content, amount-layout header columns h.1.1) refl
+behind-layout years header [] h = absurd h
+behind-layout false header (a ∷ columns) h = rw (h.0.content, amount-layout header columns h.1) refl
+behind-layout true header (a ∷ []) h = absurd h.1
+behind-layout true header (a ∷ b ∷ columns) h = rw (h.0.content, h.1.0.content, amount-layout header columns h.1.1) refl
 
-layout-behind : (families years : Bool) (header : Fields) (columns : List Column)
+layout-by : (families years : Bool) (header : Fields) (columns : List Column)
     → AreColumnsOf header (family_columns families ++ needed (codes "member") Identifier
     ∷ (year_columns years ++ needed (codes "met") Money ∷ needed (codes "oop") Money ∷ needed (codes "paid") Money ∷ [])) columns
     → map (λ c. c.content) columns ≡ family_contents families ++ Identifier ∷ (year_contents years ++ Money ∷ Money ∷ Money ∷ [])
-layout-behind false years header columns h = member-layout years header columns h
-layout-behind true years header [] h = absurd h
-layout-behind true years header (a ∷ columns) h = rw (h.0.content, member-layout years header columns h.1) refl
+layout-by false years header columns h = behind-layout years header columns h
+layout-by true years header [] h = absurd h
+layout-by true years header (a ∷ columns) h = rw (h.0.content, behind-layout years header columns h.1) refl
 
 pub balance-layout : (version : ℕ) (header : Fields) (layout : Layout) → AreColumnsOf header (balance_columns version) layout.columns → IsBalanceLayout version layout
-balance-layout version header layout h = layout-behind (has_families version) (has_years version) header layout.columns h
-
-contents-count : (families years : Bool)
-    → length (family_contents families ++ Identifier ∷ (year_contents years ++ Money ∷ Money ∷ Money ∷ [])) ≡ length (family_columns families) + length (year_columns years) + 4
-contents-count false false = refl
-contents-count false true = refl
-contents-count true false = refl
-contents-count true true = refl
-
--- each refusal is told at a column that is there
-pub told-within : (version : ℕ) (layout : Layout) (refusal : Refusal) → IsBalanceLayout version layout → refusal_place version refusal < length layout.columns
-told-within version layout refusal contents =
-    let count : length layout.columns ≡ length (family_columns (has_families version)) + length (year_columns (has_years version)) + 4 =
-    sym (length-map layout.columns (λ c. c.content)) ∙ ap length contents ∙ contents-count (has_families version) (has_years version) in
-    within refusal count
-  where
-    within : (r : Refusal) → length layout.columns ≡ length (family_columns (has_families version)) + length (year_columns (has_years version)) + 4
-        → refusal_place version r < length layout.columns
-    within Again count = omega (arith, count)
-    within Met count = omega (arith, count)
-    within Oop count = omega (arith, count)
+balance-layout version header layout h = layout-by (has_families version) (has_years version) header layout.columns h
