@@ -77,13 +77,9 @@ found_in books holder = lookup (bytes_eq holder.0) (get_or books holder.1 [])
 abbrev pub balance_of : List Book → Account → Option Balance
 balance_of books account = option_and_then (λ members. balance_in members account.member) (found_in books (holder_of account))
 
--- in no book a family stands twice, and in no family a member
-pub record AreOnceIn (book : Book) : Type 0 where
-  pub families : AreOnceBy bytes_eq book
-  pub members : All (λ household. AreOnceBy bytes_eq household.1) book
-
+-- in no book a family stands twice
 abbrev pub AreOnce : List Book → Type 0
-AreOnce = All AreOnceIn
+AreOnce = All (AreOnceBy bytes_eq)
 
 -- the value of a year's column, where there is one
 abbrev pub year_values : Bool → ℕ → List Value

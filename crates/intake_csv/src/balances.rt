@@ -115,6 +115,7 @@ impl Balances {
     /// The accumulators that the account of a member of a family begins with in a year: its own are zeros where the balances don't
     /// name it; the family's are sums over all its members. Where accumulators aren't kept by the year, the year is 0; where they
     /// aren't kept for families, the member is the family, too.
+    #[tactic(auto, using(crate::proofs::Books::begun_some, crate::proofs::Books::begun_none))]
     pub fn of(&self, family: &str, member: &str, year: u16) -> Acc
         ensures { result ≡ opening (accounts_of self.now) (record { family = family.now; member = member.now; year = year }) }
     {
@@ -164,6 +165,7 @@ impl Balances {
     }
 
     // Why an entry can't be put behind the others, if it can't.
+    #[tactic(auto, using(crate::proofs::Books::refused_some))]
     fn refusal(&self, entry: &Entry) -> Option<Refusal>
         ensures { result ≡ option_and_then (λ members. refused_behind members (balance_in members entry.now.member) entry.now.balance)
             (found_in self.now (named_or entry.now.family entry.now.member, entry.now.year)) }
@@ -200,7 +202,8 @@ impl Balances {
 
 // The fault that tells a refusal, at the column that it is told at.
 fn fault_of(layout: &Layout, version: u8, refusal: Refusal) -> RowFault
-    requires { refusal_place version refusal < length layout.now.columns }
+    requires within { IsWithin layout.now }
+    requires there { refusal_place version refusal < length layout.now.columns }
     ensures { (column : AnyColumn) → slice_get layout.now.columns (refusal_place version refusal) ≡ Some column
         → result ≡ record { column = column.place + 1; cause = refusal_cause refusal } }
 {
