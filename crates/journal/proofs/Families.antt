@@ -1,20 +1,18 @@
 -- A family's sums are those over its members.
-use Rattle.std.proofs.Common.{◌≡◌, ◌+◌, ℕ, zero, suc, ℤ, pos, ◌+ℤ◌, ◌==◌, ◌&&◌, Bool, true, false, cond, List, [], ◌∷◌, Option, Some, None, fold, take, refl, sym, ap, ◌∙◌, subst, arith, eqb-true}
+use Rattle.std.proofs.Common.{◌≡◌, ℕ, suc, ℤ, pos, ◌+ℤ◌, ◌==◌, ◌&&◌, Bool, true, false, cond, List, [], ◌∷◌, Option, Some, None, fold, refl, sym, ap, ◌∙◌, subst, arith, eqb-true}
 use Rattle.std.specs.Str.{bytes_eq}
 use Rattle.std.proofs.lemmas.Bool.{and_parts, cond-false}
 use Rattle.std.proofs.lemmas.Int.{ints}
 use Rattle.std.proofs.lemmas.Slice.Eq.{bytes_eq-Decides}
 use Rattle.dtable.specs.Plan.{PlanParts}
-use Rattle.settlement.specs.Accounts.{Account, account_of, is_household, is_same, part, grown}
+use Rattle.settlement.specs.Accounts.{Account, account_of, is_same, part, grown}
 use Rattle.settlement.specs.Opening.{opening}
 use Rattle.settlement.specs.declared.acc.Acc.{Acc}
 use Rattle.settlement.specs.declared.account.Balance.{Balance}
 use Rattle.settlement.specs.declared.claim.Claim.{Claim}
 use Rattle.settlement.specs.declared.outcome.Outcome.{Outcome}
 use Rattle.journal.specs.Settled.{outcome_of, accumulated}
-use Rattle.journal.specs.Terms.{Terms}
-use Rattle.journal.specs.Events.{Book, noted, claims, before}
-use Rattle.journal.specs.declared.event.Event.{Event}
+use Rattle.journal.specs.Events.{Book, noted}
 use Rattle.journal.specs.Families.{sum_over, times, member_of, is_in, IsSummed, IsAmong, AreAmong, IsAbsent, AreOpenings}
 
 -- what one of the members gets, all of them get together

@@ -1,5 +1,5 @@
 -- Lists by their fronts and rests.
-use Rattle.std.proofs.Common.{◌≡◌, ℕ, zero, suc, ◌+◌, List, [], ◌∷◌, ◌++◌, drop, length, get_or, slice_get, Some, refl, sym, ap, ◌∙◌, subst, arith, zero-add}
+use Rattle.std.proofs.Common.{◌≡◌, ℕ, zero, suc, ◌+◌, List, [], ◌∷◌, ◌++◌, drop, length, get_or, slice_get, Some, refl, sym, ap, subst, arith, zero-add}
 use Rattle.std.proofs.lemmas.Option.{none-some}
 
 -- what a rest has at an index, the whole has behind the front

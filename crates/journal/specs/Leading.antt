@@ -1,5 +1,5 @@
 -- The laws of "leads to": each state of a gate leads to itself, and on, and of two that lead to a third one leads to the other.
-use Rattle.std.proofs.Common.{◌≡◌, ◌⊎◌, true, false, List, [], ◌∷◌, ◌++◌, drop, get_or, refl, sym, ap, ◌∙◌, subst, inl, inr, append_assoc, append-nil}
+use Rattle.std.proofs.Common.{◌≡◌, ◌⊎◌, false, List, [], ◌∷◌, ◌++◌, drop, get_or, refl, sym, ap, ◌∙◌, subst, inl, inr, append_assoc, append-nil}
 use Rattle.std.proofs.lemmas.Bool.{both_ways, cases_Bool}
 use Rattle.journal.specs.Gate.{GateOver, Continues, LeadsTo}
 use Rattle.journal.specs.declared.event.Event.{Event}

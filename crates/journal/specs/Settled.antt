@@ -7,10 +7,10 @@ use Rattle.settlement.specs.declared.acc.Acc.{Acc}
 use Rattle.settlement.specs.declared.claim.Claim.{Claim}
 use Rattle.settlement.specs.declared.outcome.Outcome.{Outcome}
 
--- the outcome of a claim by a plan, at its member's accumulators
+-- the outcome of a claim by a plan, at its account's accumulators
 unfoldable pub outcome_of : PlanParts → Claim → Acc → Outcome
 outcome_of plan claim acc = outcome plan claim acc
 
--- a member's accumulators after a claim with this outcome
+-- an account's accumulators after a claim with this outcome, which may be its own, or of another member of its family
 unfoldable pub accumulated : Bool → Bool → Acc → Outcome → Acc
 accumulated own shared acc decision = grown own shared acc decision

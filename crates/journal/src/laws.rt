@@ -63,8 +63,8 @@ pub fn jobs_stay()
     ensures { JobsStay }
 {}
 
-/// In a lawful journal a family's claims, those of all its members, take turns: each is taken and decided before the next is taken, in the order in
-/// which they were accepted.
+/// In a lawful journal a family's claims, those of all its members, take turns: each is taken and decided before the next is
+/// taken, in the order in which they were accepted.
 pub fn members_take_turns()
     ensures { TakeTurns }
 {}

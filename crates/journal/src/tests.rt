@@ -32,4 +32,5 @@ fn calls_the_laws() {
     gate_stays_lawful();
     jobs_stay();
     members_take_turns();
+    families_are_their_members();
 }

@@ -18,7 +18,7 @@ use Rattle.dtable.specs.declared.table.Origin.{Origin}
 use Rattle.dtable.specs.declared.table.Origin.TheVariants.{Given, Earlier}
 use Rattle.dtable.specs.declared.table.Table.{Table}
 use Rattle.dtable.specs.declared.inputs.Slot.{Slot}
-use Rattle.dtable.specs.Inputs.{value_at, reads, needs, empty_slots, IsReady}
+use Rattle.dtable.specs.Inputs.{value_at, reads, needs, IsReady}
 use Rattle.dtable.specs.Names.{accumulator_names, names_of}
 use Rattle.dtable.specs.Plan.{PlanParts, IsPlan, is_known, are_known, keeps_families}
 use Rattle.settlement.specs.declared.acc.Acc.{Acc}

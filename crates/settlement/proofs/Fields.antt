@@ -1,6 +1,7 @@
 -- The fields of a plan.
-use Rattle.std.proofs.Common.{◌≡◌, ◌==◌, Bool, true, List, [], ◌∷◌, ◌++◌, map, length, is_some, refl, ap, sym, ◌∙◌, arith}
+use Rattle.std.proofs.Common.{◌≡◌, ◌==◌, Bool, true, false, List, [], ◌∷◌, ◌++◌, map, length, is_some, refl, ap, sym, ◌∙◌, arith}
 use Rattle.std.specs.List.{list_all, zip}
+use Rattle.std.proofs.Math.Bool.{beq}
 use Rattle.std.proofs.lemmas.Bool.{false≢true, eqb-true, eq-eqb, and_parts, and_from}
 use Rattle.std.proofs.lemmas.List.{append_cancel_left, append_cancel_right, length-map}
 use Rattle.feel_tests.specs.declared.kind.Kind.{Kind}
@@ -85,3 +86,16 @@ test_from_claim plan claim fields names is =
     let long : length claim.fields ≡ length fields = omega (arith, ap length kinds, length-map claim.fields kind_of, length-map fields kind) in
     and_from (length claim.fields == length fields) (list_all (λ p. has_kind p.1.kind p.0) (zip claim.fields fields))
     (eq-eqb (length claim.fields) (length fields) long) (zip_from_kinds claim.fields fields kinds)
+
+-- two answers that are compared are the same, and so are two that are the same
+pub compared_same : (one other : Bool) → beq one other ≡ true → one ≡ other
+compared_same true true e = refl
+compared_same true false e = sym e
+compared_same false true e = e
+compared_same false false e = refl
+
+pub same_compared : (one other : Bool) → one ≡ other → beq one other ≡ true
+same_compared true true e = refl
+same_compared true false e = sym e
+same_compared false true e = e
+same_compared false false e = refl

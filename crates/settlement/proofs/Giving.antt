@@ -1,5 +1,5 @@
 -- Values given to the places of a plan's names, one after another.
-use Rattle.std.proofs.Common.{◌≡◌, ◌≢◌, ℕ, zero, suc, ◌+◌, nat_eq, ◌<◌, ◌≤◌, inl, inr, Bool, true, false, cond, List, [], ◌∷◌, ◌++◌, map, length, set, take, get_or, filter, slice_get, Option, Some, None, refl, sym, ap, subst, ◌∙◌, zero-add, arith}
+use Rattle.std.proofs.Common.{◌≡◌, ◌≢◌, ℕ, zero, suc, ◌+◌, ◌-◌, nat_eq, ◌<◌, ◌≤◌, inl, inr, Bool, true, false, cond, List, [], ◌∷◌, ◌++◌, map, length, set, take, get_or, filter, slice_get, Some, refl, sym, ap, subst, ◌∙◌, zero-add, arith}
 use Rattle.std.specs.List.{All, range_with_len}
 use Rattle.std.specs.Cmp.Lexicographic.{pointwise, same_text}
 use Rattle.std.specs.Option.{option_map, option_and_then}
@@ -7,7 +7,7 @@ use Rattle.std.proofs.lemmas.Bool.{cases_eq}
 use Rattle.std.proofs.lemmas.List.{length-map, map-set, set-get_or}
 use Rattle.std.proofs.lemmas.List.Elements.{All-head, All-tail, filter_more}
 use Rattle.std.proofs.lemmas.List.FromFn.{length-range_with_len, get_or-range_with_len}
-use Rattle.std.proofs.lemmas.Option.{slice_get-map, slice_get_within, slice_get_past, get_or_from_slice_get}
+use Rattle.std.proofs.lemmas.Option.{slice_get-map, slice_get_within, get_or_from_slice_get}
 use Rattle.feel_tests.specs.declared.kind.Kind.{Kind}
 use Rattle.feel_tests.specs.declared.value.Value.{Value}
 use Rattle.feel_tests.specs.declared.value.Value.TheVariants.{Text}
@@ -16,7 +16,9 @@ use Rattle.dtable.specs.declared.inputs.Slot.{Slot}
 use Rattle.dtable.specs.declared.table.InputData.{InputData}
 use Rattle.dtable.specs.Inputs.{empty_slots, filled, value_at, Takes}
 use Rattle.dtable.specs.Plan.{PlanParts, IsPlan}
-use Rattle.settlement.specs.Given.{slot_of, slot_kinds}
+use Rattle.settlement.specs.declared.acc.Acc.{Acc}
+use Rattle.settlement.specs.declared.claim.Claim.{Claim}
+use Rattle.settlement.specs.Given.{accumulator_values, values_from_member, slot_of, slot_kinds}
 use Rattle.settlement.specs.Reads.{places_read, IsLaidOut}
 
 set_same : {X : Type 0} (xs : List X) (i : ℕ) (y : X) → i < length xs → slice_get (set xs i y) i ≡ Some y
@@ -124,3 +126,25 @@ pub text_stands :
     (given : List Slot) (values : List Value) (place : ℕ) (standing text : List ℕ) → true ≡ pointwise nat_eq standing text
     → value_at given place ≡ Some (Text standing) → slice_get values place ≡ Some (Text text) → value_at given place ≡ slice_get values place
 text_stands given values place standing text same stands found = stands ∙ ap (λ (bytes : List ℕ). Some (Text bytes)) (same_text standing text same) ∙ sym found
+
+-- one place on stands what stands behind the first value
+pub one_behind : (first : Value) (values : List Value) (place : ℕ) → 1 ≤ place → slice_get (first ∷ values) place ≡ slice_get values (place - 1)
+one_behind first values zero low = absurd (omega (arith, low))
+one_behind first values (suc n) low = let same : n ≡ suc n - 1 = omega arith in ap (slice_get values) same
+
+-- what stands in front stands there
+found_in_front : (front behind : List Value) (place : ℕ) (value : Value) → slice_get front place ≡ Some value → slice_get (front ++ behind) place ≡ Some value
+found_in_front [] behind place value found = absurd (omega (arith, slice_get_within [] place value found))
+found_in_front (first ∷ front) behind zero value found = found
+found_in_front (first ∷ front) behind (suc n) value found = found_in_front front behind n value found
+
+-- a claim's field stands three places on, counted from the member
+pub field_from_member :
+    (claim : Claim) (acc : Acc) (place : ℕ) (value : Value) → 3 ≤ place → slice_get claim.fields (place - 3) ≡ Some value
+    → slice_get (values_from_member claim acc) place ≡ Some value
+field_from_member claim acc zero value low found = absurd (omega (arith, low))
+field_from_member claim acc (suc zero) value low found = absurd (omega (arith, low))
+field_from_member claim acc (suc (suc zero)) value low found = absurd (omega (arith, low))
+field_from_member claim acc (suc (suc (suc n))) value low found =
+    let same : suc (suc (suc n)) - 3 ≡ n = omega arith in
+    found_in_front claim.fields (accumulator_values claim.family acc) n value (subst (λ k. slice_get claim.fields k ≡ Some value) same found)

@@ -1,5 +1,5 @@
 -- The places of a plan's roles among what its tables answer.
-use Rattle.std.proofs.Common.{◌≡◌, List, [], Option, Some, Result, Ok, Err, refl, sym, ap, subst, ◌∙◌}
+use Rattle.std.proofs.Common.{◌≡◌, List, [], Some, Result, Ok, Err, refl, subst}
 use Rattle.dtable.specs.declared.environment.Answer.{Answer}
 use Rattle.dtable.specs.declared.fault.Fault.{Fault}
 use Rattle.dtable.specs.declared.inputs.Slot.{Slot}

@@ -1,7 +1,7 @@
 -- A plan makes the same of two givings that are alike wherever it reads.
-use Rattle.std.proofs.Common.{◌≡◌, ◌||◌, ◌&&◌, ℕ, ◌+◌, nat_lt, ℤ, Bool, true, false, not, cond, if◌then◌else◌, List, [], ◌∷◌, ◌++◌, length, filter, Option, Some, None, slice_get, Result, Ok, Err, refl, ap, sym, ◌∙◌, arith}
+use Rattle.std.proofs.Common.{◌≡◌, ◌||◌, ◌&&◌, ℕ, ◌+◌, nat_lt, ℤ, Bool, true, false, not, cond, if◌then◌else◌, List, [], ◌∷◌, ◌++◌, length, Option, Some, None, slice_get, Result, Ok, Err, refl, ap, sym, ◌∙◌, arith}
 use Rattle.std.specs.List.{list_any, position_or_len, range_with_len}
-use Rattle.std.specs.Option.{option_and_then, option_map_or}
+use Rattle.std.specs.Option.{option_map_or}
 use Rattle.std.proofs.lemmas.Bool.{eq-eqb, or_left, or_right}
 use Rattle.std.proofs.lemmas.List.Elements.{filter_agree}
 use Rattle.feel_tests.specs.declared.cell.Cell.{Cell}
@@ -152,6 +152,12 @@ record SameRoles (given other : List Slot) (answers : Environment) (roles : Role
   oop_max : value_of given answers roles.oop_max ≡ value_of other answers roles.oop_max
   family : limits given answers roles.family ≡ limits other answers roles.family
 
+-- where the last of the tests is passed one of them is
+last_passes : (a b c d e f g : Bool) → g ≡ true → (a || (b || (c || (d || (e || (f || g)))))) ≡ true
+last_passes a b c d e f g passes =
+    or_right a (b || (c || (d || (e || (f || g))))) (or_right b (c || (d || (e || (f || g)))) (or_right c (d || (e || (f || g)))
+    (or_right d (e || (f || g)) (or_right e (f || g) (or_right f g passes)))))
+
 same_roles :
     (given other : List Slot) (answers : Environment) (roles : Roles) → AlikeWhere (λ place. roles_read place roles) given other
     → SameRoles given other answers roles
@@ -162,7 +168,10 @@ same_roles given other answers roles alike = record {
   copay = source_alike given other answers roles.copay (λ place e. alike place (grind (arith, e)));
   rate = source_alike given other answers roles.rate (λ place e. alike place (grind (arith, e)));
   oop_max = source_alike given other answers roles.oop_max (λ place e. alike place (grind (arith, e)));
-  family = limits_alike given other answers roles.family (λ place e. alike place (grind (arith, e)));
+  family = limits_alike given other answers roles.family (λ place e. alike place (
+      last_passes (source_reads place roles.cover) (source_reads place roles.fee) (source_reads place roles.deductible) (source_reads place roles.copay)
+      (source_reads place roles.rate) (source_reads place roles.oop_max) (limits_read place roles.family) e
+      ));
 }
 
 terms_alike :

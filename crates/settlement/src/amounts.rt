@@ -23,14 +23,14 @@ pub fn amounts_of(billed: Money, terms: RoleTerms, acc: Acc) -> Amounts
 {
     let allowed = billed.min(terms.fee);
     let unmet = allowed.min(terms.deductible.left(acc.met));
-    let ded = within_limit(unmet, family_deductible(terms), acc.fmet);
+    let ded = within_limit(unmet, family_deductible(&terms), acc.fmet);
     let behind_ded = allowed.minus(ded);
     let copay = behind_ded.min(terms.copay);
     let behind_copay = behind_ded.minus(copay);
     let coins = behind_copay.part(terms.rate);
     let taken = taken(allowed, ded, copay, coins);
     let due = taken.min(terms.oop_max.left(acc.oop));
-    let share = within_limit(due, family_oop_max(terms), acc.foop);
+    let share = within_limit(due, family_oop_max(&terms), acc.foop);
     Amounts {
         allowed,
         ded,
@@ -52,19 +52,19 @@ fn within_limit(amount: Money, limit: Option<Money>, used: Money) -> Money
     }
 }
 
-fn family_deductible(terms: RoleTerms) -> Option<Money>
-    ensures { result ≡ family_deductible terms }
+fn family_deductible(terms: &RoleTerms) -> Option<Money>
+    ensures { result ≡ family_deductible terms.now }
 {
-    match terms.family {
+    match &terms.family {
         Some(family) => Some(family.deductible),
         None => None,
     }
 }
 
-fn family_oop_max(terms: RoleTerms) -> Option<Money>
-    ensures { result ≡ family_oop_max terms }
+fn family_oop_max(terms: &RoleTerms) -> Option<Money>
+    ensures { result ≡ family_oop_max terms.now }
 {
-    match terms.family {
+    match &terms.family {
         Some(family) => Some(family.oop_max),
         None => None,
     }

@@ -80,15 +80,15 @@ pub fn terms_of(
 fn limits_of(
     inputs: &Inputs,
     env: &Env,
-    limits: &Option<FamilyRoles>,
+    roles: &Option<FamilyRoles>,
     places: &FamilyPlaces,
 ) -> Result<Option<FamilyTerms>, Role>
-    requires { AreFamilyPlaced env.now.tables limits.now places.now }
-    ensures { result ≡ limits inputs.now env.now limits.now }
+    requires { AreFamilyPlaced env.now.tables roles.now places.now }
+    ensures { result ≡ limits inputs.now env.now roles.now }
 {
-    match limits {
-        Some(limits) => {
-            let terms = family_terms_of(inputs, env, limits, places)?;
+    match roles {
+        Some(roles) => {
+            let terms = family_terms_of(inputs, env, roles, places)?;
             Ok(Some(terms))
         }
         None => Ok(None),
@@ -98,16 +98,16 @@ fn limits_of(
 fn family_terms_of(
     inputs: &Inputs,
     env: &Env,
-    limits: &FamilyRoles,
+    roles: &FamilyRoles,
     places: &FamilyPlaces,
 ) -> Result<FamilyTerms, Role>
-    requires { AreLimitsPlaced env.now.tables limits.now places.now }
-    ensures { result ≡ family_terms inputs.now env.now limits.now }
+    requires { AreLimitsPlaced env.now.tables roles.now places.now }
+    ensures { result ≡ family_terms inputs.now env.now roles.now }
 {
-    let deductible = money_of(value_of(inputs, env, &limits.deductible, places.deductible)).ok_or(
+    let deductible = money_of(value_of(inputs, env, &roles.deductible, places.deductible)).ok_or(
         Role::FamilyDeductible,
     )?;
-    let oop_max = money_of(value_of(inputs, env, &limits.oop_max, places.oop_max)).ok_or(
+    let oop_max = money_of(value_of(inputs, env, &roles.oop_max, places.oop_max)).ok_or(
         Role::FamilyOopMax,
     )?;
     Ok(FamilyTerms {

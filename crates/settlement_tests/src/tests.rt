@@ -2,6 +2,7 @@
 ghost use Rattle.std.specs.Prelude.{◌≡◌};
 
 mod examples;
+mod families;
 mod plans;
 
 use dtable::{Plan, PlanFault, Sequence, read_plan};

@@ -141,3 +141,55 @@ inputs = [
 outputs = [{name = "covered", kind = "flag", default = "false"}]
 rules = [{when = ['"c1"', '"M1"', 'date("2024-01-05")', '12', '1', '2', '3'], then = ['true']}]
 "#;
+
+/// For families: the member's limit and the family's limits are fields of the claim.
+pub const FAMILIES_OPEN: &str = r#"
+version = 3
+fields = [
+  {name = "limit", kind = "number"},
+  {name = "first", kind = "number"},
+  {name = "most", kind = "number"},
+]
+[roles]
+cover = "true"
+fee = "10"
+deductible = "10"
+copay = "0"
+rate = "0"
+oop_max = "limit"
+family_deductible = "first"
+family_oop_max = "most"
+"#;
+
+/// For families: a table reads what each claim, each member and each family has, and so do roles.
+pub const FAMILIES_NAMED: &str = r#"
+version = 3
+
+[roles]
+cover = "covered"
+fee = "billed"
+deductible = "paid"
+copay = "oop"
+rate = "0"
+oop_max = "1000"
+family_deductible = "fmet"
+family_oop_max = "foop"
+
+[[tables]]
+inputs = [
+  {name = "claim"},
+  {name = "family"},
+  {name = "member"},
+  {name = "service"},
+  {name = "billed"},
+  {name = "met"},
+  {name = "oop"},
+  {name = "paid"},
+  {name = "fmet"},
+  {name = "foop"},
+]
+outputs = [{name = "covered", kind = "flag", default = "false"}]
+rules = [
+  {when = ['"c1"', '"F1"', '"M1"', 'date("2024-01-05")', '12', '1', '2', '3', '4', '5'], then = ['true']},
+]
+"#;

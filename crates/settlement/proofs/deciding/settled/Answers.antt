@@ -1,4 +1,4 @@
-use Rattle.std.proofs.Common.{◌≡◌, Some, sym, ap, ◌∙◌, rules}
+use Rattle.std.proofs.Common.{◌≡◌, Some, rules}
 use Rattle.settlement.proofs.PlacedRoles.{placed_in}
 use Rattle.settlement.proofs.deciding.settled.Goals as goal
 

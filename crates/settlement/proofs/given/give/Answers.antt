@@ -1,4 +1,4 @@
-use Rattle.std.proofs.Common.{ℕ, take, slice_index, sym, ◌∙◌, arith}
+use Rattle.std.proofs.Common.{ℕ, take, sym, ◌∙◌}
 use Rattle.std.proofs.lemmas.List.{take_all}
 use Rattle.std.proofs.lemmas.List.Elements.{All-more, All-weaker, All-same}
 use Rattle.settlement.specs.Reads.{HasItsValue}

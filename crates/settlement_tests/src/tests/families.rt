@@ -1,0 +1,217 @@
+//! Settlements under plans that keep families. Amounts are in cents.
+
+use super::examples::MOST;
+use super::plans::{FAMILIES_NAMED, FAMILIES_OPEN};
+use super::{cents, claim, copies, money, plan, plan_or_no_memory, some_paid};
+use dtable::Plan;
+use settlement::{Acc, Role, after, decide, fields_of};
+use std::alloc::{AllocError, Global};
+use std::fmt::Write;
+use std::process::Abort;
+use worked_examples::{family_plan, health_plan};
+
+/// The accumulators: what the member met, paid and had paid, and what its family met and paid.
+type Sums = (i64, i64, i64, i64, i64);
+
+/// A claim's fields, what is billed, and its accumulators; and what is told, as of a claim without a family, the family's sums
+/// behind.
+type Example = (&'static [&'static str], i64, Sums, &'static str);
+
+/// Under the family plan: three members of one family, one after another, and one of another family.
+const TREATED: [Example; 4] = [
+    (
+        &["A"],
+        12_000,
+        (0, 0, 0, 0, 0),
+        "Paid 10000 5000 1000 800 6000 4000 OVER, 5000 6000 4000 5000 6000",
+    ),
+    (
+        &["A"],
+        10_000,
+        (0, 0, 0, 5_000, 6_000),
+        "Paid 10000 3000 1000 1200 4000 6000, 3000 4000 6000 8000 10000",
+    ),
+    (
+        &["A"],
+        10_000,
+        (0, 0, 0, 8_000, 10_000),
+        "Paid 10000 0 1000 1800 0 10000, 0 0 10000 8000 10000",
+    ),
+    (
+        &["B"],
+        3_000,
+        (0, 0, 0, 0, 0),
+        "Paid 3000 3000 0 0 3000 0, 3000 3000 0 3000 3000",
+    ),
+];
+
+/// Under roles that the claim gives, the last of which are the member's limit, the family's deductible and the family's limit.
+const OPENED: [Example; 5] = [
+    (
+        &["-1", "-1", "-1"],
+        1_000,
+        (0, 0, 0, 0, 0),
+        "Pended(Term(OopMax)) 0 0 0 0 0 0, 0 0 0 0 0",
+    ),
+    (
+        &["1", "0.001", "-1"],
+        1_000,
+        (0, 0, 0, 0, 0),
+        "Pended(Term(FamilyDeductible)) 0 0 0 0 0 0, 0 0 0 0 0",
+    ),
+    (
+        &["1", "1", "-0.01"],
+        1_000,
+        (0, 0, 0, 0, 0),
+        "Pended(Term(FamilyOopMax)) 0 0 0 0 0 0, 0 0 0 0 0",
+    ),
+    // The family has passed both of its limits.
+    (
+        &["20", "10", "10"],
+        1_000,
+        (0, 0, 0, 1_500, 1_100),
+        "Paid 1000 0 0 0 0 1000, 0 0 1000 1500 1100",
+    ),
+    // The family's limits are the most that there is, and are reached.
+    (
+        &["20", "99999999999.99", "99999999999.99"],
+        1_000,
+        (0, 0, 0, MOST - 499, MOST - 499),
+        "Paid 1000 499 0 0 499 501, 499 499 501 9999999999999 9999999999999",
+    ),
+];
+
+/// Under a table and roles that read what each claim, each member and each family has.
+const NAMING: [Example; 2] = [
+    (
+        &[],
+        1_200,
+        (100, 200, 300, 400, 500),
+        "Paid 1200 0 200 0 0 1200, 100 200 1500 400 500",
+    ),
+    (
+        &[],
+        1_200,
+        (100, 200, 300, 500, 400),
+        "Denied 0 0 0 0 0 0, 100 200 300 500 400",
+    ),
+];
+
+fn acc(rt: &impl Abort, sums: Sums) -> Acc {
+    let (met, oop, paid, fmet, foop) = sums;
+    Acc {
+        met: money(rt, met),
+        oop: money(rt, oop),
+        paid: money(rt, paid),
+        fmet: money(rt, fmet),
+        foop: money(rt, foop),
+    }
+}
+
+// Decides a claim by the plan.
+fn settles(
+    rt: &impl Abort,
+    alloc: Global,
+    plan: &Plan,
+    example: &Example,
+) -> Result<(), AllocError> {
+    let (fields, billed, before, wanted) = example;
+    let before = acc(rt, *before);
+    let claim = claim(rt, alloc, plan, *billed, fields)?;
+    assert!(rt; plan.roles().is_some());
+    assert!(rt; claim.is_of(plan));
+    let outcome = decide(alloc, plan, &claim, before)?;
+    let mut told = super::told(alloc, &outcome, before)?;
+    tell_family(&mut told, after(before, &outcome))?;
+    assert_eq!(rt; told.as_str(), *wanted);
+    Ok(())
+}
+
+fn tell_family(told: &mut String, left: Option<Acc>) -> Result<(), AllocError> {
+    match left {
+        Some(acc) => {
+            let (fmet, foop) = (cents(acc.fmet), cents(acc.foop));
+            write!(told, " {fmet} {foop}")
+        }
+        None => Ok(()),
+    }
+}
+
+fn decides(rt: &impl Abort, alloc: Global, text: &str, examples: &[Example]) {
+    let plan = plan(rt, alloc, text);
+    for example in examples {
+        assert!(rt; settles(rt, alloc, &plan, example).is_ok());
+    }
+}
+
+#[test]
+fn the_familys_limits_hold_beside_the_members(rt: HostRuntime) {
+    decides(&rt, rt.alloc(), family_plan(), &TREATED);
+}
+
+#[test]
+fn the_familys_roles_are_tried_last(rt: HostRuntime) {
+    assert!(rt; Role::FamilyDeductible.number() == 8);
+    assert!(rt; Role::FamilyOopMax.number() == 9);
+    decides(&rt, rt.alloc(), FAMILIES_OPEN, &OPENED);
+}
+
+#[test]
+fn what_each_family_has(rt: HostRuntime) {
+    decides(&rt, rt.alloc(), FAMILIES_NAMED, &NAMING);
+}
+
+// The gate runs it once for each of its allocations, with that one refused.
+#[test]
+fn a_claim_of_a_family_is_decided_or_no_memory(rt: HostRuntime) {
+    if let Some(plan) = plan_or_no_memory(&rt, rt.alloc(), FAMILIES_NAMED) {
+        let [example, _] = &NAMING;
+        let _decided = settles(&rt, rt.alloc(), &plan, example);
+    }
+}
+
+#[test]
+fn a_copy_of_a_claim_of_a_family(rt: HostRuntime) {
+    let plan = plan(&rt, rt.alloc(), family_plan());
+    assert!(rt; copies(&rt, rt.alloc(), &plan).is_ok());
+}
+
+#[test]
+fn a_claim_of_a_family_is_copied_or_no_memory(rt: HostRuntime) {
+    if let Some(plan) = plan_or_no_memory(&rt, rt.alloc(), family_plan()) {
+        let _copied = copies(&rt, rt.alloc(), &plan);
+    }
+}
+
+// The claim of the first plan is none of the other, which has the same field.
+fn fits_one_of(
+    rt: &impl Abort,
+    alloc: Global,
+    plan: &Plan,
+    other: &Plan,
+    family: &str,
+) -> Result<(), AllocError> {
+    let claim = claim(rt, alloc, plan, 100, &["A"])?;
+    assert!(rt; claim.is_of(plan));
+    assert!(rt; !claim.is_of(other));
+    assert!(rt; claim.family().as_str() == family);
+    Ok(())
+}
+
+#[test]
+fn claims_have_a_family_where_the_plan_keeps_families(rt: HostRuntime) {
+    let alone = plan(&rt, rt.alloc(), health_plan());
+    let families = plan(&rt, rt.alloc(), family_plan());
+    assert!(rt; fields_of(&families).len() == 1);
+    assert!(rt; fits_one_of(&rt, rt.alloc(), &alone, &families, "M1").is_ok());
+    assert!(rt; fits_one_of(&rt, rt.alloc(), &families, &alone, "F1").is_ok());
+}
+
+// An outcome adds 1.00 to what the family met, and 2.00 to what it paid.
+#[test]
+fn the_familys_sums_leave_the_range_one_by_one(rt: HostRuntime) {
+    let outcome = some_paid(&rt);
+    assert!(rt; after(acc(&rt, (0, 0, 0, MOST, 0)), &outcome).is_none());
+    assert!(rt; after(acc(&rt, (0, 0, 0, 0, MOST)), &outcome).is_none());
+    assert!(rt; after(acc(&rt, (0, 0, 0, MOST - 100, MOST - 200)), &outcome).is_some());
+}
