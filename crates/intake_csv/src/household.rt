@@ -96,6 +96,7 @@ impl Household {
     }
 
     // The balance of a member, if it has one.
+    #[tactic(auto, using(crate::proofs::Households::found_first, crate::proofs::Households::found_behind))]
     fn balance_of(&self, member: &str) -> Option<Balance>
         ensures { result ≡ balance_in self.now member.now }
     {

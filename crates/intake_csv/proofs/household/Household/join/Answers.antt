@@ -1,0 +1,24 @@
+use Rattle.std.proofs.Common.{string_bytes}
+use Rattle.intake_csv.proofs.Households.{inserted, joined, joined-household}
+use Rattle.intake_csv.proofs.household.Household.join.Goals.{in-Ok, in-Err}
+use Rattle.intake_csv.proofs.household.Household.join.Goals as goal
+
+pub invariant_of-self : goal.invariant_of-self
+invariant_of-self c =
+    let old = c.self.inside in
+    let inserts = inserted c.args.member c.args.balance old.others c.insert.new.self c.in-Ok.ensures.entries c.insert.ensures.ordered c.in-Ok.ensures.updates in
+    joined-household (string_bytes old.first) old.balance old.others c.insert.new.self c.args.member c.args.balance (rw (← c.self.view_is) at c.requires) inserts old.met old.oop c.in-Some.met c.in-Some-plus.oop
+    c.self.invariant c.in-Some.ensures.sum.1 c.in-Some-plus.ensures.sum.1
+
+pub returns : goal.returns
+returns c =
+    record {
+      joined = elim c.match-insert.branch [
+        | in-Ok w ↦
+            let old = c.self.inside in
+            let inserts = inserted c.args.member c.args.balance old.others c.insert.new.self w.in-Ok.ensures.entries c.insert.ensures.ordered w.in-Ok.ensures.updates in
+            let has = joined (string_bytes old.first) old.balance old.others c.insert.new.self c.args.member c.args.balance (rw (← c.self.view_is) at c.requires) inserts in
+            rw (w.result-is, w.self-is, ← c.self.view_is) has
+        | in-Err w ↦ rw w.result-is tt
+      ];
+    }
