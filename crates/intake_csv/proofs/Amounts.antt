@@ -8,7 +8,7 @@ use Rattle.feel_tests.specs.TextBytes.{IsText}
 use Rattle.feel_tests.specs.declared.value.Value.TheVariants.{Number}
 use Rattle.intake_csv.specs.Fields.{Holds, IsFaultless}
 use Rattle.intake_csv.specs.declared.column.Content.TheVariants.{Money}
-use Rattle.intake_csv.specs.declared.fault.RowCause.TheVariants.{FieldCount, Utf8, TooLong, EmptyId, Value as NoValue, NotCents, Negative, Repeated}
+use Rattle.intake_csv.specs.declared.fault.RowCause.TheVariants.{FieldCount, Utf8, TooLong, EmptyId, Value as NoValue, NotCents, Negative, Repeated, Sum}
 
 -- a number below zero isn't one that is not
 pub not_below : (units : ℤ) → pos 0 ≤ℤ units → ¬ (is_negative units ≡ true)
@@ -29,3 +29,4 @@ money_read one bytes units text denotes cents above =
     faultless Negative h = let same = one bytes units h.1.units denotes h.1.denotes in not_below units above (rw same h.1.below)
     faultless FieldCount h = h
     faultless Repeated h = h
+    faultless Sum h = h

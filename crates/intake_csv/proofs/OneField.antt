@@ -12,7 +12,7 @@ use Rattle.intake_csv.specs.Fields.{Holds, IsFaulty, Spells}
 use Rattle.intake_csv.specs.declared.column.Content.{Content}
 use Rattle.intake_csv.specs.declared.column.Content.TheVariants.{Identifier, Money}
 use Rattle.intake_csv.specs.declared.fault.RowCause.{RowCause}
-use Rattle.intake_csv.specs.declared.fault.RowCause.TheVariants.{FieldCount, Utf8, TooLong, EmptyId, Value as NoValue, NotCents, Negative, Repeated}
+use Rattle.intake_csv.specs.declared.fault.RowCause.TheVariants.{FieldCount, Utf8, TooLong, EmptyId, Value as NoValue, NotCents, Negative, Repeated, Sum}
 use Rattle.intake_csv.proofs.Amounts.{not_below}
 
 -- a cause by its number
@@ -24,7 +24,8 @@ cause_of (suc (suc (suc (suc zero)))) = EmptyId
 cause_of (suc (suc (suc (suc (suc zero))))) = NoValue
 cause_of (suc (suc (suc (suc (suc (suc zero)))))) = NotCents
 cause_of (suc (suc (suc (suc (suc (suc (suc zero))))))) = Negative
-cause_of _ = Repeated
+cause_of (suc (suc (suc (suc (suc (suc (suc (suc zero)))))))) = Repeated
+cause_of _ = Sum
 
 numbered : (cause : RowCause) → cause_of (cause_number_of cause) ≡ cause
 unfolding cause_of
@@ -36,6 +37,7 @@ numbered NoValue = refl
 numbered NotCents = refl
 numbered Negative = refl
 numbered Repeated = refl
+numbered Sum = refl
 
 -- an empty text is a value of an identifier's kind
 empty-text : (content : Content) (bytes : List ℕ) → content ≡ Identifier → bytes ≡ [] → Spells content bytes (Text [])
@@ -85,6 +87,7 @@ module _ (one : DenotesAtMostOne) where
   pub held-faultless : (content : Content) (bytes : List ℕ) (v : Value) (cause : RowCause) → Holds content bytes v → ¬ IsFaulty content bytes cause
   held-faultless content bytes v FieldCount h k = k
   held-faultless content bytes v Repeated h k = k
+  held-faultless content bytes v Sum h k = k
   held-faultless content bytes v Utf8 h k = k h.text.0
   held-faultless content bytes v TooLong h k = omega (arith, k.1, h.text.1)
   held-faultless content bytes v EmptyId h k = let allowed = rw k.0 at h.allowed in allowed k.1

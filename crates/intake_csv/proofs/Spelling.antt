@@ -10,7 +10,7 @@ use Rattle.intake_csv.specs.Columns.{kind_under}
 use Rattle.intake_csv.specs.Fields.{Holds, IsFaultless, IsFaulty, IsYear, Spells}
 use Rattle.intake_csv.specs.declared.column.Content.{Content}
 use Rattle.intake_csv.specs.declared.column.Content.TheVariants.{Identifier, Money, Plain, Year}
-use Rattle.intake_csv.specs.declared.fault.RowCause.TheVariants.{FieldCount, Utf8, TooLong, EmptyId, Value as NoValue, NotCents, Negative, Repeated}
+use Rattle.intake_csv.specs.declared.fault.RowCause.TheVariants.{FieldCount, Utf8, TooLong, EmptyId, Value as NoValue, NotCents, Negative, Repeated, Sum}
 
 -- nothing is wrong with a value that is spelled, unless it is an empty identifier or an amount
 faultless : (content : Content) (bytes : List ℕ) (v : Value) → IsText bytes → Spells content bytes v → ¬ ((content ≡ Identifier) × (bytes ≡ [])) → ¬ (content ≡ Money)
@@ -23,6 +23,7 @@ faultless content bytes v text spells named other NotCents h = other h.0
 faultless content bytes v text spells named other Negative h = other h.0
 faultless content bytes v text spells named other FieldCount h = h
 faultless content bytes v text spells named other Repeated h = h
+faultless content bytes v text spells named other Sum h = h
 
 pub identifier_read : (bytes : List ℕ) (v : Value) → IsText bytes → bytes ≢ [] → SpellsPlain kinds.Text bytes v → Holds Identifier bytes v × IsFaultless Identifier bytes
 identifier_read bytes v text some plain =

@@ -1,5 +1,5 @@
 -- Words that are one edit apart, front by front.
-use Rattle.std.proofs.Common.{◌≡◌, ◌≢◌, ◌<◌, ◌≤◌, ◌+◌, ◌-◌, ◌⊎◌, inl, inr, ◌↔◌, Bool, true, false, IsTrue, ℕ, List, [], ◌∷◌, ◌++◌, length, take, drop, slice_index, ◌∙◌, ap, sym, subst, refl, arith}
+use Rattle.std.proofs.Common.{◌≡◌, ◌≤◌, ◌-◌, ◌↔◌, Bool, false, IsTrue, ℕ, List, [], ◌∷◌, ◌++◌, length, take, drop, slice_index, ◌∙◌, ap, sym, subst, refl, arith}
 use Rattle.std.proofs.lemmas.Bool.{false≢true}
 use Rattle.std.proofs.lemmas.List.{length-drop, take-append-drop, take_all}
 use Rattle.plan_places.specs.Edits.{DoNotMeet, IsEdit, IsExchanged, IsOneEdit, IsOtherFirst, IsWithoutFirst}

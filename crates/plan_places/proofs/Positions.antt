@@ -1,12 +1,11 @@
 -- How the place behind a text changes by one byte more.
-use Rattle.std.proofs.Common.{◌≡◌, ◌≢◌, ℕ, ◌+◌, ◌<◌, Bool, true, false, not, nat_eq, bit_and, cond, add-one, add-zero, ◌&&◌, List, [], ◌∷◌, ◌++◌, take, get_or, length, ◌∙◌, ap, sym, subst, inl, inr, refl, arith}
-use Rattle.std.specs.List.{count_by, list_all, sum_by}
+use Rattle.std.proofs.Common.{◌≡◌, ◌≢◌, ℕ, ◌+◌, ◌<◌, Bool, false, not, bit_and, cond, add-one, add-zero, List, [], ◌∷◌, ◌++◌, take, get_or, length, ◌∙◌, ap, sym, inr, refl, arith}
+use Rattle.std.specs.List.{count_by}
 use Rattle.std.proofs.Math.Seq.{take-suc}
 use Rattle.std.proofs.lemmas.Bool.Decides.{nat_tests}
 use Rattle.std.proofs.lemmas.List.{append_assoc, append-nil}
 use Rattle.std.proofs.lemmas.List.Sums.{sum_by-append}
 use Rattle.std.proofs.lemmas.List.Folds.{list_all-append}
-use Rattle.plan_places.specs.declared.position.Position.{Position}
 use Rattle.plan_places.specs.Position.{IsBehind, is_line_feed, begins_character}
 
 -- one byte more is counted where it passes
