@@ -3,7 +3,7 @@ use Rattle.std.proofs.Common.{◌≡◌, ◌≢◌, ◌↔◌, ℕ, Bool, List, 
 use Rattle.std.proofs.KnownBytes.{Keeps-refl}
 use Rattle.std.proofs.lemmas.Result.{on_ok_weaker, IfErr-weaker}
 use Rattle.std.specs.List.{AllZip}
-use Rattle.dtable.specs.Plan.{PlanParts, keeps_years}
+use Rattle.dtable.specs.Plan.{PlanParts}
 use Rattle.dtable.specs.PlanFile.{IsPlanText}
 use Rattle.dtable.specs.declared.table.InputData.{InputData}
 use Rattle.dtable.specs.declared.plan_fault.PlanCause.TheVariants as cause
@@ -71,7 +71,7 @@ module _ (parts : TermsParts) (J : List Event) (finished : IsFinishedOver parts 
   some_report : ¬ ForTerms parts (λ T. ⊥) → ¬ ((report : List ℕ) → ¬ IsReport parts J report)
   some_report seen none = seen (λ T are.
       let rows = rows_of_claims parts.plan.names parts.files T.files are.files in
-      none (text_of (report_records (keeps_years parts.plan) J rows.files)) (record { files = rows.files; are_rows = rows.are_rows; bytes_are = refl }))
+      none (text_of (report_records parts.plan.version J rows.files)) (record { files = rows.files; are_rows = rows.are_rows; bytes_are = refl }))
 
   -- the front of a report is that of the remittance
   writes_front : (written : ℕ) → ¬ ForTerms parts (λ T. ⊥) → WritesFront parts J written old new → WritesRemittanceFront parts old new written

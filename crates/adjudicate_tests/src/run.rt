@@ -10,6 +10,7 @@ use worked_examples::{
     balances, both_files, empty_remittance, header, health_plan, late_remittance, remittance,
 };
 
+mod families;
 mod refusals;
 
 /// Two files of three claims each, none of them covered.

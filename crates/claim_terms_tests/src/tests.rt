@@ -9,6 +9,8 @@ use std::fmt::Write;
 use std::process::Abort;
 use std::test::Fail;
 
+mod families;
+
 /// A plan that pays what is billed, up to 5.00.
 const PLAN: &[u8] = br#"
 version = 1

@@ -146,21 +146,21 @@ found-within (f ∷ fs) first provider place k found = elim (cases_Bool ((f.prov
 ]
 
 -- what is noted of a position is what the journal decides of it
-decided-at : (years : Bool) (providers : ℕ) (J : List Event) (decisions : Decisions) → Noted years providers J J decisions → (position : Option ℕ)
+decided-at : (version : ℕ) (providers : ℕ) (J : List Event) (decisions : Decisions) → Noted version providers J J decisions → (position : Option ℕ)
     → ((k : ℕ) → position ≡ Some k → k < accepted J)
     → option_and_then (λ k. option_and_then outcome_in (slice_get decisions.decided.items k)) position ≡ option_and_then (decision_at J) position
-decided-at years providers J decisions noted None within = refl
-decided-at years providers J decisions noted (Some k) within =
+decided-at version providers J decisions noted None within = refl
+decided-at version providers J decisions noted (Some k) within =
     let inside = within k refl in
     let stands = slice_get-get_or decisions.decided.items k None (omega (arith, inside, noted.size)) in
     ap (option_and_then outcome_in) stands ∙ noted.decided k None inside
 
 -- what is looked up of a claim is what the journal decides of it
-pub looked-right : (years : Bool) (providers : ℕ) (J : List Event) (decisions : Decisions) → Noted years providers J J decisions
+pub looked-right : (version : ℕ) (providers : ℕ) (J : List Event) (decisions : Decisions) → Noted version providers J J decisions
     → ((provider : ℕ) → places J provider ≡ counted (length (places J provider))) → (d : Vec ℕ) → (provider place : ℕ) → 1 ≤ provider → provider ≤ providers
     → found_of decisions provider place ≡ decided_as J provider place
-looked-right years providers J decisions noted order d zero place least most = absurd (omega (arith, least))
-looked-right years providers J decisions noted order d (suc i) place least most =
+looked-right version providers J decisions noted order d zero place least most = absurd (omega (arith, least))
+looked-right version providers J decisions noted order d (suc i) place least most =
     let known : i < providers = omega (arith, most) in
     let index : suc i - 1 ≡ i = omega arith in
     let stands = slice_get-get_or decisions.positions.items i d (omega (arith, known, noted.count)) in
@@ -168,7 +168,7 @@ looked-right years providers J decisions noted order d (suc i) place least most 
     let position : option_and_then (λ positions. slice_get positions.items place) (slice_get decisions.positions.items (suc i - 1)) ≡ position_of J (suc i) place =
     rw index (ap (option_and_then (λ positions. slice_get positions.items place)) stands ∙ listed) in
     ap (option_and_then (λ k. option_and_then outcome_in (slice_get decisions.decided.items k))) position
-    ∙ decided-at years providers J decisions noted (position_of J (suc i) place)
+    ∙ decided-at version providers J decisions noted (position_of J (suc i) place)
     (λ k found.
     let within = found-within (accepts J) 0 (suc i) place k found in
     omega (arith, within))

@@ -1,11 +1,11 @@
 -- What a journal tells of claims, one event after another.
-use Rattle.std.proofs.Common.{Bool, inl, inr, ◌≡◌, ◌<◌, ◌+◌, ℕ, suc, cond, ◌==◌, List, [], ◌∷◌, ◌++◌, flat_map, get_or, length, take, Option, Some, None, Bor, Result, IfOk, ap, sym, subst, ◌∙◌, refl, append-nil, zero-add, arith}
+use Rattle.std.proofs.Common.{inl, inr, ◌≡◌, ◌<◌, ◌+◌, ℕ, suc, cond, ◌==◌, List, [], ◌∷◌, ◌++◌, flat_map, get_or, length, take, Option, Some, None, Bor, Result, IfOk, ap, sym, subst, ◌∙◌, refl, append-nil, zero-add, arith}
 use Rattle.std.specs.List.{slice_get}
 use Rattle.std.proofs.lemmas.Bool.{cases_Bool, cases_lt}
 use Rattle.std.proofs.lemmas.Grind.{flat_map-append}
 use Rattle.std.proofs.lemmas.List.{get_or_append_left, get_or_push, length_push, take_more}
 use Rattle.dtable.specs.Environment.{or_else}
-use Rattle.dtable.specs.Plan.{PlanParts, keeps_years}
+use Rattle.dtable.specs.Plan.{PlanParts}
 use Rattle.settlement.specs.declared.outcome.Outcome.{Outcome}
 use Rattle.journal.specs.Events.{Filed, accept_in, accepted, accepts}
 use Rattle.journal.specs.declared.event.Event.{Event}
@@ -36,12 +36,12 @@ positions-push first (g ∷ fs) f provider =
     ]
 
 -- an event that accepts no claim changes nothing
-pub noted-other : (years : Bool) (providers : ℕ) (J : List Event) (event : Event) (decisions : Decisions) → accept_in event ≡ [] → Noted years providers J [] decisions
-    → Noted years providers (J ++ event ∷ []) [] decisions
-noted-other years providers J event decisions none noted =
+pub noted-other : (version : ℕ) (providers : ℕ) (J : List Event) (event : Event) (decisions : Decisions) → accept_in event ≡ [] → Noted version providers J [] decisions
+    → Noted version providers (J ++ event ∷ []) [] decisions
+noted-other version providers J event decisions none noted =
     let same : accepts (J ++ event ∷ []) ≡ accepts J = accepts-push J event ∙ ap (λ behind. accepts J ++ behind) none ∙ append-nil (accepts J) in
     record {
-      years_are = noted.years_are;
+      version_is = noted.version_is;
       count = noted.count;
       positions = λ i d within. rw same (noted.positions i d within);
       size = rw same noted.size;
@@ -58,16 +58,16 @@ undecided-push accepting items size undecided k d within = elim (cases_lt k (len
 ]
 
 -- an accept
-pub noted-accept : (years : Bool) (providers : ℕ) (J : List Event) (event : Event) (provider place : ℕ) (old new : Decisions) → event ≡ Accept provider place → new.keeps_years ≡ old.keeps_years
+pub noted-accept : (version : ℕ) (providers : ℕ) (J : List Event) (event : Event) (provider place : ℕ) (old new : Decisions) → event ≡ Accept provider place → new.version ≡ old.version
     → new.decided.items ≡ old.decided.items ++ None ∷ [] → NotesPosition old.positions.items new.positions.items provider (length old.decided.items)
-    → Noted years providers J [] old → Noted years providers (J ++ event ∷ []) [] new
-noted-accept years providers J event provider place old new is kept decided notes noted =
+    → Noted version providers J [] old → Noted version providers (J ++ event ∷ []) [] new
+noted-accept version providers J event provider place old new is kept decided notes noted =
     let filed : Filed = record { provider = provider; place = place } in
     let grown : accepts (J ++ event ∷ []) ≡ accepts J ++ filed ∷ [] = accepts-push J event ∙ ap (λ e. accepts J ++ accept_in e) is in
     let longer = ap length decided ∙ length_push old.decided.items None in
     let counted = ap length grown ∙ length_push (accepts J) filed in
     record {
-      years_are = kept ∙ noted.years_are;
+      version_is = kept ∙ noted.version_is;
       count = notes.count ∙ noted.count;
       positions = λ i d within.
           notes.each i d (omega (arith, within, noted.count))
@@ -103,11 +103,11 @@ decision-here position k outcome = elim (cases_Bool (position == k)) [
 ]
 
 -- a decision
-pub noted-decision : (years : Bool) (providers : ℕ) (accepting J : List Event) (event : Event) (position : ℕ) (outcome : Outcome) (old new : Decisions)
-    → event ≡ Decide position outcome → new.keeps_years ≡ old.keeps_years → new.positions.items ≡ old.positions.items → NotesOutcome old.decided.items new.decided.items position outcome
-    → Noted years providers accepting J old → Noted years providers accepting (J ++ event ∷ []) new
-noted-decision years providers accepting J event position outcome old new is kept positions notes noted = record {
-  years_are = kept ∙ noted.years_are;
+pub noted-decision : (version : ℕ) (providers : ℕ) (accepting J : List Event) (event : Event) (position : ℕ) (outcome : Outcome) (old new : Decisions)
+    → event ≡ Decide position outcome → new.version ≡ old.version → new.positions.items ≡ old.positions.items → NotesOutcome old.decided.items new.decided.items position outcome
+    → Noted version providers accepting J old → Noted version providers accepting (J ++ event ∷ []) new
+noted-decision version providers accepting J event position outcome old new is kept positions notes noted = record {
+  version_is = kept ∙ noted.version_is;
   count = ap length positions ∙ noted.count;
   positions = λ i d within. ap (λ items. (get_or items i d).items) positions ∙ noted.positions i d within;
   size = notes.count ∙ noted.size;
@@ -119,10 +119,10 @@ noted-decision years providers accepting J event position outcome old new is kep
 }
 
 -- an event that decides nothing changes nothing
-pub noted-no-decision : (years : Bool) (providers : ℕ) (accepting J : List Event) (event : Event) (decisions : Decisions) → ((k : ℕ) → decision_in k event ≡ [])
-    → Noted years providers accepting J decisions → Noted years providers accepting (J ++ event ∷ []) decisions
-noted-no-decision years providers accepting J event decisions none noted = record {
-  years_are = noted.years_are;
+pub noted-no-decision : (version : ℕ) (providers : ℕ) (accepting J : List Event) (event : Event) (decisions : Decisions) → ((k : ℕ) → decision_in k event ≡ [])
+    → Noted version providers accepting J decisions → Noted version providers accepting (J ++ event ∷ []) decisions
+noted-no-decision version providers accepting J event decisions none noted = record {
+  version_is = noted.version_is;
   count = noted.count;
   positions = noted.positions;
   size = noted.size;
@@ -132,17 +132,17 @@ noted-no-decision years providers accepting J event decisions none noted = recor
 }
 
 -- the events up to a place, with the one at that place
-pub noted-next : (years : Bool) (providers : ℕ) (J : List Event) (place : ℕ) (event : Event) (decisions : Decisions) → place < length J → event ≡ get_or J place event
-    → Noted years providers (take place J ++ event ∷ []) [] decisions → Noted years providers (take (place + 1) J) [] decisions
-noted-next years providers J place event decisions within is noted =
-    subst (λ taken. Noted years providers taken [] decisions) (sym (take_more J place event within ∙ ap (λ e. take place J ++ e ∷ []) (sym is))) noted
+pub noted-next : (version : ℕ) (providers : ℕ) (J : List Event) (place : ℕ) (event : Event) (decisions : Decisions) → place < length J → event ≡ get_or J place event
+    → Noted version providers (take place J ++ event ∷ []) [] decisions → Noted version providers (take (place + 1) J) [] decisions
+noted-next version providers J place event decisions within is noted =
+    subst (λ taken. Noted version providers taken [] decisions) (sym (take_more J place event within ∙ ap (λ e. take place J ++ e ∷ []) (sym is))) noted
 
-pub noted-next-decision : (years : Bool) (providers : ℕ) (accepting J : List Event) (place : ℕ) (event : Event) (decisions : Decisions) → place < length J → event ≡ get_or J place event
-    → Noted years providers accepting (take place J ++ event ∷ []) decisions → Noted years providers accepting (take (place + 1) J) decisions
-noted-next-decision years providers accepting J place event decisions within is noted =
-    subst (λ taken. Noted years providers accepting taken decisions) (sym (take_more J place event within ∙ ap (λ e. take place J ++ e ∷ []) (sym is))) noted
+pub noted-next-decision : (version : ℕ) (providers : ℕ) (accepting J : List Event) (place : ℕ) (event : Event) (decisions : Decisions) → place < length J → event ≡ get_or J place event
+    → Noted version providers accepting (take place J ++ event ∷ []) decisions → Noted version providers accepting (take (place + 1) J) decisions
+noted-next-decision version providers accepting J place event decisions within is noted =
+    subst (λ taken. Noted version providers accepting taken decisions) (sym (take_more J place event within ∙ ap (λ e. take place J ++ e ∷ []) (sym is))) noted
 
--- what is noted by whether the plan keeps years is noted under the plan
-pub noted_under : {E : Type 0} (plan other : PlanParts) (years : Bool) (providers : ℕ) (J : List Event) (made : Result Decisions E) → years ≡ keeps_years other → other ≡ plan
-    → IfOk made (Noted years providers J J) → IfOk made (Noted (keeps_years plan) providers J J)
-noted_under plan other years providers J made is same noted = subst (λ y. IfOk made (Noted y providers J J)) (is ∙ ap keeps_years same) noted
+-- what is noted by the plan's version is noted under the plan
+pub noted_under : {E : Type 0} (plan other : PlanParts) (version : ℕ) (providers : ℕ) (J : List Event) (made : Result Decisions E) → version ≡ other.version → other ≡ plan
+    → IfOk made (Noted version providers J J) → IfOk made (Noted plan.version providers J J)
+noted_under plan other version providers J made is same noted = subst (λ v. IfOk made (Noted v providers J J)) (is ∙ ap (λ (p : PlanParts). p.version) same) noted

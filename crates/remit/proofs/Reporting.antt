@@ -1,5 +1,5 @@
 -- The whole report, and what a writer has got of it.
-use Rattle.std.proofs.Common.{◌≡◌, ◌<◌, ◌≤◌, ◌+◌, ℕ, zero, suc, Bool, true, List, [], ◌∷◌, ◌++◌, length, map, take, Option, Result, Ok, Err, ap, ap₂, sym, subst, ◌∙◌, refl, append_assoc, append-nil, arith}
+use Rattle.std.proofs.Common.{◌≡◌, ◌<◌, ◌≤◌, ◌+◌, ℕ, zero, suc, true, List, [], ◌∷◌, ◌++◌, length, map, take, Option, Result, Ok, Err, ap, ap₂, sym, subst, ◌∙◌, refl, append_assoc, append-nil, arith}
 use Rattle.std.specs.Io.KnownBytes.{Appends}
 use Rattle.std.specs.List.{AllZip}
 use Rattle.std.specs.Result.{IfErr, OnOk}
@@ -7,8 +7,6 @@ use Rattle.std.proofs.KnownBytes.{Appends-nil}
 use Rattle.std.proofs.lemmas.Grind.{flat_map-append}
 use Rattle.std.proofs.lemmas.List.Concat.{flat_map-cons}
 use Rattle.std.proofs.lemmas.Slice.Zip.{AllZip-long}
-use Rattle.feel_tests.specs.Calendar.{year_of, year_text}
-use Rattle.dtable.specs.Plan.{keeps_years}
 use Rattle.dtable.specs.declared.table.InputData.{InputData}
 use Rattle.settlement.specs.declared.outcome.Outcome.{Outcome}
 use Rattle.intake_csv.specs.Balances.{accounts_of}
@@ -21,7 +19,7 @@ use Rattle.claim_terms.specs.Terms.{AreClaimsOf, IsFinishedOver, IsTermsOf, Term
 use Rattle.remit.specs.Decided.{decided_as}
 use Rattle.remit.specs.Held.{At, Holds, IsReady, Writes, gathered_of}
 use Rattle.remit.specs.Looked.{Noted, found_of, looked_up}
-use Rattle.remit.specs.Records.{Deciding, header_fields, line_of, record_of, records_of, told_of, total_fields, whose_fields}
+use Rattle.remit.specs.Records.{Deciding, claimant_fields, header_fields, line_of, record_of, records_of, told_of, total_fields}
 use Rattle.remit.specs.Report.{IsReport, record_text, report_records, text_of, told_by_journal}
 use Rattle.remit.specs.Rows.{AreRead, Begin, WritesFiles, files_text}
 use Rattle.remit.specs.Writing.{WritesFront, WritesReport}
@@ -52,28 +50,28 @@ are-terms parts files are = record {
 }
 
 -- what records are told by
-abbrev told : Bool → (ℕ → ℕ → Option Outcome) → Deciding
-told years decided = record { years = years; decided = decided }
+abbrev told : ℕ → (ℕ → ℕ → Option Outcome) → Deciding
+told version decided = record { version = version; decided = decided }
 
 -- what is decided alike is told alike
-record-same : (years : Bool) (f g : ℕ → ℕ → Option Outcome) (provider : ℕ) (row : Row) → ((place : ℕ) → f provider place ≡ g provider place)
-    → record_of (told years f) provider row ≡ record_of (told years g) provider row
-record-same years f g provider (Good number place claim) same =
-    ap (λ o. line_of provider number (whose_fields years claim.id claim.member (year_text (year_of claim.service))) (told_of o)) (same place)
-record-same years f g provider (Bad number fault) same = refl
+record-same : (version : ℕ) (f g : ℕ → ℕ → Option Outcome) (provider : ℕ) (row : Row) → ((place : ℕ) → f provider place ≡ g provider place)
+    → record_of (told version f) provider row ≡ record_of (told version g) provider row
+record-same version f g provider (Good number place claim) same =
+    ap (λ o. line_of provider number (claimant_fields version claim) (told_of o)) (same place)
+record-same version f g provider (Bad number fault) same = refl
 
-rows-same : (years : Bool) (f g : ℕ → ℕ → Option Outcome) (provider : ℕ) (rows : List Row) → ((place : ℕ) → f provider place ≡ g provider place)
-    → map (record_of (told years f) provider) rows ≡ map (record_of (told years g) provider) rows
-rows-same years f g provider [] same = refl
-rows-same years f g provider (row ∷ rows) same = ap₂ (λ r rs. r ∷ rs) (record-same years f g provider row same) (rows-same years f g provider rows same)
+rows-same : (version : ℕ) (f g : ℕ → ℕ → Option Outcome) (provider : ℕ) (rows : List Row) → ((place : ℕ) → f provider place ≡ g provider place)
+    → map (record_of (told version f) provider) rows ≡ map (record_of (told version g) provider) rows
+rows-same version f g provider [] same = refl
+rows-same version f g provider (row ∷ rows) same = ap₂ (λ r rs. r ∷ rs) (record-same version f g provider row same) (rows-same version f g provider rows same)
 
-records-same : (years : Bool) (f g : ℕ → ℕ → Option Outcome) (first : ℕ) (files : List (List Row))
+records-same : (version : ℕ) (f g : ℕ → ℕ → Option Outcome) (first : ℕ) (files : List (List Row))
     → ((provider place : ℕ) → first ≤ provider → provider < first + length files → f provider place ≡ g provider place)
-    → records_of (told years f) first files ≡ records_of (told years g) first files
-records-same years f g first [] same = refl
-records-same years f g first (rows ∷ files) same =
-    ap₂ (λ front behind. front ++ behind) (rows-same years f g first rows (λ place. same first place (omega arith) (omega arith)))
-    (records-same years f g (suc first) files (λ provider place least most. same provider place (omega (arith, least)) (omega (arith, most))))
+    → records_of (told version f) first files ≡ records_of (told version g) first files
+records-same version f g first [] same = refl
+records-same version f g first (rows ∷ files) same =
+    ap₂ (λ front behind. front ++ behind) (rows-same version f g first rows (λ place. same first place (omega arith) (omega arith)))
+    (records-same version f g (suc first) files (λ provider place least most. same provider place (omega (arith, least)) (omega (arith, most))))
 
 -- one of these
 some-of : {A : Type 0} (xs : List A) → 0 < length xs → A
@@ -82,29 +80,29 @@ some-of (x ∷ xs) within = x
 
 -- what is looked up gives the records of the report
 pub files-alike : (parts : TermsParts) (J : List Event) (providers : ℕ) (decisions : Decisions) (files : List (List Row)) → IsFinishedOver parts J
-    → Noted (keeps_years parts.plan) providers J J decisions → providers ≡ length parts.files → AllZip (AreRowsOf parts.plan.names) parts.files files
-    → files_text (looked_up decisions) 1 files ≡ files_text (told_by_journal (keeps_years parts.plan) J) 1 files
+    → Noted parts.plan.version providers J J decisions → providers ≡ length parts.files → AllZip (AreRowsOf parts.plan.names) parts.files files
+    → files_text (looked_up decisions) 1 files ≡ files_text (told_by_journal parts.plan.version J) 1 files
 files-alike parts J providers decisions files finished noted as_many are =
     let journal = finished (terms-by parts files) (are-terms parts files are) in
     let long = AllZip-long (AreRowsOf parts.plan.names) parts.files files are in
-    ap (λ years. files_text (told years (found_of decisions)) 1 files) noted.years_are
+    ap (λ version. files_text (told version (found_of decisions)) 1 files) noted.version_is
     ∙ ap text_of
-    (records-same (keeps_years parts.plan) (found_of decisions) (decided_as J) 1 files
+    (records-same parts.plan.version (found_of decisions) (decided_as J) 1 files
     (λ provider place least most.
     let known : provider ≤ providers = omega (arith, most, long, as_many) in
     let d = some-of decisions.positions.items (omega (arith, least, known, noted.count)) in
-    looked-right (keeps_years parts.plan) providers J decisions noted journal.lawful.sound.in_order d provider place least known))
+    looked-right parts.plan.version providers J decisions noted journal.lawful.sound.in_order d provider place least known))
 
 -- the report's text, in its three parts
-abbrev pub whole_text : Bool → List Event → List (List Row) → List ℕ
-whole_text years J files = record_text (header_fields years) ++ (files_text (told_by_journal years J) 1 files ++ record_text (total_fields years J))
+abbrev pub whole_text : ℕ → List Event → List (List Row) → List ℕ
+whole_text version J files = record_text (header_fields version) ++ (files_text (told_by_journal version J) 1 files ++ record_text (total_fields version J))
 
-whole-is : (years : Bool) (J : List Event) (files : List (List Row)) → text_of (report_records years J files) ≡ whole_text years J files
-whole-is years J files =
-    flat_map-cons record_text (header_fields years) (records_of (told_by_journal years J) 1 files ++ total_fields years J ∷ [])
-    ∙ ap (λ t. record_text (header_fields years) ++ t)
-    (flat_map-append record_text (records_of (told_by_journal years J) 1 files) (total_fields years J ∷ [])
-    ∙ ap (λ t. files_text (told_by_journal years J) 1 files ++ t) (append-nil (record_text (total_fields years J))))
+whole-is : (version : ℕ) (J : List Event) (files : List (List Row)) → text_of (report_records version J files) ≡ whole_text version J files
+whole-is version J files =
+    flat_map-cons record_text (header_fields version) (records_of (told_by_journal version J) 1 files ++ total_fields version J ∷ [])
+    ∙ ap (λ t. record_text (header_fields version) ++ t)
+    (flat_map-append record_text (records_of (told_by_journal version J) 1 files) (total_fields version J ∷ [])
+    ∙ ap (λ t. files_text (told_by_journal version J) 1 files ++ t) (append-nil (record_text (total_fields version J))))
 
 -- nothing is written yet
 pub record IsFresh (start : At) : Type 0 where
@@ -130,19 +128,19 @@ written-whole start end text fresh writes none =
     subst (Appends start.contents end.contents) (sym all) held.appended
 
 -- the report is written whole
-pub report-written : (parts : TermsParts) (J : List Event) (providers : ℕ) (decisions : Decisions) (a b c d e : At) → IsFinishedOver parts J → Noted (keeps_years parts.plan) providers J J decisions
-    → providers ≡ length parts.files → IsFresh a → Writes a b (record_text (header_fields (keeps_years parts.plan))) (Ok tt)
-    → WritesFiles (looked_up decisions) parts.plan.names parts.files b c (Ok tt) → Writes c d (record_text (total_fields (keeps_years parts.plan) J)) (Ok tt) → Writes d e [] (Ok tt)
+pub report-written : (parts : TermsParts) (J : List Event) (providers : ℕ) (decisions : Decisions) (a b c d e : At) → IsFinishedOver parts J → Noted parts.plan.version providers J J decisions
+    → providers ≡ length parts.files → IsFresh a → Writes a b (record_text (header_fields parts.plan.version)) (Ok tt)
+    → WritesFiles (looked_up decisions) parts.plan.names parts.files b c (Ok tt) → Writes c d (record_text (total_fields parts.plan.version J)) (Ok tt) → Writes d e [] (Ok tt)
     → gathered_of e.writer ≡ [] → WritesReport parts J a.contents e.contents
 report-written parts J providers decisions a b c d e finished noted as_many fresh header files total end none =
     let rows = files.0 in
     let are = files.1.are_rows in
     let alike = files-alike parts J providers decisions rows finished noted as_many are in
-    let text = record_text (header_fields (keeps_years parts.plan)) ++ (files_text (looked_up decisions) 1 rows ++ (record_text (total_fields (keeps_years parts.plan) J) ++ [])) in
+    let text = record_text (header_fields parts.plan.version) ++ (files_text (looked_up decisions) 1 rows ++ (record_text (total_fields parts.plan.version J) ++ [])) in
     let writes : Writes a e text (Ok tt) =
     writes-then a b e _ _ tt (Ok tt) header (writes-then b c e _ _ tt (Ok tt) files.2 (writes-then c d e _ _ tt (Ok tt) total end)) in
-    let text_is : text ≡ text_of (report_records (keeps_years parts.plan) J rows) =
-    ap₂ (λ f t. record_text (header_fields (keeps_years parts.plan)) ++ (f ++ t)) alike (append-nil (record_text (total_fields (keeps_years parts.plan) J))) ∙ sym (whole-is (keeps_years parts.plan) J rows) in
+    let text_is : text ≡ text_of (report_records parts.plan.version J rows) =
+    ap₂ (λ f t. record_text (header_fields parts.plan.version) ++ (f ++ t)) alike (append-nil (record_text (total_fields parts.plan.version J))) ∙ sym (whole-is parts.plan.version J rows) in
     record {
       bytes = text;
       is_report = record { files = rows; are_rows = are; bytes_are = text_is };
@@ -176,10 +174,10 @@ pub none-written : (parts : TermsParts) (J : List Event) (contents : Option (Lis
 none-written parts J contents = record { bytes = []; counted = refl; appended = Appends-nil contents; front = λ report is. refl }
 
 -- each report begins with the header
-pub begins-header : (parts : TermsParts) (J : List Event) (report : List ℕ) → IsReport parts J report → Begin (record_text (header_fields (keeps_years parts.plan))) report
+pub begins-header : (parts : TermsParts) (J : List Event) (report : List ℕ) → IsReport parts J report → Begin (record_text (header_fields parts.plan.version)) report
 begins-header parts J report is = record {
-  rest = files_text (told_by_journal (keeps_years parts.plan) J) 1 is.files ++ record_text (total_fields (keeps_years parts.plan) J);
-  whole_is = is.bytes_are ∙ whole-is (keeps_years parts.plan) J is.files;
+  rest = files_text (told_by_journal parts.plan.version J) 1 is.files ++ record_text (total_fields parts.plan.version J);
+  whole_is = is.bytes_are ∙ whole-is parts.plan.version J is.files;
 }
 
 -- what is written of files, by the same decisions and over the same names and texts
@@ -188,48 +186,48 @@ pub files-same : (old new : Decisions) (names : List InputData) (texts : List (L
 files-same old new names texts a b result kept writes = subst (λ d. WritesFiles (looked_up d) names texts a b result) kept writes
 
 -- refused in the header
-pub header-refused : (parts : TermsParts) (J : List Event) (a b : At) (fault : WriteFault) → IsFresh a → Writes a b (record_text (header_fields (keeps_years parts.plan))) (Err fault)
+pub header-refused : (parts : TermsParts) (J : List Event) (a b : At) (fault : WriteFault) → IsFresh a → Writes a b (record_text (header_fields parts.plan.version)) (Err fault)
     → WritesFront parts J fault.written a.contents b.contents
 header-refused parts J a b fault fresh header =
-    front-written parts J a b (record_text (header_fields (keeps_years parts.plan))) fault fresh header (λ report is. begins-header parts J report is)
+    front-written parts J a b (record_text (header_fields parts.plan.version)) fault fresh header (λ report is. begins-header parts J report is)
 
 -- refused in the files
 pub files-refused : (parts : TermsParts) (J : List Event) (providers : ℕ) (decisions : Decisions) (a b c : At) (fault : WriteFault) → IsFinishedOver parts J
-    → Noted (keeps_years parts.plan) providers J J decisions → providers ≡ length parts.files → IsFresh a → Writes a b (record_text (header_fields (keeps_years parts.plan))) (Ok tt)
+    → Noted parts.plan.version providers J J decisions → providers ≡ length parts.files → IsFresh a → Writes a b (record_text (header_fields parts.plan.version)) (Ok tt)
     → WritesFiles (looked_up decisions) parts.plan.names parts.files b c (Err fault) → WritesFront parts J fault.written a.contents c.contents
 files-refused parts J providers decisions a b c fault finished noted as_many fresh header files =
-    let text = record_text (header_fields (keeps_years parts.plan)) ++ files.0 in
+    let text = record_text (header_fields parts.plan.version) ++ files.0 in
     front-written parts J a c text fault fresh (writes-then a b c _ _ tt (Err fault) header files.2)
     (λ report is.
     let alike = files-alike parts J providers decisions is.files finished noted as_many is.are_rows in
     let begin = files.1 is.files is.are_rows in
-    let total = record_text (total_fields (keeps_years parts.plan) J) in
+    let total = record_text (total_fields parts.plan.version J) in
     record {
       rest = begin.rest ++ total;
       whole_is =
-          is.bytes_are ∙ whole-is (keeps_years parts.plan) J is.files
-          ∙ ap (λ t. record_text (header_fields (keeps_years parts.plan)) ++ (t ++ total)) (sym alike ∙ begin.whole_is)
-          ∙ ap (λ t. record_text (header_fields (keeps_years parts.plan)) ++ t) (append_assoc files.0 begin.rest total)
-          ∙ sym (append_assoc (record_text (header_fields (keeps_years parts.plan))) files.0 (begin.rest ++ total));
+          is.bytes_are ∙ whole-is parts.plan.version J is.files
+          ∙ ap (λ t. record_text (header_fields parts.plan.version) ++ (t ++ total)) (sym alike ∙ begin.whole_is)
+          ∙ ap (λ t. record_text (header_fields parts.plan.version) ++ t) (append_assoc files.0 begin.rest total)
+          ∙ sym (append_assoc (record_text (header_fields parts.plan.version)) files.0 (begin.rest ++ total));
     })
 
 -- the whole text is that of each report
 whole-of-each : (parts : TermsParts) (J : List Event) (providers : ℕ) (decisions : Decisions) (files : List (List Row)) → IsFinishedOver parts J
-    → Noted (keeps_years parts.plan) providers J J decisions → providers ≡ length parts.files → AreRead parts.plan.names parts.files files → (report : List ℕ)
-    → IsReport parts J report → report ≡ record_text (header_fields (keeps_years parts.plan)) ++ (files_text (looked_up decisions) 1 files ++ record_text (total_fields (keeps_years parts.plan) J))
+    → Noted parts.plan.version providers J J decisions → providers ≡ length parts.files → AreRead parts.plan.names parts.files files → (report : List ℕ)
+    → IsReport parts J report → report ≡ record_text (header_fields parts.plan.version) ++ (files_text (looked_up decisions) 1 files ++ record_text (total_fields parts.plan.version J))
 whole-of-each parts J providers decisions files finished noted as_many read report is =
     let alike = files-alike parts J providers decisions is.files finished noted as_many is.are_rows in
     let same = read.only is.files is.are_rows in
-    is.bytes_are ∙ whole-is (keeps_years parts.plan) J is.files
-    ∙ ap (λ t. record_text (header_fields (keeps_years parts.plan)) ++ (t ++ record_text (total_fields (keeps_years parts.plan) J))) (sym alike ∙ ap (files_text (looked_up decisions) 1) same)
+    is.bytes_are ∙ whole-is parts.plan.version J is.files
+    ∙ ap (λ t. record_text (header_fields parts.plan.version) ++ (t ++ record_text (total_fields parts.plan.version J))) (sym alike ∙ ap (files_text (looked_up decisions) 1) same)
 
 -- refused in the totals
 pub total-refused : (parts : TermsParts) (J : List Event) (providers : ℕ) (decisions : Decisions) (a b c d : At) (fault : WriteFault) → IsFinishedOver parts J
-    → Noted (keeps_years parts.plan) providers J J decisions → providers ≡ length parts.files → IsFresh a → Writes a b (record_text (header_fields (keeps_years parts.plan))) (Ok tt)
-    → WritesFiles (looked_up decisions) parts.plan.names parts.files b c (Ok tt) → Writes c d (record_text (total_fields (keeps_years parts.plan) J)) (Err fault)
+    → Noted parts.plan.version providers J J decisions → providers ≡ length parts.files → IsFresh a → Writes a b (record_text (header_fields parts.plan.version)) (Ok tt)
+    → WritesFiles (looked_up decisions) parts.plan.names parts.files b c (Ok tt) → Writes c d (record_text (total_fields parts.plan.version J)) (Err fault)
     → WritesFront parts J fault.written a.contents d.contents
 total-refused parts J providers decisions a b c d fault finished noted as_many fresh header files total =
-    let text = record_text (header_fields (keeps_years parts.plan)) ++ (files_text (looked_up decisions) 1 files.0 ++ record_text (total_fields (keeps_years parts.plan) J)) in
+    let text = record_text (header_fields parts.plan.version) ++ (files_text (looked_up decisions) 1 files.0 ++ record_text (total_fields parts.plan.version J)) in
     front-written parts J a d text fault fresh (writes-then a b d _ _ tt (Err fault) header (writes-then b c d _ _ tt (Err fault) files.2 total))
     (λ report is. record {
       rest = [];
@@ -238,34 +236,34 @@ total-refused parts J providers decisions a b c d fault finished noted as_many f
 
 -- refused at the end
 pub end-refused : (parts : TermsParts) (J : List Event) (providers : ℕ) (decisions : Decisions) (a b c d e : At) (fault : WriteFault) → IsFinishedOver parts J
-    → Noted (keeps_years parts.plan) providers J J decisions → providers ≡ length parts.files → IsFresh a → Writes a b (record_text (header_fields (keeps_years parts.plan))) (Ok tt)
-    → WritesFiles (looked_up decisions) parts.plan.names parts.files b c (Ok tt) → Writes c d (record_text (total_fields (keeps_years parts.plan) J)) (Ok tt) → Writes d e [] (Err fault)
+    → Noted parts.plan.version providers J J decisions → providers ≡ length parts.files → IsFresh a → Writes a b (record_text (header_fields parts.plan.version)) (Ok tt)
+    → WritesFiles (looked_up decisions) parts.plan.names parts.files b c (Ok tt) → Writes c d (record_text (total_fields parts.plan.version J)) (Ok tt) → Writes d e [] (Err fault)
     → WritesFront parts J fault.written a.contents e.contents
 end-refused parts J providers decisions a b c d e fault finished noted as_many fresh header files total end =
-    let last = record_text (total_fields (keeps_years parts.plan) J) in
+    let last = record_text (total_fields parts.plan.version J) in
     let front = files_text (looked_up decisions) 1 files.0 in
-    let text = record_text (header_fields (keeps_years parts.plan)) ++ (front ++ (last ++ [])) in
+    let text = record_text (header_fields parts.plan.version) ++ (front ++ (last ++ [])) in
     front-written parts J a e text fault fresh
     (writes-then a b e _ _ tt (Err fault) header (writes-then b c e _ _ tt (Err fault) files.2 (writes-then c d e _ _ tt (Err fault) total end)))
     (λ report is. record {
       rest = [];
       whole_is =
           whole-of-each parts J providers decisions files.0 finished noted as_many files.1 report is
-          ∙ ap (λ t. record_text (header_fields (keeps_years parts.plan)) ++ (front ++ t)) (sym (append-nil last)) ∙ sym (append-nil text);
+          ∙ ap (λ t. record_text (header_fields parts.plan.version) ++ (front ++ t)) (sym (append-nil last)) ∙ sym (append-nil text);
     })
 
 -- the writing ends with what is gathered
 pub ends-written : (parts : TermsParts) (J : List Event) (providers : ℕ) (decisions : Decisions) (a b c d e : At) (result : Result (Unit {0}) WriteFault)
-    → Noted (keeps_years parts.plan) providers J J decisions → providers ≡ length parts.files → IsFresh a → Writes a b (record_text (header_fields (keeps_years parts.plan))) (Ok tt)
-    → WritesFiles (looked_up decisions) parts.plan.names parts.files b c (Ok tt) → Writes c d (record_text (total_fields (keeps_years parts.plan) J)) (Ok tt) → Writes d e [] result
+    → Noted parts.plan.version providers J J decisions → providers ≡ length parts.files → IsFresh a → Writes a b (record_text (header_fields parts.plan.version)) (Ok tt)
+    → WritesFiles (looked_up decisions) parts.plan.names parts.files b c (Ok tt) → Writes c d (record_text (total_fields parts.plan.version J)) (Ok tt) → Writes d e [] result
     → OnOk result (gathered_of e.writer ≡ []) → OnOk result (IsFinishedOver parts J → WritesReport parts J a.contents e.contents)
 ends-written parts J providers decisions a b c d e (Ok done) noted as_many fresh header files total end none =
     λ finished. report-written parts J providers decisions a b c d e finished noted as_many fresh header files total end none
 ends-written parts J providers decisions a b c d e (Err fault) noted as_many fresh header files total end none = tt
 
 pub ends-refused : (parts : TermsParts) (J : List Event) (providers : ℕ) (decisions : Decisions) (a b c d e : At) (result : Result (Unit {0}) WriteFault)
-    → Noted (keeps_years parts.plan) providers J J decisions → providers ≡ length parts.files → IsFresh a → Writes a b (record_text (header_fields (keeps_years parts.plan))) (Ok tt)
-    → WritesFiles (looked_up decisions) parts.plan.names parts.files b c (Ok tt) → Writes c d (record_text (total_fields (keeps_years parts.plan) J)) (Ok tt) → Writes d e [] result
+    → Noted parts.plan.version providers J J decisions → providers ≡ length parts.files → IsFresh a → Writes a b (record_text (header_fields parts.plan.version)) (Ok tt)
+    → WritesFiles (looked_up decisions) parts.plan.names parts.files b c (Ok tt) → Writes c d (record_text (total_fields parts.plan.version J)) (Ok tt) → Writes d e [] result
     → IfErr result (λ fault. IsFinishedOver parts J → WritesFront parts J fault.written a.contents e.contents)
 ends-refused parts J providers decisions a b c d e (Ok done) noted as_many fresh header files total end = tt
 ends-refused parts J providers decisions a b c d e (Err fault) noted as_many fresh header files total end =

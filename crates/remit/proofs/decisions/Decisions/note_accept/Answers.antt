@@ -7,5 +7,5 @@ pub returns : goal.returns
 returns c =
     let size : vec_len c.args.self.now.decided ≡ length c.args.self.now.decided.items = search rules in
     on_ok_weaker c.note_position.result
-    (λ notes years providers front noted. noted-accept years providers front c.args.event.now c.in-Accept.provider c.in-Accept.place c.args.self.now _ c.in-Accept.is refl
+    (λ notes version providers front noted. noted-accept version providers front c.args.event.now c.in-Accept.provider c.in-Accept.place c.args.self.now _ c.in-Accept.is refl
     c.in_ok-push.ensures.items (rw (c.len-position.ensures, size) at notes) noted) c.note_position.ensures

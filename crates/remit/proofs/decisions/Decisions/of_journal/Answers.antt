@@ -8,11 +8,11 @@ pub loop-event-preserved : goal.loop-event-preserved
 loop-event-preserved c =
     let J = c.args.journal.now in
     let place = c.loop-event.event-index in
-    noted-next c.args.keeps_years c.args.providers J place c.event-item.result _ c.loop-event-test.true c.event-item.is
-    (c.in_ok-note_accept.ensures c.args.keeps_years c.args.providers (take place J) c.loop-event.invariant)
+    noted-next c.args.version c.args.providers J place c.event-item.result _ c.loop-event-test.true c.event-item.is
+    (c.in_ok-note_accept.ensures c.args.version c.args.providers (take place J) c.loop-event.invariant)
 
 pub returns : goal.returns
 returns c =
     let J = c.args.journal.now in
-    let all : Noted c.args.keeps_years c.args.providers J [] c.loop-event.decisions = rw (take_all c.loop-event.event-index J c.loop-event-test.false) at c.loop-event.invariant in
-    c.note_decisions.ensures c.args.keeps_years c.args.providers J all
+    let all : Noted c.args.version c.args.providers J [] c.loop-event.decisions = rw (take_all c.loop-event.event-index J c.loop-event-test.false) at c.loop-event.invariant in
+    c.note_decisions.ensures c.args.version c.args.providers J all

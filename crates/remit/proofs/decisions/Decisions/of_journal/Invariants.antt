@@ -4,4 +4,4 @@ use Rattle.remit.proofs.decisions.Decisions.of_journal.Given as goal
 
 -- what the events so far accept is noted
 abbrev pub invariant-loop-event : goal.invariant-loop-event
-invariant-loop-event l = Noted l.keeps_years l.providers (take l.event-index l.journal) [] l.decisions
+invariant-loop-event l = Noted l.version l.providers (take l.event-index l.journal) [] l.decisions

@@ -1,5 +1,5 @@
 use Rattle.std.proofs.Common.{◌≡◌, ap, false, is_err, length, ◌∙◌}
-use Rattle.dtable.specs.Plan.{keeps_years}
+use Rattle.dtable.specs.Plan.{PlanParts}
 use Rattle.remit.proofs.Holding.{on-ok}
 use Rattle.remit.proofs.report.Report.write_total.Goals as goal
 
@@ -8,5 +8,5 @@ returns g c =
     let J = c.args.journal.now in
     let ok : is_err c.fill_total.result ≡ false = cc (c.is_err.ensures.value, c.if-is_err.false) in
     let filled = on-ok c.fill_total.result _ ok c.fill_total.ensures in
-    let years = c.keeps_years-keeps_years.ensures ∙ ap keeps_years c.plan.ensures.plan in
-    rw years at (rw (filled J (length J) (c.accepted-accepted.ensures ∙ c.requires) c.over-sums.ensures) at c.write.ensures)
+    let version = c.version-version.ensures.version ∙ ap (λ (p : PlanParts). p.version) c.plan.ensures.plan in
+    rw version at (rw (filled J (length J) (c.accepted-accepted.ensures ∙ c.requires) c.over-sums.ensures) at c.write.ensures)

@@ -1,0 +1,135 @@
+//! Terms of a plan that keeps accumulators for families.
+use super::{fault_of, plan, terms};
+use claim_terms::{Terms, TermsFault};
+use dtable::Sequence;
+use feel_tests::{Day, TEXT_LIMIT_BYTES, Text};
+use intake_csv::{BalanceFault, RowCause, RowFault};
+use settlement::{Acc, Claim};
+use std::alloc::{AllocError, Global};
+use std::process::Abort;
+
+/// A plan that pays what is billed, up to 5.00.
+const PLAN: &[u8] = br#"
+version = 3
+fields = [{name = "code", kind = "text"}]
+[roles]
+cover = "true"
+fee = "5"
+deductible = "0"
+copay = "0"
+rate = "0"
+oop_max = "1000"
+family_deductible = "0"
+family_oop_max = "1000"
+"#;
+
+const CLAIMS: &[u8] = b"claim,family,member,service,billed,code\n";
+
+/// Two members of one family, and one of another, whose number is that of a member of the first.
+const BALANCES: &[u8] = b"family,member,year,met,oop,paid
+F1,M1,2024,50.00,10.00,5.00
+F1,M2,2024,20.00,30.00,1.00
+F2,M1,2024,1.00,2.00,3.00
+";
+
+/// What is met by the family leaves the number range with the second member.
+const BEYOND_MET: &[u8] = b"family,member,year,met,oop,paid
+F1,M1,2024,99999999999.99,0.00,0.00
+F1,M2,2024,0.01,0.00,0.00
+";
+
+/// So does what it has paid out of pocket.
+const BEYOND_OUT_OF_POCKET: &[u8] = b"family,member,year,met,oop,paid
+F1,M1,2024,0.00,99999999999.99,0.00
+F1,M2,2024,0.00,0.01,0.00
+";
+
+/// A member of a family stands twice in one year, and would take the family's sum out of range, too.
+const TWICE: &[u8] = b"family,member,year,met,oop,paid
+F1,M1,2024,99999999999.99,0.00,0.00
+F1,M1,2024,0.01,0.00,0.00
+";
+
+/// The fifth of January 2024.
+const IN_2024: i32 = 19_727;
+
+/// The first day of 2025.
+const IN_2025: i32 = 20_089;
+
+/// What a member of a family begins with by a day of service: the day, the family and the member; and of its own and of the family's
+/// what is met, and what is paid out of pocket.
+const OPENINGS: [(i32, &str, &str, [i64; 4]); 6] = [
+    (IN_2024, "F1", "M1", [500_000, 700_000, 100_000, 400_000]),
+    (IN_2024, "F1", "M2", [200_000, 700_000, 300_000, 400_000]),
+    (IN_2024, "F1", "M3", [0, 700_000, 0, 400_000]),
+    (IN_2024, "F2", "M1", [10_000, 10_000, 20_000, 20_000]),
+    (IN_2024, "M1", "M1", [0, 0, 0, 0]),
+    (IN_2025, "F1", "M1", [0, 0, 0, 0]),
+];
+
+// A claim of a member of a family.
+fn claim(
+    rt: &impl Abort,
+    alloc: Global,
+    day: i32,
+    family: &str,
+    member: &str,
+) -> Result<Claim, AllocError> {
+    assert!(rt; family.len() <= TEXT_LIMIT_BYTES && member.len() <= TEXT_LIMIT_BYTES);
+    Ok(Claim {
+        id: Text::new(alloc, "c1")?,
+        family: Some(Text::new(alloc, family)?),
+        member: Text::new(alloc, member)?,
+        service: Day::from_epoch_day(day).expect(rt, "a day"),
+        billed: Acc::zero().met,
+        fields: Sequence::new(alloc),
+    })
+}
+
+fn sums_of(acc: Acc) -> [i64; 4] {
+    [
+        acc.met.amount().units(),
+        acc.fmet.amount().units(),
+        acc.oop.amount().units(),
+        acc.foop.amount().units(),
+    ]
+}
+
+fn check_openings(rt: &impl Abort, alloc: Global, terms: &Terms) -> Result<(), AllocError> {
+    for (day, family, member, wanted) in &OPENINGS {
+        let claim = claim(rt, alloc, *day, family, member)?;
+        assert!(rt;
+            sums_of(terms.opening(&claim)) == *wanted,
+            "{family} {member}"
+        );
+    }
+    Ok(())
+}
+
+#[test]
+fn openings_of_families(rt: HostRuntime) {
+    let plan = plan(&rt, rt.alloc(), PLAN);
+    let files = [CLAIMS];
+    let terms = terms(&rt, rt.alloc(), &plan, &files, Some(BALANCES), None);
+    assert!(rt; check_openings(&rt, rt.alloc(), &terms).is_ok());
+}
+
+/// Balances that make no terms, with the column and the cause that the second record is told with.
+const REFUSED: [(&[u8], usize, RowCause); 3] = [
+    (BEYOND_MET, 4, RowCause::Sum),
+    (BEYOND_OUT_OF_POCKET, 5, RowCause::Sum),
+    (TWICE, 2, RowCause::Repeated),
+];
+
+#[test]
+fn sums_of_families_in_range(rt: HostRuntime) {
+    let plan = plan(&rt, rt.alloc(), PLAN);
+    for (balances, column, cause) in &REFUSED {
+        let fault = RowFault {
+            column: *column,
+            cause: *cause,
+        };
+        let refused = fault_of(rt.alloc(), &plan, &[CLAIMS], Some(balances));
+        assert!(rt; refused == Some(TermsFault::Balances(BalanceFault::Row { number: 2, fault })));
+    }
+}
