@@ -1,4 +1,4 @@
-//! Short keys of the texts that a column names, by which their regions are sought.
+//! Short keys of a column's regions, by which they are sought.
 //!
 //! They only find: what is found is asked, and so nothing is promised of them.
 
@@ -10,7 +10,7 @@ use std::alloc::{AllocError, Global};
 /// How many bytes of a text its key has.
 const KEY_BYTES: usize = 8;
 
-/// The keys of a plan's tables, of each column of a table: one for each region that is a text. These stand in front of any other.
+/// The keys of a plan's tables, of each column of a table: one for each region that has a first value, in front of any other text.
 pub fn keys_of_tables(
     alloc: Global,
     tables: &[Sequence<Sequence<Region>>],
@@ -36,15 +36,42 @@ fn keys_of_columns(
 fn keys_of_regions(alloc: Global, regions: &[Region]) -> Result<Sequence<u64>, AllocError> {
     let mut keys = Sequence::new(alloc);
     for region in regions {
-        if let Region::At(Value::Text(text)) = region {
-            keys.push(key_of(text))?;
+        if let Some(key) = first_key(region) {
+            keys.push(key)?;
         }
     }
     Ok(keys)
 }
 
-/// The first bytes of a text as a number: of two texts the one that stands before the other has no greater one.
-pub fn key_of(text: &Text) -> u64 {
+// The key of a region's first value; nothing where the region is any other text, or all values of its column.
+fn first_key(region: &Region) -> Option<u64> {
+    match region {
+        Region::Below(_) => Some(0),
+        Region::At(cut) => Some(key_of(cut)),
+        Region::Between(cut, _) => Some(key_of(cut).saturating_add(1)),
+        Region::Above(cut) => Some(key_of(cut).saturating_add(1)),
+        Region::Other(_) => None,
+        Region::Every => None,
+    }
+}
+
+/// The key of a value: of two values of a kind the one that stands before the other has no greater one.
+pub fn key_of(value: &Value) -> u64 {
+    match value {
+        Value::Number(number) => key_of_integer(number.units()),
+        Value::Day(day) => key_of_integer(i64::from(day.epoch_day())),
+        Value::Text(text) => key_of_text(text),
+        Value::Flag(flag) => u64::from(*flag),
+    }
+}
+
+/// How far an integer stands from the least one.
+pub fn key_of_integer(integer: i64) -> u64 {
+    integer.abs_diff(i64::MIN)
+}
+
+/// The first bytes of a text as a number.
+pub fn key_of_text(text: &Text) -> u64 {
     let bytes = text.as_bytes();
     let mut key: u64 = 0;
     for place in 0..KEY_BYTES {

@@ -10,13 +10,13 @@ ghost use Rattle.cutplan.specs.declared.region.Region.TheVariants.{Other};
 ghost use Rattle.cutplan.specs.Regions.{is_in};
 ghost use Rattle.cutplan.specs.Found.{bytes_of, has_at, AreRisingTexts, OthersRise};
 
-use crate::keys::key_of;
+use crate::keys::{key_of_integer, key_of_text};
 use crate::region::{Region, is_among, is_in, is_less};
 use feel_tests::{Text, Value};
 use std::cmp::Ordering;
 
-/// The place of a region that has the value, if one has it. The keys of texts tell it mostly. The regions of a column stand in
-/// rising order, so that it is sought by halves else; what is found is asked, and so nothing rests on keys and search. Any
+/// The place of a region that has the value, if one has it. The keys of the regions tell it mostly. The regions of a column stand
+/// in rising order, so that it is sought by halves else; what is found is asked, and so nothing rests on keys and search. Any
 /// other text is in the last.
 pub fn place_of(regions: &[Region], keys: &[u64], value: &Value) -> Option<usize>
     requires { OthersRise regions.now }
@@ -34,15 +34,24 @@ pub fn place_of(regions: &[Region], keys: &[u64], value: &Value) -> Option<usize
     }
 }
 
-// Where the value is to be asked for first: a text by its key, and a flag behind the other one.
+// Where the value is to be asked for first: by its key, and a flag behind the other one.
 fn likely(regions: &[Region], keys: &[u64], value: &Value) -> usize {
     match value {
         Value::Flag(flag) => usize::from(*flag),
-        Value::Text(text) => match keys.binary_search(&key_of(text)) {
+        Value::Text(text) => match keys.binary_search(&key_of_text(text)) {
             Ok(place) => place,
             Err(_) => regions.len().saturating_sub(1),
         },
-        _ => sought(regions, value),
+        Value::Number(number) => last_up_to(keys, key_of_integer(number.units())),
+        Value::Day(day) => last_up_to(keys, key_of_integer(i64::from(day.epoch_day()))),
+    }
+}
+
+// The place of the last of rising keys that is not above this one.
+fn last_up_to(keys: &[u64], key: u64) -> usize {
+    match keys.binary_search(&key) {
+        Ok(place) => place,
+        Err(place) => place.saturating_sub(1),
     }
 }
 
