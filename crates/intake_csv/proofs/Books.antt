@@ -1,6 +1,5 @@
 -- Books: the families of each year, each with its members and what these begin with.
 use Rattle.std.proofs.Common.{inl, inr, ◌≡◌, ◌≢◌, ◌<◌, ◌≤◌, ◌+◌, ◌==◌, ◌&&◌, ◌+ℤ◌, ℕ, ℤ, pos, suc, zero, Bool, true, false, List, [], ◌∷◌, ◌++◌, length, map, flat_map, get_or, set, Option, Some, None, IsSome, is_some, Result, Ok, Err, OnOk, String, string_bytes, cond, refl, sym, ap, subst, append_assoc, ◌∙◌, arith}
-use Rattle.std.specs.List.{All}
 use Rattle.std.specs.Map.{lookup}
 use Rattle.std.specs.Option.{option_and_then, unwrap_or}
 use Rattle.std.specs.BTreeMap.{BTreeMap, IsOrdered, get_by_text}
@@ -10,15 +9,14 @@ use Rattle.std.proofs.lemmas.Bool.{cases_Bool, cases_eq, cases_lt, false≢true}
 use Rattle.std.proofs.lemmas.Bool.Decides.{nat_tests}
 use Rattle.std.proofs.lemmas.Int.{ints}
 use Rattle.std.proofs.lemmas.List.{get_or-set_same, get_or-set_other, map-append, map-set, length-map}
-use Rattle.std.proofs.lemmas.List.Elements.{All-cons, All-head, All-nil, All-push, All-set, All-tail}
+use Rattle.std.proofs.lemmas.List.Elements.{All-head, All-nil, All-push, All-set, All-tail}
 use Rattle.std.proofs.lemmas.Slice.Eq.{bytes_eq-Decides}
-use Rattle.settlement.specs.Accounts.{Account, is_household, is_same, part}
+use Rattle.settlement.specs.Accounts.{Account}
 use Rattle.settlement.specs.declared.acc.Acc.{Acc}
 use Rattle.settlement.specs.declared.account.Balance.{Balance}
 use Rattle.settlement.specs.Claim.{nothing_yet}
 use Rattle.settlement.specs.Opening.{begun_beside, joins, no_balance, opening}
 use Rattle.intake_csv.specs.Households.{AreOnceBy, HasJoined, Members, balance_in, begins, met_of, oop_of, refused_behind}
-use Rattle.intake_csv.specs.declared.household.Refusal.{Refusal}
 use Rattle.intake_csv.specs.Balances.{AreOnce, Book, Entry, Holder, JoinsIn, accounts_from, accounts_in, accounts_of, book_of, books_of, found_in, holder_of, is_holder}
 use Rattle.intake_csv.proofs.Households.{bytes-turned, looked, once-sorted}
 

@@ -16,7 +16,7 @@ use Rattle.std.proofs.lemmas.Map.Keys.{sorted_head, sorted_tail}
 use Rattle.std.proofs.lemmas.Map.Text.{btree_map_updates_text, is_eq-slice_cmp}
 use Rattle.std.proofs.lemmas.Slice.Eq.{bytes_eq-Decides}
 use Rattle.settlement.specs.declared.account.Balance.{Balance}
-use Rattle.intake_csv.specs.Households.{AreOnceBy, HasJoined, IsHousehold, Members, balance_in, members_among, members_of, met_of, oop_of, refused_behind, sum_over}
+use Rattle.intake_csv.specs.Households.{AreOnceBy, HasJoined, IsHousehold, Members, balance_in, members_among, members_of, refused_behind, sum_over}
 
 -- bytes that are the same compare so, either way round
 pub bytes-turned : (a b : List ℕ) → bytes_eq a b ≡ bytes_eq b a
