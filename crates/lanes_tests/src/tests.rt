@@ -32,11 +32,28 @@ fn text(rt: &impl Abort, alloc: Global, text: &str) -> Result<Text, AllocError> 
     Text::new(alloc, text)
 }
 
-// A claim of a member, who is a family of its own.
-fn claim(rt: &impl Abort, alloc: Global, id: &str, member: &str) -> Result<Claim, AllocError> {
+fn family(
+    rt: &impl Abort,
+    alloc: Global,
+    family: Option<&str>,
+) -> Result<Option<Text>, AllocError> {
+    match family {
+        Some(family) => Ok(Some(text(rt, alloc, family)?)),
+        None => Ok(None),
+    }
+}
+
+// A claim of a member of a family, or who is a family of its own.
+fn claim(
+    rt: &impl Abort,
+    alloc: Global,
+    id: &str,
+    of: Option<&str>,
+    member: &str,
+) -> Result<Claim, AllocError> {
     Ok(Claim {
         id: text(rt, alloc, id)?,
-        family: None,
+        family: family(rt, alloc, of)?,
         member: text(rt, alloc, member)?,
         service: Day::from_epoch_day(19_727).expect(rt, "a day"),
         billed: money(rt, 12_000),
@@ -44,7 +61,7 @@ fn claim(rt: &impl Abort, alloc: Global, id: &str, member: &str) -> Result<Claim
     })
 }
 
-// Adds a claim of a member in no year.
+// Adds a claim of a member, who is a family of its own, in no year.
 fn add(
     rt: &impl Abort,
     alloc: Global,
@@ -52,10 +69,10 @@ fn add(
     id: &str,
     member: &str,
 ) -> Result<(), AllocError> {
-    add_in(rt, alloc, lanes, id, (member, 0))
+    add_of(rt, alloc, lanes, id, (None, member, 0))
 }
 
-// Adds a claim of a member in a year. A claim that is refused comes back, and is not among the others.
+// Adds a claim of a member, who is a family of its own, in a year.
 fn add_in(
     rt: &impl Abort,
     alloc: Global,
@@ -63,9 +80,21 @@ fn add_in(
     id: &str,
     account: (&str, u16),
 ) -> Result<(), AllocError> {
-    let claim = claim(rt, alloc, id, account.0)?;
+    add_of(rt, alloc, lanes, id, (None, account.0, account.1))
+}
+
+// Adds a claim of a family's member in a year. A claim that is refused comes back, and is not among the others.
+fn add_of(
+    rt: &impl Abort,
+    alloc: Global,
+    lanes: &mut Lanes,
+    id: &str,
+    account: (Option<&str>, &str, u16),
+) -> Result<(), AllocError> {
+    let (family, member, year) = account;
+    let claim = claim(rt, alloc, id, family, member)?;
     let before = lanes.len();
-    match lanes.add(claim, account.1) {
+    match lanes.add(claim, year) {
         Ok(()) => {
             assert!(rt; before < lanes.len());
             Ok(())
@@ -155,6 +184,40 @@ fn begin_anew(rt: &impl Abort, alloc: Global) -> Result<(), AllocError> {
     Ok(())
 }
 
+// The claims of a family's members take turns, and those of another family don't wait for them, whatever its member is called.
+fn share_a_lane(rt: &impl Abort, alloc: Global) -> Result<(), AllocError> {
+    let mut lanes = Lanes::new(alloc);
+    add_of(rt, alloc, &mut lanes, "a", (Some("F1"), "M1", 2024))?;
+    add_of(rt, alloc, &mut lanes, "b", (Some("F1"), "M2", 2024))?;
+    add_of(rt, alloc, &mut lanes, "c", (Some("F2"), "M1", 2024))?;
+    let first = take(&mut lanes).expect(rt, "the first family's");
+    let second = take(&mut lanes).expect(rt, "the second family's");
+    assert!(rt; is_claim(rt, &first, 0, "a", 100) && is_claim(rt, &second, 2, "c", 100));
+    assert!(rt; lanes.take().is_none());
+    Ok(())
+}
+
+// A member begins with what it began with, and with what its family's other members left of the family's sums.
+fn go_on_as_a_family(rt: &impl Abort, alloc: Global) -> Result<(), AllocError> {
+    let mut lanes = Lanes::new(alloc);
+    add_of(rt, alloc, &mut lanes, "a", (Some("F1"), "M1", 2024))?;
+    add_of(rt, alloc, &mut lanes, "b", (Some("F1"), "M2", 2024))?;
+    decide_next(rt, &mut lanes, 0, "a", 100, 700)?;
+    let next = take(&mut lanes).expect(rt, "the other member's");
+    let before = next.start(acc(rt, 100));
+    assert!(rt;
+        next.position == 1 && before.met == money(rt, 100) && before.fmet == money(rt, 700)
+    );
+    Ok(())
+}
+
+#[test]
+fn families_claims_take_turns(rt: HostRuntime) -> Result<(), Fail> {
+    share_a_lane(&rt, rt.alloc())?;
+    go_on_as_a_family(&rt, rt.alloc())?;
+    Ok(())
+}
+
 #[test]
 fn members_claims_take_turns(rt: HostRuntime) -> Result<(), Fail> {
     take_turns(&rt, rt.alloc())?;
@@ -169,5 +232,7 @@ fn claims_are_added_and_decided_or_no_memory(rt: HostRuntime) -> Result<(), Fail
     let _turns = take_turns(&rt, rt.alloc());
     let _decided = go_on(&rt, rt.alloc());
     let _years = begin_anew(&rt, rt.alloc());
+    let _shared = share_a_lane(&rt, rt.alloc());
+    let _families = go_on_as_a_family(&rt, rt.alloc());
     Ok(())
 }

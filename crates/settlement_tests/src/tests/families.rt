@@ -4,7 +4,7 @@ use super::examples::MOST;
 use super::plans::{FAMILIES_NAMED, FAMILIES_OPEN};
 use super::{cents, claim, copies, money, plan, plan_or_no_memory, some_paid};
 use dtable::Plan;
-use settlement::{Acc, Role, after, decide, fields_of};
+use settlement::{Acc, Outcome, Role, after, decide, fields_of};
 use std::alloc::{AllocError, Global};
 use std::fmt::Write;
 use std::process::Abort;
@@ -108,6 +108,19 @@ fn acc(rt: &impl Abort, sums: Sums) -> Acc {
     }
 }
 
+fn decided(
+    rt: &impl Abort,
+    alloc: Global,
+    plan: &Plan,
+    example: &Example,
+) -> Result<Outcome, AllocError> {
+    let (fields, billed, before, _) = example;
+    let claim = claim(rt, alloc, plan, *billed, fields)?;
+    assert!(rt; plan.roles().is_some());
+    assert!(rt; claim.is_of(plan));
+    decide(alloc, plan, &claim, acc(rt, *before))
+}
+
 // Decides a claim by the plan.
 fn settles(
     rt: &impl Abort,
@@ -115,14 +128,10 @@ fn settles(
     plan: &Plan,
     example: &Example,
 ) -> Result<(), AllocError> {
-    let (fields, billed, before, wanted) = example;
-    let before = acc(rt, *before);
-    let claim = claim(rt, alloc, plan, *billed, fields)?;
-    assert!(rt; plan.roles().is_some());
-    assert!(rt; claim.is_of(plan));
-    let outcome = decide(alloc, plan, &claim, before)?;
-    let mut told = super::told(alloc, &outcome, before)?;
-    tell_family(&mut told, after(before, &outcome))?;
+    let outcome = decided(rt, alloc, plan, example)?;
+    let (_, _, before, wanted) = example;
+    let mut told = super::told(alloc, &outcome, acc(rt, *before))?;
+    tell_family(&mut told, after(acc(rt, *before), &outcome))?;
     assert_eq!(rt; told.as_str(), *wanted);
     Ok(())
 }
