@@ -1,62 +1,33 @@
--- Books: the members of each year, with what their accounts begin with.
-use Rattle.std.proofs.Common.{inl, inr, ◌≡◌, ◌≢◌, ◌<◌, ◌≤◌, ◌+◌, ◌==◌, ◌&&◌, ◌+ℤ◌, ℕ, ℤ, pos, suc, zero, Bool, true, false, List, [], ◌∷◌, ◌++◌, length, map, get_or, set, Option, Some, None, Result, Ok, Err, OnOk, String, string_bytes, nat_cmp, cond, refl, sym, ap, subst, ◌∙◌, arith}
-use Rattle.std.specs.List.{AllByRecursion}
-use Rattle.std.specs.List.Sorted.{IsStrictlySortedBy}
-use Rattle.std.specs.Map.{keys_of, lookup}
-use Rattle.std.specs.BTreeMap.{BTreeMap, IsOrdered, get_by_text, is_at}
-use Rattle.std.specs.Ordering.{is_eq}
+-- Books: the families of each year, each with its members and what these begin with.
+use Rattle.std.proofs.Common.{inl, inr, ◌≡◌, ◌≢◌, ◌<◌, ◌≤◌, ◌+◌, ◌==◌, ◌&&◌, ◌+ℤ◌, ℕ, ℤ, pos, suc, zero, Bool, true, false, List, [], ◌∷◌, ◌++◌, length, map, flat_map, get_or, set, Option, Some, None, IsSome, is_some, Result, Ok, Err, OnOk, String, string_bytes, cond, refl, sym, ap, subst, append_assoc, ◌∙◌, arith}
+use Rattle.std.specs.List.{All}
+use Rattle.std.specs.Map.{lookup}
+use Rattle.std.specs.Option.{option_and_then, unwrap_or}
+use Rattle.std.specs.BTreeMap.{BTreeMap, IsOrdered, get_by_text}
 use Rattle.std.specs.String.{string_cmp}
-use Rattle.std.specs.declared.cmp.Ordering.TheVariants.{Less}
-use Rattle.std.specs.Cmp.Lexicographic.{slice_cmp}
 use Rattle.std.specs.Str.{bytes_eq}
-use Rattle.std.proofs.lemmas.Bool.{cases_Bool, cases_eq, false≢true}
+use Rattle.std.proofs.lemmas.Bool.{cases_Bool, cases_eq, cases_lt, false≢true}
 use Rattle.std.proofs.lemmas.Bool.Decides.{nat_tests}
 use Rattle.std.proofs.lemmas.Int.{ints}
 use Rattle.std.proofs.lemmas.List.{get_or-set_same, get_or-set_other, map-append, map-set, length-map}
-use Rattle.std.proofs.lemmas.Map.Keys.{sorted_head, sorted_tail}
-use Rattle.std.proofs.lemmas.Map.Text.{is_eq-slice_cmp}
+use Rattle.std.proofs.lemmas.List.Elements.{All-get_or, All-head, All-nil, All-push, All-set, All-tail}
 use Rattle.std.proofs.lemmas.Slice.Eq.{bytes_eq-Decides}
-use Rattle.settlement.specs.Accounts.{Account, alone, is_household, part}
+use Rattle.settlement.specs.Accounts.{Account}
 use Rattle.settlement.specs.declared.acc.Acc.{Acc}
 use Rattle.settlement.specs.declared.account.Balance.{Balance}
 use Rattle.settlement.specs.Claim.{nothing_yet}
-use Rattle.settlement.specs.Opening.{begun, joins, opening}
-use Rattle.intake_csv.specs.Balances.{AreOnce, AreOnceBy, Book, Holder, accounts_from, accounts_of, book_of, books_of, found_in, is_holder}
+use Rattle.settlement.specs.Opening.{begun_beside, joins, no_balance, opening}
+use Rattle.intake_csv.specs.Households.{AreOnceBy, HasJoined, Members, balance_in, begins, met_of, oop_of, refused_behind}
+use Rattle.intake_csv.specs.Balances.{AreOnce, AreOnceIn, Book, Entry, Holder, JoinsIn, accounts_from, accounts_in, accounts_of, book_of, books_of, found_in, holder_of, is_holder}
+use Rattle.intake_csv.proofs.Households.{bytes-turned, looked, once-sorted}
 
--- bytes that are the same compare so, either way round
-pub bytes-turned : (a b : List ℕ) → bytes_eq a b ≡ bytes_eq b a
-bytes-turned a b = elim (cases_Bool (bytes_eq a b)) [
-  | inl same ↦ same ∙ sym ((bytes_eq-Decides b a).1 (sym ((bytes_eq-Decides a b).0 same)))
-  | inr other ↦ elim (cases_Bool (bytes_eq b a)) [
-    | inl same ↦ absurd (false≢true (sym other ∙ (bytes_eq-Decides a b).1 (sym ((bytes_eq-Decides b a).0 same))))
-    | inr turned ↦ other ∙ sym turned
-  ]
-]
+-- the members of a family in a year: nobody, where it isn't there
+abbrev pub members_at : List Book → Holder → Members
+members_at books holder = unwrap_or (found_in books holder) []
 
--- what an account begins with that is alone in its household, where its balance is looked up
-abbrev pub begins : Option Balance → Acc
-begins None = nothing_yet
-begins (Some balance) = begun balance
-
-none-added : (x : ℤ) → x +ℤ pos 0 ≡ x
-none-added x = omega (arith, ints)
-
-all-added : (x : ℤ) → pos 0 +ℤ x ≡ x
-all-added x = omega (arith, ints)
-
--- a balance of its own, where there is none else
-pub joined-own : (b : Balance) (acc : Acc) → acc ≡ nothing_yet → joins true true b acc ≡ begun b
-joined-own b acc e =
-    let fmet : acc.fmet +ℤ b.met ≡ b.met = ap (λ (a : Acc). a.fmet +ℤ b.met) e ∙ all-added b.met in
-    let foop : acc.foop +ℤ b.oop ≡ b.oop = ap (λ (a : Acc). a.foop +ℤ b.oop) e ∙ all-added b.oop in
-    λ i. record { met = b.met; oop = b.oop; paid = b.paid; fmet = fmet i; foop = foop i }
-
--- a balance of another household
-pub joined-other : (b : Balance) (acc : Acc) → joins false false b acc ≡ acc
-joined-other b acc =
-    let fmet = none-added acc.fmet in
-    let foop = none-added acc.foop in
-    λ i. record { met = acc.met; oop = acc.oop; paid = acc.paid; fmet = fmet i; foop = foop i }
+-- what an account begins with that has these members in its household
+abbrev pub begins_among : Members → List ℕ → Acc
+begins_among members member = begins members (balance_in members member)
 
 years-apart : (m n : ℕ) → m ≢ n → (m == n) ≡ false
 years-apart m n h = grind (arith, nat_tests)
@@ -68,68 +39,121 @@ and-false : (b : Bool) → (b && false) ≡ false
 and-false true = refl
 and-false false = refl
 
--- the accounts of a book of a year
-abbrev accounts_in : ℕ → Book → List (Account × Balance)
-accounts_in year book = map (λ e. (alone e.0 year, e.1)) book
+and-true : (b : Bool) → (b && true) ≡ b
+and-true true = refl
+and-true false = refl
+
+none-added : (x : ℤ) → x +ℤ pos 0 ≡ x
+none-added x = omega (arith, ints)
+
+added-turned : (x y z : ℤ) → z ≡ x +ℤ y → y +ℤ x ≡ z
+added-turned x y z e = omega (arith, ints, e)
+
+-- a balance of another household adds nothing
+pub joined-other : (b : Balance) (acc : Acc) → joins false false b acc ≡ acc
+joined-other b acc =
+    let fmet = none-added acc.fmet in
+    let foop = none-added acc.foop in
+    λ i. record { met = acc.met; oop = acc.oop; paid = acc.paid; fmet = fmet i; foop = foop i }
+
+-- a balance of the same household is the account's own, or else adds to the sums alone
+pub joined-house : (own : Bool) (b : Balance) (members : Members) (begun : Option Balance) (fmet foop : ℤ) → fmet ≡ b.met +ℤ met_of members → foop ≡ b.oop +ℤ oop_of members
+    → joins own true b (begins members begun) ≡ begun_beside fmet foop (unwrap_or (cond own (Some b) begun) no_balance)
+joined-house true b members begun fmet foop is_met is_oop =
+    let met = added-turned b.met (met_of members) fmet is_met in
+    let oop = added-turned b.oop (oop_of members) foop is_oop in
+    λ i. record { met = b.met; oop = b.oop; paid = b.paid; fmet = met i; foop = oop i }
+joined-house false b members begun fmet foop is_met is_oop =
+    let own = unwrap_or begun no_balance in
+    let met = added-turned b.met (met_of members) fmet is_met in
+    let oop = added-turned b.oop (oop_of members) foop is_oop in
+    λ i. record { met = own.met; oop = own.oop; paid = own.paid; fmet = met i; foop = oop i }
+
+-- the members of another household add nothing
+passed-house : (z : ℕ) (name : List ℕ) (members : Members) (rest : List Entry) (a : Account) → is_holder (name, z) (holder_of a) ≡ false
+    → opening (accounts_in z (name, members) ++ rest) a ≡ opening rest a
+passed-house z name [] rest a other = refl
+passed-house z name (m ∷ ms) rest a other =
+    let before = opening (accounts_in z (name, ms) ++ rest) a in
+    ap (λ (b : Bool). joins (b && bytes_eq m.0 a.member) b m.1 before) other ∙ joined-other m.1 before ∙ passed-house z name ms rest a other
+
+-- those of its household are what an account begins with, where the others add nothing
+in-house : (z : ℕ) (name : List ℕ) (members : Members) (rest : List Entry) (a : Account) → is_holder (name, z) (holder_of a) ≡ true → opening rest a ≡ nothing_yet
+    → opening (accounts_in z (name, members) ++ rest) a ≡ begins_among members a.member
+in-house z name [] rest a here none = none
+in-house z name (m ∷ ms) rest a here none =
+    let before = opening (accounts_in z (name, ms) ++ rest) a in
+    let own = bytes_eq m.0 a.member in
+    let others : before ≡ begins_among ms a.member = in-house z name ms rest a here none in
+    let turned : own ≡ bytes_eq a.member m.0 = bytes-turned m.0 a.member in
+    ap (λ (b : Bool). joins (b && own) b m.1 before) here ∙ ap (joins own true m.1) others
+    ∙ joined-house own m.1 ms (balance_in ms a.member) (met_of (m ∷ ms)) (oop_of (m ∷ ms)) refl refl
+    ∙ ap (λ (b : Bool). begins (m ∷ ms) (cond b (Some m.1) (balance_in ms a.member))) turned
 
 -- a book of another year adds nothing
-passed : (book : Book) (z : ℕ) (rest : List (Account × Balance)) (m : List ℕ) (y : ℕ) → z ≢ y
-    → opening (accounts_in z book ++ rest) (alone m y) ≡ opening rest (alone m y)
-passed [] z rest m y other = refl
-passed (e ∷ es) z rest m y other =
-    let before = opening (accounts_in z es ++ rest) (alone m y) in
-    let house : (bytes_eq e.0 m && (z == y)) ≡ false = ap (λ (b : Bool). bytes_eq e.0 m && b) (years-apart z y other) ∙ and-false (bytes_eq e.0 m) in
-    ap (λ (b : Bool). joins (b && bytes_eq e.0 m) b e.1 before) house ∙ joined-other e.1 before ∙ passed es z rest m y other
+passed : (book : Book) (z : ℕ) (rest : List Entry) (a : Account) → z ≢ a.year → opening (flat_map (accounts_in z) book ++ rest) a ≡ opening rest a
+passed [] z rest a other = refl
+passed (h ∷ hs) z rest a other =
+    let house : is_holder (h.0, z) (holder_of a) ≡ false = ap (λ (b : Bool). bytes_eq h.0 a.family && b) (years-apart z a.year other) ∙ and-false (bytes_eq h.0 a.family) in
+    ap (λ (es : List Entry). opening es a) (append_assoc (accounts_in z h) (flat_map (accounts_in z) hs) rest)
+    ∙ passed-house z h.0 h.1 (flat_map (accounts_in z) hs ++ rest) a house ∙ passed hs z rest a other
 
 -- nor do books of later years
-later : (books : List Book) (z : ℕ) (m : List ℕ) (y : ℕ) → y < z → opening (accounts_from z books) (alone m y) ≡ nothing_yet
-later [] z m y less = refl
-later (b ∷ bs) z m y less = passed b z (accounts_from (suc z) bs) m y (λ same. omega (arith, less, same)) ∙ later bs (suc z) m y (omega (arith, less))
+later : (books : List Book) (z : ℕ) (a : Account) → a.year < z → opening (accounts_from z books) a ≡ nothing_yet
+later [] z a less = refl
+later (b ∷ bs) z a less = passed b z (accounts_from (suc z) bs) a (λ same. omega (arith, less, same)) ∙ later bs (suc z) a (omega (arith, less))
 
--- a member of a book begins with its balance there, where the other accounts give nothing
-in-book : (book : Book) (y : ℕ) (rest : List (Account × Balance)) (m : List ℕ) → AreOnceBy bytes_eq book → opening rest (alone m y) ≡ nothing_yet
-    → opening (accounts_in y book ++ rest) (alone m y) ≡ begins (lookup (bytes_eq m) book)
-in-book [] y rest m once none = none
-in-book (e ∷ es) y rest m once none =
-    let before = opening (accounts_in y es ++ rest) (alone m y) in
-    let others : before ≡ begins (lookup (bytes_eq m) es) = in-book es y rest m once.1 none in
-    elim (cases_Bool (bytes_eq e.0 m)) [
+-- what an account begins with by the book of its year, where the other accounts give nothing
+in-book : (book : Book) (rest : List Entry) (a : Account) → AreOnceBy bytes_eq book → opening rest a ≡ nothing_yet
+    → opening (flat_map (accounts_in a.year) book ++ rest) a ≡ begins_among (unwrap_or (lookup (bytes_eq a.family) book) []) a.member
+in-book [] rest a once none = none
+in-book (h ∷ hs) rest a once none =
+    let behind = flat_map (accounts_in a.year) hs ++ rest in
+    let others : opening behind a ≡ begins_among (unwrap_or (lookup (bytes_eq a.family) hs) []) a.member = in-book hs rest a once.1 none in
+    let first = ap (λ (es : List Entry). opening es a) (append_assoc (accounts_in a.year h) (flat_map (accounts_in a.year) hs) rest) in
+    let turned : bytes_eq a.family h.0 ≡ bytes_eq h.0 a.family = bytes-turned a.family h.0 in
+    let year : is_holder (h.0, a.year) (holder_of a) ≡ bytes_eq h.0 a.family = ap (λ (b : Bool). bytes_eq h.0 a.family && b) (year-self a.year) ∙ and-true (bytes_eq h.0 a.family) in
+    elim (cases_Bool (bytes_eq h.0 a.family)) [
       | inl here ↦
-          let same : e.0 ≡ m = (bytes_eq-Decides e.0 m).0 here in
-          let nothing : before ≡ nothing_yet = others ∙ ap (λ q. begins (lookup (bytes_eq q) es)) (sym same) ∙ ap begins once.0 in
-          let house : (bytes_eq e.0 m && (y == y)) ≡ true = ap (λ (b : Bool). b && (y == y)) here ∙ year-self y in
-          let found : bytes_eq m e.0 ≡ true = bytes-turned m e.0 ∙ here in
-          ap (λ (b : Bool). joins (b && bytes_eq e.0 m) b e.1 before) house ∙ ap (λ (b : Bool). joins b true e.1 before) here ∙ joined-own e.1 before nothing
-          ∙ sym (ap (λ (b : Bool). begins (cond b (Some e.1) (lookup (bytes_eq m) es))) found)
+          let same : h.0 ≡ a.family = (bytes_eq-Decides h.0 a.family).0 here in
+          let nobody : lookup (bytes_eq a.family) hs ≡ None = ap (λ name. lookup (bytes_eq name) hs) (sym same) ∙ once.0 in
+          let nothing : opening behind a ≡ nothing_yet = others ∙ ap (λ (o : Option Members). begins_among (unwrap_or o []) a.member) nobody in
+          first ∙ in-house a.year h.0 h.1 behind a (year ∙ here) nothing
+          ∙ sym (ap (λ (b : Bool). begins_among (unwrap_or (cond b (Some h.1) (lookup (bytes_eq a.family) hs)) []) a.member) (turned ∙ here))
       | inr other ↦
-          let house : (bytes_eq e.0 m && (y == y)) ≡ false = ap (λ (b : Bool). b && (y == y)) other in
-          let missed : bytes_eq m e.0 ≡ false = bytes-turned m e.0 ∙ other in
-          ap (λ (b : Bool). joins (b && bytes_eq e.0 m) b e.1 before) house ∙ joined-other e.1 before ∙ others
-          ∙ sym (ap (λ (b : Bool). begins (cond b (Some e.1) (lookup (bytes_eq m) es))) missed)
+          first ∙ passed-house a.year h.0 h.1 behind a (year ∙ other) ∙ others
+          ∙ sym (ap (λ (b : Bool). begins_among (unwrap_or (cond b (Some h.1) (lookup (bytes_eq a.family) hs)) []) a.member) (turned ∙ other))
     ]
 
-opened-from : (books : List Book) (z k : ℕ) (m : List ℕ) → AreOnce books → opening (accounts_from z books) (alone m (z + k)) ≡ begins (lookup (bytes_eq m) (get_or books k []))
-opened-from [] z k m once = refl
-opened-from (b ∷ bs) z zero m once =
-    let here : z + zero ≡ z = omega arith in
-    rw here (in-book b z (accounts_from (suc z) bs) m once.0 (later bs (suc z) m z (omega arith)))
-opened-from (b ∷ bs) z (suc k) m once =
-    let next : suc z + k ≡ z + suc k = omega arith in
-    passed b z (accounts_from (suc z) bs) m (z + suc k) (λ same. omega (arith, same)) ∙ rw next at (opened-from bs (suc z) k m once.1)
+opened-from : (books : List Book) (z k : ℕ) (a : Account) → z + k ≡ a.year → AreOnce books
+    → opening (accounts_from z books) a ≡ begins_among (unwrap_or (lookup (bytes_eq a.family) (get_or books k [])) []) a.member
+opened-from [] z k a is once = refl
+opened-from (b ∷ bs) z zero a is once =
+    let here : z ≡ a.year = omega (arith, is) in
+    let rest = accounts_from (suc z) bs in
+    ap (λ (n : ℕ). opening (flat_map (accounts_in n) b ++ rest) a) here ∙ in-book b rest a (All-head AreOnceIn b bs once).families (later bs (suc z) a (omega (arith, here)))
+opened-from (b ∷ bs) z (suc k) a is once =
+    let next : suc z + k ≡ a.year = omega (arith, is) in
+    passed b z (accounts_from (suc z) bs) a (λ same. omega (arith, same, is)) ∙ opened-from bs (suc z) k a next (All-tail AreOnceIn b bs once)
 
--- what a member begins a year with by books in none of which a member stands twice
-pub opened-books : (books : List Book) (m : List ℕ) (y : ℕ) → AreOnce books → opening (accounts_of books) (alone m y) ≡ begins (found_in books (m, y))
-opened-books books m y once =
-    let here : 0 + y ≡ y = omega arith in
-    rw here at (opened-from books 0 y m once)
+-- what an account begins with by books in none of which a family stands twice
+pub opened-books : (books : List Book) (a : Account) → AreOnce books → opening (accounts_of books) a ≡ begins_among (members_at books (holder_of a)) a.member
+opened-books books a once = opened-from books 0 a.year a (omega arith) once
 
-pub begun_some : (books : List Book) (m : List ℕ) (y : ℕ) (balance : Balance) → AreOnce books → found_in books (m, y) ≡ Some balance
-    → begun balance ≡ opening (accounts_of books) (alone m y)
-begun_some books m y balance once is = ap begins (sym is) ∙ sym (opened-books books m y once)
+pub begun_some : (books : List Book) (family member : List ℕ) (year : ℕ) (members : Members) → AreOnce books → found_in books (family, year) ≡ Some members
+    → begins members (balance_in members member) ≡ opening (accounts_of books) (record { family = family; member = member; year = year })
+begun_some books family member year members once is =
+    ap (λ (o : Option Members). begins_among (unwrap_or o []) member) (sym is) ∙ sym (opened-books books (record { family = family; member = member; year = year }) once)
 
-pub begun_none : (books : List Book) (m : List ℕ) (y : ℕ) → AreOnce books → found_in books (m, y) ≡ None
-    → nothing_yet ≡ opening (accounts_of books) (alone m y)
-begun_none books m y once is = ap begins (sym is) ∙ sym (opened-books books m y once)
+pub begun_none : (books : List Book) (family member : List ℕ) (year : ℕ) → AreOnce books → found_in books (family, year) ≡ None
+    → nothing_yet ≡ opening (accounts_of books) (record { family = family; member = member; year = year })
+begun_none books family member year once is =
+    ap (λ (o : Option Members). begins_among (unwrap_or o []) member) (sym is) ∙ sym (opened-books books (record { family = family; member = member; year = year }) once)
+
+-- why a member can't be put behind those of a household that is found
+pub refused_some : (found : Option Members) (members : Members) (member : List ℕ) (balance : Balance) → found ≡ Some members
+    → refused_behind members (balance_in members member) balance ≡ option_and_then (λ ms. refused_behind ms (balance_in ms member) balance) found
+refused_some found members member balance is = ap (option_and_then (λ ms. refused_behind ms (balance_in ms member) balance)) (sym is)
 
 -- an empty book behind the others changes nothing that is found
 room-same : (books : List Book) (k : ℕ) → get_or (books ++ [] ∷ []) k [] ≡ get_or books k []
@@ -138,68 +162,40 @@ room-same [] (suc k) = refl
 room-same (b ∷ bs) zero = refl
 room-same (b ∷ bs) (suc k) = room-same bs k
 
-room-once : (books : List Book) → AreOnce books → AreOnce (books ++ [] ∷ [])
-room-once [] once = (tt, tt)
-room-once (b ∷ bs) once = (once.0, room-once bs once.1)
-
 -- an empty map has an empty book
-empty-book : {Y : Type 0} (members : BTreeMap (String Y) Balance) → members.entries ≡ [] → book_of members ≡ []
-empty-book members empty = ap (λ es. map (λ e. (string_bytes e.0, e.1)) es) empty
+empty-book : {Y : Type 0} (households : BTreeMap (String Y) Members) → households.entries ≡ [] → book_of households ≡ []
+empty-book households empty = ap (λ es. map (λ e. (string_bytes e.0, e.1)) es) empty
 
-more-books : {Y : Type 0} (years : List (BTreeMap (String Y) Balance)) (members : BTreeMap (String Y) Balance) → members.entries ≡ []
-    → books_of (years ++ members ∷ []) ≡ books_of years ++ [] ∷ []
-more-books years members empty = map-append book_of years (members ∷ []) ∙ ap (λ b. books_of years ++ b ∷ []) (empty-book members empty)
+more-books : {Y : Type 0} (years : List (BTreeMap (String Y) Members)) (households : BTreeMap (String Y) Members) → households.entries ≡ []
+    → books_of (years ++ households ∷ []) ≡ books_of years ++ [] ∷ []
+more-books years households empty = map-append book_of years (households ∷ []) ∙ ap (λ b. books_of years ++ b ∷ []) (empty-book households empty)
 
--- what is found in books, and that nobody stands twice, once there is an empty map more
-pub room_found : {Y : Type 0} (years : List (BTreeMap (String Y) Balance)) (members : BTreeMap (String Y) Balance) (q : Holder) → members.entries ≡ []
-    → found_in (books_of (years ++ members ∷ [])) q ≡ found_in (books_of years) q
-room_found years members q empty = ap (λ bs. lookup (bytes_eq q.0) (get_or bs q.1 [])) (more-books years members empty) ∙ ap (lookup (bytes_eq q.0)) (room-same (books_of years) q.1)
+-- what is found in books, and that no family stands twice, once there is an empty map more
+pub room_found : {Y : Type 0} (years : List (BTreeMap (String Y) Members)) (households : BTreeMap (String Y) Members) (q : Holder) → households.entries ≡ []
+    → found_in (books_of (years ++ households ∷ [])) q ≡ found_in (books_of years) q
+room_found years households q empty =
+    ap (λ bs. lookup (bytes_eq q.0) (get_or bs q.1 [])) (more-books years households empty) ∙ ap (lookup (bytes_eq q.0)) (room-same (books_of years) q.1)
 
-pub room_kept : {Y : Type 0} (years : List (BTreeMap (String Y) Balance)) (members : BTreeMap (String Y) Balance) → members.entries ≡ []
-    → AreOnce (books_of years) → AreOnce (books_of (years ++ members ∷ []))
-room_kept years members empty once = subst AreOnce (sym (more-books years members empty)) (room-once (books_of years) once)
-
--- the entries of a map stand once, since its keys rise
-unfound-below : {Y : Type 0} (key : String Y) (es : List (String Y × Balance)) → AllByRecursion (λ y. string_cmp key y ≡ Less) (keys_of es)
-    → lookup (bytes_eq (string_bytes key)) (map (λ e. (string_bytes e.0, e.1)) es) ≡ None
-unfound-below key [] h = refl
-unfound-below key (e ∷ es) h =
-    let other : bytes_eq (string_bytes key) (string_bytes e.0) ≡ false = sym (is_eq-slice_cmp (string_bytes key) (string_bytes e.0)) ∙ ap is_eq h.0 in
-    rw other (unfound-below key es h.1)
-
-once-sorted : {Y : Type 0} (es : List (String Y × Balance)) → IsStrictlySortedBy string_cmp (keys_of es) → AreOnceBy bytes_eq (map (λ e. (string_bytes e.0, e.1)) es)
-once-sorted [] h = tt
-once-sorted (e ∷ es) h = (unfound-below e.0 es (sorted_head string_cmp e.0 (keys_of es) h), once-sorted es (sorted_tail string_cmp e.0 (keys_of es) h))
-
-once-set : (books : List Book) (y : ℕ) (book : Book) → AreOnce books → AreOnceBy bytes_eq book → AreOnce (set books y book)
-once-set [] y book once new = tt
-once-set (b ∷ bs) zero book once new = (new, once.1)
-once-set (b ∷ bs) (suc y) book once new = (once.0, once-set bs y book once.1 new)
-
-pub put_once : {Y : Type 0} (years : List (BTreeMap (String Y) Balance)) (y : ℕ) (members : BTreeMap (String Y) Balance) → IsOrdered string_cmp members
-    → AreOnce (books_of years) → AreOnce (books_of (set years y members))
-put_once years y members ordered once = subst AreOnce (sym (map-set book_of years y members)) (once-set (books_of years) y (book_of members) once (once-sorted members.entries ordered))
-
--- a look-up in a map is one in its book
-looked : {Y : Type 0} (es : List (String Y × Balance)) (m : List ℕ)
-    → lookup (is_at (λ k. slice_cmp nat_cmp m (string_bytes k))) es ≡ lookup (bytes_eq m) (map (λ e. (string_bytes e.0, e.1)) es)
-looked [] m = refl
-looked (e ∷ es) m =
-    let same = is_eq-slice_cmp m (string_bytes e.0) in
-    elim (cases_Bool (bytes_eq m (string_bytes e.0))) [
-      | inl here ↦ rw (same, here) refl
-      | inr other ↦ rw (same, other) (looked es m)
-    ]
-
-get-member : {Y : Type 0} (members : BTreeMap (String Y) Balance) (m : List ℕ) → get_by_text members m ≡ lookup (bytes_eq m) (book_of members)
-get-member members m = looked members.entries m
+pub room_kept : {Y : Type 0} (years : List (BTreeMap (String Y) Members)) (households : BTreeMap (String Y) Members) → households.entries ≡ []
+    → AreOnce (books_of years) → AreOnce (books_of (years ++ households ∷ []))
+room_kept years households empty once = subst AreOnce (sym (more-books years households empty)) (All-push AreOnceIn (books_of years) [] once (record { families = tt; members = All-nil (λ household. AreOnceBy bytes_eq household.1) }))
 
 -- the book of a year, from its map
-book-at : {Y : Type 0} (years : List (BTreeMap (String Y) Balance)) (y : ℕ) (d : BTreeMap (String Y) Balance) → y < length years
+book-at : {Y : Type 0} (years : List (BTreeMap (String Y) Members)) (y : ℕ) (d : BTreeMap (String Y) Members) → y < length years
     → get_or (books_of years) y [] ≡ book_of (get_or years y d)
 book-at [] y d within = absurd (omega (arith, within))
 book-at (m ∷ ms) zero d within = refl
 book-at (m ∷ ms) (suc y) d within = book-at ms y d (omega (arith, within))
+
+-- no family stands twice once a year has another map, and no member of a family that it has
+pub put_once : {Y : Type 0} (years : List (BTreeMap (String Y) Members)) (y : ℕ) (d households : BTreeMap (String Y) Members) → y < length years → IsOrdered string_cmp households
+    → (All (λ household. AreOnceBy bytes_eq household.1) (book_of (get_or years y d)) → All (λ household. AreOnceBy bytes_eq household.1) (book_of households))
+    → AreOnce (books_of years) → AreOnce (books_of (set years y households))
+put_once years y d households within ordered kept once =
+    let size : length (books_of years) ≡ length years = length-map years book_of in
+    let before : AreOnceIn (book_of (get_or years y d)) = rw (← book-at years y d within) (All-get_or AreOnceIn (books_of years) y [] (omega (arith, within, size)) once) in
+    let after : AreOnceIn (book_of households) = record { families = once-sorted households.entries ordered; members = kept before.members } in
+    subst AreOnce (sym (map-set book_of years y households)) (All-set AreOnceIn (books_of years) y (book_of households) after once)
 
 -- there is no book of a year beyond them
 book-none : (books : List Book) (y : ℕ) → ¬ (y < length books) → get_or books y [] ≡ []
@@ -208,56 +204,80 @@ book-none (b ∷ bs) zero beyond = absurd (beyond (omega arith))
 book-none (b ∷ bs) (suc y) beyond = book-none bs y (λ within. beyond (omega (arith, within)))
 
 -- what is found of a year that has a map, and of one beyond them
-pub found_within : {Y : Type 0} (years : List (BTreeMap (String Y) Balance)) (y : ℕ) (d : BTreeMap (String Y) Balance) (m : List ℕ) → y < length years
-    → get_by_text (get_or years y d) m ≡ found_in (books_of years) (m, y)
-found_within years y d m within = get-member (get_or years y d) m ∙ sym (ap (lookup (bytes_eq m)) (book-at years y d within))
+pub found_within : {Y : Type 0} (years : List (BTreeMap (String Y) Members)) (y : ℕ) (d : BTreeMap (String Y) Members) (family : List ℕ) → y < length years
+    → get_by_text (get_or years y d) family ≡ found_in (books_of years) (family, y)
+found_within years y d family within = looked (get_or years y d).entries family ∙ sym (ap (lookup (bytes_eq family)) (book-at years y d within))
 
-pub found_beyond : {Y : Type 0} (years : List (BTreeMap (String Y) Balance)) (y : ℕ) (m : List ℕ) → length years ≤ y → None ≡ found_in (books_of years) (m, y)
-found_beyond years y m beyond =
+pub found_beyond : {Y : Type 0} (years : List (BTreeMap (String Y) Members)) (y : ℕ) (family : List ℕ) → length years ≤ y → None ≡ found_in (books_of years) (family, y)
+found_beyond years y family beyond =
     let size : length (books_of years) ≡ length years = length-map years book_of in
-    sym (ap (lookup (bytes_eq m)) (book-none (books_of years) y (λ within. omega (arith, within, beyond, size))))
+    sym (ap (lookup (bytes_eq family)) (book-none (books_of years) y (λ within. omega (arith, within, beyond, size))))
 
-put-book : (books : List Book) (y : ℕ) (book : Book) (m : List ℕ) (balance : Balance) (q : Holder) → y < length books
-    → ((p : List ℕ) → lookup (bytes_eq p) book ≡ cond (bytes_eq m p) (Some balance) (lookup (bytes_eq p) (get_or books y [])))
-    → found_in (set books y book) q ≡ cond (is_holder (m, y) q) (Some balance) (found_in books q)
-put-book books y book m balance q within more = elim (cases_eq q.1 y) [
+-- where a family is found in a year there is a map of that year
+pub there-within : {Y : Type 0} (years : List (BTreeMap (String Y) Members)) (y : ℕ) (family : List ℕ) → IsSome (found_in (books_of years) (family, y)) → y < length years
+there-within years y family there = elim (cases_lt y (length years)) [
+  | inl within ↦ within
+  | inr beyond ↦ absurd (false≢true (ap is_some (found_beyond years y family beyond) ∙ there))
+]
+
+-- what is found of a family in the map of a year is found of it in the books
+pub found-there : {Y : Type 0} (years : List (BTreeMap (String Y) Members)) (y place : ℕ) (households : BTreeMap (String Y) Members) (family : List ℕ) (found : Option Members)
+    → place ≡ y → households ≡ get_or years place households → IsSome (found_in (books_of years) (family, y)) → found ≡ get_by_text households family
+    → found_in (books_of years) (family, y) ≡ found
+found-there years y place households family found same stands there is =
+    let standing : get_or years y households ≡ households = ap (λ (n : ℕ). get_or years n households) (sym same) ∙ sym stands in
+    sym (is ∙ ap (λ m. get_by_text m family) (sym standing) ∙ found_within years y households family (there-within years y family there))
+
+put-book : (books : List Book) (y : ℕ) (book : Book) (family : List ℕ) (members : Members) (q : Holder) → y < length books
+    → ((p : List ℕ) → lookup (bytes_eq p) book ≡ cond (bytes_eq family p) (Some members) (lookup (bytes_eq p) (get_or books y [])))
+    → found_in (set books y book) q ≡ cond (is_holder (family, y) q) (Some members) (found_in books q)
+put-book books y book family members q within more = elim (cases_eq q.1 y) [
   | inl same ↦
       let there : get_or (set books y book) q.1 [] ≡ book = ap (λ n. get_or (set books y book) n []) same ∙ get_or-set_same books y book [] within in
       let year : (y == q.1) ≡ true = ap (λ (n : ℕ). y == n) same ∙ year-self y in
-      let one : is_holder (m, y) q ≡ bytes_eq m q.0 = ap (λ (b : Bool). bytes_eq m q.0 && b) year ∙ and-true (bytes_eq m q.0) in
-      ap (lookup (bytes_eq q.0)) there ∙ more q.0 ∙ ap (λ n. cond (bytes_eq m q.0) (Some balance) (lookup (bytes_eq q.0) (get_or books n []))) (sym same)
-      ∙ ap (λ (b : Bool). cond b (Some balance) (found_in books q)) (sym one)
+      let one : is_holder (family, y) q ≡ bytes_eq family q.0 = ap (λ (b : Bool). bytes_eq family q.0 && b) year ∙ and-true (bytes_eq family q.0) in
+      ap (lookup (bytes_eq q.0)) there ∙ more q.0 ∙ ap (λ n. cond (bytes_eq family q.0) (Some members) (lookup (bytes_eq q.0) (get_or books n []))) (sym same)
+      ∙ ap (λ (b : Bool). cond b (Some members) (found_in books q)) (sym one)
   | inr other ↦
       let there : get_or (set books y book) q.1 [] ≡ get_or books q.1 [] = get_or-set_other books y q.1 book [] other in
       let year : (y == q.1) ≡ false = years-apart y q.1 (λ same. other (sym same)) in
-      let none : is_holder (m, y) q ≡ false = ap (λ (b : Bool). bytes_eq m q.0 && b) year ∙ and-false (bytes_eq m q.0) in
-      ap (lookup (bytes_eq q.0)) there ∙ ap (λ (b : Bool). cond b (Some balance) (found_in books q)) (sym none)
+      let none : is_holder (family, y) q ≡ false = ap (λ (b : Bool). bytes_eq family q.0 && b) year ∙ and-false (bytes_eq family q.0) in
+      ap (lookup (bytes_eq q.0)) there ∙ ap (λ (b : Bool). cond b (Some members) (found_in books q)) (sym none)
 ]
-  where
-    and-true : (b : Bool) → (b && true) ≡ b
-    and-true true = refl
-    and-true false = refl
 
--- what is found once a member has a balance more in a year
-pub put_found : {Y : Type 0} (years : List (BTreeMap (String Y) Balance)) (y : ℕ) (d members : BTreeMap (String Y) Balance) (m : List ℕ) (balance : Balance) (q : Holder) → y < length years
-    → ((p : List ℕ) → get_by_text members p ≡ cond (bytes_eq m p) (Some balance) (get_by_text (get_or years y d) p))
-    → found_in (books_of (set years y members)) q ≡ cond (is_holder (m, y) q) (Some balance) (found_in (books_of years) q)
-put_found years y d members m balance q within updated =
+-- what is found once a family has these members in a year
+pub put_found : {Y : Type 0} (years : List (BTreeMap (String Y) Members)) (y : ℕ) (d households : BTreeMap (String Y) Members) (family : List ℕ) (members : Members) (q : Holder)
+    → y < length years → ((p : List ℕ) → get_by_text households p ≡ cond (bytes_eq family p) (Some members) (get_by_text (get_or years y d) p))
+    → found_in (books_of (set years y households)) q ≡ cond (is_holder (family, y) q) (Some members) (found_in (books_of years) q)
+put_found years y d households family members q within updated =
     let size : length (books_of years) ≡ length years = length-map years book_of in
     let at = book-at years y d within in
-    let more : (p : List ℕ) → lookup (bytes_eq p) (book_of members) ≡ cond (bytes_eq m p) (Some balance) (lookup (bytes_eq p) (get_or (books_of years) y [])) =
-    λ p. sym (get-member members p) ∙ updated p ∙ ap (cond (bytes_eq m p) (Some balance)) (get-member (get_or years y d) p ∙ ap (lookup (bytes_eq p)) (sym at)) in
-    ap (λ bs. found_in bs q) (map-set book_of years y members) ∙ put-book (books_of years) y (book_of members) m balance q (omega (arith, within, size)) more
+    let more : (p : List ℕ) → lookup (bytes_eq p) (book_of households) ≡ cond (bytes_eq family p) (Some members) (lookup (bytes_eq p) (get_or (books_of years) y [])) =
+    λ p. sym (looked households.entries p) ∙ updated p ∙ ap (cond (bytes_eq family p) (Some members)) (looked (get_or years y d).entries p ∙ ap (lookup (bytes_eq p)) (sym at)) in
+    ap (λ bs. found_in bs q) (map-set book_of years y households) ∙ put-book (books_of years) y (book_of households) family members q (omega (arith, within, size)) more
 
--- the same of books in which there is room for the year, under the member's name as a text of its own
-pub put-more : {U E : Type 0} (member name : List ℕ) (year : ℕ) (balance : Balance) (old room new : List Book) (put : Result U E) → name ≡ member
-    → ((q : Holder) → found_in room q ≡ found_in old q)
-    → OnOk put ((q : Holder) → found_in new q ≡ cond (is_holder (name, year) q) (Some balance) (found_in room q))
-    → OnOk put ((q : Holder) → found_in new q ≡ cond (is_holder (member, year) q) (Some balance) (found_in old q))
-put-more member name year balance old room new (Ok u) named same found =
-    λ q. found q ∙ ap (λ (m : List ℕ). cond (is_holder (m, year) q) (Some balance) (found_in room q)) named ∙ ap (cond (is_holder (member, year) q) (Some balance)) (same q)
-put-more member name year balance old room new (Err e) named same found = tt
+-- the household of a family with a member more, put in the place of the one before
+pub joins_in : {Y U E : Type 0} (years : List (BTreeMap (String Y) Members)) (y : ℕ) (d households : BTreeMap (String Y) Members) (family member : List ℕ) (balance : Balance) (before after : Members)
+    → (joined : Result U E) → y < length years → found_in (books_of years) (family, y) ≡ Some before
+    → ((p : List ℕ) → get_by_text households p ≡ cond (bytes_eq family p) (Some after) (get_by_text (get_or years y d) p))
+    → OnOk joined (HasJoined member balance before after) → OnOk joined (JoinsIn (family, y) member balance (books_of years) (books_of (set years y households)))
+joins_in years y d households family member balance before after (Ok u) within is updated has =
+    let old = books_of years in
+    let new = books_of (set years y households) in
+    let put : (q : Holder) → found_in new q ≡ cond (is_holder (family, y) q) (Some after) (found_in old q) = λ q. put_found years y d households family after q within updated in
+    let itself : is_holder (family, y) (family, y) ≡ true = rw ((bytes_eq-Decides family family).1 refl, year-self y) refl in
+    record {
+      own = λ other found.
+          let same : before ≡ other = cc (sym is ∙ found) in
+          record {
+            after = after;
+            found = put (family, y) ∙ ap (λ (b : Bool). cond b (Some after) (found_in old (family, y))) itself;
+            joined = subst (λ (ms : Members). HasJoined member balance ms after) same has;
+          };
+      others = λ other unlike. put other ∙ ap (λ (b : Bool). cond b (Some after) (found_in old other)) unlike;
+    }
+joins_in years y d households family member balance before after (Err e) within is updated has = tt
 
--- no books have nobody twice
-pub none_once : {Y : Type 0} (years : List (BTreeMap (String Y) Balance)) → years ≡ [] → AreOnce (books_of years)
-none_once years empty = subst (λ (ys : List (BTreeMap (String _) Balance)). AreOnce (books_of ys)) (sym empty) tt
+-- no books have no family twice
+pub none_once : {Y : Type 0} (years : List (BTreeMap (String Y) Members)) → years ≡ [] → AreOnce (books_of years)
+none_once years empty = subst (λ (ys : List (BTreeMap (String _) Members)). AreOnce (books_of ys)) (sym empty) (All-nil AreOnceIn)

@@ -1,160 +1,369 @@
 -- Entries of balances, with one more.
-use Rattle.std.proofs.Common.{inl, inr, ◌≡◌, ◌<◌, ◌+◌, ◌-◌, ◌==◌, ◌&&◌, ◌+ℤ◌, ℕ, ℤ, pos, suc, zero, Bool, true, false, subst, List, [], ◌∷◌, ◌++◌, length, map, take, drop, get_or, Option, Some, None, Result, Ok, Err, IfOk, IfErr, OnOk, cond, refl, sym, ap, ◌∙◌, arith}
-use Rattle.std.specs.List.{AllPairs, AllZip, Any}
-use Rattle.std.specs.Map.{lookup}
-use Rattle.std.specs.Option.{is_some}
+use Rattle.std.proofs.Common.{inl, inr, ◌≡◌, ◌≢◌, ◌<◌, ◌+◌, ◌-◌, ◌==◌, ◌&&◌, ◌+ℤ◌, ℕ, ℤ, Bool, true, false, subst, List, [], ◌∷◌, ◌++◌, length, take, drop, get_or, Option, Some, None, IsSome, Bor, Result, Ok, Err, OnOk, cond, if◌then◌else◌, refl, sym, ap, ◌∙◌, arith}
+use Rattle.std.specs.List.{All, AllZip, slice_get}
+use Rattle.std.specs.Option.{is_some, option_and_then, option_copied, unwrap_or}
 use Rattle.std.specs.Str.{bytes_eq}
 use Rattle.std.proofs.lemmas.Bool.{cases_Bool, false≢true}
 use Rattle.std.proofs.lemmas.Bool.Decides.{nat_tests}
 use Rattle.std.proofs.lemmas.Int.{ints}
 use Rattle.std.proofs.lemmas.List.{append-nil, length-map, take-append-drop}
-use Rattle.std.proofs.lemmas.List.Quantifiers.{all_pairs_push}
+use Rattle.std.proofs.lemmas.List.Elements.{All-head, All-nil, All-push, All-tail}
+use Rattle.std.proofs.lemmas.List.Quantifiers.{Any-push, all_pairs_push}
 use Rattle.std.proofs.lemmas.Option.{slice_get-get_or}
 use Rattle.std.proofs.lemmas.Slice.Eq.{bytes_eq-Decides}
-use Rattle.std.proofs.lemmas.Map.Text.{is_eq-slice_cmp}
-use Rattle.settlement.specs.Accounts.{alone, part}
+use Rattle.dtable.specs.Plan.{has_families, has_years}
+use Rattle.settlement.specs.Accounts.{Account, is_household, is_same, part}
+use Rattle.settlement.specs.Amount.{is_in_range}
 use Rattle.settlement.specs.declared.acc.Acc.{Acc}
 use Rattle.settlement.specs.declared.account.Balance.{Balance}
-use Rattle.settlement.specs.Claim.{nothing_yet}
-use Rattle.settlement.specs.Opening.{begun, joins, opening}
+use Rattle.settlement.specs.Opening.{joins, opening}
 use Rattle.intake_csv.specs.Records.{Fields}
-use Rattle.intake_csv.specs.Columns.{IsSheet, balance_columns}
-use Rattle.intake_csv.specs.Balances.{AreBalances, AreOnce, AreOnceBy, Book, Entry, Holder, HoldsEntries, IsBalanceLayout, IsEntry, IsRecordFault, RefusesRecord, accounts_among, accounts_of, found_in, is_holder}
+use Rattle.intake_csv.specs.Record.{family_contents}
+use Rattle.intake_csv.specs.Columns.{IsSheet, balance_columns, family_columns, year_columns}
+use Rattle.intake_csv.specs.Households.{HasJoined, Members, balance_in, begins, met_of, oop_of, refused_behind}
+use Rattle.intake_csv.specs.Balances.{AreBalances, AreOnce, Book, Entry, Holder, HoldsEntries, IsBalanceLayout, IsEntry, IsRecordFault, JoinsIn, RefusesRecord, accounts_of, balance_of, found_in, holder_of, is_holder, opening_with, refusal_cause, refusal_place, year_contents}
 use Rattle.intake_csv.specs.declared.column.Layout.{Layout}
 use Rattle.intake_csv.specs.declared.column.Column.{Column}
+use Rattle.intake_csv.specs.declared.column.Content.TheVariants.{Identifier, Money}
+use Rattle.intake_csv.specs.declared.household.Refusal.{Refusal}
+use Rattle.intake_csv.specs.declared.household.Refusal.TheVariants.{Again, Met, Oop}
 use Rattle.intake_csv.specs.declared.fault.RowFault.{RowFault}
-use Rattle.intake_csv.specs.declared.fault.RowCause.TheVariants.{Repeated}
-use Rattle.intake_csv.proofs.Books.{begins, joined-other, joined-own, opened-books, year-self}
-use Rattle.intake_csv.proofs.Lists.{AllZip-grow, drop-after, next-at}
+use Rattle.intake_csv.proofs.Books.{begins_among, joined-house, joined-other, members_at, opened-books, year-self}
+use Rattle.intake_csv.proofs.Households.{bytes-turned, lacking}
+use Rattle.intake_csv.proofs.Lists.{AllZip-grow, any-more, drop-after, next-at}
 
 -- holders that are told to be the same are so
-pub holder-same : (a b : Holder) → is_holder a b ≡ true → a ≡ b
+holder-same : (a b : Holder) → is_holder a b ≡ true → a ≡ b
 holder-same a b e = elim (cases_Bool (bytes_eq a.0 b.0)) [
   | inr other ↦ absurd (false≢true (rw other at e))
   | inl same ↦
       let years : (a.1 == b.1) ≡ true = rw same at e in
       let year : a.1 ≡ b.1 = grind (arith, nat_tests, years) in
-      let member : a.0 ≡ b.0 = (bytes_eq-Decides a.0 b.0).0 same in
-      ap (λ (m : List ℕ). (m, a.1)) member ∙ ap (λ (y : ℕ). (b.0, y)) year
+      let family : a.0 ≡ b.0 = (bytes_eq-Decides a.0 b.0).0 same in
+      ap (λ (f : List ℕ). (f, a.1)) family ∙ ap (λ (y : ℕ). (b.0, y)) year
 ]
 
 holder-self : (a : Holder) → is_holder a a ≡ true
 holder-self a = rw ((bytes_eq-Decides a.0 a.0).1 refl, year-self a.1) refl
 
-pub holder-is : (a b : Holder) → a ≡ b → is_holder a b ≡ true
-holder-is a b e = ap (is_holder a) (sym e) ∙ holder-self a
-
--- either way round
-pub holder-turned : (a b : Holder) → is_holder a b ≡ is_holder b a
-holder-turned a b = elim (cases_Bool (is_holder a b)) [
-  | inl same ↦ same ∙ sym (holder-is b a (sym (holder-same a b same)))
-  | inr other ↦ elim (cases_Bool (is_holder b a)) [
-    | inl same ↦ absurd (false≢true (sym other ∙ holder-is a b (sym (holder-same b a same))))
-    | inr turned ↦ other ∙ sym turned
-  ]
+-- and so are accounts
+account-same : (a b : Account) → is_same a b ≡ true → a ≡ b
+account-same a b e = elim (cases_Bool (is_household a b)) [
+  | inr other ↦ absurd (false≢true (rw other at e))
+  | inl house ↦
+      let members : bytes_eq a.member b.member ≡ true = rw house at e in
+      let member : a.member ≡ b.member = (bytes_eq-Decides a.member b.member).0 members in
+      let holder = holder-same (holder_of a) (holder_of b) house in
+      let family : a.family ≡ b.family = ap (λ (h : Holder). h.0) holder in
+      let year : a.year ≡ b.year = ap (λ (h : Holder). h.1) holder in
+      λ i. record { family = family i; member = member i; year = year i }
 ]
 
--- a member that is looked up and not found stands nowhere
-pub not-found : (entries : List Entry) (m : Holder) → lookup (is_holder m) entries ≡ None → (k : ℕ) (d : Entry) → k < length entries → ¬ ((get_or entries k d).0 ≡ m)
-not-found [] m none k d within same = omega (arith, within)
-not-found (e ∷ es) m none zero d within same =
-    let equal = holder-is m e.0 (sym same) in
-    cc (rw equal at none)
-not-found (e ∷ es) m none (suc k) d within same = elim (cases_Bool (is_holder m e.0)) [
-  | inl equal ↦ absurd (cc (rw equal at none))
-  | inr unlike ↦ not-found es m (rw unlike at none) k d (omega (arith, within)) same
-]
+account-self : (a : Account) → is_same a a ≡ true
+account-self a = rw (holder-self (holder_of a), (bytes_eq-Decides a.member a.member).1 refl) refl
 
--- a member that is found stands somewhere
-pub found-again : (entries : List Entry) (m : Holder) → is_some (lookup (is_holder m) entries) ≡ true → Any (λ e. e.0 ≡ m) entries
-found-again [] m found = absurd (false≢true found)
-found-again (e ∷ es) m found = elim (cases_Bool (is_holder m e.0)) [
-  | inl equal ↦ (0, e, omega arith, refl, sym (holder-same m e.0 equal))
-  | inr unlike ↦
-      let (k, x, within, is, has) = found-again es m (rw unlike at found) in
-      (suc k, x, omega (arith, within), is, has)
-]
+account-apart : (a b : Account) → is_same a b ≡ false → a ≢ b
+account-apart a b other same = false≢true (sym other ∙ ap (is_same a) (sym same) ∙ account-self a)
 
--- what is found once an entry more stands behind
-pub lookup-more : (entries : List Entry) (m : Holder) (acc : Balance) (q : Holder) → lookup (is_holder m) entries ≡ None
-    → lookup (is_holder q) (entries ++ (m, acc) ∷ []) ≡ cond (is_holder m q) (Some acc) (lookup (is_holder q) entries)
-lookup-more [] m acc q none = ap (λ b. cond b (Some acc) None) (holder-turned q m)
-lookup-more (e ∷ es) m acc q none = elim (cases_Bool (is_holder m e.0)) [
-  | inl equal ↦ absurd (cc (rw equal at none))
-  | inr unlike ↦ elim (cases_Bool (is_holder q e.0)) [
+-- the balance of an account is that of its member among those of its household
+balance-among : (found : Option Members) (member : List ℕ) → option_and_then (λ ms. balance_in ms member) found ≡ balance_in (unwrap_or found []) member
+balance-among None member = refl
+balance-among (Some members) member = refl
+
+-- a member more of a household has a balance by these books, and each other household is as it was
+pub record PutsIn (account : Account) (balance : Balance) (old new : List Book) : Type 0 where
+  pub own : HasJoined account.member balance (members_at old (holder_of account)) (members_at new (holder_of account))
+  pub others : (other : Holder) → is_holder (holder_of account) other ≡ false → found_in new other ≡ found_in old other
+
+-- so it is of a household that was there
+pub puts-joined : (account : Account) (balance : Balance) (before : Members) (old new : List Book) → found_in old (holder_of account) ≡ Some before
+    → JoinsIn (holder_of account) account.member balance old new → PutsIn account balance old new
+puts-joined account balance before old new is joined =
+    let own = joined.own before is in
+    let before_is : members_at old (holder_of account) ≡ before = ap (λ (o : Option Members). unwrap_or o []) is in
+    let after_is : members_at new (holder_of account) ≡ own.after = ap (λ (o : Option Members). unwrap_or o []) own.found in
+    record { own = rw (before_is, after_is) own.joined; others = joined.others }
+
+-- one member is a household that nobody else was in
+alone : (member : List ℕ) (balance : Balance) → HasJoined member balance [] ((member, balance) ∷ [])
+alone member balance = record { found = λ other. ap (λ (b : Bool). cond b (Some balance) None) (bytes-turned other member); met = refl; oop = refl }
+
+-- and of one that wasn't, in books in which there is room for the year
+pub puts-added : (account : Account) (balance : Balance) (old room new : List Book) → found_in old (holder_of account) ≡ None
+    → ((q : Holder) → found_in room q ≡ found_in old q)
+    → ((q : Holder) → found_in new q ≡ cond (is_holder (holder_of account) q) (Some ((account.member, balance) ∷ [])) (found_in room q)) → PutsIn account balance old new
+puts-added account balance old room new none same added =
+    let one : Members = (account.member, balance) ∷ [] in
+    let before_is : members_at old (holder_of account) ≡ [] = ap (λ (o : Option Members). unwrap_or o []) none in
+    let there : found_in new (holder_of account) ≡ Some one = added (holder_of account) ∙ ap (λ (b : Bool). cond b (Some one) (found_in room (holder_of account))) (holder-self (holder_of account)) in
+    let after_is : members_at new (holder_of account) ≡ one = ap (λ (o : Option Members). unwrap_or o []) there in
+    record {
+      own = rw (before_is, after_is) (alone account.member balance);
+      others = λ other unlike. added other ∙ ap (λ (b : Bool). cond b (Some one) (found_in room other)) unlike ∙ same other;
+    }
+
+module _ (account : Account) (balance : Balance) (old new : List Book) (puts : PutsIn account balance old new) where
+  -- the balance that an account has then
+  puts-found : (q : Account) → balance_of new q ≡ cond (is_same account q) (Some balance) (balance_of old q)
+  puts-found q = elim (cases_Bool (is_holder (holder_of account) (holder_of q))) [
     | inl here ↦
-        let same = holder-same q e.0 here in
-        let other : is_holder m q ≡ false = ap (is_holder m) same ∙ unlike in
-        rw (here, other) refl
-    | inr there ↦ rw there (lookup-more es m acc q (rw unlike at none))
+        let same : holder_of account ≡ holder_of q = holder-same (holder_of account) (holder_of q) here in
+        let before : balance_in (members_at old (holder_of account)) q.member ≡ balance_of old q =
+        ap (λ (h : Holder). balance_in (members_at old h) q.member) same ∙ sym (balance-among (found_in old (holder_of q)) q.member) in
+        balance-among (found_in new (holder_of q)) q.member ∙ ap (λ (h : Holder). balance_in (members_at new h) q.member) (sym same) ∙ puts.own.found q.member
+        ∙ ap (cond (bytes_eq account.member q.member) (Some balance)) before
+        ∙ ap (λ (b : Bool). cond (b && bytes_eq account.member q.member) (Some balance) (balance_of old q)) (sym here)
+    | inr other ↦
+        ap (option_and_then (λ ms. balance_in ms q.member)) (puts.others (holder_of q) other)
+        ∙ ap (λ (b : Bool). cond (b && bytes_eq account.member q.member) (Some balance) (balance_of old q)) (sym other)
   ]
-]
 
--- a member that isn't among the entries in a year begins it with nothing of theirs, another one with its entry
-opened-by : (b : Bool) (e : Entry) (es : List Entry) (q : Holder) → is_holder e.0 q ≡ b → lookup (is_holder e.0) es ≡ None
-    → opening (accounts_among es) (alone q.0 q.1) ≡ begins (lookup (is_holder q) es) → opening (accounts_among (e ∷ es)) (alone q.0 q.1) ≡ begins (lookup (is_holder q) (e ∷ es))
-opened-by true e es q here none rest =
-    let before = opening (accounts_among es) (alone q.0 q.1) in
-    let same = holder-same e.0 q here in
-    let found : is_holder q e.0 ≡ true = holder-turned q e.0 ∙ here in
-    let member : bytes_eq e.0.0 q.0 ≡ true = (bytes_eq-Decides e.0.0 q.0).1 (ap (λ (h : Holder). h.0) same) in
-    let nothing : before ≡ nothing_yet = rest ∙ ap (λ (x : Holder). begins (lookup (is_holder x) es)) (sym same) ∙ ap begins none in
-    ap (λ (b : Bool). joins (b && bytes_eq e.0.0 q.0) b e.1 before) here ∙ ap (λ (b : Bool). joins b true e.1 before) member ∙ joined-own e.1 before nothing
-    ∙ sym (ap (λ (b : Bool). begins (cond b (Some e.1) (lookup (is_holder q) es))) found)
-opened-by false e es q other none rest =
-    let before = opening (accounts_among es) (alone q.0 q.1) in
-    let missed : is_holder q e.0 ≡ false = holder-turned q e.0 ∙ other in
-    ap (λ (b : Bool). joins (b && bytes_eq e.0.0 q.0) b e.1 before) other ∙ joined-other e.1 before ∙ rest
-    ∙ sym (ap (λ (b : Bool). begins (cond b (Some e.1) (lookup (is_holder q) es))) missed)
+  -- what an account begins with then
+  puts-opened : AreOnce old → AreOnce new → (q : Account) → opening (accounts_of new) q ≡ joins (is_same account q) (is_household account q) balance (opening (accounts_of old) q)
+  puts-opened once_old once_new q =
+      let own = bytes_eq account.member q.member in
+      let first = opened-books new q once_new in
+      let last = ap (joins (is_same account q) (is_household account q) balance) (opened-books old q once_old) in
+      elim (cases_Bool (is_holder (holder_of account) (holder_of q))) [
+        | inl here ↦
+            let same : holder_of account ≡ holder_of q = holder-same (holder_of account) (holder_of q) here in
+            let before = members_at old (holder_of account) in
+            let after = members_at new (holder_of account) in
+            first ∙ ap (λ (h : Holder). begins_among (members_at new h) q.member) (sym same)
+            ∙ ap (begins after) (puts.own.found q.member)
+            ∙ sym (joined-house own balance before (balance_in before q.member) (met_of after) (oop_of after) puts.own.met puts.own.oop)
+            ∙ ap (λ (h : Holder). joins own true balance (begins_among (members_at old h) q.member)) same
+            ∙ ap (λ (b : Bool). joins (b && own) b balance (begins_among (members_at old (holder_of q)) q.member)) (sym here)
+            ∙ sym last
+        | inr other ↦
+            first ∙ ap (λ (o : Option Members). begins_among (unwrap_or o []) q.member) (puts.others (holder_of q) other)
+            ∙ sym (joined-other balance (begins_among (members_at old (holder_of q)) q.member))
+            ∙ ap (λ (b : Bool). joins (b && own) b balance (begins_among (members_at old (holder_of q)) q.member)) (sym other)
+            ∙ sym last
+      ]
 
--- what a member begins a year with by entries none of which stands twice
-pub opened : (es : List Entry) → AreOnceBy is_holder es → (q : Holder) → opening (accounts_among es) (alone q.0 q.1) ≡ begins (lookup (is_holder q) es)
-opened [] once q = refl
-opened (e ∷ es) once q = opened-by (is_holder e.0 q) e es q refl once.0 (opened es once.1 q)
+sums-turned : (x y z : ℤ) → x +ℤ y +ℤ z ≡ x +ℤ z +ℤ y
+sums-turned x y z = omega (arith, ints)
 
--- a member that no entry has isn't found
-unfound : (es : List Entry) (m : Holder) → ((k : ℕ) (d : Entry) → k < length es → ¬ (m ≡ (get_or es k d).0)) → lookup (is_holder m) es ≡ None
-unfound [] m none = refl
-unfound (e ∷ es) m none = elim (cases_Bool (is_holder m e.0)) [
-  | inl here ↦ absurd (none 0 e (omega arith) (holder-same m e.0 here))
-  | inr other ↦ rw other (unfound es m (λ k d within. none (suc k) d (omega (arith, within))))
-]
+-- two balances join in either order, where not both are the account's own
+joins-turned : (one mine other yours : Bool) (b c : Balance) (acc : Acc) → (one ≡ true → other ≡ true → ⊥)
+    → joins one mine b (joins other yours c acc) ≡ joins other yours c (joins one mine b acc)
+joins-turned true mine true yours b c acc apart = absurd (apart refl refl)
+joins-turned true mine false yours b c acc apart =
+    let fmet = sums-turned acc.fmet (part yours c.met) (part mine b.met) in
+    let foop = sums-turned acc.foop (part yours c.oop) (part mine b.oop) in
+    λ i. record { met = b.met; oop = b.oop; paid = b.paid; fmet = fmet i; foop = foop i }
+joins-turned false mine true yours b c acc apart =
+    let fmet = sums-turned acc.fmet (part yours c.met) (part mine b.met) in
+    let foop = sums-turned acc.foop (part yours c.oop) (part mine b.oop) in
+    λ i. record { met = c.met; oop = c.oop; paid = c.paid; fmet = fmet i; foop = foop i }
+joins-turned false mine false yours b c acc apart =
+    let fmet = sums-turned acc.fmet (part yours c.met) (part mine b.met) in
+    let foop = sums-turned acc.foop (part yours c.oop) (part mine b.oop) in
+    λ i. record { met = acc.met; oop = acc.oop; paid = acc.paid; fmet = fmet i; foop = foop i }
 
-pub once-pairs : (es : List Entry) → AllPairs (λ a b. ¬ (a.0 ≡ b.0)) es → AreOnceBy is_holder es
-once-pairs [] h = tt
-once-pairs (e ∷ es) h =
-    (unfound es e.0 (λ k d within. h 0 (suc k) d (omega arith) (omega (arith, within))), once-pairs es (λ i j d less within. h (suc i) (suc j) d (omega (arith, less)) (omega (arith, within))))
-
--- what isn't there is none
-none-there : {A : Type 0} (o : Option A) → is_some o ≡ false → o ≡ None
-none-there None e = refl
-none-there (Some x) e = cc e
+-- what an account begins with once an entry more stands behind those of other accounts
+opening-more : (es : List Entry) (account : Account) (balance : Balance) (q : Account) → All (λ e. e.0 ≢ account) es
+    → opening (es ++ (account, balance) ∷ []) q ≡ joins (is_same account q) (is_household account q) balance (opening es q)
+opening-more [] account balance q none = refl
+opening-more (e ∷ es) account balance q none =
+    let apart : is_same e.0 q ≡ true → is_same account q ≡ true → ⊥ =
+    λ first other. All-head (λ e. e.0 ≢ account) e es none (account-same e.0 q first ∙ sym (account-same account q other)) in
+    ap (joins (is_same e.0 q) (is_household e.0 q) e.1) (opening-more es account balance q (All-tail (λ e. e.0 ≢ account) e es none))
+    ∙ joins-turned (is_same e.0 q) (is_household e.0 q) (is_same account q) (is_household account q) e.1 balance (opening es q) apart
 
 -- no books have no entries
 pub holds-none : (books : List Book) → books ≡ [] → HoldsEntries [] books
 holds-none books empty = record {
   distinct = λ i j d less within. absurd (omega (arith, within));
-  once = subst AreOnce (sym empty) tt;
-  found = λ q. ap (λ bs. found_in bs q) empty;
+  once = subst AreOnce (sym empty) (λ k d within. absurd (omega (arith, within)));
+  found = λ account there. absurd (false≢true (ap (λ (bs : List Book). is_some (balance_of bs account)) (sym empty) ∙ there));
+  lacking = λ account none. All-nil (λ e. e.0 ≢ account);
+  given = λ account. ap (λ (bs : List Book). opening (accounts_of bs) account) empty;
 }
 
 -- the balances of entries and of one entry more
-pub holds-more : (entries : List Entry) (holder : Holder) (balance : Balance) (old new : List Book) → AreOnce new → HoldsEntries entries old
-    → is_some (found_in old holder) ≡ false → ((q : Holder) → found_in new q ≡ cond (is_holder holder q) (Some balance) (found_in old q))
-    → HoldsEntries (entries ++ (holder, balance) ∷ []) new
-holds-more entries holder balance old new once h absent updated =
-    let none : lookup (is_holder holder) entries ≡ None = sym (h.found holder) ∙ none-there (found_in old holder) absent in
+pub holds-more : (entries : List Entry) (account : Account) (balance : Balance) (old new : List Book) → AreOnce new → HoldsEntries entries old
+    → balance_of old account ≡ None → PutsIn account balance old new → HoldsEntries (entries ++ (account, balance) ∷ []) new
+holds-more entries account balance old new once h absent puts =
+    let none = h.lacking account absent in
+    let found = puts-found account balance old new puts in
     record {
-      distinct = all_pairs_push (λ a b. ¬ (a.0 ≡ b.0)) entries (holder, balance) h.distinct (not-found entries holder none);
+      distinct = all_pairs_push (λ a b. a.0 ≢ b.0) entries (account, balance) h.distinct none;
       once = once;
-      found = λ q. updated q ∙ ap (cond (is_holder holder q) (Some balance)) (h.found q) ∙ sym (lookup-more entries holder balance q none);
+      found = λ q there. elim (cases_Bool (is_same account q)) [
+        | inl here ↦ Any-push (λ e. e.0 ≡ q) entries (account, balance) (account-same account q here)
+        | inr other ↦
+            let is : balance_of new q ≡ balance_of old q = found q ∙ ap (λ (b : Bool). cond b (Some balance) (balance_of old q)) other in
+            any-more (λ e. e.0 ≡ q) entries (account, balance) (h.found q (ap is_some (sym is) ∙ there))
+      ];
+      lacking = λ q lacks. elim (cases_Bool (is_same account q)) [
+        | inl here ↦
+            let is : balance_of new q ≡ Some balance = found q ∙ ap (λ (b : Bool). cond b (Some balance) (balance_of old q)) here in
+            absurd (cc (sym is ∙ lacks))
+        | inr other ↦
+            let is : balance_of new q ≡ balance_of old q = found q ∙ ap (λ (b : Bool). cond b (Some balance) (balance_of old q)) other in
+            All-push (λ e. e.0 ≢ q) entries (account, balance) (h.lacking q (sym is ∙ lacks)) (account-apart account q other)
+      ];
+      given = λ q.
+          puts-opened account balance old new puts h.once once q ∙ ap (joins (is_same account q) (is_household account q) balance) (h.given q) ∙ sym (opening-more entries account balance q none);
     }
 
-module _ (years : Bool) where
+-- an entry that isn't refused has no balance there
+pub free-none : (found : Option Members) (member : List ℕ) (balance : Balance) → option_and_then (λ ms. refused_behind ms (balance_in ms member) balance) found ≡ None
+    → option_and_then (λ ms. balance_in ms member) found ≡ None
+free-none None member balance free = refl
+free-none (Some members) member balance free = lacking members (balance_in members member) balance free
+
+-- what is there is some, and what isn't is none
+some-there : {A : Type 0} (o : Option A) → is_some o ≡ true → (x : A) × (o ≡ Some x)
+some-there None there = absurd (false≢true there)
+some-there (Some x) there = (x, refl)
+
+none-there : {A : Type 0} (o : Option A) → is_some o ≡ false → o ≡ None
+none-there None there = refl
+none-there (Some x) there = absurd (false≢true (sym there))
+
+-- what is behind a reference is there where the reference is
+pub copied-there : (found : Option (Bor Members)) (is : Option Members) (b : Bool) → option_copied found ≡ is → is_some found ≡ b → is_some is ≡ b
+copied-there None is b copied there = ap is_some (sym copied) ∙ there
+copied-there (Some members) is b copied there = ap is_some (sym copied) ∙ there
+
+-- an entry that was put to a household that is there, under texts of its own, stands behind the others
+pub put-joined : {U E : Type 0} (account : Account) (family name : List ℕ) (balance : Balance) (old new : List Book) (put : Result U E) → family ≡ account.family → name ≡ account.member
+    → AreOnce new → is_some (found_in old (holder_of account)) ≡ true
+    → option_and_then (λ ms. refused_behind ms (balance_in ms account.member) balance) (found_in old (holder_of account)) ≡ None
+    → OnOk put (JoinsIn (family, account.year) name balance old new) → OnOk put ((front : List Entry) → HoldsEntries front old → HoldsEntries (front ++ (account, balance) ∷ []) new)
+put-joined account family name balance old new (Ok u) lives named once there free joined =
+    let (before, is) = some-there (found_in old (holder_of account)) there in
+    let absent = free-none (found_in old (holder_of account)) account.member balance free in
+    λ front h. holds-more front account balance old new once h absent (puts-joined account balance before old new is (rw (lives, named) at joined))
+put-joined account family name balance old new (Err e) lives named once there free joined = tt
+
+-- so does one whose household wasn't there
+pub put-added : {U E : Type 0} (account : Account) (family name : List ℕ) (household : Members) (balance : Balance) (old room new : List Book) (put : Result U E)
+    → family ≡ account.family → name ≡ account.member → household ≡ (name, balance) ∷ [] → AreOnce new → is_some (found_in old (holder_of account)) ≡ false
+    → ((q : Holder) → found_in room q ≡ found_in old q)
+    → OnOk put ((q : Holder) → found_in new q ≡ cond (is_holder (family, account.year) q) (Some household) (found_in room q))
+    → OnOk put ((front : List Entry) → HoldsEntries front old → HoldsEntries (front ++ (account, balance) ∷ []) new)
+put-added account family name household balance old room new (Ok u) lives named one once lacks same added =
+    let none = none-there (found_in old (holder_of account)) lacks in
+    let absent : balance_of old account ≡ None = ap (option_and_then (λ ms. balance_in ms account.member)) none in
+    let puts = puts-added account balance old room new none same (rw (one, lives, named) at added) in
+    λ front h. holds-more front account balance old new once h absent puts
+put-added account family name household balance old room new (Err e) lives named one once lacks same added = tt
+
+-- what a refusal says of the members that it is made by
+abbrev Says : Members → Option Balance → Balance → Refusal → Type 0
+Says members own balance Again = IsSome own
+Says members own balance Met = (own ≡ None) × (is_in_range (met_of members +ℤ balance.met) ≡ false)
+Says members own balance Oop = (own ≡ None) × (is_in_range (met_of members +ℤ balance.met) ≡ true) × (is_in_range (oop_of members +ℤ balance.oop) ≡ false)
+
+sums-say : (members : Members) (balance : Balance) (met oop : Bool) (refusal : Refusal) → is_in_range (met_of members +ℤ balance.met) ≡ met
+    → is_in_range (oop_of members +ℤ balance.oop) ≡ oop → (if met then (if oop then None else Some Oop) else Some Met) ≡ Some refusal → Says members None balance refusal
+sums-say members balance true true refusal is_met is_oop e = absurd (cc e)
+sums-say members balance true false Oop is_met is_oop e = (refl, is_met, is_oop)
+sums-say members balance true false Again is_met is_oop e = absurd (cc e)
+sums-say members balance true false Met is_met is_oop e = absurd (cc e)
+sums-say members balance false oop Met is_met is_oop e = (refl, is_met)
+sums-say members balance false oop Again is_met is_oop e = absurd (cc e)
+sums-say members balance false oop Oop is_met is_oop e = absurd (cc e)
+
+refusal-says : (members : Members) (own : Option Balance) (balance : Balance) (refusal : Refusal) → refused_behind members own balance ≡ Some refusal → Says members own balance refusal
+refusal-says members (Some own) balance Again e = refl
+refusal-says members (Some own) balance Met e = absurd (cc e)
+refusal-says members (Some own) balance Oop e = absurd (cc e)
+refusal-says members None balance refusal e =
+    sums-say members balance (is_in_range (met_of members +ℤ balance.met)) (is_in_range (oop_of members +ℤ balance.oop)) refusal refl refl e
+
+-- so it is made by members that are found
+found-says : (found : Option Members) (member : List ℕ) (balance : Balance) (refusal : Refusal)
+    → option_and_then (λ ms. refused_behind ms (balance_in ms member) balance) found ≡ Some refusal → Says (unwrap_or found []) (option_and_then (λ ms. balance_in ms member) found) balance refusal
+found-says None member balance refusal e = absurd (cc e)
+found-says (Some members) member balance refusal e = refusal-says members (balance_in members member) balance refusal e
+
+contents-count : (families years : Bool)
+    → length (family_contents families ++ Identifier ∷ (year_contents years ++ Money ∷ Money ∷ Money ∷ [])) ≡ length (family_columns families) + length (year_columns years) + 4
+contents-count false false = refl
+contents-count false true = refl
+contents-count true false = refl
+contents-count true true = refl
+
+-- each refusal is told at a column that is there
+pub told-within : (version : ℕ) (layout : Layout) (refusal : Refusal) → IsBalanceLayout version layout → refusal_place version refusal < length layout.columns
+told-within version layout refusal contents =
+    let count : length layout.columns ≡ length (family_columns (has_families version)) + length (year_columns (has_years version)) + 4 =
+    sym (length-map layout.columns (λ c. c.content)) ∙ ap length contents ∙ contents-count (has_families version) (has_years version) in
+    within refusal count
+  where
+    within : (r : Refusal) → length layout.columns ≡ length (family_columns (has_families version)) + length (year_columns (has_years version)) + 4
+        → refusal_place version r < length layout.columns
+    within Again count = omega (arith, count)
+    within Met count = omega (arith, count)
+    within Oop count = omega (arith, count)
+
+module _ (version : ℕ) where
+  -- the fault of a record whose entry is refused behind others
+  module _ (layout : Layout) (front : List Entry) (balances : List Book) (fields : Fields) (entry : Entry) (fault : RowFault)
+      (contents : IsBalanceLayout version layout) (read : IsEntry version layout fields entry) (h : HoldsEntries front balances) where
+    -- what its account begins with, and its family, with it
+    opened-with : balance_of balances entry.0 ≡ None → opening_with front entry ≡ joins true true entry.1 (begins (members_at balances (holder_of entry.0)) None)
+    opened-with absent =
+        let members = members_at balances (holder_of entry.0) in
+        let nobody : balance_in members entry.0.member ≡ None = sym (balance-among (found_in balances (holder_of entry.0)) entry.0.member) ∙ absent in
+        let before : opening front entry.0 ≡ begins members None = sym (h.given entry.0) ∙ opened-books balances entry.0 h.once ∙ ap (begins members) nobody in
+        opening-more front entry.0 entry.1 entry.0 (h.lacking entry.0 absent)
+        ∙ ap (λ (b : Bool). joins b (is_household entry.0 entry.0) entry.1 (opening front entry.0)) (account-self entry.0)
+        ∙ ap (λ (b : Bool). joins true b entry.1 (opening front entry.0)) (holder-self (holder_of entry.0)) ∙ ap (joins true true entry.1) before
+
+    refuses-said : (refusal : Refusal) → Says (members_at balances (holder_of entry.0)) (balance_of balances entry.0) entry.1 refusal
+        → ((column : Column) → slice_get layout.columns (refusal_place version refusal) ≡ Some column → fault ≡ record { column = column.place + 1; cause = refusal_cause refusal })
+        → IsRecordFault version layout front fields fault
+    refuses-said Again known told =
+        let d : Column = record { place = 0; content = Identifier } in
+        let stands = slice_get-get_or layout.columns (refusal_place version Again) d (told-within version layout Again contents) in
+        let column = get_or layout.columns (refusal_place version Again) d in
+        inr (inl (record { entry = entry; read = read; again = h.found entry.0 known; told = record { column = column; stands = stands; fault_is = told column stands } }))
+    refuses-said Met (absent, beyond) told =
+        let d : Column = record { place = 0; content = Identifier } in
+        let stands = slice_get-get_or layout.columns (refusal_place version Met) d (told-within version layout Met contents) in
+        let column = get_or layout.columns (refusal_place version Met) d in
+        let met = ap (λ (acc : Acc). is_in_range acc.fmet) (opened-with absent) in
+        inr (inr (record {
+          entry = entry;
+          read = read;
+          new = h.lacking entry.0 absent;
+          place = refusal_place version Met;
+          sum = inl (met ∙ beyond, refl);
+          told = record { column = column; stands = stands; fault_is = told column stands };
+        }))
+    refuses-said Oop (absent, within, beyond) told =
+        let d : Column = record { place = 0; content = Identifier } in
+        let stands = slice_get-get_or layout.columns (refusal_place version Oop) d (told-within version layout Oop contents) in
+        let column = get_or layout.columns (refusal_place version Oop) d in
+        let met = ap (λ (acc : Acc). is_in_range acc.fmet) (opened-with absent) in
+        let oop = ap (λ (acc : Acc). is_in_range acc.foop) (opened-with absent) in
+        inr (inr (record {
+          entry = entry;
+          read = read;
+          new = h.lacking entry.0 absent;
+          place = refusal_place version Oop;
+          sum = inr (met ∙ within, oop ∙ beyond, refl);
+          told = record { column = column; stands = stands; fault_is = told column stands };
+        }))
+
+  pub refuses-entry : (layout : Layout) (fields : Fields) (entry : Entry) (refusal : Refusal) (balances : List Book) (fault : RowFault)
+      → IsBalanceLayout version layout → IsEntry version layout fields entry
+      → option_and_then (λ ms. refused_behind ms (balance_in ms entry.0.member) entry.1) (found_in balances (holder_of entry.0)) ≡ Some refusal
+      → ((column : Column) → slice_get layout.columns (refusal_place version refusal) ≡ Some column → fault ≡ record { column = column.place + 1; cause = refusal_cause refusal })
+      → (front : List Entry) → HoldsEntries front balances → IsRecordFault version layout front fields fault
+  refuses-entry layout fields entry refusal balances fault contents read refused told front h =
+      refuses-said layout front balances fields entry fault contents read h refusal (found-says (found_in balances (holder_of entry.0)) entry.0.member entry.1 refusal refused) told
+
   -- these many records behind the header hold entries, which the balances have
   pub record ReadBefore (layout : Layout) (records : List Fields) (count : ℕ) (balances : List Book) : Type 0 where
     pub entries : List Entry
-    pub each : AllZip (IsEntry years layout) (take count records) entries
+    pub each : AllZip (IsEntry version layout) (take count records) entries
     pub holds : HoldsEntries entries balances
 
   -- no record is read yet
@@ -164,21 +373,21 @@ module _ (years : Bool) where
   -- one record more holds an entry
   pub read-next : (layout : Layout) (all : List Fields) (count : ℕ) (fields : Fields) (more : List Fields) (old new : List Book) → drop (count + 1) all ≡ fields ∷ more
       → ReadBefore layout (drop 1 all) count old
-      → ((front : List Entry) → HoldsEntries front old → (entry : Entry) × IsEntry years layout fields entry × HoldsEntries (front ++ entry ∷ []) new)
+      → ((front : List Entry) → HoldsEntries front old → (entry : Entry) × IsEntry version layout fields entry × HoldsEntries (front ++ entry ∷ []) new)
       → ReadBefore layout (drop 1 all) (count + 1) new
   read-next layout all count fields more old new next before step =
       let (entry, read, holds) = step before.entries before.holds in
       let taken = (next-at all count fields more next).1 in
       record {
         entries = before.entries ++ entry ∷ [];
-        each = rw taken (AllZip-grow (IsEntry years layout) (take count (drop 1 all)) before.entries fields entry before.each read);
+        each = rw taken (AllZip-grow (IsEntry version layout) (take count (drop 1 all)) before.entries fields entry before.each read);
         holds = holds;
       }
 
   -- one record more is refused
   pub refused-next : (text : List ℕ) (layout : Layout) (all : List Fields) (count : ℕ) (fields : Fields) (more : List Fields) (balances : List Book) (fault : RowFault)
-      → IsSheet (balance_columns years) text layout (drop 1 all) → drop (count + 1) all ≡ fields ∷ more → ReadBefore layout (drop 1 all) count balances
-      → ((front : List Entry) → HoldsEntries front balances → IsRecordFault years layout front fields fault) → RefusesRecord years text (count + 1) fault
+      → IsSheet (balance_columns version) text layout (drop 1 all) → drop (count + 1) all ≡ fields ∷ more → ReadBefore layout (drop 1 all) count balances
+      → ((front : List Entry) → HoldsEntries front balances → IsRecordFault version layout front fields fault) → RefusesRecord version text (count + 1) fault
   refused-next text layout all count fields more balances fault sheet next before reason =
       let back : count + 1 - 1 ≡ count = omega arith in
       record {
@@ -194,8 +403,8 @@ module _ (years : Bool) where
       }
 
   -- all records hold entries
-  pub read-all : (text : List ℕ) (layout : Layout) (all : List Fields) (count : ℕ) (balances : List Book) → IsSheet (balance_columns years) text layout (drop 1 all)
-      → drop (count + 1) all ≡ [] → ReadBefore layout (drop 1 all) count balances → AreBalances years text balances
+  pub read-all : (text : List ℕ) (layout : Layout) (all : List Fields) (count : ℕ) (balances : List Book) → IsSheet (balance_columns version) text layout (drop 1 all)
+      → drop (count + 1) all ≡ [] → ReadBefore layout (drop 1 all) count balances → AreBalances version text balances
   read-all text layout all count balances sheet over before =
       let taken = rw append-nil at (sym (ap (λ rest. take count (drop 1 all) ++ rest) (sym (drop-after all count) ∙ over)) ∙ take-append-drop count (drop 1 all)) in
       let held = before.holds in
@@ -205,51 +414,5 @@ module _ (years : Bool) where
         entries = before.entries;
         sheet = sheet;
         read = record { each = rw (← taken) before.each; distinct = held.distinct };
-        given = λ member year.
-            opened-books balances member year held.once ∙ ap begins (held.found (member, year)) ∙ sym (opened before.entries (once-pairs before.entries held.distinct) (member, year));
+        given = held.given;
       }
-
-  -- a file of balances has columns
-  pub has-columns : (layout : Layout) → IsBalanceLayout years layout → 0 < length layout.columns
-  has-columns layout contents =
-      let size = ap length contents in
-      let mapped = length-map layout.columns (λ c. c.content) in
-      omega (arith, size, mapped)
-
-  -- the fault of a record whose member stands among the entries in its year
-  pub repeats : (layout : Layout) (front : List Entry) (balances : List Book) (fields : Fields) (entry : Entry) (d : Column)
-      → IsBalanceLayout years layout → IsEntry years layout fields entry
-      → HoldsEntries front balances → is_some (found_in balances entry.0) ≡ true
-      → IsRecordFault years layout front fields (record { column = (get_or layout.columns 0 d).place + 1; cause = Repeated })
-  repeats layout front balances fields entry d contents read h known =
-      inr (record {
-        entry = entry;
-        read = read;
-        again = found-again front entry.0 (ap is_some (sym (h.found entry.0)) ∙ known);
-        column = get_or layout.columns 0 d;
-        member = slice_get-get_or layout.columns 0 d (has-columns layout contents);
-        fault_is = refl;
-      })
-
-  -- an entry that was taken in stands behind the others
-  pub takes-entry : {U E : Type 0} (layout : Layout) (fields : Fields) (holder : Holder) (balance : Balance) (old new : List Book) (taken : Result (Result U RowFault) E)
-      → IsEntry years layout fields (holder, balance) → AreOnce new
-      → IfOk taken (λ t. OnOk t (is_some (found_in old holder) ≡ false))
-      → IfOk taken (λ t. OnOk t ((q : Holder) → found_in new q ≡ cond (is_holder holder q) (Some balance) (found_in old q)))
-      → IfOk taken (λ t. OnOk t ((front : List Entry) → HoldsEntries front old → (entry : Entry) × IsEntry years layout fields entry × HoldsEntries (front ++ entry ∷ []) new))
-  takes-entry layout fields holder balance old new (Ok (Ok u)) read once absent found =
-      λ front h. ((holder, balance), read, holds-more front holder balance old new once h absent found)
-  takes-entry layout fields holder balance old new (Ok (Err fault)) read once absent found = tt
-  takes-entry layout fields holder balance old new (Err e) read once absent found = tt
-
-  -- and one that was not is refused at the first column, since its member stands there
-  pub refuses-entry : {U E : Type 0} (layout : Layout) (fields : Fields) (holder : Holder) (balance : Balance) (old : List Book) (columns : List Column) (d : Column)
-      → (taken : Result (Result U RowFault) E) → IsBalanceLayout years layout → columns ≡ layout.columns → IsEntry years layout fields (holder, balance)
-      → IfOk taken (λ t. IfErr t (λ fault. is_some (found_in old holder) ≡ true))
-      → IfOk taken (λ t. IfErr t (λ fault. fault ≡ record { column = (get_or columns 0 d).place + 1; cause = Repeated }))
-      → IfOk taken (λ t. IfErr t (λ fault. (front : List Entry) → HoldsEntries front old → IsRecordFault years layout front fields fault))
-  refuses-entry layout fields holder balance old columns d (Ok (Ok u)) contents same read known told = tt
-  refuses-entry layout fields holder balance old columns d (Ok (Err fault)) contents same read known told =
-      let there = rw same at told in
-      λ front h. subst (IsRecordFault years layout front fields) (sym there) (repeats layout front old fields (holder, balance) d contents read h known)
-  refuses-entry layout fields holder balance old columns d (Err e) contents same read known told = tt

@@ -14,3 +14,4 @@ pub mod OneField
 pub mod OneRow
 pub mod SomeRow
 pub mod Spelling
+pub mod Households

@@ -1,5 +1,5 @@
 -- The kinds of a record's values, by the columns that they stand under.
-use Rattle.std.proofs.Common.{◌≡◌, ℕ, ℤ, Bool, true, false, List, [], ◌∷◌, ◌++◌, map, codes, Some, None, refl, ap, sym, subst, ◌∙◌}
+use Rattle.std.proofs.Common.{◌≡◌, ℕ, ℤ, Bool, true, false, List, [], ◌∷◌, ◌++◌, map, codes, Option, Some, None, is_some, refl, ap, sym, subst, ◌∙◌}
 use Rattle.std.specs.Int.{IsInRange}
 use Rattle.std.specs.List.{AllZip, slice_get}
 use Rattle.std.specs.Option.{option_map_or}
@@ -8,14 +8,15 @@ use Rattle.feel_tests.specs.declared.kind.Kind.TheVariants as kinds
 use Rattle.feel_tests.specs.declared.value.Value.{Value}
 use Rattle.feel_tests.specs.declared.value.Value.TheVariants.{Number, Text, Flag, Day}
 use Rattle.feel_tests.specs.Calendar.{year_text}
+use Rattle.dtable.specs.Plan.{has_families, has_years}
 use Rattle.dtable.specs.declared.table.InputData.{InputData}
-use Rattle.settlement.specs.declared.account.Balance.{Balance}
+use Rattle.settlement.specs.Given.{behind_family}
 use Rattle.intake_csv.specs.Records.{Fields}
-use Rattle.intake_csv.specs.Columns.{AreColumnsOf, balance_columns, claim_columns, fields_among, have_family, needed, own_columns}
+use Rattle.intake_csv.specs.Columns.{AreColumnsOf, balance_columns, claim_columns, family_columns, fields_among, have_family, needed, own_columns, year_columns}
 use Rattle.intake_csv.specs.Fields.{Holds}
 use Rattle.intake_csv.specs.Rows.{HoldsUnder}
 use Rattle.intake_csv.specs.Record.{IsClaimLayout, IsClaimShaped, family_contents, is_identifier}
-use Rattle.intake_csv.specs.Balances.{AreAmounts, BeginsWithYear, IsEntryShaped, balance_values, entry_values, year_contents, year_values}
+use Rattle.intake_csv.specs.Balances.{AreAmounts, IsBalanceLayout, IsEntryShaped, IsKept, year_contents, year_values}
 use Rattle.intake_csv.specs.declared.column.Column.{Column}
 use Rattle.intake_csv.specs.declared.column.Layout.{Layout}
 use Rattle.intake_csv.specs.declared.column.Needed.{Needed}
@@ -150,12 +151,20 @@ amounts fields (b ∷ c ∷ d ∷ []) (w ∷ x ∷ y ∷ []) e h =
       paid_money = paid_money;
     }
 
--- the values of an entry of balances
-pub entry-shaped : (years : Bool) (fields : Fields) (columns : List Column) (values : List Value)
-    → map (λ c. c.content) columns ≡ Identifier ∷ (year_contents years ++ Money ∷ Money ∷ Money ∷ []) → AllZip (HoldsUnder fields) columns values → IsEntryShaped years values
-entry-shaped years fields [] values e h = absurd (cc e)
-entry-shaped years fields (a ∷ columns) [] e h = absurd h
-entry-shaped false fields (a ∷ columns) (v ∷ values) e h =
+-- the values of an entry from its member on
+record IsEntryBehind (years : Bool) (values : List Value) : Type 0 where
+  pub member : List ℕ
+  pub year : ℕ
+  pub amounts : List Value
+  pub values_are : values ≡ Text member ∷ (year_values years year ++ amounts)
+  pub kept : IsKept years year
+  pub are_amounts : AreAmounts amounts
+
+entry-behind : (years : Bool) (fields : Fields) (columns : List Column) (values : List Value)
+    → map (λ c. c.content) columns ≡ Identifier ∷ (year_contents years ++ Money ∷ Money ∷ Money ∷ []) → AllZip (HoldsUnder fields) columns values → IsEntryBehind years values
+entry-behind years fields [] values e h = absurd (cc e)
+entry-behind years fields (a ∷ columns) [] e h = absurd h
+entry-behind false fields (a ∷ columns) (v ∷ values) e h =
     let ea : a.content ≡ Identifier = cc e in
     let others : map (λ c. c.content) columns ≡ Money ∷ Money ∷ Money ∷ [] = cc e in
     let (member, is_member) = text-value a.content h.0.bytes v ea h.0.holds in
@@ -167,9 +176,9 @@ entry-shaped false fields (a ∷ columns) (v ∷ values) e h =
       kept = refl;
       are_amounts = amounts fields columns values others h.1;
     }
-entry-shaped true fields (a ∷ []) (v ∷ values) e h = absurd (cc e)
-entry-shaped true fields (a ∷ b ∷ columns) (v ∷ []) e h = absurd h.1
-entry-shaped true fields (a ∷ b ∷ columns) (v ∷ w ∷ values) e h =
+entry-behind true fields (a ∷ []) (v ∷ values) e h = absurd (cc e)
+entry-behind true fields (a ∷ b ∷ columns) (v ∷ []) e h = absurd h.1
+entry-behind true fields (a ∷ b ∷ columns) (v ∷ w ∷ values) e h =
     let ea : a.content ≡ Identifier = cc e in
     let eb : b.content ≡ Year = cc e in
     let others : map (λ c. c.content) columns ≡ Money ∷ Money ∷ Money ∷ [] = cc e in
@@ -184,28 +193,49 @@ entry-shaped true fields (a ∷ b ∷ columns) (v ∷ w ∷ values) e h =
       are_amounts = amounts fields columns values others h.1.1;
     }
 
--- what stands behind the member begins with the year
-pub year-first : (years : Bool) (values : List Value) (shaped : IsEntryShaped years values) (member : List ℕ) (behind : List Value) → values ≡ Text member ∷ behind → BeginsWithYear years behind
-year-first years values shaped member behind e =
-    let rest : behind ≡ year_values years shaped.year ++ shaped.amounts = cc (sym e ∙ shaped.values_are) in
-    (shaped.year, shaped.amounts, (rest, shaped.kept))
+-- and with the family in front, where there is a column for it
+record IsEntryBy (families years : Bool) (values : List Value) : Type 0 where
+  pub family : Option (List ℕ)
+  pub has_family : is_some family ≡ families
+  pub behind : List Value
+  pub values_are : values ≡ behind_family family behind
+  pub entry : IsEntryBehind years behind
 
-same-rest : (years : Bool) (y z : ℕ) (rest left : List Value) → year_values years y ++ rest ≡ year_values years z ++ left → rest ≡ left
-same-rest true y z rest left e = cc e
-same-rest false y z rest left e = e
+entry-by : (families years : Bool) (fields : Fields) (columns : List Column) (values : List Value)
+    → map (λ c. c.content) columns ≡ family_contents families ++ Identifier ∷ (year_contents years ++ Money ∷ Money ∷ Money ∷ []) → AllZip (HoldsUnder fields) columns values
+    → IsEntryBy families years values
+entry-by false years fields columns values e h =
+    record { family = None; has_family = refl; behind = values; values_are = refl; entry = entry-behind years fields columns values e h }
+entry-by true years fields [] values e h = absurd (cc e)
+entry-by true years fields (a ∷ columns) [] e h = absurd h
+entry-by true years fields (a ∷ columns) (v ∷ values) e h =
+    let ea : a.content ≡ Identifier = cc e in
+    let others : map (λ c. c.content) columns ≡ Identifier ∷ (year_contents years ++ Money ∷ Money ∷ Money ∷ []) = cc e in
+    let (family, is_family) = text-value a.content h.0.bytes v ea h.0.holds in
+    record {
+      family = Some family;
+      has_family = refl;
+      behind = values;
+      values_are = ap (λ (f : Value). f ∷ values) is_family;
+      entry = entry-behind years fields columns values others h.1;
+    }
 
--- and behind the year the amounts
-pub amounts-behind : (years : Bool) (values : List Value) (shaped : IsEntryShaped years values) (member : List ℕ) (behind left : List Value) (year : ℕ)
-    → values ≡ Text member ∷ behind → behind ≡ year_values years year ++ left → AreAmounts left
-amounts-behind years values shaped member behind left year e f =
-    let rest : behind ≡ year_values years shaped.year ++ shaped.amounts = cc (sym e ∙ shaped.values_are) in
-    subst AreAmounts (same-rest years shaped.year year shaped.amounts left (sym rest ∙ f)) shaped.are_amounts
-
--- the values of an entry, taken one after another
-pub entry-taken : (years : Bool) (values behind left : List Value) (member : List ℕ) (year : ℕ) (balance : Balance) → values ≡ Text member ∷ behind
-    → behind ≡ year_values years year ++ left → left ≡ balance_values balance → values ≡ entry_values years ((member, year), balance)
-entry-taken years values behind left member year balance e f g =
-    e ∙ ap (λ vs. Text member ∷ vs) (f ∙ ap (λ vs. year_values years year ++ vs) g)
+-- the values of an entry of balances
+pub entry-shaped : (version : ℕ) (fields : Fields) (columns : List Column) (values : List Value)
+    → map (λ c. c.content) columns ≡ family_contents (has_families version) ++ Identifier ∷ (year_contents (has_years version) ++ Money ∷ Money ∷ Money ∷ [])
+    → AllZip (HoldsUnder fields) columns values → IsEntryShaped version values
+entry-shaped version fields columns values e h =
+    let s = entry-by (has_families version) (has_years version) fields columns values e h in
+    record {
+      family = s.family;
+      has_family = s.has_family;
+      member = s.entry.member;
+      year = s.entry.year;
+      amounts = s.entry.amounts;
+      values_are = s.values_are ∙ ap (behind_family s.family) s.entry.values_are;
+      kept = s.entry.kept;
+      are_amounts = s.entry.are_amounts;
+    }
 
 -- the columns of a file of claims: whether there is one for families is told by the third of them
 record AreOwnColumns (families : Bool) (columns : List Column) : Type 0 where
@@ -247,9 +277,21 @@ amount-layout header (b ∷ c ∷ []) h = absurd h.1.1
 amount-layout header (b ∷ c ∷ d ∷ z ∷ zs) h = absurd h.1.1.1
 amount-layout header (b ∷ c ∷ d ∷ []) h = rw (h.0.content, h.1.0.content, h.1.1.0.content) refl
 
-pub balance-layout : (years : Bool) (header : Fields) (columns : List Column) → AreColumnsOf header (balance_columns years) columns
+behind-layout : (years : Bool) (header : Fields) (columns : List Column)
+    → AreColumnsOf header (needed (codes "member") Identifier ∷ (year_columns years ++ needed (codes "met") Money ∷ needed (codes "oop") Money ∷ needed (codes "paid") Money ∷ [])) columns
     → map (λ c. c.content) columns ≡ Identifier ∷ (year_contents years ++ Money ∷ Money ∷ Money ∷ [])
-balance-layout years header [] h = absurd h
-balance-layout false header (a ∷ columns) h = rw (h.0.content, amount-layout header columns h.1) refl
-balance-layout true header (a ∷ []) h = absurd h.1
-balance-layout true header (a ∷ b ∷ columns) h = rw (h.0.content, h.1.0.content, amount-layout header columns h.1.1) refl
+behind-layout years header [] h = absurd h
+behind-layout false header (a ∷ columns) h = rw (h.0.content, amount-layout header columns h.1) refl
+behind-layout true header (a ∷ []) h = absurd h.1
+behind-layout true header (a ∷ b ∷ columns) h = rw (h.0.content, h.1.0.content, amount-layout header columns h.1.1) refl
+
+layout-by : (families years : Bool) (header : Fields) (columns : List Column)
+    → AreColumnsOf header (family_columns families ++ needed (codes "member") Identifier
+    ∷ (year_columns years ++ needed (codes "met") Money ∷ needed (codes "oop") Money ∷ needed (codes "paid") Money ∷ [])) columns
+    → map (λ c. c.content) columns ≡ family_contents families ++ Identifier ∷ (year_contents years ++ Money ∷ Money ∷ Money ∷ [])
+layout-by false years header columns h = behind-layout years header columns h
+layout-by true years header [] h = absurd h
+layout-by true years header (a ∷ columns) h = rw (h.0.content, behind-layout years header columns h.1) refl
+
+pub balance-layout : (version : ℕ) (header : Fields) (layout : Layout) → AreColumnsOf header (balance_columns version) layout.columns → IsBalanceLayout version layout
+balance-layout version header layout h = layout-by (has_families version) (has_years version) header layout.columns h

@@ -1,5 +1,5 @@
 -- The balances of a text: what accounts begin with.
-use Rattle.std.specs.Prelude.{◌≡◌, ◌≢◌, ◌≤◌, ◌+◌, ◌-◌, ◌⊎◌, ◌==◌, ◌&&◌, ◌++◌, ℕ, ℤ, suc, Bool, true, false, List, map, flat_map, [], ◌∷◌, get_or, take, Option, Some, None, is_some, string_bytes}
+use Rattle.std.specs.Prelude.{◌≡◌, ◌≢◌, ◌≤◌, ◌+◌, ◌-◌, ◌⊎◌, ◌==◌, ◌&&◌, ◌++◌, ℕ, suc, Bool, true, false, List, map, flat_map, [], ◌∷◌, get_or, take, Option, Some, None, is_some, string_bytes}
 use Rattle.std.specs.Int.{IsInRange}
 use Rattle.std.specs.List.{All, AllPairs, AllZip, Any, slice_get}
 use Rattle.std.specs.Map.{lookup}

@@ -2,6 +2,7 @@
 ghost use Rattle.std.specs.Prelude.{◌≡◌, ◌≤◌, ◌<◌, ◌+◌, ◌++◌, ◌∷◌, [], List, length, map, drop, get_or, cond, string_bytes, IfOk, IfErr, OnOk, slice_index_or, IsSome, None, Some};
 ghost use Rattle.std.specs.List.{slice_get};
 ghost use Rattle.std.specs.Option.{option_and_then, option_copied};
+ghost use Rattle.std.specs.Str.{bytes_eq};
 ghost use Rattle.std.specs.Vec.Iter.{into_iter_items};
 ghost use Rattle.csv.specs.Records.{fields_of};
 ghost use Rattle.dtable.specs.Plan.{has_families, has_years};
@@ -9,7 +10,7 @@ ghost use Rattle.settlement.specs.Accounts.{named_or};
 ghost use Rattle.settlement.specs.Opening.{opening};
 ghost use Rattle.intake_csv.specs.Balances.{AreAmounts, AreBalances, AreOnce, BeginsWithYear, Entry as AnyEntry, Holder as AnyHolder, HasBalanceFault, HoldsEntries, IsBalanceLayout, JoinsIn, IsEntry, IsEntryShaped, IsKeptUnder, IsRecordFault, TakesYear, accounts_of, balance_values, books_of, entry_values, found_in, is_holder, refusal_cause, refusal_place};
 ghost use Rattle.intake_csv.specs.Columns.{balance_columns, member_place, met_place, year_columns};
-ghost use Rattle.intake_csv.specs.Households.{balance_in, refused_behind};
+ghost use Rattle.intake_csv.specs.Households.{AreOnceBy, balance_in, refused_behind};
 ghost use Rattle.intake_csv.specs.Rows.{HasFault};
 ghost use Rattle.intake_csv.specs.Sheet.{IsWithin};
 ghost use Rattle.intake_csv.specs.declared.column.Column.{Column as AnyColumn};
@@ -115,6 +116,7 @@ impl Balances {
     /// The accumulators that the account of a member of a family begins with in a year: its own are zeros where the balances don't
     /// name it; the family's are sums over all its members. Where accumulators aren't kept by the year, the year is 0; where they
     /// aren't kept for families, the member is the family, too.
+    #[tactic(auto, using(crate::proofs::Books::begun_some, crate::proofs::Books::begun_none))]
     pub fn of(&self, family: &str, member: &str, year: u16) -> Acc
         ensures { result ≡ opening (accounts_of self.now) (record { family = family.now; member = member.now; year = year }) }
     {
@@ -164,6 +166,7 @@ impl Balances {
     }
 
     // Why an entry can't be put behind the others, if it can't.
+    #[tactic(auto, using(crate::proofs::Books::refused_some))]
     fn refusal(&self, entry: &Entry) -> Option<Refusal>
         ensures { result ≡ option_and_then (λ members. refused_behind members (balance_in members entry.now.member) entry.now.balance)
             (found_in self.now (named_or entry.now.family entry.now.member, entry.now.year)) }
@@ -200,7 +203,8 @@ impl Balances {
 
 // The fault that tells a refusal, at the column that it is told at.
 fn fault_of(layout: &Layout, version: u8, refusal: Refusal) -> RowFault
-    requires { refusal_place version refusal < length layout.now.columns }
+    requires within { IsWithin layout.now }
+    requires there { refusal_place version refusal < length layout.now.columns }
     ensures { (column : AnyColumn) → slice_get layout.now.columns (refusal_place version refusal) ≡ Some column
         → result ≡ record { column = column.place + 1; cause = refusal_cause refusal } }
 {
@@ -281,14 +285,14 @@ fn add_year(alloc: Global, years: &mut Vec<BTreeMap<String, Household>>) -> Resu
 }
 
 // Adds the household of a family that isn't there in a year for which there is room.
-#[tactic(auto, using(crate::proofs::Books::put_found, crate::proofs::Books::put_once))]
 fn add(
     years: &mut Vec<BTreeMap<String, Household>>,
     family: String,
     year: u16,
     household: Household,
 ) -> Result<(), AllocError>
-    requires { year < length years.old.items }
+    requires room { year < length years.old.items }
+    requires once { AreOnceBy bytes_eq household }
     ensures added { OnOk result ((holder : AnyHolder) → found_in (books_of years.new.items) holder
         ≡ cond (is_holder (string_bytes family, year) holder) (Some household) (found_in (books_of years.old.items) holder)) }
     ensures once { AreOnce (books_of years.old.items) → AreOnce (books_of years.new.items) }

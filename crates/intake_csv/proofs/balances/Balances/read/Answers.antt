@@ -1,29 +1,31 @@
+use Rattle.std.proofs.Common.{sym}
 use Rattle.csv.specs.Records.{fields_of}
-use Rattle.intake_csv.specs.Balances.{IsEntry}
-use Rattle.intake_csv.specs.declared.column.Content.TheVariants.{Identifier}
-use Rattle.intake_csv.proofs.Entries.{refuses-entry, takes-entry}
+use Rattle.settlement.specs.Accounts.{named_or}
+use Rattle.intake_csv.specs.Balances.{Entry, IsEntry}
+use Rattle.intake_csv.proofs.Entries.{refuses-entry, told-within}
 use Rattle.intake_csv.proofs.Shapes.{entry-shaped}
 use Rattle.intake_csv.proofs.balances.Balances.read.Goals as goal
 
-pub entry_of-requires : goal.entry_of-requires
-entry_of-requires c =
+pub entry_of-entry-requires : goal.entry_of-entry-requires
+entry_of-entry-requires c =
     let has = rw c.in-Ok.is at c.in_ok-values.ensures.values in
-    entry-shaped c.args.keeps_years (fields_of c.args.row.now) c.args.layout.now.columns c.in-Ok.values.items c.requires.balances has.1
+    entry-shaped c.args.version (fields_of c.args.row.now) c.args.layout.now.columns c.in-Ok.values.items c.requires.balances has.1
 
-pub returns-in-Ok-clause-entry : goal.returns-in-Ok-clause-entry
-returns-in-Ok-clause-entry c =
-    let values = rw c.in-Ok.is at c.in_ok-values.ensures.values in
-    let entry = c.entry_of.result in
-    let read : IsEntry c.args.keeps_years c.args.layout.now (fields_of c.args.row.now) ((entry.member, entry.year), entry.balance) =
-    record { kept = c.entry_of.ensures.kept; values = rw c.entry_of.ensures.values at values } in
-    takes-entry c.args.keeps_years c.args.layout.now (fields_of c.args.row.now) (entry.member, entry.year) entry.balance c.args.self.now c.take_in.new.self c.take_in.result read c.take_in.ensures.once
-    c.take_in.ensures.entry c.take_in.ensures.found
+pub fault_of-requires-clause-there : goal.fault_of-requires-clause-there
+fault_of-requires-clause-there c = told-within c.args.version c.args.layout.now c.in-Some.refusal c.requires.balances
 
-pub returns-in-Ok-clause-refused : goal.returns-in-Ok-clause-refused
-returns-in-Ok-clause-refused c =
+pub returns-in-Some-clause-refused : goal.returns-in-Some-clause-refused
+returns-in-Some-clause-refused c =
     let values = rw c.in-Ok.is at c.in_ok-values.ensures.values in
-    let entry = c.entry_of.result in
-    let read : IsEntry c.args.keeps_years c.args.layout.now (fields_of c.args.row.now) ((entry.member, entry.year), entry.balance) =
-    record { kept = c.entry_of.ensures.kept; values = rw c.entry_of.ensures.values at values } in
-    refuses-entry c.args.keeps_years c.args.layout.now (fields_of c.args.row.now) (entry.member, entry.year) entry.balance c.args.self.now c.as_slice.result.now
-    (record { place = 0; content = Identifier }) c.take_in.result c.requires.balances c.as_slice.ensures read c.take_in.ensures.again c.take_in.ensures.told
+    let e = c.entry_of-entry.result in
+    let entry : Entry = (record { family = named_or e.family e.member; member = e.member; year = e.year }, e.balance) in
+    let read : IsEntry c.args.version c.args.layout.now (fields_of c.args.row.now) entry = record { kept = c.entry_of-entry.ensures.kept; values = rw c.entry_of-entry.ensures.values at values } in
+    refuses-entry c.args.version c.args.layout.now (fields_of c.args.row.now) entry c.in-Some.refusal c.args.self.now c.fault_of.result c.requires.balances read (sym c.in-Some.ensures) c.fault_of.ensures
+
+pub returns-clause-entry : goal.returns-clause-entry
+returns-clause-entry c =
+    let values = rw c.in-Ok.is at c.in_ok-values.ensures.values in
+    let e = c.entry_of-entry.result in
+    let entry : Entry = (record { family = named_or e.family e.member; member = e.member; year = e.year }, e.balance) in
+    let read : IsEntry c.args.version c.args.layout.now (fields_of c.args.row.now) entry = record { kept = c.entry_of-entry.ensures.kept; values = rw c.entry_of-entry.ensures.values at values } in
+    λ front h. (entry, read, c.in_ok-put.ensures front h)
