@@ -10,16 +10,15 @@ use Rattle.std.proofs.lemmas.Bool.{cases_Bool, cases_eq, cases_lt, false≢true}
 use Rattle.std.proofs.lemmas.Bool.Decides.{nat_tests}
 use Rattle.std.proofs.lemmas.Int.{ints}
 use Rattle.std.proofs.lemmas.List.{get_or-set_same, get_or-set_other, map-append, map-set, length-map}
-use Rattle.std.proofs.lemmas.List.Elements.{All-cons, All-head, All-nil, All-push, All-set, All-tail}
+use Rattle.std.proofs.lemmas.List.Elements.{All-get_or, All-head, All-nil, All-push, All-set, All-tail}
 use Rattle.std.proofs.lemmas.Slice.Eq.{bytes_eq-Decides}
-use Rattle.settlement.specs.Accounts.{Account, is_household, is_same, part}
+use Rattle.settlement.specs.Accounts.{Account}
 use Rattle.settlement.specs.declared.acc.Acc.{Acc}
 use Rattle.settlement.specs.declared.account.Balance.{Balance}
 use Rattle.settlement.specs.Claim.{nothing_yet}
 use Rattle.settlement.specs.Opening.{begun_beside, joins, no_balance, opening}
 use Rattle.intake_csv.specs.Households.{AreOnceBy, HasJoined, Members, balance_in, begins, met_of, oop_of, refused_behind}
-use Rattle.intake_csv.specs.declared.household.Refusal.{Refusal}
-use Rattle.intake_csv.specs.Balances.{AreOnce, Book, Entry, Holder, JoinsIn, accounts_from, accounts_in, accounts_of, book_of, books_of, found_in, holder_of, is_holder}
+use Rattle.intake_csv.specs.Balances.{AreOnce, AreOnceIn, Book, Entry, Holder, JoinsIn, accounts_from, accounts_in, accounts_of, book_of, books_of, found_in, holder_of, is_holder}
 use Rattle.intake_csv.proofs.Households.{bytes-turned, looked, once-sorted}
 
 -- the members of a family in a year: nobody, where it isn't there
@@ -132,10 +131,10 @@ opened-from [] z k a is once = refl
 opened-from (b ∷ bs) z zero a is once =
     let here : z ≡ a.year = omega (arith, is) in
     let rest = accounts_from (suc z) bs in
-    ap (λ (n : ℕ). opening (flat_map (accounts_in n) b ++ rest) a) here ∙ in-book b rest a (All-head (AreOnceBy bytes_eq) b bs once) (later bs (suc z) a (omega (arith, here)))
+    ap (λ (n : ℕ). opening (flat_map (accounts_in n) b ++ rest) a) here ∙ in-book b rest a (All-head AreOnceIn b bs once).families (later bs (suc z) a (omega (arith, here)))
 opened-from (b ∷ bs) z (suc k) a is once =
     let next : suc z + k ≡ a.year = omega (arith, is) in
-    passed b z (accounts_from (suc z) bs) a (λ same. omega (arith, same, is)) ∙ opened-from bs (suc z) k a next (All-tail (AreOnceBy bytes_eq) b bs once)
+    passed b z (accounts_from (suc z) bs) a (λ same. omega (arith, same, is)) ∙ opened-from bs (suc z) k a next (All-tail AreOnceIn b bs once)
 
 -- what an account begins with by books in none of which a family stands twice
 pub opened-books : (books : List Book) (a : Account) → AreOnce books → opening (accounts_of books) a ≡ begins_among (members_at books (holder_of a)) a.member
@@ -179,12 +178,7 @@ room_found years households q empty =
 
 pub room_kept : {Y : Type 0} (years : List (BTreeMap (String Y) Members)) (households : BTreeMap (String Y) Members) → households.entries ≡ []
     → AreOnce (books_of years) → AreOnce (books_of (years ++ households ∷ []))
-room_kept years households empty once = subst AreOnce (sym (more-books years households empty)) (All-push (AreOnceBy bytes_eq) (books_of years) [] once tt)
-
-pub put_once : {Y : Type 0} (years : List (BTreeMap (String Y) Members)) (y : ℕ) (households : BTreeMap (String Y) Members) → IsOrdered string_cmp households
-    → AreOnce (books_of years) → AreOnce (books_of (set years y households))
-put_once years y households ordered once =
-    subst AreOnce (sym (map-set book_of years y households)) (All-set (AreOnceBy bytes_eq) (books_of years) y (book_of households) (once-sorted households.entries ordered) once)
+room_kept years households empty once = subst AreOnce (sym (more-books years households empty)) (All-push AreOnceIn (books_of years) [] once (record { families = tt; members = All-nil (λ household. AreOnceBy bytes_eq household.1) }))
 
 -- the book of a year, from its map
 book-at : {Y : Type 0} (years : List (BTreeMap (String Y) Members)) (y : ℕ) (d : BTreeMap (String Y) Members) → y < length years
@@ -192,6 +186,16 @@ book-at : {Y : Type 0} (years : List (BTreeMap (String Y) Members)) (y : ℕ) (d
 book-at [] y d within = absurd (omega (arith, within))
 book-at (m ∷ ms) zero d within = refl
 book-at (m ∷ ms) (suc y) d within = book-at ms y d (omega (arith, within))
+
+-- no family stands twice once a year has another map, and no member of a family that it has
+pub put_once : {Y : Type 0} (years : List (BTreeMap (String Y) Members)) (y : ℕ) (d households : BTreeMap (String Y) Members) → y < length years → IsOrdered string_cmp households
+    → (All (λ household. AreOnceBy bytes_eq household.1) (book_of (get_or years y d)) → All (λ household. AreOnceBy bytes_eq household.1) (book_of households))
+    → AreOnce (books_of years) → AreOnce (books_of (set years y households))
+put_once years y d households within ordered kept once =
+    let size : length (books_of years) ≡ length years = length-map years book_of in
+    let before : AreOnceIn (book_of (get_or years y d)) = rw (← book-at years y d within) (All-get_or AreOnceIn (books_of years) y [] (omega (arith, within, size)) once) in
+    let after : AreOnceIn (book_of households) = record { families = once-sorted households.entries ordered; members = kept before.members } in
+    subst AreOnce (sym (map-set book_of years y households)) (All-set AreOnceIn (books_of years) y (book_of households) after once)
 
 -- there is no book of a year beyond them
 book-none : (books : List Book) (y : ℕ) → ¬ (y < length books) → get_or books y [] ≡ []
@@ -276,4 +280,4 @@ joins_in years y d households family member balance before after (Err e) within 
 
 -- no books have no family twice
 pub none_once : {Y : Type 0} (years : List (BTreeMap (String Y) Members)) → years ≡ [] → AreOnce (books_of years)
-none_once years empty = subst (λ (ys : List (BTreeMap (String _) Members)). AreOnce (books_of ys)) (sym empty) (All-nil (AreOnceBy bytes_eq))
+none_once years empty = subst (λ (ys : List (BTreeMap (String _) Members)). AreOnce (books_of ys)) (sym empty) (All-nil AreOnceIn)

@@ -1,7 +1,6 @@
 -- Entries of balances, with one more.
-use Rattle.std.proofs.Common.{inl, inr, ◌≡◌, ◌≢◌, ◌<◌, ◌+◌, ◌-◌, ◌==◌, ◌&&◌, ◌+ℤ◌, ℕ, ℤ, suc, zero, Bool, true, false, subst, List, [], ◌∷◌, ◌++◌, length, map, take, drop, get_or, Option, Some, None, IsSome, Bor, Result, Ok, Err, IfOk, IfErr, OnOk, cond, if◌then◌else◌, refl, sym, ap, ◌∙◌, arith}
-use Rattle.std.specs.List.{All, AllPairs, AllZip, Any, slice_get}
-use Rattle.std.specs.Map.{lookup}
+use Rattle.std.proofs.Common.{inl, inr, ◌≡◌, ◌≢◌, ◌<◌, ◌+◌, ◌-◌, ◌==◌, ◌&&◌, ◌+ℤ◌, ℕ, ℤ, Bool, true, false, subst, List, [], ◌∷◌, ◌++◌, length, take, drop, get_or, Option, Some, None, IsSome, Bor, Result, Ok, Err, OnOk, cond, if◌then◌else◌, refl, sym, ap, ◌∙◌, arith}
+use Rattle.std.specs.List.{All, AllZip, slice_get}
 use Rattle.std.specs.Option.{is_some, option_and_then, option_copied, unwrap_or}
 use Rattle.std.specs.Str.{bytes_eq}
 use Rattle.std.proofs.lemmas.Bool.{cases_Bool, false≢true}
@@ -17,7 +16,7 @@ use Rattle.settlement.specs.Accounts.{Account, is_household, is_same, part}
 use Rattle.settlement.specs.Amount.{is_in_range}
 use Rattle.settlement.specs.declared.acc.Acc.{Acc}
 use Rattle.settlement.specs.declared.account.Balance.{Balance}
-use Rattle.settlement.specs.Opening.{begun_beside, joins, no_balance, opening}
+use Rattle.settlement.specs.Opening.{joins, opening}
 use Rattle.intake_csv.specs.Records.{Fields}
 use Rattle.intake_csv.specs.Record.{family_contents}
 use Rattle.intake_csv.specs.Columns.{IsSheet, balance_columns, family_columns, year_columns}

@@ -1,8 +1,8 @@
 -- Households: what is found in the map of their members, and a member more.
 use Rattle.std.proofs.Common.{inl, inr, ◌≡◌, ◌+ℤ◌, ℕ, ℤ, Bool, true, false, List, [], ◌∷◌, map, Option, Some, None, String, string_bytes, nat_cmp, cond, refl, sym, ap, ◌∙◌, arith}
-use Rattle.std.specs.List.{AllByRecursion}
+use Rattle.std.specs.List.{All, AllByRecursion}
 use Rattle.std.specs.List.Sorted.{IsStrictlySortedBy}
-use Rattle.std.specs.Map.{keys_of, lookup}
+use Rattle.std.specs.Map.{keys_of, lookup, set_value}
 use Rattle.std.specs.BTreeMap.{BTreeMap, IsOrdered, UpdatesBy, get_by_text, insert_entry, is_at}
 use Rattle.std.specs.Ordering.{is_eq, match_ordering}
 use Rattle.std.specs.String.{string_cmp}
@@ -12,11 +12,12 @@ use Rattle.std.specs.Cmp.Lexicographic.{slice_cmp}
 use Rattle.std.specs.Str.{bytes_eq}
 use Rattle.std.proofs.lemmas.Bool.{cases_Bool, false≢true}
 use Rattle.std.proofs.lemmas.Int.{ints}
+use Rattle.std.proofs.lemmas.List.Elements.{All-cons, All-head, All-nil, All-tail}
 use Rattle.std.proofs.lemmas.Map.Keys.{sorted_head, sorted_tail}
 use Rattle.std.proofs.lemmas.Map.Text.{btree_map_updates_text, is_eq-slice_cmp}
 use Rattle.std.proofs.lemmas.Slice.Eq.{bytes_eq-Decides}
 use Rattle.settlement.specs.declared.account.Balance.{Balance}
-use Rattle.intake_csv.specs.Households.{AreOnceBy, HasJoined, IsHousehold, Members, balance_in, members_among, members_of, met_of, oop_of, refused_behind, sum_over}
+use Rattle.intake_csv.specs.Households.{AreOnceBy, HasJoined, IsHousehold, Members, balance_in, members_among, members_of, refused_behind, sum_over}
 
 -- bytes that are the same compare so, either way round
 pub bytes-turned : (a b : List ℕ) → bytes_eq a b ≡ bytes_eq b a
@@ -50,6 +51,42 @@ unfound-below key (e ∷ es) h =
 pub once-sorted : {Y V : Type 0} (es : List (String Y × V)) → IsStrictlySortedBy string_cmp (keys_of es) → AreOnceBy bytes_eq (map (λ e. (string_bytes e.0, e.1)) es)
 once-sorted [] h = tt
 once-sorted (e ∷ es) h = (unfound-below e.0 es (sorted_head string_cmp e.0 (keys_of es) h), once-sorted es (sorted_tail string_cmp e.0 (keys_of es) h))
+
+-- what is so of the value of a name
+abbrev Has : {V : Type 0} → (V → Type 0) → List ℕ × V → Type 0
+Has P named = P named.1
+
+-- what is so of each value of a map is so of each once a name has another value
+all-placed : {Y V : Type 0} (P : V → Type 0) (key : String Y) (v : V) (e : String Y × V) (es rest : List (String Y × V)) (order : Ordering) → P v → P e.1
+    → All (Has P) (map (λ e. (string_bytes e.0, e.1)) es) → All (Has P) (map (λ e. (string_bytes e.0, e.1)) rest)
+    → All (Has P) (map (λ e. (string_bytes e.0, e.1)) (match_ordering order ((key, v) ∷ e ∷ es) ((e.0, v) ∷ es) (e ∷ rest)))
+all-placed P key v e es rest Less new first others more =
+    let behind = map (λ e. (string_bytes e.0, e.1)) es in
+    All-cons (Has P) (string_bytes key, v) ((string_bytes e.0, e.1) ∷ behind) new (All-cons (Has P) (string_bytes e.0, e.1) behind first others)
+all-placed P key v e es rest Equal new first others more = All-cons (Has P) (string_bytes e.0, v) (map (λ e. (string_bytes e.0, e.1)) es) new others
+all-placed P key v e es rest Greater new first others more = All-cons (Has P) (string_bytes e.0, e.1) (map (λ e. (string_bytes e.0, e.1)) rest) first more
+
+pub all-inserted : {Y V : Type 0} (P : V → Type 0) (key : String Y) (v : V) (es : List (String Y × V)) → P v → All (Has P) (map (λ e. (string_bytes e.0, e.1)) es)
+    → All (Has P) (map (λ e. (string_bytes e.0, e.1)) (insert_entry string_cmp es key v))
+all-inserted P key v [] new all = All-cons (Has P) (string_bytes key, v) [] new (All-nil (Has P))
+all-inserted P key v (e ∷ es) new all =
+    let behind = map (λ e. (string_bytes e.0, e.1)) es in
+    let others = All-tail (Has P) (string_bytes e.0, e.1) behind all in
+    all-placed P key v e es (insert_entry string_cmp es key v) (string_cmp key e.0) new (All-head (Has P) (string_bytes e.0, e.1) behind all) others (all-inserted P key v es new others)
+
+set-placed : {Y V : Type 0} (P : V → Type 0) (v : V) (e : String Y × V) (es rest : List (String Y × V)) (here : Bool) → P v → P e.1
+    → All (Has P) (map (λ e. (string_bytes e.0, e.1)) es) → All (Has P) (map (λ e. (string_bytes e.0, e.1)) rest)
+    → All (Has P) (map (λ e. (string_bytes e.0, e.1)) (cond here ((e.0, v) ∷ es) (e ∷ rest)))
+set-placed P v e es rest true new first others more = All-cons (Has P) (string_bytes e.0, v) (map (λ e. (string_bytes e.0, e.1)) es) new others
+set-placed P v e es rest false new first others more = All-cons (Has P) (string_bytes e.0, e.1) (map (λ e. (string_bytes e.0, e.1)) rest) first more
+
+pub all-set : {Y V : Type 0} (P : V → Type 0) (test : String Y → Bool) (v : V) (es : List (String Y × V)) → P v → All (Has P) (map (λ e. (string_bytes e.0, e.1)) es)
+    → All (Has P) (map (λ e. (string_bytes e.0, e.1)) (set_value test es v))
+all-set P test v [] new all = all
+all-set P test v (e ∷ es) new all =
+    let behind = map (λ e. (string_bytes e.0, e.1)) es in
+    let others = All-tail (Has P) (string_bytes e.0, e.1) behind all in
+    set-placed P v e es (set_value test es v) (test e.0) new (All-head (Has P) (string_bytes e.0, e.1) behind all) others (all-set P test v es new others)
 
 -- the balance of a member, found first or in the map of the others
 pub found_first : {Y : Type 0} (first : List ℕ) (own : Balance) (others : BTreeMap (String Y) Balance) (member : List ℕ) → bytes_eq first member ≡ true

@@ -1,5 +1,5 @@
 -- What a field spells under its column, where that is no amount.
-use Rattle.std.proofs.Common.{◌≡◌, ◌≢◌, ℕ, List, [], refl, sym, ap, ◌∙◌, arith}
+use Rattle.std.proofs.Common.{◌≡◌, ◌≢◌, ℕ, List, [], refl, arith}
 use Rattle.feel_tests.specs.Calendar.{IsYearText}
 use Rattle.feel_tests.specs.Plain.{SpellsPlain}
 use Rattle.feel_tests.specs.TextBytes.{IsText}
@@ -7,7 +7,7 @@ use Rattle.feel_tests.specs.declared.kind.Kind.{Kind}
 use Rattle.feel_tests.specs.declared.kind.Kind.TheVariants as kinds
 use Rattle.feel_tests.specs.declared.value.Value.{Value}
 use Rattle.intake_csv.specs.Columns.{kind_under}
-use Rattle.intake_csv.specs.Fields.{Holds, IsFaultless, IsFaulty, IsYear, Spells}
+use Rattle.intake_csv.specs.Fields.{Holds, IsFaultless, IsFaulty, Spells}
 use Rattle.intake_csv.specs.declared.column.Content.{Content}
 use Rattle.intake_csv.specs.declared.column.Content.TheVariants.{Identifier, Money, Plain, Year}
 use Rattle.intake_csv.specs.declared.fault.RowCause.TheVariants.{FieldCount, Utf8, TooLong, EmptyId, Value as NoValue, NotCents, Negative, Repeated, Sum}

@@ -1,5 +1,5 @@
 -- The balances of a text: what accounts begin with.
-use Rattle.std.specs.Prelude.{◌≡◌, ◌≢◌, ◌≤◌, ◌+◌, ◌-◌, ◌⊎◌, ◌==◌, ◌&&◌, ◌++◌, ℕ, ℤ, suc, Bool, true, false, List, map, flat_map, [], ◌∷◌, get_or, take, Option, Some, None, is_some, string_bytes}
+use Rattle.std.specs.Prelude.{◌≡◌, ◌≢◌, ◌≤◌, ◌+◌, ◌-◌, ◌⊎◌, ◌==◌, ◌&&◌, ◌++◌, ℕ, suc, Bool, true, false, List, map, flat_map, [], ◌∷◌, get_or, take, Option, Some, None, is_some, string_bytes}
 use Rattle.std.specs.Int.{IsInRange}
 use Rattle.std.specs.List.{All, AllPairs, AllZip, Any, slice_get}
 use Rattle.std.specs.Map.{lookup}
@@ -77,9 +77,13 @@ found_in books holder = lookup (bytes_eq holder.0) (get_or books holder.1 [])
 abbrev pub balance_of : List Book → Account → Option Balance
 balance_of books account = option_and_then (λ members. balance_in members account.member) (found_in books (holder_of account))
 
--- in no book a family stands twice
+-- in no book a family stands twice, and in no family a member
+pub record AreOnceIn (book : Book) : Type 0 where
+  pub families : AreOnceBy bytes_eq book
+  pub members : All (λ household. AreOnceBy bytes_eq household.1) book
+
 abbrev pub AreOnce : List Book → Type 0
-AreOnce = All (AreOnceBy bytes_eq)
+AreOnce = All AreOnceIn
 
 -- the value of a year's column, where there is one
 abbrev pub year_values : Bool → ℕ → List Value

@@ -2,6 +2,7 @@
 ghost use Rattle.std.specs.Prelude.{◌≡◌, ◌≤◌, ◌<◌, ◌+◌, ◌++◌, ◌∷◌, [], List, length, map, drop, get_or, cond, string_bytes, IfOk, IfErr, OnOk, slice_index_or, IsSome, None, Some};
 ghost use Rattle.std.specs.List.{slice_get};
 ghost use Rattle.std.specs.Option.{option_and_then, option_copied};
+ghost use Rattle.std.specs.Str.{bytes_eq};
 ghost use Rattle.std.specs.Vec.Iter.{into_iter_items};
 ghost use Rattle.csv.specs.Records.{fields_of};
 ghost use Rattle.dtable.specs.Plan.{has_families, has_years};
@@ -9,7 +10,7 @@ ghost use Rattle.settlement.specs.Accounts.{named_or};
 ghost use Rattle.settlement.specs.Opening.{opening};
 ghost use Rattle.intake_csv.specs.Balances.{AreAmounts, AreBalances, AreOnce, BeginsWithYear, Entry as AnyEntry, Holder as AnyHolder, HasBalanceFault, HoldsEntries, IsBalanceLayout, JoinsIn, IsEntry, IsEntryShaped, IsKeptUnder, IsRecordFault, TakesYear, accounts_of, balance_values, books_of, entry_values, found_in, is_holder, refusal_cause, refusal_place};
 ghost use Rattle.intake_csv.specs.Columns.{balance_columns, member_place, met_place, year_columns};
-ghost use Rattle.intake_csv.specs.Households.{balance_in, refused_behind};
+ghost use Rattle.intake_csv.specs.Households.{AreOnceBy, balance_in, refused_behind};
 ghost use Rattle.intake_csv.specs.Rows.{HasFault};
 ghost use Rattle.intake_csv.specs.Sheet.{IsWithin};
 ghost use Rattle.intake_csv.specs.declared.column.Column.{Column as AnyColumn};
@@ -284,14 +285,14 @@ fn add_year(alloc: Global, years: &mut Vec<BTreeMap<String, Household>>) -> Resu
 }
 
 // Adds the household of a family that isn't there in a year for which there is room.
-#[tactic(auto, using(crate::proofs::Books::put_found, crate::proofs::Books::put_once))]
 fn add(
     years: &mut Vec<BTreeMap<String, Household>>,
     family: String,
     year: u16,
     household: Household,
 ) -> Result<(), AllocError>
-    requires { year < length years.old.items }
+    requires room { year < length years.old.items }
+    requires once { AreOnceBy bytes_eq household }
     ensures added { OnOk result ((holder : AnyHolder) → found_in (books_of years.new.items) holder
         ≡ cond (is_holder (string_bytes family, year) holder) (Some household) (found_in (books_of years.old.items) holder)) }
     ensures once { AreOnce (books_of years.old.items) → AreOnce (books_of years.new.items) }

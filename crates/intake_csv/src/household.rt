@@ -1,6 +1,7 @@
 //! Households: the members of a family, with what each begins with in a year.
 ghost use Rattle.std.specs.Prelude.{◌≡◌, ◌∷◌, [], None, OnOk, string_bytes};
-ghost use Rattle.intake_csv.specs.Households.{HasJoined, balance_in, begins, refused_behind, refused_by_sums};
+ghost use Rattle.std.specs.Str.{bytes_eq};
+ghost use Rattle.intake_csv.specs.Households.{AreOnceBy, HasJoined, balance_in, begins, refused_behind, refused_by_sums};
 
 use settlement::{Acc, Balance, Money};
 use std::alloc::{AllocError, Global};
@@ -78,6 +79,7 @@ impl Household {
     pub fn join(&mut self, member: String, balance: Balance) -> Result<(), AllocError>
         requires { refused_behind self.old (balance_in self.old (string_bytes member)) balance ≡ None }
         ensures joined { OnOk result (HasJoined (string_bytes member) balance self.old self.new) }
+        ensures once { AreOnceBy bytes_eq self.new }
     {
         let Some(met) = self.met.plus(balance.met) else {
             unreachable!();

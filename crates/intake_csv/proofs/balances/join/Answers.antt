@@ -1,5 +1,8 @@
 use Rattle.std.proofs.Common.{◌≡◌, get_or, string_bytes, None, Some, sym, rules}
 use Rattle.std.proofs.lemmas.Map.Text.{btree_map_updates_text}
+use Rattle.std.specs.Str.{bytes_eq}
+use Rattle.intake_csv.specs.Households.{AreOnceBy}
+use Rattle.intake_csv.proofs.Households.{all-set}
 use Rattle.intake_csv.proofs.Books.{found-there, joins_in, put_once, there-within}
 use Rattle.intake_csv.proofs.balances.join.Goals as goal
 
@@ -30,4 +33,11 @@ returns-clause-joined c =
     c.join.ensures.joined)
 
 pub returns-clause-once : goal.returns-clause-once
-returns-clause-once c = λ once. put_once c.args.years.now.items c.from.result (c.get_mut.follows.lender c.join.new.self) (c.get_mut.follows.holds c.join.new.self).4 once
+returns-clause-once c =
+    let old = c.index_mut.result.now in
+    let wrote = c.get_mut.follows.holds c.join.new.self in
+    let year : c.from.result ≡ c.args.year = search rules in
+    let standing : get_or c.args.years.now.items c.from.result old ≡ old = sym c.index_mut.ensures.value in
+    let within = there-within c.args.years.now.items c.args.year c.args.family.now c.requires.there in
+    rw year (put_once c.args.years.now.items c.args.year old (c.get_mut.follows.lender c.join.new.self) within wrote.4 (rw (← year, standing, wrote.0)
+    (all-set (AreOnceBy bytes_eq) _ c.join.new.self old.entries c.join.ensures.once)))

@@ -1,4 +1,4 @@
-use Rattle.std.proofs.Common.{◌≡◌, ◌∙◌, refl, arith}
+use Rattle.std.proofs.Common.{◌∙◌, refl, arith}
 use Rattle.intake_csv.proofs.balances.make_room.Goals as goal
 
 pub loop-init : goal.loop-init

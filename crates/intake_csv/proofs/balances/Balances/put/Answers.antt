@@ -1,5 +1,4 @@
 use Rattle.std.proofs.Common.{◌≡◌, string_bytes, true, false, sym, ◌∙◌}
-use Rattle.std.specs.Option.{is_some}
 use Rattle.settlement.specs.Accounts.{Account, named_or}
 use Rattle.intake_csv.specs.Balances.{books_of, found_in, holder_of}
 use Rattle.intake_csv.proofs.Entries.{copied-there, put-added, put-joined}

@@ -10,15 +10,23 @@ invariant_of-self c =
     joined-household (string_bytes old.first) old.balance old.others c.insert.new.self c.args.member c.args.balance (rw (← c.self.view_is) at c.requires) inserts old.met old.oop c.in-Some.met c.in-Some-plus.oop
     c.self.invariant c.in-Some.ensures.sum.1 c.in-Some-plus.ensures.sum.1
 
-pub returns : goal.returns
-returns c =
-    record {
-      joined = elim c.match-insert.branch [
-        | in-Ok w ↦
-            let old = c.self.inside in
-            let inserts = inserted c.args.member c.args.balance old.others c.insert.new.self w.in-Ok.ensures.entries c.insert.ensures.ordered w.in-Ok.ensures.updates in
-            let has = joined (string_bytes old.first) old.balance old.others c.insert.new.self c.args.member c.args.balance (rw (← c.self.view_is) at c.requires) inserts in
-            rw (w.result-is, w.self-is, ← c.self.view_is) has
-        | in-Err w ↦ rw w.result-is tt
-      ];
-    }
+pub returns-clause-joined : goal.returns-clause-joined
+returns-clause-joined c = elim c.match-insert.branch [
+  | in-Ok w ↦
+      let old = c.self.inside in
+      let inserts = inserted c.args.member c.args.balance old.others c.insert.new.self w.in-Ok.ensures.entries c.insert.ensures.ordered w.in-Ok.ensures.updates in
+      let has = joined (string_bytes old.first) old.balance old.others c.insert.new.self c.args.member c.args.balance (rw (← c.self.view_is) at c.requires) inserts in
+      rw (w.result-is, w.self-is, ← c.self.view_is) has
+  | in-Err w ↦ rw w.result-is tt
+]
+
+pub returns-clause-once : goal.returns-clause-once
+returns-clause-once c = elim c.match-insert.branch [
+  | in-Ok w ↦
+      let old = c.self.inside in
+      let inserts = inserted c.args.member c.args.balance old.others c.insert.new.self w.in-Ok.ensures.entries c.insert.ensures.ordered w.in-Ok.ensures.updates in
+      let after = joined-household (string_bytes old.first) old.balance old.others c.insert.new.self c.args.member c.args.balance (rw (← c.self.view_is) at c.requires) inserts old.met old.oop c.in-Some.met
+      c.in-Some-plus.oop c.self.invariant c.in-Some.ensures.sum.1 c.in-Some-plus.ensures.sum.1 in
+      rw w.self-is after.once
+  | in-Err w ↦ rw (w.self-is, w.in-Err.ensures.err) c.self.invariant.once
+]
