@@ -1,7 +1,6 @@
 -- What is shown of a text, character by character.
 use Rattle.std.proofs.Common.{◌≡◌, ℕ, List, [], length, ◌++◌, map, IsUtf8, encode_utf8, encode_utf8_all, ap, ◌∙◌}
 use Rattle.std.proofs.lemmas.Str.{chars-nil, chars_past_char}
-use Rattle.std.specs.Str.{chars}
 use Rattle.std.proofs.lemmas.List.{nil_from_length}
 use Rattle.explain.specs.Shown.{shown_as, shown_text}
 
