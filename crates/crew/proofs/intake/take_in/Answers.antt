@@ -1,6 +1,6 @@
 use Rattle.std.proofs.Common.{refl, arith, ◌∙◌}
 use Rattle.crew.proofs.Lefts.{first_offer, left_none, next_claim, next_offer, refused_offer}
-use Rattle.crew.proofs.Passes.{further, further_where_ok, leaves_later_where_err, unchanged}
+use Rattle.crew.proofs.Passes.{further, further_where_ok, leaves_later, leaves_later_where_err, unchanged}
 use Rattle.crew.proofs.intake.take_in.Goals as goal
 
 pub loop-next-init : goal.loop-next-init
@@ -62,3 +62,7 @@ returns-in_default-next-clause-goes_on g c =
 pub returns-in_default-next-clause-leaves : goal.returns-in_default-next-clause-leaves
 returns-in_default-next-clause-leaves g c =
     leaves_later_where_err (g.G.Gate.has_pass c.args.gate.now) g.G.Gate.known c.args.pass c.loop-next.pass c.end.result c.loop-next.invariant.0 c.end.ensures.leaves
+
+pub returns-in-Err-offer-clause-leaves : goal.returns-in-Err-offer-clause-leaves
+returns-in-Err-offer-clause-leaves g c =
+    leaves_later (g.G.Gate.has_pass c.args.gate.now) g.G.Gate.known c.args.pass c.loop-next.pass c.in-Err-offer.left c.loop-next.invariant.0 c.in-Err-offer.ensures.leaves
