@@ -89,3 +89,8 @@ placed_through contents IsText first second third begun held gone ended answer s
 pub put_is_text : (IsText : List ℕ → Type 0) (first third : Option (List ℕ)) → PutsText IsText first third → HasText IsText
 put_is_text IsText None third put = put
 put_is_text IsText (Some old) third (text, is_text, stands) = record { text = text; is_text = is_text }
+
+-- where the words that are given are those that are named, what may be printed by the former may be by the latter
+pub text_by_words : (IsText : List (List ℕ) → List ℕ → Type 0) (given named : List (List ℕ)) (status : ℕ) → given ≡ named → (status ≡ 0 → HasText (IsText given)) → status ≡ 0
+    → HasText (IsText named)
+text_by_words IsText given named status same done is_done = subst (λ words. HasText (IsText words)) same (done is_done)
