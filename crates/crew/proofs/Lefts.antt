@@ -1,5 +1,5 @@
 -- A provider's claims that are left, as its file is read.
-use Rattle.std.proofs.Common.{◌≡◌, ℕ, zero, suc, ◌<◌, ◌≤◌, ◌+◌, ◌-◌, List, [], ◌∷◌, ◌++◌, length, get_or, Some, refl, sym, ap, subst, ◌∙◌, arith, append_assoc, append-nil, length-append}
+use Rattle.std.proofs.Common.{◌≡◌, ℕ, zero, suc, ◌<◌, ◌≤◌, ◌+◌, ◌-◌, ◌^◌, List, [], ◌∷◌, ◌++◌, length, get_or, Some, refl, sym, ap, subst, ◌∙◌, arith, append_assoc, append-nil, length-append}
 use Rattle.std.specs.List.{AllZip, slice_get}
 use Rattle.settlement.specs.declared.claim.Claim.{Claim}
 use Rattle.dtable.specs.declared.table.InputData.{InputData}
@@ -12,15 +12,8 @@ use Rattle.claim_terms.specs.Terms.{AreClaimsOf, IsTermsOf, TermsParts, ForTerms
 use Rattle.journal.specs.Terms.{Terms, claims_of}
 use Rattle.claim_gate.specs.Parts.{GateParts}
 use Rattle.claim_gate.specs.Replies.{HasClaims}
+use Rattle.crew.specs.Reading.{AreLeft, AreNext, ReadsAhead}
 use Rattle.crew.specs.Sharing.{HasAccepted}
-
--- behind so many claims of a provider, those among the rows that are left are its other ones
-pub record AreLeft (T : Terms) (provider count : ℕ) (left : RowsLeft) : Type 0 where
-  pub front : List Claim
-  pub rows : List Row
-  pub are_rows : AreRowsLeft left rows
-  pub whole : claims_of T provider ≡ front ++ claims_among rows
-  pub counted : length front ≡ count
 
 -- the claims of a file at a place
 at_place : (names : List InputData) (texts : List (List ℕ)) (files : List (List Claim)) (i : ℕ) → AllZip (AreClaimsOf names) texts files → i < length texts
@@ -131,28 +124,66 @@ first_offer law parts seen provider left of_terms least most start = record {
   fewer = omega (arith, start.place, start.number);
 }
 
+-- behind claims that were read ahead, once all in front of a later place are accepted
+pub behind_offers : (terms : TermsParts) (seen later : GateParts) (provider count expected next : ℕ) (old new : RowsLeft) (claims : List Claim)
+    → IsAtOffer terms seen provider count expected old → ReadsAhead old new claims → later.terms ≡ terms → count + length claims ≤ next
+    → HasAccepted later provider next → IsAtOffer terms later provider (count + length claims) next new
+behind_offers terms seen later provider count expected next old new claims h read of_terms behind has_taken = record {
+  of_terms = of_terms;
+  claims = λ T is. (read.next T provider count (h.claims T is)).1;
+  has_taken = has_taken;
+  reached = behind;
+  place = omega (arith, read.place, h.place);
+  fewer = read.fewer h.fewer;
+}
+
+-- nothing is read yet
+pub none_read : (left : RowsLeft) → ReadsAhead left left []
+none_read left = record {
+  next = λ T provider count h. (tt, subst (λ n. AreLeft T provider n left) (omega arith) h);
+  place = omega arith;
+  fewer = λ h. h;
+}
+
+-- one claim more behind others
+next_more : (T : Terms) (provider place : ℕ) (claims : List Claim) (claim : Claim) → AreNext T provider place claims
+    → slice_get (claims_of T provider) (place + length claims) ≡ Some claim → AreNext T provider place (claims ++ claim ∷ [])
+next_more T provider place [] claim next at = (subst (λ n. slice_get (claims_of T provider) n ≡ Some claim) (omega arith) at, tt)
+next_more T provider place (first ∷ rest) claim next at = (
+  next.0,
+  next_more T provider (place + 1) rest claim next.1 (subst (λ n. slice_get (claims_of T provider) n ≡ Some claim) (omega arith) at),
+)
+
 module _ (law : GivenRowHasTheClaim) where
-  -- behind a record that is refused
-  pub refused_offer : (terms : TermsParts) (seen : GateParts) (provider count expected : ℕ) (old new : RowsLeft) (number : ℕ) (fault : RowFault)
-      → IsAtOffer terms seen provider count expected old → GivesRow old new (Bad number fault) → IsAtOffer terms seen provider count expected new
-  refused_offer terms seen provider count expected old new number fault h gives = record {
-    of_terms = h.of_terms;
-    claims = λ T is. left_refused law T provider count old new number fault (h.claims T is) gives;
-    has_taken = h.has_taken;
-    reached = h.reached;
+  -- a record more that is refused
+  pub refused_read : (old mid new : RowsLeft) (claims : List Claim) (number : ℕ) (fault : RowFault) → ReadsAhead old mid claims
+      → GivesRow mid new (Bad number fault) → ReadsAhead old new claims
+  refused_read old mid new claims number fault h gives = record {
+    next = λ T provider count left. let both = h.next T provider count left in
+        (both.0, left_refused law T provider (count + length claims) mid new number fault both.1 gives);
     place = omega (arith, gives.place, h.place);
-    fewer = omega (arith, gives.place, gives.number, h.fewer);
+    fewer = λ within. let before = h.fewer within in omega (arith, gives.place, gives.number, before);
   }
 
-  -- behind a claim, once all in front of a later place are accepted
-  pub next_offer : (terms : TermsParts) (seen later : GateParts) (provider count expected next : ℕ) (old new : RowsLeft) (number place : ℕ) (claim : Claim)
-      → IsAtOffer terms seen provider count expected old → GivesRow old new (Good number place claim) → later.terms ≡ terms → count < next
-      → HasAccepted later provider next → IsAtOffer terms later provider (count + 1) next new
-  next_offer terms seen later provider count expected next old new number place claim h gives of_terms behind has_taken = record {
-    of_terms = of_terms;
-    claims = λ T is. left_behind law T provider count old new number place claim (h.claims T is) gives;
-    has_taken = has_taken;
-    reached = omega (arith, behind);
-    place = omega (arith, gives.place, h.place);
-    fewer = omega (arith, gives.place, gives.number, h.fewer);
-  }
+  -- a record more that is a claim
+  pub claim_read : (old mid new : RowsLeft) (claims : List Claim) (number place : ℕ) (claim : Claim) → ReadsAhead old mid claims
+      → GivesRow mid new (Good number place claim) → ReadsAhead old new (claims ++ claim ∷ [])
+  claim_read old mid new claims number place claim h gives =
+      let size = length-append claims (claim ∷ []) in
+      record {
+        next = λ T provider count left. let both = h.next T provider count left in (
+          next_more T provider count claims claim both.0 (next_claim law T provider (count + length claims) mid new number place claim both.1 gives),
+          subst (λ n. AreLeft T provider n new) (omega (arith, size)) (left_behind law T provider (count + length claims) mid new number place claim both.1 gives),
+        );
+        place = omega (arith, gives.place, h.place, size);
+        fewer = λ within. let before = h.fewer within in omega (arith, gives.place, gives.number, before);
+      }
+
+-- behind a claim more the place is one that a record's number tells
+pub room_more : (old mid new : RowsLeft) (claims : List Claim) (number place : ℕ) (claim : Claim) → ReadsAhead old mid claims → GivesRow mid new (Good number place claim)
+    → number < 2 ^ 64 → old.place < old.number → old.place < 2 ^ 64 → old.place + length (claims ++ claim ∷ []) < 2 ^ 64
+room_more old mid new claims number place claim h gives fits within small =
+    let size = length-append claims (claim ∷ []) in
+    let before = h.fewer within in
+    let told = gives.is_row.0 in
+    omega (arith, size, before, told, fits, h.place)

@@ -2,3 +2,4 @@ pub mod FaultNumber
 pub mod Workers
 pub mod Sharing
 pub mod Passes
+pub mod Reading

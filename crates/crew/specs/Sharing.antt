@@ -32,6 +32,11 @@ abbrev pub GoesOnAt : GateParts → ℕ → ℕ → Option ℕ → Type 0
 GoesOnAt gate provider place (Some next) = (place < next) × HasAccepted gate provider next
 GoesOnAt gate provider place None = is_shut gate ≡ true
 
+-- what a provider is to offer behind so many of its claims: all in front of this place, which is no earlier, are accepted, or no more is
+abbrev pub GoesOnBehind : GateParts → ℕ → ℕ → Option ℕ → Type 0
+GoesOnBehind gate provider count (Some next) = (count ≤ next) × HasAccepted gate provider next
+GoesOnBehind gate provider count None = is_shut gate ≡ true
+
 -- the claim is taken, the job is its, and it has the fields that the plan decides by
 pub record IsInWork (gate : GateParts) (job : Job) : Type 0 where
   pub in_work : taken gate.journal job.position ≡ true

@@ -1,10 +1,11 @@
 //! What an intake of a run does: it reads a provider's file.
-ghost use Rattle.std.specs.Prelude.{◌≡◌, ◌<◌, ◌≤◌, ◌+◌, ◌-◌, ◌^◌, true, [], length, get_or, slice_get, Some, IfOk, IfErr};
+ghost use Rattle.std.specs.Prelude.{◌≡◌, ◌<◌, ◌≤◌, ◌+◌, ◌-◌, ◌^◌, true, false, [], length, get_or, slice_get, Some, IfOk, IfErr, IsTrue};
 ghost use Rattle.intake_csv.specs.Rows.{IsAtStart};
 ghost use Rattle.claim_terms.specs.Terms.{ForTerms};
 ghost use Rattle.claim_gate.specs.Replies.{HasClaims, IsFiled};
 ghost use Rattle.crew.specs.Passes.{GoesOn, LeavesWith};
-ghost use Rattle.crew.specs.Sharing.{GoesOnAt, HasAccepted, is_past};
+ghost use Rattle.crew.specs.Reading.{AreNext, ReadsAhead};
+ghost use Rattle.crew.specs.Sharing.{GoesOnAt, GoesOnBehind, HasAccepted, is_past};
 ghost use Rattle.crew.specs.declared.fault.RunFault.TheVariants.{OutOfMemory};
 
 use crate::fault::RunFault;
@@ -14,12 +15,19 @@ use claim_terms::{Terms, terms_are_seen};
 use intake_csv::{
     Row, Rows, given_row_has_the_claim, no_records_give_no_rows, reader_begins_with_all_rows,
 };
+use settlement::Claim;
 use std::alloc::{AllocError, Global};
 use std::sync::Wait;
-use turns::Turns;
+use turns::{CALLS_LIMIT, Turns};
+
+/// The claims of records that an intake has read and not offered yet, and whether they are the last of its file.
+struct Ahead {
+    claims: Vec<Claim>,
+    is_last: bool,
+}
 
 /// Offers the claims of a provider's file in order, and ends the provider behind the last. What others have offered of it isn't
-/// offered again.
+/// offered again. So many records are read ahead as are offered in one turn, while another thread has its own.
 pub(crate) fn take_in<R: Wait, G: Gate>(
     rt: &R,
     alloc: Global,
@@ -37,44 +45,106 @@ pub(crate) fn take_in<R: Wait, G: Gate>(
     ensures past { IfOk result (λ p. is_past (G.known p).seen provider ≡ true) }
     ensures leaves { IfErr result (LeavesWith (G.has_pass gate.now) G.known pass) }
 {
-    // Known from here: what a reader has left is what the file has, and a row that it gives is the first of that.
+    // Known from here: what a reader has left is what the file has.
     reader_begins_with_all_rows();
     no_records_give_no_rows();
-    given_row_has_the_claim();
     let mut rows = match open(alloc, terms, provider) {
         Ok(rows) => rows,
         Err(fault) => return Err((fault, pass)),
     };
-    let mut turn = turns.begin(rt);
     let mut count = 0;
     let mut expected = 0;
     loop {
-        let Ok(next) = rows.next() else {
+        let Ok(ahead) = read_ahead(alloc, &mut rows) else {
             return Err((RunFault::OutOfMemory, pass));
         };
-        let Some(row) = next else {
+        let Ahead { claims, is_last } = ahead;
+        let behind = count + claims.len();
+        (expected, pass) = match offer_all(
+            rt, terms, gate, pass, provider, count, expected, claims, turns,
+        ) {
+            Ok((Some(next), pass)) => (next, pass),
+            Ok((None, pass)) => return Ok(pass),
+            Err(left) => return Err(left),
+        };
+        count = behind;
+        if is_last {
             return end(rt, terms, gate, pass, provider, count);
+        }
+    }
+}
+
+// Reads the next records, as many as are offered in one turn.
+fn read_ahead(alloc: Global, rows: &mut Rows<'_>) -> Result<Ahead, AllocError>
+    ensures ahead { IfOk result (λ ahead. ReadsAhead rows.old rows.new ahead.claims.items) }
+    ensures room { rows.old.place < rows.old.number → rows.old.place < 2 ^ 64 → IfOk result (λ ahead. rows.old.place + length ahead.claims.items < 2 ^ 64) }
+    ensures last { IfOk result (λ ahead. IsTrue ahead.is_last → rows.new.records ≡ []) }
+    ensures fewer { IfOk result (λ ahead. ahead.is_last ≡ false → length rows.new.records < length rows.old.records) }
+{
+    // Known from here: a row that a reader gives is the first of those that it has left.
+    given_row_has_the_claim();
+    let mut claims = Vec::new(alloc);
+    'records: for record in 0..CALLS_LIMIT {
+        let Some(row) = rows.next()? else {
+            return Ok(Ahead {
+                claims,
+                is_last: true,
+            });
         };
         let Row::Good { claim, .. } = row else {
             continue;
         };
-        let place = count;
-        count += 1;
-        if place < expected {
-            continue;
-        }
+        claims.push(claim)?;
+    }
+    Ok(Ahead {
+        claims,
+        is_last: false,
+    })
+}
+
+// Offers these claims of a provider in one turn, of which the first stands at this place, from the place on that is expected. Gives the
+// place that is expected then; none where no more claims are accepted.
+fn offer_all<R: Wait, G: Gate>(
+    rt: &R,
+    terms: &Terms,
+    gate: &G,
+    mut pass: G::Pass,
+    provider: usize,
+    first: usize,
+    mut expected: usize,
+    claims: Vec<Claim>,
+    turns: &Turns,
+) -> Result<(Option<usize>, G::Pass), (RunFault, G::Pass)>
+    requires own { G.has_pass gate.now pass }
+    requires terms { (G.known pass).seen.terms ≡ terms.now }
+    requires filed { ForTerms terms.now (λ T. AreNext T provider first claims.items) }
+    requires taken { HasAccepted (G.known pass).seen provider expected }
+    requires reached { first ≤ expected }
+    requires room { first + length claims.items < 2 ^ 64 }
+    ensures goes_on { IfOk result (λ r. GoesOn (G.has_pass gate.now) G.known pass r.1) }
+    ensures next { IfOk result (λ r. GoesOnBehind (G.known r.1).seen provider (first + length claims.items) r.0) }
+    ensures leaves { IfErr result (LeavesWith (G.has_pass gate.now) G.known pass) }
+{
+    let turn = turns.begin_offers(rt);
+    let mut place = first;
+    for claim in claims {
         let offered = Offer {
             provider,
             place,
             claim,
         };
-        turn.count_offer(rt);
+        place += 1;
+        if offered.place < expected {
+            continue;
+        }
+        turn.count_offer();
         (expected, pass) = match offer(rt, terms, gate, pass, offered) {
             Ok((Some(next), pass)) => (next, pass),
-            Ok((None, pass)) => return Ok(pass),
+            Ok((None, pass)) => return Ok((None, pass)),
             Err(left) => return Err(left),
         };
     }
+    Ok((Some(expected), pass))
 }
 
 // The rows of a provider's file.

@@ -17,8 +17,8 @@ use std::time::Duration;
 #[cfg(test)]
 mod tests;
 
-/// How many claims a thread offers or takes in one turn. A turn is to be long beside the time that a sleeper takes to wake up, and
-/// short beside the time in which the others run out of work.
+/// How many claims a thread offers or takes in one turn at most. A turn is to be long beside the time that a sleeper takes to wake up,
+/// and short beside the time in which the others run out of work.
 pub const CALLS_LIMIT: u32 = 256;
 
 /// Nobody has the turn.
@@ -26,9 +26,6 @@ const FREE: u32 = 0;
 
 /// Somebody has it.
 const HELD: u32 = 1;
-
-/// It was given back to who sleeps. Who comes now has to wait.
-const HANDED_OVER: u32 = 2;
 
 /// How often a thread looks before it sleeps: for some microseconds, less than going to sleep and waking up take.
 const LOOKS_LIMIT: u32 = 12;
@@ -38,9 +35,6 @@ const SLEEP_MICROS: u64 = 500;
 
 /// After so many sleeps, half a second, a thread goes without the turn: far longer than a turn takes on a busy machine.
 const SLEEPS_LIMIT: u32 = 1_000;
-
-/// So long who comes now leaves a turn that was handed over to those that have slept: about what one of them needs to wake up.
-const COURTESY_MICROS: u64 = 50;
 
 /// The first rest of a worker that found nothing to do. Each further one is twice as long, so that many idle workers don't keep the
 /// turn from the intakes.
@@ -76,8 +70,13 @@ impl Turns {
         Turn {
             turns: self,
             has: self.obtain(rt),
-            calls_left: CALLS_LIMIT,
         }
+    }
+
+    /// The same for an intake, which sleeps first where it is far ahead of the workers.
+    pub fn begin_offers<R: Wait>(&self, rt: &R) -> Turn<'_> {
+        self.backlog.await_shorter(rt);
+        self.begin(rt)
     }
 
     /// Lets the others go on where there is nothing to do, the longer the more rests there were in a row. Gives their number.
@@ -109,7 +108,7 @@ impl Turns {
         }
         for _ in 0..SLEEPS_LIMIT {
             self.sleep(rt);
-            if self.exchange(FREE, HELD) || self.exchange(HANDED_OVER, HELD) {
+            if self.exchange(FREE, HELD) {
                 return true;
             }
         }
@@ -118,32 +117,13 @@ impl Turns {
 
     // Until the turn is given back, or for a while.
     fn sleep<R: Wait>(&self, rt: &R) {
-        let (seen, micros) = if self.is(HANDED_OVER) {
-            (HANDED_OVER, COURTESY_MICROS)
-        } else {
-            (HELD, SLEEP_MICROS)
-        };
         self.word
-            .park_timeout(rt, seen, Duration::from_micros(micros));
+            .park_timeout(rt, HELD, Duration::from_micros(SLEEP_MICROS));
     }
 
-    // Gives the turn to whoever comes first, for a thread that has something else to do now.
+    // Gives the turn to whoever comes first. Who goes to sleep only now either finds the word changed or is counted already.
     fn give_back(&self) {
-        self.leave_as(FREE);
-    }
-
-    // Gives it to who sleeps, for a thread that asks for it again at once: it would have it before a sleeper wakes up.
-    fn hand_over(&self) {
-        self.leave_as(if self.has_sleepers() {
-            HANDED_OVER
-        } else {
-            FREE
-        });
-    }
-
-    // Who goes to sleep only now either finds the word changed or is counted already.
-    fn leave_as(&self, state: u32) {
-        self.word.store(u64::from(state), Ordering::SeqCst);
+        self.word.store(u64::from(FREE), Ordering::SeqCst);
         if self.has_sleepers() {
             self.word.wake_one();
         }
@@ -151,10 +131,6 @@ impl Turns {
 
     fn has_sleepers(&self) -> bool {
         self.sleepers.load(Ordering::SeqCst) > 0
-    }
-
-    fn is(&self, state: u32) -> bool {
-        self.word.load(Ordering::SeqCst) == u64::from(state)
     }
 
     fn exchange(&self, from: u32, to: u32) -> bool {
@@ -169,27 +145,12 @@ impl Turns {
 pub struct Turn<'t> {
     turns: &'t Turns,
     has: bool,
-    calls_left: u32,
 }
 
 impl Turn<'_> {
-    /// Counts an offer. After so many the turn goes to who sleeps, and an intake that is far ahead of the workers sleeps first.
-    pub fn count_offer<R: Wait>(&mut self, rt: &R) {
+    /// Counts an offer.
+    pub fn count_offer(&self) {
         self.turns.backlog.add_one();
-        match self.calls_left.checked_sub(1) {
-            Some(left) => self.calls_left = left,
-            None => self.renew(rt),
-        }
-    }
-
-    fn renew<R: Wait>(&mut self, rt: &R) {
-        self.turns.backlog.wake_where_short();
-        if self.has {
-            self.turns.hand_over();
-        }
-        self.turns.backlog.await_shorter(rt);
-        self.has = self.turns.obtain(rt);
-        self.calls_left = CALLS_LIMIT;
     }
 
     /// Counts a claim that was taken.
@@ -204,10 +165,6 @@ impl Drop for Turn<'_> {
         if self.has {
             self.turns.give_back();
         }
-        let Turn {
-            turns: _,
-            has: _,
-            calls_left: _,
-        } = self;
+        let Turn { turns: _, has: _ } = self;
     }
 }

@@ -1,18 +1,22 @@
 //! Turns as one thread sees them: what is held and what is given back, and that each wait has an end.
 
-use super::{FREE, HANDED_OVER, HELD, Turns};
+use super::{FREE, HELD, Turns};
 use crate::backlog::{Backlog, CLAIMS_LIMIT};
 use std::sync::atomic::Ordering;
 use std::test::Fail;
+
+fn is(turns: &Turns, state: u32) -> bool {
+    turns.word.load(Ordering::SeqCst) == u64::from(state)
+}
 
 #[test]
 fn a_turn_is_given_back(rt: HostRuntime) -> Result<(), Fail> {
     let turns = Turns::new();
     let first = turns.begin(&rt);
     assert!(rt; first.has);
-    assert!(rt; turns.is(HELD));
+    assert!(rt; is(&turns, HELD));
     drop(first);
-    assert!(rt; turns.is(FREE));
+    assert!(rt; is(&turns, FREE));
     assert!(rt; turns.begin(&rt).has);
     Ok(())
 }
@@ -24,22 +28,20 @@ fn who_waits_for_long_goes_without(rt: HostRuntime) -> Result<(), Fail> {
     let second = turns.begin(&rt);
     assert!(rt; !second.has);
     drop(second);
-    assert!(rt; turns.is(HELD));
+    assert!(rt; is(&turns, HELD));
     drop(first);
-    assert!(rt; turns.is(FREE));
+    assert!(rt; is(&turns, FREE));
     Ok(())
 }
 
 #[test]
-fn a_turn_goes_to_who_sleeps(rt: HostRuntime) -> Result<(), Fail> {
+fn offers_begin_where_few_claims_wait(rt: HostRuntime) -> Result<(), Fail> {
     let turns = Turns::new();
-    let first = turns.begin(&rt);
-    turns.sleepers.fetch_add(1, Ordering::SeqCst);
-    turns.hand_over();
-    assert!(rt; turns.is(HANDED_OVER));
-    assert!(rt; !turns.exchange(FREE, HELD));
-    assert!(rt; turns.begin(&rt).has);
+    let first = turns.begin_offers(&rt);
+    first.count_offer();
+    first.count_taken();
     drop(first);
+    assert!(rt; turns.begin_offers(&rt).has);
     Ok(())
 }
 

@@ -1,68 +1,61 @@
-use Rattle.std.proofs.Common.{refl, arith, ◌∙◌}
-use Rattle.crew.proofs.Lefts.{first_offer, left_none, next_claim, next_offer, refused_offer}
+use Rattle.std.proofs.Common.{◌≡◌, ◌<◌, ◌+◌, ◌^◌, length, refl, arith, rules, ◌∙◌}
+use Rattle.crew.proofs.Lefts.{behind_offers, first_offer, left_none}
 use Rattle.crew.proofs.Passes.{further, further_where_ok, leaves_later, leaves_later_where_err, unchanged}
 use Rattle.crew.proofs.intake.take_in.Goals as goal
 
-pub loop-next-init : goal.loop-next-init
-loop-next-init g c = (
+pub loop-ahead-init : goal.loop-ahead-init
+loop-ahead-init g c = (
   unchanged (g.G.Gate.has_pass c.args.gate.now) g.G.Gate.known c.args.pass c.args.pass c.requires.own refl,
   first_offer c.reader_begins_with_all_rows.ensures c.args.terms.now (g.G.Gate.known c.args.pass).seen c.args.provider c.in-Ok.rows c.requires.terms c.requires.least
       c.requires.most c.in-Ok.ensures.rows,
 )
 
+pub overflow_add-behind : goal.overflow_add-behind
+overflow_add-behind g c =
+    let size : c.len.result ≡ length c.in-Ok-read_ahead.ahead.claims.items = search rules in
+    let count : c.loop-ahead.count < 2 ^ 64 = search rules in
+    let place = c.loop-ahead.invariant.1.place in
+    let room = c.in-Ok-read_ahead.ensures.room c.loop-ahead.invariant.1.fewer (omega (arith, place, count)) in
+    omega (arith, size, place, room)
+
+pub offer_all-requires-clause-room : goal.offer_all-requires-clause-room
+offer_all-requires-clause-room g c κs within =
+    let count : c.loop-ahead.count < 2 ^ 64 = search rules in
+    let place = c.loop-ahead.invariant.1.place in
+    let room = c.in-Ok-read_ahead.ensures.room c.loop-ahead.invariant.1.fewer (omega (arith, place, count)) in
+    omega (arith, place, room)
+
+pub returns-in-Ok-None-default-clause-goes_on : goal.returns-in-Ok-None-default-clause-goes_on
+returns-in-Ok-None-default-clause-goes_on g c = further (g.G.Gate.has_pass c.args.gate.now) g.G.Gate.known c.args.pass c.loop-ahead.pass c.in-Ok-None-default.pass c.loop-ahead.invariant.0 c.in-Ok-None-default.ensures.goes_on
+
+pub returns-in-Err-offer_all-clause-leaves : goal.returns-in-Err-offer_all-clause-leaves
+returns-in-Err-offer_all-clause-leaves g c =
+    leaves_later (g.G.Gate.has_pass c.args.gate.now) g.G.Gate.known c.args.pass c.loop-ahead.pass c.in-Err-offer_all.left c.loop-ahead.invariant.0 c.in-Err-offer_all.ensures.leaves
+
+pub returns-then-is_last-clause-goes_on : goal.returns-then-is_last-clause-goes_on
+returns-then-is_last-clause-goes_on g c =
+    let here = further (g.G.Gate.has_pass c.args.gate.now) g.G.Gate.known c.args.pass c.loop-ahead.pass c.in-Ok-Some-default.pass c.loop-ahead.invariant.0 c.in-Ok-Some-default.ensures.goes_on in
+    further_where_ok (g.G.Gate.has_pass c.args.gate.now) g.G.Gate.known c.args.pass c.in-Ok-Some-default.pass c.end.result here c.end.ensures.goes_on
+
+pub returns-then-is_last-clause-leaves : goal.returns-then-is_last-clause-leaves
+returns-then-is_last-clause-leaves g c =
+    let here = further (g.G.Gate.has_pass c.args.gate.now) g.G.Gate.known c.args.pass c.loop-ahead.pass c.in-Ok-Some-default.pass c.loop-ahead.invariant.0 c.in-Ok-Some-default.ensures.goes_on in
+    leaves_later_where_err (g.G.Gate.has_pass c.args.gate.now) g.G.Gate.known c.args.pass c.in-Ok-Some-default.pass c.end.result here c.end.ensures.leaves
+
+pub loop-ahead-preserved : goal.loop-ahead-preserved
+loop-ahead-preserved g c =
+    let on = c.in-Ok-Some-default.ensures in
+    let next = rw c.in-Ok-Some-default.field-0-0-is at on.next in
+    let size : c.len.result ≡ length c.in-Ok-read_ahead.ahead.claims.items = search rules in (
+      further (g.G.Gate.has_pass c.args.gate.now) g.G.Gate.known c.args.pass c.loop-ahead.pass c.in-Ok-Some-default.pass c.loop-ahead.invariant.0 on.goes_on,
+      rw size (behind_offers c.args.terms.now (g.G.Gate.known c.loop-ahead.pass).seen (g.G.Gate.known c.in-Ok-Some-default.pass).seen c.args.provider c.loop-ahead.count
+          c.loop-ahead.expected c.in-Ok-Some-default.next c.loop-ahead.rows c.read_ahead.new.rows c.in-Ok-read_ahead.ahead.claims.items c.loop-ahead.invariant.1
+          c.in-Ok-read_ahead.ensures.ahead (on.goes_on.seen.terms ∙ c.loop-ahead.invariant.1.of_terms) next.0 next.1),
+    )
+
 pub end-requires-clause-claims : goal.end-requires-clause-claims
 end-requires-clause-claims g c κs within T is =
-    let none = rw c.in_default-next.is at c.in-Ok-next.ensures.gives in
-    left_none c.no_records_give_no_rows.ensures c.args.terms.now T c.args.provider c.loop-next.count c.loop-next.rows is c.requires.least c.requires.most none.0
-    (c.loop-next.invariant.1.claims T is)
-
-pub loop-next-preserved-in_default-row : goal.loop-next-preserved-in_default-row
-loop-next-preserved-in_default-row g c =
-    let some = rw c.in-Some.is at c.in-Ok-next.ensures.gives in
-    let gives = rw c.in_default-row.is at some in (
-      c.loop-next.invariant.0,
-      refused_offer c.given_row_has_the_claim.ensures c.args.terms.now (g.G.Gate.known c.loop-next.pass).seen c.args.provider
-          c.loop-next.count c.loop-next.expected c.loop-next.rows c.next.new.self c.in_default-row.field-0 c.in_default-row.field-1 c.loop-next.invariant.1 gives,
-    )
-
-pub offer-requires-clause-filed : goal.offer-requires-clause-filed
-offer-requires-clause-filed g c κs within T is =
-    let some = rw c.in-Some.is at c.in-Ok-next.ensures.gives in
-    let gives = rw c.in-Good.is at some in
-    next_claim c.given_row_has_the_claim.ensures T c.args.provider c.loop-next.count c.loop-next.rows c.next.new.self
-    c.in-Good.number c.in-Good.place c.in-Good.claim (c.loop-next.invariant.1.claims T is) gives
-
-pub loop-next-preserved-then-place-expected : goal.loop-next-preserved-then-place-expected
-loop-next-preserved-then-place-expected g c =
-    let some = rw c.in-Some.is at c.in-Ok-next.ensures.gives in
-    let gives = rw c.in-Good.is at some in (
-      c.loop-next.invariant.0,
-      next_offer c.given_row_has_the_claim.ensures c.args.terms.now (g.G.Gate.known c.loop-next.pass).seen
-          (g.G.Gate.known c.loop-next.pass).seen c.args.provider c.loop-next.count c.loop-next.expected c.loop-next.expected c.loop-next.rows c.next.new.self c.in-Good.number
-          c.in-Good.place c.in-Good.claim c.loop-next.invariant.1 gives c.loop-next.invariant.1.of_terms (omega (arith, c.if-place-expected.true))
-          c.loop-next.invariant.1.has_taken,
-    )
-
-pub loop-next-preserved : goal.loop-next-preserved
-loop-next-preserved g c =
-    let some = rw c.in-Some.is at c.in-Ok-next.ensures.gives in
-    let gives = rw c.in-Good.is at some in
-    let on = c.in-Ok-Some-default.ensures in (
-      further (g.G.Gate.has_pass c.args.gate.now) g.G.Gate.known c.args.pass c.loop-next.pass c.in-Ok-Some-default.pass c.loop-next.invariant.0 on.goes_on,
-      next_offer c.given_row_has_the_claim.ensures c.args.terms.now (g.G.Gate.known c.loop-next.pass).seen
-          (g.G.Gate.known c.in-Ok-Some-default.pass).seen c.args.provider c.loop-next.count c.loop-next.expected c.in-Ok-Some-default.next c.loop-next.rows c.next.new.self
-          c.in-Good.number c.in-Good.place c.in-Good.claim c.loop-next.invariant.1 gives (on.goes_on.seen.terms ∙ c.loop-next.invariant.1.of_terms)
-          (rw c.in-Ok-Some-default.field-0-0-is at on.next).0 (rw c.in-Ok-Some-default.field-0-0-is at on.next).1,
-    )
-
-pub returns-in_default-next-clause-goes_on : goal.returns-in_default-next-clause-goes_on
-returns-in_default-next-clause-goes_on g c =
-    further_where_ok (g.G.Gate.has_pass c.args.gate.now) g.G.Gate.known c.args.pass c.loop-next.pass c.end.result c.loop-next.invariant.0 c.end.ensures.goes_on
-
-pub returns-in_default-next-clause-leaves : goal.returns-in_default-next-clause-leaves
-returns-in_default-next-clause-leaves g c =
-    leaves_later_where_err (g.G.Gate.has_pass c.args.gate.now) g.G.Gate.known c.args.pass c.loop-next.pass c.end.result c.loop-next.invariant.0 c.end.ensures.leaves
-
-pub returns-in-Err-offer-clause-leaves : goal.returns-in-Err-offer-clause-leaves
-returns-in-Err-offer-clause-leaves g c =
-    leaves_later (g.G.Gate.has_pass c.args.gate.now) g.G.Gate.known c.args.pass c.loop-next.pass c.in-Err-offer.left c.loop-next.invariant.0 c.in-Err-offer.ensures.leaves
+    let size : c.len.result ≡ length c.in-Ok-read_ahead.ahead.claims.items = search rules in
+    let behind = (c.in-Ok-read_ahead.ensures.ahead.next T c.args.provider c.loop-ahead.count (c.loop-ahead.invariant.1.claims T is)).1 in
+    rw size (left_none c.no_records_give_no_rows.ensures c.args.terms.now T c.args.provider (c.loop-ahead.count + length c.in-Ok-read_ahead.ahead.claims.items) c.read_ahead.new.rows
+    is c.requires.least c.requires.most (c.in-Ok-read_ahead.ensures.last c.if-is_last.true) behind)

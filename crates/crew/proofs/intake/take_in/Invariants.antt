@@ -3,10 +3,10 @@ use Rattle.crew.specs.Passes.{GoesOn}
 use Rattle.crew.proofs.Lefts.{IsAtOffer}
 use Rattle.crew.proofs.intake.take_in.Given as goal
 
-abbrev pub invariant-loop-next : goal.invariant-loop-next
-invariant-loop-next g l =
+abbrev pub invariant-loop-ahead : goal.invariant-loop-ahead
+invariant-loop-ahead g l =
     GoesOn (g.G.Gate.has_pass l.gate) g.G.Gate.known l.initial.pass l.pass × IsAtOffer l.terms (g.G.Gate.known l.pass).seen l.provider l.count l.expected l.rows
 
 -- the records that are left
-abbrev pub decreases-loop-next : goal.decreases-loop-next
-decreases-loop-next g l = length l.rows.records
+abbrev pub decreases-loop-ahead : goal.decreases-loop-ahead
+decreases-loop-ahead g l = length l.rows.records
