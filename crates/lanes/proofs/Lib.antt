@@ -11,3 +11,4 @@ pub mod Queue
 pub mod Work
 pub mod Growing
 pub mod Moves
+pub mod Noted

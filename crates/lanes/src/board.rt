@@ -8,8 +8,9 @@ ghost use Rattle.lanes.specs.Chains.{IsKeyOf};
 
 use crate::chains::Chains;
 use crate::lasts::Key;
-use crate::names::Names;
 use crate::picked::Picked;
+use crate::register::Register;
+use crate::stored::StoredClaim;
 use settlement::{Acc, Claim};
 use std::alloc::{AllocError, AllocFailed, Global};
 use std::marker::Model;
@@ -17,7 +18,8 @@ use std::marker::Model;
 /// The places of claims, by position. Contracts see the list of places.
 #[derive(Debug, Drop)]
 pub struct Lanes {
-    names: Names,
+    alloc: Global,
+    names: Register,
     chains: Chains,
 }
 
@@ -39,7 +41,8 @@ impl Lanes {
         ensures { result ≡ [] }
     {
         Lanes {
-            names: Names::new(alloc),
+            alloc,
+            names: Register::new(alloc),
             chains: Chains::new(alloc),
         }
     }
@@ -66,7 +69,11 @@ impl Lanes {
         if self.chains.prepare(key).is_err() {
             return Err(AllocFailed { value: claim });
         }
-        self.chains.add(key, claim);
+        let stored = match StoredClaim::new(self.alloc, claim) {
+            Ok(stored) => stored,
+            Err(failed) => return Err(failed),
+        };
+        self.chains.add(key, stored);
         Ok(())
     }
 
@@ -106,7 +113,7 @@ impl Lanes {
 
 // The account of a claim in a year, by numbers; names that are new get one.
 #[tactic(auto, using(crate::proofs::Growing::grows_on, crate::proofs::Growing::key_alone, crate::proofs::Growing::key_apart))]
-fn key_of(names: &mut Names, claim: &Claim, year: u16) -> Result<Key, AllocError>
+fn key_of(names: &mut Register, claim: &Claim, year: u16) -> Result<Key, AllocError>
     ensures key { IfOk result (λ key. IsKeyOf names.new key (account_in year claim.now)) }
     ensures grows { Grows names.old names.new }
     ensures distinct { AreDistinct names.new }

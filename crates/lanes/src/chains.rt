@@ -13,7 +13,8 @@ use crate::phase::Phase;
 use crate::picked::Picked;
 use crate::short::short;
 use crate::slot::{Slot, left_at};
-use settlement::{Acc, Claim};
+use crate::stored::StoredClaim;
+use settlement::Acc;
 use std::alloc::{AllocError, Global};
 use std::collections::VecDeque;
 
@@ -63,7 +64,7 @@ impl Chains {
     }
 
     /// Adds a claim of an account behind the others.
-    pub fn add(&mut self, key: Key, claim: Claim)
+    pub fn add(&mut self, key: Key, claim: StoredClaim)
         requires room { HasRoom self.old key }
         requires within { (last : ℕ) → end_of self.old.ends key.0 ≡ Some last → last < vec_len self.old.slots }
         ensures slots { AddsSlot self.old self.new key claim (end_of self.old.ends key.0) }
@@ -86,7 +87,7 @@ impl Chains {
     }
 
     // Links the last slot of a lane to what comes behind it: the phase of the claim there.
-    fn follow(&mut self, last: u32, next: u32, claim: Claim) -> Phase
+    fn follow(&mut self, last: u32, next: u32, claim: StoredClaim) -> Phase
         requires { last < vec_len self.old.slots }
         ensures { Follows self.old self.new last next claim result }
     {
@@ -103,7 +104,7 @@ impl Chains {
         let position = self.ready.pop_front()?;
         let own = left_at(&self.slots, self.slots[position].own);
         let household = left_at(&self.slots, self.slots[position].household);
-        let claim = self.slots[position].pick();
+        let claim = self.slots[position].pick().into_claim();
         Some(Picked {
             position,
             claim,

@@ -10,11 +10,14 @@ mod board;
 mod chains;
 mod ends;
 mod lasts;
+mod lately;
 mod names;
 mod phase;
 mod picked;
+mod register;
 mod short;
 mod slot;
+mod stored;
 
 pub use board::Lanes;
 pub use picked::Picked;

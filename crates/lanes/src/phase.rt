@@ -3,15 +3,16 @@ ghost use Rattle.std.specs.Prelude.{◌≡◌};
 ghost use Rattle.lanes.specs.Places.{is_decided, is_ready, left_of};
 ghost use Rattle.lanes.specs.Calls.{phase_after};
 
-use settlement::{Acc, Claim};
+use crate::stored::StoredClaim;
+use settlement::Acc;
 
-/// How far a claim is on its way to a decision.
+/// How far a claim is on its way to a decision. One that isn't taken stands apart, so that a decided one takes little.
 #[derive(Debug, Drop)]
 pub enum Phase {
     /// An earlier claim of its family is not decided.
-    Waiting(Claim),
+    Waiting(StoredClaim),
     /// It may be taken.
-    Ready(Claim),
+    Ready(StoredClaim),
     /// It is taken.
     InWork,
     /// It is decided, and this is what it left of its account's accumulators.
@@ -20,7 +21,7 @@ pub enum Phase {
 
 impl Phase {
     /// The phase of its family's next claim.
-    pub fn behind(&self, claim: Claim) -> Phase
+    pub fn behind(&self, claim: StoredClaim) -> Phase
         ensures { result ≡ phase_after self.now claim }
     {
         match self {

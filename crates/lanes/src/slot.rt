@@ -6,7 +6,8 @@ ghost use Rattle.lanes.specs.Chains.{left_at};
 
 use crate::lasts::Key;
 use crate::phase::Phase;
-use settlement::{Acc, Claim};
+use crate::stored::StoredClaim;
+use settlement::Acc;
 use std::mem::replace;
 
 /// Where a claim is kept.
@@ -26,7 +27,7 @@ pub struct Slot {
 
 impl Slot {
     /// Takes its claim, which is ready.
-    pub fn pick(&mut self) -> Claim
+    pub fn pick(&mut self) -> StoredClaim
         requires { is_ready self.old.phase ≡ true }
         ensures ready { self.old.phase ≡ Ready result }
         ensures taken { self.new ≡ record self.old { phase = InWork } }

@@ -38,7 +38,7 @@ done : (c : goal.After-add) → Adds c.key_of.new.names c.prepare.new.self c.add
 done c = record {
   kept = prepared-kept c.self.inside.names c.key_of.new.names c.self.inside.chains c.prepare.new.self c.self.invariant c.in-Ok.ensures.grows c.in-Ok.ensures.distinct c.prepare.ensures.same;
   key_is = c.in-Ok.ensures.key;
-  slots = c.add.ensures.slots;
+  slots = rw (← c.in-Ok-new.ensures.value) c.add.ensures.slots;
   back = c.add.ensures.back;
 }
 
@@ -53,3 +53,15 @@ returns-clause-added c =
 
 pub returns-clause-in_turn : goal.returns-clause-in_turn
 returns-clause-in_turn c = (added-kept c.key_of.new.names c.prepare.new.self c.add.new.self c.in-Ok.key c.args.claim c.args.year (done c)).in_turn
+
+pub invariant_of-self-in-Err : goal.invariant_of-self-in-Err
+invariant_of-self-in-Err c =
+    prepared-kept c.self.inside.names c.key_of.new.names c.self.inside.chains c.prepare.new.self c.self.invariant c.in-Ok.ensures.grows c.in-Ok.ensures.distinct c.prepare.ensures.same
+
+pub returns-in-Err-clause-refused : goal.returns-in-Err-clause-refused
+returns-in-Err-clause-refused c =
+    prepared-places c.self.inside.names c.key_of.new.names c.self.inside.chains c.prepare.new.self c.self.invariant c.in-Ok.ensures.grows c.prepare.ensures.same ∙ c.self.view_is
+
+pub returns-in-Err-clause-in_turn : goal.returns-in-Err-clause-in_turn
+returns-in-Err-clause-in_turn c =
+    (prepared-kept c.self.inside.names c.key_of.new.names c.self.inside.chains c.prepare.new.self c.self.invariant c.in-Ok.ensures.grows c.in-Ok.ensures.distinct c.prepare.ensures.same).in_turn
