@@ -11,4 +11,3 @@ pub mod Queue
 pub mod Work
 pub mod Growing
 pub mod Moves
-pub mod Noted

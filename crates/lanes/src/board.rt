@@ -8,8 +8,8 @@ ghost use Rattle.lanes.specs.Chains.{IsKeyOf};
 
 use crate::chains::Chains;
 use crate::lasts::Key;
+use crate::names::Names;
 use crate::picked::Picked;
-use crate::register::Register;
 use crate::stored::StoredClaim;
 use settlement::{Acc, Claim};
 use std::alloc::{AllocError, AllocFailed, Global};
@@ -19,7 +19,7 @@ use std::marker::Model;
 #[derive(Debug, Drop)]
 pub struct Lanes {
     alloc: Global,
-    names: Register,
+    names: Names,
     chains: Chains,
 }
 
@@ -42,7 +42,7 @@ impl Lanes {
     {
         Lanes {
             alloc,
-            names: Register::new(alloc),
+            names: Names::new(alloc),
             chains: Chains::new(alloc),
         }
     }
@@ -113,7 +113,7 @@ impl Lanes {
 
 // The account of a claim in a year, by numbers; names that are new get one.
 #[tactic(auto, using(crate::proofs::Growing::grows_on, crate::proofs::Growing::key_alone, crate::proofs::Growing::key_apart))]
-fn key_of(names: &mut Register, claim: &Claim, year: u16) -> Result<Key, AllocError>
+fn key_of(names: &mut Names, claim: &Claim, year: u16) -> Result<Key, AllocError>
     ensures key { IfOk result (λ key. IsKeyOf names.new key (account_in year claim.now)) }
     ensures grows { Grows names.old names.new }
     ensures distinct { AreDistinct names.new }

@@ -1,7 +1,7 @@
-//! Names: each of them once, with its number.
+//! Names: each of them once, by number.
 ghost use Rattle.std.specs.Prelude.{◌≡◌, ◌++◌, ◌∷◌, [], Some, OnOk, OnErr, IfOk, IfSome, IfNone};
 ghost use Rattle.std.specs.List.{slice_get};
-ghost use Rattle.lanes.specs.Names.{AreDistinct, IsAbsent};
+ghost use Rattle.lanes.specs.Names.{AreDistinct, Grows, IsAbsent};
 
 use crate::short::short;
 use std::alloc::{AllocError, Global};
@@ -37,8 +37,21 @@ impl Names {
         }
     }
 
-    /// The number of a name, if it is there.
-    pub fn find(&self, name: &str) -> Option<u32>
+    /// The number of a name, which is added where it isn't there.
+    #[tactic(auto, using(crate::proofs::Growing::grows_same, crate::proofs::Growing::grows_added))]
+    pub fn number(&mut self, name: &str) -> Result<u32, AllocError>
+        ensures number { IfOk result (λ number. slice_get self.new number ≡ Some name.now) }
+        ensures grows { Grows self.old self.new }
+        ensures distinct { AreDistinct self.new }
+    {
+        match self.find(name) {
+            Some(number) => Ok(number),
+            None => self.add(name),
+        }
+    }
+
+    // The number of a name.
+    fn find(&self, name: &str) -> Option<u32>
         ensures found { IfSome result (λ number. slice_get self.now number ≡ Some name.now) }
         ensures absent { IfNone result (IsAbsent self.now name.now) }
         ensures distinct { AreDistinct self.now }
@@ -46,8 +59,8 @@ impl Names {
         self.numbers.get(name).copied()
     }
 
-    /// Adds a name that isn't there: its number is how many were there.
-    pub fn add(&mut self, name: &str) -> Result<u32, AllocError>
+    // Adds a name that isn't there: its number is how many were there.
+    fn add(&mut self, name: &str) -> Result<u32, AllocError>
         requires { IsAbsent self.old name.now }
         ensures number { IfOk result (λ number. slice_get self.new number ≡ Some name.now) }
         ensures added { OnOk result (self.new ≡ self.old ++ name.now ∷ []) }
