@@ -19,7 +19,7 @@ mod tests;
 
 /// How many claims a thread offers or takes in one turn at most. A turn is to be long beside the time that a sleeper takes to wake up,
 /// and short beside the time in which the others run out of work.
-pub const CALLS_LIMIT: u32 = 256;
+pub const CALLS_LIMIT: u32 = 1_024;
 
 /// Nobody has the turn.
 const FREE: u32 = 0;
