@@ -50,8 +50,7 @@ fn take_firsts<'t>(
     let other = take_job(rt, terms, gate, 3)?;
     assert!(rt; is_job(&first, 0, "e1") && is_job(&other, 3, "e4"));
     assert!(rt; stands_at(other.acc, 0, 0, 0, 0));
-    find_nothing(rt, terms, gate)?;
-    Ok(first)
+    alone(rt, terms, gate, first)
 }
 
 // A claim is decided, and the next one of another member of its family is taken at what the family has then.
@@ -73,8 +72,23 @@ fn go_on<'t>(
     record(rt, alloc, terms, gate, job)?;
     let next = take_job(rt, terms, gate, position)?;
     assert!(rt; stands_at(next.acc, 0, fmet, 0, foop));
+    alone(rt, terms, gate, next)
+}
+
+// The job is in work, and no other claim may be taken.
+fn alone<'t>(
+    rt: &impl Abort,
+    terms: &'t Terms<'t>,
+    gate: &mut GateState<'t>,
+    job: Job,
+) -> Result<Job, AllocError>
+    requires terms { gate.old.terms ≡ terms.now }
+    requires at_work { IsAtWork gate.old job }
+    ensures terms { gate.new.terms ≡ terms.now }
+    ensures at_work { IfOk result (λ job. IsAtWork gate.new job) }
+{
     find_nothing(rt, terms, gate)?;
-    Ok(next)
+    Ok(job)
 }
 
 fn family_calls(rt: &impl Abort, alloc: Global, terms: &Terms) -> Result<(), AllocError> {
