@@ -8,7 +8,7 @@ use std::sync::Wait;
 use std::sync::atomic::{AtomicU64, Ordering};
 use std::time::Duration;
 
-/// So many claims may wait before an intake sleeps: some turns for each of many workers, and a few megabytes.
+/// So many claims may wait before an intake sleeps: some turns of several workers, and a few megabytes.
 pub(crate) const CLAIMS_LIMIT: u64 = 8_192;
 
 /// It goes on once no more than so many wait. The workers have enough to do until it has woken up.
