@@ -30,6 +30,15 @@ impl<T> Sequence<T> {
         }
     }
 
+    /// No items, and room for so many.
+    pub fn with_capacity(alloc: Global, room: usize) -> Result<Self, AllocError>
+        ensures { IfOk result (λ list. list ≡ []) }
+    {
+        Ok(Sequence {
+            items: Vec::with_capacity(alloc, room)?,
+        })
+    }
+
     /// The items as a slice.
     pub fn as_slice(&self) -> &[T]
         ensures { result.now ≡ self.now }
@@ -96,7 +105,7 @@ impl<T: Drop> Sequence<T> {
 pub fn duplicates(alloc: Global, values: &[Value]) -> Result<Sequence<Value>, AllocError>
     ensures { IfOk result (λ copies. copies ≡ values.now) }
 {
-    let mut copies = Sequence::new(alloc);
+    let mut copies = Sequence::with_capacity(alloc, values.len())?;
     for value in values {
         copies.push(value.duplicate(alloc)?)?;
     }
