@@ -1,6 +1,6 @@
 //! Whole plans, from their texts to their values: chains of tables, lists, and want of memory.
 use crate::answers::{give, give_text, shown, shown_by_place};
-use crate::plans::{CHAIN, SUM_AND_LEVEL};
+use crate::plans::{chain_plan, sum_and_level_plan};
 use crate::tables::told;
 use dtable::{
     Env, Fault, InputData, Inputs, Name, Plan, PlanFault, Sequence, Valuer, all_names, read_plan,
@@ -58,8 +58,12 @@ fn is_answered(rt: &impl Abort, alloc: Global, plan: &Plan, claim: &Claim) -> Re
     Ok(())
 }
 
+fn claims() -> &'static [Claim] {
+    &CLAIMS
+}
+
 fn are_answered(rt: &impl Abort, alloc: Global, plan: &Plan) -> Result<(), Fail> {
-    for claim in &CLAIMS {
+    for claim in claims() {
         is_answered(rt, alloc, plan, claim)?;
     }
     Ok(())
@@ -108,8 +112,12 @@ const LEVELS: [(&str, &str); 4] = [
     ("9", "norule:2"),
 ];
 
+fn levels() -> &'static [(&'static str, &'static str)] {
+    &LEVELS
+}
+
 fn are_levels(rt: &impl Abort, alloc: Global, plan: &Plan) -> Result<(), Fail> {
-    for (x, wanted) in &LEVELS {
+    for (x, wanted) in levels() {
         let text = told(rt, alloc, plan, x, "z")?;
         assert!(rt; text.as_slice() == wanted.as_bytes(), "{x}");
     }
@@ -118,7 +126,7 @@ fn are_levels(rt: &impl Abort, alloc: Global, plan: &Plan) -> Result<(), Fail> {
 
 #[test]
 fn a_table_reads_an_earlier_one(rt: HostRuntime) -> Result<(), Fail> {
-    let plan = read_plan(rt.alloc(), SUM_AND_LEVEL.as_bytes())?;
+    let plan = read_plan(rt.alloc(), sum_and_level_plan().as_bytes())?;
     are_levels(&rt, rt.alloc(), &plan)
 }
 
@@ -129,10 +137,18 @@ const OF_CHAIN: [&str; 6] = ["score", "risk", "step", "note", "points", "rules"]
 const CHAIN_ANSWERS: &str =
     "3.25\n\"HIGH\"\nlist \"CALL\" \"MAIL\"\nlist \"OVER\" \"LOOK\"\nlist 3 1\n2\n";
 
+fn outputs_of_chain() -> &'static [&'static str] {
+    &OF_CHAIN
+}
+
+fn chain_answers() -> &'static str {
+    CHAIN_ANSWERS
+}
+
 /// Whether the chain's outputs answer what is wanted, where there is memory for their text.
 fn are_values_of_chain(alloc: Global, values: &Env) -> bool {
-    match shown(alloc, values, &OF_CHAIN) {
-        Ok(text) => text.as_slice() == CHAIN_ANSWERS.as_bytes(),
+    match shown(alloc, values, outputs_of_chain()) {
+        Ok(text) => text.as_slice() == chain_answers().as_bytes(),
         Err(_) => true,
     }
 }
@@ -140,7 +156,7 @@ fn are_values_of_chain(alloc: Global, values: &Env) -> bool {
 // The gate runs it once for each of its allocations, with that one refused: each refusal ends in one of the early returns.
 #[test]
 fn a_chain_has_its_values_or_no_memory(rt: HostRuntime) -> Result<(), Fail> {
-    let plan = match read_plan(rt.alloc(), CHAIN.as_bytes()) {
+    let plan = match read_plan(rt.alloc(), chain_plan().as_bytes()) {
         Ok(plan) => plan,
         Err(fault) => {
             assert_eq!(rt; fault, PlanFault::from(AllocError));

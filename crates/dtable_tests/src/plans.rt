@@ -1,7 +1,8 @@
-//! Plans that the tests read.
+//! Plans that the tests read. Each comes from a function, since a text that a test names goes into its proof whole.
 
 /// A plan with every key: a priority table, a sum over it, a list, and roles.
-pub const PLAN: &str = r#"version = 1
+pub fn full_plan() -> &'static str {
+    r#"version = 1
 fields = [{name = "age", kind = "number"}, {name = "code", kind = "text"}]
 
 [roles]
@@ -33,19 +34,23 @@ hit = "R"
 inputs = [{name = "billed"}, {name = "fee"}]
 outputs = [{name = "note", kind = "text"}]
 rules = [{when = ['>100', '-'], then = ['"OVER"']}]
-"#;
+"#
+}
 
 /// The plan of the formats page with one table over one field.
-pub const SCORE: &str = r#"version = 1
+pub fn score_plan() -> &'static str {
+    r#"version = 1
 fields = [{name = "x", kind = "number"}]
 [[tables]]
 inputs = [{name = "x"}]
 outputs = [{name = "y", kind = "number"}]
 rules = [{when = ['[0..10['], then = ['1']}, {when = ['>=10'], then = ['2.5']}]
-"#;
+"#
+}
 
 /// The plan of the formats page with roles alone.
-pub const ROLES: &str = r#"version = 1
+pub fn roles_plan() -> &'static str {
+    r#"version = 1
 [roles]
 cover = "true"
 fee = "5"
@@ -53,10 +58,12 @@ deductible = "100"
 copay = "0"
 rate = "0"
 oop_max = "1000"
-"#;
+"#
+}
 
 /// Tables in a chain, under five policies: a sum, the risk of highest priority, and lists that read both.
-pub const CHAIN: &str = r#"version = 1
+pub fn chain_plan() -> &'static str {
+    r#"version = 1
 [[tables]]
 hit = "C+"
 inputs = [{name = "billed"}]
@@ -86,10 +93,12 @@ hit = "C#"
 inputs = [{name = "risk"}]
 outputs = [{name = "rules", kind = "text"}]
 rules = [{when = ['"HIGH"'], then = ['"a"']}, {when = ['-'], then = ['"a"']}, {when = ['"LOW"'], then = ['"a"']}]
-"#;
+"#
+}
 
 /// A sum, and a table that reads it.
-pub const SUM_AND_LEVEL: &str = r#"version = 1
+pub fn sum_and_level_plan() -> &'static str {
+    r#"version = 1
 fields = [{name = "x", kind = "number"}]
 
 [[tables]]
@@ -107,4 +116,5 @@ rules = [
 inputs = [{name = "y"}]
 outputs = [{name = "z", kind = "text"}]
 rules = [{when = ['<3'], then = ['"LOW"']}, {when = ['[3..9]'], then = ['"HIGH"']}]
-"#;
+"#
+}

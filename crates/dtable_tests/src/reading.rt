@@ -1,5 +1,5 @@
 //! The plan reader: a plan with every key, broken plans with the fault of each, and each prefix of a plan.
-use crate::plans::{PLAN, ROLES, SCORE};
+use crate::plans::{full_plan, roles_plan, score_plan};
 use dtable::{Hit, InputData, Source, Table, read_plan};
 use feel_tests::Kind;
 use std::alloc::Global;
@@ -26,18 +26,29 @@ fn has_name(names: &[InputData], place: usize, name: &str, kind: Kind) -> bool {
         .is_some_and(|data| data.name.as_str() == name && data.kind == kind)
 }
 
+/// Whether these are the names, in order, and no others.
+fn are_names(names: &[InputData], wanted: &[(&str, Kind)]) -> bool {
+    let mut as_wanted = names.len() == wanted.len();
+    for (place, (name, kind)) in wanted.iter().enumerate() {
+        as_wanted = as_wanted && has_name(names, place, name, *kind);
+    }
+    as_wanted
+}
+
+fn plan_names() -> &'static [(&'static str, Kind)] {
+    &NAMES
+}
+
 #[test]
 fn a_plan_has_its_names(rt: HostRuntime) -> Result<(), Fail> {
-    let plan = read_plan(rt.alloc(), PLAN.as_bytes())?;
-    assert_eq!(rt; plan.names().len(), NAMES.len());
-    for (place, (name, kind)) in NAMES.iter().enumerate() {
-        assert!(rt; has_name(plan.names(), place, name, *kind), "{name}");
-    }
+    let plan = read_plan(rt.alloc(), full_plan().as_bytes())?;
+    assert!(rt; are_names(plan.names(), plan_names()));
     Ok(())
 }
 
 /// A plan that keeps families, with a field, and roles alone.
-const FAMILIES: &str = r#"
+fn families_plan() -> &'static str {
+    r#"
 version = 3
 fields = [{name = "code", kind = "text"}]
 [roles]
@@ -49,7 +60,8 @@ rate = "0.2"
 oop_max = "60"
 family_deductible = "80"
 family_oop_max = "fmet"
-"#;
+"#
+}
 
 /// Its names, and their kinds.
 const FAMILY_NAMES: [(&str, Kind); 11] = [
@@ -66,20 +78,21 @@ const FAMILY_NAMES: [(&str, Kind); 11] = [
     ("foop", Kind::Number),
 ];
 
+fn family_names() -> &'static [(&'static str, Kind)] {
+    &FAMILY_NAMES
+}
+
 #[test]
 fn a_plan_that_keeps_families_has_their_names(rt: HostRuntime) -> Result<(), Fail> {
-    let plan = read_plan(rt.alloc(), FAMILIES.as_bytes())?;
+    let plan = read_plan(rt.alloc(), families_plan().as_bytes())?;
     assert!(rt; plan.version() == 3 && plan.keeps_years() && plan.keeps_families());
-    assert_eq!(rt; plan.names().len(), FAMILY_NAMES.len());
-    for (place, (name, kind)) in FAMILY_NAMES.iter().enumerate() {
-        assert!(rt; has_name(plan.names(), place, name, *kind), "{name}");
-    }
+    assert!(rt; are_names(plan.names(), family_names()));
     Ok(())
 }
 
 #[test]
 fn a_plan_that_keeps_families_has_their_limits(rt: HostRuntime) -> Result<(), Fail> {
-    let plan = read_plan(rt.alloc(), FAMILIES.as_bytes())?;
+    let plan = read_plan(rt.alloc(), families_plan().as_bytes())?;
     let roles = plan.roles().ok_or("no roles")?;
     let limits = roles.family.as_ref().ok_or("no limits")?;
     assert!(rt; matches!(&limits.deductible, Source::Literal(_)));
@@ -107,9 +120,13 @@ const FAMILY_FAULTS: [Edit; 8] = [
     ("version = 3", "version = 4", "3 0 0 0"),
 ];
 
+fn family_faults() -> &'static [Edit] {
+    &FAMILY_FAULTS
+}
+
 #[test]
 fn faults_of_families(rt: HostRuntime) -> Result<(), Fail> {
-    are_refused(&rt, rt.alloc(), FAMILIES, &FAMILY_FAULTS)
+    are_refused(&rt, rt.alloc(), families_plan(), family_faults())
 }
 
 fn has_hit(tables: &[Table], place: usize, hit: Hit) -> bool {
@@ -118,7 +135,7 @@ fn has_hit(tables: &[Table], place: usize, hit: Hit) -> bool {
 
 #[test]
 fn a_plan_has_its_tables(rt: HostRuntime) -> Result<(), Fail> {
-    let plan = read_plan(rt.alloc(), PLAN.as_bytes())?;
+    let plan = read_plan(rt.alloc(), full_plan().as_bytes())?;
     let tables = plan.tables();
     assert_eq!(rt; tables.len(), 3);
     assert!(rt;
@@ -133,7 +150,7 @@ fn is_output(source: &Source, wanted: &str) -> bool {
 
 #[test]
 fn a_plan_has_its_roles(rt: HostRuntime) -> Result<(), Fail> {
-    let plan = read_plan(rt.alloc(), PLAN.as_bytes())?;
+    let plan = read_plan(rt.alloc(), full_plan().as_bytes())?;
     let roles = plan.roles().ok_or("no roles")?;
     assert!(rt; is_output(&roles.cover, "covered") && is_output(&roles.fee, "fee"));
     assert!(rt; matches!(&roles.copay, Source::Literal(_)));
@@ -204,14 +221,22 @@ fn are_refused(rt: &impl Abort, alloc: Global, plan: &str, edits: &[Edit]) -> Re
     Ok(())
 }
 
+fn table_faults() -> &'static [Edit] {
+    &TABLE_FAULTS
+}
+
 #[test]
 fn faults_of_tables(rt: HostRuntime) -> Result<(), Fail> {
-    are_refused(&rt, rt.alloc(), SCORE, &TABLE_FAULTS)
+    are_refused(&rt, rt.alloc(), score_plan(), table_faults())
+}
+
+fn role_faults() -> &'static [Edit] {
+    &ROLE_FAULTS
 }
 
 #[test]
 fn faults_of_roles(rt: HostRuntime) -> Result<(), Fail> {
-    are_refused(&rt, rt.alloc(), ROLES, &ROLE_FAULTS)
+    are_refused(&rt, rt.alloc(), roles_plan(), role_faults())
 }
 
 /// The prefixes of the health plan that are TOML: from this length to that one, and the number and the place of the fault; nothing where

@@ -161,24 +161,40 @@ fn are_answered(rt: &impl Abort, alloc: Global, rows: &[Row]) -> Result<(), Fail
     Ok(())
 }
 
+fn two_matches() -> &'static [Row] {
+    &TWO_MATCHES
+}
+
+fn priorities() -> &'static [Row] {
+    &PRIORITIES
+}
+
+fn numbers() -> &'static [Row] {
+    &NUMBERS
+}
+
+fn defaults() -> &'static [Row] {
+    &DEFAULTS
+}
+
 #[test]
 fn two_rules_match(rt: HostRuntime) -> Result<(), Fail> {
-    are_answered(&rt, rt.alloc(), &TWO_MATCHES)
+    are_answered(&rt, rt.alloc(), two_matches())
 }
 
 #[test]
 fn priorities_go_from_left_to_right(rt: HostRuntime) -> Result<(), Fail> {
-    are_answered(&rt, rt.alloc(), &PRIORITIES)
+    are_answered(&rt, rt.alloc(), priorities())
 }
 
 #[test]
 fn matches_are_aggregated(rt: HostRuntime) -> Result<(), Fail> {
-    are_answered(&rt, rt.alloc(), &NUMBERS)
+    are_answered(&rt, rt.alloc(), numbers())
 }
 
 #[test]
 fn values_outside_and_defaults(rt: HostRuntime) -> Result<(), Fail> {
-    are_answered(&rt, rt.alloc(), &DEFAULTS)
+    are_answered(&rt, rt.alloc(), defaults())
 }
 
 // Whether this is the one number of so many units.
@@ -198,10 +214,15 @@ fn first_read(plan: &Plan, inputs: &Inputs, earlier: &[Answers<'_>]) -> Option<i
     }
 }
 
+/// A plan whose one table has two rules that match 2, of which the first one answers.
+fn first_of_two(alloc: Global) -> Result<Plan, Fail> {
+    over_x(alloc, "F", Y, OTHER)
+}
+
 #[test]
 fn a_table_is_answered_for_the_rules_that_match(rt: HostRuntime) -> Result<(), Fail> {
     let alloc = rt.alloc();
-    let plan = over_x(alloc, "F", Y, OTHER)?;
+    let plan = first_of_two(alloc)?;
     let mut inputs = Inputs::new(alloc, &plan)?;
     give(alloc, &mut inputs, X, "2")?;
     let earlier = AnswersByTable::new(alloc);
