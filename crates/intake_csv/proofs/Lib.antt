@@ -15,3 +15,4 @@ pub mod OneRow
 pub mod SomeRow
 pub mod Spelling
 pub mod Households
+pub mod AsciiFields

@@ -4,7 +4,6 @@ ghost use Rattle.std.specs.List.{slice_get};
 ghost use Rattle.std.specs.Option.{option_and_then, option_copied};
 ghost use Rattle.std.specs.Str.{bytes_eq};
 ghost use Rattle.std.specs.Vec.Iter.{into_iter_items};
-ghost use Rattle.csv.specs.Records.{fields_of};
 ghost use Rattle.dtable.specs.Plan.{has_families, has_years};
 ghost use Rattle.settlement.specs.Accounts.{named_or};
 ghost use Rattle.settlement.specs.Opening.{opening};
@@ -19,10 +18,10 @@ use crate::claim::push_family;
 use crate::column::{Content, Layout, Needed, needed_column};
 use crate::fault::{BalanceFault, FileFault, RowCause, RowFault};
 use crate::household::{Household, Refusal};
+use crate::line::Line;
 use crate::record::read_record;
 use crate::sheet::{Sheet, read_sheet};
 use crate::values::{take_family, take_money, take_text};
-use csv::ByteRecord;
 use dtable::{Plan, Sequence, has_families, has_years};
 use feel_tests::{Text, Value, year_in};
 use settlement::{Acc, Balance};
@@ -79,9 +78,9 @@ fn read_by(alloc: Global, version: u8, text: &[u8]) -> Result<Balances, BalanceF
     let mut balances = Balances {
         years: Vec::new(alloc),
     };
-    let mut record = ByteRecord::new(alloc);
+    let mut record = Line::new(alloc);
     let mut number: usize = 0;
-    while records.read(&mut record)? {
+    while record.read(&mut records)? {
         number += 1;
         match balances.read(alloc, version, &layout, &record)? {
             Ok(()) => {}
@@ -145,14 +144,14 @@ impl Balances {
         alloc: Global,
         version: u8,
         layout: &Layout,
-        row: &ByteRecord,
+        row: &Line,
     ) -> Result<Result<(), RowFault>, AllocError>
         requires within { IsWithin layout.now }
         requires balances { IsBalanceLayout version layout.now }
         ensures entry { IfOk result (λ read. OnOk read ((front : List AnyEntry) → HoldsEntries front self.old
-            → (entry : AnyEntry) × IsEntry version layout.now (fields_of row.now) entry × HoldsEntries (front ++ entry ∷ []) self.new)) }
+            → (entry : AnyEntry) × IsEntry version layout.now row.now entry × HoldsEntries (front ++ entry ∷ []) self.new)) }
         ensures refused { IfOk result (λ read. IfErr read (λ fault. (front : List AnyEntry) → HoldsEntries front self.old
-            → IsRecordFault version layout.now front (fields_of row.now) fault)) }
+            → IsRecordFault version layout.now front row.now fault)) }
     {
         let entry = match read_record(alloc, layout, row)? {
             Ok(values) => entry_of(values, version),

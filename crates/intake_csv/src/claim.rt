@@ -1,6 +1,5 @@
 //! Claims from the values of a record.
 ghost use Rattle.std.specs.Prelude.{◌≡◌, ◌++◌, map, IfOk, IfErr, OnOk};
-ghost use Rattle.csv.specs.Records.{fields_of};
 ghost use Rattle.intake_csv.specs.Columns.{claim_columns, family_columns, needed, own_columns};
 ghost use Rattle.intake_csv.specs.declared.column.Content.TheVariants as contents;
 ghost use Rattle.intake_csv.specs.Record.{IsClaimLayout, IsClaimShaped, has_family_column, is_identifier};
@@ -9,9 +8,9 @@ ghost use Rattle.intake_csv.specs.Sheet.{IsWithin};
 
 use crate::column::{Content, Layout, Needed, needed_column};
 use crate::fault::RowFault;
+use crate::line::Line;
 use crate::record::read_record;
 use crate::values::{list_of, take_day, take_family, take_money, take_text};
-use csv::ByteRecord;
 use dtable::{InputData, Plan, Sequence};
 use feel_tests::{Kind, Value};
 use settlement::{Claim, fields_of};
@@ -71,12 +70,12 @@ fn push_fields(
 pub fn read_claim(
     alloc: Global,
     layout: &Layout,
-    row: &ByteRecord,
+    row: &Line,
 ) -> Result<Result<Claim, RowFault>, AllocError>
     requires within { IsWithin layout.now }
     requires claims { IsClaimLayout layout.now }
-    ensures claim { IfOk result (λ read. IfOk read (λ claim. HasValues layout.now (fields_of row.now) (claim_values claim))) }
-    ensures fault { IfOk result (λ read. IfErr read (HasFault layout.now (fields_of row.now))) }
+    ensures claim { IfOk result (λ read. IfOk read (λ claim. HasValues layout.now row.now (claim_values claim))) }
+    ensures fault { IfOk result (λ read. IfErr read (HasFault layout.now row.now)) }
 {
     match read_record(alloc, layout, row)? {
         Ok(values) => Ok(Ok(claim_of(alloc, values, has_family_column(layout))?)),

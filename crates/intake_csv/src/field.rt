@@ -11,19 +11,15 @@ use crate::fault::RowCause;
 use feel_tests::{Kind, PlainFault, TEXT_LIMIT_BYTES, Value, read_plain, year_in};
 use fixpoint::{Fixed, text_denotes_at_most_one};
 use std::alloc::{AllocError, Global};
-use std::str;
 
-/// Reads a field: its value, or the first of its faults.
-pub fn read_field(
+/// Reads a field that is a text: its value, or the first of its faults.
+pub fn read_text(
     alloc: Global,
     content: Content,
-    bytes: &[u8],
+    text: &str,
 ) -> Result<Result<Value, RowCause>, AllocError>
-    ensures { IfOk result (IsFieldRead content bytes.now) }
+    ensures { IfOk result (IsFieldRead content text.now) }
 {
-    let Ok(text) = str::from_utf8(bytes) else {
-        return Ok(Err(RowCause::Utf8));
-    };
     if text.len() > TEXT_LIMIT_BYTES {
         return Ok(Err(RowCause::TooLong));
     }

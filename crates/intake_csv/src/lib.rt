@@ -17,6 +17,7 @@ mod field;
 mod header;
 mod household;
 mod laws;
+mod line;
 mod record;
 mod records;
 mod rows;

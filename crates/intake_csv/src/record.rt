@@ -1,7 +1,6 @@
 //! A record behind the header: its values, or its first fault.
-ghost use Rattle.std.specs.Prelude.{◌≡◌, ◌<◌, ◌+◌, ◌++◌, ◌∷◌, [], List, length, IfOk, IfErr, OnOk};
+ghost use Rattle.std.specs.Prelude.{◌≡◌, ◌<◌, ◌+◌, ◌++◌, ◌∷◌, ◌^◌, [], List, length, IfOk, IfErr, OnOk};
 ghost use Rattle.std.specs.List.{All};
-ghost use Rattle.csv.specs.Records.{fields_of};
 ghost use Rattle.intake_csv.specs.Rows.{AreValues, HasValues, HasFault, HoldsUnder, IsFirstFault, IsFaultyUnder, IsFaultlessUnder};
 ghost use Rattle.intake_csv.specs.Sheet.{IsWithin};
 ghost use Rattle.intake_csv.specs.Record.{IsLeftmost, IsReadSoFar};
@@ -9,8 +8,8 @@ ghost use Rattle.intake_csv.specs.declared.column.Column.{Column as AnyColumn};
 
 use crate::column::{Column, Layout};
 use crate::fault::{RowCause, RowFault};
-use crate::field::read_field;
-use csv::ByteRecord;
+use crate::field::read_text;
+use crate::line::Line;
 use feel_tests::Value;
 use std::alloc::{AllocError, Global};
 
@@ -18,11 +17,11 @@ use std::alloc::{AllocError, Global};
 pub fn read_record(
     alloc: Global,
     layout: &Layout,
-    row: &ByteRecord,
+    row: &Line,
 ) -> Result<Result<Vec<Value>, RowFault>, AllocError>
     requires { IsWithin layout.now }
-    ensures values { IfOk result (λ read. IfOk read (λ values. HasValues layout.now (fields_of row.now) values.items)) }
-    ensures fault { IfOk result (λ read. IfErr read (HasFault layout.now (fields_of row.now))) }
+    ensures values { IfOk result (λ read. IfOk read (λ values. HasValues layout.now row.now values.items)) }
+    ensures fault { IfOk result (λ read. IfErr read (HasFault layout.now row.now)) }
 {
     if row.len() != layout.width {
         return Ok(Err(RowFault {
@@ -41,9 +40,10 @@ struct Reading {
 }
 
 impl Reading {
-    fn read(&mut self, alloc: Global, column: Column, row: &ByteRecord) -> Result<(), AllocError>
-        requires { column.place < length (fields_of row.now) }
-        ensures { OnOk result ((front : List AnyColumn) → IsReadSoFar (fields_of row.now) front self.old → IsReadSoFar (fields_of row.now) (front ++ column ∷ []) self.new) }
+    fn read(&mut self, alloc: Global, column: Column, row: &Line) -> Result<(), AllocError>
+        requires within { column.place < length row.now }
+        requires small { length row.now < 2 ^ 64 }
+        ensures { OnOk result ((front : List AnyColumn) → IsReadSoFar row.now front self.old → IsReadSoFar row.now (front ++ column ∷ []) self.new) }
     {
         match read_under(alloc, column, row)? {
             Ok(value) => self.values.push(value)?,
@@ -57,11 +57,12 @@ impl Reading {
 fn read_values(
     alloc: Global,
     columns: &[Column],
-    row: &ByteRecord,
+    row: &Line,
 ) -> Result<Result<Vec<Value>, RowFault>, AllocError>
-    requires { All (λ c. c.place < length (fields_of row.now)) columns.now }
-    ensures values { IfOk result (λ read. IfOk read (λ values. AreValues (fields_of row.now) columns.now values.items)) }
-    ensures fault { IfOk result (λ read. IfErr read (IsFirstFault (fields_of row.now) columns.now)) }
+    requires within { All (λ c. c.place < length row.now) columns.now }
+    requires small { length row.now < 2 ^ 64 }
+    ensures values { IfOk result (λ read. IfOk read (λ values. AreValues row.now columns.now values.items)) }
+    ensures fault { IfOk result (λ read. IfErr read (IsFirstFault row.now columns.now)) }
 {
     let mut reading = Reading {
         values: Vec::with_capacity(alloc, columns.len())?,
@@ -79,21 +80,29 @@ fn read_values(
 fn read_under(
     alloc: Global,
     column: Column,
-    row: &ByteRecord,
+    row: &Line,
 ) -> Result<Result<Value, RowFault>, AllocError>
-    requires { column.place < length (fields_of row.now) }
-    ensures value { IfOk result (λ read. IfOk read (HoldsUnder (fields_of row.now) column)) }
-    ensures faultless { IfOk result (λ read. IfOk read (λ _. IsFaultlessUnder (fields_of row.now) column)) }
-    ensures faulty { IfOk result (λ read. IfErr read (λ fault. IsFaultyUnder (fields_of row.now) fault.cause column)) }
+    requires within { column.place < length row.now }
+    requires small { length row.now < 2 ^ 64 }
+    ensures value { IfOk result (λ read. IfOk read (HoldsUnder row.now column)) }
+    ensures faultless { IfOk result (λ read. IfOk read (λ _. IsFaultlessUnder row.now column)) }
+    ensures faulty { IfOk result (λ read. IfErr read (λ fault. IsFaultyUnder row.now fault.cause column)) }
     ensures column { IfOk result (λ read. IfErr read (λ fault. fault.column ≡ column.place + 1)) }
 {
-    let Some(field) = row.get(column.place) else {
+    let Some(found) = row.text(column.place) else {
         unreachable!();
     };
-    match read_field(alloc, column.content, field)? {
+    let fault = column.place + 1;
+    let Ok(text) = found else {
+        return Ok(Err(RowFault {
+            column: fault,
+            cause: RowCause::Utf8,
+        }));
+    };
+    match read_text(alloc, column.content, text)? {
         Ok(value) => Ok(Ok(value)),
         Err(cause) => Ok(Err(RowFault {
-            column: column.place + 1,
+            column: fault,
             cause,
         })),
     }

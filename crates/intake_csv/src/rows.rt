@@ -1,6 +1,5 @@
 //! The rows of a provider's file of claims.
 ghost use Rattle.std.specs.Prelude.{◌≡◌, ◌≤◌, true, Ok, None, IfOk, IfErr, OnErr, drop, is_err, length};
-ghost use Rattle.csv.specs.Records.{fields_of};
 ghost use Rattle.intake_csv.specs.Rows.{Gives, IsHead};
 ghost use Rattle.intake_csv.specs.Record.{IsClaimLayout};
 ghost use Rattle.intake_csv.specs.Records.{records_of};
@@ -11,8 +10,8 @@ ghost use Rattle.intake_csv.specs.Limits.{file_limit_bytes};
 use crate::claim::read_claim;
 use crate::column::Layout;
 use crate::fault::RowFault;
+use crate::line::Line;
 use crate::records::Records;
-use csv::ByteRecord;
 use settlement::Claim;
 use std::alloc::{AllocError, Global};
 use std::marker::Model;
@@ -39,7 +38,7 @@ pub struct Rows<'t> {
     alloc: Global,
     layout: Layout,
     records: Records<'t>,
-    current: ByteRecord,
+    current: Line,
     next: usize,
     claims: usize,
 }
@@ -72,7 +71,7 @@ impl<'t> Rows<'t> {
             alloc,
             layout,
             records,
-            current: ByteRecord::new(alloc),
+            current: Line::new(alloc),
             next: 1,
             claims: 0,
         }
@@ -86,7 +85,7 @@ impl<'t> Rows<'t> {
         ensures refused { OnErr result (self.new ≡ record self.old { stage = Failed }) }
         ensures failed { self.old.stage ≡ Failed → is_err result ≡ true }
     {
-        match self.records.read(&mut self.current) {
+        match self.current.read(&mut self.records) {
             Ok(true) => {}
             Ok(false) => return Ok(None),
             Err(AllocError) => return Err(AllocError),

@@ -70,7 +70,7 @@ pub fn take_money(values: &mut vec::IntoIter<Value>) -> Money
 pub fn list_of(alloc: Global, values: vec::IntoIter<Value>) -> Result<Sequence<Value>, AllocError>
     ensures { IfOk result (λ list. list ≡ into_iter_items values) }
 {
-    let mut list = Sequence::new(alloc);
+    let mut list = Sequence::with_capacity(alloc, values.len())?;
     for value in values {
         list.push(value)?;
     }

@@ -1,4 +1,3 @@
-use Rattle.csv.specs.Records.{fields_of}
 use Rattle.intake_csv.specs.Records.{records_of, remaining}
 use Rattle.intake_csv.proofs.Entries.{read-all, read-next, refused-next}
 use Rattle.intake_csv.proofs.Shapes.{balance-layout}
@@ -14,7 +13,7 @@ loop-record-preserved c =
     let reads = rw (c.loop-record.invariant.0, c.if-branch.true) at c.in_ok-read.ensures.reads in
     let step = rw c.in-Ok-2.is at c.in_ok-read-2.ensures.entry in (
       reads.1,
-      read-next c.args.version c.in-Ok.sheet.layout (records_of c.args.text.now) c.loop-record.number (fields_of c.read.new.row) (remaining c.read.new.self) c.loop-record.balances c.read-in-loop-record.new.self
+      read-next c.args.version c.in-Ok.sheet.layout (records_of c.args.text.now) c.loop-record.number c.read.new.self (remaining c.read.new.records) c.loop-record.balances c.read-in-loop-record.new.self
           reads.0 c.loop-record.invariant.1 step,
     )
 
@@ -23,7 +22,7 @@ returns-in-Err-2-clause-fault c =
     let s = rw (c.as_slice.ensures, c.in_ok-needed.ensures) at c.in-Ok.ensures.ok in
     let reads = rw (c.loop-record.invariant.0, c.if-branch.true) at c.in_ok-read.ensures.reads in
     let reason = rw c.in-Err-2.is at c.in_ok-read-2.ensures.refused in
-    refused-next c.args.version c.args.text.now c.in-Ok.sheet.layout (records_of c.args.text.now) c.loop-record.number (fields_of c.read.new.row) (remaining c.read.new.self) c.loop-record.balances
+    refused-next c.args.version c.args.text.now c.in-Ok.sheet.layout (records_of c.args.text.now) c.loop-record.number c.read.new.self (remaining c.read.new.records) c.loop-record.balances
     c.in-Err-2.fault s.is_sheet reads.0 c.loop-record.invariant.1 reason
 
 pub returns-clause-ok : goal.returns-clause-ok

@@ -1,10 +1,10 @@
-use Rattle.std.proofs.Common.{◌∙◌}
-use Rattle.csv.specs.Records.{fields_of}
+use Rattle.std.proofs.Common.{◌≡◌, None}
+use Rattle.csv.specs.Records.{field_at}
 use Rattle.intake_csv.proofs.Lists.{field_at-within}
 use Rattle.intake_csv.proofs.record.read_under.Goals as goal
 
 pub unreachable-requires : goal.unreachable-requires
 unreachable-requires c =
-    let found = field_at-within (fields_of c.args.row.now) c.args.column.place c.requires in
-    let none = rw c.in_default.is at c.get.ensures.value in
-    cc (none ∙ found)
+    let found = field_at-within c.args.row.now c.args.column.place c.requires.within in
+    let none : field_at c.args.row.now c.args.column.place ≡ None = c.text.ensures.lacking c.in_default.is in
+    cc (found, none)

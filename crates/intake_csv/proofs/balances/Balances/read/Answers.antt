@@ -1,5 +1,4 @@
 use Rattle.std.proofs.Common.{sym}
-use Rattle.csv.specs.Records.{fields_of}
 use Rattle.settlement.specs.Accounts.{named_or}
 use Rattle.intake_csv.specs.Balances.{Entry, IsEntry}
 use Rattle.intake_csv.proofs.Entries.{refuses-entry, told-within}
@@ -9,7 +8,7 @@ use Rattle.intake_csv.proofs.balances.Balances.read.Goals as goal
 pub entry_of-entry-requires : goal.entry_of-entry-requires
 entry_of-entry-requires c =
     let has = rw c.in-Ok.is at c.in_ok-values.ensures.values in
-    entry-shaped c.args.version (fields_of c.args.row.now) c.args.layout.now.columns c.in-Ok.values.items c.requires.balances has.1
+    entry-shaped c.args.version c.args.row.now c.args.layout.now.columns c.in-Ok.values.items c.requires.balances has.1
 
 pub fault_of-requires-clause-there : goal.fault_of-requires-clause-there
 fault_of-requires-clause-there c = told-within c.args.version c.args.layout.now c.in-Some.refusal c.requires.balances
@@ -19,13 +18,13 @@ returns-in-Some-clause-refused c =
     let values = rw c.in-Ok.is at c.in_ok-values.ensures.values in
     let e = c.entry_of-entry.result in
     let entry : Entry = (record { family = named_or e.family e.member; member = e.member; year = e.year }, e.balance) in
-    let read : IsEntry c.args.version c.args.layout.now (fields_of c.args.row.now) entry = record { kept = c.entry_of-entry.ensures.kept; values = rw c.entry_of-entry.ensures.values at values } in
-    refuses-entry c.args.version c.args.layout.now (fields_of c.args.row.now) entry c.in-Some.refusal c.args.self.now c.fault_of.result c.requires.balances read (sym c.in-Some.ensures) c.fault_of.ensures
+    let read : IsEntry c.args.version c.args.layout.now c.args.row.now entry = record { kept = c.entry_of-entry.ensures.kept; values = rw c.entry_of-entry.ensures.values at values } in
+    refuses-entry c.args.version c.args.layout.now c.args.row.now entry c.in-Some.refusal c.args.self.now c.fault_of.result c.requires.balances read (sym c.in-Some.ensures) c.fault_of.ensures
 
 pub returns-clause-entry : goal.returns-clause-entry
 returns-clause-entry c =
     let values = rw c.in-Ok.is at c.in_ok-values.ensures.values in
     let e = c.entry_of-entry.result in
     let entry : Entry = (record { family = named_or e.family e.member; member = e.member; year = e.year }, e.balance) in
-    let read : IsEntry c.args.version c.args.layout.now (fields_of c.args.row.now) entry = record { kept = c.entry_of-entry.ensures.kept; values = rw c.entry_of-entry.ensures.values at values } in
+    let read : IsEntry c.args.version c.args.layout.now c.args.row.now entry = record { kept = c.entry_of-entry.ensures.kept; values = rw c.entry_of-entry.ensures.values at values } in
     λ front h. (entry, read, c.in_ok-put.ensures front h)

@@ -1,6 +1,5 @@
 use Rattle.std.proofs.Common.{rules, ◌≡◌, true}
 use Rattle.std.specs.Result.{is_ok}
-use Rattle.csv.specs.Records.{fields_of}
 use Rattle.intake_csv.proofs.RecordSteps.{read-value, read-fault}
 use Rattle.intake_csv.proofs.record.Reading.read.Goals as goal
 
@@ -10,10 +9,10 @@ returns-in_ok-push-in-Ok c = λ front h.
     let items = rw good at c.push.ensures.items in
     let holds = rw c.in-Ok.is at c.in_ok-value.ensures.value in
     let faultless = rw c.in-Ok.is at c.in_ok-value.ensures.faultless in
-    rw items (read-value (fields_of c.args.row.now) front c.args.column c.args.self.now.values.items c.in-Ok.value c.args.self.now.first h holds faultless)
+    rw items (read-value c.args.row.now front c.args.column c.args.self.now.values.items c.in-Ok.value c.args.self.now.first h holds faultless)
 
 pub returns-in-Err : goal.returns-in-Err
 returns-in-Err c = λ front h.
     let faulty = rw c.in-Err.is at c.in_ok-value.ensures.faulty in
     let column = rw c.in-Err.is at c.in_ok-value.ensures.column in
-    read-fault (fields_of c.args.row.now) front c.args.column c.args.self.now.values.items c.args.self.now.first c.in-Err.fault c.leftmost.result h column faulty c.leftmost.ensures
+    read-fault c.args.row.now front c.args.column c.args.self.now.values.items c.args.self.now.first c.in-Err.fault c.leftmost.result h column faulty c.leftmost.ensures

@@ -1,6 +1,5 @@
 use Rattle.std.proofs.Common.{refl, ap, arith, ◌≡◌, ◌+◌}
 use Rattle.intake_csv.specs.Records.{is_failed}
-use Rattle.csv.specs.Records.{fields_of}
 use Rattle.intake_csv.proofs.AllRecords.{read-at, records-few}
 use Rattle.intake_csv.proofs.Handing.{gives-row, left_of, rows-head}
 use Rattle.intake_csv.specs.declared.rows.Row.TheVariants.{Good, Bad}
@@ -10,33 +9,33 @@ pub overflow_add-self : goal.overflow_add-self
 overflow_add-self c =
     let i = c.self.inside in
     let reads = rw c.in-Ok-true.field-0-test at c.in-Ok-true.ensures.reads in
-    let at = read-at i.records c.read.new.self i.next (fields_of c.read.new.row) (c.self.invariant.4 (ap is_failed reads.2)) reads in
+    let at = read-at i.records c.read.new.records i.next c.read.new.self (c.self.invariant.4 (ap is_failed reads.2)) reads in
     omega (arith, at.0, records-few i.records.text, c.self.invariant.3)
 
 pub overflow_add-self-in-Ok-Err : goal.overflow_add-self-in-Ok-Err
 overflow_add-self-in-Ok-Err c =
     let i = c.self.inside in
     let reads = rw c.in-Ok-true.field-0-test at c.in-Ok-true.ensures.reads in
-    let at = read-at i.records c.read.new.self i.next (fields_of c.read.new.row) (c.self.invariant.4 (ap is_failed reads.2)) reads in
+    let at = read-at i.records c.read.new.records i.next c.read.new.self (c.self.invariant.4 (ap is_failed reads.2)) reads in
     omega (arith, at.0, records-few i.records.text, c.self.invariant.3)
 
 pub returns-in-Ok-Ok-clause-head : goal.returns-in-Ok-Ok-clause-head
 returns-in-Ok-Ok-clause-head c =
     let i = c.self.inside in
     let reads = rw c.in-Ok-true.field-0-test at c.in-Ok-true.ensures.reads in
-    let at = read-at i.records c.read.new.self i.next (fields_of c.read.new.row) (c.self.invariant.4 (ap is_failed reads.2)) reads in
+    let at = read-at i.records c.read.new.records i.next c.read.new.self (c.self.invariant.4 (ap is_failed reads.2)) reads in
     let has = rw c.in-Ok-Ok.field-0-is at c.in-Ok-Ok.ensures.claim in
     let row = Good i.next i.claims c.in-Ok-Ok.claim in
-    let gives = gives-row i.layout i.next i.claims (i.claims + 1) i.records.text i.records.stage (fields_of c.read.new.row) row at.1 (refl, refl, has) refl reads.2 in
+    let gives = gives-row i.layout i.next i.claims (i.claims + 1) i.records.text i.records.stage c.read.new.self row at.1 (refl, refl, has) refl reads.2 in
     rw (← c.self.view_is, at.2) (rows-head (left_of i.layout i.next i.claims i.records.text i.records.stage) (left_of i.layout (i.next + 1) (i.claims + 1) i.records.text i.records.stage) row gives)
 
 pub returns-in-Ok-Err-clause-head : goal.returns-in-Ok-Err-clause-head
 returns-in-Ok-Err-clause-head c =
     let i = c.self.inside in
     let reads = rw c.in-Ok-true.field-0-test at c.in-Ok-true.ensures.reads in
-    let at = read-at i.records c.read.new.self i.next (fields_of c.read.new.row) (c.self.invariant.4 (ap is_failed reads.2)) reads in
+    let at = read-at i.records c.read.new.records i.next c.read.new.self (c.self.invariant.4 (ap is_failed reads.2)) reads in
     let has = rw c.in-Ok-Err.field-0-is at c.in-Ok-Err.ensures.fault in
     let row = Bad i.next c.in-Ok-Err.fault in
     let none : i.claims ≡ i.claims + 0 = omega arith in
-    let gives = gives-row i.layout i.next i.claims i.claims i.records.text i.records.stage (fields_of c.read.new.row) row at.1 (refl, has) none reads.2 in
+    let gives = gives-row i.layout i.next i.claims i.claims i.records.text i.records.stage c.read.new.self row at.1 (refl, has) none reads.2 in
     rw (← c.self.view_is, at.2) (rows-head (left_of i.layout i.next i.claims i.records.text i.records.stage) (left_of i.layout (i.next + 1) i.claims i.records.text i.records.stage) row gives)

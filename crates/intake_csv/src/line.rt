@@ -1,0 +1,115 @@
+//! The record that a reader holds, looked at once to see whether it is ASCII.
+ghost use Rattle.std.specs.Prelude.{◌≡◌, ℕ, List, [], length, IsUtf8, IfOk, IfErr, OnErr, is_err, true, false, Ok, None, Some, option_map};
+ghost use Rattle.std.specs.Option.{IfSome};
+ghost use Rattle.csv.specs.Records.{field_at, fields_of};
+ghost use Rattle.intake_csv.specs.Records.{Reads};
+ghost use Rattle.intake_csv.specs.declared.records.Stage.TheVariants.{Over, Failed};
+
+use crate::records::Records;
+use csv::{ByteRecord, StringRecord};
+use std::alloc::{AllocError, Global};
+use std::marker::Model;
+use std::mem::replace;
+use std::str;
+
+/// A record of a file. Where all of it is ASCII, which is found once, no field is looked at again to see whether it is text.
+#[derive(Drop)]
+pub struct Line {
+    alloc: Global,
+    is_ascii: bool,
+    // The record where all of it is ASCII.
+    texts: StringRecord,
+    // The record where it isn't.
+    bytes: ByteRecord,
+}
+
+impl Model for Line {
+    ghost use Rattle.std.specs.Prelude.{cond};
+    ghost use Rattle.csv.specs.Records.{fields_of};
+    ghost use Rattle.intake_csv.specs.Records.{Fields};
+
+    ghost Value = { Fields };
+
+    ghost view = { λ l. cond l.is_ascii (fields_of l.texts) (fields_of l.bytes) };
+}
+
+/// A field that is no text, since it isn't UTF-8.
+#[derive(Clone, Copy, Debug, PartialEq, Eq, Drop)]
+pub struct NoText;
+
+impl Line {
+    /// A record without fields.
+    pub fn new(alloc: Global) -> Line
+        ensures { result ≡ [] }
+    {
+        Line {
+            alloc,
+            is_ascii: false,
+            texts: StringRecord::new(alloc),
+            bytes: ByteRecord::new(alloc),
+        }
+    }
+
+    /// Reads the next record of a file in place of this one, if one is left.
+    pub fn read(&mut self, records: &mut Records) -> Result<bool, AllocError>
+        ensures reads { IfOk result (λ found. Reads records.old records.new found self.new) }
+        ensures refused { OnErr result (records.new ≡ record records.old { stage = Failed }) }
+        ensures failed { records.old.stage ≡ Failed → is_err result ≡ true }
+        ensures over { records.old.stage ≡ Over → result ≡ Ok false }
+    {
+        let mut row = self.take();
+        let read = records.read(&mut row);
+        self.put(row);
+        read
+    }
+
+    // The memory in which a record is read, with nothing left here.
+    fn take(&mut self) -> ByteRecord {
+        if self.is_ascii {
+            replace(&mut self.texts, StringRecord::new(self.alloc)).into_byte_record()
+        } else {
+            replace(&mut self.bytes, ByteRecord::new(self.alloc))
+        }
+    }
+
+    // Puts a record in the place of this one.
+    fn put(&mut self, row: ByteRecord)
+        ensures { self.new ≡ fields_of row }
+    {
+        self.is_ascii = row.as_slice().is_ascii();
+        if !self.is_ascii {
+            self.bytes = row;
+            return;
+        }
+        match StringRecord::from_byte_record(row) {
+            Ok(texts) => self.texts = texts,
+            Err(_) => unreachable!(),
+        }
+    }
+
+    /// How many fields there are.
+    pub fn len(&self) -> usize
+        ensures { result ≡ length self.now }
+    {
+        if self.is_ascii {
+            self.texts.len()
+        } else {
+            self.bytes.len()
+        }
+    }
+
+    /// The field at a place, if there is one: its text, or that it is none.
+    pub fn text(&self, place: usize) -> Option<Result<&str, NoText>>
+        ensures text { IfSome result (λ found. IfOk found (λ text. field_at self.now place ≡ Some text.now)) }
+        ensures none { IfSome result (λ found. IfErr found (λ _. (bytes : List ℕ) × (field_at self.now place ≡ Some bytes) × (¬ IsUtf8 bytes))) }
+        ensures lacking { result ≡ None → field_at self.now place ≡ None }
+    {
+        if self.is_ascii {
+            return Some(Ok(self.texts.get(place)?));
+        }
+        match str::from_utf8(self.bytes.get(place)?) {
+            Ok(text) => Some(Ok(text)),
+            Err(_) => Some(Err(NoText)),
+        }
+    }
+}
