@@ -16,3 +16,4 @@ pub mod SomeRow
 pub mod Spelling
 pub mod Households
 pub mod AsciiFields
+pub mod Judging

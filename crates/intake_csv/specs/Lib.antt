@@ -7,9 +7,11 @@ pub mod Header
 pub mod Sheet
 pub mod Fields
 pub mod Rows
+pub mod Brief
 pub mod ClaimFile
 pub mod Record
 pub mod Values
 pub mod Households
 pub mod Balances
+pub mod Judged
 pub mod Laws

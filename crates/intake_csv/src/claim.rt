@@ -83,8 +83,8 @@ pub fn read_claim(
     }
 }
 
-// Whether a file of claims with these columns has one for families.
-fn has_family_column(layout: &Layout) -> bool
+/// Whether a file of claims with these columns has one for families.
+pub fn has_family_column(layout: &Layout) -> bool
     ensures { result ≡ has_family_column layout.now }
 {
     match layout.columns.as_slice().get(2) {

@@ -9,6 +9,7 @@
 #![tactic(auto)]
 
 mod balances;
+mod brief;
 mod claim;
 mod claim_file;
 mod column;
@@ -16,6 +17,7 @@ mod fault;
 mod field;
 mod header;
 mod household;
+mod judge;
 mod laws;
 mod line;
 mod record;
@@ -25,11 +27,13 @@ mod sheet;
 mod values;
 
 pub use balances::{Balances, read_balances};
+pub use brief::{Brief, Claimant};
 pub use claim_file::ClaimFile;
 pub use fault::{BalanceFault, FileFault, RowCause, RowFault};
 pub use laws::{
     claims_have_the_plan_s_fields, files_have_rows, given_row_has_the_claim,
     given_row_is_the_first, no_records_give_no_rows, reader_begins_with_all_rows,
 };
+pub use line::Line;
 pub use rows::{Row, Rows};
 pub use sheet::FILE_LIMIT_BYTES;

@@ -112,4 +112,15 @@ impl Line {
             Err(_) => Some(Err(NoText)),
         }
     }
+
+    /// The bytes of the field at a place, if there is one.
+    pub fn bytes(&self, place: usize) -> Option<&[u8]>
+        ensures { option_map (λ s. s.now) result ≡ field_at self.now place }
+    {
+        if self.is_ascii {
+            Some(self.texts.get(place)?.as_bytes())
+        } else {
+            self.bytes.get(place)
+        }
+    }
 }

@@ -108,8 +108,8 @@ fn read_under(
     }
 }
 
-// The fault further left in the header.
-fn leftmost(first: Option<RowFault>, fault: RowFault) -> RowFault
+/// The fault further left in the header.
+pub fn leftmost(first: Option<RowFault>, fault: RowFault) -> RowFault
     ensures { IsLeftmost first fault result }
 {
     match first {

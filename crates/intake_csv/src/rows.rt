@@ -1,5 +1,6 @@
 //! The rows of a provider's file of claims.
 ghost use Rattle.std.specs.Prelude.{◌≡◌, ◌≤◌, true, Ok, None, IfOk, IfErr, OnErr, drop, is_err, length};
+ghost use Rattle.intake_csv.specs.Brief.{GivesBrief};
 ghost use Rattle.intake_csv.specs.Rows.{Gives, IsHead};
 ghost use Rattle.intake_csv.specs.Record.{IsClaimLayout};
 ghost use Rattle.intake_csv.specs.Records.{records_of};
@@ -7,9 +8,11 @@ ghost use Rattle.intake_csv.specs.Sheet.{IsWithin};
 ghost use Rattle.intake_csv.specs.declared.records.Stage.TheVariants.{Reading, Over, Failed};
 ghost use Rattle.intake_csv.specs.Limits.{file_limit_bytes};
 
+use crate::brief::Brief;
 use crate::claim::read_claim;
 use crate::column::Layout;
 use crate::fault::RowFault;
+use crate::judge::judge_claim;
 use crate::line::Line;
 use crate::records::Records;
 use settlement::Claim;
@@ -105,6 +108,42 @@ impl<'t> Rows<'t> {
             Ok(Err(fault)) => {
                 self.next += 1;
                 Ok(Some(Row::Bad { number, fault }))
+            }
+            Err(AllocError) => {
+                self.records.fail();
+                Err(AllocError)
+            }
+        }
+    }
+
+    /// The next row in brief, or none behind the last, at each later call too. Its record is left in the line. After want of
+    /// memory each later call answers it again.
+    pub fn next_brief(&mut self, line: &mut Line) -> Result<Option<Brief>, AllocError>
+        ensures gives { IfOk result (GivesBrief self.old self.new line.new) }
+        ensures over { self.old.stage ≡ Over → result ≡ Ok None }
+        ensures refused { OnErr result (self.new ≡ record self.old { stage = Failed }) }
+        ensures failed { self.old.stage ≡ Failed → is_err result ≡ true }
+    {
+        match line.read(&mut self.records) {
+            Ok(true) => {}
+            Ok(false) => return Ok(None),
+            Err(AllocError) => return Err(AllocError),
+        }
+        let number = self.next;
+        match judge_claim(self.alloc, &self.layout, line) {
+            Ok(Ok(claimant)) => {
+                let place = self.claims;
+                self.next += 1;
+                self.claims += 1;
+                Ok(Some(Brief::Good {
+                    number,
+                    place,
+                    claimant,
+                }))
+            }
+            Ok(Err(fault)) => {
+                self.next += 1;
+                Ok(Some(Brief::Bad { number, fault }))
             }
             Err(AllocError) => {
                 self.records.fail();

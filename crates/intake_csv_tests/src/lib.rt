@@ -2,4 +2,6 @@
 #![tactic(auto)]
 
 #[cfg(test)]
+mod briefs;
+#[cfg(test)]
 mod tests;

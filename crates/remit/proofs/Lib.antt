@@ -2,6 +2,8 @@ pub mod Adding
 pub mod Holding
 pub mod Noting
 pub mod Passing
+pub mod Telling
+pub mod Remarking
 pub mod Filing
 pub mod Looking
 pub mod Reporting

@@ -5,6 +5,9 @@ ghost use Rattle.fixpoint.specs.Money.{money_text};
 ghost use Rattle.dtable.specs.Plan.{has_families, has_years};
 ghost use Rattle.journal.specs.Events.{accepted as accepted_in};
 ghost use Rattle.journal.specs.declared.event.Event.{Event as AnyEvent};
+ghost use Rattle.settlement.specs.declared.claim.Claim.{Claim as AnyClaim};
+ghost use Rattle.intake_csv.specs.Brief.{IsBriefOf, IsClaimantOf, StandsAt};
+ghost use Rattle.intake_csv.specs.declared.rows.Row.{Row as AnyRow};
 ghost use Rattle.claim_terms.specs.Terms.{texts_of};
 ghost use Rattle.remit.specs.Amounts.{amount_of, name_of};
 ghost use Rattle.remit.specs.Held.{Pushes};
@@ -19,9 +22,9 @@ use crate::texts::{fault_text, reason_text, remarks_text, sum_text};
 use csv::ByteRecord;
 use dtable::{has_families, has_years};
 use feel_tests::{day_year, year_text};
-use intake_csv::{Row, RowFault};
+use intake_csv::{Brief, Claimant, Line, RowFault};
 use itoa::Buffer;
-use settlement::{Claim, Money, Outcome, Verdict};
+use settlement::{Money, Outcome, Verdict};
 use std::alloc::{AllocError, Global};
 
 /// The names of the fields in front of those that tell whose a record is. The record with the totals fills them.
@@ -40,30 +43,31 @@ pub fn fill_header(line: &mut ByteRecord, version: u8) -> Result<(), AllocError>
     line.push_field(b"remarks")
 }
 
-/// Fills the record with a row of a provider's file.
+/// Fills the record with the row of a provider's file of which this is told, and which the record of the file gives.
 pub fn fill_row(
     alloc: Global,
     line: &mut ByteRecord,
     decisions: &Decisions,
     provider: usize,
-    row: &Row,
+    brief: &Brief,
+    source: &Line,
 ) -> Result<(), AllocError>
     requires { 1 ≤ provider }
-    ensures { OnOk result (fields_of line.new ≡ record_of (looked_up decisions.now) provider row.now) }
+    ensures { OnOk result ((row : AnyRow) → IsBriefOf source.now brief.now row → fields_of line.new ≡ record_of (looked_up decisions.now) provider row) }
 {
     line.clear();
     push_number(line, provider)?;
-    match row {
-        Row::Good {
+    match brief {
+        Brief::Good {
             number,
             place,
-            claim,
+            claimant,
         } => {
             push_number(line, *number)?;
-            push_claimant(line, decisions.version(), claim)?;
+            push_claimant(line, decisions.version(), *claimant, source)?;
             push_claim(alloc, line, decisions.outcome(provider, *place))
         }
-        Row::Bad { number, fault } => {
+        Brief::Bad { number, fault } => {
             push_number(line, *number)?;
             push_whose(line, decisions.version(), b"", b"", b"", b"")?;
             push_refused(alloc, line, *fault)
@@ -106,18 +110,36 @@ fn push_total_front(line: &mut ByteRecord, version: u8, accepted: usize) -> Resu
     push_repeated(line, b"", FIELDS_BETWEEN.len())
 }
 
-// Whose the claim is, and the year of its service, where there is a field for it.
-fn push_claimant(line: &mut ByteRecord, version: u8, claim: &Claim) -> Result<(), AllocError>
-    ensures { OnOk result (Pushes line.old line.new (claimant_fields version claim.now)) }
+// Whose the claim is, and the year of its service, where there is a field for it. A claim without a family is its member's.
+fn push_claimant(
+    line: &mut ByteRecord,
+    version: u8,
+    claimant: Claimant,
+    source: &Line,
+) -> Result<(), AllocError>
+    ensures { OnOk result ((claim : AnyClaim) → IsClaimantOf source.now claimant claim → Pushes line.old line.new (claimant_fields version claim)) }
 {
-    let id = claim.id.as_str().as_bytes();
-    let family = claim.family().as_str().as_bytes();
-    let member = claim.member.as_str().as_bytes();
+    let id = field_at(source, claimant.id);
+    let member = field_at(source, claimant.member);
+    let family = match claimant.family {
+        Some(place) => field_at(source, place),
+        None => member,
+    };
     if has_years(version) {
-        let year = year_text(day_year(claim.service.epoch_day()));
+        let year = year_text(day_year(claimant.service.epoch_day()));
         push_whose(line, version, id, family, member, year.as_slice())
     } else {
         push_whose(line, version, id, family, member, b"")
+    }
+}
+
+// The record's field at a place, which has one.
+fn field_at(source: &Line, place: usize) -> &[u8]
+    ensures { (text : List ℕ) → StandsAt source.now place text → result.now ≡ text }
+{
+    match source.bytes(place) {
+        Some(field) => field,
+        None => b"",
     }
 }
 
@@ -245,10 +267,19 @@ fn push_sums(alloc: Global, line: &mut ByteRecord, sums: &[u128]) -> Result<(), 
     Ok(())
 }
 
+// The field of the remarks. Where there is one at most, as mostly, no text is made of them.
+#[tactic(auto, using(crate::proofs::Remarking::none_joined, crate::proofs::Remarking::one_joined))]
 fn push_remarks(alloc: Global, line: &mut ByteRecord, decision: &Outcome) -> Result<(), AllocError>
     ensures { OnOk result (Pushes line.old line.new (remarks_text decision.now.remarks ∷ [])) }
 {
-    let text = remarks_text(alloc, &decision.remarks)?;
+    let remarks = &decision.remarks;
+    let Some(first) = remarks.get(0) else {
+        return line.push_field(b"");
+    };
+    if remarks.len() == 1 {
+        return line.push_field(first.as_bytes());
+    }
+    let text = remarks_text(alloc, remarks)?;
     line.push_field(text.as_slice())
 }
 

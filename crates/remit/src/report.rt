@@ -4,6 +4,8 @@ ghost use Rattle.dtable.specs.Plan.{PlanParts};
 ghost use Rattle.dtable.specs.declared.table.InputData.{InputData};
 ghost use Rattle.fixpoint.specs.Out.{has_failed, writer_of};
 ghost use Rattle.journal.specs.Events.{accepted};
+ghost use Rattle.intake_csv.specs.Brief.{IsBriefOf};
+ghost use Rattle.intake_csv.specs.declared.rows.Row.{Row as AnyRow};
 ghost use Rattle.claim_terms.specs.Terms.{IsFinishedOver};
 ghost use Rattle.remit.specs.Held.{IsReady, Writes, at, gathered_of};
 ghost use Rattle.remit.specs.Looked.{looked_up};
@@ -25,7 +27,7 @@ use claim_gate::Batch;
 use claim_terms::Terms;
 use csv::ByteRecord;
 use fixpoint::Out;
-use intake_csv::{Row, Rows};
+use intake_csv::{Brief, Line, Rows};
 use journal::Event;
 use std::alloc::{AllocError, Global};
 use std::io::Write;
@@ -274,30 +276,35 @@ impl<'d, 'j> Report<'d, 'j> {
         intake_csv::given_row_is_the_first();
         intake_csv::no_records_give_no_rows();
         let mut rows = rows;
+        let mut source = Line::new(self.alloc);
         loop {
-            let Ok(next) = rows.next() else {
+            let Ok(next) = rows.next_brief(&mut source) else {
                 return Err(self.writer.no_memory());
             };
-            let Some(row) = next else {
+            let Some(brief) = next else {
                 return Ok(());
             };
-            self.write_row(provider, &row, out)?;
+            self.write_row(provider, &brief, &source, out)?;
         }
     }
 
+    // Writes the row of which this is told, and which the record gives.
     fn write_row<W: Write>(
         &mut self,
         provider: usize,
-        row: &Row,
+        brief: &Brief,
+        source: &Line,
         out: &mut Out<W>,
     ) -> Result<(), WriteFault>
         requires { 1 ≤ provider }
-        ensures writes { Writes (at (W.contents (writer_of out.old)) (has_failed out.old) self.old.writer)
+        ensures writes { (row : AnyRow) → IsBriefOf source.now brief.now row
+            → Writes (at (W.contents (writer_of out.old)) (has_failed out.old) self.old.writer)
             (at (W.contents (writer_of out.new)) (has_failed out.new) self.new.writer)
-            (record_text (record_of (looked_up self.old.decisions.now) provider row.now)) result }
+            (record_text (record_of (looked_up self.old.decisions.now) provider row)) result }
         ensures decisions { self.new.decisions ≡ self.old.decisions }
     {
-        if fill_row(self.alloc, &mut self.line, self.decisions, provider, row).is_err() {
+        let line = &mut self.line;
+        if fill_row(self.alloc, line, self.decisions, provider, brief, source).is_err() {
             return Err(self.writer.no_memory());
         }
         self.writer.write(&self.line, out)

@@ -1,0 +1,110 @@
+-- A record that is judged without its values.
+use Rattle.std.proofs.Common.{◌≡◌, ◌≢◌, ℕ, ℤ, Bool, true, false, List, [], ◌∷◌, Ok, Option, Some, None, is_some, slice_index_or, refl, ap, sym, ◌∙◌}
+use Rattle.feel_tests.specs.TextBytes.{IsText}
+use Rattle.feel_tests.specs.declared.kind.Kind.TheVariants as kinds
+use Rattle.feel_tests.specs.declared.value.Value.{Value}
+use Rattle.feel_tests.specs.declared.value.Value.TheVariants.{Number, Text, Day}
+use Rattle.settlement.specs.declared.claim.Claim.{Claim}
+use Rattle.intake_csv.specs.Brief.{IsClaimantOf, StandsAt}
+use Rattle.intake_csv.specs.Judged.{IsFieldJudged}
+use Rattle.intake_csv.specs.Record.{IsClaimShaped}
+use Rattle.intake_csv.specs.Records.{Fields}
+use Rattle.intake_csv.specs.Rows.{AreValues, HoldsUnder, claim_values}
+use Rattle.intake_csv.specs.declared.column.Column.{Column}
+use Rattle.intake_csv.specs.declared.column.Content.TheVariants.{Identifier, Plain}
+use Rattle.intake_csv.proofs.Spelling.{identifier_read, plain_read}
+
+-- a text that isn't empty is an identifier as it stands
+pub identifier_judged : (bytes : List ℕ) → IsText bytes → bytes ≢ [] → IsFieldJudged Identifier bytes (Ok tt)
+identifier_judged bytes text some =
+    let read = identifier_read bytes (Text bytes) text some (refl, refl, text.1) in
+    ((Text bytes, read.0), read.1)
+
+-- a text is a value as it stands
+pub words_judged : (bytes : List ℕ) → IsText bytes → IsFieldJudged (Plain kinds.Text) bytes (Ok tt)
+words_judged bytes text =
+    let read = plain_read kinds.Text bytes (Text bytes) text (refl, refl, text.1) in
+    ((Text bytes, read.0), read.1)
+
+-- a text under a column is the field as it stands
+stands : (fields : Fields) (c : Column) (t : List ℕ) → HoldsUnder fields c (Text t) → StandsAt fields c.place t
+stands fields c t h = h.field ∙ ap Some (sym h.holds.spells.plain.1)
+
+no-family : (family : Option (List ℕ)) → is_some family ≡ false → family ≡ None
+no-family None e = refl
+no-family (Some text) e = absurd (cc e)
+
+some-family : (family : Option (List ℕ)) → is_some family ≡ true → (text : List ℕ) × (family ≡ Some text)
+some-family None e = absurd (cc e)
+some-family (Some text) e = (text, refl)
+
+-- the claim that the values make
+abbrev claim-of : (families : Bool) (values : List Value) → IsClaimShaped families values → Claim
+claim-of families values s = record { id = s.id; family = s.family; member = s.member; service = s.service; billed = s.billed; fields = s.fields }
+
+-- the fields of a claim without a family
+alone : (fields : Fields) (columns : List Column) (d : Column) (id member : List ℕ) (service billed : ℤ) (more : List Value)
+    → AreValues fields columns (Text id ∷ Text member ∷ Day service ∷ Number billed ∷ more)
+    → StandsAt fields (slice_index_or columns 0 d).place id × StandsAt fields (slice_index_or columns 1 d).place member × HoldsUnder fields (slice_index_or columns 2 d) (Day service)
+alone fields [] d id member service billed more h = absurd h
+alone fields (a ∷ []) d id member service billed more h = absurd h.1
+alone fields (a ∷ b ∷ []) d id member service billed more h = absurd h.1.1
+alone fields (a ∷ b ∷ c ∷ cs) d id member service billed more h = (stands fields a id h.0, stands fields b member h.1.0, h.1.1.0)
+
+-- and of one with a family
+joined : (fields : Fields) (columns : List Column) (d : Column) (id family member : List ℕ) (service billed : ℤ) (more : List Value)
+    → AreValues fields columns (Text id ∷ Text family ∷ Text member ∷ Day service ∷ Number billed ∷ more)
+    → StandsAt fields (slice_index_or columns 0 d).place id × StandsAt fields (slice_index_or columns 1 d).place family × StandsAt fields (slice_index_or columns 2 d).place member
+    × HoldsUnder fields (slice_index_or columns 3 d) (Day service)
+joined fields [] d id family member service billed more h = absurd h
+joined fields (a ∷ []) d id family member service billed more h = absurd h.1
+joined fields (a ∷ b ∷ []) d id family member service billed more h = absurd h.1.1
+joined fields (a ∷ b ∷ c ∷ []) d id family member service billed more h = absurd h.1.1.1
+joined fields (a ∷ b ∷ c ∷ e ∷ es) d id family member service billed more h = (stands fields a id h.0, stands fields b family h.1.0, stands fields c member h.1.1.0, h.1.1.1.0)
+
+-- a day is told by what the field under its column holds
+abbrev pub IsDayOf : Fields → Column → ℤ → Type 0
+IsDayOf fields c day = (held : ℤ) → HoldsUnder fields c (Day held) → day ≡ held
+
+-- whose claim the values under the columns are, where there is no column for families
+pub record IsAlone (fields : Fields) (columns : List Column) (d : Column) : Type 0 where
+  pub claim : Claim
+  pub values : AreValues fields columns (claim_values claim)
+  pub day : HoldsUnder fields (slice_index_or columns 2 d) (Day claim.service)
+  pub claimant : (service : ℤ) → service ≡ claim.service
+      → IsClaimantOf fields (record { id = (slice_index_or columns 0 d).place; family = None; member = (slice_index_or columns 1 d).place; service = service }) claim
+
+pub is-alone : (fields : Fields) (columns : List Column) (d : Column) (values : List Value) → IsClaimShaped false values → AreValues fields columns values → IsAlone fields columns d
+is-alone fields columns d values s h =
+    let none = no-family s.family s.has_family in
+    let are = rw s.values_are at h in
+    let h' = rw none at are in
+    let at = alone fields columns d s.id s.member s.service s.billed s.fields h' in
+    record {
+      claim = claim-of false values s;
+      values = are;
+      day = at.2;
+      claimant = λ service e. record { id = at.0; family = rw none tt; member = at.1; service = e };
+    }
+
+-- and where there is one
+pub record IsJoined (fields : Fields) (columns : List Column) (d : Column) : Type 0 where
+  pub claim : Claim
+  pub values : AreValues fields columns (claim_values claim)
+  pub day : HoldsUnder fields (slice_index_or columns 3 d) (Day claim.service)
+  pub claimant : (service : ℤ) → service ≡ claim.service
+      → IsClaimantOf fields
+      (record { id = (slice_index_or columns 0 d).place; family = Some (slice_index_or columns 1 d).place; member = (slice_index_or columns 2 d).place; service = service }) claim
+
+pub is-joined : (fields : Fields) (columns : List Column) (d : Column) (values : List Value) → IsClaimShaped true values → AreValues fields columns values → IsJoined fields columns d
+is-joined fields columns d values s h =
+    let (family, some) = some-family s.family s.has_family in
+    let are = rw s.values_are at h in
+    let h' = rw some at are in
+    let at = joined fields columns d s.id family s.member s.service s.billed s.fields h' in
+    record {
+      claim = claim-of true values s;
+      values = are;
+      day = at.3;
+      claimant = λ service e. record { id = at.0; family = rw some at.1; member = at.2; service = e };
+    }

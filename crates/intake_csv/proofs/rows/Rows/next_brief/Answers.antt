@@ -1,0 +1,47 @@
+use Rattle.std.proofs.Common.{refl, ap, arith, ◌≡◌, ◌+◌, Some}
+use Rattle.intake_csv.specs.Records.{RecordsLeft, is_failed}
+use Rattle.intake_csv.proofs.AllRecords.{read-at, records-few}
+use Rattle.intake_csv.proofs.Handing.{gives-row, left_of, rows-head}
+use Rattle.intake_csv.specs.declared.rows.Row.TheVariants.{Good, Bad}
+use Rattle.intake_csv.proofs.rows.Rows.next_brief.Goals as goal
+
+pub overflow_add-self : goal.overflow_add-self
+overflow_add-self c =
+    let i = c.self.inside in
+    let reads = rw c.in-Ok-true.field-0-test at c.in-Ok-true.ensures.reads in
+    let at = read-at i.records c.read.new.records i.next c.read.new.self (c.self.invariant.4 (ap is_failed reads.2)) reads in
+    omega (arith, at.0, records-few i.records.text, c.self.invariant.3)
+
+pub overflow_add-self-in-Ok-Err : goal.overflow_add-self-in-Ok-Err
+overflow_add-self-in-Ok-Err c =
+    let i = c.self.inside in
+    let reads = rw c.in-Ok-true.field-0-test at c.in-Ok-true.ensures.reads in
+    let at = read-at i.records c.read.new.records i.next c.read.new.self (c.self.invariant.4 (ap is_failed reads.2)) reads in
+    omega (arith, at.0, records-few i.records.text, c.self.invariant.3)
+
+pub returns-in-Ok-Ok-clause-gives : goal.returns-in-Ok-Ok-clause-gives
+returns-in-Ok-Ok-clause-gives c =
+    let i = c.self.inside in
+    let reads = rw c.in-Ok-true.field-0-test at c.in-Ok-true.ensures.reads in
+    let at = read-at i.records c.read.new.records i.next c.read.new.self (c.self.invariant.4 (ap is_failed reads.2)) reads in
+    let judged = rw c.in-Ok-Ok.field-0-is at c.in-Ok-Ok.ensures.claim in
+    let row = Good i.next i.claims judged.0 in
+    let old = left_of i.layout i.next i.claims i.records.text i.records.stage in
+    let new = left_of i.layout (i.next + 1) (i.claims + 1) i.records.text i.records.stage in
+    let gives = gives-row i.layout i.next i.claims (i.claims + 1) i.records.text i.records.stage c.read.new.self row at.1 (refl, refl, judged.1) refl reads.2 in
+    let stage : c.read.new.records.stage ≡ i.records.stage = ap (λ (r : RecordsLeft). r.stage) reads.1 in
+    rw (← c.self.view_is, at.2, stage) (record { row = Some row; gives = gives; head = rows-head old new row gives; tells = (refl, refl, judged.2) })
+
+pub returns-in-Ok-Err-clause-gives : goal.returns-in-Ok-Err-clause-gives
+returns-in-Ok-Err-clause-gives c =
+    let i = c.self.inside in
+    let reads = rw c.in-Ok-true.field-0-test at c.in-Ok-true.ensures.reads in
+    let at = read-at i.records c.read.new.records i.next c.read.new.self (c.self.invariant.4 (ap is_failed reads.2)) reads in
+    let has = rw c.in-Ok-Err.field-0-is at c.in-Ok-Err.ensures.fault in
+    let row = Bad i.next c.in-Ok-Err.fault in
+    let none : i.claims ≡ i.claims + 0 = omega arith in
+    let old = left_of i.layout i.next i.claims i.records.text i.records.stage in
+    let new = left_of i.layout (i.next + 1) i.claims i.records.text i.records.stage in
+    let gives = gives-row i.layout i.next i.claims i.claims i.records.text i.records.stage c.read.new.self row at.1 (refl, has) none reads.2 in
+    let stage : c.read.new.records.stage ≡ i.records.stage = ap (λ (r : RecordsLeft). r.stage) reads.1 in
+    rw (← c.self.view_is, at.2, stage) (record { row = Some row; gives = gives; head = rows-head old new row gives; tells = (refl, refl) })

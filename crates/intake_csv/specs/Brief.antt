@@ -1,0 +1,47 @@
+-- What a report needs of a row: whose claim it is, by the places of the record's fields, or the fault.
+use Rattle.std.specs.Prelude.{◌≡◌, ℕ, List, Option, Some, None}
+use Rattle.csv.specs.Records.{field_at}
+use Rattle.settlement.specs.declared.claim.Claim.{Claim}
+use Rattle.intake_csv.specs.Records.{Fields}
+use Rattle.intake_csv.specs.Rows.{Gives, IsHead, RowsLeft}
+use Rattle.intake_csv.specs.declared.brief.Brief.{Brief}
+use Rattle.intake_csv.specs.declared.brief.Brief.TheVariants as brief
+use Rattle.intake_csv.specs.declared.brief.Claimant.{Claimant}
+use Rattle.intake_csv.specs.declared.rows.Row.{Row}
+use Rattle.intake_csv.specs.declared.rows.Row.TheVariants.{Good, Bad}
+
+-- the record's field at this place is the text
+abbrev pub StandsAt : Fields → ℕ → List ℕ → Type 0
+StandsAt fields place text = field_at fields place ≡ Some text
+
+-- the record's field at the place that is given is the text, or there is neither a place nor a text
+abbrev pub MayStandAt : Fields → Option ℕ → Option (List ℕ) → Type 0
+MayStandAt fields None None = Unit {0}
+MayStandAt fields (Some place) (Some text) = StandsAt fields place text
+MayStandAt fields _ _ = ⊥
+
+-- these are the places of the fields that tell whose the claim is, and the day of its service
+pub record IsClaimantOf (fields : Fields) (claimant : Claimant) (claim : Claim) : Type 0 where
+  pub id : StandsAt fields claimant.id claim.id
+  pub family : MayStandAt fields claimant.family claim.family
+  pub member : StandsAt fields claimant.member claim.member
+  pub service : claimant.service ≡ claim.service
+
+-- what is told of the row that the record gives
+abbrev pub IsBriefOf : Fields → Brief → Row → Type 0
+IsBriefOf fields (brief.Good n p claimant) (Good number place claim) = (n ≡ number) × (p ≡ place) × IsClaimantOf fields claimant claim
+IsBriefOf fields (brief.Bad n f) (Bad number fault) = (n ≡ number) × (f ≡ fault)
+IsBriefOf fields _ _ = ⊥
+
+-- what is told of a row, or nothing where there is none
+abbrev pub Tells : Fields → Option Brief → Option Row → Type 0
+Tells fields None None = Unit {0}
+Tells fields (Some told) (Some row) = IsBriefOf fields told row
+Tells fields _ _ = ⊥
+
+-- a reader gives some row, of which this is told
+pub record GivesBrief (old new : RowsLeft) (fields : Fields) (told : Option Brief) : Type 0 where
+  pub row : Option Row
+  pub gives : Gives old new row
+  pub head : IsHead old new row
+  pub tells : Tells fields told row

@@ -1,0 +1,25 @@
+-- What is found of a record whose values are not made.
+use Rattle.std.specs.Prelude.{ℕ, ℤ, List, Option, Result, Ok, Err}
+use Rattle.feel_tests.specs.declared.value.Value.{Value}
+use Rattle.feel_tests.specs.declared.value.Value.TheVariants.{Day}
+use Rattle.intake_csv.specs.Records.{Fields}
+use Rattle.intake_csv.specs.Fields.{Holds, IsFaultless, IsFaulty}
+use Rattle.intake_csv.specs.Record.{SoFar}
+use Rattle.intake_csv.specs.Rows.{HoldsUnder}
+use Rattle.intake_csv.specs.declared.column.Column.{Column}
+use Rattle.intake_csv.specs.declared.column.Content.{Content}
+use Rattle.intake_csv.specs.declared.fault.RowCause.{RowCause}
+use Rattle.intake_csv.specs.declared.fault.RowFault.{RowFault}
+
+-- the field holds some value under the column, and nothing is wrong with it; or else this is
+abbrev pub IsFieldJudged : Content → List ℕ → Result (Unit {0}) RowCause → Type 0
+IsFieldJudged content bytes (Ok done) = ((value : Value) × Holds content bytes value) × IsFaultless content bytes
+IsFieldJudged content bytes (Err cause) = IsFaulty content bytes cause
+
+-- some values stand under the columns, and nothing is wrong with them; or else this is the first fault
+abbrev pub AreJudged : Fields → List Column → Option RowFault → Type 0
+AreJudged fields columns first = (values : List Value) × SoFar fields columns values first
+
+-- the record's field under the column holds a day
+abbrev pub IsDayUnder : Fields → Column → Type 0
+IsDayUnder fields column = (day : ℤ) × HoldsUnder fields column (Day day)

@@ -1,0 +1,80 @@
+//! Rows in brief by a worked example.
+use dtable::{Plan, read_plan};
+use intake_csv::{Brief, ClaimFile, Line, Rows};
+use std::alloc::{AllocError, Global};
+use std::fmt::Write;
+use std::process::Abort;
+use std::str;
+use std::test::Fail;
+
+/// A plan with one field, of text, that keeps families.
+const PLAN: &[u8] = b"version = 3\nfields = [{name = \"code\", kind = \"text\"}]\n";
+
+/// Two claims, and between them a record without a member. The columns stand in an order of their own.
+const CLAIMS: &[u8] = b"code,member,claim,service,billed,family
+A,M1,c1,1970-01-02,120.00,F1
+B,,c2,2024-02-01,40.00,F1
+Z,M2,c3,1970-01-11,40.00,F2
+";
+
+// Each row in short: `number.place id family member day;`, or `number!column.cause;`.
+#[test]
+fn rows_in_brief(rt: HostRuntime) -> Result<(), Fail> {
+    let alloc = rt.alloc();
+    let plan = read_plan(alloc, PLAN).expect(&rt, "a plan");
+    let told = told(&rt, alloc, &plan)?;
+    assert_eq!(rt; told.as_str(), "1.0 c1 F1 M1 1;2!2.4;3.1 c3 F2 M2 10;");
+    Ok(())
+}
+
+fn told(rt: &impl Abort, alloc: Global, plan: &Plan) -> Result<String, AllocError> {
+    let file = ClaimFile::new(alloc, plan, CLAIMS).expect(rt, "a file of claims");
+    let mut rows = file.rows(alloc)?;
+    let mut line = Line::new(alloc);
+    let mut told = String::new(alloc);
+    for _ in 0..4 {
+        tell_next(&mut told, &mut rows, &mut line)?;
+    }
+    Ok(told)
+}
+
+// Tells the next row, if there is one.
+fn tell_next(told: &mut String, rows: &mut Rows, line: &mut Line) -> Result<(), AllocError> {
+    match rows.next_brief(line)? {
+        Some(brief) => tell(told, &brief, line),
+        None => Ok(()),
+    }
+}
+
+fn tell(told: &mut String, brief: &Brief, line: &Line) -> Result<(), AllocError> {
+    match brief {
+        Brief::Good {
+            number,
+            place,
+            claimant,
+        } => {
+            write!(told, "{number}.{place}")?;
+            tell_field(told, line, claimant.id)?;
+            if let Some(family) = claimant.family {
+                tell_field(told, line, family)?;
+            }
+            tell_field(told, line, claimant.member)?;
+            write!(told, " {};", claimant.service.epoch_day())
+        }
+        Brief::Bad { number, fault } => {
+            let cause = fault.cause.number();
+            write!(told, "{number}!{}.{cause};", fault.column)
+        }
+    }
+}
+
+// Tells the record's field at a place, where it is a text.
+fn tell_field(told: &mut String, line: &Line, place: usize) -> Result<(), AllocError> {
+    let Some(bytes) = line.bytes(place) else {
+        return Ok(());
+    };
+    match str::from_utf8(bytes) {
+        Ok(text) => write!(told, " {text}"),
+        Err(_) => Ok(()),
+    }
+}
