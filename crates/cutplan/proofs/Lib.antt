@@ -24,6 +24,7 @@ pub mod Keeping
 pub mod Lending
 pub mod Valuing
 pub mod ByMasks
+pub mod FewRules
 pub mod FirstRules
 pub mod MaskLists
 pub mod TextSearch

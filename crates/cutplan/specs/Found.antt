@@ -1,5 +1,5 @@
 -- What is found of a table's rules by the masks of its columns. Tables, rules, columns and regions count from 0 here.
-use Rattle.std.specs.Prelude.{◌≡◌, ℕ, ◌-◌, ◌≤◌, ◌==◌, nat_lt, Bool, false, ◌&&◌, List, length, [], filter, map, Some, None, All, Contains, slice_get, IsTrue}
+use Rattle.std.specs.Prelude.{◌≡◌, ℕ, ◌-◌, ◌≤◌, ◌==◌, nat_lt, Bool, false, ◌&&◌, List, length, [], ◌∷◌, filter, map, Some, None, All, Contains, slice_get, IsTrue}
 use Rattle.std.specs.List.{range_with_len}
 use Rattle.std.specs.Int.{bit_at}
 use Rattle.std.specs.List.Sorted.{IsSortedBy}
@@ -15,6 +15,8 @@ use Rattle.dtable.specs.declared.table.Input.{Input}
 use Rattle.dtable.specs.declared.table.Table.{Table}
 use Rattle.dtable.specs.Matching.{value_read, rule_matches, first_outside}
 use Rattle.dtable.specs.Plan.{PlanParts, has_kind}
+use Rattle.cutplan.specs.declared.few.Few.{Few}
+use Rattle.cutplan.specs.declared.few.Few.TheVariants as few
 use Rattle.cutplan.specs.declared.region.Region.{Region}
 use Rattle.cutplan.specs.declared.region.Region.TheVariants.{Other}
 use Rattle.cutplan.specs.Values.{is_value, kind_read}
@@ -56,6 +58,12 @@ pub record IsMatchingMask (given : List Slot) (earlier : List (List Answer)) (t 
 -- the places, from the first on, of the bits of a word that are set, of so many bits
 abbrev pub places_set : ℕ → ℕ → ℕ → List ℕ
 places_set word first width = filter (λ place. bit_at word (place - first) == 1) (range_with_len first width)
+
+-- these are no rules, this one alone, or more, of which nothing is said
+abbrev pub IsFew : Few → List ℕ → Type 0
+IsFew few.None rules = rules ≡ []
+IsFew (few.One rule) rules = rules ≡ rule ∷ []
+IsFew few.More rules = Unit {0}
 
 -- what a cut plan keeps: the regions of each column of each table, and their masks; no table has more rules than a mask has bits
 pub record IsCut (p : PlanParts) (regions_kept : List (List (List Region))) (masks_kept : List (List (List (List ℕ)))) : Type 0 where

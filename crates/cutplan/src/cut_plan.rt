@@ -11,6 +11,7 @@ ghost use Rattle.cutplan.specs.declared.mask.TheConstants.{MASK_RULES};
 ghost use Rattle.cutplan.specs.Numbered.{cell_limit as CELL_LIMIT, IsTableNumber, cells_of, gaps_of, overlaps_of, IsWide};
 
 use crate::fault::CheckFault;
+use crate::few::{Few, few_of};
 use crate::found::matching_mask;
 use crate::kept::regions_and_masks;
 use crate::keys::keys_of_tables;
@@ -197,7 +198,7 @@ impl<'a> CutPlan<'a> {
     }
 }
 
-// The answers of a table with this number, where a mask has the rules that match: lent, where they are kept.
+// The answers of a table with this number, where a mask has the rules that match.
 fn value_of_mask<'k>(
     alloc: Global,
     number: usize,
@@ -211,14 +212,38 @@ fn value_of_mask<'k>(
     requires within { (place : ℕ) → length table.now.rules ≤ place → place < 256 → has_rule mask.now place ≡ false }
     ensures { Gives (by_hit table.now.hit number table.now (rules_in (length table.now.rules) mask.now)) result }
 {
-    let mut rules = SmallVec::<usize, INLINE_RULES>::new(alloc);
-    list_rules(mask, table.rules.len(), &mut rules)?;
-    if let Some(answers) = lent(table, kept, mask, rules.as_slice()) {
+    match few_of(mask, table.rules.len()) {
+        Few::None => value_of_rules(alloc, number, table, kept, mask, &[]),
+        Few::One(rule) => value_of_rules(alloc, number, table, kept, mask, &[rule]),
+        Few::More => {
+            let mut rules = SmallVec::<usize, INLINE_RULES>::new(alloc);
+            list_rules(mask, table.rules.len(), &mut rules)?;
+            value_of_rules(alloc, number, table, kept, mask, rules.as_slice())
+        }
+    }
+}
+
+// The same of the rules that the mask has: lent, where they are kept.
+fn value_of_rules<'k>(
+    alloc: Global,
+    number: usize,
+    table: &Table,
+    kept: &'k KeptAnswers,
+    mask: &[u64; 4],
+    rules: &[usize],
+) -> Result<Answers<'k>, Fault>
+    requires kept { kept.now ≡ kept_answers table.now }
+    requires words { length mask.now ≡ 4 }
+    requires few { length table.now.rules ≤ MASK_RULES }
+    requires rules { rules.now ≡ rules_in (length table.now.rules) mask.now }
+    ensures { Gives (by_hit table.now.hit number table.now (rules_in (length table.now.rules) mask.now)) result }
+{
+    if let Some(answers) = lent(table, kept, mask, rules) {
         return Ok(Answers::lent(answers));
     }
     let answers = match table.hit {
         Hit::O => in_output_order(alloc, table, kept.order.as_slice(), mask)?,
-        _ => answers_by_hit(alloc, number, table, rules.as_slice())?,
+        _ => answers_by_hit(alloc, number, table, rules)?,
     };
     Ok(Answers::made(answers))
 }

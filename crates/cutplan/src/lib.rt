@@ -18,6 +18,7 @@ mod column;
 mod cut_plan;
 mod cuts;
 mod fault;
+mod few;
 mod found;
 mod gap;
 mod kept;

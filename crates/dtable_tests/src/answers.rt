@@ -56,6 +56,25 @@ pub fn shown_by_place(
     Ok(text)
 }
 
+/// These answers of a table, a line for each.
+pub fn listed(alloc: Global, answers: &[Answer]) -> Result<Vec<u8>, AllocError> {
+    let mut text = Vec::new(alloc);
+    for answer in answers {
+        write_answer(&mut text, Some(answer))?;
+        text.push(b'\n')?;
+    }
+    Ok(text)
+}
+
+/// The literal of a value, if there is one.
+pub fn literal_of(alloc: Global, value: Option<&Value>) -> Result<Vec<u8>, AllocError> {
+    let mut text = Vec::new(alloc);
+    if let Some(value) = value {
+        value.write_text(&mut text)?;
+    }
+    Ok(text)
+}
+
 /// A literal, or the word `list` and the literals of a list.
 fn write_answer(text: &mut Vec<u8>, answer: Option<&Answer>) -> Result<(), AllocError> {
     match answer {

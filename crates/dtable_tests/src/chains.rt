@@ -1,5 +1,5 @@
 //! Whole plans, from their texts to their values: chains of tables, lists, and want of memory.
-use crate::answers::{give, give_text, shown, shown_by_place};
+use crate::answers::{give, give_text, literal_of, shown, shown_by_place};
 use crate::plans::{chain_plan, sum_and_level_plan};
 use crate::tables::told;
 use dtable::{
@@ -75,24 +75,33 @@ fn the_health_plan_has_its_values(rt: HostRuntime) -> Result<(), Fail> {
     are_answered(&rt, rt.alloc(), &plan)
 }
 
-/// Texts that are given one over the other, a shorter one and a longer one in turn.
-#[test]
-fn a_text_is_given_over_another(rt: HostRuntime) -> Result<(), Fail> {
-    let alloc = rt.alloc();
-    let plan = read_plan(alloc, health_plan().as_bytes())?;
-    let mut inputs = Inputs::new(alloc, &plan)?;
-    for given in &["LONGER", "A", "", "THE LONGEST"] {
-        assert!(rt; give_text(alloc, &mut inputs, CODE, given)?);
-        assert!(rt; has_text(&inputs, given), "{given}");
+/// Texts that are given one over the other, a shorter one and a longer one in turn, and their literals.
+const CODES: [(&str, &str); 4] = [
+    ("LONGER", "\"LONGER\""),
+    ("A", "\"A\""),
+    ("", "\"\""),
+    ("THE LONGEST", "\"THE LONGEST\""),
+];
+
+fn codes() -> &'static [(&'static str, &'static str)] {
+    &CODES
+}
+
+fn are_given(rt: &impl Abort, alloc: Global, inputs: &mut Inputs) -> Result<(), AllocError> {
+    for (given, literal) in codes() {
+        assert!(rt; give_text(alloc, inputs, CODE, given)?);
+        let text = literal_of(alloc, inputs.get(CODE))?;
+        assert!(rt; text.as_slice() == literal.as_bytes(), "{given}");
     }
     Ok(())
 }
 
-fn has_text(inputs: &Inputs, text: &str) -> bool {
-    match inputs.get(CODE) {
-        Some(Value::Text(standing)) => standing.as_str() == text,
-        _ => false,
-    }
+#[test]
+fn a_text_is_given_over_another(rt: HostRuntime) -> Result<(), Fail> {
+    let plan = read_plan(rt.alloc(), health_plan().as_bytes())?;
+    let mut inputs = Inputs::new(rt.alloc(), &plan)?;
+    assert!(rt; are_given(&rt, rt.alloc(), &mut inputs).is_ok());
+    Ok(())
 }
 
 #[test]
@@ -108,8 +117,8 @@ fn what_a_plan_needs(rt: HostRuntime) -> Result<(), Fail> {
 const LEVELS: [(&str, &str); 4] = [
     ("1", "\"LOW\"\n"),
     ("7", "\"HIGH\"\n"),
-    ("-1", "norule:1"),
-    ("9", "norule:2"),
+    ("-1", "no rule of table 1 matches"),
+    ("9", "no rule of table 2 matches"),
 ];
 
 fn levels() -> &'static [(&'static str, &'static str)] {

@@ -1,6 +1,6 @@
 //! The plan reader: a plan with every key, broken plans with the fault of each, and each prefix of a plan.
 use crate::plans::{full_plan, roles_plan, score_plan};
-use dtable::{Hit, InputData, Source, Table, read_plan};
+use dtable::{FamilyRoles, Hit, InputData, Roles, Source, Table, read_plan};
 use feel_tests::Kind;
 use std::alloc::Global;
 use std::process::Abort;
@@ -90,13 +90,38 @@ fn a_plan_that_keeps_families_has_their_names(rt: HostRuntime) -> Result<(), Fai
     Ok(())
 }
 
+fn is_literal(source: &Source) -> bool {
+    match source {
+        Source::Literal(_) => true,
+        Source::Input(_) => false,
+        Source::Output(_) => false,
+    }
+}
+
+fn is_input(source: &Source, wanted: usize) -> bool {
+    match source {
+        Source::Literal(_) => false,
+        Source::Input(place) => *place == wanted,
+        Source::Output(_) => false,
+    }
+}
+
+// Whether the family's deductible is written in the plan, and its limit is what the family has met.
+fn are_family_limits(limits: &FamilyRoles) -> bool {
+    is_literal(&limits.deductible) && is_input(&limits.oop_max, 9)
+}
+
+fn has_family_limits(roles: &Roles) -> bool {
+    match &roles.family {
+        Some(limits) => are_family_limits(limits),
+        None => false,
+    }
+}
+
 #[test]
 fn a_plan_that_keeps_families_has_their_limits(rt: HostRuntime) -> Result<(), Fail> {
     let plan = read_plan(rt.alloc(), families_plan().as_bytes())?;
-    let roles = plan.roles().ok_or("no roles")?;
-    let limits = roles.family.as_ref().ok_or("no limits")?;
-    assert!(rt; matches!(&limits.deductible, Source::Literal(_)));
-    assert!(rt; matches!(&limits.oop_max, Source::Input(9)));
+    assert!(rt; plan.roles().is_some_and(has_family_limits));
     Ok(())
 }
 
@@ -145,16 +170,31 @@ fn a_plan_has_its_tables(rt: HostRuntime) -> Result<(), Fail> {
 }
 
 fn is_output(source: &Source, wanted: &str) -> bool {
-    matches!(source, Source::Output(name) if name.as_str() == wanted)
+    match source {
+        Source::Literal(_) => false,
+        Source::Input(_) => false,
+        Source::Output(name) => name.as_str() == wanted,
+    }
+}
+
+fn has_remarks(roles: &Roles, wanted: &str) -> bool {
+    match &roles.remarks {
+        Some(name) => name.as_str() == wanted,
+        None => false,
+    }
+}
+
+fn are_full_roles(roles: &Roles) -> bool {
+    is_output(&roles.cover, "covered")
+        && is_output(&roles.fee, "fee")
+        && is_literal(&roles.copay)
+        && has_remarks(roles, "note")
 }
 
 #[test]
 fn a_plan_has_its_roles(rt: HostRuntime) -> Result<(), Fail> {
     let plan = read_plan(rt.alloc(), full_plan().as_bytes())?;
-    let roles = plan.roles().ok_or("no roles")?;
-    assert!(rt; is_output(&roles.cover, "covered") && is_output(&roles.fee, "fee"));
-    assert!(rt; matches!(&roles.copay, Source::Literal(_)));
-    assert!(rt; matches!(&roles.remarks, Some(name) if name.as_str() == "note"));
+    assert!(rt; plan.roles().is_some_and(are_full_roles));
     Ok(())
 }
 

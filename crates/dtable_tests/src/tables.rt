@@ -1,11 +1,10 @@
 //! Hit policies by worked examples: what the one table of a plan answers.
-use crate::answers::{give, shown};
+use crate::answers::{give, listed, literal_of, shown};
 use dtable::{
-    Answer, Answers, AnswersByTable, Fault, Inputs, Plan, Valuer, answers_by_hit, read_plan,
+    Answers, AnswersByTable, Fault, Inputs, Plan, Valuer, answers_by_hit, read_plan,
     table_value, value_read,
 };
-use feel_tests::Value;
-use std::alloc::Global;
+use std::alloc::{AllocError, Global};
 use std::process::Abort;
 use std::test::Fail;
 
@@ -29,9 +28,9 @@ const SAME: &str = "{when = ['>0'], then = ['1']}, {when = ['>1'], then = ['1']}
 const OTHER: &str = "{when = ['>0'], then = ['1']}, {when = ['>1'], then = ['2']}";
 
 const TWO_MATCHES: [Row; 6] = [
-    ("2", "U", Y, SAME, "y", "clash:1"),
+    ("2", "U", Y, SAME, "y", "rules of table 1 clash"),
     ("2", "A", Y, SAME, "y", "1\n"),
-    ("2", "A", Y, OTHER, "y", "clash:1"),
+    ("2", "A", Y, OTHER, "y", "rules of table 1 clash"),
     ("2", "F", Y, OTHER, "y", "1\n"),
     ("2", "R", Y, OTHER, "y", "list 1 2\n"),
     ("2", "C", Y, OTHER, "y", "list 1 2\n"),
@@ -85,11 +84,11 @@ const NUMBERS: [Row; 10] = [
     ("2", "C+", Y, THREE, "y", "3.25\n"),
     ("2", "C<", Y, THREE, "y", "-0.25\n"),
     ("2", "C>", Y, THREE, "y", "2\n"),
-    ("2", "C+", Y, LARGE, "y", "range:1"),
+    ("2", "C+", Y, LARGE, "y", "the number of table 1 is out of range"),
     ("2", "C+", Y, BACK, "y", "99999999999.9999\n"),
     ("2", "C#", TEXT, TWICE, "y", "2\n"),
-    ("2", "C<", Y, NONE, "y", "norule:1"),
-    ("2", "C#", Y, NONE, "y", "norule:1"),
+    ("2", "C<", Y, NONE, "y", "no rule of table 1 matches"),
+    ("2", "C#", Y, NONE, "y", "no rule of table 1 matches"),
     ("2", "C", Y, NONE, "y", "list\n"),
     ("2", "R", Y, NONE, "y", "list\n"),
 ];
@@ -97,10 +96,10 @@ const NUMBERS: [Row; 10] = [
 const DEFAULT: &str = "{name = 'y', kind = 'number', default = '0'}";
 
 const DEFAULTS: [Row; 8] = [
-    ("6", "U", Y, NONE, "y", "outside:1:1"),
+    ("6", "U", Y, NONE, "y", "the value of column 1 of table 1 is not allowed"),
     ("2", "F", DEFAULT, NONE, "y", "0\n"),
     ("2", "U", DEFAULT, NONE, "y", "0\n"),
-    ("2", "A", DEFAULT, OTHER, "y", "clash:1"),
+    ("2", "A", DEFAULT, OTHER, "y", "rules of table 1 clash"),
     ("2", "C+", DEFAULT, NONE, "y", "0\n"),
     ("2", "C<", DEFAULT, "", "y", "0\n"),
     ("2", "C#", TEXT, "", "y", "7\n"),
@@ -128,23 +127,13 @@ pub fn told(
     assert!(rt; plan.ready(&inputs));
     match plan.value(alloc, &inputs) {
         Ok(values) => Ok(shown(alloc, &values, &[output])?),
-        Err(fault) => Ok(Vec::from_slice(alloc, fault_text(fault).as_bytes())?),
+        Err(fault) => fault_text(alloc, fault),
     }
 }
 
-/// The faults that the tests await.
-fn fault_text(fault: Fault) -> &'static str {
-    match fault {
-        Fault::Outside {
-            table: 1,
-            column: 1,
-        } => "outside:1:1",
-        Fault::NoRule { table: 1 } => "norule:1",
-        Fault::NoRule { table: 2 } => "norule:2",
-        Fault::Clash { table: 1 } => "clash:1",
-        Fault::Range { table: 1 } => "range:1",
-        _ => "another fault",
-    }
+fn fault_text(alloc: Global, fault: Fault) -> Result<Vec<u8>, Fail> {
+    let text = format!(in alloc; "{fault}")?;
+    Ok(Vec::from_slice(alloc, text.as_bytes())?)
 }
 
 /// Each table answers what its row says.
@@ -197,21 +186,20 @@ fn values_outside_and_defaults(rt: HostRuntime) -> Result<(), Fail> {
     are_answered(&rt, rt.alloc(), defaults())
 }
 
-// Whether this is the one number of so many units.
-fn is_number(answers: &[Answer], units: i64) -> bool {
-    match answers {
-        [Answer::One(Value::Number(number))] => number.units() == units,
-        _ => false,
+// The literal of what the first input of a plan's first table reads.
+fn first_read(
+    alloc: Global,
+    plan: &Plan,
+    inputs: &Inputs,
+    earlier: &[Answers<'_>],
+) -> Result<Vec<u8>, AllocError> {
+    let mut text = Vec::new(alloc);
+    if let Some(table) = plan.tables().first() {
+        if let Some(input) = table.inputs.as_slice().first() {
+            text = literal_of(alloc, value_read(inputs, earlier, input.origin))?;
+        }
     }
-}
-
-// What the first input of a plan's first table reads, if it is a number, in units.
-fn first_read(plan: &Plan, inputs: &Inputs, earlier: &[Answers<'_>]) -> Option<i64> {
-    let input = plan.tables().first()?.inputs.as_slice().first()?;
-    match value_read(inputs, earlier, input.origin)? {
-        Value::Number(number) => Some(number.units()),
-        _ => None,
-    }
+    Ok(text)
 }
 
 /// A plan whose one table has two rules that match 2, of which the first one answers.
@@ -219,22 +207,43 @@ fn first_of_two(alloc: Global) -> Result<Plan, Fail> {
     over_x(alloc, "F", Y, OTHER)
 }
 
-#[test]
-fn a_table_is_answered_for_the_rules_that_match(rt: HostRuntime) -> Result<(), Fail> {
-    let alloc = rt.alloc();
-    let plan = first_of_two(alloc)?;
-    let mut inputs = Inputs::new(alloc, &plan)?;
-    give(alloc, &mut inputs, X, "2")?;
+/// Where the rules match 2, the table answers the number of the first; where the second is all that matches, its number.
+fn are_answered_for_matches(
+    rt: &impl Abort,
+    alloc: Global,
+    inputs: &Inputs,
+    plan: &Plan,
+) -> Result<(), Fail> {
     let earlier = AnswersByTable::new(alloc);
-    assert_eq!(rt;
-        first_read(&plan, &inputs, earlier.as_slice()),
-        Some(20_000)
-    );
+    let read = first_read(alloc, plan, inputs, earlier.as_slice())?;
+    assert!(rt; read.as_slice() == b"2".as_slice());
     for table in plan.tables() {
-        let answers = table_value(alloc, &inputs, earlier.as_slice(), table)?;
-        assert!(rt; is_number(answers.as_slice(), 10_000));
-        let second = answers_by_hit(alloc, 1, table, &[1])?;
-        assert!(rt; is_number(second.as_slice(), 20_000));
+        let answers = table_value(alloc, inputs, earlier.as_slice(), table)?;
+        let first = listed(alloc, answers.as_slice())?;
+        assert!(rt; first.as_slice() == b"1\n".as_slice());
     }
     Ok(())
+}
+
+fn is_answered_for_the_second(rt: &impl Abort, alloc: Global, plan: &Plan) -> Result<(), Fail> {
+    for table in plan.tables() {
+        let answers = answers_by_hit(alloc, 1, table, &[1])?;
+        let second = listed(alloc, answers.as_slice())?;
+        assert!(rt; second.as_slice() == b"2\n".as_slice());
+    }
+    Ok(())
+}
+
+#[test]
+fn a_table_is_answered_for_the_rules_that_match(rt: HostRuntime) -> Result<(), Fail> {
+    let plan = first_of_two(rt.alloc())?;
+    let mut inputs = Inputs::new(rt.alloc(), &plan)?;
+    give(rt.alloc(), &mut inputs, X, "2")?;
+    are_answered_for_matches(&rt, rt.alloc(), &inputs, &plan)
+}
+
+#[test]
+fn a_table_is_answered_for_rules_that_are_given(rt: HostRuntime) -> Result<(), Fail> {
+    let plan = first_of_two(rt.alloc())?;
+    is_answered_for_the_second(&rt, rt.alloc(), &plan)
 }

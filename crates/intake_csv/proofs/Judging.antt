@@ -5,7 +5,7 @@ use Rattle.feel_tests.specs.declared.kind.Kind.TheVariants as kinds
 use Rattle.feel_tests.specs.declared.value.Value.{Value}
 use Rattle.feel_tests.specs.declared.value.Value.TheVariants.{Number, Text, Day}
 use Rattle.settlement.specs.declared.claim.Claim.{Claim}
-use Rattle.intake_csv.specs.Brief.{IsClaimantOf, StandsAt}
+use Rattle.intake_csv.specs.Brief.{DayStandsAt, IsClaimantOf, StandsAt}
 use Rattle.intake_csv.specs.Judged.{IsFieldJudged}
 use Rattle.intake_csv.specs.Record.{IsClaimShaped}
 use Rattle.intake_csv.specs.Records.{Fields}
@@ -29,6 +29,10 @@ words_judged bytes text =
 -- a text under a column is the field as it stands
 stands : (fields : Fields) (c : Column) (t : List ℕ) → HoldsUnder fields c (Text t) → StandsAt fields c.place t
 stands fields c t h = h.field ∙ ap Some (sym h.holds.spells.plain.1)
+
+-- and so is the text of a day
+day-stands : (fields : Fields) (c : Column) (day : ℤ) → HoldsUnder fields c (Day day) → DayStandsAt fields c.place day
+day-stands fields c day h = record { bytes = h.bytes; field = h.field; text = h.holds.text; spells = (refl, h.holds.spells.plain.1) }
 
 no-family : (family : Option (List ℕ)) → is_some family ≡ false → family ≡ None
 no-family None e = refl
@@ -62,17 +66,12 @@ joined fields (a ∷ b ∷ []) d id family member service billed more h = absurd
 joined fields (a ∷ b ∷ c ∷ []) d id family member service billed more h = absurd h.1.1.1
 joined fields (a ∷ b ∷ c ∷ e ∷ es) d id family member service billed more h = (stands fields a id h.0, stands fields b family h.1.0, stands fields c member h.1.1.0, h.1.1.1.0)
 
--- a day is told by what the field under its column holds
-abbrev pub IsDayOf : Fields → Column → ℤ → Type 0
-IsDayOf fields c day = (held : ℤ) → HoldsUnder fields c (Day held) → day ≡ held
-
 -- whose claim the values under the columns are, where there is no column for families
 pub record IsAlone (fields : Fields) (columns : List Column) (d : Column) : Type 0 where
   pub claim : Claim
   pub values : AreValues fields columns (claim_values claim)
-  pub day : HoldsUnder fields (slice_index_or columns 2 d) (Day claim.service)
-  pub claimant : (service : ℤ) → service ≡ claim.service
-      → IsClaimantOf fields (record { id = (slice_index_or columns 0 d).place; family = None; member = (slice_index_or columns 1 d).place; service = service }) claim
+  pub claimant : IsClaimantOf fields
+      (record { id = (slice_index_or columns 0 d).place; family = None; member = (slice_index_or columns 1 d).place; service = (slice_index_or columns 2 d).place }) claim
 
 pub is-alone : (fields : Fields) (columns : List Column) (d : Column) (values : List Value) → IsClaimShaped false values → AreValues fields columns values → IsAlone fields columns d
 is-alone fields columns d values s h =
@@ -83,18 +82,20 @@ is-alone fields columns d values s h =
     record {
       claim = claim-of false values s;
       values = are;
-      day = at.2;
-      claimant = λ service e. record { id = at.0; family = rw none tt; member = at.1; service = e };
+      claimant = record { id = at.0; family = rw none tt; member = at.1; service = day-stands fields (slice_index_or columns 2 d) s.service at.2 };
     }
 
 -- and where there is one
 pub record IsJoined (fields : Fields) (columns : List Column) (d : Column) : Type 0 where
   pub claim : Claim
   pub values : AreValues fields columns (claim_values claim)
-  pub day : HoldsUnder fields (slice_index_or columns 3 d) (Day claim.service)
-  pub claimant : (service : ℤ) → service ≡ claim.service
-      → IsClaimantOf fields
-      (record { id = (slice_index_or columns 0 d).place; family = Some (slice_index_or columns 1 d).place; member = (slice_index_or columns 2 d).place; service = service }) claim
+  pub claimant : IsClaimantOf fields
+      (record {
+        id = (slice_index_or columns 0 d).place;
+        family = Some (slice_index_or columns 1 d).place;
+        member = (slice_index_or columns 2 d).place;
+        service = (slice_index_or columns 3 d).place
+      }) claim
 
 pub is-joined : (fields : Fields) (columns : List Column) (d : Column) (values : List Value) → IsClaimShaped true values → AreValues fields columns values → IsJoined fields columns d
 is-joined fields columns d values s h =
@@ -105,6 +106,5 @@ is-joined fields columns d values s h =
     record {
       claim = claim-of true values s;
       values = are;
-      day = at.3;
-      claimant = λ service e. record { id = at.0; family = rw some at.1; member = at.2; service = e };
+      claimant = record { id = at.0; family = rw some at.1; member = at.2; service = day-stands fields (slice_index_or columns 3 d) s.service at.3 };
     }

@@ -1,6 +1,10 @@
 -- What a report needs of a row: whose claim it is, by the places of the record's fields, or the fault.
-use Rattle.std.specs.Prelude.{◌≡◌, ℕ, List, Option, Some, None}
+use Rattle.std.specs.Prelude.{◌≡◌, ℕ, ℤ, List, Option, Some, None}
 use Rattle.csv.specs.Records.{field_at}
+use Rattle.feel_tests.specs.Plain.{SpellsPlain}
+use Rattle.feel_tests.specs.TextBytes.{IsText}
+use Rattle.feel_tests.specs.declared.kind.Kind.TheVariants as kinds
+use Rattle.feel_tests.specs.declared.value.Value.TheVariants.{Day}
 use Rattle.settlement.specs.declared.claim.Claim.{Claim}
 use Rattle.intake_csv.specs.Records.{Fields}
 use Rattle.intake_csv.specs.Rows.{Gives, IsHead, RowsLeft}
@@ -20,12 +24,19 @@ MayStandAt fields None None = Unit {0}
 MayStandAt fields (Some place) (Some text) = StandsAt fields place text
 MayStandAt fields _ _ = ⊥
 
--- these are the places of the fields that tell whose the claim is, and the day of its service
+-- the record's field at this place is a text that spells the day
+pub record DayStandsAt (fields : Fields) (place : ℕ) (day : ℤ) : Type 0 where
+  pub bytes : List ℕ
+  pub field : field_at fields place ≡ Some bytes
+  pub text : IsText bytes
+  pub spells : SpellsPlain kinds.Day bytes (Day day)
+
+-- these are the places of the fields that tell whose the claim is, and of the day of its service
 pub record IsClaimantOf (fields : Fields) (claimant : Claimant) (claim : Claim) : Type 0 where
   pub id : StandsAt fields claimant.id claim.id
   pub family : MayStandAt fields claimant.family claim.family
   pub member : StandsAt fields claimant.member claim.member
-  pub service : claimant.service ≡ claim.service
+  pub service : DayStandsAt fields claimant.service claim.service
 
 -- what is told of the row that the record gives
 abbrev pub IsBriefOf : Fields → Brief → Row → Type 0

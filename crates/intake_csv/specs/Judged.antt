@@ -1,11 +1,9 @@
 -- What is found of a record whose values are not made.
-use Rattle.std.specs.Prelude.{ℕ, ℤ, List, Option, Result, Ok, Err}
+use Rattle.std.specs.Prelude.{ℕ, List, Option, Result, Ok, Err}
 use Rattle.feel_tests.specs.declared.value.Value.{Value}
-use Rattle.feel_tests.specs.declared.value.Value.TheVariants.{Day}
 use Rattle.intake_csv.specs.Records.{Fields}
 use Rattle.intake_csv.specs.Fields.{Holds, IsFaultless, IsFaulty}
 use Rattle.intake_csv.specs.Record.{SoFar}
-use Rattle.intake_csv.specs.Rows.{HoldsUnder}
 use Rattle.intake_csv.specs.declared.column.Column.{Column}
 use Rattle.intake_csv.specs.declared.column.Content.{Content}
 use Rattle.intake_csv.specs.declared.fault.RowCause.{RowCause}
@@ -19,7 +17,3 @@ IsFieldJudged content bytes (Err cause) = IsFaulty content bytes cause
 -- some values stand under the columns, and nothing is wrong with them; or else this is the first fault
 abbrev pub AreJudged : Fields → List Column → Option RowFault → Type 0
 AreJudged fields columns first = (values : List Value) × SoFar fields columns values first
-
--- the record's field under the column holds a day
-abbrev pub IsDayUnder : Fields → Column → Type 0
-IsDayUnder fields column = (day : ℤ) × HoldsUnder fields column (Day day)

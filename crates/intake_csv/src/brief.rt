@@ -1,6 +1,5 @@
 //! What a report needs of a row.
 use crate::fault::RowFault;
-use feel_tests::Day;
 
 /// A row of a file of claims, in brief: whose claim it is, and not what else it holds.
 #[derive(Clone, Copy, Debug, Drop)]
@@ -27,6 +26,6 @@ pub struct Claimant {
     pub family: Option<usize>,
     /// The place of the member's identifier.
     pub member: usize,
-    /// The day of the service.
-    pub service: Day,
+    /// The place of the day of the service.
+    pub service: usize,
 }

@@ -1,13 +1,11 @@
 //! Whether a record of a file of claims is a claim, and whose, found without making its values.
-ghost use Rattle.std.specs.Prelude.{◌≡◌, ◌<◌, ◌+◌, ◌^◌, ℤ, length, IfOk, IfErr};
+ghost use Rattle.std.specs.Prelude.{◌≡◌, ◌<◌, ◌+◌, ◌^◌, length, IfOk, IfErr};
 ghost use Rattle.std.specs.List.{All};
-ghost use Rattle.feel_tests.specs.Value.{kind_of};
 ghost use Rattle.feel_tests.specs.declared.kind.Kind.TheVariants as kinds;
 ghost use Rattle.feel_tests.specs.declared.value.Value.{Value as AnyValue};
-ghost use Rattle.feel_tests.specs.declared.value.Value.TheVariants as values;
 ghost use Rattle.settlement.specs.declared.claim.Claim.{Claim as AnyClaim};
 ghost use Rattle.intake_csv.specs.Brief.{IsClaimantOf};
-ghost use Rattle.intake_csv.specs.Judged.{IsFieldJudged, AreJudged, IsDayUnder};
+ghost use Rattle.intake_csv.specs.Judged.{IsFieldJudged, AreJudged};
 ghost use Rattle.intake_csv.specs.Record.{IsClaimLayout};
 ghost use Rattle.intake_csv.specs.Rows.{HasFault, HasValues, HoldsUnder, IsFaultlessUnder, IsFaultyUnder, claim_values};
 ghost use Rattle.intake_csv.specs.Sheet.{IsWithin};
@@ -20,7 +18,7 @@ use crate::fault::{RowCause, RowFault};
 use crate::field::read_text;
 use crate::line::Line;
 use crate::record::leftmost;
-use feel_tests::{Day, Kind, PlainFault, TEXT_LIMIT_BYTES, Value, read_plain};
+use feel_tests::{Kind, TEXT_LIMIT_BYTES};
 use std::alloc::{AllocError, Global};
 
 /// Whose claim a record is, or its first fault.
@@ -49,12 +47,11 @@ pub fn judge_claim(
     } else {
         (None, 1)
     };
-    let service = day_under(alloc, columns[behind + 1], line)?;
     Ok(Ok(Claimant {
         id: columns[0].place,
         family,
         member: columns[behind].place,
-        service,
+        service: columns[behind + 1].place,
     }))
 }
 
@@ -148,31 +145,4 @@ fn judge_words(text: &str) -> Result<(), RowCause>
         return Err(RowCause::TooLong);
     }
     Ok(())
-}
-
-// The day under a column of days, which has one.
-fn day_under(alloc: Global, column: Column, line: &Line) -> Result<Day, AllocError>
-    requires { IsDayUnder line.now column }
-    ensures { IfOk result (λ day. (held : ℤ) → HoldsUnder line.now column (values.Day held) → day ≡ held) }
-{
-    // Known from here: a field spells one value at most.
-    feel_tests::field_spells_at_most_one_value();
-    let Some(Ok(text)) = line.text(column.place) else {
-        unreachable!();
-    };
-    match read_plain(alloc, Kind::Day, text) {
-        Ok(value) => Ok(day_of(value)),
-        Err(PlainFault::OutOfMemory) => Err(AllocError),
-        Err(PlainFault::Bad) => unreachable!(),
-    }
-}
-
-fn day_of(value: Value) -> Day
-    requires { kind_of value ≡ kinds.Day }
-    ensures { value ≡ values.Day result }
-{
-    let Value::Day(day) = value else {
-        unreachable!();
-    };
-    day
 }

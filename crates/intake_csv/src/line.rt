@@ -1,12 +1,15 @@
 //! The record that a reader holds, looked at once to see whether it is ASCII.
-ghost use Rattle.std.specs.Prelude.{◌≡◌, ℕ, List, [], length, IsUtf8, IfOk, IfErr, OnErr, is_err, true, false, Ok, None, Some, option_map};
+ghost use Rattle.std.specs.Prelude.{◌≡◌, ℕ, ℤ, List, [], length, IsUtf8, IfOk, IfErr, OnErr, is_err, true, false, Ok, None, Some, option_map};
 ghost use Rattle.std.specs.Option.{IfSome};
 ghost use Rattle.csv.specs.Records.{field_at, fields_of};
+ghost use Rattle.feel_tests.specs.declared.value.Value.TheVariants as values;
+ghost use Rattle.intake_csv.specs.Brief.{DayStandsAt};
 ghost use Rattle.intake_csv.specs.Records.{Reads};
 ghost use Rattle.intake_csv.specs.declared.records.Stage.TheVariants.{Over, Failed};
 
 use crate::records::Records;
 use csv::{ByteRecord, StringRecord};
+use feel_tests::{Day, Kind, PlainFault, Value, read_plain};
 use std::alloc::{AllocError, Global};
 use std::marker::Model;
 use std::mem::replace;
@@ -113,6 +116,22 @@ impl Line {
         }
     }
 
+    /// The day that the field at a place spells, if it spells one.
+    pub fn day(&self, alloc: Global, place: usize) -> Result<Option<Day>, AllocError>
+        ensures { IfOk result (λ day. (held : ℤ) → DayStandsAt self.now place held → day ≡ Some held) }
+    {
+        // Known from here: a field spells one value at most.
+        feel_tests::field_spells_at_most_one_value();
+        let Some(Ok(text)) = self.text(place) else {
+            return Ok(None);
+        };
+        match read_plain(alloc, Kind::Day, text) {
+            Ok(value) => Ok(day_of(value)),
+            Err(PlainFault::OutOfMemory) => Err(AllocError),
+            Err(PlainFault::Bad) => Ok(None),
+        }
+    }
+
     /// The bytes of the field at a place, if there is one.
     pub fn bytes(&self, place: usize) -> Option<&[u8]>
         ensures { option_map (λ s. s.now) result ≡ field_at self.now place }
@@ -123,4 +142,14 @@ impl Line {
             self.bytes.get(place)
         }
     }
+}
+
+// The day that a value is, if it is one.
+fn day_of(value: Value) -> Option<Day>
+    ensures { (held : ℤ) → value ≡ values.Day held → result ≡ Some held }
+{
+    let Value::Day(day) = value else {
+        return None;
+    };
+    Some(day)
 }

@@ -59,12 +59,20 @@ fn tell(told: &mut String, brief: &Brief, line: &Line) -> Result<(), AllocError>
                 tell_field(told, line, family)?;
             }
             tell_field(told, line, claimant.member)?;
-            write!(told, " {};", claimant.service.epoch_day())
+            tell_day(told, line, claimant.service)
         }
         Brief::Bad { number, fault } => {
             let cause = fault.cause.number();
             write!(told, "{number}!{}.{cause};", fault.column)
         }
+    }
+}
+
+// Tells the number of the day that the record's field at a place spells.
+fn tell_day(told: &mut String, line: &Line, place: usize) -> Result<(), AllocError> {
+    match line.day(told.alloc(), place)? {
+        Some(day) => write!(told, " {};", day.epoch_day()),
+        None => write!(told, " no day;"),
     }
 }
 

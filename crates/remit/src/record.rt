@@ -1,12 +1,12 @@
 //! The fields of the report's records.
-ghost use Rattle.std.specs.Prelude.{◌≡◌, ◌≤◌, ℕ, pos, List, [], ◌∷◌, decimal, map, replicate, OnOk};
+ghost use Rattle.std.specs.Prelude.{◌≡◌, ◌≤◌, ℕ, ℤ, Some, IfOk, IsTrue, pos, List, [], ◌∷◌, decimal, map, replicate, OnOk};
 ghost use Rattle.csv.specs.Records.{fields_of};
 ghost use Rattle.fixpoint.specs.Money.{money_text};
 ghost use Rattle.dtable.specs.Plan.{has_families, has_years};
 ghost use Rattle.journal.specs.Events.{accepted as accepted_in};
 ghost use Rattle.journal.specs.declared.event.Event.{Event as AnyEvent};
 ghost use Rattle.settlement.specs.declared.claim.Claim.{Claim as AnyClaim};
-ghost use Rattle.intake_csv.specs.Brief.{IsBriefOf, IsClaimantOf, StandsAt};
+ghost use Rattle.intake_csv.specs.Brief.{DayStandsAt, IsBriefOf, IsClaimantOf, StandsAt};
 ghost use Rattle.intake_csv.specs.declared.rows.Row.{Row as AnyRow};
 ghost use Rattle.claim_terms.specs.Terms.{texts_of};
 ghost use Rattle.remit.specs.Amounts.{amount_of, name_of};
@@ -18,10 +18,10 @@ ghost use Rattle.remit.specs.Records.{front_names, header_fields, record_of, tol
 use crate::amount::{AMOUNTS, Amount};
 use crate::decisions::Decisions;
 use crate::sums::Sums;
-use crate::texts::{fault_text, reason_text, remarks_text, sum_text};
+use crate::texts::{fault_text, join_remarks, reason_text, sum_text};
 use csv::ByteRecord;
 use dtable::{has_families, has_years};
-use feel_tests::{day_year, year_text};
+use feel_tests::{Day, day_year, year_text};
 use intake_csv::{Brief, Claimant, Line, RowFault};
 use itoa::Buffer;
 use settlement::{Money, Outcome, Verdict};
@@ -43,10 +43,12 @@ pub fn fill_header(line: &mut ByteRecord, version: u8) -> Result<(), AllocError>
     line.push_field(b"remarks")
 }
 
-/// Fills the record with the row of a provider's file of which this is told, and which the record of the file gives.
+/// Fills the record with the row of a provider's file of which this is told, and which the record of the file gives. Several remarks
+/// are joined in the memory of a text that is of no other use.
 pub fn fill_row(
     alloc: Global,
     line: &mut ByteRecord,
+    joined: &mut Vec<u8>,
     decisions: &Decisions,
     provider: usize,
     brief: &Brief,
@@ -64,8 +66,8 @@ pub fn fill_row(
             claimant,
         } => {
             push_number(line, *number)?;
-            push_claimant(line, decisions.version(), *claimant, source)?;
-            push_claim(alloc, line, decisions.outcome(provider, *place))
+            push_claimant(alloc, line, decisions.version(), *claimant, source)?;
+            push_claim(alloc, line, joined, decisions.outcome(provider, *place))
         }
         Brief::Bad { number, fault } => {
             push_number(line, *number)?;
@@ -112,6 +114,7 @@ fn push_total_front(line: &mut ByteRecord, version: u8, accepted: usize) -> Resu
 
 // Whose the claim is, and the year of its service, where there is a field for it. A claim without a family is its member's.
 fn push_claimant(
+    alloc: Global,
     line: &mut ByteRecord,
     version: u8,
     claimant: Claimant,
@@ -125,11 +128,29 @@ fn push_claimant(
         Some(place) => field_at(source, place),
         None => member,
     };
+    let service = service_under(alloc, version, source, claimant.service)?;
+    match service {
+        Some(day) => {
+            let year = year_text(day_year(day.epoch_day()));
+            push_whose(line, version, id, family, member, year.as_slice())
+        }
+        None => push_whose(line, version, id, family, member, b""),
+    }
+}
+
+// The day of the service, which stands at the place, where the record has a field for its year.
+fn service_under(
+    alloc: Global,
+    version: u8,
+    source: &Line,
+    place: usize,
+) -> Result<Option<Day>, AllocError>
+    ensures { IfOk result (λ service. IsTrue (has_years version) → (day : ℤ) → DayStandsAt source.now place day → service ≡ Some day) }
+{
     if has_years(version) {
-        let year = year_text(day_year(claimant.service.epoch_day()));
-        push_whose(line, version, id, family, member, year.as_slice())
+        source.day(alloc, place)
     } else {
-        push_whose(line, version, id, family, member, b"")
+        Ok(None)
     }
 }
 
@@ -186,12 +207,13 @@ fn push_year(line: &mut ByteRecord, keeps_years: bool, year: &[u8]) -> Result<()
 fn push_claim(
     alloc: Global,
     line: &mut ByteRecord,
+    joined: &mut Vec<u8>,
     decided: Option<&Outcome>,
 ) -> Result<(), AllocError>
     ensures { OnOk result (Pushes line.old line.new (told_fields (told_of (outcome_in decided.entry)))) }
 {
     match decided {
-        Some(decision) => push_decision(alloc, line, decision),
+        Some(decision) => push_decision(alloc, line, joined, decision),
         None => {
             line.push_field(b"late")?;
             push_repeated(line, b"", 1 + AMOUNTS.len() + 1)
@@ -199,7 +221,12 @@ fn push_claim(
     }
 }
 
-fn push_decision(alloc: Global, line: &mut ByteRecord, decision: &Outcome) -> Result<(), AllocError>
+fn push_decision(
+    alloc: Global,
+    line: &mut ByteRecord,
+    joined: &mut Vec<u8>,
+    decision: &Outcome,
+) -> Result<(), AllocError>
     ensures { OnOk result (Pushes line.old line.new (told_fields (told_by decision.now.verdict decision.now))) }
 {
     match decision.verdict {
@@ -207,13 +234,13 @@ fn push_decision(alloc: Global, line: &mut ByteRecord, decision: &Outcome) -> Re
             line.push_field(b"paid")?;
             line.push_field(b"")?;
             push_amounts(line, decision, &AMOUNTS)?;
-            push_remarks(alloc, line, decision)
+            push_remarks(line, joined, decision)
         }
         Verdict::Denied => {
             line.push_field(b"denied")?;
             line.push_field(b"")?;
             push_repeated(line, b"0.00", AMOUNTS.len())?;
-            push_remarks(alloc, line, decision)
+            push_remarks(line, joined, decision)
         }
         Verdict::Pended(reason) => {
             line.push_field(b"pended")?;
@@ -267,9 +294,13 @@ fn push_sums(alloc: Global, line: &mut ByteRecord, sums: &[u128]) -> Result<(), 
     Ok(())
 }
 
-// The field of the remarks. Where there is one at most, as mostly, no text is made of them.
+// The field of the remarks. Where there is one at most, as mostly, it goes there as it stands.
 #[tactic(auto, using(crate::proofs::Remarking::none_joined, crate::proofs::Remarking::one_joined))]
-fn push_remarks(alloc: Global, line: &mut ByteRecord, decision: &Outcome) -> Result<(), AllocError>
+fn push_remarks(
+    line: &mut ByteRecord,
+    joined: &mut Vec<u8>,
+    decision: &Outcome,
+) -> Result<(), AllocError>
     ensures { OnOk result (Pushes line.old line.new (remarks_text decision.now.remarks ∷ [])) }
 {
     let remarks = &decision.remarks;
@@ -279,8 +310,8 @@ fn push_remarks(alloc: Global, line: &mut ByteRecord, decision: &Outcome) -> Res
     if remarks.len() == 1 {
         return line.push_field(first.as_bytes());
     }
-    let text = remarks_text(alloc, remarks)?;
-    line.push_field(text.as_slice())
+    join_remarks(joined, remarks)?;
+    line.push_field(joined.as_slice())
 }
 
 fn push_number(line: &mut ByteRecord, number: usize) -> Result<(), AllocError>

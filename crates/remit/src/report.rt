@@ -152,6 +152,8 @@ pub struct Report<'d, 'j> {
     decisions: &'d Decisions<'j>,
     // The record that is filled last, in memory that each record uses again.
     line: ByteRecord,
+    // Remarks that were joined, in memory that each record uses again.
+    joined: Vec<u8>,
     writer: RecordWriter,
 }
 
@@ -167,6 +169,7 @@ impl<'d, 'j> Report<'d, 'j> {
             alloc,
             decisions,
             line: ByteRecord::new(alloc),
+            joined: Vec::new(alloc),
             writer: RecordWriter::new(alloc),
         }
     }
@@ -303,8 +306,18 @@ impl<'d, 'j> Report<'d, 'j> {
             (record_text (record_of (looked_up self.old.decisions.now) provider row)) result }
         ensures decisions { self.new.decisions ≡ self.old.decisions }
     {
-        let line = &mut self.line;
-        if fill_row(self.alloc, line, self.decisions, provider, brief, source).is_err() {
+        let (line, joined) = (&mut self.line, &mut self.joined);
+        if fill_row(
+            self.alloc,
+            line,
+            joined,
+            self.decisions,
+            provider,
+            brief,
+            source,
+        )
+        .is_err()
+        {
             return Err(self.writer.no_memory());
         }
         self.writer.write(&self.line, out)

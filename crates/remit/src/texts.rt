@@ -1,5 +1,5 @@
 //! The texts of the report's fields.
-ghost use Rattle.std.specs.Prelude.{◌≡◌, pos, string_bytes, IfOk};
+ghost use Rattle.std.specs.Prelude.{◌≡◌, pos, string_bytes, IfOk, OnOk};
 ghost use Rattle.fixpoint.specs.Money.{money_text};
 ghost use Rattle.settlement.specs.ReasonText.{reason_text};
 ghost use Rattle.remit.specs.Texts.{fault_text, remarks_text};
@@ -38,13 +38,12 @@ pub fn fault_text(alloc: Global, fault: RowFault) -> Result<String, AllocError>
     }
 }
 
-/// The remarks, as they stand, with a semicolon between two of them.
-pub fn remarks_text(alloc: Global, remarks: &Remarks) -> Result<Vec<u8>, AllocError>
-    ensures { IfOk result (λ text. text.items ≡ remarks_text remarks.now) }
+/// Puts the remarks, as they stand, with a semicolon between two of them, in the place of a text.
+pub fn join_remarks(text: &mut Vec<u8>, remarks: &Remarks) -> Result<(), AllocError>
+    ensures { OnOk result (text.new.items ≡ remarks_text remarks.now) }
 {
-    let mut text = Vec::new(alloc);
-    remarks.append_joined(&mut text, ";")?;
-    Ok(text)
+    text.clear();
+    remarks.append_joined(text, ";")
 }
 
 /// The text of a sum of money, which has more digits than a number can have.

@@ -28,15 +28,10 @@ fn money(rt: &impl Abort, cents: i64) -> Money {
     Money::new(amount).expect(rt, "money")
 }
 
+// The accumulators of a member who is all of its family.
 fn acc(rt: &impl Abort, cents: (i64, i64, i64)) -> Acc {
     let (met, oop, paid) = cents;
-    Acc {
-        met: money(rt, met),
-        oop: money(rt, oop),
-        paid: money(rt, paid),
-        fmet: money(rt, met),
-        foop: money(rt, oop),
-    }
+    families::acc(rt, (met, oop, paid, met, oop))
 }
 
 fn cents(money: Money) -> i64 {
@@ -384,8 +379,11 @@ fn fits_one(rt: &impl Abort, alloc: Global, plan: &Plan) -> Result<(), AllocErro
 
 fn fits_not(rt: &impl Abort, alloc: Global, claim: &Claim) {
     let open = plan(rt, alloc, OPEN);
-    assert!(rt; fields_of(&open).len() == 6);
-    assert!(rt; !claim.is_of(&open));
+    assert!(rt; has_more(&open, claim));
+}
+
+fn has_more(open: &Plan, claim: &Claim) -> bool {
+    fields_of(open).len() == 6 && !claim.is_of(open)
 }
 
 #[test]
@@ -398,8 +396,12 @@ fn claims_have_the_fields_of_their_plan(rt: HostRuntime) {
 // The year whose accumulators a claim of 5 January 2024 is settled at.
 fn year_under(rt: &impl Abort, alloc: Global, text: &str) -> Result<u16, AllocError> {
     let plan = plan(rt, alloc, text);
-    let claim = claim(rt, alloc, &plan, 100, &[])?;
-    Ok(account_year(&plan, &claim))
+    year_of_claim(rt, alloc, &plan)
+}
+
+fn year_of_claim(rt: &impl Abort, alloc: Global, plan: &Plan) -> Result<u16, AllocError> {
+    let claim = claim(rt, alloc, plan, 100, &[])?;
+    Ok(account_year(plan, &claim))
 }
 
 #[test]

@@ -200,21 +200,42 @@ fn literals_have_their_days(rt: HostRuntime) -> Result<(), Fail> {
     Ok(())
 }
 
-// Whether a text shows its bytes, and is the value that its literal spells, also once copied, and written over a longer one.
-fn is_text(alloc: Global) -> Option<bool> {
-    let made = Text::new(alloc, "a\"b").ok()?;
-    let is_shown = made.as_str() == "a\"b" && made.as_bytes() == b"a\"b".as_slice();
+// Whether a text shows its bytes.
+fn is_shown(text: &Text) -> bool {
+    text.as_str() == "a\"b" && text.as_bytes() == b"a\"b".as_slice()
+}
+
+// Whether a text that is written over a longer one equals it; none where memory is refused.
+fn is_copied_over(alloc: Global, text: &Text) -> Option<bool> {
     let mut over = Text::new(alloc, "longer").ok()?;
-    over.copy_from(&made).ok()?;
-    let is_over = over == made;
-    let copy = Value::Text(made).duplicate(alloc).ok()?;
+    over.copy_from(text).ok()?;
+    Some(over == *text)
+}
+
+// Whether a copy of a value of text is the value that its literal spells.
+fn is_copy_read(alloc: Global, value: &Value) -> Option<bool> {
+    let copy = value.duplicate(alloc).ok()?;
     let is_read = is_read_as(alloc, Kind::Text, "\"a\\\"b\"", &copy)?;
-    Some(is_shown && is_over && is_read && copy.kind() == Kind::Text)
+    Some(is_read && copy.kind() == Kind::Text)
+}
+
+fn quoted(alloc: Global) -> Option<Text> {
+    Text::new(alloc, "a\"b").ok()
 }
 
 #[test]
-fn literals_have_their_texts(rt: HostRuntime) {
-    assert_eq!(rt; is_text(rt.alloc()), Some(true));
+fn texts_are_shown_and_copied(rt: HostRuntime) -> Result<(), Fail> {
+    let text = quoted(rt.alloc()).ok_or("memory")?;
+    assert!(rt; is_shown(&text));
+    assert_eq!(rt; is_copied_over(rt.alloc(), &text), Some(true));
+    Ok(())
+}
+
+#[test]
+fn literals_have_their_texts(rt: HostRuntime) -> Result<(), Fail> {
+    let text = quoted(rt.alloc()).ok_or("memory")?;
+    assert_eq!(rt; is_copy_read(rt.alloc(), &Value::Text(text)), Some(true));
+    Ok(())
 }
 
 // Whether the field is the day of this number.
@@ -240,15 +261,25 @@ fn days_are_those_of_the_years_1_to_9999(rt: HostRuntime) {
     assert_eq!(rt; Day::from_epoch_day(2_932_897), None);
 }
 
+const YEARS: [(&str, u16); 4] = [("0001", 1), ("0970", 970), ("2024", 2024), ("9999", 9999)];
+
+const NO_YEARS: [&str; 7] = ["", "24", "0000", "02024", "+024", "20 4", "2O24"];
+
+fn is_year(text: &str, year: u16) -> bool {
+    year_in(text.as_bytes()) == Some(year) && year_text(year).as_slice() == text.as_bytes()
+}
+
 #[test]
 fn years_are_four_digits(rt: HostRuntime) {
-    for (text, year) in [("0001", 1), ("0970", 970), ("2024", 2024), ("9999", 9999)] {
-        assert_eq!(rt; year_in(text.as_bytes()), Some(year), "{text}");
-        assert!(rt; year_text(year).as_slice() == text.as_bytes(), "{text}");
+    for (text, year) in &YEARS {
+        assert!(rt; is_year(text, *year), "{text}");
     }
-    for text in ["", "24", "0000", "02024", "+024", "20 4", "2O24"] {
-        let text: &str = text;
-        assert_eq!(rt; year_in(text.as_bytes()), None, "{text}");
+}
+
+#[test]
+fn other_texts_are_no_years(rt: HostRuntime) {
+    for text in &NO_YEARS {
+        assert!(rt; year_in(text.as_bytes()).is_none(), "{text}");
     }
 }
 

@@ -1,5 +1,6 @@
 //! Lists: what they hold, and their texts in a row.
 use feel_tests::{Bytes, Literals, Sequence, Text, Value, append_joined, duplicates};
+use std::alloc::{AllocError, Global};
 use std::test::Fail;
 
 #[test]
@@ -18,22 +19,35 @@ fn items_are_listed_in_order(rt: HostRuntime) -> Result<(), Fail> {
     Ok(())
 }
 
-#[test]
-fn texts_are_joined_by_a_mark(rt: HostRuntime) -> Result<(), Fail> {
-    let alloc = rt.alloc();
+// A flag and a text, and copies of them.
+fn copied_values(alloc: Global) -> Result<Sequence<Value>, AllocError> {
     let mut values = Sequence::new(alloc);
     values.push(Value::Flag(true))?;
     values.push(Value::Text(Text::new(alloc, "a;b")?))?;
-    let copies = duplicates(alloc, values.as_slice())?;
-    let mut text = Vec::new(alloc);
-    append_joined::<Value, Literals>(&mut text, " ; ", copies.as_slice())?;
-    assert_eq!(rt; text.as_slice(), b"true ; \"a;b\"".as_slice());
-    text.clear();
-    append_joined::<Text, Bytes>(
-        &mut text,
-        ";",
-        &[Text::new(alloc, "one")?, Text::new(alloc, "")?],
-    )?;
-    assert_eq!(rt; text.as_slice(), b"one;".as_slice());
+    duplicates(alloc, values.as_slice())
+}
+
+fn two_texts(alloc: Global) -> Result<Sequence<Text>, AllocError> {
+    let mut texts = Sequence::new(alloc);
+    texts.push(Text::new(alloc, "one")?)?;
+    texts.push(Text::new(alloc, "")?)?;
+    Ok(texts)
+}
+
+#[test]
+fn literals_are_joined_by_a_mark(rt: HostRuntime) -> Result<(), Fail> {
+    let values = copied_values(rt.alloc())?;
+    let mut text = Vec::new(rt.alloc());
+    append_joined::<Value, Literals>(&mut text, " ; ", values.as_slice())?;
+    assert!(rt; text.as_slice() == b"true ; \"a;b\"".as_slice());
+    Ok(())
+}
+
+#[test]
+fn texts_are_joined_by_a_mark(rt: HostRuntime) -> Result<(), Fail> {
+    let texts = two_texts(rt.alloc())?;
+    let mut text = Vec::new(rt.alloc());
+    append_joined::<Text, Bytes>(&mut text, ";", texts.as_slice())?;
+    assert!(rt; text.as_slice() == b"one;".as_slice());
     Ok(())
 }

@@ -4,7 +4,7 @@ use super::examples::MOST;
 use super::plans::{FAMILIES_NAMED, FAMILIES_OPEN};
 use super::{cents, claim, copies, money, plan, plan_or_no_memory, some_paid};
 use dtable::Plan;
-use settlement::{Acc, Outcome, Role, after, decide, fields_of};
+use settlement::{Acc, Claim, Outcome, Role, after, decide, fields_of};
 use std::alloc::{AllocError, Global};
 use std::fmt::Write;
 use std::process::Abort;
@@ -97,7 +97,7 @@ const NAMING: [Example; 2] = [
     ),
 ];
 
-fn acc(rt: &impl Abort, sums: Sums) -> Acc {
+pub fn acc(rt: &impl Abort, sums: Sums) -> Acc {
     let (met, oop, paid, fmet, foop) = sums;
     Acc {
         met: money(rt, met),
@@ -201,10 +201,16 @@ fn fits_one_of(
     family: &str,
 ) -> Result<(), AllocError> {
     let claim = claim(rt, alloc, plan, 100, &["A"])?;
-    assert!(rt; claim.is_of(plan));
-    assert!(rt; !claim.is_of(other));
-    assert!(rt; claim.family().as_str() == family);
+    assert!(rt; is_of_one(&claim, plan, other) && is_of_family(&claim, family));
     Ok(())
+}
+
+fn is_of_one(claim: &Claim, plan: &Plan, other: &Plan) -> bool {
+    claim.is_of(plan) && !claim.is_of(other)
+}
+
+fn is_of_family(claim: &Claim, family: &str) -> bool {
+    claim.family().as_str() == family
 }
 
 #[test]

@@ -5,22 +5,6 @@ use Rattle.intake_csv.proofs.Shapes.{claim-shaped}
 use Rattle.intake_csv.proofs.judge.judge_claim.Goals as goal
 use Rattle.intake_csv.proofs.judge.judge_claim.Goals.{then-has_family_column, else-has_family_column}
 
-pub day_under-requires : goal.day_under-requires
-day_under-requires c =
-    let layout = c.args.layout.now in
-    let judged = rw (c.as_slice-columns.ensures, c.in_default.is) at c.in_ok-fault.ensures in
-    let shaped = claim-shaped (has_family_column layout) c.args.line.now layout.columns judged.0 c.requires.claims.fields c.requires.claims.contents judged.1.0 in
-    elim c.if-has_family_column.branch [
-      | then-has_family_column w ↦
-          let families : has_family_column layout ≡ true = sym c.has_family_column.ensures ∙ w.if-has_family_column.true in
-          let claim = is-joined c.args.line.now layout.columns _ judged.0 (subst (λ (b : Bool). IsClaimShaped b judged.0) families shaped) judged.1.0 in
-          rw (c.as_slice-columns.ensures, w.family-is) (claim.claim.service, claim.day)
-      | else-has_family_column w ↦
-          let families : has_family_column layout ≡ false = sym c.has_family_column.ensures ∙ w.if-has_family_column.false in
-          let claim = is-alone c.args.line.now layout.columns _ judged.0 (subst (λ (b : Bool). IsClaimShaped b judged.0) families shaped) judged.1.0 in
-          rw (c.as_slice-columns.ensures, w.family-is) (claim.claim.service, claim.day)
-    ]
-
 pub returns-clause-claim : goal.returns-clause-claim
 returns-clause-claim c =
     let layout = c.args.layout.now in
@@ -31,11 +15,9 @@ returns-clause-claim c =
       | then-has_family_column w ↦
           let families : has_family_column layout ≡ true = sym c.has_family_column.ensures ∙ w.if-has_family_column.true in
           let claim = is-joined c.args.line.now layout.columns _ judged.0 (subst (λ (b : Bool). IsClaimShaped b judged.0) families shaped) judged.1.0 in
-          let day = rw (c.as_slice-columns.ensures, w.family-is) at c.in_ok-service.ensures in
-          rw (w.family-is, c.as_slice-columns.ensures) (claim.claim, (width, claim.values), claim.claimant c.in_ok-service.service (day claim.claim.service claim.day))
+          rw (w.family-is, c.as_slice-columns.ensures) (claim.claim, (width, claim.values), claim.claimant)
       | else-has_family_column w ↦
           let families : has_family_column layout ≡ false = sym c.has_family_column.ensures ∙ w.if-has_family_column.false in
           let claim = is-alone c.args.line.now layout.columns _ judged.0 (subst (λ (b : Bool). IsClaimShaped b judged.0) families shaped) judged.1.0 in
-          let day = rw (c.as_slice-columns.ensures, w.family-is) at c.in_ok-service.ensures in
-          rw (w.family-is, c.as_slice-columns.ensures) (claim.claim, (width, claim.values), claim.claimant c.in_ok-service.service (day claim.claim.service claim.day))
+          rw (w.family-is, c.as_slice-columns.ensures) (claim.claim, (width, claim.values), claim.claimant)
     ]

@@ -1,0 +1,194 @@
+//! Plans that the tests read. Each comes from a function, since a text that a test names goes into its proof whole.
+
+/// Two stretches of numbers, with 1 between them.
+pub fn apart() -> &'static [u8] {
+    br#"version = 1
+fields = [{name = "x", kind = "number"}]
+[[tables]]
+hit = "R"
+inputs = [{name = "x"}]
+outputs = [{name = "y", kind = "number"}]
+rules = [
+  {when = ['<1'], then = ['1']},
+  {when = ['[1.0001..5]'], then = ['1']},
+]
+"#
+}
+
+/// Two stretches of numbers that both have 5.
+pub fn at_five() -> &'static [u8] {
+    br#"version = 1
+fields = [{name = "x", kind = "number"}]
+[[tables]]
+hit = "R"
+inputs = [{name = "x"}]
+outputs = [{name = "y", kind = "number"}]
+rules = [
+  {when = ['<=5'], then = ['1']},
+  {when = ['>=5'], then = ['1']},
+]
+"#
+}
+
+/// Two texts.
+pub fn codes() -> &'static [u8] {
+    br#"version = 1
+fields = [{name = "x", kind = "text"}]
+[[tables]]
+hit = "R"
+inputs = [{name = "x"}]
+outputs = [{name = "y", kind = "number"}]
+rules = [
+  {when = ['"A"'], then = ['1']},
+  {when = ['"B"'], then = ['1']},
+]
+"#
+}
+
+/// Two texts, and no others are allowed.
+pub fn allowed_codes() -> &'static [u8] {
+    br#"version = 1
+fields = [{name = "x", kind = "text"}]
+[[tables]]
+hit = "R"
+inputs = [{name = "x", values = '"A","B"'}]
+outputs = [{name = "y", kind = "number"}]
+rules = [
+  {when = ['"A"'], then = ['1']},
+  {when = ['"B"'], then = ['1']},
+]
+"#
+}
+
+/// One rule over four columns of 16 regions: no number lies between 1 and 1.0001.
+pub fn sixteen_regions() -> &'static [u8] {
+    br#"version = 1
+fields = [{name = "x", kind = "number"}]
+[[tables]]
+hit = "R"
+inputs = [{name = "x"}, {name = "x"}, {name = "x"}, {name = "x"}]
+outputs = [{name = "y", kind = "number"}]
+rules = [
+  {when = ['1,1.0001,3,4,5,6,7,8', '1,1.0001,3,4,5,6,7,8', '1,1.0001,3,4,5,6,7,8', '1,1.0001,3,4,5,6,7,8'], then = ['1']},
+]
+"#
+}
+
+/// One rule over four columns of 17 regions.
+pub fn seventeen_regions() -> &'static [u8] {
+    br#"version = 1
+fields = [{name = "x", kind = "number"}]
+[[tables]]
+hit = "R"
+inputs = [{name = "x"}, {name = "x"}, {name = "x"}, {name = "x"}]
+outputs = [{name = "y", kind = "number"}]
+rules = [
+  {when = ['1,2,3,4,5,6,7,8', '1,2,3,4,5,6,7,8', '1,2,3,4,5,6,7,8', '1,2,3,4,5,6,7,8'], then = ['1']},
+]
+"#
+}
+
+/// Three rules, of which the first and the last hold of 2.
+pub fn three_rules() -> &'static [u8] {
+    br#"version = 1
+fields = [{name = "x", kind = "number"}]
+[[tables]]
+hit = "R"
+inputs = [{name = "x"}]
+outputs = [{name = "y", kind = "number"}]
+rules = [
+  {when = ['<3'], then = ['1']},
+  {when = ['>2'], then = ['1']},
+  {when = ['2'], then = ['1']},
+]
+"#
+}
+
+/// A flag and a text, with two gaps and one overlap.
+pub fn flag_and_code() -> &'static [u8] {
+    br#"version = 1
+fields = [{name = "flag", kind = "flag"}, {name = "code", kind = "text"}]
+[[tables]]
+hit = "R"
+inputs = [{name = "flag"}, {name = "code"}]
+outputs = [{name = "y", kind = "number"}]
+rules = [
+  {when = ['true', '"A"'], then = ['1']},
+  {when = ['-', '"B"'], then = ['1']},
+  {when = ['false', 'not("A")'], then = ['1']},
+]
+"#
+}
+
+/// Two stretches of days, the first day of all, and a default on the last day.
+pub fn days() -> &'static [u8] {
+    br#"version = 1
+fields = [{name = "x", kind = "day"}]
+[[tables]]
+hit = "U"
+inputs = [{name = "x"}]
+outputs = [{name = "y", kind = "number", default = '7'}]
+rules = [
+  {when = ['<date("2024-02-29")'], then = ['1']},
+  {when = [']date("2024-02-29")..date("9999-12-31")['], then = ['2']},
+  {when = ['date("0001-01-01")'], then = ['3']},
+]
+"#
+}
+
+/// Two tables, of which the second reads the first, counts and has a limit.
+pub fn chain() -> &'static [u8] {
+    br#"version = 1
+fields = [{name = "x", kind = "number"}]
+[[tables]]
+hit = "C+"
+inputs = [{name = "x"}]
+outputs = [{name = "sum", kind = "number", default = '0'}]
+rules = [
+  {when = ['>=1'], then = ['1']},
+  {when = ['>=2'], then = ['10']},
+  {when = ['>=3'], then = ['100']},
+]
+[[tables]]
+hit = "F"
+inputs = [{name = "sum", values = '<=11'}, {name = "x"}]
+outputs = [{name = "y", kind = "number"}]
+rules = [
+  {when = ['1', '-'], then = ['1']},
+  {when = ['not(0)', '<2.5'], then = ['2']},
+]
+"#
+}
+
+/// Three tables that take the highest of their matches, list them in falling priority, and have them agree.
+pub fn ranked() -> &'static [u8] {
+    br#"version = 1
+fields = [{name = "x", kind = "number"}]
+[[tables]]
+hit = "P"
+inputs = [{name = "x"}]
+outputs = [{name = "level", kind = "text", priority = ['"HIGH"', '"LOW"'], default = '"NONE"'}]
+rules = [{when = ['>=1'], then = ['"LOW"']}, {when = ['>=2'], then = ['"HIGH"']}, {when = ['>=3'], then = ['"LOW"']}]
+[[tables]]
+hit = "O"
+inputs = [{name = "x"}]
+outputs = [{name = "note", kind = "text", priority = ['"B"', '"A"']}]
+rules = [{when = ['>=1'], then = ['"A"']}, {when = ['>=2'], then = ['"B"']}, {when = ['>=3'], then = ['"A"']}]
+[[tables]]
+hit = "A"
+inputs = [{name = "x"}]
+outputs = [{name = "y", kind = "number", default = '0'}]
+rules = [{when = ['>=1'], then = ['1']}, {when = ['>=2'], then = ['1']}, {when = ['>=4'], then = ['2']}]
+"#
+}
+
+/// Two stretches of numbers side by side.
+pub fn stretches() -> &'static [u8] {
+    br#"version = 1
+fields = [{name = "x", kind = "number"}]
+[[tables]]
+inputs = [{name = "x"}]
+outputs = [{name = "y", kind = "number"}]
+rules = [{when = ['[0..10['], then = ['1']}, {when = ['>=10'], then = ['2.5']}]
+"#
+}
