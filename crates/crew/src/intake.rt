@@ -83,7 +83,7 @@ fn read_ahead(alloc: Global, rows: &mut Rows<'_>) -> Result<Ahead, AllocError>
 {
     // Known from here: a row that a reader gives is the first of those that it has left.
     given_row_has_the_claim();
-    let mut claims = Vec::new(alloc);
+    let mut claims = Vec::with_capacity(alloc, CALLS_LIMIT as usize)?;
     'records: for record in 0..CALLS_LIMIT {
         let Some(row) = rows.next()? else {
             return Ok(Ahead {

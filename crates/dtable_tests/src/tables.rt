@@ -106,11 +106,30 @@ const DEFAULTS: [Row; 8] = [
     ("2", "R", DEFAULT, NONE, "y", "list\n"),
 ];
 
-/// A plan with the field `x` and one table over it.
+/// The text of a plan with the field `x` and one table over it, in front of the table's hit policy, and behind it.
+fn front() -> &'static str {
+    "version = 1\nfields = [{name = 'x', kind = 'number'}]\n[[tables]]\nhit = '"
+}
+
+fn behind_hit() -> &'static str {
+    "'\ninputs = [{name = 'x', values = '[0..5]'}]\noutputs = ["
+}
+
+fn text_over_x(
+    alloc: Global,
+    hit: &str,
+    outputs: &str,
+    rules: &str,
+) -> Result<String, AllocError> {
+    let mut text = String::from_str(alloc, front())?;
+    for part in &[hit, behind_hit(), outputs, "]\nrules = [", rules, "]\n"] {
+        text.push_str(part)?;
+    }
+    Ok(text)
+}
+
 fn over_x(alloc: Global, hit: &str, outputs: &str, rules: &str) -> Result<Plan, Fail> {
-    let text = format!(in alloc;
-        "version = 1\nfields = [{{name = 'x', kind = 'number'}}]\n[[tables]]\nhit = '{hit}'\ninputs = [{{name = 'x', values = '[0..5]'}}]\noutputs = [{outputs}]\nrules = [{rules}]\n"
-    )?;
+    let text = text_over_x(alloc, hit, outputs, rules)?;
     Ok(read_plan(alloc, text.as_bytes())?)
 }
 

@@ -94,7 +94,7 @@ pub record IsJoined (fields : Fields) (columns : List Column) (d : Column) : Typ
         id = (slice_index_or columns 0 d).place;
         family = Some (slice_index_or columns 1 d).place;
         member = (slice_index_or columns 2 d).place;
-        service = (slice_index_or columns 3 d).place
+        service = (slice_index_or columns 3 d).place;
       }) claim
 
 pub is-joined : (fields : Fields) (columns : List Column) (d : Column) (values : List Value) → IsClaimShaped true values → AreValues fields columns values → IsJoined fields columns d

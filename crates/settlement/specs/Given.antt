@@ -3,8 +3,10 @@ use Rattle.std.specs.Prelude.{ℕ, List, [], ◌∷◌, ◌++◌, map, Option, S
 use Rattle.feel_tests.specs.Value.{kind_of}
 use Rattle.feel_tests.specs.declared.kind.Kind.{Kind}
 use Rattle.feel_tests.specs.declared.value.Value.{Value}
-use Rattle.feel_tests.specs.declared.value.Value.TheVariants.{Number, Text, Day}
+use Rattle.feel_tests.specs.declared.value.Value.TheVariants.{Number, Text, Flag, Day}
 use Rattle.dtable.specs.declared.inputs.Slot.{Slot}
+use Rattle.settlement.specs.declared.given.Lent.{Lent}
+use Rattle.settlement.specs.declared.given.Lent.TheVariants as lent
 use Rattle.settlement.specs.declared.acc.Acc.{Acc}
 use Rattle.settlement.specs.declared.claim.Claim.{Claim}
 
@@ -29,6 +31,13 @@ behind_family (Some family) values = Text family ∷ values
 -- the values for a plan's names, in order: the claim's own, with its family, where it has one, its fields, and the accumulators
 abbrev pub values_given : Claim → Acc → List Value
 values_given claim acc = Text claim.id ∷ behind_family claim.family (values_from_member claim acc)
+
+-- the value that is lent
+abbrev pub value_lent : Lent → Value
+value_lent (lent.Number number) = Number number
+value_lent (lent.Text text) = Text text.now
+value_lent (lent.Flag flag) = Flag flag
+value_lent (lent.Day day) = Day day
 
 -- a place with its value
 abbrev pub slot_of : Value → Slot

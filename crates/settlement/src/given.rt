@@ -1,17 +1,16 @@
 //! What a claim and its member's accumulators give the names that a plan reads.
-ghost use Rattle.std.specs.Prelude.{◌≡◌, ◌<◌, ℕ, length, map, slice_get, Some, IsTrue, IfOk, IfSome, OnOk};
+ghost use Rattle.std.specs.Prelude.{◌≡◌, ◌<◌, ℕ, length, map, slice_get, Some, IsTrue, IfOk, OnOk};
 ghost use Rattle.std.specs.List.{All};
 ghost use Rattle.dtable.specs.Plan.{IsPlan};
 ghost use Rattle.feel_tests.specs.Value.{kind_of};
 ghost use Rattle.feel_tests.specs.declared.value.Value.TheVariants as values;
-ghost use Rattle.settlement.specs.declared.acc.Acc.{Acc};
-ghost use Rattle.settlement.specs.Given.{accumulator_values, behind_family, slot_kinds, values_behind, values_from_member, values_given};
+ghost use Rattle.settlement.specs.Given.{accumulator_values, behind_family, slot_kinds, value_lent, values_behind, values_from_member, values_given};
 ghost use Rattle.settlement.specs.Reads.{is_read, limits_read, places_read, roles_read, source_reads, HasItsValue};
 
 use crate::acc::Acc;
 use crate::claim::Claim;
 use dtable::{FamilyRoles, Inputs, Plan, Roles, Sequence, Source};
-use feel_tests::{Text, Value};
+use feel_tests::{Day, Text, Value};
 use fixpoint::Fixed;
 use std::alloc::{AllocError, Global};
 
@@ -116,113 +115,81 @@ fn give_at(
     ensures given { OnOk result (HasItsValue claim.now acc.now inputs.new place) }
     ensures others { OnOk result ((other : ℕ) → HasItsValue claim.now acc.now inputs.old other → HasItsValue claim.now acc.now inputs.new other) }
 {
-    match text_given(claim, place) {
-        Some(text) => inputs.set_text(alloc, place, text)?,
-        None => inputs.set(place, value_given(alloc, claim, acc, place)?),
+    match value_given(claim, acc, place) {
+        Lent::Text(text) => inputs.set_text(alloc, place, text)?,
+        Lent::Number(number) => inputs.set(place, Value::Number(number)),
+        Lent::Flag(flag) => inputs.set(place, Value::Flag(flag)),
+        Lent::Day(day) => inputs.set(place, Value::Day(day)),
     }
     Ok(())
 }
 
-// The text that the claim gives the place, if it gives one.
-fn text_given(claim: &Claim, place: usize) -> Option<&Text>
-    ensures { (acc : Acc) → IfSome result (λ text. slice_get (values_given claim.now acc) place ≡ Some (values.Text text.now)) }
-{
-    match place {
-        ID => Some(&claim.id),
-        _ => text_behind_id(claim, place - 1),
-    }
-}
-
-// The same for a place that is counted from behind the claim's number.
-fn text_behind_id(claim: &Claim, place: usize) -> Option<&Text>
-    ensures { (acc : Acc) → IfSome result (λ text. slice_get (behind_family claim.now.family (values_from_member claim.now acc)) place ≡ Some (values.Text text.now)) }
-{
-    match &claim.family {
-        None => text_from_member(claim, place),
-        Some(family) => match place {
-            0 => Some(family),
-            _ => text_from_member(claim, place - 1),
-        },
-    }
-}
-
-// The same for a place that is counted from the member.
-fn text_from_member(claim: &Claim, place: usize) -> Option<&Text>
-    ensures { (acc : Acc) → IfSome result (λ text. slice_get (values_from_member claim.now acc) place ≡ Some (values.Text text.now)) }
-{
-    match place {
-        MEMBER => Some(&claim.member),
-        SERVICE | BILLED => None,
-        _ => match claim.fields.as_slice().get(place - FIRST_FIELD) {
-            Some(Value::Text(text)) => Some(text),
-            _ => None,
-        },
-    }
+/// A value of which a text is lent by who has it.
+enum Lent<'c> {
+    Number(Fixed),
+    Text(&'c Text),
+    Flag(bool),
+    Day(Day),
 }
 
 // The value for the name at a place, from 0.
-fn value_given(alloc: Global, claim: &Claim, acc: &Acc, place: usize) -> Result<Value, AllocError>
+fn value_given<'c>(claim: &'c Claim, acc: &Acc, place: usize) -> Lent<'c>
     requires { place < length (values_given claim.now acc.now) }
-    ensures { IfOk result (λ value. slice_get (values_given claim.now acc.now) place ≡ Some value) }
+    ensures { slice_get (values_given claim.now acc.now) place ≡ Some (value_lent result) }
 {
     match place {
-        ID => text_value(alloc, &claim.id),
-        _ => value_behind_id(alloc, claim, acc, place - 1),
+        ID => Lent::Text(&claim.id),
+        _ => value_behind_id(claim, acc, place - 1),
     }
 }
 
 // The same for a place that is counted from behind the claim's number.
-fn value_behind_id(
-    alloc: Global,
-    claim: &Claim,
-    acc: &Acc,
-    place: usize,
-) -> Result<Value, AllocError>
+fn value_behind_id<'c>(claim: &'c Claim, acc: &Acc, place: usize) -> Lent<'c>
     requires { place < length (behind_family claim.now.family (values_from_member claim.now acc.now)) }
-    ensures { IfOk result (λ value. slice_get (behind_family claim.now.family (values_from_member claim.now acc.now)) place ≡ Some value) }
+    ensures { slice_get (behind_family claim.now.family (values_from_member claim.now acc.now)) place ≡ Some (value_lent result) }
 {
     match &claim.family {
-        None => value_from_member(alloc, claim, acc, place),
+        None => value_from_member(claim, acc, place),
         Some(family) => match place {
-            0 => text_value(alloc, family),
-            _ => value_from_member(alloc, claim, acc, place - 1),
+            0 => Lent::Text(family),
+            _ => value_from_member(claim, acc, place - 1),
         },
     }
 }
 
 // The same for a place that is counted from the member.
-fn value_from_member(
-    alloc: Global,
-    claim: &Claim,
-    acc: &Acc,
-    place: usize,
-) -> Result<Value, AllocError>
+fn value_from_member<'c>(claim: &'c Claim, acc: &Acc, place: usize) -> Lent<'c>
     requires { place < length (values_from_member claim.now acc.now) }
-    ensures { IfOk result (λ value. slice_get (values_from_member claim.now acc.now) place ≡ Some value) }
+    ensures { slice_get (values_from_member claim.now acc.now) place ≡ Some (value_lent result) }
 {
     match place {
-        MEMBER => text_value(alloc, &claim.member),
-        SERVICE => Ok(Value::Day(claim.service)),
-        BILLED => Ok(Value::Number(claim.billed.amount())),
-        _ => behind_billed(alloc, claim, acc, place - FIRST_FIELD),
+        MEMBER => Lent::Text(&claim.member),
+        SERVICE => Lent::Day(claim.service),
+        BILLED => Lent::Number(claim.billed.amount()),
+        _ => value_behind(claim, acc, place - FIRST_FIELD),
     }
 }
 
-fn behind_billed(alloc: Global, claim: &Claim, acc: &Acc, place: usize) -> Result<Value, AllocError>
+fn value_behind<'c>(claim: &'c Claim, acc: &Acc, place: usize) -> Lent<'c>
     requires { place < length (values_behind claim.now acc.now) }
-    ensures { IfOk result (λ value. slice_get (values_behind claim.now acc.now) place ≡ Some value) }
+    ensures { slice_get (values_behind claim.now acc.now) place ≡ Some (value_lent result) }
 {
     let fields = claim.fields.as_slice();
     match fields.get(place) {
-        Some(value) => value.duplicate(alloc),
-        None => Ok(Value::Number(accumulator(claim, acc, place - fields.len()))),
+        Some(value) => lent_value(value),
+        None => Lent::Number(accumulator(claim, acc, place - fields.len())),
     }
 }
 
-fn text_value(alloc: Global, text: &Text) -> Result<Value, AllocError>
-    ensures { IfOk result (λ value. value ≡ values.Text text.now) }
+fn lent_value(value: &Value) -> Lent<'_>
+    ensures { value_lent result ≡ value.now }
 {
-    Ok(Value::Text(Text::new(alloc, text.as_str())?))
+    match value {
+        Value::Number(number) => Lent::Number(*number),
+        Value::Text(text) => Lent::Text(text),
+        Value::Flag(flag) => Lent::Flag(*flag),
+        Value::Day(day) => Lent::Day(*day),
+    }
 }
 
 // The accumulator at a place; of the claim it matters whether it has a family.

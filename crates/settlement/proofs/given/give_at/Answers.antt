@@ -1,43 +1,63 @@
-use Rattle.feel_tests.specs.declared.value.Value.TheVariants.{Text}
+use Rattle.feel_tests.specs.declared.value.Value.TheVariants.{Number, Text, Flag, Day}
 use Rattle.settlement.specs.Given.{values_given}
 use Rattle.settlement.proofs.Giving.{takes_given, kinds_stay, value_stands, value_stays}
 use Rattle.settlement.proofs.given.give_at.Goals as goal
 
 pub set_text-requires : goal.set_text-requires
 set_text-requires c =
-    let values = values_given c.args.claim.now c.args.acc.now in
-    takes_given c.args.inputs.now values c.args.place (Text c.in-Some.text.now) c.requires.kinds (c.in-Some.ensures c.args.acc.now)
+    takes_given c.args.inputs.now (values_given c.args.claim.now c.args.acc.now) c.args.place (Text c.in-Text.text.now) c.requires.kinds c.in-Text.ensures
 
-pub returns-in_ok-set_text-in-Some-clause-given : goal.returns-in_ok-set_text-in-Some-clause-given
-returns-in_ok-set_text-in-Some-clause-given c =
-    let values = values_given c.args.claim.now c.args.acc.now in
-    value_stands c.args.inputs.now c.set_text.new.self values c.args.place (Text c.in-Some.text.now) c.requires.kinds (c.in-Some.ensures c.args.acc.now) c.in_ok-set_text-in-Some.ensures.set
+pub returns-in_ok-set_text-in-Text-clause-given : goal.returns-in_ok-set_text-in-Text-clause-given
+returns-in_ok-set_text-in-Text-clause-given c =
+    value_stands c.args.inputs.now c.set_text.new.self (values_given c.args.claim.now c.args.acc.now) c.args.place (Text c.in-Text.text.now) c.requires.kinds c.in-Text.ensures
+    c.in_ok-set_text-in-Text.ensures.set
 
-pub returns-in_ok-set_text-in-Some-clause-others : goal.returns-in_ok-set_text-in-Some-clause-others
-returns-in_ok-set_text-in-Some-clause-others c =
-    let values = values_given c.args.claim.now c.args.acc.now in
-    value_stays c.args.inputs.now c.set_text.new.self values c.args.place (Text c.in-Some.text.now) c.requires.kinds (c.in-Some.ensures c.args.acc.now) c.in_ok-set_text-in-Some.ensures.set
+pub returns-in_ok-set_text-in-Text-clause-others : goal.returns-in_ok-set_text-in-Text-clause-others
+returns-in_ok-set_text-in-Text-clause-others c =
+    value_stays c.args.inputs.now c.set_text.new.self (values_given c.args.claim.now c.args.acc.now) c.args.place (Text c.in-Text.text.now) c.requires.kinds c.in-Text.ensures
+    c.in_ok-set_text-in-Text.ensures.set
 
 pub set-requires : goal.set-requires
-set-requires c =
-    let values = values_given c.args.claim.now c.args.acc.now in
-    let made = c.in_ok-value_given-in-None in
-    takes_given c.args.inputs.now values c.args.place made.field-0 c.requires.kinds made.ensures
+set-requires c = takes_given c.args.inputs.now (values_given c.args.claim.now c.args.acc.now) c.args.place (Number c.in-Number.number) c.requires.kinds c.in-Number.ensures
 
-pub returns-in_ok-value_given-in-None-clause-kinds : goal.returns-in_ok-value_given-in-None-clause-kinds
-returns-in_ok-value_given-in-None-clause-kinds c =
-    let values = values_given c.args.claim.now c.args.acc.now in
-    let made = c.in_ok-value_given-in-None in
-    kinds_stay c.args.inputs.now c.set.new.self values c.args.place made.field-0 c.requires.kinds made.ensures c.set.ensures
+pub returns-in-Number-clause-kinds : goal.returns-in-Number-clause-kinds
+returns-in-Number-clause-kinds c =
+    kinds_stay c.args.inputs.now c.set.new.self (values_given c.args.claim.now c.args.acc.now) c.args.place (Number c.in-Number.number) c.requires.kinds c.in-Number.ensures c.set.ensures
 
-pub returns-in_ok-value_given-in-None-clause-given : goal.returns-in_ok-value_given-in-None-clause-given
-returns-in_ok-value_given-in-None-clause-given c =
-    let values = values_given c.args.claim.now c.args.acc.now in
-    let made = c.in_ok-value_given-in-None in
-    value_stands c.args.inputs.now c.set.new.self values c.args.place made.field-0 c.requires.kinds made.ensures c.set.ensures
+pub returns-in-Number-clause-given : goal.returns-in-Number-clause-given
+returns-in-Number-clause-given c =
+    value_stands c.args.inputs.now c.set.new.self (values_given c.args.claim.now c.args.acc.now) c.args.place (Number c.in-Number.number) c.requires.kinds c.in-Number.ensures c.set.ensures
 
-pub returns-in_ok-value_given-in-None-clause-others : goal.returns-in_ok-value_given-in-None-clause-others
-returns-in_ok-value_given-in-None-clause-others c =
-    let values = values_given c.args.claim.now c.args.acc.now in
-    let made = c.in_ok-value_given-in-None in
-    value_stays c.args.inputs.now c.set.new.self values c.args.place made.field-0 c.requires.kinds made.ensures c.set.ensures
+pub returns-in-Number-clause-others : goal.returns-in-Number-clause-others
+returns-in-Number-clause-others c =
+    value_stays c.args.inputs.now c.set.new.self (values_given c.args.claim.now c.args.acc.now) c.args.place (Number c.in-Number.number) c.requires.kinds c.in-Number.ensures c.set.ensures
+
+pub set-requires-in-Flag : goal.set-requires-in-Flag
+set-requires-in-Flag c = takes_given c.args.inputs.now (values_given c.args.claim.now c.args.acc.now) c.args.place (Flag c.in-Flag.flag) c.requires.kinds c.in-Flag.ensures
+
+pub returns-in-Flag-clause-kinds : goal.returns-in-Flag-clause-kinds
+returns-in-Flag-clause-kinds c =
+    kinds_stay c.args.inputs.now c.set-in-Flag.new.self (values_given c.args.claim.now c.args.acc.now) c.args.place (Flag c.in-Flag.flag) c.requires.kinds c.in-Flag.ensures c.set-in-Flag.ensures
+
+pub returns-in-Flag-clause-given : goal.returns-in-Flag-clause-given
+returns-in-Flag-clause-given c =
+    value_stands c.args.inputs.now c.set-in-Flag.new.self (values_given c.args.claim.now c.args.acc.now) c.args.place (Flag c.in-Flag.flag) c.requires.kinds c.in-Flag.ensures c.set-in-Flag.ensures
+
+pub returns-in-Flag-clause-others : goal.returns-in-Flag-clause-others
+returns-in-Flag-clause-others c =
+    value_stays c.args.inputs.now c.set-in-Flag.new.self (values_given c.args.claim.now c.args.acc.now) c.args.place (Flag c.in-Flag.flag) c.requires.kinds c.in-Flag.ensures c.set-in-Flag.ensures
+
+pub set-requires-in-Day : goal.set-requires-in-Day
+set-requires-in-Day c = takes_given c.args.inputs.now (values_given c.args.claim.now c.args.acc.now) c.args.place (Day c.in-Day.day) c.requires.kinds c.in-Day.ensures
+
+pub returns-in-Day-clause-kinds : goal.returns-in-Day-clause-kinds
+returns-in-Day-clause-kinds c =
+    kinds_stay c.args.inputs.now c.set-in-Day.new.self (values_given c.args.claim.now c.args.acc.now) c.args.place (Day c.in-Day.day) c.requires.kinds c.in-Day.ensures c.set-in-Day.ensures
+
+pub returns-in-Day-clause-given : goal.returns-in-Day-clause-given
+returns-in-Day-clause-given c =
+    value_stands c.args.inputs.now c.set-in-Day.new.self (values_given c.args.claim.now c.args.acc.now) c.args.place (Day c.in-Day.day) c.requires.kinds c.in-Day.ensures c.set-in-Day.ensures
+
+pub returns-in-Day-clause-others : goal.returns-in-Day-clause-others
+returns-in-Day-clause-others c =
+    value_stays c.args.inputs.now c.set-in-Day.new.self (values_given c.args.claim.now c.args.acc.now) c.args.place (Day c.in-Day.day) c.requires.kinds c.in-Day.ensures c.set-in-Day.ensures
