@@ -335,8 +335,12 @@ fn faults_have_numbers_and_texts(rt: HostRuntime) -> Result<(), Fail> {
 fn runs_or_not<R: Threads + Wait + Abort + Sync>(rt: &R, alloc: Global, terms: &Terms) {
     match run(rt, alloc, terms, 2) {
         Ok(batch) => assert!(rt; batch.journal().len() == 21),
-        Err(fault) => assert!(rt; fault == RunFault::OutOfMemory || fault == RunFault::Thread),
+        Err(fault) => assert!(rt; is_wanting(fault)),
     }
+}
+
+fn is_wanting(fault: RunFault) -> bool {
+    fault == RunFault::OutOfMemory || fault == RunFault::Thread
 }
 
 #[test]

@@ -135,7 +135,7 @@ fn are_levels(rt: &impl Abort, alloc: Global, plan: &Plan) -> Result<(), Fail> {
 
 #[test]
 fn a_table_reads_an_earlier_one(rt: HostRuntime) -> Result<(), Fail> {
-    let plan = read_plan(rt.alloc(), sum_and_level_plan().as_bytes())?;
+    let plan = read_plan(rt.alloc(), sum_and_level_plan())?;
     are_levels(&rt, rt.alloc(), &plan)
 }
 
@@ -165,7 +165,7 @@ fn are_values_of_chain(alloc: Global, values: &Env) -> bool {
 // The gate runs it once for each of its allocations, with that one refused: each refusal ends in one of the early returns.
 #[test]
 fn a_chain_has_its_values_or_no_memory(rt: HostRuntime) -> Result<(), Fail> {
-    let plan = match read_plan(rt.alloc(), chain_plan().as_bytes()) {
+    let plan = match read_plan(rt.alloc(), chain_plan()) {
         Ok(plan) => plan,
         Err(fault) => {
             assert_eq!(rt; fault, PlanFault::from(AllocError));

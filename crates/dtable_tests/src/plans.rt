@@ -62,8 +62,8 @@ oop_max = "1000"
 }
 
 /// Tables in a chain, under five policies: a sum, the risk of highest priority, and lists that read both.
-pub fn chain_plan() -> &'static str {
-    r#"version = 1
+pub fn chain_plan() -> &'static [u8] {
+    br#"version = 1
 [[tables]]
 hit = "C+"
 inputs = [{name = "billed"}]
@@ -97,8 +97,8 @@ rules = [{when = ['"HIGH"'], then = ['"a"']}, {when = ['-'], then = ['"a"']}, {w
 }
 
 /// A sum, and a table that reads it.
-pub fn sum_and_level_plan() -> &'static str {
-    r#"version = 1
+pub fn sum_and_level_plan() -> &'static [u8] {
+    br#"version = 1
 fields = [{name = "x", kind = "number"}]
 
 [[tables]]

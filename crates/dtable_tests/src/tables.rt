@@ -1,7 +1,7 @@
 //! Hit policies by worked examples: what the one table of a plan answers.
 use crate::answers::{give, listed, literal_of, shown};
 use dtable::{
-    Answers, AnswersByTable, Fault, Inputs, Plan, Valuer, answers_by_hit, read_plan,
+    Answers, AnswersByTable, Fault, Input, Inputs, Plan, Valuer, answers_by_hit, read_plan,
     table_value, value_read,
 };
 use std::alloc::{AllocError, Global};
@@ -84,7 +84,14 @@ const NUMBERS: [Row; 10] = [
     ("2", "C+", Y, THREE, "y", "3.25\n"),
     ("2", "C<", Y, THREE, "y", "-0.25\n"),
     ("2", "C>", Y, THREE, "y", "2\n"),
-    ("2", "C+", Y, LARGE, "y", "the number of table 1 is out of range"),
+    (
+        "2",
+        "C+",
+        Y,
+        LARGE,
+        "y",
+        "the number of table 1 is out of range",
+    ),
     ("2", "C+", Y, BACK, "y", "99999999999.9999\n"),
     ("2", "C#", TEXT, TWICE, "y", "2\n"),
     ("2", "C<", Y, NONE, "y", "no rule of table 1 matches"),
@@ -96,7 +103,14 @@ const NUMBERS: [Row; 10] = [
 const DEFAULT: &str = "{name = 'y', kind = 'number', default = '0'}";
 
 const DEFAULTS: [Row; 8] = [
-    ("6", "U", Y, NONE, "y", "the value of column 1 of table 1 is not allowed"),
+    (
+        "6",
+        "U",
+        Y,
+        NONE,
+        "y",
+        "the value of column 1 of table 1 is not allowed",
+    ),
     ("2", "F", DEFAULT, NONE, "y", "0\n"),
     ("2", "U", DEFAULT, NONE, "y", "0\n"),
     ("2", "A", DEFAULT, OTHER, "y", "rules of table 1 clash"),
@@ -115,16 +129,14 @@ fn behind_hit() -> &'static str {
     "'\ninputs = [{name = 'x', values = '[0..5]'}]\noutputs = ["
 }
 
-fn text_over_x(
-    alloc: Global,
-    hit: &str,
-    outputs: &str,
-    rules: &str,
-) -> Result<String, AllocError> {
+fn text_over_x(alloc: Global, hit: &str, outputs: &str, rules: &str) -> Result<String, AllocError> {
     let mut text = String::from_str(alloc, front())?;
-    for part in &[hit, behind_hit(), outputs, "]\nrules = [", rules, "]\n"] {
-        text.push_str(part)?;
-    }
+    text.push_str(hit)?;
+    text.push_str(behind_hit())?;
+    text.push_str(outputs)?;
+    text.push_str("]\nrules = [")?;
+    text.push_str(rules)?;
+    text.push_str("]\n")?;
     Ok(text)
 }
 
@@ -212,13 +224,22 @@ fn first_read(
     inputs: &Inputs,
     earlier: &[Answers<'_>],
 ) -> Result<Vec<u8>, AllocError> {
-    let mut text = Vec::new(alloc);
-    if let Some(table) = plan.tables().first() {
-        if let Some(input) = table.inputs.as_slice().first() {
-            text = literal_of(alloc, value_read(inputs, earlier, input.origin))?;
-        }
+    match plan.tables() {
+        [table, ..] => first_in(alloc, table.inputs.as_slice(), inputs, earlier),
+        [] => Ok(Vec::new(alloc)),
     }
-    Ok(text)
+}
+
+fn first_in(
+    alloc: Global,
+    columns: &[Input],
+    inputs: &Inputs,
+    earlier: &[Answers<'_>],
+) -> Result<Vec<u8>, AllocError> {
+    match columns {
+        [input, ..] => literal_of(alloc, value_read(inputs, earlier, input.origin)),
+        [] => Ok(Vec::new(alloc)),
+    }
 }
 
 /// A plan whose one table has two rules that match 2, of which the first one answers.

@@ -33,20 +33,25 @@ fn told(rt: &impl Abort, alloc: Global, plan: &Plan) -> Result<String, AllocErro
     let mut line = Line::new(alloc);
     let mut told = String::new(alloc);
     for _ in 0..4 {
-        tell_next(&mut told, &mut rows, &mut line)?;
+        tell_next(alloc, &mut told, &mut rows, &mut line)?;
     }
     Ok(told)
 }
 
 // Tells the next row, if there is one.
-fn tell_next(told: &mut String, rows: &mut Rows, line: &mut Line) -> Result<(), AllocError> {
+fn tell_next(
+    alloc: Global,
+    told: &mut String,
+    rows: &mut Rows,
+    line: &mut Line,
+) -> Result<(), AllocError> {
     match rows.next_brief(line)? {
-        Some(brief) => tell(told, &brief, line),
+        Some(brief) => tell(alloc, told, &brief, line),
         None => Ok(()),
     }
 }
 
-fn tell(told: &mut String, brief: &Brief, line: &Line) -> Result<(), AllocError> {
+fn tell(alloc: Global, told: &mut String, brief: &Brief, line: &Line) -> Result<(), AllocError> {
     match brief {
         Brief::Good {
             number,
@@ -59,7 +64,7 @@ fn tell(told: &mut String, brief: &Brief, line: &Line) -> Result<(), AllocError>
                 tell_field(told, line, family)?;
             }
             tell_field(told, line, claimant.member)?;
-            tell_day(told, line, claimant.service)
+            tell_day(alloc, told, line, claimant.service)
         }
         Brief::Bad { number, fault } => {
             let cause = fault.cause.number();
@@ -69,8 +74,8 @@ fn tell(told: &mut String, brief: &Brief, line: &Line) -> Result<(), AllocError>
 }
 
 // Tells the number of the day that the record's field at a place spells.
-fn tell_day(told: &mut String, line: &Line, place: usize) -> Result<(), AllocError> {
-    match line.day(told.alloc(), place)? {
+fn tell_day(alloc: Global, told: &mut String, line: &Line, place: usize) -> Result<(), AllocError> {
+    match line.day(alloc, place)? {
         Some(day) => write!(told, " {};", day.epoch_day()),
         None => write!(told, " no day;"),
     }

@@ -1,6 +1,7 @@
 //! The fields of the report's records.
-ghost use Rattle.std.specs.Prelude.{◌≡◌, ◌≤◌, ℕ, ℤ, Some, IfOk, IsTrue, pos, List, [], ◌∷◌, decimal, map, replicate, OnOk};
+ghost use Rattle.std.specs.Prelude.{◌≡◌, ◌≤◌, ℕ, ℤ, Some, IfOk, pos, List, [], ◌∷◌, decimal, map, replicate, OnOk};
 ghost use Rattle.csv.specs.Records.{fields_of};
+ghost use Rattle.feel_tests.specs.Calendar.{year_of, year_text};
 ghost use Rattle.fixpoint.specs.Money.{money_text};
 ghost use Rattle.dtable.specs.Plan.{has_families, has_years};
 ghost use Rattle.journal.specs.Events.{accepted as accepted_in};
@@ -21,7 +22,7 @@ use crate::sums::Sums;
 use crate::texts::{fault_text, join_remarks, reason_text, sum_text};
 use csv::ByteRecord;
 use dtable::{has_families, has_years};
-use feel_tests::{Day, day_year, year_text};
+use feel_tests::{day_year, year_text};
 use intake_csv::{Brief, Claimant, Line, RowFault};
 use itoa::Buffer;
 use settlement::{Money, Outcome, Verdict};
@@ -128,29 +129,22 @@ fn push_claimant(
         Some(place) => field_at(source, place),
         None => member,
     };
-    let service = service_under(alloc, version, source, claimant.service)?;
-    match service {
-        Some(day) => {
-            let year = year_text(day_year(day.epoch_day()));
-            push_whose(line, version, id, family, member, year.as_slice())
-        }
+    if !has_years(version) {
+        return push_whose(line, version, id, family, member, b"");
+    }
+    match year_at(alloc, source, claimant.service)? {
+        Some(year) => push_whose(line, version, id, family, member, year.as_slice()),
         None => push_whose(line, version, id, family, member, b""),
     }
 }
 
-// The day of the service, which stands at the place, where the record has a field for its year.
-fn service_under(
-    alloc: Global,
-    version: u8,
-    source: &Line,
-    place: usize,
-) -> Result<Option<Day>, AllocError>
-    ensures { IfOk result (λ service. IsTrue (has_years version) → (day : ℤ) → DayStandsAt source.now place day → service ≡ Some day) }
+// The year of the day that stands at a place, which has one.
+fn year_at(alloc: Global, source: &Line, place: usize) -> Result<Option<[u8; 4]>, AllocError>
+    ensures { IfOk result (λ year. (day : ℤ) → DayStandsAt source.now place day → year ≡ Some (year_text (year_of day))) }
 {
-    if has_years(version) {
-        source.day(alloc, place)
-    } else {
-        Ok(None)
+    match source.day(alloc, place)? {
+        Some(day) => Ok(Some(year_text(day_year(day.epoch_day())))),
+        None => Ok(None),
     }
 }
 
