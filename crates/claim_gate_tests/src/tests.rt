@@ -16,11 +16,15 @@ mod worked;
 use claim_gate::{
     Batch, Counts, EndFault, Event, FinishFault, GateState, OfferFault, TakeFault, Taken, Terms,
 };
-use filing::{Calls, over_health_plan};
-use std::alloc::{AllocError, Global};
+use dtable::{Plan, read_plan};
+use std::alloc::Global;
 use std::process::Abort;
 use std::test::Fail;
-use worked_examples::{first_file, second_file};
+use worked_examples::{first_file, health_plan, second_file};
+
+fn plan(rt: &impl Abort, alloc: Global) -> Plan {
+    read_plan(alloc, health_plan().as_bytes()).expect(rt, "a plan")
+}
 
 // Whether the answer of `take` is that nothing is left to do.
 fn is_over(reply: &Result<Taken, TakeFault>) -> bool {
@@ -46,73 +50,64 @@ fn counts(accepted: usize, ended: usize, decided: usize, closed: bool) -> Counts
     }
 }
 
-struct Opened;
-
-impl<R: Abort> Calls<R> for Opened {
-    fn make(rt: &R, alloc: Global, terms: &Terms) -> Result<(), AllocError> {
-        let mut gate = GateState::new(alloc, terms)?;
-        assert!(rt; gate.journal().is_empty());
-        assert!(rt; gate.counts() == counts(0, 0, 0, false));
-        assert!(rt; is_nothing_ready(&gate.take()));
-        assert!(rt; Batch::from_state(gate, terms).is_err());
-        Ok(())
-    }
-}
-
 #[test]
 fn nothing_is_offered_yet(rt: HostRuntime) -> Result<(), Fail> {
+    let plan = plan(&rt, rt.alloc());
     let files = [first_file(), second_file()];
-    over_health_plan::<HostRuntime, Opened>(&rt, rt.alloc(), &files, None)?;
+    let terms = Terms::new(rt.alloc(), &plan, &files, None, None).expect(&rt, "terms");
+    let mut gate = GateState::new(rt.alloc(), &terms)?;
+    assert!(rt; gate.journal().is_empty());
+    assert!(rt; gate.counts() == counts(0, 0, 0, false));
+    assert!(rt; is_nothing_ready(&gate.take()));
+    let back = Batch::from_state(gate, &terms);
+    assert!(rt; back.is_err());
     Ok(())
-}
-
-struct Closed;
-
-impl<R: Abort> Calls<R> for Closed {
-    fn make(rt: &R, alloc: Global, terms: &Terms) -> Result<(), AllocError> {
-        let mut gate = GateState::new(alloc, terms)?;
-        assert!(rt; matches!(gate.journal(), [Event::Close]));
-        assert!(rt; gate.counts() == counts(0, 0, 0, true));
-        assert!(rt; is_over(&gate.take()));
-        match Batch::from_state(gate, terms) {
-            Ok(batch) => assert!(rt; matches!(batch.journal(), [Event::Close])),
-            Err(_) => panic!(rt; "a finished journal"),
-        }
-        Ok(())
-    }
 }
 
 #[test]
 fn no_claim_is_admitted(rt: HostRuntime) -> Result<(), Fail> {
+    let plan = plan(&rt, rt.alloc());
     let files = [first_file(), second_file()];
-    over_health_plan::<HostRuntime, Closed>(&rt, rt.alloc(), &files, Some(0))?;
+    let terms = Terms::new(rt.alloc(), &plan, &files, None, Some(0)).expect(&rt, "terms");
+    let mut gate = GateState::new(rt.alloc(), &terms)?;
+    assert!(rt; matches!(gate.journal(), [Event::Close]));
+    assert!(rt; gate.counts() == counts(0, 0, 0, true));
+    assert!(rt; is_over(&gate.take()));
+    let batch = match Batch::from_state(gate, &terms) {
+        Ok(batch) => batch,
+        Err(_) => return Err("a finished journal".into()),
+    };
+    assert!(rt; matches!(batch.journal(), [Event::Close]));
     Ok(())
-}
-
-struct Stopped;
-
-impl<R: Abort> Calls<R> for Stopped {
-    fn make(rt: &R, alloc: Global, terms: &Terms) -> Result<(), AllocError> {
-        let mut gate = GateState::new(alloc, terms)?;
-        gate.stop();
-        assert!(rt; gate.counts().stopped && gate.counts().closed);
-        assert!(rt; is_stopped(&gate.take()));
-        assert!(rt; gate.into_journal().len() == 1);
-        Ok(())
-    }
 }
 
 #[test]
 fn a_stopped_gate_hands_nothing_out(rt: HostRuntime) -> Result<(), Fail> {
+    let plan = plan(&rt, rt.alloc());
     let files = [first_file(), second_file()];
-    over_health_plan::<HostRuntime, Stopped>(&rt, rt.alloc(), &files, Some(0))?;
+    let terms = Terms::new(rt.alloc(), &plan, &files, None, Some(0)).expect(&rt, "terms");
+    let mut gate = GateState::new(rt.alloc(), &terms)?;
+    gate.stop();
+    assert!(rt; gate.counts().stopped && gate.counts().closed);
+    assert!(rt; is_stopped(&gate.take()));
+    assert!(rt; gate.into_journal().len() == 1);
     Ok(())
 }
 
 #[test]
-fn a_gate_is_made_or_no_memory(rt: HostRuntime) {
+fn a_gate_is_made_or_no_memory(rt: HostRuntime) -> Result<(), Fail> {
+    let Ok(plan) = read_plan(rt.alloc(), health_plan().as_bytes()) else {
+        return Ok(());
+    };
     let files = [first_file(), second_file()];
-    let _wanting = over_health_plan::<HostRuntime, Closed>(&rt, rt.alloc(), &files, Some(0));
+    let Ok(terms) = Terms::new(rt.alloc(), &plan, &files, None, Some(0)) else {
+        return Ok(());
+    };
+    if let Ok(mut gate) = GateState::new(rt.alloc(), &terms) {
+        assert!(rt; gate.journal().len() == 1);
+        assert!(rt; is_over(&gate.take()));
+    }
+    Ok(())
 }
 
 #[test]

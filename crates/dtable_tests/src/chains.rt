@@ -23,18 +23,6 @@ const MET: usize = 5;
 /// A claim's code, the amount that is billed and what was met; then what the health plan answers for `covered`, `fee` and `note`.
 type Claim = (&'static str, &'static str, &'static str, &'static str);
 
-const CLAIMS: [Claim; 4] = [
-    ("\"A\"", "120", "0", "true\n100\nlist \"OVER\"\n"),
-    ("\"B\"", "40", "50", "true\n40\nlist \"MET\"\n"),
-    (
-        "\"A\"",
-        "100.01",
-        "50",
-        "true\n100\nlist \"OVER\" \"MET\"\n",
-    ),
-    ("\"X\"", "10", "0", "false\n0\nlist\n"),
-];
-
 /// The inputs of a claim under the health plan.
 fn claimed(rt: &impl Abort, alloc: Global, plan: &Plan, claim: &Claim) -> Result<Inputs, Fail> {
     let mut inputs = Inputs::new(alloc, plan)?;
@@ -59,7 +47,17 @@ fn is_answered(rt: &impl Abort, alloc: Global, plan: &Plan, claim: &Claim) -> Re
 }
 
 fn claims() -> &'static [Claim] {
-    &CLAIMS
+    &[
+        ("\"A\"", "120", "0", "true\n100\nlist \"OVER\"\n"),
+        ("\"B\"", "40", "50", "true\n40\nlist \"MET\"\n"),
+        (
+            "\"A\"",
+            "100.01",
+            "50",
+            "true\n100\nlist \"OVER\" \"MET\"\n",
+        ),
+        ("\"X\"", "10", "0", "false\n0\nlist\n"),
+    ]
 }
 
 fn are_answered(rt: &impl Abort, alloc: Global, plan: &Plan) -> Result<(), Fail> {
@@ -76,15 +74,13 @@ fn the_health_plan_has_its_values(rt: HostRuntime) -> Result<(), Fail> {
 }
 
 /// Texts that are given one over the other, a shorter one and a longer one in turn, and their literals.
-const CODES: [(&str, &str); 4] = [
-    ("LONGER", "\"LONGER\""),
-    ("A", "\"A\""),
-    ("", "\"\""),
-    ("THE LONGEST", "\"THE LONGEST\""),
-];
-
 fn codes() -> &'static [(&'static str, &'static str)] {
-    &CODES
+    &[
+        ("LONGER", "\"LONGER\""),
+        ("A", "\"A\""),
+        ("", "\"\""),
+        ("THE LONGEST", "\"THE LONGEST\""),
+    ]
 }
 
 fn are_given(rt: &impl Abort, alloc: Global, inputs: &mut Inputs) -> Result<(), AllocError> {
@@ -114,15 +110,13 @@ fn what_a_plan_needs(rt: HostRuntime) -> Result<(), Fail> {
 }
 
 /// A value of `x`, and what `z` answers.
-const LEVELS: [(&str, &str); 4] = [
-    ("1", "\"LOW\"\n"),
-    ("7", "\"HIGH\"\n"),
-    ("-1", "no rule of table 1 matches"),
-    ("9", "no rule of table 2 matches"),
-];
-
 fn levels() -> &'static [(&'static str, &'static str)] {
-    &LEVELS
+    &[
+        ("1", "\"LOW\"\n"),
+        ("7", "\"HIGH\"\n"),
+        ("-1", "no rule of table 1 matches"),
+        ("9", "no rule of table 2 matches"),
+    ]
 }
 
 fn are_levels(rt: &impl Abort, alloc: Global, plan: &Plan) -> Result<(), Fail> {
@@ -139,19 +133,13 @@ fn a_table_reads_an_earlier_one(rt: HostRuntime) -> Result<(), Fail> {
     are_levels(&rt, rt.alloc(), &plan)
 }
 
-/// The outputs of the chain.
-const OF_CHAIN: [&str; 6] = ["score", "risk", "step", "note", "points", "rules"];
-
-/// What the chain answers to 120: 1.5 and 2 less 0.25 is a high score, which is called about before it is mailed about.
-const CHAIN_ANSWERS: &str =
-    "3.25\n\"HIGH\"\nlist \"CALL\" \"MAIL\"\nlist \"OVER\" \"LOOK\"\nlist 3 1\n2\n";
-
 fn outputs_of_chain() -> &'static [&'static str] {
-    &OF_CHAIN
+    &["score", "risk", "step", "note", "points", "rules"]
 }
 
+/// What the chain answers to 120: 1.5 and 2 less 0.25 is a high score, which is called about before it is mailed about.
 fn chain_answers() -> &'static str {
-    CHAIN_ANSWERS
+    "3.25\n\"HIGH\"\nlist \"CALL\" \"MAIL\"\nlist \"OVER\" \"LOOK\"\nlist 3 1\n2\n"
 }
 
 /// Whether the chain's outputs answer what is wanted, where there is memory for their text.

@@ -7,19 +7,6 @@ use std::process::Abort;
 use std::test::Fail;
 use worked_examples::health_plan;
 
-/// The names of the plan with every key, and their kinds.
-const NAMES: [(&str, Kind); 9] = [
-    ("claim", Kind::Text),
-    ("member", Kind::Text),
-    ("service", Kind::Day),
-    ("billed", Kind::Number),
-    ("age", Kind::Number),
-    ("code", Kind::Text),
-    ("met", Kind::Number),
-    ("oop", Kind::Number),
-    ("paid", Kind::Number),
-];
-
 fn has_name(names: &[InputData], place: usize, name: &str, kind: Kind) -> bool {
     names
         .get(place)
@@ -35,8 +22,19 @@ fn are_names(names: &[InputData], wanted: &[(&str, Kind)]) -> bool {
     as_wanted
 }
 
+/// The names of the plan with every key, and their kinds.
 fn plan_names() -> &'static [(&'static str, Kind)] {
-    &NAMES
+    &[
+        ("claim", Kind::Text),
+        ("member", Kind::Text),
+        ("service", Kind::Day),
+        ("billed", Kind::Number),
+        ("age", Kind::Number),
+        ("code", Kind::Text),
+        ("met", Kind::Number),
+        ("oop", Kind::Number),
+        ("paid", Kind::Number),
+    ]
 }
 
 #[test]
@@ -64,22 +62,20 @@ family_oop_max = "fmet"
 }
 
 /// Its names, and their kinds.
-const FAMILY_NAMES: [(&str, Kind); 11] = [
-    ("claim", Kind::Text),
-    ("family", Kind::Text),
-    ("member", Kind::Text),
-    ("service", Kind::Day),
-    ("billed", Kind::Number),
-    ("code", Kind::Text),
-    ("met", Kind::Number),
-    ("oop", Kind::Number),
-    ("paid", Kind::Number),
-    ("fmet", Kind::Number),
-    ("foop", Kind::Number),
-];
-
 fn family_names() -> &'static [(&'static str, Kind)] {
-    &FAMILY_NAMES
+    &[
+        ("claim", Kind::Text),
+        ("family", Kind::Text),
+        ("member", Kind::Text),
+        ("service", Kind::Day),
+        ("billed", Kind::Number),
+        ("code", Kind::Text),
+        ("met", Kind::Number),
+        ("oop", Kind::Number),
+        ("paid", Kind::Number),
+        ("fmet", Kind::Number),
+        ("foop", Kind::Number),
+    ]
 }
 
 #[test]
@@ -126,27 +122,25 @@ fn a_plan_that_keeps_families_has_their_limits(rt: HostRuntime) -> Result<(), Fa
 }
 
 /// Edits of this plan.
-const FAMILY_FAULTS: [Edit; 8] = [
-    ("family_deductible = \"80\"", "", "8 0 0 8"),
-    (
-        "family_deductible = \"80\"",
-        "family_deductible = \"-80\"",
-        "9 0 0 8",
-    ),
-    ("family_oop_max = \"fmet\"", "", "8 0 0 9"),
-    (
-        "family_oop_max = \"fmet\"",
-        "family_oop_max = \"0.005\"",
-        "9 0 0 9",
-    ),
-    ("name = \"code\"", "name = \"family\"", "4 0 0 1"),
-    ("name = \"code\"", "name = \"foop\"", "4 0 0 1"),
-    ("version = 3", "version = 2", ""),
-    ("version = 3", "version = 4", "3 0 0 0"),
-];
-
 fn family_faults() -> &'static [Edit] {
-    &FAMILY_FAULTS
+    &[
+        ("family_deductible = \"80\"", "", "8 0 0 8"),
+        (
+            "family_deductible = \"80\"",
+            "family_deductible = \"-80\"",
+            "9 0 0 8",
+        ),
+        ("family_oop_max = \"fmet\"", "", "8 0 0 9"),
+        (
+            "family_oop_max = \"fmet\"",
+            "family_oop_max = \"0.005\"",
+            "9 0 0 9",
+        ),
+        ("name = \"code\"", "name = \"family\"", "4 0 0 1"),
+        ("name = \"code\"", "name = \"foop\"", "4 0 0 1"),
+        ("version = 3", "version = 2", ""),
+        ("version = 3", "version = 4", "3 0 0 0"),
+    ]
 }
 
 #[test]
@@ -201,33 +195,6 @@ fn a_plan_has_its_roles(rt: HostRuntime) -> Result<(), Fail> {
 /// An edit of a plan: a part of its text and what replaces it; the fault's number and place: table, rule, column.
 type Edit = (&'static str, &'static str, &'static str);
 
-/// Edits of the plan with one table.
-const TABLE_FAULTS: [Edit; 9] = [
-    ("version = 1", "", "2 0 0 0"),
-    ("version = 1", "version = 0", "3 0 0 0"),
-    ("version = 1", "version = 4", "3 0 0 0"),
-    ("version = 1", "version = 2.0", "5 0 0 0"),
-    (
-        r#""number"}]"#,
-        r#""number"}, {name = "x", kind = "number"}]"#,
-        "4 0 0 2",
-    ),
-    (
-        r#"inputs = [{name = "x"}]"#,
-        r#"inputs = [{name = "z"}]"#,
-        "3 1 0 1",
-    ),
-    ("[[tables]]\n", "[[tables]]\nhit = \"Q\"\n", "6 1 0 0"),
-    ("[[tables]]\n", "[[tables]]\nhit = \"P\"\n", "7 1 0 0"),
-    ("when = ['[0..10[']", "when = [[\"x\"]]", "5 1 1 1"),
-];
-
-/// Edits of the plan with roles alone.
-const ROLE_FAULTS: [Edit; 2] = [
-    ("fee = \"5\"", "", "8 0 0 2"),
-    ("rate = \"0\"", "rate = \"2\"", "9 0 0 5"),
-];
-
 /// The plan with the first place of a part replaced by another.
 fn edited(alloc: Global, plan: &str, old: &str, new: &str) -> Result<String, Fail> {
     let (before, after) = plan.split_once(old).ok_or("not in the plan")?;
@@ -261,8 +228,27 @@ fn are_refused(rt: &impl Abort, alloc: Global, plan: &str, edits: &[Edit]) -> Re
     Ok(())
 }
 
+/// Edits of the plan with one table.
 fn table_faults() -> &'static [Edit] {
-    &TABLE_FAULTS
+    &[
+        ("version = 1", "", "2 0 0 0"),
+        ("version = 1", "version = 0", "3 0 0 0"),
+        ("version = 1", "version = 4", "3 0 0 0"),
+        ("version = 1", "version = 2.0", "5 0 0 0"),
+        (
+            r#""number"}]"#,
+            r#""number"}, {name = "x", kind = "number"}]"#,
+            "4 0 0 2",
+        ),
+        (
+            r#"inputs = [{name = "x"}]"#,
+            r#"inputs = [{name = "z"}]"#,
+            "3 1 0 1",
+        ),
+        ("[[tables]]\n", "[[tables]]\nhit = \"Q\"\n", "6 1 0 0"),
+        ("[[tables]]\n", "[[tables]]\nhit = \"P\"\n", "7 1 0 0"),
+        ("when = ['[0..10[']", "when = [[\"x\"]]", "5 1 1 1"),
+    ]
 }
 
 #[test]
@@ -270,8 +256,12 @@ fn faults_of_tables(rt: HostRuntime) -> Result<(), Fail> {
     are_refused(&rt, rt.alloc(), score_plan(), table_faults())
 }
 
+/// Edits of the plan with roles alone.
 fn role_faults() -> &'static [Edit] {
-    &ROLE_FAULTS
+    &[
+        ("fee = \"5\"", "", "8 0 0 2"),
+        ("rate = \"0\"", "rate = \"2\"", "9 0 0 5"),
+    ]
 }
 
 #[test]
@@ -282,32 +272,34 @@ fn faults_of_roles(rt: HostRuntime) -> Result<(), Fail> {
 /// The prefixes of the health plan that are TOML: from this length to that one, and the number and the place of the fault; nothing where
 /// the prefix is a plan. Without tables there is no value that the first role could name, and without the second one none for the
 /// last role; a table that lacks its next array is told before the roles.
-const PREFIXES: [(usize, usize, &str); 20] = [
-    (0, 0, "2 0 0 0"),
-    (11, 12, ""),
-    (53, 55, ""),
-    (62, 63, "8 0 0 1"),
-    (80, 81, "8 0 0 1"),
-    (92, 93, "8 0 0 1"),
-    (110, 111, "8 0 0 1"),
-    (123, 124, "8 0 0 1"),
-    (136, 137, "8 0 0 1"),
-    (151, 152, "8 0 0 1"),
-    (168, 170, "8 0 0 1"),
-    (180, 181, "2 1 0 0"),
-    (207, 208, "2 1 0 0"),
-    (286, 287, "2 1 0 0"),
-    (428, 430, "8 0 0 7"),
-    (440, 441, "2 2 0 0"),
-    (450, 451, "2 2 0 0"),
-    (495, 496, "2 2 0 0"),
-    (538, 539, "2 2 0 0"),
-    (639, 640, ""),
-];
+fn prefixes() -> &'static [(usize, usize, &'static str)] {
+    &[
+        (0, 0, "2 0 0 0"),
+        (11, 12, ""),
+        (53, 55, ""),
+        (62, 63, "8 0 0 1"),
+        (80, 81, "8 0 0 1"),
+        (92, 93, "8 0 0 1"),
+        (110, 111, "8 0 0 1"),
+        (123, 124, "8 0 0 1"),
+        (136, 137, "8 0 0 1"),
+        (151, 152, "8 0 0 1"),
+        (168, 170, "8 0 0 1"),
+        (180, 181, "2 1 0 0"),
+        (207, 208, "2 1 0 0"),
+        (286, 287, "2 1 0 0"),
+        (428, 430, "8 0 0 7"),
+        (440, 441, "2 2 0 0"),
+        (450, 451, "2 2 0 0"),
+        (495, 496, "2 2 0 0"),
+        (538, 539, "2 2 0 0"),
+        (639, 640, ""),
+    ]
+}
 
 /// What a prefix of so many bytes is answered: every other one is no TOML.
 fn answer_to(length: usize) -> &'static str {
-    for (from, to, answer) in &PREFIXES {
+    for (from, to, answer) in prefixes() {
         if *from <= length && length <= *to {
             return *answer;
         }

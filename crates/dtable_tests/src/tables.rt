@@ -11,114 +11,181 @@ use std::test::Fail;
 /// The place of the field `x` among the names.
 const X: usize = 4;
 
-/// A value of `x`, a hit policy, the table's outputs, its rules, an output's name, and what that answers.
-type Row = (
-    &'static str,
-    &'static str,
-    &'static str,
-    &'static str,
-    &'static str,
-    &'static str,
-);
+/// The outputs of a table.
+#[derive(Clone, Copy)]
+enum Outputs {
+    Number,
+    NumberOrNone,
+    TextOrSeven,
+    Ranked,
+}
 
-const Y: &str = "{name = 'y', kind = 'number'}";
+impl Outputs {
+    fn text(self) -> &'static str {
+        match self {
+            Outputs::Number => "{name = 'y', kind = 'number'}",
+            Outputs::NumberOrNone => "{name = 'y', kind = 'number', default = '0'}",
+            Outputs::TextOrSeven => "{name = 'y', kind = 'text', default = '7'}",
+            Outputs::Ranked => ranked(),
+        }
+    }
+}
 
-const SAME: &str = "{when = ['>0'], then = ['1']}, {when = ['>1'], then = ['1']}";
+fn ranked() -> &'static str {
+    r#"{name = 'a', kind = 'text', priority = ['"X"', '"Y"']}, {name = 'b', kind = 'text', priority = ['"H"', '"L"']}, {name = 'c', kind = 'number'}"#
+}
 
-const OTHER: &str = "{when = ['>0'], then = ['1']}, {when = ['>1'], then = ['2']}";
+/// The rules of a table.
+#[derive(Clone, Copy)]
+enum Rules {
+    None,
+    Same,
+    Other,
+    Four,
+    Three,
+    Large,
+    Back,
+    Twice,
+    Above,
+}
 
-const TWO_MATCHES: [Row; 6] = [
-    ("2", "U", Y, SAME, "y", "rules of table 1 clash"),
-    ("2", "A", Y, SAME, "y", "1\n"),
-    ("2", "A", Y, OTHER, "y", "rules of table 1 clash"),
-    ("2", "F", Y, OTHER, "y", "1\n"),
-    ("2", "R", Y, OTHER, "y", "list 1 2\n"),
-    ("2", "C", Y, OTHER, "y", "list 1 2\n"),
-];
+impl Rules {
+    fn text(self) -> &'static str {
+        match self {
+            Rules::None => "",
+            Rules::Same => "{when = ['>0'], then = ['1']}, {when = ['>1'], then = ['1']}",
+            Rules::Other => "{when = ['>0'], then = ['1']}, {when = ['>1'], then = ['2']}",
+            Rules::Four => four(),
+            Rules::Three => three(),
+            Rules::Large => large(),
+            Rules::Back => back(),
+            Rules::Twice => r#"{when = ['-'], then = ['"A"']}, {when = ['-'], then = ['"A"']}"#,
+            Rules::Above => "{when = ['>5'], then = ['1']}",
+        }
+    }
+}
 
-const RANKED: &str =
-    r#"{name = 'a', kind = 'text', priority = ['"X"', '"Y"']}, {name = 'b', kind = 'text', priority = ['"H"', '"L"']}, {name = 'c', kind = 'number'}"#;
+fn four() -> &'static str {
+    r#"{when = ['-'], then = ['"Y"', '"H"', '1']}, {when = ['-'], then = ['"X"', '"L"', '2']}, {when = ['-'], then = ['"X"', '"H"', '3']}, {when = ['-'], then = ['"X"', '"H"', '4']}"#
+}
 
-const FOUR: &str =
-    r#"{when = ['-'], then = ['"Y"', '"H"', '1']}, {when = ['-'], then = ['"X"', '"L"', '2']}, {when = ['-'], then = ['"X"', '"H"', '3']}, {when = ['-'], then = ['"X"', '"H"', '4']}"#;
+fn three() -> &'static str {
+    "{when = ['-'], then = ['1.5']}, {when = ['-'], then = ['2']}, {when = ['-'], then = ['-0.25']}"
+}
 
-const PRIORITIES: [Row; 6] = [
-    ("2", "P", RANKED, FOUR, "a", "\"X\"\n"),
-    ("2", "P", RANKED, FOUR, "b", "\"H\"\n"),
-    ("2", "P", RANKED, FOUR, "c", "3\n"),
-    (
-        "2",
-        "O",
-        RANKED,
-        FOUR,
-        "a",
-        "list \"X\" \"X\" \"X\" \"Y\"\n",
-    ),
-    (
-        "2",
-        "O",
-        RANKED,
-        FOUR,
-        "b",
-        "list \"H\" \"H\" \"L\" \"H\"\n",
-    ),
-    ("2", "O", RANKED, FOUR, "c", "list 3 4 2 1\n"),
-];
+fn large() -> &'static str {
+    "{when = ['-'], then = ['99999999999.9999']}, {when = ['-'], then = ['0.0001']}"
+}
 
-const THREE: &str =
-    "{when = ['-'], then = ['1.5']}, {when = ['-'], then = ['2']}, {when = ['-'], then = ['-0.25']}";
+fn back() -> &'static str {
+    "{when = ['-'], then = ['99999999999.9999']}, {when = ['-'], then = ['0.0001']}, {when = ['-'], then = ['-0.0001']}"
+}
 
-const LARGE: &str =
-    "{when = ['-'], then = ['99999999999.9999']}, {when = ['-'], then = ['0.0001']}";
+/// A hit policy, the table's outputs, its rules, an output's name, and what that answers where `x` is 2.
+type Row = (&'static str, Outputs, Rules, &'static str, &'static str);
 
-const BACK: &str =
-    "{when = ['-'], then = ['99999999999.9999']}, {when = ['-'], then = ['0.0001']}, {when = ['-'], then = ['-0.0001']}";
+fn two_matches() -> &'static [Row] {
+    &[
+        (
+            "U",
+            Outputs::Number,
+            Rules::Same,
+            "y",
+            "rules of table 1 clash",
+        ),
+        ("A", Outputs::Number, Rules::Same, "y", "1\n"),
+        (
+            "A",
+            Outputs::Number,
+            Rules::Other,
+            "y",
+            "rules of table 1 clash",
+        ),
+        ("F", Outputs::Number, Rules::Other, "y", "1\n"),
+        ("R", Outputs::Number, Rules::Other, "y", "list 1 2\n"),
+        ("C", Outputs::Number, Rules::Other, "y", "list 1 2\n"),
+    ]
+}
 
-const TEXT: &str = "{name = 'y', kind = 'text', default = '7'}";
+fn priorities() -> &'static [Row] {
+    &[
+        ("P", Outputs::Ranked, Rules::Four, "a", "\"X\"\n"),
+        ("P", Outputs::Ranked, Rules::Four, "b", "\"H\"\n"),
+        ("P", Outputs::Ranked, Rules::Four, "c", "3\n"),
+        (
+            "O",
+            Outputs::Ranked,
+            Rules::Four,
+            "a",
+            "list \"X\" \"X\" \"X\" \"Y\"\n",
+        ),
+        (
+            "O",
+            Outputs::Ranked,
+            Rules::Four,
+            "b",
+            "list \"H\" \"H\" \"L\" \"H\"\n",
+        ),
+        ("O", Outputs::Ranked, Rules::Four, "c", "list 3 4 2 1\n"),
+    ]
+}
 
-const TWICE: &str = r#"{when = ['-'], then = ['"A"']}, {when = ['-'], then = ['"A"']}"#;
+fn numbers() -> &'static [Row] {
+    &[
+        ("C+", Outputs::Number, Rules::Three, "y", "3.25\n"),
+        ("C<", Outputs::Number, Rules::Three, "y", "-0.25\n"),
+        ("C>", Outputs::Number, Rules::Three, "y", "2\n"),
+        (
+            "C+",
+            Outputs::Number,
+            Rules::Large,
+            "y",
+            "the number of table 1 is out of range",
+        ),
+        (
+            "C+",
+            Outputs::Number,
+            Rules::Back,
+            "y",
+            "99999999999.9999\n",
+        ),
+        ("C#", Outputs::TextOrSeven, Rules::Twice, "y", "2\n"),
+        (
+            "C<",
+            Outputs::Number,
+            Rules::Above,
+            "y",
+            "no rule of table 1 matches",
+        ),
+        (
+            "C#",
+            Outputs::Number,
+            Rules::Above,
+            "y",
+            "no rule of table 1 matches",
+        ),
+        ("C", Outputs::Number, Rules::Above, "y", "list\n"),
+        ("R", Outputs::Number, Rules::Above, "y", "list\n"),
+    ]
+}
 
-const NONE: &str = "{when = ['>5'], then = ['1']}";
-
-const NUMBERS: [Row; 10] = [
-    ("2", "C+", Y, THREE, "y", "3.25\n"),
-    ("2", "C<", Y, THREE, "y", "-0.25\n"),
-    ("2", "C>", Y, THREE, "y", "2\n"),
-    (
-        "2",
-        "C+",
-        Y,
-        LARGE,
-        "y",
-        "the number of table 1 is out of range",
-    ),
-    ("2", "C+", Y, BACK, "y", "99999999999.9999\n"),
-    ("2", "C#", TEXT, TWICE, "y", "2\n"),
-    ("2", "C<", Y, NONE, "y", "no rule of table 1 matches"),
-    ("2", "C#", Y, NONE, "y", "no rule of table 1 matches"),
-    ("2", "C", Y, NONE, "y", "list\n"),
-    ("2", "R", Y, NONE, "y", "list\n"),
-];
-
-const DEFAULT: &str = "{name = 'y', kind = 'number', default = '0'}";
-
-const DEFAULTS: [Row; 8] = [
-    (
-        "6",
-        "U",
-        Y,
-        NONE,
-        "y",
-        "the value of column 1 of table 1 is not allowed",
-    ),
-    ("2", "F", DEFAULT, NONE, "y", "0\n"),
-    ("2", "U", DEFAULT, NONE, "y", "0\n"),
-    ("2", "A", DEFAULT, OTHER, "y", "rules of table 1 clash"),
-    ("2", "C+", DEFAULT, NONE, "y", "0\n"),
-    ("2", "C<", DEFAULT, "", "y", "0\n"),
-    ("2", "C#", TEXT, "", "y", "7\n"),
-    ("2", "R", DEFAULT, NONE, "y", "list\n"),
-];
+fn defaults() -> &'static [Row] {
+    &[
+        ("F", Outputs::NumberOrNone, Rules::Above, "y", "0\n"),
+        ("U", Outputs::NumberOrNone, Rules::Above, "y", "0\n"),
+        (
+            "A",
+            Outputs::NumberOrNone,
+            Rules::Other,
+            "y",
+            "rules of table 1 clash",
+        ),
+        ("C+", Outputs::NumberOrNone, Rules::Above, "y", "0\n"),
+        ("C<", Outputs::NumberOrNone, Rules::None, "y", "0\n"),
+        ("C#", Outputs::TextOrSeven, Rules::None, "y", "7\n"),
+        ("R", Outputs::NumberOrNone, Rules::Above, "y", "list\n"),
+    ]
+}
 
 /// The text of a plan with the field `x` and one table over it, in front of the table's hit policy, and behind it.
 fn front() -> &'static str {
@@ -167,34 +234,23 @@ fn fault_text(alloc: Global, fault: Fault) -> Result<Vec<u8>, Fail> {
     Ok(Vec::from_slice(alloc, text.as_bytes())?)
 }
 
-/// Each table answers what its row says.
-fn are_answered(rt: &impl Abort, alloc: Global, rows: &[Row]) -> Result<(), Fail> {
-    for (x, hit, outputs, rules, output, wanted) in rows {
-        let plan = over_x(alloc, hit, outputs, rules)?;
-        let text = told(rt, alloc, &plan, x, output)?;
-        assert_eq!(rt;
-            text.as_slice(),
-            wanted.as_bytes(),
-            "{hit} {outputs} {rules}"
-        );
-    }
+/// A table answers what its row says.
+fn is_answered(rt: &impl Abort, alloc: Global, x: &str, row: &Row) -> Result<(), Fail> {
+    let (hit, outputs, rules, output, wanted) = row;
+    let plan = over_x(alloc, hit, outputs.text(), rules.text())?;
+    let text = told(rt, alloc, &plan, x, output)?;
+    assert!(rt;
+        text.as_slice() == wanted.as_bytes(),
+        "{hit} {output} {wanted}"
+    );
     Ok(())
 }
 
-fn two_matches() -> &'static [Row] {
-    &TWO_MATCHES
-}
-
-fn priorities() -> &'static [Row] {
-    &PRIORITIES
-}
-
-fn numbers() -> &'static [Row] {
-    &NUMBERS
-}
-
-fn defaults() -> &'static [Row] {
-    &DEFAULTS
+fn are_answered(rt: &impl Abort, alloc: Global, rows: &[Row]) -> Result<(), Fail> {
+    for row in rows {
+        is_answered(rt, alloc, "2", row)?;
+    }
+    Ok(())
 }
 
 #[test]
@@ -212,8 +268,14 @@ fn matches_are_aggregated(rt: HostRuntime) -> Result<(), Fail> {
     are_answered(&rt, rt.alloc(), numbers())
 }
 
+fn outside() -> &'static str {
+    "the value of column 1 of table 1 is not allowed"
+}
+
 #[test]
 fn values_outside_and_defaults(rt: HostRuntime) -> Result<(), Fail> {
+    let row = ("U", Outputs::Number, Rules::Above, "y", outside());
+    is_answered(&rt, rt.alloc(), "6", &row)?;
     are_answered(&rt, rt.alloc(), defaults())
 }
 
@@ -244,7 +306,7 @@ fn first_in(
 
 /// A plan whose one table has two rules that match 2, of which the first one answers.
 fn first_of_two(alloc: Global) -> Result<Plan, Fail> {
-    over_x(alloc, "F", Y, OTHER)
+    over_x(alloc, "F", Outputs::Number.text(), Rules::Other.text())
 }
 
 /// Where the rules match 2, the table answers the number of the first; where the second is all that matches, its number.

@@ -4,7 +4,6 @@ use intake_csv::{Brief, ClaimFile, Line, Rows};
 use std::alloc::{AllocError, Global};
 use std::fmt::Write;
 use std::process::Abort;
-use std::str;
 use std::test::Fail;
 
 /// A plan with one field, of text, that keeps families.
@@ -81,13 +80,25 @@ fn tell_day(alloc: Global, told: &mut String, line: &Line, place: usize) -> Resu
     }
 }
 
-// Tells the record's field at a place, where it is a text.
+// Tells the record's field at a place, where it is a text, whose bytes it has too.
 fn tell_field(told: &mut String, line: &Line, place: usize) -> Result<(), AllocError> {
-    let Some(bytes) = line.bytes(place) else {
-        return Ok(());
-    };
-    match str::from_utf8(bytes) {
-        Ok(text) => write!(told, " {text}"),
-        Err(_) => Ok(()),
+    match line.text(place) {
+        Some(Ok(text)) => tell_text(told, line, place, text),
+        Some(Err(_)) => Ok(()),
+        None => Ok(()),
+    }
+}
+
+fn tell_text(told: &mut String, line: &Line, place: usize, text: &str) -> Result<(), AllocError> {
+    if has_bytes(line, place, text) {
+        write!(told, " {text}")?;
+    }
+    Ok(())
+}
+
+fn has_bytes(line: &Line, place: usize, text: &str) -> bool {
+    match line.bytes(place) {
+        Some(bytes) => bytes == text.as_bytes(),
+        None => false,
     }
 }

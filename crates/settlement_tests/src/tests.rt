@@ -7,12 +7,12 @@ mod plans;
 
 use dtable::{Plan, PlanFault, Sequence, read_plan};
 use examples::{
-    BEFORE_CAPPED, BEHIND_A_PENDED, CAPPED, Example, FIRST, MOST, NAMING, PAID, RATES, SCORED,
-    SECOND, TREATED, UNCAPPED, UNPAID, WRITTEN,
+    Example, MOST, before_capped, behind_a_pended, capped, first, naming, paid, rates, scored,
+    second, treated, uncapped, unpaid, written,
 };
 use feel_tests::{Day, PlainFault, TEXT_LIMIT_BYTES, Text, Value, read_plain};
 use fixpoint::Fixed;
-use plans::{CHAINED, FAULTY, FLAT, FLAT_BY_YEAR, NAMED, OPEN, RATE_OF_CLAIM};
+use plans::{chained, faulty, flat, flat_by_year, named, open, rate_of_claim};
 use settlement::{
     Acc, Adjudicator, Claim, Money, Outcome, Remarks, Role, Verdict, account_year, after, decide,
     fields_of,
@@ -192,38 +192,39 @@ fn decides(rt: &impl Abort, alloc: Global, text: &str, examples: &[Example]) {
 
 #[test]
 fn amounts_written_in_the_plan(rt: HostRuntime) {
-    decides(&rt, rt.alloc(), FLAT, &WRITTEN);
+    decides(&rt, rt.alloc(), flat(), written());
 }
 
 #[test]
 fn a_rate_above_one(rt: HostRuntime) {
     assert!(rt; Role::Rate.number() == 5);
-    decides(&rt, rt.alloc(), RATE_OF_CLAIM, &RATES);
+    decides(&rt, rt.alloc(), rate_of_claim(), rates());
 }
 
 #[test]
 fn who_pays_what(rt: HostRuntime) {
-    decides(&rt, rt.alloc(), OPEN, &PAID);
+    decides(&rt, rt.alloc(), open(), paid());
 }
 
 #[test]
 fn the_first_role_that_is_not_what_it_must_be(rt: HostRuntime) {
-    decides(&rt, rt.alloc(), OPEN, &UNPAID);
+    decides(&rt, rt.alloc(), open(), unpaid());
 }
 
 #[test]
 fn faults_of_the_tables(rt: HostRuntime) {
-    decides(&rt, rt.alloc(), FAULTY, &SCORED);
+    decides(&rt, rt.alloc(), faulty(), scored());
 }
 
 #[test]
 fn tables_give_cover_fee_and_remarks(rt: HostRuntime) {
-    decides(&rt, rt.alloc(), health_plan(), &TREATED);
+    decides(&rt, rt.alloc(), health_plan(), &[first(), second()]);
+    decides(&rt, rt.alloc(), health_plan(), treated());
 }
 
 #[test]
 fn tables_in_a_chain(rt: HostRuntime) {
-    decides(&rt, rt.alloc(), CHAINED, &[CAPPED, UNCAPPED]);
+    decides(&rt, rt.alloc(), chained(), &[capped(), uncapped()]);
 }
 
 // Decides one claim more.
@@ -246,32 +247,34 @@ fn settles_both(
     rt: &impl Abort,
     alloc: Global,
     plan: &Plan,
-    examples: &[Example; 2],
+    examples: &[Example],
 ) -> Result<(), AllocError> {
     let mut desk = Adjudicator::new(alloc, plan)?;
-    let [first, second] = examples;
+    let [first, second] = examples else {
+        panic!(rt; "two claims");
+    };
     settles_next(rt, alloc, &mut desk, plan, first)?;
     settles_next(rt, alloc, &mut desk, plan, second)
 }
 
-fn decides_both(rt: &impl Abort, alloc: Global, text: &str, examples: &[Example; 2]) {
+fn decides_both(rt: &impl Abort, alloc: Global, text: &str, examples: &[Example]) {
     let plan = plan(rt, alloc, text);
     assert!(rt; settles_both(rt, alloc, &plan, examples).is_ok());
 }
 
 #[test]
 fn one_adjudicator_decides_claims_of_two_codes(rt: HostRuntime) {
-    decides_both(&rt, rt.alloc(), health_plan(), &[FIRST, SECOND]);
+    decides_both(&rt, rt.alloc(), health_plan(), &[first(), second()]);
 }
 
 #[test]
 fn one_adjudicator_decides_after_a_pended_claim(rt: HostRuntime) {
-    decides_both(&rt, rt.alloc(), health_plan(), &BEHIND_A_PENDED);
+    decides_both(&rt, rt.alloc(), health_plan(), behind_a_pended());
 }
 
 #[test]
 fn what_each_claim_and_each_member_has(rt: HostRuntime) {
-    decides_both(&rt, rt.alloc(), NAMED, &NAMING);
+    decides_both(&rt, rt.alloc(), named(), naming());
 }
 
 // The plan, or none where no memory is left to read it.
@@ -288,23 +291,23 @@ fn plan_or_no_memory(rt: &impl Abort, alloc: Global, text: &str) -> Option<Plan>
 // The gate runs it once for each of its allocations, with that one refused: each refusal ends in one of the early returns.
 #[test]
 fn a_claim_is_decided_or_no_memory(rt: HostRuntime) {
-    if let Some(plan) = plan_or_no_memory(&rt, rt.alloc(), CHAINED) {
-        let _decided = settles(&rt, rt.alloc(), &plan, &CAPPED);
+    if let Some(plan) = plan_or_no_memory(&rt, rt.alloc(), chained()) {
+        let _decided = settles(&rt, rt.alloc(), &plan, &capped());
     }
 }
 
 // A decision that is refused leaves no trace in the next.
 #[test]
 fn an_adjudicator_decides_after_a_refusal_or_no_memory(rt: HostRuntime) {
-    if let Some(plan) = plan_or_no_memory(&rt, rt.alloc(), CHAINED) {
+    if let Some(plan) = plan_or_no_memory(&rt, rt.alloc(), chained()) {
         settles_after_a_refusal(&rt, rt.alloc(), &plan);
     }
 }
 
 fn settles_after_a_refusal(rt: &impl Abort, alloc: Global, plan: &Plan) {
     if let Ok(mut desk) = Adjudicator::new(alloc, plan) {
-        let _first = settles_next(rt, alloc, &mut desk, plan, &BEFORE_CAPPED);
-        let _second = settles_next(rt, alloc, &mut desk, plan, &CAPPED);
+        let _first = settles_next(rt, alloc, &mut desk, plan, &before_capped());
+        let _second = settles_next(rt, alloc, &mut desk, plan, &capped());
     }
 }
 
@@ -329,16 +332,18 @@ fn some_paid(rt: &impl Abort) -> Outcome {
 }
 
 /// Accumulators, and what 1.00 met, 2.00 out of pocket and 3.00 paid more leave of them.
-const ADDED: [((i64, i64, i64), &str); 5] = [
-    ((MOST, 0, 0), ", out of range"),
-    ((0, MOST, 0), ", out of range"),
-    ((0, 0, MOST), ", out of range"),
-    ((1, 2, 3), ", 101 202 303"),
-    (
-        (MOST - 100, MOST - 200, MOST - 300),
-        ", 9999999999999 9999999999999 9999999999999",
-    ),
-];
+fn added() -> &'static [((i64, i64, i64), &'static str)] {
+    &[
+        ((MOST, 0, 0), ", out of range"),
+        ((0, MOST, 0), ", out of range"),
+        ((0, 0, MOST), ", out of range"),
+        ((1, 2, 3), ", 101 202 303"),
+        (
+            (MOST - 100, MOST - 200, MOST - 300),
+            ", 9999999999999 9999999999999 9999999999999",
+        ),
+    ]
+}
 
 fn leaves(
     rt: &impl Abort,
@@ -356,7 +361,7 @@ fn leaves(
 #[test]
 fn accumulators_leave_the_range_one_by_one(rt: HostRuntime) {
     let outcome = some_paid(&rt);
-    for (before, wanted) in &ADDED {
+    for (before, wanted) in added() {
         let before = acc(&rt, *before);
         assert!(rt; leaves(&rt, rt.alloc(), &outcome, before, wanted).is_ok());
     }
@@ -378,7 +383,7 @@ fn fits_one(rt: &impl Abort, alloc: Global, plan: &Plan) -> Result<(), AllocErro
 }
 
 fn fits_not(rt: &impl Abort, alloc: Global, claim: &Claim) {
-    let open = plan(rt, alloc, OPEN);
+    let open = plan(rt, alloc, open());
     assert!(rt; has_more(&open, claim));
 }
 
@@ -406,8 +411,8 @@ fn year_of_claim(rt: &impl Abort, alloc: Global, plan: &Plan) -> Result<u16, All
 
 #[test]
 fn accumulators_are_kept_by_the_year_under_version_2(rt: HostRuntime) {
-    assert!(rt; matches!(year_under(&rt, rt.alloc(), FLAT), Ok(0)));
-    assert!(rt; matches!(year_under(&rt, rt.alloc(), FLAT_BY_YEAR), Ok(2024)));
+    assert!(rt; matches!(year_under(&rt, rt.alloc(), flat()), Ok(0)));
+    assert!(rt; matches!(year_under(&rt, rt.alloc(), flat_by_year()), Ok(2024)));
 }
 
 // Copies a claim, and looks at the copy.

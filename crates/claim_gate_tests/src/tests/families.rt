@@ -3,7 +3,7 @@ ghost use Rattle.std.specs.Prelude.{◌≡◌, IfOk, OnOk};
 ghost use Rattle.claim_gate_tests.specs.Words.{IsAtWork, WorkStays};
 
 use super::calls::{accept_at, find_nothing, record, take_job};
-use super::filing::{Calls, over_plan, plan_of};
+use super::filing::{plan_of, terms_of};
 use super::worked::is_job;
 use claim_gate::{GateState, Job, Terms};
 use settlement::Acc;
@@ -100,17 +100,11 @@ fn family_calls(rt: &impl Abort, alloc: Global, terms: &Terms) -> Result<(), All
     Ok(())
 }
 
-struct FamilyCalls;
-
-impl<R: Abort> Calls<R> for FamilyCalls {
-    fn make(rt: &R, alloc: Global, terms: &Terms) -> Result<(), AllocError> {
-        family_calls(rt, alloc, terms)
-    }
-}
-
-fn take_turns<R: Abort>(rt: &R, alloc: Global) -> Result<(), AllocError> {
+fn take_turns(rt: &impl Abort, alloc: Global) -> Result<(), AllocError> {
     let plan = plan_of(alloc, family_plan().as_bytes())?;
-    over_plan::<R, FamilyCalls>(rt, alloc, &plan, &[family_file()], None)
+    let files = [family_file()];
+    let terms = terms_of(alloc, &plan, &files, None)?;
+    family_calls(rt, alloc, &terms)
 }
 
 #[test]

@@ -11,7 +11,6 @@ use intake_csv::{
 };
 use std::alloc::{AllocError, Global};
 use std::process::Abort;
-use worked_examples::health_plan;
 
 // The plan of a text.
 pub fn plan_of(alloc: Global, text: &[u8]) -> Result<Plan, AllocError> {
@@ -22,7 +21,7 @@ pub fn plan_of(alloc: Global, text: &[u8]) -> Result<Plan, AllocError> {
 }
 
 // The terms of a plan and of files, without balances.
-fn terms_of<'a>(
+pub fn terms_of<'a>(
     alloc: Global,
     plan: &'a Plan,
     files: &'a [&'a [u8]],
@@ -32,34 +31,6 @@ fn terms_of<'a>(
         return Err(AllocError);
     };
     Ok(terms)
-}
-
-/// Calls over the terms of a run.
-pub trait Calls<R> {
-    fn make(rt: &R, alloc: Global, terms: &Terms) -> Result<(), AllocError>;
-}
-
-/// Makes the calls over the terms of the health plan and of these files.
-pub fn over_health_plan<R, C: Calls<R>>(
-    rt: &R,
-    alloc: Global,
-    files: &[&[u8]],
-    cutoff: Option<u64>,
-) -> Result<(), AllocError> {
-    let plan = plan_of(alloc, health_plan().as_bytes())?;
-    over_plan::<R, C>(rt, alloc, &plan, files, cutoff)
-}
-
-/// The same under any plan. Who holds a plan holds no terms beside it: the proof of that costs minutes.
-pub fn over_plan<R, C: Calls<R>>(
-    rt: &R,
-    alloc: Global,
-    plan: &Plan,
-    files: &[&[u8]],
-    cutoff: Option<u64>,
-) -> Result<(), AllocError> {
-    let terms = terms_of(alloc, plan, files, cutoff)?;
-    C::make(rt, alloc, &terms)
 }
 
 // A reader at the start of a provider's file.

@@ -3,7 +3,7 @@
 ghost use Rattle.std.specs.Prelude.{◌≡◌, IfOk};
 ghost use Rattle.claim_gate_tests.specs.Words.{IsAtWork, IsCaller};
 
-use super::filing::{Calls, over_health_plan, read_all};
+use super::filing::{offer_at, plan_of, read_all, terms_of};
 use super::in_turn::over_a_ticket_lock;
 use super::shared::{accept_at, record, refuse_outcome, take_job};
 use super::worked::{is_at, is_closed, is_job, is_paid_40, one_claim};
@@ -15,6 +15,7 @@ use std::process::Abort;
 use std::sync::Wait;
 use std::test::Fail;
 use turn_lock::{Section, SpinLock, TicketLock};
+use worked_examples::health_plan;
 
 #[test]
 fn two_passes_over_a_ticket_lock_or_no_memory(rt: HostRuntime) {
@@ -121,17 +122,12 @@ fn by_a_ticket_lock(
 }
 
 // By both locks.
-struct OneClaim;
-
-impl<R: Abort + Wait> Calls<R> for OneClaim {
-    fn make(rt: &R, alloc: Global, terms: &Terms) -> Result<(), AllocError> {
-        by_a_spin_lock(rt, alloc, terms)?;
-        by_a_ticket_lock(rt, alloc, terms)
-    }
-}
-
-fn runs_of_one<R: Abort + Wait>(rt: &R, alloc: Global) -> Result<(), AllocError> {
-    over_health_plan::<R, OneClaim>(rt, alloc, &[one_claim()], None)
+fn runs_of_one(rt: &(impl Abort + Wait), alloc: Global) -> Result<(), AllocError> {
+    let plan = plan_of(alloc, health_plan().as_bytes())?;
+    let files = [one_claim()];
+    let terms = terms_of(alloc, &plan, &files, None)?;
+    by_a_spin_lock(rt, alloc, &terms)?;
+    by_a_ticket_lock(rt, alloc, &terms)
 }
 
 #[test]

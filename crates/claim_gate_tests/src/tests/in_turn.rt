@@ -3,7 +3,7 @@ ghost use Rattle.std.specs.Prelude.{◌≡◌, IfOk};
 ghost use Rattle.journal.specs.Gate.{LeadsTo};
 ghost use Rattle.claim_gate_tests.specs.Words.{AreCallers, IsAtWork, IsCaller};
 
-use super::filing::{Calls, is_offer, over_health_plan, read_all};
+use super::filing::{is_offer, plan_of, read_all, terms_of};
 use super::shared::{
     accept_at, find_nothing, find_stopped, record, refuse_at, refuse_end, refuse_outcome, take_job,
 };
@@ -17,7 +17,7 @@ use std::process::Abort;
 use std::sync::Wait;
 use std::test::Fail;
 use turn_lock::{Section, SpinLock, TicketLock};
-use worked_examples::{first_file, second_file};
+use worked_examples::{first_file, health_plan, second_file};
 
 // One pass has the first provider's first claim accepted; to the other it is refused.
 fn accept_first<G: Gate>(
@@ -249,16 +249,11 @@ fn by_a_spin_lock(
     calls_over(rt, alloc, terms, lock, pass)
 }
 
-struct SpinLocked;
-
-impl<R: Abort + Wait> Calls<R> for SpinLocked {
-    fn make(rt: &R, alloc: Global, terms: &Terms) -> Result<(), AllocError> {
-        by_a_spin_lock(rt, alloc, terms)
-    }
-}
-
-fn over_a_spin_lock<R: Abort + Wait>(rt: &R, alloc: Global) -> Result<(), AllocError> {
-    over_health_plan::<R, SpinLocked>(rt, alloc, &[first_file(), second_file()], None)
+fn over_a_spin_lock(rt: &(impl Abort + Wait), alloc: Global) -> Result<(), AllocError> {
+    let plan = plan_of(alloc, health_plan().as_bytes())?;
+    let files = [first_file(), second_file()];
+    let terms = terms_of(alloc, &plan, &files, None)?;
+    by_a_spin_lock(rt, alloc, &terms)
 }
 
 fn by_a_ticket_lock(
@@ -270,16 +265,11 @@ fn by_a_ticket_lock(
     calls_over(rt, alloc, terms, lock, pass)
 }
 
-struct TicketLocked;
-
-impl<R: Abort + Wait> Calls<R> for TicketLocked {
-    fn make(rt: &R, alloc: Global, terms: &Terms) -> Result<(), AllocError> {
-        by_a_ticket_lock(rt, alloc, terms)
-    }
-}
-
-pub fn over_a_ticket_lock<R: Abort + Wait>(rt: &R, alloc: Global) -> Result<(), AllocError> {
-    over_health_plan::<R, TicketLocked>(rt, alloc, &[first_file(), second_file()], None)
+pub fn over_a_ticket_lock(rt: &(impl Abort + Wait), alloc: Global) -> Result<(), AllocError> {
+    let plan = plan_of(alloc, health_plan().as_bytes())?;
+    let files = [first_file(), second_file()];
+    let terms = terms_of(alloc, &plan, &files, None)?;
+    by_a_ticket_lock(rt, alloc, &terms)
 }
 
 #[test]

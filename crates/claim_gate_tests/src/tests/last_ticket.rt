@@ -4,7 +4,7 @@ ghost use Rattle.std.specs.Prelude.{◌≡◌, IfOk, IfErr};
 ghost use Rattle.claim_gate_tests.specs.Words.{IsAtWork, IsCaller};
 
 use super::calls::settled;
-use super::filing::{Calls, is_offer, offer_at, over_health_plan, read_all};
+use super::filing::{is_offer, offer_at, plan_of, read_all, terms_of};
 use super::shared::{accept_at, take_job};
 use super::worked::{is_job, is_paid_40};
 use claim_gate::{Gate, GateState, Job, LockedGate, SerialGate, Terms};
@@ -13,7 +13,7 @@ use std::process::Abort;
 use std::sync::Wait;
 use std::test::Fail;
 use turn_lock::{Section, TicketLock};
-use worked_examples::{first_file, second_file};
+use worked_examples::{first_file, health_plan, second_file};
 
 // The calls of an intake.
 fn worn_intake<G: Gate>(
@@ -155,29 +155,19 @@ fn two_tickets(rt: &(impl Abort + Wait), alloc: Global, terms: &Terms) -> Result
     finish_over(rt, alloc, terms, lock, pass)
 }
 
-struct FewTickets;
-
-impl<R: Abort + Wait> Calls<R> for FewTickets {
-    fn make(rt: &R, alloc: Global, terms: &Terms) -> Result<(), AllocError> {
-        no_ticket(rt, alloc, terms)?;
-        one_ticket(rt, alloc, terms)
-    }
+fn by_few_tickets(rt: &(impl Abort + Wait), alloc: Global) -> Result<(), AllocError> {
+    let plan = plan_of(alloc, health_plan().as_bytes())?;
+    let files = [first_file(), second_file()];
+    let terms = terms_of(alloc, &plan, &files, None)?;
+    no_ticket(rt, alloc, &terms)?;
+    one_ticket(rt, alloc, &terms)
 }
 
-fn by_few_tickets<R: Abort + Wait>(rt: &R, alloc: Global) -> Result<(), AllocError> {
-    over_health_plan::<R, FewTickets>(rt, alloc, &[first_file(), second_file()], None)
-}
-
-struct TwoTickets;
-
-impl<R: Abort + Wait> Calls<R> for TwoTickets {
-    fn make(rt: &R, alloc: Global, terms: &Terms) -> Result<(), AllocError> {
-        two_tickets(rt, alloc, terms)
-    }
-}
-
-fn by_two_tickets<R: Abort + Wait>(rt: &R, alloc: Global) -> Result<(), AllocError> {
-    over_health_plan::<R, TwoTickets>(rt, alloc, &[first_file(), second_file()], None)
+fn by_two_tickets(rt: &(impl Abort + Wait), alloc: Global) -> Result<(), AllocError> {
+    let plan = plan_of(alloc, health_plan().as_bytes())?;
+    let files = [first_file(), second_file()];
+    let terms = terms_of(alloc, &plan, &files, None)?;
+    two_tickets(rt, alloc, &terms)
 }
 
 #[test]

@@ -3,7 +3,7 @@
 ghost use Rattle.std.specs.Prelude.{◌≡◌};
 ghost use Rattle.turn_lock.specs.TicketShown.{IsPassOf, pass_knows};
 
-use super::filing::{Calls, is_offer, over_health_plan};
+use super::filing::{is_offer, plan_of, terms_of};
 use super::shared::{accept_at, find_stopped, refuse_at};
 use claim_gate::{Gate, GateState, LockedGate, OfferFault, SerialGate, Terms};
 use std::alloc::{AllocError, Global};
@@ -11,7 +11,7 @@ use std::process::Abort;
 use std::sync::Wait;
 use std::test::Fail;
 use turn_lock::{Pass, TicketLock};
-use worked_examples::{first_file, second_file};
+use worked_examples::{first_file, health_plan, second_file};
 
 // The calls of the two passes.
 #[tactic(auto, using(crate::proofs::Meeting::met_terms))]
@@ -44,16 +44,11 @@ fn met_calls<V: SerialGate + Send + Drop>(
     Ok(())
 }
 
-struct Meeting;
-
-impl<R: Abort + Wait> Calls<R> for Meeting {
-    fn make(rt: &R, alloc: Global, terms: &Terms) -> Result<(), AllocError> {
-        meet_once(rt, alloc, terms)
-    }
-}
-
-fn met_passes<R: Abort + Wait>(rt: &R, alloc: Global) -> Result<(), AllocError> {
-    over_health_plan::<R, Meeting>(rt, alloc, &[first_file(), second_file()], None)
+fn met_passes(rt: &(impl Abort + Wait), alloc: Global) -> Result<(), AllocError> {
+    let plan = plan_of(alloc, health_plan().as_bytes())?;
+    let files = [first_file(), second_file()];
+    let terms = terms_of(alloc, &plan, &files, None)?;
+    meet_once(rt, alloc, &terms)
 }
 
 fn meet_once(rt: &(impl Abort + Wait), alloc: Global, terms: &Terms) -> Result<(), AllocError> {
@@ -82,16 +77,11 @@ fn meet_worn<V: SerialGate + Send + Drop>(
     assert!(rt; gate.counts(rt, other).is_err());
 }
 
-struct Worn;
-
-impl<R: Abort + Wait> Calls<R> for Worn {
-    fn make(rt: &R, alloc: Global, terms: &Terms) -> Result<(), AllocError> {
-        meet_without(rt, alloc, terms)
-    }
-}
-
-fn worn_passes<R: Abort + Wait>(rt: &R, alloc: Global) -> Result<(), AllocError> {
-    over_health_plan::<R, Worn>(rt, alloc, &[first_file()], None)
+fn worn_passes(rt: &(impl Abort + Wait), alloc: Global) -> Result<(), AllocError> {
+    let plan = plan_of(alloc, health_plan().as_bytes())?;
+    let files = [first_file()];
+    let terms = terms_of(alloc, &plan, &files, None)?;
+    meet_without(rt, alloc, &terms)
 }
 
 fn meet_without(rt: &(impl Abort + Wait), alloc: Global, terms: &Terms) -> Result<(), AllocError> {

@@ -4,7 +4,7 @@ ghost use Rattle.claim_terms.specs.Terms.{ForTerms};
 ghost use Rattle.claim_gate.specs.Replies.{IsFiled};
 ghost use Rattle.claim_gate_tests.specs.Words.{IsCaller};
 
-use super::filing::{Calls, offer_at, over_health_plan};
+use super::filing::{offer_at, plan_of, terms_of};
 use claim_gate::{Event, Gate, GateState, LockedGate, Offer, OfferFault, SerialGate, Terms};
 use std::alloc::{AllocError, Global};
 use std::process::Abort;
@@ -14,7 +14,7 @@ use std::test::Fail;
 use std::thread;
 use std::thread::Threads;
 use turn_lock::{Section, TicketLock};
-use worked_examples::{first_file, second_file};
+use worked_examples::{first_file, health_plan, second_file};
 
 /// What was accepted at each of the first four positions: the sum, over all callers that were told so, of the place and 1.
 #[derive(Drop)]
@@ -193,19 +193,14 @@ fn rivals<R: Threads + Wait + Abort + Sync>(
     Ok(())
 }
 
-struct TwoRivals;
-
-impl<R: Threads + Wait + Abort + Sync> Calls<R> for TwoRivals {
-    fn make(rt: &R, alloc: Global, terms: &Terms) -> Result<(), AllocError> {
-        rivals(rt, alloc, terms)
-    }
-}
-
 fn rivals_of_files<R: Threads + Wait + Abort + Sync>(
     rt: &R,
     alloc: Global,
 ) -> Result<(), AllocError> {
-    over_health_plan::<R, TwoRivals>(rt, alloc, &[first_file(), second_file()], None)
+    let plan = plan_of(alloc, health_plan().as_bytes())?;
+    let files = [first_file(), second_file()];
+    let terms = terms_of(alloc, &plan, &files, None)?;
+    rivals(rt, alloc, &terms)
 }
 
 #[test]

@@ -6,14 +6,14 @@ use super::calls::{
     accept_at, end, find_nothing, find_stopped, halt, record, refuse_at, refuse_end,
     refuse_outcome, take_job,
 };
-use super::filing::{Calls, is_offer, over_health_plan, read_all};
+use super::filing::{is_offer, plan_of, read_all, terms_of};
 use super::{again, counts, is_over};
 use claim_gate::{Batch, EndFault, Event, FinishFault, GateState, Job, Offer, OfferFault, Terms};
 use settlement::{Acc, Outcome, Verdict};
 use std::alloc::{AllocError, Global};
 use std::process::Abort;
 use std::test::Fail;
-use worked_examples::{first_file, header, second_file};
+use worked_examples::{first_file, header, health_plan, second_file};
 
 const ONE_CLAIM: &[u8] = b"claim,member,service,billed,code
 c1,M1,2024-01-05,120.00,A
@@ -198,16 +198,11 @@ fn turn_calls(rt: &impl Abort, alloc: Global, terms: &Terms) -> Result<(), Alloc
     Ok(())
 }
 
-struct Turns;
-
-impl<R: Abort> Calls<R> for Turns {
-    fn make(rt: &R, alloc: Global, terms: &Terms) -> Result<(), AllocError> {
-        turn_calls(rt, alloc, terms)
-    }
-}
-
-fn take_turns<R: Abort>(rt: &R, alloc: Global) -> Result<(), AllocError> {
-    over_health_plan::<R, Turns>(rt, alloc, &[first_file(), second_file()], None)
+fn take_turns(rt: &impl Abort, alloc: Global) -> Result<(), AllocError> {
+    let plan = plan_of(alloc, health_plan().as_bytes())?;
+    let files = [first_file(), second_file()];
+    let terms = terms_of(alloc, &plan, &files, None)?;
+    turn_calls(rt, alloc, &terms)
 }
 
 #[test]
@@ -244,16 +239,11 @@ fn decide_copy<'t>(
     Ok(())
 }
 
-struct Copy;
-
-impl<R: Abort> Calls<R> for Copy {
-    fn make(rt: &R, alloc: Global, terms: &Terms) -> Result<(), AllocError> {
-        copy_calls(rt, alloc, terms)
-    }
-}
-
-fn decide_twice<R: Abort>(rt: &R, alloc: Global) -> Result<(), AllocError> {
-    over_health_plan::<R, Copy>(rt, alloc, &[first_file(), second_file()], None)
+fn decide_twice(rt: &impl Abort, alloc: Global) -> Result<(), AllocError> {
+    let plan = plan_of(alloc, health_plan().as_bytes())?;
+    let files = [first_file(), second_file()];
+    let terms = terms_of(alloc, &plan, &files, None)?;
+    copy_calls(rt, alloc, &terms)
 }
 
 fn copy_calls(rt: &impl Abort, alloc: Global, terms: &Terms) -> Result<(), AllocError> {
@@ -325,16 +315,11 @@ fn stop_calls(rt: &impl Abort, alloc: Global, terms: &Terms) -> Result<(), Alloc
     Ok(())
 }
 
-struct StoppedGate;
-
-impl<R: Abort> Calls<R> for StoppedGate {
-    fn make(rt: &R, alloc: Global, terms: &Terms) -> Result<(), AllocError> {
-        stop_calls(rt, alloc, terms)
-    }
-}
-
-fn stop<R: Abort>(rt: &R, alloc: Global) -> Result<(), AllocError> {
-    over_health_plan::<R, StoppedGate>(rt, alloc, &[first_file(), second_file()], None)
+fn stop(rt: &impl Abort, alloc: Global) -> Result<(), AllocError> {
+    let plan = plan_of(alloc, health_plan().as_bytes())?;
+    let files = [first_file(), second_file()];
+    let terms = terms_of(alloc, &plan, &files, None)?;
+    stop_calls(rt, alloc, &terms)
 }
 
 #[test]
@@ -408,16 +393,11 @@ fn end_calls(rt: &impl Abort, alloc: Global, terms: &Terms) -> Result<(), AllocE
     Ok(())
 }
 
-struct OneClaim;
-
-impl<R: Abort> Calls<R> for OneClaim {
-    fn make(rt: &R, alloc: Global, terms: &Terms) -> Result<(), AllocError> {
-        end_calls(rt, alloc, terms)
-    }
-}
-
-fn finish_run<R: Abort>(rt: &R, alloc: Global) -> Result<(), AllocError> {
-    over_health_plan::<R, OneClaim>(rt, alloc, &[one_claim()], None)
+fn finish_run(rt: &impl Abort, alloc: Global) -> Result<(), AllocError> {
+    let plan = plan_of(alloc, health_plan().as_bytes())?;
+    let files = [one_claim()];
+    let terms = terms_of(alloc, &plan, &files, None)?;
+    end_calls(rt, alloc, &terms)
 }
 
 #[test]
@@ -441,16 +421,11 @@ fn end_again(rt: &impl Abort, alloc: Global, terms: &Terms) -> Result<(), AllocE
     Ok(())
 }
 
-struct EndTwice;
-
-impl<R: Abort> Calls<R> for EndTwice {
-    fn make(rt: &R, alloc: Global, terms: &Terms) -> Result<(), AllocError> {
-        end_again(rt, alloc, terms)
-    }
-}
-
-fn end_twice<R: Abort>(rt: &R, alloc: Global) -> Result<(), AllocError> {
-    over_health_plan::<R, EndTwice>(rt, alloc, &[one_claim(), header()], None)
+fn end_twice(rt: &impl Abort, alloc: Global) -> Result<(), AllocError> {
+    let plan = plan_of(alloc, health_plan().as_bytes())?;
+    let files = [one_claim(), header()];
+    let terms = terms_of(alloc, &plan, &files, None)?;
+    end_again(rt, alloc, &terms)
 }
 
 #[test]
@@ -470,16 +445,11 @@ fn closed_calls(rt: &impl Abort, alloc: Global, terms: &Terms) -> Result<(), All
     Ok(())
 }
 
-struct Closed;
-
-impl<R: Abort> Calls<R> for Closed {
-    fn make(rt: &R, alloc: Global, terms: &Terms) -> Result<(), AllocError> {
-        closed_calls(rt, alloc, terms)
-    }
-}
-
-fn admit_nothing<R: Abort>(rt: &R, alloc: Global) -> Result<(), AllocError> {
-    over_health_plan::<R, Closed>(rt, alloc, &[first_file()], Some(0))
+fn admit_nothing(rt: &impl Abort, alloc: Global) -> Result<(), AllocError> {
+    let plan = plan_of(alloc, health_plan().as_bytes())?;
+    let files = [first_file()];
+    let terms = terms_of(alloc, &plan, &files, Some(0))?;
+    closed_calls(rt, alloc, &terms)
 }
 
 #[test]

@@ -209,7 +209,9 @@ fn check_third_caller<R: Threads + Wait + Abort + Sync>(rt: &R, alloc: Global, t
 fn count_ends(journal: &[Event], wanted: usize) -> usize {
     let mut count = 0usize;
     for event in journal {
-        if matches!(event, Event::End { provider } if *provider == wanted) {
+        if let Event::End { provider } = event
+            && *provider == wanted
+        {
             count = count.saturating_add(1);
         }
     }

@@ -1,7 +1,8 @@
 //! The plans of the tests.
 
 /// No fields and no tables: the amounts of the roles are written in the plan.
-pub const FLAT: &str = r#"
+pub fn flat() -> &'static str {
+    r#"
 version = 1
 [roles]
 cover = "true"
@@ -10,10 +11,12 @@ deductible = "100"
 copay = "0"
 rate = "0"
 oop_max = "1000"
-"#;
+"#
+}
 
 /// The same, but accumulators are kept by the year.
-pub const FLAT_BY_YEAR: &str = r#"
+pub fn flat_by_year() -> &'static str {
+    r#"
 version = 2
 [roles]
 cover = "true"
@@ -22,10 +25,12 @@ deductible = "100"
 copay = "0"
 rate = "0"
 oop_max = "1000"
-"#;
+"#
+}
 
 /// The same, but the rate is a field of the claim.
-pub const RATE_OF_CLAIM: &str = r#"
+pub fn rate_of_claim() -> &'static str {
+    r#"
 version = 1
 fields = [{name = "part", kind = "number"}]
 [roles]
@@ -35,10 +40,12 @@ deductible = "100"
 copay = "0"
 rate = "part"
 oop_max = "1000"
-"#;
+"#
+}
 
 /// Each role names a field of the claim.
-pub const OPEN: &str = r#"
+pub fn open() -> &'static str {
+    r#"
 version = 1
 fields = [
   {name = "covered", kind = "flag"},
@@ -55,10 +62,12 @@ deductible = "first"
 copay = "each"
 rate = "part"
 oop_max = "limit"
-"#;
+"#
+}
 
 /// Two tables that a score can be wrong for.
-pub const FAULTY: &str = r#"
+pub fn faulty() -> &'static str {
+    r#"
 version = 1
 fields = [{name = "score", kind = "number"}]
 
@@ -80,10 +89,12 @@ rules = [{when = ['1'], then = ['99999999999.99']}, {when = ['-'], then = ['0.02
 inputs = [{name = "score"}]
 outputs = [{name = "level", kind = "text"}]
 rules = [{when = ['<=5'], then = ['"low"']}, {when = ['>=5'], then = ['"high"']}]
-"#;
+"#
+}
 
 /// The first table gives a tier, which the second reads; the third lists remarks on what the second gives.
-pub const CHAINED: &str = r#"
+pub fn chained() -> &'static str {
+    r#"
 version = 1
 fields = [{name = "code", kind = "text"}]
 
@@ -114,10 +125,12 @@ rules = [
   {when = ['<50', '-'], then = ['"CAPPED"']},
   {when = ['-', '>=50'], then = ['"MET"']},
 ]
-"#;
+"#
+}
 
 /// A table reads what each claim and each member has, and so do roles.
-pub const NAMED: &str = r#"
+pub fn named() -> &'static str {
+    r#"
 version = 1
 
 [roles]
@@ -140,10 +153,12 @@ inputs = [
 ]
 outputs = [{name = "covered", kind = "flag", default = "false"}]
 rules = [{when = ['"c1"', '"M1"', 'date("2024-01-05")', '12', '1', '2', '3'], then = ['true']}]
-"#;
+"#
+}
 
 /// For families: the member's limit and the family's limits are fields of the claim.
-pub const FAMILIES_OPEN: &str = r#"
+pub fn families_open() -> &'static str {
+    r#"
 version = 3
 fields = [
   {name = "limit", kind = "number"},
@@ -159,10 +174,12 @@ rate = "0"
 oop_max = "limit"
 family_deductible = "first"
 family_oop_max = "most"
-"#;
+"#
+}
 
 /// For families: a table reads what each claim, each member and each family has, and so do roles.
-pub const FAMILIES_NAMED: &str = r#"
+pub fn families_named() -> &'static str {
+    r#"
 version = 3
 
 [roles]
@@ -192,4 +209,5 @@ outputs = [{name = "covered", kind = "flag", default = "false"}]
 rules = [
   {when = ['"c1"', '"F1"', '"M1"', 'date("2024-01-05")', '12', '1', '2', '3', '4', '5'], then = ['true']},
 ]
-"#;
+"#
+}
