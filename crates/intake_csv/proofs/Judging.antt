@@ -32,7 +32,7 @@ stands fields c t h = h.field ∙ ap Some (sym h.holds.spells.plain.1)
 
 -- and so is the text of a day
 day-stands : (fields : Fields) (c : Column) (day : ℤ) → HoldsUnder fields c (Day day) → DayStandsAt fields c.place day
-day-stands fields c day h = record { bytes = h.bytes; field = h.field; text = h.holds.text; spells = (refl, h.holds.spells.plain.1) }
+day-stands fields c day h = record { bytes = h.bytes; field = h.field; text = h.holds.text.0; spells = (refl, h.holds.spells.plain.1) }
 
 no-family : (family : Option (List ℕ)) → is_some family ≡ false → family ≡ None
 no-family None e = refl

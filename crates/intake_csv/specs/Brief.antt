@@ -1,8 +1,7 @@
 -- What a report needs of a row: whose claim it is, by the places of the record's fields, or the fault.
-use Rattle.std.specs.Prelude.{◌≡◌, ℕ, ℤ, List, Option, Some, None}
+use Rattle.std.specs.Prelude.{◌≡◌, ℕ, ℤ, IsUtf8, List, Option, Some, None}
 use Rattle.csv.specs.Records.{field_at}
 use Rattle.feel_tests.specs.Plain.{SpellsPlain}
-use Rattle.feel_tests.specs.TextBytes.{IsText}
 use Rattle.feel_tests.specs.declared.kind.Kind.TheVariants as kinds
 use Rattle.feel_tests.specs.declared.value.Value.TheVariants.{Day}
 use Rattle.settlement.specs.declared.claim.Claim.{Claim}
@@ -28,7 +27,7 @@ MayStandAt fields _ _ = ⊥
 pub record DayStandsAt (fields : Fields) (place : ℕ) (day : ℤ) : Type 0 where
   pub bytes : List ℕ
   pub field : field_at fields place ≡ Some bytes
-  pub text : IsText bytes
+  pub text : IsUtf8 bytes
   pub spells : SpellsPlain kinds.Day bytes (Day day)
 
 -- these are the places of the fields that tell whose the claim is, and of the day of its service

@@ -118,7 +118,8 @@ impl Line {
 
     /// The day that the field at a place spells, if it spells one.
     pub fn day(&self, alloc: Global, place: usize) -> Result<Option<Day>, AllocError>
-        ensures { IfOk result (λ day. (held : ℤ) → DayStandsAt self.now place held → day ≡ Some held) }
+        ensures day { IfOk result (λ day. IfSome day (DayStandsAt self.now place)) }
+        ensures lacking { IfOk result (λ day. (held : ℤ) → DayStandsAt self.now place held → day ≡ Some held) }
     {
         // Known from here: a field spells one value at most.
         feel_tests::field_spells_at_most_one_value();
@@ -146,7 +147,8 @@ impl Line {
 
 // The day that a value is, if it is one.
 fn day_of(value: Value) -> Option<Day>
-    ensures { (held : ℤ) → value ≡ values.Day held → result ≡ Some held }
+    ensures day { IfSome result (λ day. value ≡ values.Day day) }
+    ensures lacking { (held : ℤ) → value ≡ values.Day held → result ≡ Some held }
 {
     let Value::Day(day) = value else {
         return None;

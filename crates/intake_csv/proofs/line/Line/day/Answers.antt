@@ -2,8 +2,8 @@ use Rattle.std.proofs.Common.{◌≡◌, refl, sym, ◌∙◌}
 use Rattle.feel_tests.specs.declared.value.Value.TheVariants.{Day}
 use Rattle.intake_csv.proofs.line.Line.day.Goals as goal
 
-pub returns-in-Err-Bad : goal.returns-in-Err-Bad
-returns-in-Err-Bad c = λ held stands.
+pub returns-in-Err-Bad-clause-lacking : goal.returns-in-Err-Bad-clause-lacking
+returns-in-Err-Bad-clause-lacking c = λ held stands.
     let at = rw (c.in-Some-Ok.is, c.in-Some-Ok.field-0-is) at c.text.ensures.text in
     let same : stands.bytes ≡ c.in-Some-Ok.text.now = cc (sym stands.field ∙ at) in
     let bad = rw c.in-Err-Bad.field-0-is at c.in-Err-Bad.ensures.refused in
