@@ -4,7 +4,7 @@ use Rattle.remit.proofs.record.year_at.Goals as goal
 
 pub returns-in-Some : goal.returns-in-Some
 returns-in-Some c = λ day stands.
-    let at = rw c.in-Some.is at c.in_ok-day.ensures day stands in
+    let at = rw c.in-Some.is at c.in_ok-day.ensures.lacking day stands in
     let same : c.in-Some.day ≡ day = cc at in
     let told : c.epoch_day.result ≡ day = c.epoch_day.ensures.value ∙ same in
     let year : c.day_year.result ≡ year_of day = subst (λ (d : ℤ). c.day_year.result ≡ year_of d) told (search rules) in
@@ -12,5 +12,5 @@ returns-in-Some c = λ day stands.
 
 pub returns-in-None : goal.returns-in-None
 returns-in-None c = λ day stands.
-    let at = rw c.in-None.is at c.in_ok-day.ensures day stands in
+    let at = rw c.in-None.is at c.in_ok-day.ensures.lacking day stands in
     absurd (cc at)
