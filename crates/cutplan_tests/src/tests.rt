@@ -198,7 +198,12 @@ fn has_one_column(plan: &Plan) -> bool
     plan.tables().len() == 1 && plan.tables()[0].inputs.len() == 1
 }
 
-fn have_masks(rt: &impl Abort, alloc: Global, plan: &Plan, words: &[u64]) -> Result<(), AllocError> {
+fn have_masks(
+    rt: &impl Abort,
+    alloc: Global,
+    plan: &Plan,
+    words: &[u64],
+) -> Result<(), AllocError> {
     assert!(rt; has_one_column(plan));
     let cut = compile(alloc, plan)?;
     assert!(rt; have_first_words(cut.masks(1, 1), words));
