@@ -1,11 +1,10 @@
 -- Between two of its own literals that stand side by side a cell holds of all values or of none.
-use Rattle.std.proofs.Common.{◌≡◌, ℕ, zero, suc, ◌-◌, ◌≤◌, ◌<◌, ◌&&◌, ◌||◌, ◌==◌, ℤ, ◌<ℤ◌, inl, inr, Bool, true, false, List, [], ◌∷◌, length, filter, map, Option, Some, None, refl, ap, sym, ◌∙◌, subst, arith}
-use Rattle.std.specs.Prelude.{nat_le, nat_lt}
+use Rattle.std.proofs.Common.{◌≡◌, ℕ, zero, suc, ◌-◌, ◌≤◌, ◌<◌, ◌&&◌, ◌||◌, ◌==◌, ℤ, inl, inr, Bool, true, false, List, [], ◌∷◌, length, filter, Option, Some, None, refl, ap, sym, ◌∙◌, subst, arith}
+use Rattle.std.specs.Prelude.{nat_le}
 use Rattle.std.specs.List.{slice_get}
 use Rattle.std.specs.Option.{option_map_or}
 use Rattle.std.proofs.lemmas.Bool.{both_ways, and_parts, ne_eqb, leb-true, cases_lt}
 use Rattle.std.proofs.lemmas.Option.{none-some, same_Some}
-use Rattle.feel_tests.specs.Holds.{holds}
 use Rattle.feel_tests.specs.declared.cell.Cell.{Cell}
 use Rattle.feel_tests.specs.declared.kind.Kind.{Kind}
 use Rattle.feel_tests.specs.declared.kind.Kind.TheVariants as kinds
@@ -14,7 +13,7 @@ use Rattle.feel_tests.specs.declared.value.Value.TheVariants.{Number, Text, Flag
 use Rattle.dtable.specs.declared.table.Rule.{Rule}
 use Rattle.dtable.specs.Plan.{has_kind}
 use Rattle.cutplan.specs.Values.{is_before, rising}
-use Rattle.cutplan.specs.Regions.{literals, rule_literals}
+use Rattle.cutplan.specs.Regions.{literals}
 use Rattle.cutplan.specs.Parts.{has_order, fits_at, stands_at, own_cuts, cell_holds, IsAsked}
 use Rattle.cutplan.proofs.Integers.{beside_above, beside_below, lt_from}
 use Rattle.cutplan.proofs.Alike.{Among, Apart, Alike, each_from, alike_apart, alike_number, alike_day, holds_alike}

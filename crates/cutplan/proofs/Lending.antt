@@ -1,5 +1,5 @@
 -- Answers that are kept are those that a table gives, whatever its number.
-use Rattle.std.proofs.Common.{◌≡◌, ℕ, zero, suc, ◌+◌, ◌<◌, Bool, true, false, if◌then◌else◌, List, [], ◌∷◌, length, map, Option, Some, None, get_or, slice_get, Result, Ok, Err, refl, ap, sym, ◌∙◌, arith}
+use Rattle.std.proofs.Common.{◌≡◌, ℕ, zero, suc, ◌+◌, Bool, true, false, List, [], ◌∷◌, length, map, Option, Some, None, get_or, slice_get, Ok, Err, refl, ap, sym, ◌∙◌, arith}
 use Rattle.std.specs.Prelude.{ℤ, ◌==◌, nat_le, nat_lt, ◌+ℤ◌, is_some}
 use Rattle.std.specs.List.{list_all, range_with_len, reduce}
 use Rattle.std.specs.Int.{int_min, int_max}
@@ -8,11 +8,10 @@ use Rattle.std.proofs.lemmas.Bool.{eqb-true}
 use Rattle.std.proofs.lemmas.Option.{none-some, same_Some}
 use Rattle.fixpoint.specs.Number.{greatest_units}
 use Rattle.dtable.specs.declared.environment.Answer.{Answer}
-use Rattle.dtable.specs.declared.fault.Fault.{Fault}
 use Rattle.dtable.specs.declared.hit.Hit.{Hit}
 use Rattle.dtable.specs.declared.hit.Hit.TheVariants as hits
 use Rattle.dtable.specs.declared.table.Table.{Table}
-use Rattle.dtable.specs.HitPolicy.{TableValue, unmatched, unique, any, agree, of_rule, first, aggregated, number_answer, numbers_of, counted, count_units, by_hit}
+use Rattle.dtable.specs.HitPolicy.{TableValue, unmatched, unique, any, agree, of_rule, aggregated, number_answer, numbers_of, counted, count_units, by_hit}
 use Rattle.dtable.specs.Priority.{highest}
 use Rattle.cutplan.specs.declared.lent.KeptAnswers.{KeptAnswers}
 use Rattle.cutplan.specs.Lent.{answers_in, answered, kept_answers}

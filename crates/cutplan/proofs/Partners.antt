@@ -1,13 +1,11 @@
 -- The rules that share a region of each column, by masks.
-use Rattle.std.proofs.Common.{◌≡◌, ℕ, zero, suc, ◌+◌, ◌-◌, ◌/◌, ◌%◌, ◌<◌, ◌≤◌, ◌&&◌, ◌||◌, Bool, true, false, cond, List, [], ◌∷◌, ◌++◌, length, get_or, take, map, filter, Option, Some, None, refl, ap, sym, ◌∙◌, subst, add-one, arith}
+use Rattle.std.proofs.Common.{◌≡◌, ℕ, zero, suc, ◌+◌, ◌-◌, ◌/◌, ◌%◌, ◌<◌, ◌≤◌, ◌&&◌, ◌||◌, Bool, true, false, cond, List, [], ◌∷◌, ◌++◌, length, get_or, map, filter, Some, refl, ap, sym, ◌∙◌, subst, arith}
 use Rattle.std.specs.Prelude.{bit_or, max, nat_lt, ◌==◌}
 use Rattle.std.specs.Int.{bit_at}
-use Rattle.std.specs.List.{AllZip, flat_map, list_any, list_all, range_with_len, enumerate_from, slice_get}
+use Rattle.std.specs.List.{AllZip, flat_map, list_all, range_with_len, enumerate_from, slice_get}
 use Rattle.std.specs.Option.{option_map_or}
-use Rattle.std.proofs.lemmas.Bool.{and_parts, lt-ltb, eq-eqb}
-use Rattle.std.proofs.lemmas.List.{take_more}
+use Rattle.std.proofs.lemmas.Bool.{lt-ltb, eq-eqb}
 use Rattle.std.proofs.lemmas.List.Elements.{filter-append}
-use Rattle.std.proofs.lemmas.List.Folds.{list_any-append, list_all-append}
 use Rattle.std.proofs.lemmas.Option.{same_Some}
 use Rattle.std.proofs.lemmas.Nat.Bits.{bit_at_or, bit_at-lt}
 use Rattle.dtable.specs.declared.table.Table.{Table}
@@ -16,7 +14,7 @@ use Rattle.cutplan.specs.declared.region.Region.{Region}
 use Rattle.cutplan.specs.Check.{holds_at, meet, meet_in, pairs, pairs_with}
 use Rattle.cutplan.specs.Regions.{table_regions}
 use Rattle.cutplan.specs.Masks.{has_rule, Marks, AreMasks, AreTableMasks, AreKept}
-use Rattle.cutplan.specs.Parts.{is_whole, are_whole, share, share_all}
+use Rattle.cutplan.specs.Parts.{are_whole, share, share_all}
 use Rattle.cutplan.proofs.MaskBits.{four}
 use Rattle.cutplan.proofs.ByMasks.{got_at}
 use Rattle.cutplan.proofs.Keeping.{at_place, table_kept, HasFewRules}

@@ -1,5 +1,5 @@
 use Rattle.std.proofs.Common.{rules}
-use Rattle.cutplan.specs.Found.{IsFew, places_set}
+use Rattle.cutplan.specs.Found.{places_set}
 use Rattle.cutplan.proofs.FewRules.{few_behind_none, few_stay}
 use Rattle.cutplan.proofs.few.with_word.Goals as goal
 

@@ -1,4 +1,4 @@
-use Rattle.std.proofs.Common.{◌≡◌, cond, eqb, ◌+◌, ◌<◌, ◌++◌, ◌∷◌, [], IfOk, filter, map, take, length, ap, get_or, sym, subst, ◌∙◌, arith, rules}
+use Rattle.std.proofs.Common.{◌≡◌, cond, eqb, ◌+◌, ◌++◌, ◌∷◌, [], IfOk, filter, map, take, length, ap, get_or, sym, subst, ◌∙◌, arith, rules}
 use Rattle.std.specs.List.{flat_map}
 use Rattle.cutplan.specs.Check.{cells}
 use Rattle.cutplan.specs.Masks.{rules_in, AreMasks}

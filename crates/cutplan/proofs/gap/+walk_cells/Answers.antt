@@ -1,4 +1,4 @@
-use Rattle.std.proofs.Common.{◌≡◌, cond, eqb, subst, ◌+◌, ◌<◌, ◌≤◌, ◌++◌, ◌∷◌, [], length, take, ap, ap₂, get_or, sym, ◌∙◌, append-nil, append_assoc, arith, rules}
+use Rattle.std.proofs.Common.{◌≡◌, cond, eqb, subst, ◌+◌, ◌<◌, ◌++◌, ◌∷◌, [], length, take, ap, ap₂, get_or, sym, ◌∙◌, append-nil, append_assoc, arith, rules}
 use Rattle.std.specs.List.{flat_map}
 use Rattle.std.proofs.lemmas.List.{take_all}
 use Rattle.std.proofs.lemmas.Result.{on_ok_weaker}

@@ -1,8 +1,7 @@
-use Rattle.std.proofs.Common.{◌≡◌, ap, filter, arith, length, not, subst, sym, ◌∙◌}
+use Rattle.std.proofs.Common.{◌≡◌, ap, filter, arith, length, subst, ◌∙◌}
 use Rattle.std.specs.Prelude.{nat_lt}
 use Rattle.std.specs.Result.{IfOk}
-use Rattle.std.specs.List.{list_any}
-use Rattle.cutplan.specs.Check.{cells, covers}
+use Rattle.cutplan.specs.Check.{cells}
 use Rattle.cutplan.specs.Masks.{Marks}
 use Rattle.cutplan.specs.Parts.{uncovered}
 use Rattle.cutplan.proofs.Covering.{gaps_are}

@@ -1,4 +1,4 @@
-use Rattle.std.proofs.Common.{◌∙◌, ap, subst}
+use Rattle.std.proofs.Common.{◌∙◌, subst}
 use Rattle.cutplan.specs.Masks.{Marks}
 use Rattle.cutplan.specs.Parts.{holds_among}
 use Rattle.cutplan.proofs.Keeping.{more_regions}

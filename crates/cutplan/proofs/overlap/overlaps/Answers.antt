@@ -1,4 +1,4 @@
-use Rattle.std.proofs.Common.{◌+◌, ◌-◌, ◌++◌, ℕ, filter, ap, ◌∙◌, arith}
+use Rattle.std.proofs.Common.{◌+◌, ◌-◌, ◌++◌, ℕ, filter, ap, ◌∙◌}
 use Rattle.cutplan.specs.Check.{pairs_with}
 use Rattle.cutplan.specs.Masks.{has_rule}
 use Rattle.cutplan.proofs.Partners.{pairs_kept}

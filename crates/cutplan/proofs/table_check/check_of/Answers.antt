@@ -1,4 +1,4 @@
-use Rattle.std.proofs.Common.{◌≡◌, ◌-◌, IsTrue, List, ℕ, filter, ap, sym, ◌∙◌, subst}
+use Rattle.std.proofs.Common.{◌≡◌, ◌-◌, IsTrue, ℕ, filter, ap, sym, ◌∙◌, subst}
 use Rattle.std.specs.List.{list_all, enumerate_from}
 use Rattle.cutplan.specs.Check.{pairs}
 use Rattle.cutplan.specs.Masks.{AreTableMasks}

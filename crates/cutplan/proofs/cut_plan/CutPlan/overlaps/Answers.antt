@@ -4,7 +4,6 @@ use Rattle.std.specs.List.{list_all, enumerate_from}
 use Rattle.std.specs.Option.{option_map_or}
 use Rattle.dtable.specs.Plan.{IsPlan}
 use Rattle.cutplan.specs.Check.{overlaps, pairs}
-use Rattle.cutplan.specs.Numbered.{overlaps_of}
 use Rattle.cutplan.specs.Parts.{are_whole, share_all}
 use Rattle.cutplan.specs.Regions.{table_regions}
 use Rattle.cutplan.specs.Masks.{AreKept}
