@@ -1,9 +1,12 @@
 //! Reports by worked examples: the journals and the reports are written by hand.
+ghost use Rattle.std.specs.Prelude.{◌≡◌};
+ghost use Rattle.std.specs.Option.{IfSome};
+
 use crate::report::write_journal;
 use crate::{WriteCause, WriteFault, write_report};
 use claim_gate::{Batch, GateState};
 use claim_terms::Terms;
-use dtable::{Sequence, read_plan};
+use dtable::{Plan, Sequence, read_plan};
 use feel_tests::{TEXT_LIMIT_BYTES, Text};
 use fixpoint::{Fixed, Out};
 use journal::{Decision, Event};
@@ -188,7 +191,18 @@ fn write_over<W: Write>(
     out: &mut Out<W>,
 ) -> Option<Result<(), WriteFault>> {
     let plan = read_plan(alloc, health_plan().as_bytes()).ok()?;
-    let terms = Terms::new(alloc, &plan, files, None, cutoff).ok()?;
+    write_under(alloc, &plan, files, cutoff, journal, out)
+}
+
+fn write_under<W: Write>(
+    alloc: Global,
+    plan: &Plan,
+    files: &[&[u8]],
+    cutoff: Option<u64>,
+    journal: &[Event],
+    out: &mut Out<W>,
+) -> Option<Result<(), WriteFault>> {
+    let terms = Terms::new(alloc, plan, files, None, cutoff).ok()?;
     Some(write_journal(alloc, &terms, journal, out))
 }
 
@@ -323,10 +337,34 @@ fn write_late<W: Write>(
     out: &mut Out<W>,
 ) -> Option<Result<(), WriteFault>> {
     let plan = read_plan(alloc, health_plan().as_bytes()).ok()?;
-    let terms = Terms::new(alloc, &plan, files, None, Some(0)).ok()?;
-    let gate = GateState::new(alloc, &terms).ok()?;
-    let batch = Batch::from_state(gate, &terms).ok()?;
-    Some(write_report(alloc, &terms, &batch, out))
+    write_late_under(alloc, &plan, files, out)
+}
+
+fn write_late_under<W: Write>(
+    alloc: Global,
+    plan: &Plan,
+    files: &[&[u8]],
+    out: &mut Out<W>,
+) -> Option<Result<(), WriteFault>> {
+    let terms = Terms::new(alloc, plan, files, None, Some(0)).ok()?;
+    write_late_over(alloc, &terms, out)
+}
+
+fn write_late_over<W: Write>(
+    alloc: Global,
+    terms: &Terms,
+    out: &mut Out<W>,
+) -> Option<Result<(), WriteFault>> {
+    let batch = late_batch(alloc, terms)?;
+    Some(write_report(alloc, terms, &batch, out))
+}
+
+// The journal of a run that admits no claim.
+fn late_batch<'t>(alloc: Global, terms: &'t Terms) -> Option<Batch<'t>>
+    ensures { IfSome result (λ batch. batch.terms ≡ terms.now) }
+{
+    let gate = GateState::new(alloc, terms).ok()?;
+    Batch::from_state(gate, terms).ok()
 }
 
 // A run that admits no claim of these files has this report.

@@ -1,11 +1,11 @@
 //! Reports whose records become text by threads: the same bytes as one thread's, and the same answers.
-use super::{ACCEPTS, Bounded, DECISIONS, is_cut_at, journal_of, whole_or_front};
+use super::{ACCEPTS, Bounded, DECISIONS, is_cut_at, journal_of, late_batch, whole_or_front};
 use crate::held_text::HeldText;
 use crate::report::write_journal_by_threads;
 use crate::{WriteFault, write_report_by_threads};
 use claim_gate::{Batch, GateState};
 use claim_terms::Terms;
-use dtable::read_plan;
+use dtable::{Plan, read_plan};
 use fixpoint::Out;
 use journal::Event;
 use std::alloc::Global;
@@ -22,7 +22,17 @@ fn write_by_threads<R: Threads + Sync, W: Write>(
     out: &mut Out<W>,
 ) -> Option<Result<(), WriteFault>> {
     let plan = read_plan(alloc, health_plan().as_bytes()).ok()?;
-    let terms = Terms::new(alloc, &plan, both_files(), None, None).ok()?;
+    write_under(rt, alloc, &plan, journal, out)
+}
+
+fn write_under<R: Threads + Sync, W: Write>(
+    rt: &R,
+    alloc: Global,
+    plan: &Plan,
+    journal: &[Event],
+    out: &mut Out<W>,
+) -> Option<Result<(), WriteFault>> {
+    let terms = Terms::new(alloc, plan, both_files(), None, None).ok()?;
     Some(write_journal_by_threads(rt, alloc, &terms, journal, out))
 }
 
@@ -33,10 +43,27 @@ fn write_late_by_threads<R: Threads + Sync, W: Write>(
     out: &mut Out<W>,
 ) -> Option<Result<(), WriteFault>> {
     let plan = read_plan(alloc, health_plan().as_bytes()).ok()?;
-    let terms = Terms::new(alloc, &plan, both_files(), None, Some(0)).ok()?;
-    let gate = GateState::new(alloc, &terms).ok()?;
-    let batch = Batch::from_state(gate, &terms).ok()?;
-    Some(write_report_by_threads(rt, alloc, &terms, &batch, out))
+    write_late_under(rt, alloc, &plan, out)
+}
+
+fn write_late_under<R: Threads + Sync, W: Write>(
+    rt: &R,
+    alloc: Global,
+    plan: &Plan,
+    out: &mut Out<W>,
+) -> Option<Result<(), WriteFault>> {
+    let terms = Terms::new(alloc, plan, both_files(), None, Some(0)).ok()?;
+    write_late_over(rt, alloc, &terms, out)
+}
+
+fn write_late_over<R: Threads + Sync, W: Write>(
+    rt: &R,
+    alloc: Global,
+    terms: &Terms,
+    out: &mut Out<W>,
+) -> Option<Result<(), WriteFault>> {
+    let batch = late_batch(alloc, terms)?;
+    Some(write_report_by_threads(rt, alloc, terms, &batch, out))
 }
 
 #[test]
