@@ -198,6 +198,13 @@ fn has_one_column(plan: &Plan) -> bool
     plan.tables().len() == 1 && plan.tables()[0].inputs.len() == 1
 }
 
+fn has_two_rules(plan: &Plan) -> bool {
+    match plan.tables() {
+        [table] => table.rules.len() == 2,
+        _ => false,
+    }
+}
+
 fn have_masks(
     rt: &impl Abort,
     alloc: Global,
@@ -213,6 +220,7 @@ fn have_masks(
 #[test]
 fn masks_of_two_stretches(rt: HostRuntime) -> Result<(), Fail> {
     let plan = read(&rt, rt.alloc(), apart())?;
+    assert!(rt; has_two_rules(&plan));
     assert!(rt; have_masks(&rt, rt.alloc(), &plan, &[1, 0, 2, 2, 2, 0]).is_ok());
     Ok(())
 }
