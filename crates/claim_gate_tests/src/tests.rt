@@ -16,15 +16,12 @@ mod worked;
 use claim_gate::{
     Batch, Counts, EndFault, Event, FinishFault, GateState, OfferFault, TakeFault, Taken, Terms,
 };
-use dtable::{Plan, read_plan};
-use std::alloc::Global;
+use dtable::Plan;
+use filing::{plan_of, terms_of};
+use std::alloc::{AllocError, Global};
 use std::process::Abort;
 use std::test::Fail;
 use worked_examples::{first_file, health_plan, second_file};
-
-fn plan(rt: &impl Abort, alloc: Global) -> Plan {
-    read_plan(alloc, health_plan().as_bytes()).expect(rt, "a plan")
-}
 
 // Whether the answer of `take` is that nothing is left to do.
 fn is_over(reply: &Result<Taken, TakeFault>) -> bool {
@@ -50,43 +47,49 @@ fn counts(accepted: usize, ended: usize, decided: usize, closed: bool) -> Counts
     }
 }
 
-#[test]
-fn nothing_is_offered_yet(rt: HostRuntime) -> Result<(), Fail> {
-    let plan = plan(&rt, rt.alloc());
-    let files = [first_file(), second_file()];
-    let terms = Terms::new(rt.alloc(), &plan, &files, None, None).expect(&rt, "terms");
-    let mut gate = GateState::new(rt.alloc(), &terms)?;
+// A gate to which nothing was offered.
+fn begin_calls(rt: &impl Abort, alloc: Global, terms: &Terms) -> Result<(), AllocError> {
+    let mut gate = GateState::new(alloc, terms)?;
     assert!(rt; gate.journal().is_empty());
     assert!(rt; gate.counts() == counts(0, 0, 0, false));
     assert!(rt; is_nothing_ready(&gate.take()));
-    let back = Batch::from_state(gate, &terms);
-    assert!(rt; back.is_err());
+    assert!(rt; Batch::from_state(gate, terms).is_err());
     Ok(())
 }
 
-#[test]
-fn no_claim_is_admitted(rt: HostRuntime) -> Result<(), Fail> {
-    let plan = plan(&rt, rt.alloc());
+fn begin_under(rt: &impl Abort, alloc: Global, plan: &Plan) -> Result<(), AllocError> {
     let files = [first_file(), second_file()];
-    let terms = Terms::new(rt.alloc(), &plan, &files, None, Some(0)).expect(&rt, "terms");
-    let mut gate = GateState::new(rt.alloc(), &terms)?;
-    assert!(rt; matches!(gate.journal(), [Event::Close]));
+    let terms = terms_of(alloc, plan, &files, None)?;
+    begin_calls(rt, alloc, &terms)
+}
+
+#[test]
+fn nothing_is_offered_yet(rt: HostRuntime) -> Result<(), Fail> {
+    let plan = plan_of(rt.alloc(), health_plan().as_bytes())?;
+    begin_under(&rt, rt.alloc(), &plan)?;
+    Ok(())
+}
+
+fn is_close(journal: &[Event]) -> bool {
+    matches!(journal, [Event::Close])
+}
+
+// A gate that admits no claim is over at once.
+fn admit_none(rt: &impl Abort, alloc: Global, terms: &Terms) -> Result<(), AllocError> {
+    let mut gate = GateState::new(alloc, terms)?;
+    assert!(rt; is_close(gate.journal()));
     assert!(rt; gate.counts() == counts(0, 0, 0, true));
     assert!(rt; is_over(&gate.take()));
-    let batch = match Batch::from_state(gate, &terms) {
-        Ok(batch) => batch,
-        Err(_) => return Err("a finished journal".into()),
-    };
-    assert!(rt; matches!(batch.journal(), [Event::Close]));
+    match Batch::from_state(gate, terms) {
+        Ok(batch) => assert!(rt; is_close(batch.journal())),
+        Err(_) => panic!(rt; "a finished journal"),
+    }
     Ok(())
 }
 
-#[test]
-fn a_stopped_gate_hands_nothing_out(rt: HostRuntime) -> Result<(), Fail> {
-    let plan = plan(&rt, rt.alloc());
-    let files = [first_file(), second_file()];
-    let terms = Terms::new(rt.alloc(), &plan, &files, None, Some(0)).expect(&rt, "terms");
-    let mut gate = GateState::new(rt.alloc(), &terms)?;
+// The same, stopped.
+fn stop_none(rt: &impl Abort, alloc: Global, terms: &Terms) -> Result<(), AllocError> {
+    let mut gate = GateState::new(alloc, terms)?;
     gate.stop();
     assert!(rt; gate.counts().stopped && gate.counts().closed);
     assert!(rt; is_stopped(&gate.take()));
@@ -94,20 +97,51 @@ fn a_stopped_gate_hands_nothing_out(rt: HostRuntime) -> Result<(), Fail> {
     Ok(())
 }
 
-#[test]
-fn a_gate_is_made_or_no_memory(rt: HostRuntime) -> Result<(), Fail> {
-    let Ok(plan) = read_plan(rt.alloc(), health_plan().as_bytes()) else {
-        return Ok(());
-    };
-    let files = [first_file(), second_file()];
-    let Ok(terms) = Terms::new(rt.alloc(), &plan, &files, None, Some(0)) else {
-        return Ok(());
-    };
-    if let Ok(mut gate) = GateState::new(rt.alloc(), &terms) {
-        assert!(rt; gate.journal().len() == 1);
-        assert!(rt; is_over(&gate.take()));
+// Either of the two.
+fn none_calls(
+    rt: &impl Abort,
+    alloc: Global,
+    terms: &Terms,
+    stopped: bool,
+) -> Result<(), AllocError> {
+    if stopped {
+        stop_none(rt, alloc, terms)
+    } else {
+        admit_none(rt, alloc, terms)
     }
+}
+
+fn none_under(
+    rt: &impl Abort,
+    alloc: Global,
+    plan: &Plan,
+    stopped: bool,
+) -> Result<(), AllocError> {
+    let files = [first_file(), second_file()];
+    let terms = terms_of(alloc, plan, &files, Some(0))?;
+    none_calls(rt, alloc, &terms, stopped)
+}
+
+fn no_claims(rt: &impl Abort, alloc: Global, stopped: bool) -> Result<(), AllocError> {
+    let plan = plan_of(alloc, health_plan().as_bytes())?;
+    none_under(rt, alloc, &plan, stopped)
+}
+
+#[test]
+fn no_claim_is_admitted(rt: HostRuntime) -> Result<(), Fail> {
+    no_claims(&rt, rt.alloc(), false)?;
     Ok(())
+}
+
+#[test]
+fn a_stopped_gate_hands_nothing_out(rt: HostRuntime) -> Result<(), Fail> {
+    no_claims(&rt, rt.alloc(), true)?;
+    Ok(())
+}
+
+#[test]
+fn a_gate_is_made_or_no_memory(rt: HostRuntime) {
+    let _wanting = no_claims(&rt, rt.alloc(), false);
 }
 
 #[test]

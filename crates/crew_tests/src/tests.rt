@@ -236,9 +236,29 @@ fn runs_over<R: Threads + Wait + Abort + Sync>(
     wanted: &str,
 ) {
     let plan = plan(rt, alloc);
-    let terms = Terms::new(alloc, &plan, files, balances, None).expect(rt, "terms");
+    runs_under(rt, alloc, &plan, files, balances, wanted);
+}
+
+fn runs_under<R: Threads + Wait + Abort + Sync>(
+    rt: &R,
+    alloc: Global,
+    plan: &Plan,
+    files: &[&[u8]],
+    balances: Option<&[u8]>,
+    wanted: &str,
+) {
+    let terms = Terms::new(alloc, plan, files, balances, None).expect(rt, "terms");
+    runs_by_several(rt, alloc, &terms, wanted);
+}
+
+fn runs_by_several<R: Threads + Wait + Abort + Sync>(
+    rt: &R,
+    alloc: Global,
+    terms: &Terms,
+    wanted: &str,
+) {
     for workers in [1, 2, 4, WORKERS_LIMIT] {
-        runs_by(rt, alloc, &terms, workers, wanted);
+        runs_by(rt, alloc, terms, workers, wanted);
     }
 }
 
@@ -258,15 +278,29 @@ fn is_empty_run<R: Threads + Wait + Abort + Sync>(rt: &R, alloc: Global, terms: 
     matches!(batch.journal(), [Event::End { provider: 1 }, Event::Close])
 }
 
+fn is_empty_under<R: Threads + Wait + Abort + Sync>(rt: &R, alloc: Global, plan: &Plan) -> bool {
+    let files = [header()];
+    let terms = terms(rt, alloc, plan, &files);
+    is_empty_run(rt, alloc, &terms)
+}
+
 #[test]
 fn a_run_over_a_header_alone(rt: HostRuntime) {
     let plan = plan(&rt, rt.alloc());
-    let files = [header()];
-    let terms = terms(&rt, rt.alloc(), &plan, &files);
-    assert!(rt; is_empty_run(&rt, rt.alloc(), &terms));
+    assert!(rt; is_empty_under(&rt, rt.alloc(), &plan));
 }
 
-// The events of a run by two workers up to a cutoff.
+// The events of a run by two workers.
+fn events_of<R: Threads + Wait + Abort + Sync>(
+    rt: &R,
+    alloc: Global,
+    terms: &Terms,
+) -> EventCounts {
+    let batch = run(rt, alloc, terms, 2).expect(rt, "a run");
+    count_events(batch.journal())
+}
+
+// The same up to a cutoff.
 fn events_up_to<R: Threads + Wait + Abort + Sync>(
     rt: &R,
     alloc: Global,
@@ -275,20 +309,23 @@ fn events_up_to<R: Threads + Wait + Abort + Sync>(
 ) -> EventCounts {
     let files = [file_three(), file_three()];
     let terms = Terms::new(alloc, plan, &files, None, Some(cutoff)).expect(rt, "terms");
-    let batch = run(rt, alloc, &terms, 2).expect(rt, "a run");
-    count_events(batch.journal())
+    events_of(rt, alloc, &terms)
 }
 
-#[test]
-fn a_run_up_to_a_cutoff(rt: HostRuntime) {
-    let plan = plan(&rt, rt.alloc());
+fn check_cutoffs<R: Threads + Wait + Abort + Sync>(rt: &R, alloc: Global, plan: &Plan) {
     for (cutoff, accepts) in [(0, 0), (1, 1), (4, 4), (6, 6), (7, 6)] {
-        let kinds = events_up_to(&rt, rt.alloc(), &plan, cutoff);
+        let kinds = events_up_to(rt, alloc, plan, cutoff);
         assert_eq!(rt; kinds.accepts, accepts);
         assert_eq!(rt; kinds.takes, accepts);
         assert_eq!(rt; kinds.decides, accepts);
         assert_eq!(rt; kinds.closes, 1);
     }
+}
+
+#[test]
+fn a_run_up_to_a_cutoff(rt: HostRuntime) {
+    let plan = plan(&rt, rt.alloc());
+    check_cutoffs(&rt, rt.alloc(), &plan);
 }
 
 // The fault of a run by so many workers.
@@ -301,15 +338,23 @@ fn run_fault<R: Threads + Wait + Abort + Sync>(
     run(rt, alloc, terms, workers).err()
 }
 
+fn check_workers<R: Threads + Wait + Abort + Sync>(rt: &R, alloc: Global, terms: &Terms) {
+    for workers in [0, WORKERS_LIMIT + 1, usize::MAX] {
+        let fault = run_fault(rt, alloc, terms, workers);
+        assert!(rt; fault == Some(RunFault::Workers));
+    }
+}
+
+fn workers_under<R: Threads + Wait + Abort + Sync>(rt: &R, alloc: Global, plan: &Plan) {
+    let files = [second_file()];
+    let terms = terms(rt, alloc, plan, &files);
+    check_workers(rt, alloc, &terms);
+}
+
 #[test]
 fn a_run_refuses_no_worker_and_too_many(rt: HostRuntime) {
     let plan = plan(&rt, rt.alloc());
-    let files = [second_file()];
-    let terms = terms(&rt, rt.alloc(), &plan, &files);
-    for workers in [0, WORKERS_LIMIT + 1, usize::MAX] {
-        let fault = run_fault(&rt, rt.alloc(), &terms, workers);
-        assert!(rt; fault == Some(RunFault::Workers));
-    }
+    workers_under(&rt, rt.alloc(), &plan);
 }
 
 const FAULTS: [(RunFault, u8, &str); 5] = [
@@ -343,12 +388,16 @@ fn is_wanting(fault: RunFault) -> bool {
     fault == RunFault::OutOfMemory || fault == RunFault::Thread
 }
 
+fn runs_or_not_under<R: Threads + Wait + Abort + Sync>(rt: &R, alloc: Global, plan: &Plan) {
+    let files = [first_file(), second_file()];
+    if let Ok(terms) = Terms::new(alloc, plan, &files, None, None) {
+        runs_or_not(rt, alloc, &terms);
+    }
+}
+
 #[test]
 fn a_run_or_no_memory(rt: HostRuntime) {
     if let Ok(plan) = read_plan(rt.alloc(), health_plan().as_bytes()) {
-        let files = [first_file(), second_file()];
-        if let Ok(terms) = Terms::new(rt.alloc(), &plan, &files, None, None) {
-            runs_or_not(&rt, rt.alloc(), &terms);
-        }
+        runs_or_not_under(&rt, rt.alloc(), &plan);
     }
 }

@@ -6,6 +6,7 @@ use super::calls::{accept_at, find_nothing, record, take_job};
 use super::filing::{plan_of, terms_of};
 use super::worked::is_job;
 use claim_gate::{GateState, Job, Terms};
+use dtable::Plan;
 use settlement::Acc;
 use std::alloc::{AllocError, Global};
 use std::process::Abort;
@@ -102,8 +103,12 @@ fn family_calls(rt: &impl Abort, alloc: Global, terms: &Terms) -> Result<(), All
 
 fn take_turns(rt: &impl Abort, alloc: Global) -> Result<(), AllocError> {
     let plan = plan_of(alloc, family_plan().as_bytes())?;
+    take_turns_under(rt, alloc, &plan)
+}
+
+fn take_turns_under(rt: &impl Abort, alloc: Global, plan: &Plan) -> Result<(), AllocError> {
     let files = [family_file()];
-    let terms = terms_of(alloc, &plan, &files, None)?;
+    let terms = terms_of(alloc, plan, &files, None)?;
     family_calls(rt, alloc, &terms)
 }
 

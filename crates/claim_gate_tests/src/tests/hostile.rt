@@ -9,6 +9,7 @@ use super::shared::{accept_at, record, refuse_outcome, take_job};
 use super::worked::{is_at, is_closed, is_job, is_paid_40, one_claim};
 use super::{again, again_shared};
 use claim_gate::{Event, FinishFault, Gate, GateState, Job, LockedGate, SerialGate, Terms};
+use dtable::Plan;
 use journal::jobs_stay;
 use std::alloc::{AllocError, Global};
 use std::process::Abort;
@@ -124,10 +125,22 @@ fn by_a_ticket_lock(
 // By both locks.
 fn runs_of_one(rt: &(impl Abort + Wait), alloc: Global) -> Result<(), AllocError> {
     let plan = plan_of(alloc, health_plan().as_bytes())?;
+    runs_of_one_under(rt, alloc, &plan)
+}
+
+fn runs_of_one_under(
+    rt: &(impl Abort + Wait),
+    alloc: Global,
+    plan: &Plan,
+) -> Result<(), AllocError> {
     let files = [one_claim()];
-    let terms = terms_of(alloc, &plan, &files, None)?;
-    by_a_spin_lock(rt, alloc, &terms)?;
-    by_a_ticket_lock(rt, alloc, &terms)
+    let terms = terms_of(alloc, plan, &files, None)?;
+    by_both_locks(rt, alloc, &terms)
+}
+
+fn by_both_locks(rt: &(impl Abort + Wait), alloc: Global, terms: &Terms) -> Result<(), AllocError> {
+    by_a_spin_lock(rt, alloc, terms)?;
+    by_a_ticket_lock(rt, alloc, terms)
 }
 
 #[test]

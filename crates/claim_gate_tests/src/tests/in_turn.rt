@@ -11,6 +11,7 @@ use super::worked::{is_at, is_job, is_paid_40, is_worked};
 use claim_gate::{
     EndFault, FinishFault, Gate, GateState, Job, LockedGate, OfferFault, SerialGate, Terms,
 };
+use dtable::Plan;
 use journal::jobs_stay;
 use std::alloc::{AllocError, Global};
 use std::process::Abort;
@@ -251,8 +252,16 @@ fn by_a_spin_lock(
 
 fn over_a_spin_lock(rt: &(impl Abort + Wait), alloc: Global) -> Result<(), AllocError> {
     let plan = plan_of(alloc, health_plan().as_bytes())?;
+    over_a_spin_lock_under(rt, alloc, &plan)
+}
+
+fn over_a_spin_lock_under(
+    rt: &(impl Abort + Wait),
+    alloc: Global,
+    plan: &Plan,
+) -> Result<(), AllocError> {
     let files = [first_file(), second_file()];
-    let terms = terms_of(alloc, &plan, &files, None)?;
+    let terms = terms_of(alloc, plan, &files, None)?;
     by_a_spin_lock(rt, alloc, &terms)
 }
 
@@ -267,8 +276,16 @@ fn by_a_ticket_lock(
 
 pub fn over_a_ticket_lock(rt: &(impl Abort + Wait), alloc: Global) -> Result<(), AllocError> {
     let plan = plan_of(alloc, health_plan().as_bytes())?;
+    over_a_ticket_lock_under(rt, alloc, &plan)
+}
+
+fn over_a_ticket_lock_under(
+    rt: &(impl Abort + Wait),
+    alloc: Global,
+    plan: &Plan,
+) -> Result<(), AllocError> {
     let files = [first_file(), second_file()];
-    let terms = terms_of(alloc, &plan, &files, None)?;
+    let terms = terms_of(alloc, plan, &files, None)?;
     by_a_ticket_lock(rt, alloc, &terms)
 }
 

@@ -8,6 +8,7 @@ use super::filing::{is_offer, offer_at, plan_of, read_all, terms_of};
 use super::shared::{accept_at, take_job};
 use super::worked::{is_job, is_paid_40};
 use claim_gate::{Gate, GateState, Job, LockedGate, SerialGate, Terms};
+use dtable::Plan;
 use std::alloc::{AllocError, Global};
 use std::process::Abort;
 use std::sync::Wait;
@@ -157,16 +158,36 @@ fn two_tickets(rt: &(impl Abort + Wait), alloc: Global, terms: &Terms) -> Result
 
 fn by_few_tickets(rt: &(impl Abort + Wait), alloc: Global) -> Result<(), AllocError> {
     let plan = plan_of(alloc, health_plan().as_bytes())?;
+    by_few_tickets_under(rt, alloc, &plan)
+}
+
+fn by_few_tickets_under(
+    rt: &(impl Abort + Wait),
+    alloc: Global,
+    plan: &Plan,
+) -> Result<(), AllocError> {
     let files = [first_file(), second_file()];
-    let terms = terms_of(alloc, &plan, &files, None)?;
-    no_ticket(rt, alloc, &terms)?;
-    one_ticket(rt, alloc, &terms)
+    let terms = terms_of(alloc, plan, &files, None)?;
+    few_tickets(rt, alloc, &terms)
+}
+
+fn few_tickets(rt: &(impl Abort + Wait), alloc: Global, terms: &Terms) -> Result<(), AllocError> {
+    no_ticket(rt, alloc, terms)?;
+    one_ticket(rt, alloc, terms)
 }
 
 fn by_two_tickets(rt: &(impl Abort + Wait), alloc: Global) -> Result<(), AllocError> {
     let plan = plan_of(alloc, health_plan().as_bytes())?;
+    by_two_tickets_under(rt, alloc, &plan)
+}
+
+fn by_two_tickets_under(
+    rt: &(impl Abort + Wait),
+    alloc: Global,
+    plan: &Plan,
+) -> Result<(), AllocError> {
     let files = [first_file(), second_file()];
-    let terms = terms_of(alloc, &plan, &files, None)?;
+    let terms = terms_of(alloc, plan, &files, None)?;
     two_tickets(rt, alloc, &terms)
 }
 

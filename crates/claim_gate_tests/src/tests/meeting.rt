@@ -6,6 +6,7 @@ ghost use Rattle.turn_lock.specs.TicketShown.{IsPassOf, pass_knows};
 use super::filing::{is_offer, plan_of, terms_of};
 use super::shared::{accept_at, find_stopped, refuse_at};
 use claim_gate::{Gate, GateState, LockedGate, OfferFault, SerialGate, Terms};
+use dtable::Plan;
 use std::alloc::{AllocError, Global};
 use std::process::Abort;
 use std::sync::Wait;
@@ -46,8 +47,16 @@ fn met_calls<V: SerialGate + Send + Drop>(
 
 fn met_passes(rt: &(impl Abort + Wait), alloc: Global) -> Result<(), AllocError> {
     let plan = plan_of(alloc, health_plan().as_bytes())?;
+    met_passes_under(rt, alloc, &plan)
+}
+
+fn met_passes_under(
+    rt: &(impl Abort + Wait),
+    alloc: Global,
+    plan: &Plan,
+) -> Result<(), AllocError> {
     let files = [first_file(), second_file()];
-    let terms = terms_of(alloc, &plan, &files, None)?;
+    let terms = terms_of(alloc, plan, &files, None)?;
     meet_once(rt, alloc, &terms)
 }
 
@@ -79,8 +88,16 @@ fn meet_worn<V: SerialGate + Send + Drop>(
 
 fn worn_passes(rt: &(impl Abort + Wait), alloc: Global) -> Result<(), AllocError> {
     let plan = plan_of(alloc, health_plan().as_bytes())?;
+    worn_passes_under(rt, alloc, &plan)
+}
+
+fn worn_passes_under(
+    rt: &(impl Abort + Wait),
+    alloc: Global,
+    plan: &Plan,
+) -> Result<(), AllocError> {
     let files = [first_file()];
-    let terms = terms_of(alloc, &plan, &files, None)?;
+    let terms = terms_of(alloc, plan, &files, None)?;
     meet_without(rt, alloc, &terms)
 }
 

@@ -6,6 +6,7 @@ ghost use Rattle.claim_gate_tests.specs.Words.{IsCaller};
 
 use super::filing::{offer_at, plan_of, terms_of};
 use claim_gate::{Event, Gate, GateState, LockedGate, Offer, OfferFault, SerialGate, Terms};
+use dtable::Plan;
 use std::alloc::{AllocError, Global};
 use std::process::Abort;
 use std::sync::Wait;
@@ -198,8 +199,16 @@ fn rivals_of_files<R: Threads + Wait + Abort + Sync>(
     alloc: Global,
 ) -> Result<(), AllocError> {
     let plan = plan_of(alloc, health_plan().as_bytes())?;
+    rivals_of_files_under(rt, alloc, &plan)
+}
+
+fn rivals_of_files_under<R: Threads + Wait + Abort + Sync>(
+    rt: &R,
+    alloc: Global,
+    plan: &Plan,
+) -> Result<(), AllocError> {
     let files = [first_file(), second_file()];
-    let terms = terms_of(alloc, &plan, &files, None)?;
+    let terms = terms_of(alloc, plan, &files, None)?;
     rivals(rt, alloc, &terms)
 }
 

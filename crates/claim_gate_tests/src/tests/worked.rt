@@ -9,6 +9,7 @@ use super::calls::{
 use super::filing::{is_offer, plan_of, read_all, terms_of};
 use super::{again, counts, is_over};
 use claim_gate::{Batch, EndFault, Event, FinishFault, GateState, Job, Offer, OfferFault, Terms};
+use dtable::Plan;
 use settlement::{Acc, Outcome, Verdict};
 use std::alloc::{AllocError, Global};
 use std::process::Abort;
@@ -200,8 +201,12 @@ fn turn_calls(rt: &impl Abort, alloc: Global, terms: &Terms) -> Result<(), Alloc
 
 fn take_turns(rt: &impl Abort, alloc: Global) -> Result<(), AllocError> {
     let plan = plan_of(alloc, health_plan().as_bytes())?;
+    take_turns_under(rt, alloc, &plan)
+}
+
+fn take_turns_under(rt: &impl Abort, alloc: Global, plan: &Plan) -> Result<(), AllocError> {
     let files = [first_file(), second_file()];
-    let terms = terms_of(alloc, &plan, &files, None)?;
+    let terms = terms_of(alloc, plan, &files, None)?;
     turn_calls(rt, alloc, &terms)
 }
 
@@ -241,8 +246,12 @@ fn decide_copy<'t>(
 
 fn decide_twice(rt: &impl Abort, alloc: Global) -> Result<(), AllocError> {
     let plan = plan_of(alloc, health_plan().as_bytes())?;
+    decide_twice_under(rt, alloc, &plan)
+}
+
+fn decide_twice_under(rt: &impl Abort, alloc: Global, plan: &Plan) -> Result<(), AllocError> {
     let files = [first_file(), second_file()];
-    let terms = terms_of(alloc, &plan, &files, None)?;
+    let terms = terms_of(alloc, plan, &files, None)?;
     copy_calls(rt, alloc, &terms)
 }
 
@@ -317,8 +326,12 @@ fn stop_calls(rt: &impl Abort, alloc: Global, terms: &Terms) -> Result<(), Alloc
 
 fn stop(rt: &impl Abort, alloc: Global) -> Result<(), AllocError> {
     let plan = plan_of(alloc, health_plan().as_bytes())?;
+    stop_under(rt, alloc, &plan)
+}
+
+fn stop_under(rt: &impl Abort, alloc: Global, plan: &Plan) -> Result<(), AllocError> {
     let files = [first_file(), second_file()];
-    let terms = terms_of(alloc, &plan, &files, None)?;
+    let terms = terms_of(alloc, plan, &files, None)?;
     stop_calls(rt, alloc, &terms)
 }
 
@@ -395,8 +408,12 @@ fn end_calls(rt: &impl Abort, alloc: Global, terms: &Terms) -> Result<(), AllocE
 
 fn finish_run(rt: &impl Abort, alloc: Global) -> Result<(), AllocError> {
     let plan = plan_of(alloc, health_plan().as_bytes())?;
+    finish_run_under(rt, alloc, &plan)
+}
+
+fn finish_run_under(rt: &impl Abort, alloc: Global, plan: &Plan) -> Result<(), AllocError> {
     let files = [one_claim()];
-    let terms = terms_of(alloc, &plan, &files, None)?;
+    let terms = terms_of(alloc, plan, &files, None)?;
     end_calls(rt, alloc, &terms)
 }
 
@@ -423,8 +440,12 @@ fn end_again(rt: &impl Abort, alloc: Global, terms: &Terms) -> Result<(), AllocE
 
 fn end_twice(rt: &impl Abort, alloc: Global) -> Result<(), AllocError> {
     let plan = plan_of(alloc, health_plan().as_bytes())?;
+    end_twice_under(rt, alloc, &plan)
+}
+
+fn end_twice_under(rt: &impl Abort, alloc: Global, plan: &Plan) -> Result<(), AllocError> {
     let files = [one_claim(), header()];
-    let terms = terms_of(alloc, &plan, &files, None)?;
+    let terms = terms_of(alloc, plan, &files, None)?;
     end_again(rt, alloc, &terms)
 }
 
@@ -447,8 +468,12 @@ fn closed_calls(rt: &impl Abort, alloc: Global, terms: &Terms) -> Result<(), All
 
 fn admit_nothing(rt: &impl Abort, alloc: Global) -> Result<(), AllocError> {
     let plan = plan_of(alloc, health_plan().as_bytes())?;
+    admit_nothing_under(rt, alloc, &plan)
+}
+
+fn admit_nothing_under(rt: &impl Abort, alloc: Global, plan: &Plan) -> Result<(), AllocError> {
     let files = [first_file()];
-    let terms = terms_of(alloc, &plan, &files, Some(0))?;
+    let terms = terms_of(alloc, plan, &files, Some(0))?;
     closed_calls(rt, alloc, &terms)
 }
 

@@ -10,6 +10,7 @@ use super::{both_files, comes_to, plan, terms};
 use claim_gate::{Gate, GateState, LockedGate, Offer, SerialGate};
 use claim_terms::{Terms, terms_are_seen};
 use crew::{RunFault, run_with};
+use dtable::Plan;
 use intake_csv::{Row, given_row_has_the_claim, reader_begins_with_all_rows};
 use settlement::Claim;
 use std::alloc::{AllocError, Global};
@@ -145,12 +146,16 @@ fn goes_on<R: Threads + Wait + Abort + Sync>(
     Ok(())
 }
 
+fn goes_on_under<R: Threads + Wait + Abort + Sync>(rt: &R, alloc: Global, plan: &Plan) -> bool {
+    let files = [first_file(), second_file()];
+    let terms = terms(rt, alloc, plan, &files);
+    goes_on(rt, alloc, &terms).is_ok()
+}
+
 #[test]
 fn intakes_go_on_where_others_are(rt: HostRuntime) {
     let plan = plan(&rt, rt.alloc());
-    let files = [first_file(), second_file()];
-    let terms = terms(&rt, rt.alloc(), &plan, &files);
-    assert!(rt; goes_on(&rt, rt.alloc(), &terms).is_ok());
+    assert!(rt; goes_on_under(&rt, rt.alloc(), &plan));
 }
 
 // Whether a run on a gate that was stopped is so refused, behind a spin lock.
@@ -163,10 +168,14 @@ fn is_stopped<R: Threads + Wait + Sync>(
     Ok(run_stopped(rt, alloc, terms, lock, pass) == Some(RunFault::Stopped))
 }
 
+fn is_stopped_under<R: Threads + Wait + Abort + Sync>(rt: &R, alloc: Global, plan: &Plan) -> bool {
+    let files = [first_file(), second_file()];
+    let terms = terms(rt, alloc, plan, &files);
+    is_stopped(rt, alloc, &terms) == Ok(true)
+}
+
 #[test]
 fn a_run_on_a_stopped_gate(rt: HostRuntime) {
     let plan = plan(&rt, rt.alloc());
-    let files = [first_file(), second_file()];
-    let terms = terms(&rt, rt.alloc(), &plan, &files);
-    assert!(rt; is_stopped(&rt, rt.alloc(), &terms) == Ok(true));
+    assert!(rt; is_stopped_under(&rt, rt.alloc(), &plan));
 }

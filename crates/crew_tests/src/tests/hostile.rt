@@ -7,6 +7,7 @@ use super::{plan, terms};
 use claim_gate::{Gate, GateState, LockedGate, SerialGate};
 use claim_terms::Terms;
 use crew::{RunFault, run, run_with};
+use dtable::Plan;
 use journal::Event;
 use std::alloc::Global;
 use std::process::Abort;
@@ -87,14 +88,22 @@ fn check_threads<R: Threads + Wait + Abort + Sync>(
     );
 }
 
+fn check_crews<R: Threads + Wait + Abort + Sync>(rt: &R, alloc: Global, terms: &Terms) {
+    for workers in [1, 4, 64] {
+        check_threads(rt, alloc, terms, workers);
+    }
+}
+
+fn crews_under<R: Threads + Wait + Abort + Sync>(rt: &R, alloc: Global, plan: &Plan) {
+    let files = [first_file(), second_file()];
+    let terms = terms(rt, alloc, plan, &files);
+    check_crews(rt, alloc, &terms);
+}
+
 #[test]
 fn a_run_has_an_intake_a_file_and_its_workers(rt: HostRuntime) {
     let plan = plan(&rt, rt.alloc());
-    let files = [first_file(), second_file()];
-    let terms = terms(&rt, rt.alloc(), &plan, &files);
-    for workers in [1, 4, 64] {
-        check_threads(&rt, rt.alloc(), &terms, workers);
-    }
+    crews_under(&rt, rt.alloc(), &plan);
 }
 
 // An intake that is refused memory twice stops the gate, once the caller and both workers know that the run is over.
@@ -104,16 +113,24 @@ fn check_finished<R: Threads + Wait + Abort + Sync>(rt: &R, alloc: Global, terms
     assert!(rt; watched(rt, alloc, terms, 2, watch).fault.is_none());
 }
 
+fn check_called_off<R: Threads + Wait + Abort + Sync>(rt: &R, alloc: Global, terms: &Terms) {
+    check_finished(rt, alloc, terms);
+    check_worn(rt, alloc, terms);
+    for _ in 0..20 {
+        check_third_caller(rt, alloc, terms);
+    }
+}
+
+fn called_off_under<R: Threads + Wait + Abort + Sync>(rt: &R, alloc: Global, plan: &Plan) {
+    let files = [first_file(), second_file()];
+    let terms = terms(rt, alloc, plan, &files);
+    check_called_off(rt, alloc, &terms);
+}
+
 #[test]
 fn runs_that_others_call_off(rt: HostRuntime) {
     let plan = plan(&rt, rt.alloc());
-    let files = [first_file(), second_file()];
-    let terms = terms(&rt, rt.alloc(), &plan, &files);
-    check_finished(&rt, rt.alloc(), &terms);
-    check_worn(&rt, rt.alloc(), &terms);
-    for _ in 0..20 {
-        check_third_caller(&rt, rt.alloc(), &terms);
-    }
+    called_off_under(&rt, rt.alloc(), &plan);
 }
 
 // Whether a run by four workers wears out the lock, and its pass comes back worn.
@@ -233,10 +250,14 @@ fn ends_all<R: Threads + Wait + Abort + Sync>(rt: &R, alloc: Global, terms: &Ter
     is_ends_and_close(batch.journal(), 64)
 }
 
+fn ends_all_under<R: Threads + Wait + Abort + Sync>(rt: &R, alloc: Global, plan: &Plan) -> bool {
+    let files = [header(); 64];
+    let terms = terms(rt, alloc, plan, &files);
+    ends_all(rt, alloc, &terms)
+}
+
 #[test]
 fn a_run_over_64_headers(rt: HostRuntime) {
     let plan = plan(&rt, rt.alloc());
-    let files = [header(); 64];
-    let terms = terms(&rt, rt.alloc(), &plan, &files);
-    assert!(rt; ends_all(&rt, rt.alloc(), &terms));
+    assert!(rt; ends_all_under(&rt, rt.alloc(), &plan));
 }

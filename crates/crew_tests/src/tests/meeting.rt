@@ -9,8 +9,10 @@ use claim_gate::{
 };
 use claim_terms::Terms;
 use crew::run_with;
+use dtable::Plan;
 use settlement::Outcome;
 use std::alloc::{AllocError, Global};
+use std::process::Abort;
 use std::sync::Wait;
 use std::sync::atomic::{AtomicU64, Ordering};
 use std::thread;
@@ -181,18 +183,25 @@ fn meets<R: Threads + Wait + Sync>(
     Ok(meet(rt, alloc, terms, meeting, lock, pass))
 }
 
+fn meets_under<R: Threads + Wait + Abort + Sync>(
+    rt: &R,
+    alloc: Global,
+    plan: &Plan,
+    meeting: Meeting,
+) -> bool {
+    let files = [first_file(), second_file()];
+    let terms = terms(rt, alloc, plan, &files);
+    meets(rt, alloc, &terms, meeting) == Ok(true)
+}
+
 #[test]
 fn two_workers_meet(rt: HostRuntime) {
     let plan = plan(&rt, rt.alloc());
-    let files = [first_file(), second_file()];
-    let terms = terms(&rt, rt.alloc(), &plan, &files);
-    assert!(rt; meets(&rt, rt.alloc(), &terms, Meeting::OfWorkers) == Ok(true));
+    assert!(rt; meets_under(&rt, rt.alloc(), &plan, Meeting::OfWorkers));
 }
 
 #[test]
 fn two_intakes_meet(rt: HostRuntime) {
     let plan = plan(&rt, rt.alloc());
-    let files = [first_file(), second_file()];
-    let terms = terms(&rt, rt.alloc(), &plan, &files);
-    assert!(rt; meets(&rt, rt.alloc(), &terms, Meeting::OfIntakes) == Ok(true));
+    assert!(rt; meets_under(&rt, rt.alloc(), &plan, Meeting::OfIntakes));
 }

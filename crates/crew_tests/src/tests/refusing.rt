@@ -9,6 +9,7 @@ use claim_gate::{
 };
 use claim_terms::Terms;
 use crew::{RunFault, run_with};
+use dtable::Plan;
 use settlement::Outcome;
 use std::alloc::Global;
 use std::process::Abort;
@@ -189,18 +190,26 @@ fn fault_of<R: Threads + Wait + Abort + Sync>(
     fault_over(rt, alloc, terms, refusals, lock, pass)
 }
 
-#[test]
-fn a_call_refused_memory_is_made_once_more(rt: HostRuntime) {
-    let plan = plan(&rt, rt.alloc());
-    let files = [first_file(), second_file()];
-    let terms = terms(&rt, rt.alloc(), &plan, &files);
-    let refusals = Refusals {
+// One call of each kind is refused.
+fn one_of_each() -> Refusals {
+    Refusals {
         offers: 1,
         ends: 1,
         takes: 1,
         outcomes: 1,
-    };
-    assert!(rt; fault_of(&rt, rt.alloc(), &terms, refusals).is_none());
+    }
+}
+
+fn goes_on_under<R: Threads + Wait + Abort + Sync>(rt: &R, alloc: Global, plan: &Plan) -> bool {
+    let files = [first_file(), second_file()];
+    let terms = terms(rt, alloc, plan, &files);
+    fault_of(rt, alloc, &terms, one_of_each()).is_none()
+}
+
+#[test]
+fn a_call_refused_memory_is_made_once_more(rt: HostRuntime) {
+    let plan = plan(&rt, rt.alloc());
+    assert!(rt; goes_on_under(&rt, rt.alloc(), &plan));
 }
 
 // One file has one intake, so that both of its first calls are the same thread's; of the workers' calls all are refused.
@@ -215,13 +224,21 @@ fn refused_twice(kind: usize) -> Refusals {
     refusals
 }
 
+fn check_refused_twice<R: Threads + Wait + Abort + Sync>(rt: &R, alloc: Global, terms: &Terms) {
+    for kind in 0..4 {
+        let fault = fault_of(rt, alloc, terms, refused_twice(kind));
+        assert!(rt; fault == Some(RunFault::OutOfMemory), "{kind}");
+    }
+}
+
+fn refused_twice_under<R: Threads + Wait + Abort + Sync>(rt: &R, alloc: Global, plan: &Plan) {
+    let files = [first_file()];
+    let terms = terms(rt, alloc, plan, &files);
+    check_refused_twice(rt, alloc, &terms);
+}
+
 #[test]
 fn a_call_refused_memory_twice_ends_the_run(rt: HostRuntime) {
     let plan = plan(&rt, rt.alloc());
-    let files = [first_file()];
-    let terms = terms(&rt, rt.alloc(), &plan, &files);
-    for kind in 0..4 {
-        let fault = fault_of(&rt, rt.alloc(), &terms, refused_twice(kind));
-        assert!(rt; fault == Some(RunFault::OutOfMemory), "{kind}");
-    }
+    refused_twice_under(&rt, rt.alloc(), &plan);
 }

@@ -5,6 +5,7 @@ use super::watched::nothing;
 use super::{plan, terms};
 use claim_terms::Terms;
 use crew::RunFault;
+use dtable::Plan;
 use std::alloc::Global;
 use std::process::Abort;
 use std::sync::Wait;
@@ -19,10 +20,14 @@ fn check_stopped_outcomes<R: Threads + Wait + Abort + Sync>(rt: &R, alloc: Globa
     assert!(rt; met.fault == Some(RunFault::Stopped) && met.handed_back > 0);
 }
 
+fn stopped_outcomes_under<R: Threads + Wait + Abort + Sync>(rt: &R, alloc: Global, plan: &Plan) {
+    let files = [first_file(), second_file()];
+    let terms = terms(rt, alloc, plan, &files);
+    check_stopped_outcomes(rt, alloc, &terms);
+}
+
 #[test]
 fn a_work_s_finish_is_stopped(rt: HostRuntime) {
     let plan = plan(&rt, rt.alloc());
-    let files = [first_file(), second_file()];
-    let terms = terms(&rt, rt.alloc(), &plan, &files);
-    check_stopped_outcomes(&rt, rt.alloc(), &terms);
+    stopped_outcomes_under(&rt, rt.alloc(), &plan);
 }
