@@ -57,3 +57,9 @@ first_marked count w0 w1 w2 w3 a b c d = record {
       word_at count w0 w1 w2 w3 (place / 64) (count - 64 * (place / 64)) refl a b c d (omega (arith, within)) (place % 64) (omega arith)
       ∙ less_alike (place % 64) (count - 64 * (place / 64)) place count (λ less. omega (arith, less)) (λ more. omega (arith, more));
 }
+
+-- at most so many as a word has bits
+pub first_word : (count w : ℕ) → count ≤ 64 → IsLow count w → Marks (λ place. nat_lt place count) (w ∷ 0 ∷ 0 ∷ 0 ∷ [])
+first_word count w few low =
+    first_marked count w 0 0 0 low (λ bit within. no_bits (count - 64) bit (omega (arith, few))) (λ bit within. no_bits (count - 128) bit (omega (arith, few)))
+    (λ bit within. no_bits (count - 192) bit (omega (arith, few)))

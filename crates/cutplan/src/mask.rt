@@ -77,6 +77,9 @@ pub fn first_rules(count: usize) -> [u64; 4]
     requires { count ≤ MASK_RULES }
     ensures { Marks (λ place. nat_lt place count) result }
 {
+    if count <= 64 {
+        return [low_bits(count), 0, 0, 0];
+    }
     [
         low_bits(count),
         low_bits(count.saturating_sub(64)),
