@@ -17,3 +17,4 @@ pub mod Spelling
 pub mod Households
 pub mod AsciiFields
 pub mod Judging
+pub mod UnderColumns

@@ -1,8 +1,8 @@
 -- Lists beside lists, and the fields of a record by their places.
-use Rattle.std.proofs.Common.{◌≡◌, ◌<◌, ◌+◌, ℕ, suc, zero, List, [], ◌∷◌, ◌++◌, length, get_or, take, drop, Some, refl, sym, ap, ◌∙◌, arith, add-one}
+use Rattle.std.proofs.Common.{◌≡◌, ◌<◌, ◌≤◌, ◌+◌, ℕ, suc, zero, List, [], ◌∷◌, ◌++◌, length, get_or, take, drop, Some, refl, sym, ap, ◌∙◌, arith, add-one}
 use Rattle.std.specs.List.{All, AllZip, Any, slice_get}
 use Rattle.std.proofs.lemmas.List.{get_or_append_left, length_push, take_more}
-use Rattle.std.proofs.lemmas.List.Elements.{All-cons, All-nil}
+use Rattle.std.proofs.lemmas.List.Elements.{All-cons, All-drop, All-nil, All-take}
 use Rattle.csv.specs.Records.{field_at}
 
 -- one more of each
@@ -51,6 +51,38 @@ pub any-more : {A : Type 0} (P : A → Type 0) (xs : List A) (y : A) → Any P x
 any-more P xs y (k, x, within, is, has) =
     let longer : k < length (xs ++ y ∷ []) = omega (arith, within, length_push xs y) in
     (k, x, longer, get_or_append_left xs (y ∷ []) x k within ∙ is, has)
+
+-- what the first item has, some item has
+any-here : {A : Type 0} (P : A → Type 0) (x : A) (xs : List A) → P x → Any P (x ∷ xs)
+any-here P x xs has = (0, x, omega arith, refl, has)
+
+-- and what some item behind it has
+any-behind : {A : Type 0} (P : A → Type 0) (x : A) (xs : List A) → Any P xs → Any P (x ∷ xs)
+any-behind P x xs (k, y, within, is, has) = (suc k, y, omega (arith, within), is, has)
+
+-- what the item in front has, some item has
+pub any-first : {A : Type 0} (P : A → Type 0) (xs : List A) (d : A) → 1 ≤ length xs → P (get_or xs 0 d) → Any P xs
+any-first P [] d some has = absurd (omega (arith, some))
+any-first P (x ∷ xs) d some has = any-here P x xs has
+
+any-taken : {A : Type 0} (P : A → Type 0) (n : ℕ) (xs : List A) → Any P (take n xs) → Any P xs
+any-taken P zero xs (k, x, within, is, has) = absurd (omega (arith, within))
+any-taken P (suc n) [] some = some
+any-taken P (suc n) (y ∷ ys) (zero, x, within, is, has) = (zero, x, omega arith, is, has)
+any-taken P (suc n) (y ∷ ys) (suc k, x, within, is, has) = any-behind P y ys (any-taken P n ys (k, x, omega (arith, within), is, has))
+
+any-dropped : {A : Type 0} (P : A → Type 0) (k : ℕ) (xs : List A) → Any P (drop k xs) → Any P xs
+any-dropped P zero xs some = some
+any-dropped P (suc k) [] some = some
+any-dropped P (suc k) (y ∷ ys) some = any-behind P y ys (any-dropped P k ys some)
+
+-- what some item of a part has, some item has
+pub any-within : {A : Type 0} (P : A → Type 0) (k n : ℕ) (xs : List A) → Any P (take n (drop k xs)) → Any P xs
+any-within P k n xs some = any-dropped P k xs (any-taken P n (drop k xs) some)
+
+-- what all items have, those of a part have
+pub all-within : {A : Type 0} (P : A → Type 0) (k n : ℕ) (xs : List A) → All P xs → All P (take n (drop k xs))
+all-within P k n xs all = All-take P n (drop k xs) (All-drop P k xs all)
 
 -- what is so of the front of a list with its next item
 pub grown : {A : Type 0} (P : List A → Type 0) (xs : List A) (k : ℕ) (d : A) → k < length xs → P (take k xs ++ get_or xs k d ∷ []) → P (take (k + 1) xs)

@@ -23,20 +23,20 @@ use Rattle.intake_csv.specs.declared.column.Needed.{Needed}
 use Rattle.intake_csv.specs.declared.column.Content.{Content}
 use Rattle.intake_csv.specs.declared.column.Content.TheVariants.{Identifier, Money, Plain, Year}
 
-text-value : (content : Content) (bytes : List ℕ) (v : Value) → content ≡ Identifier → Holds content bytes v → (t : List ℕ) × (v ≡ Text t)
-text-value content bytes (Text t) e h = (t, refl)
-text-value content bytes (Number u) e h = let s = rw e at h.spells.plain in absurd (cc s.0)
-text-value content bytes (Flag b) e h = let s = rw e at h.spells.plain in absurd (cc s.0)
-text-value content bytes (Day d) e h = let s = rw e at h.spells.plain in absurd (cc s.0)
+pub text_value : (content : Content) (bytes : List ℕ) (v : Value) → content ≡ Identifier → Holds content bytes v → (t : List ℕ) × (v ≡ Text t)
+text_value content bytes (Text t) e h = (t, refl)
+text_value content bytes (Number u) e h = let s = rw e at h.spells.plain in absurd (cc s.0)
+text_value content bytes (Flag b) e h = let s = rw e at h.spells.plain in absurd (cc s.0)
+text_value content bytes (Day d) e h = let s = rw e at h.spells.plain in absurd (cc s.0)
 
-day-value : (content : Content) (bytes : List ℕ) (v : Value) → content ≡ Plain kinds.Day → Holds content bytes v → (d : ℤ) × (v ≡ Day d)
-day-value content bytes (Day d) e h = (d, refl)
-day-value content bytes (Number u) e h = let s = rw e at h.spells.plain in absurd (cc s.0)
-day-value content bytes (Flag b) e h = let s = rw e at h.spells.plain in absurd (cc s.0)
-day-value content bytes (Text t) e h = let s = rw e at h.spells.plain in absurd (cc s.0)
+pub day_value : (content : Content) (bytes : List ℕ) (v : Value) → content ≡ Plain kinds.Day → Holds content bytes v → (d : ℤ) × (v ≡ Day d)
+day_value content bytes (Day d) e h = (d, refl)
+day_value content bytes (Number u) e h = let s = rw e at h.spells.plain in absurd (cc s.0)
+day_value content bytes (Flag b) e h = let s = rw e at h.spells.plain in absurd (cc s.0)
+day_value content bytes (Text t) e h = let s = rw e at h.spells.plain in absurd (cc s.0)
 
-money-value : (content : Content) (bytes : List ℕ) (v : Value) → content ≡ Money → Holds content bytes v → (u : ℤ) × (v ≡ Number u) × IsMoney u
-money-value content bytes v e h = rw e at h.allowed
+pub money_value : (content : Content) (bytes : List ℕ) (v : Value) → content ≡ Money → Holds content bytes v → (u : ℤ) × (v ≡ Number u) × IsMoney u
+money_value content bytes v e h = rw e at h.allowed
 
 -- three values and others
 three_and : (w x y b c d : Value) (ys : List Value) → w ≡ b → x ≡ c → y ≡ d → w ∷ x ∷ y ∷ ys ≡ b ∷ c ∷ d ∷ ys
@@ -63,9 +63,9 @@ shaped-behind fields (b ∷ c ∷ d ∷ ds) (w ∷ x ∷ y ∷ ys) rest e h =
     let eb : b.content ≡ Identifier = cc e in
     let ec : c.content ≡ Plain kinds.Day = cc e in
     let ed : d.content ≡ Money = cc e in
-    let (member, is_member) = text-value b.content h.0.bytes w eb h.0.holds in
-    let (day, is_day) = day-value c.content h.1.0.bytes x ec h.1.0.holds in
-    let (units, is_units, money) = money-value d.content h.1.1.0.bytes y ed h.1.1.0.holds in
+    let (member, is_member) = text_value b.content h.0.bytes w eb h.0.holds in
+    let (day, is_day) = day_value c.content h.1.0.bytes x ec h.1.0.holds in
+    let (units, is_units, money) = money_value d.content h.1.1.0.bytes y ed h.1.1.0.holds in
     record { member = member; service = day; billed = units; fields = ys; values_are = three_and w x y (Text member) (Day day) (Number units) ys is_member is_day is_units; money = money }
 
 -- the values of a claim
@@ -77,7 +77,7 @@ claim-shaped families fields (a ∷ columns) [] rest e h = absurd h
 claim-shaped false fields (a ∷ columns) (v ∷ values) rest e h =
     let ea : a.content ≡ Identifier = cc e in
     let others : map (λ c. c.content) columns ≡ Identifier ∷ Plain kinds.Day ∷ Money ∷ rest = cc e in
-    let (id, is_id) = text-value a.content h.0.bytes v ea h.0.holds in
+    let (id, is_id) = text_value a.content h.0.bytes v ea h.0.holds in
     let b = shaped-behind fields columns values rest others h.1 in
     record {
       id = id;
@@ -96,8 +96,8 @@ claim-shaped true fields (a ∷ b ∷ columns) (v ∷ w ∷ values) rest e h =
     let ea : a.content ≡ Identifier = cc e in
     let eb : b.content ≡ Identifier = cc e in
     let others : map (λ c. c.content) columns ≡ Identifier ∷ Plain kinds.Day ∷ Money ∷ rest = cc e in
-    let (id, is_id) = text-value a.content h.0.bytes v ea h.0.holds in
-    let (family, is_family) = text-value b.content h.1.0.bytes w eb h.1.0.holds in
+    let (id, is_id) = text_value a.content h.0.bytes v ea h.0.holds in
+    let (family, is_family) = text_value b.content h.1.0.bytes w eb h.1.0.holds in
     let s = shaped-behind fields columns values rest others h.1.1 in
     record {
       id = id;
@@ -140,9 +140,9 @@ amounts fields (b ∷ c ∷ d ∷ []) (w ∷ x ∷ y ∷ []) e h =
     let eb : b.content ≡ Money = cc e in
     let ec : c.content ≡ Money = cc e in
     let ed : d.content ≡ Money = cc e in
-    let (met, is_met, met_money) = money-value b.content h.0.bytes w eb h.0.holds in
-    let (oop, is_oop, oop_money) = money-value c.content h.1.0.bytes x ec h.1.0.holds in
-    let (paid, is_paid, paid_money) = money-value d.content h.1.1.0.bytes y ed h.1.1.0.holds in
+    let (met, is_met, met_money) = money_value b.content h.0.bytes w eb h.0.holds in
+    let (oop, is_oop, oop_money) = money_value c.content h.1.0.bytes x ec h.1.0.holds in
+    let (paid, is_paid, paid_money) = money_value d.content h.1.1.0.bytes y ed h.1.1.0.holds in
     record {
       balance = record { met = met; oop = oop; paid = paid };
       values_are = three w x y (Number met) (Number oop) (Number paid) is_met is_oop is_paid;
@@ -167,7 +167,7 @@ entry-behind years fields (a ∷ columns) [] e h = absurd h
 entry-behind false fields (a ∷ columns) (v ∷ values) e h =
     let ea : a.content ≡ Identifier = cc e in
     let others : map (λ c. c.content) columns ≡ Money ∷ Money ∷ Money ∷ [] = cc e in
-    let (member, is_member) = text-value a.content h.0.bytes v ea h.0.holds in
+    let (member, is_member) = text_value a.content h.0.bytes v ea h.0.holds in
     record {
       member = member;
       year = 0;
@@ -182,7 +182,7 @@ entry-behind true fields (a ∷ b ∷ columns) (v ∷ w ∷ values) e h =
     let ea : a.content ≡ Identifier = cc e in
     let eb : b.content ≡ Year = cc e in
     let others : map (λ c. c.content) columns ≡ Money ∷ Money ∷ Money ∷ [] = cc e in
-    let (member, is_member) = text-value a.content h.0.bytes v ea h.0.holds in
+    let (member, is_member) = text_value a.content h.0.bytes v ea h.0.holds in
     let (year, is_year, within) = year-value b.content h.1.0.bytes w eb h.1.0.holds in
     record {
       member = member;
@@ -211,7 +211,7 @@ entry-by true years fields (a ∷ columns) [] e h = absurd h
 entry-by true years fields (a ∷ columns) (v ∷ values) e h =
     let ea : a.content ≡ Identifier = cc e in
     let others : map (λ c. c.content) columns ≡ Identifier ∷ (year_contents years ++ Money ∷ Money ∷ Money ∷ []) = cc e in
-    let (family, is_family) = text-value a.content h.0.bytes v ea h.0.holds in
+    let (family, is_family) = text_value a.content h.0.bytes v ea h.0.holds in
     record {
       family = Some family;
       has_family = refl;

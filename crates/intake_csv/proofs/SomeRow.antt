@@ -30,6 +30,7 @@ use Rattle.intake_csv.specs.declared.rows.Row.TheVariants.{Good, Bad}
 use Rattle.intake_csv.specs.Laws.{RowsOf}
 use Rattle.intake_csv.proofs.Handing.{count-row}
 use Rattle.intake_csv.proofs.Lists.{field_at-get_or, field_at-within}
+use Rattle.intake_csv.proofs.Shapes.{day_value, money_value, text_value}
 
 not_negative : (units : ℤ) → is_negative units ≡ false → pos 0 ≤ℤ units
 not_negative (ℤ.pos n) e = omega (arith, ints)
@@ -148,24 +149,6 @@ module _ (fields : Fields) where
       let e = field_at-within fields c.place (omega (arith, within, same)) in
       field c.content bytes (λ f. all_columns header ns cs h.1 same (λ all. k (join c cs (under_field c bytes e f) all)))
 
-text-value : (content : Content) (bytes : List ℕ) (v : Value) → content ≡ Identifier → Holds content bytes v → (t : List ℕ) × (v ≡ Text t)
-text-value content bytes (Text t) e h = (t, refl)
-text-value content bytes (Number u) e h = let s = rw e at h.spells.plain in absurd (cc s.0)
-text-value content bytes (Flag b) e h = let s = rw e at h.spells.plain in absurd (cc s.0)
-text-value content bytes (Day d) e h = let s = rw e at h.spells.plain in absurd (cc s.0)
-
-day-value : (content : Content) (bytes : List ℕ) (v : Value) → content ≡ Plain kinds.Day → Holds content bytes v → (d : ℤ) × (v ≡ Day d)
-day-value content bytes (Day d) e h = (d, refl)
-day-value content bytes (Number u) e h = let s = rw e at h.spells.plain in absurd (cc s.0)
-day-value content bytes (Flag b) e h = let s = rw e at h.spells.plain in absurd (cc s.0)
-day-value content bytes (Text t) e h = let s = rw e at h.spells.plain in absurd (cc s.0)
-
-money-value : (content : Content) (bytes : List ℕ) (v : Value) → content ≡ Money → Holds content bytes v → (u : ℤ) × (v ≡ Number u)
-money-value content bytes (Number u) e h = (u, refl)
-money-value content bytes (Text t) e h = let s = rw e at h.spells.plain in absurd (cc s.0)
-money-value content bytes (Flag b) e h = let s = rw e at h.spells.plain in absurd (cc s.0)
-money-value content bytes (Day d) e h = let s = rw e at h.spells.plain in absurd (cc s.0)
-
 three : (w x y b c d : Value) (ys : List Value) → w ≡ b → x ≡ c → y ≡ d → b ∷ c ∷ d ∷ ys ≡ w ∷ x ∷ y ∷ ys
 three w x y b c d ys f g h = rw (f, g, h) refl
 
@@ -187,9 +170,9 @@ behind-of header row more (b ∷ c ∷ d ∷ ds) [] h values = absurd values
 behind-of header row more (b ∷ c ∷ d ∷ ds) (w ∷ []) h values = absurd values.1
 behind-of header row more (b ∷ c ∷ d ∷ ds) (w ∷ x ∷ []) h values = absurd values.1.1
 behind-of header row more (b ∷ c ∷ d ∷ ds) (w ∷ x ∷ y ∷ ys) h values =
-    let (member, is_member) = text-value b.content values.0.bytes w h.0.content values.0.holds in
-    let (day, is_day) = day-value c.content values.1.0.bytes x h.1.0.content values.1.0.holds in
-    let (units, is_units) = money-value d.content values.1.1.0.bytes y h.1.1.0.content values.1.1.0.holds in
+    let (member, is_member) = text_value b.content values.0.bytes w h.0.content values.0.holds in
+    let (day, is_day) = day_value c.content values.1.0.bytes x h.1.0.content values.1.0.holds in
+    let (units, is_units, money) = money_value d.content values.1.1.0.bytes y h.1.1.0.content values.1.1.0.holds in
     record { member = member; service = day; billed = units; fields = ys; values = three w x y (Text member) (Day day) (Number units) ys is_member is_day is_units }
 
 -- values under the columns of a file of claims are those of a claim
@@ -202,7 +185,7 @@ claim-by : (header row : Fields) (families : Bool) (more : List Needed) (columns
 claim-by header row families more [] vs h values = absurd h
 claim-by header row families more (a ∷ columns) [] h values = absurd values
 claim-by header row false more (a ∷ columns) (v ∷ vs) h values =
-    let (id, is_id) = text-value a.content values.0.bytes v h.0.content values.0.holds in
+    let (id, is_id) = text_value a.content values.0.bytes v h.0.content values.0.holds in
     let b = behind-of header row more columns vs h.1 values.1 in
     record {
       claim = record { id = id; family = None; member = b.member; service = b.service; billed = b.billed; fields = b.fields };
@@ -211,8 +194,8 @@ claim-by header row false more (a ∷ columns) (v ∷ vs) h values =
 claim-by header row true more (a ∷ []) (v ∷ vs) h values = absurd h.1
 claim-by header row true more (a ∷ b ∷ columns) (v ∷ []) h values = absurd values.1
 claim-by header row true more (a ∷ b ∷ columns) (v ∷ w ∷ vs) h values =
-    let (id, is_id) = text-value a.content values.0.bytes v h.0.content values.0.holds in
-    let (family, is_family) = text-value b.content values.1.0.bytes w h.1.0.content values.1.0.holds in
+    let (id, is_id) = text_value a.content values.0.bytes v h.0.content values.0.holds in
+    let (family, is_family) = text_value b.content values.1.0.bytes w h.1.0.content values.1.0.holds in
     let b = behind-of header row more columns vs h.1.1 values.1.1 in
     record {
       claim = record { id = id; family = Some family; member = b.member; service = b.service; billed = b.billed; fields = b.fields };

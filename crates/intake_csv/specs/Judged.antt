@@ -4,10 +4,15 @@ use Rattle.feel_tests.specs.declared.value.Value.{Value}
 use Rattle.intake_csv.specs.Records.{Fields}
 use Rattle.intake_csv.specs.Fields.{Holds, IsFaultless, IsFaulty}
 use Rattle.intake_csv.specs.Record.{SoFar}
+use Rattle.intake_csv.specs.Rows.{IsFaultyUnder}
 use Rattle.intake_csv.specs.declared.column.Column.{Column}
 use Rattle.intake_csv.specs.declared.column.Content.{Content}
 use Rattle.intake_csv.specs.declared.fault.RowCause.{RowCause}
 use Rattle.intake_csv.specs.declared.fault.RowFault.{RowFault}
+
+-- something is wrong with the record's field under the column
+abbrev pub IsRefusedUnder : Fields → Column → Type 0
+IsRefusedUnder fields column = (cause : RowCause) × IsFaultyUnder fields cause column
 
 -- the field holds some value under the column, and nothing is wrong with it; or else this is
 abbrev pub IsFieldJudged : Content → List ℕ → Result (Unit {0}) RowCause → Type 0

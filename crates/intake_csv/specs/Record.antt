@@ -6,6 +6,7 @@ use Rattle.feel_tests.specs.declared.kind.Kind.TheVariants as kinds
 use Rattle.feel_tests.specs.declared.value.Value.{Value}
 use Rattle.feel_tests.specs.declared.value.Value.TheVariants.{Number, Text, Day}
 use Rattle.settlement.specs.Given.{behind_family}
+use Rattle.settlement.specs.declared.claim.Claim.{Claim}
 use Rattle.intake_csv.specs.declared.column.Content.{Content}
 use Rattle.intake_csv.specs.declared.column.Content.TheVariants.{Identifier, Money, Plain}
 use Rattle.intake_csv.specs.declared.column.Layout.{Layout}
@@ -40,6 +41,16 @@ pub record IsClaimLayout (layout : Layout) : Type 0 where
   pub fields : List Content
   pub contents :
       map (λ c. c.content) layout.columns ≡ Identifier ∷ (family_contents (has_family_column layout) ++ Identifier ∷ Plain kinds.Day ∷ Money ∷ fields)
+
+-- the columns of a file of claims from the member's on
+abbrev pub AreFromMember : List Column → Type 0
+AreFromMember columns = (fields : List Content) × (map (λ c. c.content) columns ≡ Identifier ∷ Plain kinds.Day ∷ Money ∷ fields)
+
+-- the claim has this number and this family, and its other values, from the member on, under the columns
+pub record GoesOnAs (fields : Fields) (columns : List Column) (id : List ℕ) (family : Option (List ℕ)) (claim : Claim) : Type 0 where
+  pub id_is : claim.id ≡ id
+  pub family_is : claim.family ≡ family
+  pub values : AreValues fields columns (Text claim.member ∷ Day claim.service ∷ Number claim.billed ∷ claim.fields)
 
 -- values of the kinds that a claim has; it has a family where there is a column for it
 pub record IsClaimShaped (families : Bool) (values : List Value) : Type 0 where

@@ -2,16 +2,12 @@
 use Rattle.std.specs.Prelude.{◌≡◌, ℕ, ℤ, Bool, List, ◌∷◌, Option, is_some}
 use Rattle.fixpoint.specs.Money.{IsMoney}
 use Rattle.feel_tests.specs.declared.value.Value.{Value}
-use Rattle.feel_tests.specs.declared.value.Value.TheVariants.{Number, Text, Day}
+use Rattle.feel_tests.specs.declared.value.Value.TheVariants.{Number, Text}
 use Rattle.settlement.specs.Given.{behind_family}
 
 -- a text stands in front
 abbrev pub BeginsWithText : List Value → Type 0
 BeginsWithText values = (text : List ℕ) × (rest : List Value) × (values ≡ Text text ∷ rest)
-
--- a day stands in front
-abbrev pub BeginsWithDay : List Value → Type 0
-BeginsWithDay values = (day : ℤ) × (rest : List Value) × (values ≡ Day day ∷ rest)
 
 -- an amount of money stands in front
 abbrev pub BeginsWithMoney : List Value → Type 0

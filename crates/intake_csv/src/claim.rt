@@ -1,18 +1,20 @@
-//! Claims from the values of a record.
-ghost use Rattle.std.specs.Prelude.{◌≡◌, ◌++◌, map, IfOk, IfErr, OnOk};
+//! Claims, each read straight from its record.
+ghost use Rattle.std.specs.Prelude.{◌≡◌, ◌<◌, ◌++◌, ◌^◌, length, map, IfOk, IfErr, IfSome, IfNone, OnOk};
+ghost use Rattle.std.specs.List.{All, Any};
 ghost use Rattle.intake_csv.specs.Columns.{claim_columns, family_columns, needed, own_columns};
 ghost use Rattle.intake_csv.specs.declared.column.Content.TheVariants as contents;
-ghost use Rattle.intake_csv.specs.Record.{IsClaimLayout, IsClaimShaped, has_family_column, is_identifier};
-ghost use Rattle.intake_csv.specs.Rows.{HasFault, HasValues, claim_values};
+ghost use Rattle.intake_csv.specs.Judged.{IsRefusedUnder};
+ghost use Rattle.intake_csv.specs.Record.{AreFromMember, GoesOnAs, IsClaimLayout, has_family_column, is_identifier};
+ghost use Rattle.intake_csv.specs.Rows.{AreValues, HasFault, HasValues, claim_values};
 ghost use Rattle.intake_csv.specs.Sheet.{IsWithin};
 
-use crate::column::{Content, Layout, Needed, needed_column};
-use crate::fault::RowFault;
+use crate::column::{Column, Content, Layout, Needed, needed_column};
+use crate::fault::{RowCause, RowFault};
+use crate::judge::first_fault;
 use crate::line::Line;
-use crate::record::read_record;
-use crate::values::{list_of, take_day, take_family, take_money, take_text};
+use crate::under::{day_under, money_under, text_under, values_under};
 use dtable::{InputData, Plan, Sequence};
-use feel_tests::{Kind, Value};
+use feel_tests::{Kind, Text};
 use settlement::{Claim, fields_of};
 use std::alloc::{AllocError, Global};
 
@@ -66,7 +68,7 @@ fn push_fields(
     Ok(())
 }
 
-/// Reads a record of a file of claims: a claim, or its first fault.
+/// Reads a record of a file of claims: a claim, or its first fault. A record that is refused is judged once more for the fault that stands furthest left.
 pub fn read_claim(
     alloc: Global,
     layout: &Layout,
@@ -77,10 +79,84 @@ pub fn read_claim(
     ensures claim { IfOk result (λ read. IfOk read (λ claim. HasValues layout.now row.now (claim_values claim))) }
     ensures fault { IfOk result (λ read. IfErr read (HasFault layout.now row.now)) }
 {
-    match read_record(alloc, layout, row)? {
-        Ok(values) => Ok(Ok(claim_of(alloc, values, has_family_column(layout))?)),
-        Err(fault) => Ok(Err(fault)),
+    if row.len() != layout.width {
+        return Ok(Err(RowFault {
+            column: 0,
+            cause: RowCause::FieldCount,
+        }));
     }
+    if let Some(claim) = claim_under(alloc, layout, row)? {
+        return Ok(Ok(claim));
+    }
+    match first_fault(alloc, layout.columns.as_slice(), row)? {
+        Some(fault) => Ok(Err(fault)),
+        None => unreachable!(),
+    }
+}
+
+// The claim that stands under these columns, or none where a field is refused.
+fn claim_under(alloc: Global, layout: &Layout, row: &Line) -> Result<Option<Claim>, AllocError>
+    requires within { All (λ c. c.place < length row.now) layout.now.columns }
+    requires small { length row.now < 2 ^ 64 }
+    requires claims { IsClaimLayout layout.now }
+    ensures claim { IfOk result (λ read. IfSome read (λ claim. AreValues row.now layout.now.columns (claim_values claim))) }
+    ensures none { IfOk result (λ read. IfNone read (Any (IsRefusedUnder row.now) layout.now.columns)) }
+{
+    let [id, behind @ ..] = layout.columns.as_slice() else {
+        unreachable!();
+    };
+    let Some(id) = text_under(alloc, *id, row)? else {
+        return Ok(None);
+    };
+    if !has_family_column(layout) {
+        return claim_behind(alloc, id, None, behind, row);
+    }
+    let [family, behind @ ..] = behind else {
+        unreachable!();
+    };
+    let Some(family) = text_under(alloc, *family, row)? else {
+        return Ok(None);
+    };
+    claim_behind(alloc, id, Some(family), behind, row)
+}
+
+// The claim of this number and family that goes on under these columns, from its member on.
+fn claim_behind(
+    alloc: Global,
+    id: Text,
+    family: Option<Text>,
+    columns: &[Column],
+    row: &Line,
+) -> Result<Option<Claim>, AllocError>
+    requires within { All (λ c. c.place < length row.now) columns.now }
+    requires small { length row.now < 2 ^ 64 }
+    requires columns { AreFromMember columns.now }
+    ensures claim { IfOk result (λ read. IfSome read (GoesOnAs row.now columns.now id family)) }
+    ensures none { IfOk result (λ read. IfNone read (Any (IsRefusedUnder row.now) columns.now)) }
+{
+    let [member, service, billed, fields @ ..] = columns else {
+        unreachable!();
+    };
+    let Some(member) = text_under(alloc, *member, row)? else {
+        return Ok(None);
+    };
+    let Some(service) = day_under(alloc, *service, row)? else {
+        return Ok(None);
+    };
+    let Some(billed) = money_under(alloc, *billed, row)? else {
+        return Ok(None);
+    };
+    let Some(fields) = values_under(alloc, fields, row)? else {
+        return Ok(None);
+    };
+    Ok(Some(Claim {
+        id,
+        family,
+        member,
+        service,
+        billed,
+        fields,
+    }))
 }
 
 /// Whether a file of claims with these columns has one for families.
@@ -97,25 +173,4 @@ fn is_identifier(content: Content) -> bool
     ensures { result ≡ is_identifier content }
 {
     matches!(content, Content::Identifier)
-}
-
-fn claim_of(alloc: Global, values: Vec<Value>, families: bool) -> Result<Claim, AllocError>
-    requires { IsClaimShaped families values.items }
-    ensures { IfOk result (λ claim. claim_values claim ≡ values.items) }
-{
-    let mut values = values.into_iter();
-    let id = take_text(&mut values);
-    let family = take_family(&mut values, families);
-    let member = take_text(&mut values);
-    let service = take_day(&mut values);
-    let billed = take_money(&mut values);
-    let fields = list_of(alloc, values)?;
-    Ok(Claim {
-        id,
-        family,
-        member,
-        service,
-        billed,
-        fields,
-    })
 }

@@ -55,8 +55,8 @@ pub fn judge_claim(
     }))
 }
 
-// The fault that stands furthest left under these columns, if there is one. All are looked at, since they are not in the header's order.
-fn first_fault(
+/// The fault that stands furthest left under these columns, if there is one. All are looked at, since they are not in the header's order.
+pub fn first_fault(
     alloc: Global,
     columns: &[Column],
     line: &Line,

@@ -24,6 +24,7 @@ mod record;
 mod records;
 mod rows;
 mod sheet;
+mod under;
 mod values;
 
 pub use balances::{Balances, read_balances};

@@ -77,7 +77,8 @@ fn read_values(
     }
 }
 
-fn read_under(
+/// The value of the field under a column, or its fault.
+pub fn read_under(
     alloc: Global,
     column: Column,
     row: &Line,

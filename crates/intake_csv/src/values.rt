@@ -1,13 +1,11 @@
 //! The values of a record, taken one after another.
-ghost use Rattle.std.specs.Prelude.{◌≡◌, ◌∷◌, IfOk};
+ghost use Rattle.std.specs.Prelude.{◌≡◌, ◌∷◌};
 ghost use Rattle.std.specs.Vec.Iter.{into_iter_items};
-ghost use Rattle.intake_csv.specs.Values.{BeginsWithText, BeginsWithDay, BeginsWithFamily, BeginsWithMoney, TakesFamily};
+ghost use Rattle.intake_csv.specs.Values.{BeginsWithText, BeginsWithFamily, BeginsWithMoney, TakesFamily};
 ghost use Rattle.feel_tests.specs.declared.value.Value.TheVariants as kinds;
 
-use dtable::Sequence;
-use feel_tests::{Day, Text, Value};
+use feel_tests::{Text, Value};
 use settlement::Money;
-use std::alloc::{AllocError, Global};
 use std::vec;
 
 /// Takes the first value, a text.
@@ -35,20 +33,6 @@ pub fn take_family(values: &mut vec::IntoIter<Value>, families: bool) -> Option<
     Some(take_text(values))
 }
 
-/// Takes the first value, a day.
-pub fn take_day(values: &mut vec::IntoIter<Value>) -> Day
-    requires { BeginsWithDay (into_iter_items values.old) }
-    ensures { into_iter_items values.old ≡ kinds.Day result ∷ into_iter_items values.new }
-{
-    let Some(value) = values.next() else {
-        unreachable!();
-    };
-    let Value::Day(day) = value else {
-        unreachable!();
-    };
-    day
-}
-
 /// Takes the first value, an amount of money.
 pub fn take_money(values: &mut vec::IntoIter<Value>) -> Money
     requires { BeginsWithMoney (into_iter_items values.old) }
@@ -64,15 +48,4 @@ pub fn take_money(values: &mut vec::IntoIter<Value>) -> Money
         Some(money) => money,
         None => unreachable!(),
     }
-}
-
-/// The values that are left, as a list.
-pub fn list_of(alloc: Global, values: vec::IntoIter<Value>) -> Result<Sequence<Value>, AllocError>
-    ensures { IfOk result (λ list. list ≡ into_iter_items values) }
-{
-    let mut list = Sequence::with_capacity(alloc, values.len())?;
-    for value in values {
-        list.push(value)?;
-    }
-    Ok(list)
 }

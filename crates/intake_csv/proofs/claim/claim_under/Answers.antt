@@ -1,0 +1,46 @@
+use Rattle.std.proofs.Common.{◌-◌, ◌<◌, length, drop, take, arith, subst, sym}
+use Rattle.std.specs.List.{All, Any}
+use Rattle.intake_csv.specs.Judged.{IsRefusedUnder}
+use Rattle.intake_csv.specs.declared.column.Column.{Column}
+use Rattle.intake_csv.proofs.Lists.{all-within, any-first, any-within}
+use Rattle.intake_csv.proofs.UnderColumns.{TellsRefused, refused-among}
+use Rattle.intake_csv.proofs.claim.claim_under.Goals as goal
+
+pub returns-then-not-has_family_column-clause-none : goal.returns-then-not-has_family_column-clause-none
+returns-then-not-has_family_column-clause-none c =
+    let row = c.args.row.now in
+    let columns = c.as_slice.result.now in
+    subst (λ all. TellsRefused row all c.claim_behind.result) c.as_slice.ensures
+    (refused-among row _ columns c.claim_behind.result (any-within (IsRefusedUnder row) 1 _ columns) c.claim_behind.ensures.none)
+
+pub text_under-requires-2-clause-within : goal.text_under-requires-2-clause-within
+text_under-requires-2-clause-within c =
+    let is_within : Column → Type 0 = λ column. column.place < length c.args.row.now in
+    let all = subst (All is_within) (sym c.as_slice.ensures) c.requires.within in
+    let columns = c.as_slice.result.now in
+    let some : 0 < length (take (length columns - 1) (drop 1 columns)) = omega (arith, c.in-len1-up-behind.len_at_least) in
+    all-within is_within 1 (length columns - 1) columns all 0 _ some
+
+pub returns-in_default-3-clause-none : goal.returns-in_default-3-clause-none
+returns-in_default-3-clause-none c =
+    let refused = rw c.in_default-3.is at c.in_ok-family.ensures.none in
+    let is_refused = IsRefusedUnder c.args.row.now in
+    let columns = c.as_slice.result.now in
+    subst (Any is_refused) c.as_slice.ensures (any-within is_refused 1 _ columns (any-first is_refused _ _ c.in-len1-up-behind.len_at_least refused))
+
+pub claim_behind-requires-2-clause-within : goal.claim_behind-requires-2-clause-within
+claim_behind-requires-2-clause-within c =
+    let is_within : Column → Type 0 = λ column. column.place < length c.args.row.now in
+    let all = subst (All is_within) (sym c.as_slice.ensures) c.requires.within in
+    let columns = c.as_slice.result.now in
+    let behind = take (length columns - 1) (drop 1 columns) in
+    all-within is_within 1 (length behind - 1) behind (all-within is_within 1 (length columns - 1) columns all)
+
+pub returns-clause-none : goal.returns-clause-none
+returns-clause-none c =
+    let row = c.args.row.now in
+    let columns = c.as_slice.result.now in
+    let behind = take (length columns - 1) (drop 1 columns) in
+    subst (λ all. TellsRefused row all c.claim_behind-2.result) c.as_slice.ensures
+    (refused-among row _ columns c.claim_behind-2.result
+    (λ refused. any-within (IsRefusedUnder row) 1 (length columns - 1) columns (any-within (IsRefusedUnder row) 1 _ behind refused)) c.claim_behind-2.ensures.none)

@@ -1,0 +1,94 @@
+//! The fields of a record under its columns, each read as what stands there. A field that is refused has no value here, and its fault is not told.
+ghost use Rattle.std.specs.Prelude.{◌≡◌, ◌<◌, ◌^◌, length, IfOk, IfSome, IfNone};
+ghost use Rattle.std.specs.List.{All, Any};
+ghost use Rattle.feel_tests.specs.declared.kind.Kind.TheVariants as kinds;
+ghost use Rattle.feel_tests.specs.declared.value.Value.TheVariants as values;
+ghost use Rattle.intake_csv.specs.Judged.{IsRefusedUnder};
+ghost use Rattle.intake_csv.specs.Rows.{AreValues, HoldsUnder};
+ghost use Rattle.intake_csv.specs.declared.column.Content.TheVariants as contents;
+
+use crate::column::Column;
+use crate::line::Line;
+use crate::record::read_under;
+use dtable::Sequence;
+use feel_tests::{Day, Text, Value};
+use settlement::Money;
+use std::alloc::{AllocError, Global};
+
+/// The text under a column of identifiers.
+#[tactic(auto, using(crate::proofs::Shapes::text_value))]
+pub fn text_under(alloc: Global, column: Column, row: &Line) -> Result<Option<Text>, AllocError>
+    requires within { column.place < length row.now }
+    requires small { length row.now < 2 ^ 64 }
+    requires content { column.content ≡ contents.Identifier }
+    ensures text { IfOk result (λ read. IfSome read (λ text. HoldsUnder row.now column (values.Text text))) }
+    ensures none { IfOk result (λ read. IfNone read (IsRefusedUnder row.now column)) }
+{
+    let Ok(value) = read_under(alloc, column, row)? else {
+        return Ok(None);
+    };
+    let Value::Text(text) = value else {
+        unreachable!();
+    };
+    Ok(Some(text))
+}
+
+/// The day under a column of days.
+#[tactic(auto, using(crate::proofs::Shapes::day_value))]
+pub fn day_under(alloc: Global, column: Column, row: &Line) -> Result<Option<Day>, AllocError>
+    requires within { column.place < length row.now }
+    requires small { length row.now < 2 ^ 64 }
+    requires content { column.content ≡ contents.Plain kinds.Day }
+    ensures day { IfOk result (λ read. IfSome read (λ day. HoldsUnder row.now column (values.Day day))) }
+    ensures none { IfOk result (λ read. IfNone read (IsRefusedUnder row.now column)) }
+{
+    let Ok(value) = read_under(alloc, column, row)? else {
+        return Ok(None);
+    };
+    let Value::Day(day) = value else {
+        unreachable!();
+    };
+    Ok(Some(day))
+}
+
+/// The amount under a column of money.
+#[tactic(auto, using(crate::proofs::Shapes::money_value))]
+pub fn money_under(alloc: Global, column: Column, row: &Line) -> Result<Option<Money>, AllocError>
+    requires within { column.place < length row.now }
+    requires small { length row.now < 2 ^ 64 }
+    requires content { column.content ≡ contents.Money }
+    ensures money { IfOk result (λ read. IfSome read (λ money. HoldsUnder row.now column (values.Number money))) }
+    ensures none { IfOk result (λ read. IfNone read (IsRefusedUnder row.now column)) }
+{
+    let Ok(value) = read_under(alloc, column, row)? else {
+        return Ok(None);
+    };
+    let Value::Number(number) = value else {
+        unreachable!();
+    };
+    let Some(money) = Money::new(number) else {
+        unreachable!();
+    };
+    Ok(Some(money))
+}
+
+/// The values under these columns, in their order.
+pub fn values_under(
+    alloc: Global,
+    columns: &[Column],
+    row: &Line,
+) -> Result<Option<Sequence<Value>>, AllocError>
+    requires within { All (λ c. c.place < length row.now) columns.now }
+    requires small { length row.now < 2 ^ 64 }
+    ensures values { IfOk result (λ read. IfSome read (AreValues row.now columns.now)) }
+    ensures none { IfOk result (λ read. IfNone read (Any (IsRefusedUnder row.now) columns.now)) }
+{
+    let mut values = Sequence::with_capacity(alloc, columns.len())?;
+    for column in columns {
+        let Ok(value) = read_under(alloc, *column, row)? else {
+            return Ok(None);
+        };
+        values.push(value)?;
+    }
+    Ok(Some(values))
+}
