@@ -11,26 +11,31 @@ use crate::column::Column;
 use crate::line::Line;
 use crate::record::read_under;
 use dtable::Sequence;
-use feel_tests::{Day, Text, Value};
+use feel_tests::{Day, TEXT_LIMIT_BYTES, Text, Value};
 use settlement::Money;
 use std::alloc::{AllocError, Global};
 
-/// The text under a column of identifiers.
-#[tactic(auto, using(crate::proofs::Shapes::text_value))]
+/// The text under a column of identifiers, which is the field as it stands.
+#[tactic(auto, using(crate::proofs::UnderColumns::stands_under, crate::proofs::UnderColumns::long_under, crate::proofs::UnderColumns::no_text_under))]
 pub fn text_under(alloc: Global, column: Column, row: &Line) -> Result<Option<Text>, AllocError>
     requires within { column.place < length row.now }
-    requires small { length row.now < 2 ^ 64 }
     requires content { column.content ≡ contents.Identifier }
     ensures text { IfOk result (λ read. IfSome read (λ text. HoldsUnder row.now column (values.Text text))) }
     ensures none { IfOk result (λ read. IfNone read (IsRefusedUnder row.now column)) }
 {
-    let Ok(value) = read_under(alloc, column, row)? else {
-        return Ok(None);
-    };
-    let Value::Text(text) = value else {
+    let Some(found) = row.text(column.place) else {
         unreachable!();
     };
-    Ok(Some(text))
+    let Ok(text) = found else {
+        return Ok(None);
+    };
+    if text.len() > TEXT_LIMIT_BYTES {
+        return Ok(None);
+    }
+    if text.is_empty() {
+        return Ok(None);
+    }
+    Ok(Some(Text::new(alloc, text)?))
 }
 
 /// The day under a column of days.

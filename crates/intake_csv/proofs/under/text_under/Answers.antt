@@ -1,0 +1,17 @@
+use Rattle.std.proofs.Common.{◌≡◌, None, sym}
+use Rattle.std.proofs.lemmas.Bool.{eqb-true}
+use Rattle.csv.specs.Records.{field_at}
+use Rattle.intake_csv.proofs.Lists.{field_at-within}
+use Rattle.intake_csv.proofs.UnderColumns.{empty-under}
+use Rattle.intake_csv.proofs.under.text_under.Goals as goal
+
+pub unreachable-requires : goal.unreachable-requires
+unreachable-requires c =
+    let found = field_at-within c.args.row.now c.args.column.place c.requires.within in
+    let none : field_at c.args.row.now c.args.column.place ≡ None = c.text.ensures.lacking c.in_default.is in
+    cc (found, none)
+
+pub returns-then-is_empty-clause-none : goal.returns-then-is_empty-clause-none
+returns-then-is_empty-clause-none c =
+    let at = rw c.in-Ok.is at c.in-Some.ensures.text in
+    empty-under c.args.row.now c.args.column c.in-Ok.text.now c.requires.content at (eqb-true _ _ (sym c.if-is_empty.ensures))
