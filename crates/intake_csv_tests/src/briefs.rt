@@ -19,22 +19,39 @@ Z,M2,c3,1970-01-11,40.00,F2
 // Each row in short: `number.place id family member day;`, or `number!column.cause;`.
 #[test]
 fn rows_in_brief(rt: HostRuntime) -> Result<(), Fail> {
-    let alloc = rt.alloc();
-    let plan = read_plan(alloc, PLAN).expect(&rt, "a plan");
-    let told = told(&rt, alloc, &plan)?;
+    let plan = read_plan(rt.alloc(), PLAN).expect(&rt, "a plan");
+    tells(&rt, rt.alloc(), &plan)?;
+    Ok(())
+}
+
+fn tells(rt: &impl Abort, alloc: Global, plan: &Plan) -> Result<(), AllocError> {
+    let told = told(rt, alloc, plan)?;
     assert_eq!(rt; told.as_str(), "1.0 c1 F1 M1 1;2!2.4;3.1 c3 F2 M2 10;");
     Ok(())
 }
 
 fn told(rt: &impl Abort, alloc: Global, plan: &Plan) -> Result<String, AllocError> {
     let file = ClaimFile::new(alloc, plan, CLAIMS).expect(rt, "a file of claims");
+    told_of(alloc, &file)
+}
+
+fn told_of(alloc: Global, file: &ClaimFile) -> Result<String, AllocError> {
     let mut rows = file.rows(alloc)?;
-    let mut line = Line::new(alloc);
+    told_behind(alloc, &mut rows)
+}
+
+fn told_behind(alloc: Global, rows: &mut Rows) -> Result<String, AllocError> {
     let mut told = String::new(alloc);
-    for _ in 0..4 {
-        tell_next(alloc, &mut told, &mut rows, &mut line)?;
-    }
+    tell_all(alloc, &mut told, rows)?;
     Ok(told)
+}
+
+fn tell_all(alloc: Global, told: &mut String, rows: &mut Rows) -> Result<(), AllocError> {
+    let mut line = Line::new(alloc);
+    for _ in 0..4 {
+        tell_next(alloc, told, rows, &mut line)?;
+    }
+    Ok(())
 }
 
 // Tells the next row, if there is one.

@@ -1,26 +1,23 @@
-//! Files by worked examples.
+//! Files of claims by worked examples.
 use dtable::{Plan, read_plan};
 use feel_tests::Value;
-use fixpoint::Fixed;
 use intake_csv::{
-    BalanceFault, ClaimFile, FILE_LIMIT_BYTES, FileFault, Row, RowCause, RowFault, Rows,
-    claims_have_the_plan_s_fields, given_row_is_the_first, no_records_give_no_rows, read_balances,
-    reader_begins_with_all_rows,
+    ClaimFile, FILE_LIMIT_BYTES, FileFault, Row, RowCause, Rows, claims_have_the_plan_s_fields,
+    given_row_is_the_first, no_records_give_no_rows, reader_begins_with_all_rows,
 };
-use settlement::{Acc, Claim};
+use settlement::Claim;
 use std::alloc::{AllocError, Global};
 use std::fmt::Write;
 use std::process::Abort;
-use std::test::Fail;
 
 /// A plan with one field, of text.
-const PLAN: &[u8] = b"version = 1\nfields = [{name = \"code\", kind = \"text\"}]\n";
+pub(crate) const PLAN: &[u8] = b"version = 1\nfields = [{name = \"code\", kind = \"text\"}]\n";
 
 /// The same, whose accumulators are kept by the year.
-const BY_YEAR: &[u8] = b"version = 2\nfields = [{name = \"code\", kind = \"text\"}]\n";
+pub(crate) const BY_YEAR: &[u8] = b"version = 2\nfields = [{name = \"code\", kind = \"text\"}]\n";
 
 /// The same, whose accumulators are kept for families, too.
-const BY_FAMILY: &[u8] = b"version = 3\nfields = [{name = \"code\", kind = \"text\"}]\n";
+pub(crate) const BY_FAMILY: &[u8] = b"version = 3\nfields = [{name = \"code\", kind = \"text\"}]\n";
 
 /// A plan with a field of each kind.
 const KINDS: &[u8] =
@@ -36,24 +33,35 @@ c3,M1,2024-02-02,40.00,Z
 c4,M1,2024-03-01,100.00,A
 ";
 
-const BALANCES: &[u8] = b"member,met,oop,paid\nM1,50.00,10.00,5.00\n";
-
-fn plan(rt: &impl Abort, alloc: Global, text: &[u8]) -> Plan {
+pub(crate) fn plan(rt: &impl Abort, alloc: Global, text: &[u8]) -> Plan {
     read_plan(alloc, text).expect(rt, "a plan")
 }
 
 // Each row in short: `number.place id member day units values;`, or `number!column.cause;`.
 fn told(rt: &impl Abort, alloc: Global, plan: &Plan, text: &[u8]) -> Result<String, AllocError> {
     let file = ClaimFile::new(alloc, plan, text).expect(rt, "a file of claims");
+    told_of(rt, alloc, &file)
+}
+
+fn told_of(rt: &impl Abort, alloc: Global, file: &ClaimFile) -> Result<String, AllocError> {
     let mut rows = file.rows(alloc)?;
+    told_behind(rt, alloc, &mut rows)
+}
+
+fn told_behind(rt: &impl Abort, alloc: Global, rows: &mut Rows) -> Result<String, AllocError> {
     let mut told = String::new(alloc);
+    tell_all(&mut told, rows)?;
+    assert!(rt; tell_next(&mut told, rows) == Ok(false));
+    Ok(told)
+}
+
+fn tell_all(told: &mut String, rows: &mut Rows) -> Result<(), AllocError> {
     for _ in 0..u64::MAX {
-        if !tell_next(&mut told, &mut rows)? {
+        if !tell_next(told, rows)? {
             break;
         }
     }
-    assert!(rt; !tell_next(&mut told, &mut rows)?);
-    Ok(told)
+    Ok(())
 }
 
 // Tells the next row, if there is one.
@@ -163,9 +171,16 @@ const FAULTY_TOLD: &str =
 #[test]
 fn each_fault_of_a_record(rt: HostRuntime) {
     let plan = plan(&rt, rt.alloc(), PLAN);
-    let mark = b"\xEF\xBB\xBF";
-    assert!(rt; reads(&rt, rt.alloc(), &plan, b"", &FAULTY, FAULTY_TOLD).is_ok());
-    assert!(rt; reads(&rt, rt.alloc(), &plan, mark, &FAULTY, FAULTY_TOLD).is_ok());
+    reads_faulty(&rt, rt.alloc(), &plan);
+}
+
+fn reads_faulty(rt: &impl Abort, alloc: Global, plan: &Plan) {
+    assert!(rt; reads(rt, alloc, plan, b"", faulty(), FAULTY_TOLD).is_ok());
+    assert!(rt; reads(rt, alloc, plan, b"\xEF\xBB\xBF", faulty(), FAULTY_TOLD).is_ok());
+}
+
+fn faulty() -> &'static [&'static [u8]] {
+    &FAULTY
 }
 
 /// Records with faults under several columns, in another order than the plan's.
@@ -215,8 +230,16 @@ fn refused(alloc: Global, plan: &Plan, text: &[u8]) -> Option<FileFault> {
 #[test]
 fn each_fault_of_a_file(rt: HostRuntime) {
     let plan = plan(&rt, rt.alloc(), PLAN);
-    for (text, fault) in &REFUSED_FILES {
-        assert!(rt; refused(rt.alloc(), &plan, text) == Some(*fault));
+    refuses_files(&rt, rt.alloc(), &plan, refused_files());
+}
+
+fn refused_files() -> &'static [(&'static [u8], FileFault)] {
+    &REFUSED_FILES
+}
+
+fn refuses_files(rt: &impl Abort, alloc: Global, plan: &Plan, files: &[(&[u8], FileFault)]) {
+    for (text, fault) in files {
+        assert!(rt; refused(alloc, plan, text) == Some(*fault));
     }
 }
 
@@ -307,10 +330,26 @@ const HEADERS: [&[u8]; 4] = [
 #[test]
 fn quoting(rt: HostRuntime) {
     let plan = plan(&rt, rt.alloc(), PLAN);
-    for header in &HEADERS {
-        for (records, wanted) in &QUOTING {
-            assert!(rt; reads(&rt, rt.alloc(), &plan, header, &[*records], wanted).is_ok());
-        }
+    reads_by_headers(&rt, rt.alloc(), &plan);
+}
+
+fn headers() -> &'static [&'static [u8]] {
+    &HEADERS
+}
+
+fn quotings() -> &'static [(&'static [u8], &'static str)] {
+    &QUOTING
+}
+
+fn reads_by_headers(rt: &impl Abort, alloc: Global, plan: &Plan) {
+    for header in headers() {
+        reads_quotings(rt, alloc, plan, header);
+    }
+}
+
+fn reads_quotings(rt: &impl Abort, alloc: Global, plan: &Plan, header: &[u8]) {
+    for (records, wanted) in quotings() {
+        assert!(rt; reads(rt, alloc, plan, header, &[*records], wanted).is_ok());
     }
 }
 
@@ -324,7 +363,6 @@ fn every_prefix_of_a_claim_file_is_answered(rt: HostRuntime) {
     assert!(rt; tells(&rt, rt.alloc(), &plan, CLAIMS, CLAIMS_TOLD).is_ok());
 }
 
-// A prefix is a file of claims where it has the header's 32 bytes.
 fn check_prefixes(
     rt: &impl Abort,
     alloc: Global,
@@ -332,18 +370,51 @@ fn check_prefixes(
     text: &[u8],
 ) -> Result<(), AllocError> {
     for length in 0..text.len() {
-        match ClaimFile::new(alloc, plan, &text[..length]) {
-            Ok(file) => {
-                assert!(rt; length >= 32);
-                assert!(rt; file.text().len() == length);
-                let mut rows = file.rows(alloc)?;
-                check_numbers(rt, &mut rows)?;
-            }
-            Err(FileFault::NoHeader) => assert!(rt; length == 0),
-            Err(fault) => assert!(rt; fault == FileFault::MissingColumn && length < 32),
-        }
+        check_prefix(rt, alloc, plan, &text[..length])?;
     }
     Ok(())
+}
+
+// A prefix is a file of claims where it has the header's 32 bytes.
+fn check_prefix(
+    rt: &impl Abort,
+    alloc: Global,
+    plan: &Plan,
+    text: &[u8],
+) -> Result<(), AllocError> {
+    match ClaimFile::new(alloc, plan, text) {
+        Ok(file) => check_file(rt, alloc, &file, text.len()),
+        Err(fault) => {
+            check_header(rt, fault, text.len());
+            Ok(())
+        }
+    }
+}
+
+fn check_file(
+    rt: &impl Abort,
+    alloc: Global,
+    file: &ClaimFile,
+    length: usize,
+) -> Result<(), AllocError> {
+    assert!(rt; length >= 32);
+    assert!(rt; file.text().len() == length);
+    let mut rows = file.rows(alloc)?;
+    check_numbers(rt, &mut rows)
+}
+
+fn check_header(rt: &impl Abort, fault: FileFault, length: usize) {
+    assert!(rt; length < 32);
+    assert!(rt; fault == fault_of_front(length));
+}
+
+// The fault of so many bytes of a header, which are not all of it.
+pub(crate) fn fault_of_front(length: usize) -> FileFault {
+    if length == 0 {
+        FileFault::NoHeader
+    } else {
+        FileFault::MissingColumn
+    }
 }
 
 // The next row without its claim: its number, and its place among the claims or what refuses it.
@@ -373,49 +444,6 @@ fn check_numbers(rt: &impl Abort, rows: &mut Rows) -> Result<(), AllocError> {
     Ok(())
 }
 
-fn same(acc: Acc, met: i64, oop: i64, paid: i64) -> bool {
-    acc.met.amount().units() == met
-        && acc.oop.amount().units() == oop
-        && acc.paid.amount().units() == paid
-        && acc.fmet == acc.met
-        && acc.foop == acc.oop
-}
-
-// Reads the balances, and compares what these members have in no year.
-fn are_balances(rt: &impl Abort, alloc: Global, text: &[u8], members: &[(&str, i64, i64, i64)]) {
-    let plan = plan(rt, alloc, PLAN);
-    let balances = read_balances(alloc, &plan, text).expect(rt, "balances");
-    for (member, met, oop, paid) in members {
-        assert!(rt;
-            same(balances.of(member, member, 0), *met, *oop, *paid),
-            "{member}"
-        );
-    }
-}
-
-/// Balances of several years, and what members have of them in a year.
-const OF_YEARS: &[u8] =
-    b"member,year,met,oop,paid\nM1,2024,50.00,10.00,5.00\nM2,9999,1,2,3\nM1,2025,4,0,0\n";
-
-const MEMBERS_BY_YEAR: [(&str, u16, i64, i64, i64); 6] = [
-    ("M1", 2024, 500_000, 100_000, 50_000),
-    ("M1", 2025, 40_000, 0, 0),
-    ("M1", 2026, 0, 0, 0),
-    ("M2", 2024, 0, 0, 0),
-    ("M2", 9999, 10_000, 20_000, 30_000),
-    ("M3", 2024, 0, 0, 0),
-];
-
-#[test]
-fn balances_of_years(rt: HostRuntime) {
-    let plan = plan(&rt, rt.alloc(), BY_YEAR);
-    let balances = read_balances(rt.alloc(), &plan, OF_YEARS).expect(&rt, "balances");
-    for (member, year, met, oop, paid) in &MEMBERS_BY_YEAR {
-        let found = same(balances.of(member, member, *year), *met, *oop, *paid);
-        assert!(rt; found, "{member} {year}");
-    }
-}
-
 /// Claims of families, and what is told of them: the column of the family may stand anywhere.
 const FAMILY_CLAIMS: &[u8] = b"claim,code,member,service,billed,family
 e1,A,M1,2024-01-05,120.00,F1
@@ -425,273 +453,16 @@ e4,B,M1,2024-02-01,30.00,F2
 ";
 
 #[test]
-fn claims_of_families(rt: HostRuntime) -> Result<(), Fail> {
+fn claims_of_families(rt: HostRuntime) {
     let plan = plan(&rt, rt.alloc(), BY_FAMILY);
-    tells(
-        &rt,
-        rt.alloc(),
-        &plan,
-        FAMILY_CLAIMS,
-        "1.0 e1 F1 M1 19727 1200000 A;2!6.4;3!3.4;4.1 e4 F2 M1 19754 300000 B;",
-    )?;
-    assert!(rt; refused(rt.alloc(), &plan, CLAIMS) == Some(FileFault::MissingColumn));
-    Ok(())
+    tells_of_families(&rt, rt.alloc(), &plan);
 }
 
-/// Balances of two families, and what members have of them in a year: of their own, and of their families'.
-const OF_FAMILIES: &[u8] =
-    b"year,family,member,met,oop,paid\n2024,F1,M1,50,10,5\n2024,F1,M2,4,3,2\n2025,F1,M1,1,1,1\n2024,F2,M1,7,7,7\n2024,F1,M3,0.50,0,0\n";
+const FAMILIES_TOLD: &str = "1.0 e1 F1 M1 19727 1200000 A;2!6.4;3!3.4;4.1 e4 F2 M1 19754 300000 B;";
 
-/// A family, a member, a year; the member's own in ten-thousandths, and the family's.
-type OfFamily = (&'static str, &'static str, u16, (i64, i64, i64), (i64, i64));
-
-const MEMBERS_BY_FAMILY: [OfFamily; 8] = [
-    (
-        "F1",
-        "M1",
-        2024,
-        (500_000, 100_000, 50_000),
-        (545_000, 130_000),
-    ),
-    (
-        "F1",
-        "M2",
-        2024,
-        (40_000, 30_000, 20_000),
-        (545_000, 130_000),
-    ),
-    ("F1", "M3", 2024, (5_000, 0, 0), (545_000, 130_000)),
-    ("F1", "M4", 2024, (0, 0, 0), (545_000, 130_000)),
-    ("F1", "M2", 2025, (0, 0, 0), (10_000, 10_000)),
-    ("F2", "M1", 2024, (70_000, 70_000, 70_000), (70_000, 70_000)),
-    ("F2", "M1", 2025, (0, 0, 0), (0, 0)),
-    ("M1", "M1", 2024, (0, 0, 0), (0, 0)),
-];
-
-fn has(acc: Acc, own: (i64, i64, i64), family: (i64, i64)) -> bool {
-    acc.met.amount().units() == own.0
-        && acc.oop.amount().units() == own.1
-        && acc.paid.amount().units() == own.2
-        && acc.fmet.amount().units() == family.0
-        && acc.foop.amount().units() == family.1
-}
-
-#[test]
-fn balances_of_families(rt: HostRuntime) {
-    let plan = plan(&rt, rt.alloc(), BY_FAMILY);
-    let balances = read_balances(rt.alloc(), &plan, OF_FAMILIES).expect(&rt, "balances");
-    for (family, member, year, own, sums) in &MEMBERS_BY_FAMILY {
-        let found = has(balances.of(family, member, *year), *own, *sums);
-        assert!(rt; found, "{family} {member} {year}");
-    }
-}
-
-/// Files of balances of families with a record that is refused: its number, the column, and why.
-const REFUSED_FAMILIES: [(&[u8], usize, usize, RowCause); 5] = [
-    (
-        b"family,member,year,met,oop,paid\nF1,M1,2024,99999999999.99,0.00,0.00\nF1,M2,2024,0.01,0.00,0.00\n",
-        2,
-        4,
-        RowCause::Sum,
-    ),
-    (
-        b"oop,paid,year,met,member,family\n99999999999.98,0,2024,1,M1,F1\n0.01,0,2024,1,M2,F1\n0.01,0,2025,1,M3,F1\n0.01,0,2024,1,M3,F1\n",
-        4,
-        1,
-        RowCause::Sum,
-    ),
-    (
-        b"family,member,year,met,oop,paid\nF1,M1,2024,99999999999.99,0,0\nF1,M1,2025,1,1,1\nF2,M1,2024,1,1,1\nF1,M1,2024,99999999999.99,0,0\n",
-        4,
-        2,
-        RowCause::Repeated,
-    ),
-    (
-        b"family,member,year,met,oop,paid\nF1,M1,2024,1,1,1\n,M1,2024,1,1,1\n",
-        2,
-        1,
-        RowCause::EmptyId,
-    ),
-    (
-        b"family,member,year,met,oop,paid\nF1,M1,2024,1,1,99999999999.99\nF1,M2,2024,1,1,99999999999.99\nF1,M3,24,1,1,1\n",
-        3,
-        3,
-        RowCause::Value,
-    ),
-];
-
-#[test]
-fn each_fault_of_a_family(rt: HostRuntime) {
-    let plan = plan(&rt, rt.alloc(), BY_FAMILY);
-    let refused = refused_balances(rt.alloc(), &plan, OF_YEARS);
-    assert!(rt; refused == Some(BalanceFault::File(FileFault::MissingColumn)));
-    for (text, number, column, cause) in &REFUSED_FAMILIES {
-        let wanted = row(*number, *column, *cause);
-        assert!(rt; refused_balances(rt.alloc(), &plan, text) == Some(wanted));
-    }
-}
-
-#[test]
-fn balances_of_families_or_no_memory(rt: HostRuntime) {
-    let Ok(plan) = read_plan(rt.alloc(), BY_FAMILY) else {
-        return;
-    };
-    match read_balances(rt.alloc(), &plan, OF_FAMILIES) {
-        Ok(balances) => {
-            assert!(rt; has(balances.of("F1", "M4", 2024), (0, 0, 0), (545_000, 130_000)));
-        }
-        Err(fault) => assert!(rt; fault == BalanceFault::OutOfMemory),
-    }
-}
-
-/// The members of the balances, and some of none.
-const MEMBERS: [(&str, i64, i64, i64); 3] = [
-    ("M1", 500_000, 100_000, 50_000),
-    ("M2", 0, 0, 0),
-    ("", 0, 0, 0),
-];
-
-/// Columns in another order, and one more.
-const OTHER_BALANCES: &[u8] = b"paid,note,oop,met,member\n1,\xFF,2,3,B\n4,,5,6,A\n0,,0,0.01,C\n";
-
-const OTHER_MEMBERS: [(&str, i64, i64, i64); 3] = [
-    ("A", 60_000, 50_000, 40_000),
-    ("B", 30_000, 20_000, 10_000),
-    ("C", 100, 0, 0),
-];
-
-#[test]
-fn balances(rt: HostRuntime) {
-    are_balances(&rt, rt.alloc(), BALANCES, &MEMBERS);
-    are_balances(&rt, rt.alloc(), OTHER_BALANCES, &OTHER_MEMBERS);
-    are_balances(&rt, rt.alloc(), b"member,met,oop,paid", &[("M1", 0, 0, 0)]);
-}
-
-/// Files of balances that are refused as a whole.
-const REFUSED_BALANCES: [(&[u8], FileFault); 3] = [
-    (b"", FileFault::NoHeader),
-    (b"member,met,met,oop\n", FileFault::MissingColumn),
-    (b"member,met,met,oop,paid\n", FileFault::DuplicateColumn),
-];
-
-// The fault of a text that is no file of balances under the plan.
-fn refused_balances(alloc: Global, plan: &Plan, text: &[u8]) -> Option<BalanceFault> {
-    read_balances(alloc, plan, text).err()
-}
-
-#[test]
-fn each_fault_of_a_file_of_balances(rt: HostRuntime) {
-    let plan = plan(&rt, rt.alloc(), PLAN);
-    for (text, fault) in &REFUSED_BALANCES {
-        assert!(rt; refused_balances(rt.alloc(), &plan, text) == Some(BalanceFault::File(*fault)));
-    }
-}
-
-/// Files of balances of several years with a record that is refused: its number, the column, and why.
-const REFUSED_YEARS: [(&[u8], usize, usize, RowCause); 4] = [
-    (
-        b"member,year,met,oop,paid\nM1,2024,1,1,1\nM1,2025,1,1,1\nM1,2024,1,1,1\n",
-        3,
-        1,
-        RowCause::Repeated,
-    ),
-    (
-        b"member,year,met,oop,paid\nM1,24,1,1,1\n",
-        1,
-        2,
-        RowCause::Value,
-    ),
-    (
-        b"member,met,oop,paid,year\nM1,1,1,1,0000\n",
-        1,
-        5,
-        RowCause::Value,
-    ),
-    (
-        b"member,year,met,oop,paid\nM1,2024,1,-1,1\n",
-        1,
-        4,
-        RowCause::Negative,
-    ),
-];
-
-#[test]
-fn each_fault_of_a_year(rt: HostRuntime) {
-    let plan = plan(&rt, rt.alloc(), BY_YEAR);
-    let refused = refused_balances(rt.alloc(), &plan, BALANCES);
-    assert!(rt; refused == Some(BalanceFault::File(FileFault::MissingColumn)));
-    for (text, number, column, cause) in &REFUSED_YEARS {
-        let wanted = row(*number, *column, *cause);
-        assert!(rt; refused_balances(rt.alloc(), &plan, text) == Some(wanted));
-    }
-}
-
-/// Files of balances with a record that is refused: its number, the column, and why.
-const REFUSED_RECORDS: [(&[u8], usize, usize, RowCause); 6] = [
-    (
-        b"member,met,oop,paid\nM1,50.00,10.00,5.00\nM1,50.00,10.00,5.00\n",
-        2,
-        1,
-        RowCause::Repeated,
-    ),
-    (
-        b"met,member,oop,paid\n1,M1,1,1\n1,M2,1,1\n1,M1,-1,1\n",
-        3,
-        3,
-        RowCause::Negative,
-    ),
-    (
-        b"met,member,oop,paid\n1,M1,1,1\n1,M2,1,1\n1,M1,1,1\n",
-        3,
-        2,
-        RowCause::Repeated,
-    ),
-    (b"member,met,oop,paid\nM1,1,1\n", 1, 0, RowCause::FieldCount),
-    (b"member,met,oop,paid\n,1,1,1\n", 1, 1, RowCause::EmptyId),
-    (
-        b"member,met,oop,paid\nM1,1,1,0.005\n,1,1,1\n",
-        1,
-        4,
-        RowCause::NotCents,
-    ),
-];
-
-#[test]
-fn each_fault_of_a_record_of_balances(rt: HostRuntime) {
-    let plan = plan(&rt, rt.alloc(), PLAN);
-    for (text, number, column, cause) in &REFUSED_RECORDS {
-        let wanted = row(*number, *column, *cause);
-        assert!(rt; refused_balances(rt.alloc(), &plan, text) == Some(wanted));
-    }
-}
-
-fn row(number: usize, column: usize, cause: RowCause) -> BalanceFault {
-    let fault = RowFault { column, cause };
-    BalanceFault::Row { number, fault }
-}
-
-#[test]
-fn every_prefix_of_balances_is_answered(rt: HostRuntime) {
-    check_prefixes_of_balances(&rt, rt.alloc(), BALANCES);
-}
-
-// A prefix is a file of balances where it has the header's 19 bytes and no record, or a whole one.
-fn check_prefixes_of_balances(rt: &impl Abort, alloc: Global, text: &[u8]) {
-    let plan = plan(rt, alloc, PLAN);
-    for length in 0..text.len() {
-        match refused_balances(alloc, &plan, &text[..length]) {
-            None => assert!(rt; length >= 19),
-            Some(BalanceFault::File(FileFault::NoHeader)) => assert!(rt; length == 0),
-            Some(BalanceFault::File(fault)) => {
-                assert!(rt; fault == FileFault::MissingColumn && length > 0 && length < 19);
-            }
-            Some(BalanceFault::Row { number, fault }) => {
-                assert!(rt; number == 1 && length > 20);
-                assert!(rt; fault.cause == RowCause::FieldCount || fault.cause == RowCause::Value);
-            }
-            Some(BalanceFault::OutOfMemory) => assert!(rt; false),
-        }
-    }
+fn tells_of_families(rt: &impl Abort, alloc: Global, plan: &Plan) {
+    assert!(rt; tells(rt, alloc, plan, FAMILY_CLAIMS, FAMILIES_TOLD).is_ok());
+    assert!(rt; refused(alloc, plan, CLAIMS) == Some(FileFault::MissingColumn));
 }
 
 #[test]
@@ -703,16 +474,6 @@ fn calls_the_laws() {
 }
 
 #[test]
-fn faults_have_numbers_and_texts(rt: HostRuntime) -> Result<(), Fail> {
-    assert!(rt; FileFault::DuplicateColumn.number() == 4);
-    assert!(rt; RowCause::Repeated.number() == 8 && RowCause::Sum.number() == 9);
-    let mut text = String::new(rt.alloc());
-    write!(text, "{}", row(2, 1, RowCause::Repeated))?;
-    assert!(rt; text.as_str() == "record 2: column 1: a member stands twice");
-    Ok(())
-}
-
-#[test]
 fn claims_or_no_memory(rt: HostRuntime) {
     if let Ok(plan) = read_plan(rt.alloc(), PLAN) {
         check_claims_or_no_memory(&rt, rt.alloc(), &plan, CLAIMS);
@@ -721,12 +482,14 @@ fn claims_or_no_memory(rt: HostRuntime) {
 
 fn check_claims_or_no_memory(rt: &impl Abort, alloc: Global, plan: &Plan, text: &[u8]) {
     match ClaimFile::new(alloc, plan, text) {
-        Ok(file) => {
-            if let Ok(mut rows) = file.rows(alloc) {
-                check_rows_or_no_memory(rt, &mut rows);
-            }
-        }
+        Ok(file) => check_file_or_no_memory(rt, alloc, &file),
         Err(fault) => assert!(rt; fault == FileFault::OutOfMemory),
+    }
+}
+
+fn check_file_or_no_memory(rt: &impl Abort, alloc: Global, file: &ClaimFile) {
+    if let Ok(mut rows) = file.rows(alloc) {
+        check_rows_or_no_memory(rt, &mut rows);
     }
 }
 
@@ -744,15 +507,4 @@ fn check_rows_or_no_memory(rt: &impl Abort, rows: &mut Rows) {
         }
     }
     assert!(rt; matches!(next(rows), Ok(None)));
-}
-
-#[test]
-fn balances_or_no_memory(rt: HostRuntime) {
-    let Ok(plan) = read_plan(rt.alloc(), BY_YEAR) else {
-        return;
-    };
-    match read_balances(rt.alloc(), &plan, OF_YEARS) {
-        Ok(balances) => assert!(rt; same(balances.of("M1", "M1", 2024), 500_000, 100_000, 50_000)),
-        Err(fault) => assert!(rt; fault == BalanceFault::OutOfMemory),
-    }
 }
