@@ -4,7 +4,7 @@ use Rattle.std.specs.List.{AllZip, slice_get}
 use Rattle.settlement.specs.declared.claim.Claim.{Claim}
 use Rattle.dtable.specs.declared.table.InputData.{InputData}
 use Rattle.intake_csv.specs.Laws.{BeginLike, GivenRowHasTheClaim, NoRecordsNoRows, StartHasTheRows}
-use Rattle.intake_csv.specs.Rows.{AreRowsLeft, GivesRow, IsAtStart, RowsLeft, claim_in, claims_among}
+use Rattle.intake_csv.specs.Rows.{GivesRow, IsAtStart, RowsLeft, claim_in, claims_among}
 use Rattle.intake_csv.specs.declared.fault.RowFault.{RowFault}
 use Rattle.intake_csv.specs.declared.rows.Row.{Row}
 use Rattle.intake_csv.specs.declared.rows.Row.TheVariants.{Good, Bad}

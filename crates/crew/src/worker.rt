@@ -1,5 +1,5 @@
 //! What a worker of a run does.
-ghost use Rattle.std.specs.Prelude.{◌≡◌, true, map, IsSome, IfOk, IfErr};
+ghost use Rattle.std.specs.Prelude.{◌≡◌, [], true, map, IsSome, IfOk, IfErr};
 ghost use Rattle.std.specs.List.{All};
 ghost use Rattle.settlement.specs.Claim.{IsClaimOf};
 ghost use Rattle.journal.specs.Events.{decided};
@@ -92,7 +92,8 @@ pub(crate) fn work<R: Wait, G: Gate>(
     unreachable!()
 }
 
-// A row of calls: records what is settled, and takes as many claims as there are to be had.
+// A row of calls: records what is settled, and takes as many claims as there are to be had. Their room is made before the turn
+// begins, for as many as the last time.
 #[tactic(auto, using(crate::proofs::Passes::further, crate::proofs::Passes::leaves_later))]
 fn take_turn<R: Wait, G: Gate>(
     rt: &R,
@@ -110,32 +111,35 @@ fn take_turn<R: Wait, G: Gate>(
     ensures gathered { IfOk result (λ r. IsGathered (G.known r.1).seen r.0) }
     ensures leaves { IfErr result (LeavesWith (G.has_pass gate.now) G.known pass) }
 {
+    let Ok(jobs) = Vec::with_capacity(alloc, settled.len()) else {
+        return Err((RunFault::OutOfMemory, pass));
+    };
     let turn = turns.begin(rt);
     let pass = match record_all(rt, terms, gate, pass, settled) {
         Ok(pass) => pass,
         Err(left) => return Err(left),
     };
-    gather(rt, alloc, terms, gate, pass, &turn)
+    gather(rt, terms, gate, pass, &turn, jobs)
 }
 
-// Takes claims, one call after another, until none is ready or a turn has no call left.
+// Takes claims, one call after another, into a list that has none yet, until none is ready or a turn has no call left.
 fn gather<R: Wait, G: Gate>(
     rt: &R,
-    alloc: Global,
     terms: &Terms,
     gate: &G,
     mut pass: G::Pass,
     turn: &Turn,
+    mut jobs: Vec<Job>,
 ) -> Result<(Gathered, G::Pass), (RunFault, G::Pass)>
     requires own { G.has_pass gate.now pass }
     requires terms { (G.known pass).seen.terms ≡ terms.now }
+    requires none { jobs.items ≡ [] }
     ensures goes_on { IfOk result (λ r. GoesOn (G.has_pass gate.now) G.known pass r.1) }
     ensures gathered { IfOk result (λ r. IsGathered (G.known r.1).seen r.0) }
     ensures leaves { IfErr result (LeavesWith (G.has_pass gate.now) G.known pass) }
 {
     // Known from here: a job stays one in each later state of the gate.
     jobs_stay();
-    let mut jobs = Vec::new(alloc);
     'calls: for _ in 0..CALLS_LIMIT {
         let (task, back) = match take(rt, terms, gate, pass) {
             Ok(taken) => taken,

@@ -1,4 +1,4 @@
-use Rattle.std.proofs.Common.{◌≡◌, ◌<◌, ◌+◌, ◌++◌, ◌∷◌, [], ◌^◌, length, length-append, ap, arith, rules}
+use Rattle.std.proofs.Common.{◌<◌, ◌^◌, length, ap, arith, rules}
 use Rattle.crew.proofs.Lefts.{claim_read, refused_read, room_more}
 use Rattle.crew.proofs.intake.read_ahead.Goals as goal
 
