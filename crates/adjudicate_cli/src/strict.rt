@@ -3,8 +3,8 @@
 ghost use Rattle.std.specs.Prelude.{◌≤◌};
 
 use console::{DONE, REFUSED, RESOURCE, no_memory};
-use explain::push_shown;
 use plan_places::{Unread, unread_keys};
+use shown::push_shown;
 use std::alloc::{AllocError, Global};
 
 /// The status by whether the plan has a key that nothing reads. Each is told.

@@ -1,8 +1,8 @@
 //! Lines for a person.
 
-use crate::shown::push_shown;
 use crate::words::{Words, resource_words};
 use plan_places::position_of;
+use shown::push_shown;
 use std::alloc::{AllocError, Global};
 
 /// Lines, put together.

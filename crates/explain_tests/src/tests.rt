@@ -1,7 +1,6 @@
 use dtable::{Fault, PlanCause, PlanFault};
 use explain::{
     FileKind, explain_file, explain_literal, explain_plan, explain_record, explain_tables,
-    push_shown,
 };
 use feel_tests::{CellCause, CellFault};
 use intake_csv::{FileFault, RowCause, RowFault};
@@ -147,14 +146,6 @@ fn literal_is_marked(rt: HostRuntime) -> Result<(), Fail> {
   What to do: correct the literal; mind that the shell takes a pair of quotes away
 ";
     assert!(rt; page.as_str() == wanted, "{}", page.as_str());
-    Ok(())
-}
-
-#[test]
-fn no_control_character_is_shown(rt: HostRuntime) -> Result<(), Fail> {
-    let mut text = String::from_str(rt.alloc(), "> ")?;
-    push_shown(&mut text, "\u{1b}[2J\u{7f}\u{9b}é\r\n\t.")?;
-    assert!(rt; text.as_str() == "> \u{fffd}[2J\u{fffd}\u{fffd}é\u{fffd}\u{fffd}\u{fffd}.");
     Ok(())
 }
 

@@ -1,7 +1,7 @@
 //! Texts of others, as they may stand on a terminal.
 
 ghost use Rattle.std.specs.Prelude.{◌≡◌, ◌++◌, OnOk, string_bytes};
-ghost use Rattle.explain.specs.Shown.{shown_as, shown_text};
+ghost use Rattle.shown.specs.Shown.{shown_as, shown_text};
 
 use std::alloc::AllocError;
 

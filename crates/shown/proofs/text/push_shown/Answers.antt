@@ -1,7 +1,7 @@
 use Rattle.std.proofs.Common.{sym, ◌∙◌, append_assoc, append-nil}
 use Rattle.std.proofs.lemmas.Str.{IsUtf8-past_char}
-use Rattle.explain.proofs.ShownTexts.{shown_step, shown_of_none}
-use Rattle.explain.proofs.shown.push_shown.Goals as goal
+use Rattle.shown.proofs.ShownTexts.{shown_step, shown_of_none}
+use Rattle.shown.proofs.text.push_shown.Goals as goal
 
 pub loop-character-preserved : goal.loop-character-preserved
 loop-character-preserved c =

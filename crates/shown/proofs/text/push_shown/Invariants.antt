@@ -1,7 +1,7 @@
 use Rattle.std.proofs.Common.{◌≡◌, ◌++◌, IsUtf8, string_bytes}
 use Rattle.std.specs.Str.Iter.{chars_rest}
-use Rattle.explain.specs.Shown.{shown_text}
-use Rattle.explain.proofs.shown.push_shown.Given as goal
+use Rattle.shown.specs.Shown.{shown_text}
+use Rattle.shown.proofs.text.push_shown.Given as goal
 
 abbrev pub invariant-loop-character : goal.invariant-loop-character
 invariant-loop-character l = IsUtf8 (chars_rest l.character-iterator)
