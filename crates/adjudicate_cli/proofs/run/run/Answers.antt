@@ -1,5 +1,0 @@
-use Rattle.adjudicate_cli.proofs.Ends.{ends_refused}
-use Rattle.adjudicate_cli.proofs.run.run.Goals as goal
-
-pub returns-clause-refused : goal.returns-clause-refused
-returns-clause-refused g c = ends_refused _ _ _ c.do_run-answer.ensures.reason c.ended.ensures.done c.ended.ensures.refused

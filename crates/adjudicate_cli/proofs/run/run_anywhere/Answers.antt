@@ -1,5 +1,0 @@
-use Rattle.adjudicate_cli.proofs.Ends.{resource_refused}
-use Rattle.adjudicate_cli.proofs.run.run_anywhere.Goals as goal
-
-pub returns-in-Err-clause-refused : goal.returns-in-Err-clause-refused
-returns-in-Err-clause-refused g c = λ not_done. resource_refused _ tt _ c.in-Err.ensures

@@ -1,7 +1,0 @@
-use Rattle.std.proofs.Common.{◌≡◌, map, take}
-use Rattle.claim_terms.specs.Terms.{texts_of}
-use Rattle.adjudicate_cli.proofs.run.slices_of.Given as goal
-
--- those in front of the place are borrowed
-abbrev pub invariant-loop-text : goal.invariant-loop-text
-invariant-loop-text l = texts_of l.slices.items ≡ map (λ f. f.items) (take l.text-index l.files)

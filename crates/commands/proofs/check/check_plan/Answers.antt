@@ -1,0 +1,5 @@
+use Rattle.commands.proofs.Ends.{resource_refused}
+use Rattle.commands.proofs.check.check_plan.Goals as goal
+
+pub returns-in-Err-clause-refused : goal.returns-in-Err-clause-refused
+returns-in-Err-clause-refused g c = λ not_done. resource_refused _ tt _ c.in-Err.ensures

@@ -1,0 +1,10 @@
+use Rattle.std.proofs.Common.{rules}
+use Rattle.adjudicate.specs.ValueText.{IsValueText}
+use Rattle.commands.proofs.Ends.{resource_refused, text_by_words}
+use Rattle.commands.proofs.value.value_plan.Goals as goal
+
+pub returns-in-Ok-None-clause-done : goal.returns-in-Ok-None-clause-done
+returns-in-Ok-None-clause-done g c = text_by_words (IsValueText c.args.plan.now) _ _ _ (search rules) c.value.ensures.done
+
+pub returns-in-Err-clause-refused : goal.returns-in-Err-clause-refused
+returns-in-Err-clause-refused g c = λ not_done. resource_refused _ tt _ c.in-Err.ensures

@@ -1,0 +1,132 @@
+-- How a command of the program ends.
+use Rattle.std.specs.Prelude.{◌≡◌, ◌⊎◌, ℕ, List, Option, None, Some, Result, Ok, Err}
+use Rattle.clap.specs.Words.{kind_of}
+use Rattle.clap.specs.declared.error.Error.{Error}
+use Rattle.clap.specs.declared.error.kind.ErrorKind.TheVariants.{DisplayHelp, DisplayVersion}
+use Rattle.clap.specs.declared.parser.matches.ArgMatches.{ArgMatches}
+use Rattle.console.specs.declared.names.TheConstants.{ASSIGNMENT, CHECK, RUN, VALUE}
+use Rattle.adjudicate.specs.declared.check.told.Telling.{Telling}
+use Rattle.adjudicate.specs.declared.stop.Stop.{Stop}
+use Rattle.adjudicate.specs.RunStop.{IsRunReason}
+use Rattle.adjudicate.specs.RunText.{IsRemittance}
+use Rattle.adjudicate.specs.Stop.{IsPlanReason, IsReason, status_of}
+use Rattle.adjudicate.specs.Telling.{IsToldText}
+use Rattle.adjudicate.specs.ValueText.{IsValueText}
+use Rattle.commands.specs.declared.run.Texts.{Texts}
+use Rattle.commands.specs.Texts.{HasNamedTexts, IsNamedPlan, Whole, texts_at}
+use Rattle.commands.specs.Words.{IsCommand, IsCutoff, IsStrict, IsTelling, IsWorkers, words_at}
+
+-- there is a text that the command may print
+pub record HasText (IsText : List ℕ → Type 0) : Type 0 where
+  pub text : List ℕ
+  pub is_text : IsText text
+
+-- there is such a refusal, and this is its status
+pub record IsStatusOfRefusal (IsReason : Stop → Type 0) (status : ℕ) : Type 0 where
+  pub stop : Stop
+  pub reason : IsReason stop
+  pub is_status : status ≡ status_of stop
+
+-- there is a text that the command may print, and it stands in the place, where the place's text is known
+abbrev pub PutsText : (List ℕ → Type 0) → Option (List ℕ) → Option (List ℕ) → Type 0
+PutsText IsText None new = HasText IsText
+PutsText IsText (Some old) new = (text : List ℕ) × IsText text × (new ≡ Some text)
+
+-- `value` can end with 0: the plan that is named has such a text at the arguments that are given
+pub record ValueIsDone (whole : Whole) (words : ArgMatches) : Type 0 where
+  pub plan : List ℕ
+  pub named : IsNamedPlan whole words plan
+  pub has_text : HasText (IsValueText plan (words_at words ASSIGNMENT.now))
+
+-- this is the status of a refusal of `value`, of the plan that is named at the arguments that are given
+pub record ValueIsRefused (whole : Whole) (words : ArgMatches) (status : ℕ) : Type 0 where
+  pub plan : List ℕ
+  pub named : IsNamedPlan whole words plan
+  pub refused : IsStatusOfRefusal (IsReason plan (words_at words ASSIGNMENT.now)) status
+
+-- `check` can end with 0: the plan that is named has such a text, of what is to be told
+pub record CheckIsDone (whole : Whole) (words : ArgMatches) : Type 0 where
+  pub plan : List ℕ
+  pub named : IsNamedPlan whole words plan
+  pub telling : Telling
+  pub tells : IsTelling words telling
+  pub has_text : HasText (IsToldText telling plan)
+
+-- this is the status of a refusal of the plan that is named
+pub record PlanIsRefused (whole : Whole) (words : ArgMatches) (status : ℕ) : Type 0 where
+  pub plan : List ℕ
+  pub named : IsNamedPlan whole words plan
+  pub refused : IsStatusOfRefusal (IsPlanReason plan) status
+
+-- `check` can end with this status: it is that of a refusal of the plan that is named, or keys that nothing reads are to be refused
+abbrev pub CheckIsRefused : Whole → ArgMatches → ℕ → Type 0
+CheckIsRefused whole words status = PlanIsRefused whole words status ⊎ IsStrict words
+
+-- these texts have a remittance at the cutoff that is asked for
+pub record HasRemittance (words : ArgMatches) (texts : Texts) : Type 0 where
+  pub cutoff : Option ℕ
+  pub asked : IsCutoff words cutoff
+  pub has_text : HasText (IsRemittance (texts_at texts cutoff))
+
+-- this is the status of a refusal of a run of these texts, at the cutoff and with the workers that are asked for
+pub record IsRefusedRun (words : ArgMatches) (texts : Texts) (status : ℕ) : Type 0 where
+  pub cutoff : Option ℕ
+  pub asked : IsCutoff words cutoff
+  pub workers : ℕ
+  pub engaged : IsWorkers words workers
+  pub refused : IsStatusOfRefusal (IsRunReason (texts_at texts cutoff) workers) status
+
+-- `run` can end with 0: the texts that are named have a remittance
+pub record RunIsDone (whole : Whole) (words : ArgMatches) : Type 0 where
+  pub texts : Texts
+  pub named : HasNamedTexts whole words texts
+  pub has_remittance : HasRemittance words texts
+
+-- this is the status of a refusal of a run of the texts that are named
+pub record TextsAreRefused (whole : Whole) (words : ArgMatches) (status : ℕ) : Type 0 where
+  pub texts : Texts
+  pub named : HasNamedTexts whole words texts
+  pub refused : IsRefusedRun words texts status
+
+-- `run` can end with this status: it is that of a refusal of a run of the texts that are named, or keys that nothing reads are to be refused
+abbrev pub RunIsRefused : Whole → ArgMatches → ℕ → Type 0
+RunIsRefused whole words status = TextsAreRefused whole words status ⊎ IsStrict words
+
+-- the words name this command, which ends so by the words behind its name
+pub record Ends (matches : ArgMatches) (name : List ℕ) (EndsSo : ArgMatches → Type 0) : Type 0 where
+  pub words : ArgMatches
+  pub behind : IsCommand matches name words
+  pub ends_so : EndsSo words
+
+-- the command that is named can end with 0
+abbrev pub CommandIsDone : Whole → ArgMatches → Type 0
+CommandIsDone whole matches =
+    Ends matches VALUE.now (ValueIsDone whole) ⊎ (Ends matches CHECK.now (CheckIsDone whole) ⊎ Ends matches RUN.now (RunIsDone whole))
+
+-- the command that is named can end with this status of a refusal
+abbrev pub CommandIsRefused : Whole → ArgMatches → ℕ → Type 0
+CommandIsRefused whole matches status =
+    Ends matches VALUE.now (λ words. ValueIsRefused whole words status)
+    ⊎ (Ends matches CHECK.now (λ words. CheckIsRefused whole words status) ⊎ Ends matches RUN.now (λ words. RunIsRefused whole words status))
+
+-- help or the version was asked for
+abbrev pub IsHelp : Error → Type 0
+IsHelp fault = (kind_of fault ≡ DisplayHelp) ⊎ (kind_of fault ≡ DisplayVersion)
+
+-- the words name a command that can end with 0, or ask for help or the version
+abbrev pub IsDone : Whole → Result ArgMatches Error → Type 0
+IsDone whole (Ok matches) = CommandIsDone whole matches
+IsDone whole (Err fault) = IsHelp fault
+
+-- the words name a command that can end with this status of a refusal
+abbrev pub IsRefused : Whole → Result ArgMatches Error → ℕ → Type 0
+IsRefused whole (Ok matches) status = CommandIsRefused whole matches status
+IsRefused whole (Err fault) status = ⊥
+
+-- there are words that name a command that can end with 0, or that ask for help or the version; which ones, nothing says
+abbrev pub SomeWordsAreDone : Whole → Type 0
+SomeWordsAreDone whole = (matched : Result ArgMatches Error) × IsDone whole matched
+
+-- there are words that name a command that can end with this status of a refusal; which ones, nothing says
+abbrev pub SomeWordsAreRefused : Whole → ℕ → Type 0
+SomeWordsAreRefused whole status = (matched : Result ArgMatches Error) × IsRefused whole matched status

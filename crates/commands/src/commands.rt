@@ -1,0 +1,77 @@
+//! One command, from the words of the command line to the exit status.
+
+ghost use Rattle.std.specs.Prelude.{◌≡◌, ◌≤◌};
+ghost use Rattle.commands.specs.Ends.{CommandIsDone, CommandIsRefused, IsDone, IsRefused, SomeWordsAreDone, SomeWordsAreRefused};
+
+use crate::check::check_of;
+use crate::run::run_of;
+use crate::value::value_of;
+use adjudicate::WORKERS_LIMIT;
+use clap::{ArgMatches, Error};
+use console::names::{CHECK, RUN, VALUE};
+use console::{DONE, REFUSED, RESOURCE, Sources, USAGE, explains, matches_of, usage, words_of};
+use std::rt::{Env, Files};
+use std::sync::Wait;
+use std::thread::Threads;
+use std::time::Clock;
+
+/// Does what the command line says, over these texts, and answers the exit status.
+/// Where somebody watches standard error, a run that takes long shows signs of life there.
+pub fn status<R, S: Sources>(rt: &R, sources: &S, is_watched: bool) -> u8
+where
+    R: Env + Files + Print + Eprint + AllocGlobal,
+    R: Clock + Threads + Wait + Clone + Drop + Send + Sync + 'static,
+    ensures known { result ≤ RESOURCE }
+
+    // What the words are isn't known here: it is so of some.
+    ensures done { result ≡ DONE → SomeWordsAreDone (S.whole sources.now) }
+    ensures refused { result ≡ REFUSED → SomeWordsAreRefused (S.whole sources.now) result }
+{
+    let words = match words_of(rt) {
+        Ok(words) => words,
+        Err(status) => return status,
+    };
+    let matched = matches_of(rt.alloc(), words.as_slice(), WORKERS_LIMIT);
+    matched_status(rt, sources, &matched, is_watched)
+}
+
+/// The status by what the words were matched to: a command, or a fault of theirs.
+fn matched_status<R, S: Sources>(
+    rt: &R,
+    sources: &S,
+    matched: &Result<ArgMatches<'_>, Error>,
+    is_watched: bool,
+) -> u8
+where
+    R: Files + Print + Eprint + AllocGlobal,
+    R: Clock + Threads + Wait + Clone + Drop + Send + Sync + 'static,
+    ensures known { result ≤ RESOURCE }
+    ensures done { result ≡ DONE → IsDone (S.whole sources.now) matched.now }
+    ensures refused { result ≡ REFUSED → IsRefused (S.whole sources.now) matched.now result }
+{
+    match matched {
+        Ok(matches) => command(rt, sources, matches, is_watched),
+        Err(fault) => usage(rt, fault),
+    }
+}
+
+/// The command that the words name. `clap` lets no other through.
+fn command<R, S: Sources>(rt: &R, sources: &S, matches: &ArgMatches<'_>, is_watched: bool) -> u8
+where
+    R: Files + Print + Eprint + AllocGlobal,
+    R: Clock + Threads + Wait + Clone + Drop + Send + Sync + 'static,
+    ensures known { result ≤ RESOURCE }
+    ensures done { result ≡ DONE → CommandIsDone (S.whole sources.now) matches.now }
+    ensures refused { result ≡ REFUSED → CommandIsRefused (S.whole sources.now) matches.now result }
+{
+    if let Some(words) = matches.subcommand_matches(VALUE) {
+        return value_of(rt, sources, words, explains(words, is_watched));
+    }
+    if let Some(words) = matches.subcommand_matches(CHECK) {
+        return check_of(rt, sources, words, explains(words, is_watched));
+    }
+    match matches.subcommand_matches(RUN) {
+        Some(words) => run_of(rt, sources, words, is_watched),
+        None => USAGE,
+    }
+}

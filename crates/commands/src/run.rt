@@ -1,0 +1,295 @@
+//! The command `run`: its options and files, and the remittance on standard output.
+
+ghost use Rattle.std.specs.Prelude.{◌≡◌, ◌≢◌, ◌≤◌, IfErr, IfOk, map, option_map};
+ghost use Rattle.std.specs.Io.KnownBytes.{Keeps};
+ghost use Rattle.claim_terms.specs.Terms.{text_in, texts_of as texts_behind};
+ghost use Rattle.adjudicate.specs.RunStop.{IsRunReason};
+ghost use Rattle.console.specs.Reading.{IsReadUpTo};
+ghost use Rattle.intake_csv.specs.Limits.{file_limit_bytes};
+ghost use Rattle.adjudicate.specs.RunText.{IsRemittance, run_texts};
+ghost use Rattle.commands.specs.Ends.{HasRemittance, HasText, IsStatusOfRefusal, PutsText, RunIsDone, RunIsRefused, IsRefusedRun};
+ghost use Rattle.commands.specs.Texts.{AreNamedBalances, AreNamedFiles, HasNamedTexts};
+ghost use Rattle.commands.specs.Words.{IsStrict};
+
+use crate::explaining::About;
+use crate::files::{plan_of, read_or_tell};
+use crate::output::{output_of, placed, unwritable};
+use crate::strict::unread;
+use crate::telling::ended;
+use crate::words::{cutoff_of, is_strict, workers_of};
+use adjudicate::{FILE_LIMIT_BYTES, RunInput, do_run};
+use clap::ArgMatches;
+use console::names::{BALANCES, FILE, SUMMARY};
+use console::{DONE, Pulse, REFUSED, RESOURCE, Sources, USAGE, explains, input_once, no_memory};
+use fixpoint::Out;
+use std::alloc::{AllocError, Global};
+use std::io;
+use std::rt::Files;
+use std::sync::Wait;
+use std::thread::Threads;
+use std::time::Clock;
+use summary::{Stream, Tallied};
+use whole_file::Place;
+
+/// The texts of a run, in the order in which they are read.
+#[derive(Drop)]
+struct Texts {
+    plan: Vec<u8>,
+    balances: Option<Vec<u8>>,
+    files: Vec<Vec<u8>>,
+}
+
+impl Texts {
+    /// The balances' text, if there is one.
+    fn balances_slice(&self) -> Option<&[u8]>
+        ensures { text_in result ≡ option_map (λ b. b.items) self.now.balances }
+    {
+        match &self.balances {
+            Some(text) => Some(text.as_slice()),
+            None => None,
+        }
+    }
+
+    /// What the run is about, as its refusals are told.
+    fn about<'a, 'w>(&'a self, explains: bool, words: &'a ArgMatches<'w>) -> About<'a, 'w> {
+        About::of_run(
+            explains,
+            words,
+            self.plan.as_slice(),
+            self.balances_slice().unwrap_or(&[]),
+            self.files.as_slice(),
+        )
+    }
+}
+
+/// The command `run`. Where somebody watches standard error, a run that takes long shows signs of life there.
+pub fn run_of<R, S: Sources>(rt: &R, sources: &S, matches: &ArgMatches<'_>, is_watched: bool) -> u8
+where
+    R: Files + Print + Eprint + AllocGlobal,
+    R: Clock + Threads + Wait + Clone + Drop + Send + Sync + 'static,
+    ensures known { result ≤ RESOURCE }
+    ensures done { result ≡ DONE → RunIsDone (S.whole sources.now) matches.now }
+    ensures refused { result ≡ REFUSED → RunIsRefused (S.whole sources.now) matches.now result }
+{
+    let pulse = if is_watched { Pulse::start(rt) } else { None };
+    let status = settle_named(rt, sources, matches, is_watched);
+    if let Some(pulse) = pulse {
+        pulse.end(rt);
+    }
+    status
+}
+
+/// Settles the claims of the texts that the command line names.
+fn settle_named<R, S: Sources>(
+    rt: &R,
+    sources: &S,
+    matches: &ArgMatches<'_>,
+    is_watched: bool,
+) -> u8
+where
+    R: Files + Print + Eprint + AllocGlobal + Threads + Wait + Sync,
+    ensures known { result ≤ RESOURCE }
+    ensures done { result ≡ DONE → RunIsDone (S.whole sources.now) matches.now }
+    ensures refused { result ≡ REFUSED → RunIsRefused (S.whole sources.now) matches.now result }
+{
+    let explains = explains(matches, is_watched);
+    match texts_of(rt, sources, matches, explains) {
+        Ok(texts) => settle(rt, matches, &texts, is_watched, explains),
+        Err(status) => status,
+    }
+}
+
+/// Settles the claims of the texts.
+fn settle<R>(
+    rt: &R,
+    matches: &ArgMatches<'_>,
+    texts: &Texts,
+    is_watched: bool,
+    explains: bool,
+) -> u8
+where
+    R: Files + Print + Eprint + AllocGlobal + Threads + Wait + Sync,
+    ensures known { result ≤ RESOURCE }
+    ensures done { result ≡ DONE → HasRemittance matches.now texts.now }
+    ensures refused { result ≡ REFUSED → IsRefusedRun matches.now texts.now result }
+{
+    let Some(workers) = workers_of(matches) else {
+        return USAGE;
+    };
+    let Ok(files) = slices_of(rt.alloc(), &texts.files) else {
+        return no_memory(rt);
+    };
+    let input = RunInput {
+        plan: texts.plan.as_slice(),
+        balances: texts.balances_slice(),
+        files: files.as_slice(),
+        cutoff: cutoff_of(matches),
+        workers,
+    };
+    let has_summary = is_watched || matches.get_flag(SUMMARY);
+    run_anywhere(rt, &texts.about(explains, matches), input, has_summary)
+}
+
+/// Runs to where the words say, and tells what became of the records where that is wanted.
+fn run_anywhere<R>(rt: &R, about: &About, input: RunInput, has_summary: bool) -> u8
+where
+    R: Files + Print + Eprint + AllocGlobal + Threads + Wait + Sync,
+    ensures known { result ≤ RESOURCE }
+    ensures done { result ≡ DONE → HasText (IsRemittance (run_texts input.entry)) }
+    ensures refused { result ≢ DONE → IsStatusOfRefusal (IsRunReason (run_texts input.entry) input.entry.workers) result }
+{
+    match output_of(rt, about) {
+        Ok(Some(file)) if has_summary => run_tallied(rt, about, input, file),
+        Ok(Some(mut file)) => run_into(rt, about, input, &mut file),
+        Ok(None) if has_summary => run_tallied(rt, about, input, Stream::new(rt)),
+        Ok(None) => run(rt, about, input),
+        Err(status) => status,
+    }
+}
+
+/// Runs into a place, and tells what became of the records.
+#[tactic(auto, using(crate::proofs::Ends::put_is_text))]
+fn run_tallied<R, P: Place + Drop>(rt: &R, about: &About, input: RunInput, place: P) -> u8
+where
+    R: Eprint + AllocGlobal + Threads + Wait + Sync,
+    ensures known { result ≤ RESOURCE }
+    ensures done { result ≡ DONE → HasText (IsRemittance (run_texts input.entry)) }
+    ensures refused { result ≢ DONE → IsStatusOfRefusal (IsRunReason (run_texts input.entry) input.entry.workers) result }
+{
+    let mut tallied = Tallied::new(rt.alloc(), place);
+    let status = run_into(rt, about, input, &mut tallied);
+    if status == DONE {
+        // Where there is no memory for the lines, the remittance stands all the same.
+        if let Ok(lines) = tallied.tally().lines(rt.alloc()) {
+            let _ = rt.eprint(lines.as_str());
+        }
+    }
+    status
+}
+
+/// The command `run` over its texts.
+#[tactic(auto, using(crate::proofs::Ends::ends_known, crate::proofs::Ends::ends_done, crate::proofs::Ends::ends_refused))]
+fn run<R>(rt: &R, about: &About, input: RunInput) -> u8
+where
+    R: Print + Eprint + AllocGlobal + Threads + Wait + Sync,
+    ensures known { result ≤ RESOURCE }
+    ensures done { result ≡ DONE → HasText (IsRemittance (run_texts input.entry)) }
+    ensures refused { result ≢ DONE → IsStatusOfRefusal (IsRunReason (run_texts input.entry) input.entry.workers) result }
+{
+    let mut out = Out::new(io::writer(rt));
+    let answer = do_run(rt, input, &mut out);
+    ended(rt, about, &answer)
+}
+
+/// The same into a place, which has the whole remittance then or what stood there before.
+#[tactic(auto, using(crate::proofs::Ends::placed_done, crate::proofs::Ends::kept_twice))]
+fn run_into<R, P: Place>(rt: &R, about: &About, input: RunInput, place: &mut P) -> u8
+where
+    R: Eprint + AllocGlobal + Threads + Wait + Sync,
+    ensures known { result ≤ RESOURCE }
+    ensures done { result ≡ DONE → PutsText (IsRemittance (run_texts input.entry)) (P.stands place.old) (P.stands place.new) }
+    ensures kept { result ≢ DONE → Keeps (P.stands place.old) (P.stands place.new) }
+    ensures refused { result ≢ DONE → IsStatusOfRefusal (IsRunReason (run_texts input.entry) input.entry.workers) result }
+{
+    let text = match place.begin() {
+        Ok(text) => text,
+        Err(fault) => return unwritable(rt, about, &fault),
+    };
+    let mut out = Out::new(text);
+    let outcome = do_run(rt, input, &mut out);
+    placed(rt, about, place, out.into_inner(), &outcome)
+}
+
+/// The files' texts, as a run borrows them.
+fn slices_of(alloc: Global, files: &[Vec<u8>]) -> Result<Vec<&[u8]>, AllocError>
+    ensures { IfOk result (λ slices. texts_behind slices.items ≡ map (λ f. f.items) files.now) }
+{
+    let mut slices = Vec::with_capacity(alloc, files.len())?;
+    for text in files {
+        slices.push(text.as_slice())?;
+    }
+    Ok(slices)
+}
+
+/// The texts that the command line names. The first that can't be read is told, and its status answered.
+fn texts_of<R: Eprint + AllocGlobal, S: Sources>(
+    rt: &R,
+    sources: &S,
+    matches: &ArgMatches<'_>,
+    explains: bool,
+) -> Result<Texts, u8>
+    ensures named { IfOk result (HasNamedTexts (S.whole sources.now) matches.now) }
+    ensures known { IfErr result (λ status. status ≤ RESOURCE) }
+    ensures failed { IfErr result (λ status. status ≢ DONE) }
+    ensures refused { IfErr result (λ status. status ≡ REFUSED → IsStrict matches.now) }
+{
+    input_once(rt, matches)?;
+    let plan = plan_of(rt, sources, matches, explains)?;
+    if is_strict(matches) {
+        let status = unread(rt, plan.as_slice());
+        if status != DONE {
+            return Err(status);
+        }
+    }
+    Ok(Texts {
+        plan,
+        balances: balances_of(rt, sources, matches, explains)?,
+        files: files_of(rt, sources, matches, explains)?,
+    })
+}
+
+fn balances_of<R: Eprint + AllocGlobal, S: Sources>(
+    rt: &R,
+    sources: &S,
+    matches: &ArgMatches<'_>,
+    explains: bool,
+) -> Result<Option<Vec<u8>>, u8>
+    ensures named { IfOk result (λ balances. AreNamedBalances (S.whole sources.now) matches.now (option_map (λ b. b.items) balances)) }
+    ensures failed { IfErr result (λ status. status ≡ RESOURCE) }
+{
+    let Some(name) = matches.get_str(BALANCES) else {
+        return Ok(None);
+    };
+    let line = "cannot read balances";
+    match read_or_tell(rt, sources, name, FILE_LIMIT_BYTES, line, explains) {
+        Ok(text) => Ok(Some(text)),
+        Err(status) => Err(status),
+    }
+}
+
+fn files_of<R: Eprint + AllocGlobal, S: Sources>(
+    rt: &R,
+    sources: &S,
+    matches: &ArgMatches<'_>,
+    explains: bool,
+) -> Result<Vec<Vec<u8>>, u8>
+    ensures named { IfOk result (λ files. AreNamedFiles (S.whole sources.now) matches.now (map (λ f. f.items) files.items)) }
+    ensures failed { IfErr result (λ status. status ≡ RESOURCE) }
+{
+    let names = matches.get_strs(FILE).unwrap_or(&[]);
+    let mut files = Vec::new(rt.alloc());
+    for place in 0..names.len() {
+        let text = file_of(rt, sources, names[place], place + 1, explains)?;
+        if files.push(text).is_err() {
+            return Err(no_memory(rt));
+        }
+    }
+    Ok(files)
+}
+
+// The text of the file with this name and number.
+fn file_of<R: Eprint + AllocGlobal, S: Sources>(
+    rt: &R,
+    sources: &S,
+    name: &str,
+    number: usize,
+    explains: bool,
+) -> Result<Vec<u8>, u8>
+    ensures read { IfOk result (λ bytes. IsReadUpTo file_limit_bytes (S.whole sources.now name.now) bytes.items) }
+    ensures failed { IfErr result (λ status. status ≡ RESOURCE) }
+{
+    let Ok(line) = format!(in rt.alloc(); "cannot read file {number}") else {
+        return Err(no_memory(rt));
+    };
+    read_or_tell(rt, sources, name, FILE_LIMIT_BYTES, line.as_str(), explains)
+}

@@ -1,0 +1,100 @@
+//! The command `value`: its texts and arguments, and the values on standard output.
+
+ghost use Rattle.std.specs.Prelude.{◌≡◌, ◌≢◌, ◌≤◌};
+ghost use Rattle.std.specs.Io.KnownBytes.{Keeps};
+ghost use Rattle.claim_terms.specs.Terms.{texts_of};
+ghost use Rattle.adjudicate.specs.Stop.{IsReason};
+ghost use Rattle.adjudicate.specs.ValueText.{IsValueText};
+ghost use Rattle.commands.specs.Ends.{HasText, IsStatusOfRefusal, PutsText, ValueIsDone, ValueIsRefused};
+ghost use Rattle.commands.specs.Words.{words_at};
+
+use crate::explaining::About;
+use crate::files::plan_of;
+use crate::output::{output_of, placed, unwritable};
+use crate::telling::ended;
+use adjudicate::do_value;
+use clap::ArgMatches;
+use console::names::ASSIGNMENT;
+use console::{DONE, REFUSED, RESOURCE, Sources};
+use fixpoint::Out;
+use std::io;
+use std::rt::Files;
+use whole_file::Place;
+
+/// The command `value`.
+pub fn value_of<R: Files + Print + Eprint + AllocGlobal, S: Sources>(
+    rt: &R,
+    sources: &S,
+    matches: &ArgMatches<'_>,
+    explains: bool,
+) -> u8
+    ensures known { result ≤ RESOURCE }
+    ensures done { result ≡ DONE → ValueIsDone (S.whole sources.now) matches.now }
+    ensures refused { result ≡ REFUSED → ValueIsRefused (S.whole sources.now) matches.now result }
+{
+    let plan = match plan_of(rt, sources, matches, explains) {
+        Ok(plan) => plan,
+        Err(status) => return status,
+    };
+    value_plan(rt, matches, plan.as_slice(), explains)
+}
+
+/// The command `value` over the text of a plan, to where the words say.
+fn value_plan<R: Files + Print + Eprint + AllocGlobal>(
+    rt: &R,
+    matches: &ArgMatches<'_>,
+    plan: &[u8],
+    explains: bool,
+) -> u8
+    ensures known { result ≤ RESOURCE }
+    ensures done { result ≡ DONE → HasText (IsValueText plan.now (words_at matches.now ASSIGNMENT.now)) }
+    ensures refused { result ≢ DONE → IsStatusOfRefusal (IsReason plan.now (words_at matches.now ASSIGNMENT.now)) result }
+{
+    let assignments = matches.get_strs(ASSIGNMENT).unwrap_or(&[]);
+    let about = About::of_plan(explains, matches, plan);
+    match output_of(rt, &about) {
+        Ok(Some(mut file)) => value_into(rt, &about, plan, assignments, &mut file),
+        Ok(None) => value(rt, &about, plan, assignments),
+        Err(status) => status,
+    }
+}
+
+/// The command `value` over the text of a plan.
+#[tactic(auto, using(crate::proofs::Ends::ends_known, crate::proofs::Ends::ends_done, crate::proofs::Ends::ends_refused))]
+fn value<R: Print + Eprint + AllocGlobal>(
+    rt: &R,
+    about: &About,
+    plan: &[u8],
+    assignments: &[&str],
+) -> u8
+    ensures known { result ≤ RESOURCE }
+    ensures done { result ≡ DONE → HasText (IsValueText plan.now (texts_of assignments.now)) }
+    ensures refused { result ≢ DONE → IsStatusOfRefusal (IsReason plan.now (texts_of assignments.now)) result }
+{
+    let mut out = Out::new(io::writer(rt));
+    let answer = do_value(rt.alloc(), plan, assignments, &mut out);
+    ended(rt, about, &answer)
+}
+
+/// The same into a place, which has the whole text then or what stood there before.
+#[tactic(auto, using(crate::proofs::Ends::placed_done, crate::proofs::Ends::kept_twice))]
+fn value_into<R: Eprint + AllocGlobal, P: Place>(
+    rt: &R,
+    about: &About,
+    plan: &[u8],
+    assignments: &[&str],
+    place: &mut P,
+) -> u8
+    ensures known { result ≤ RESOURCE }
+    ensures done { result ≡ DONE → PutsText (IsValueText plan.now (texts_of assignments.now)) (P.stands place.old) (P.stands place.new) }
+    ensures kept { result ≢ DONE → Keeps (P.stands place.old) (P.stands place.new) }
+    ensures refused { result ≢ DONE → IsStatusOfRefusal (IsReason plan.now (texts_of assignments.now)) result }
+{
+    let text = match place.begin() {
+        Ok(text) => text,
+        Err(fault) => return unwritable(rt, about, &fault),
+    };
+    let mut out = Out::new(text);
+    let outcome = do_value(rt.alloc(), plan, assignments, &mut out);
+    placed(rt, about, place, out.into_inner(), &outcome)
+}
