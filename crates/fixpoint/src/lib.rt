@@ -17,8 +17,6 @@ mod laws;
 mod out;
 mod reading;
 mod rounding;
-#[cfg(test)]
-mod tests;
 mod whole_text;
 mod writing;
 

@@ -1,0 +1,171 @@
+//! Worked values, and what no clause says of an `Out`: that it succeeds where its writer does, and
+//! makes one write a piece.
+use fixpoint::{
+    Cut, Failed, Fixed, MAX_UNITS, NumFault, money_text_denotes, products_are_rounded,
+    shortest_text_denotes, text_denotes_at_most_one,
+};
+use std::alloc::Global;
+use std::fmt::Display;
+use std::process::Abort;
+
+mod writers;
+
+fn number(rt: &impl Abort, text: &str) -> Fixed {
+    Fixed::parse(text.as_bytes()).expect(rt, "a number")
+}
+
+// The text is of this number, whose shortest text is the other one.
+fn reads(rt: &impl Abort, text: &str, units: i64, shortest: &str) {
+    let number = number(rt, text);
+    let mut buffer = [0; 24];
+    let length = number.write_into(&mut buffer);
+    assert!(rt; number.units() == units, "{text}");
+    assert!(rt; &buffer[..length] == shortest.as_bytes(), "{text}");
+}
+
+#[test]
+fn reads_and_writes_numbers(rt: HostRuntime) {
+    reads(&rt, "1.23450", 12_345, "1.2345");
+    reads(&rt, "-.5", -5_000, "-0.5");
+    reads(
+        &rt,
+        "99999999999.9999",
+        999_999_999_999_999,
+        "99999999999.9999",
+    );
+    reads(
+        &rt,
+        "-99999999999.9999",
+        -999_999_999_999_999,
+        "-99999999999.9999",
+    );
+    reads(&rt, "-0", 0, "0");
+    reads(&rt, "007.00000", 70_000, "7");
+    reads(&rt, "10.0500", 100_500, "10.05");
+    text_denotes_at_most_one();
+    shortest_text_denotes();
+}
+
+fn refuses(rt: &impl Abort, text: &str, fault: NumFault) {
+    assert!(rt; Fixed::parse(text.as_bytes()) == Err(fault), "{text}");
+}
+
+#[test]
+fn refuses_texts(rt: HostRuntime) {
+    refuses(&rt, "1.23451", NumFault::TooFine);
+    refuses(&rt, "100000000000", NumFault::TooLarge);
+    refuses(&rt, "100000000000.00001", NumFault::TooFine);
+    refuses(&rt, "12.", NumFault::NotNumber);
+    refuses(&rt, "", NumFault::NotNumber);
+    refuses(&rt, "-", NumFault::NotNumber);
+    refuses(&rt, ".", NumFault::NotNumber);
+    refuses(&rt, "+1", NumFault::NotNumber);
+    refuses(&rt, "1.2.3", NumFault::NotNumber);
+    refuses(&rt, " 1", NumFault::NotNumber);
+}
+
+#[test]
+fn orders_numbers(rt: HostRuntime) {
+    let least = Fixed::from_units(-MAX_UNITS);
+    let greatest = Fixed::from_units(MAX_UNITS);
+    assert!(rt; least < greatest);
+    assert!(rt; Fixed::from_units(MAX_UNITS + 1).is_none());
+    assert!(rt; Fixed::from_units(-MAX_UNITS - 1).is_none());
+}
+
+fn rounds(rt: &impl Abort, one: &str, rate: &str, cents: &str) {
+    let product = number(rt, one).mul_cents(number(rt, rate));
+    assert!(rt; product == Some(number(rt, cents)), "{one} times {rate}");
+}
+
+// The product is out of the range.
+fn leaves_the_range(rt: &impl Abort, one: &str, rate: &str) {
+    let product = number(rt, one).mul_cents(number(rt, rate));
+    assert!(rt; product.is_none(), "{one} times {rate}");
+}
+
+#[test]
+fn rounds_products_to_cents(rt: HostRuntime) {
+    rounds(&rt, "10.05", "0.5", "5.02");
+    rounds(&rt, "10.15", "0.5", "5.08");
+    rounds(&rt, "-10.15", "0.5", "-5.08");
+    rounds(&rt, "0.01", "0.4999", "0.00");
+    rounds(&rt, "0.01", "0.5001", "0.01");
+    rounds(&rt, "99999999999.99", "1", "99999999999.99");
+    leaves_the_range(&rt, "99999999999.9999", "99999999999.9999");
+    leaves_the_range(&rt, "99999999999.9999", "1");
+    products_are_rounded();
+}
+
+#[test]
+fn adds_and_compares(rt: HostRuntime) {
+    let greatest = number(&rt, "99999999999.9999");
+    let least = number(&rt, "-99999999999.9999");
+    let smallest_step = number(&rt, "0.0001");
+    assert!(rt; greatest.add(smallest_step).is_none());
+    assert!(rt; least.sub(smallest_step).is_none());
+    assert!(rt; greatest.add(least) == Some(number(&rt, "0")));
+    assert!(rt; smallest_step.sub(smallest_step) == Some(number(&rt, "-0")));
+    assert!(rt; least.min(greatest) == least);
+    assert!(rt; least.max(greatest) == greatest);
+}
+
+fn tells(rt: &impl Abort, text: &str, is_cents: bool, is_money: bool) {
+    let number = number(rt, text);
+    assert!(rt; number.is_cents() == is_cents, "{text}");
+    assert!(rt; number.is_money() == is_money, "{text}");
+}
+
+fn tells_rate(rt: &impl Abort, text: &str, is_rate: bool) {
+    assert!(rt; number(rt, text).is_rate() == is_rate, "{text}");
+}
+
+#[test]
+fn tells_money_and_rates(rt: HostRuntime) {
+    tells(&rt, "0.01", true, true);
+    tells(&rt, "-0", true, true);
+    tells(&rt, "-0.01", true, false);
+    tells(&rt, "0.001", false, false);
+    tells_rate(&rt, "-0.0001", false);
+    tells_rate(&rt, "0", true);
+    tells_rate(&rt, "1", true);
+    tells_rate(&rt, "1.0001", false);
+}
+
+fn has_money_text(rt: &impl Abort, text: &str, money: &str) {
+    let number = number(rt, text);
+    assert!(rt; number.is_cents(), "{text}");
+    let mut buffer = [0; 24];
+    let length = number.write_money(&mut buffer);
+    assert!(rt; &buffer[..length] == money.as_bytes(), "{text}");
+}
+
+#[test]
+fn writes_money(rt: HostRuntime) {
+    has_money_text(&rt, "5.02", "5.02");
+    has_money_text(&rt, "-.5", "-0.50");
+    has_money_text(&rt, "100", "100.00");
+    has_money_text(&rt, "99999999999.99", "99999999999.99");
+    money_text_denotes();
+}
+
+// What is shown has this text.
+fn says(rt: &impl Abort, alloc: Global, shown: &impl Display, message: &str) {
+    let text = format!(in alloc; "{shown}").expect(rt, "memory for a message");
+    assert!(rt; text.as_str() == message, "{message}");
+}
+
+#[test]
+fn says_what_is_wrong(rt: HostRuntime) {
+    let alloc = rt.alloc();
+    says(&rt, alloc, &NumFault::NotNumber, "not a number");
+    says(&rt, alloc, &NumFault::TooFine, "more than four decimals");
+    says(&rt, alloc, &NumFault::TooLarge, "beyond 99999999999.9999");
+    says(&rt, alloc, &Failed, "the writer takes no more bytes");
+    says(
+        &rt,
+        alloc,
+        &Cut { written: 3 },
+        "the writer takes no more after 3 bytes",
+    );
+}
