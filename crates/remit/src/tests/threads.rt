@@ -1,134 +1,93 @@
 //! Reports whose records become text by threads: the same bytes as one thread's, and the same answers.
-use super::{ACCEPTS, Bounded, DECISIONS, is_cut_at, journal_of, late_batch, whole_or_front};
+use super::journals::of_both_files;
+use super::writing::{is_filled, is_whole, late_batch, plan_of, terms_of, with_room};
 use crate::held_text::HeldText;
 use crate::report::write_journal_by_threads;
 use crate::{WriteFault, write_report_by_threads};
-use claim_gate::{Batch, GateState};
 use claim_terms::Terms;
-use dtable::{Plan, read_plan};
 use fixpoint::Out;
 use journal::Event;
 use std::alloc::Global;
 use std::io::Write;
-use std::test::Fail;
+use std::process::Abort;
 use std::thread::Threads;
-use worked_examples::{both_files, health_plan, late_remittance, remittance};
+use worked_examples::{both_files, late_remittance, remittance};
 
-// Writes the report of a journal over both files by threads; nothing where the terms want memory.
-fn write_by_threads<R: Threads + Sync, W: Write>(
+// Writes the report of a journal over both files by threads.
+fn write_by_threads<R: Threads + Abort + Sync, W: Write>(
     rt: &R,
     alloc: Global,
     journal: &[Event],
     out: &mut Out<W>,
-) -> Option<Result<(), WriteFault>> {
-    let plan = read_plan(alloc, health_plan().as_bytes()).ok()?;
-    write_under(rt, alloc, &plan, journal, out)
+) -> Result<(), WriteFault> {
+    let plan = plan_of(rt, alloc);
+    let terms = terms_of(rt, alloc, &plan, both_files(), None);
+    write_journal_by_threads(rt, alloc, &terms, journal, out)
 }
 
-fn write_under<R: Threads + Sync, W: Write>(
-    rt: &R,
-    alloc: Global,
-    plan: &Plan,
-    journal: &[Event],
-    out: &mut Out<W>,
-) -> Option<Result<(), WriteFault>> {
-    let terms = Terms::new(alloc, plan, both_files(), None, None).ok()?;
-    Some(write_journal_by_threads(rt, alloc, &terms, journal, out))
-}
-
-// Writes the report of a run that admits no claim of both files by threads; nothing where that wants memory.
-fn write_late_by_threads<R: Threads + Sync, W: Write>(
-    rt: &R,
-    alloc: Global,
-    out: &mut Out<W>,
-) -> Option<Result<(), WriteFault>> {
-    let plan = read_plan(alloc, health_plan().as_bytes()).ok()?;
-    write_late_under(rt, alloc, &plan, out)
-}
-
-fn write_late_under<R: Threads + Sync, W: Write>(
-    rt: &R,
-    alloc: Global,
-    plan: &Plan,
-    out: &mut Out<W>,
-) -> Option<Result<(), WriteFault>> {
-    let terms = Terms::new(alloc, plan, both_files(), None, Some(0)).ok()?;
-    write_late_over(rt, alloc, &terms, out)
-}
-
-fn write_late_over<R: Threads + Sync, W: Write>(
+fn write_late_over<R: Threads + Abort + Sync, W: Write>(
     rt: &R,
     alloc: Global,
     terms: &Terms,
     out: &mut Out<W>,
-) -> Option<Result<(), WriteFault>> {
-    let batch = late_batch(alloc, terms)?;
-    Some(write_report_by_threads(rt, alloc, terms, &batch, out))
+) -> Result<(), WriteFault> {
+    let batch = late_batch(rt, alloc, terms);
+    write_report_by_threads(rt, alloc, terms, &batch, out)
+}
+
+// Writes the report of a run that admits no claim of both files by threads.
+fn write_late_by_threads<R: Threads + Abort + Sync, W: Write>(
+    rt: &R,
+    alloc: Global,
+    out: &mut Out<W>,
+) -> Result<(), WriteFault> {
+    let plan = plan_of(rt, alloc);
+    let terms = terms_of(rt, alloc, &plan, both_files(), Some(0));
+    write_late_over(rt, alloc, &terms, out)
+}
+
+// False where the report was not written whole.
+fn reports_by_threads<R: Threads + Abort + Sync>(rt: &R, alloc: Global, journal: &[Event]) -> bool {
+    let mut out = Out::new(Vec::new(alloc));
+    let answer = write_by_threads(rt, alloc, journal, &mut out);
+    is_whole(rt, answer, out, remittance().as_bytes())
 }
 
 #[test]
-fn the_report_of_two_files_by_threads(rt: HostRuntime) -> Result<(), Fail> {
-    let alloc = rt.alloc();
-    let journal = journal_of(alloc, ACCEPTS, 2, DECISIONS)?;
-    let mut out = Out::new(Vec::new(alloc));
-    let answer = write_by_threads(&rt, alloc, journal.as_slice(), &mut out);
-    assert!(rt; answer == Some(Ok(())) && !out.failed());
-    assert!(rt; out.into_inner().as_slice() == remittance().as_bytes());
-    Ok(())
+fn two_files_by_threads_though_memory_is_refused(rt: HostRuntime) {
+    let journal = of_both_files(&rt, rt.alloc());
+    if !reports_by_threads(&rt, rt.alloc(), &journal) {
+        assert!(rt; reports_by_threads(&rt, rt.alloc(), &journal));
+    }
 }
 
 #[test]
 fn the_report_of_a_run_that_admits_nothing_by_threads(rt: HostRuntime) {
     let mut out = Out::new(Vec::new(rt.alloc()));
     let answer = write_late_by_threads(&rt, rt.alloc(), &mut out);
-    assert!(rt; answer == Some(Ok(())) && !out.failed());
-    assert!(rt; out.into_inner().as_slice() == late_remittance().as_bytes());
+    assert!(rt; is_whole(&rt, answer, out, late_remittance().as_bytes()));
 }
 
-/// A writer is full at once, in the header, behind it, in the first file's records, and in the last file's.
-const LIMITS: &[usize] = &[0, 37, 87, 200, 480];
-
-// The writer has got as many first bytes of the report as it has room for, and the answer tells how many.
-fn fills_by_threads<R: Threads + Sync>(
+fn fills_by_threads<R: Threads + Abort + Sync>(
     rt: &R,
     alloc: Global,
     journal: &[Event],
     limit: usize,
-) -> bool {
-    let mut out = Out::new(Bounded {
-        taken: Vec::new(alloc),
-        limit,
-    });
+) {
+    let mut out = with_room(alloc, limit, true);
     let answer = write_by_threads(rt, alloc, journal, &mut out);
-    let has_failed = out.failed();
-    let taken = out.into_inner().taken;
-    is_cut_at(answer, limit)
-        && has_failed
-        && taken.len() == limit
-        && remittance().as_bytes().starts_with(taken.as_slice())
+    assert!(rt; is_filled(answer, out, remittance().as_bytes()), "{limit}");
 }
 
+// A writer is full at once, in the header, behind it, in the first file's records, and in the last file's.
 #[test]
-fn a_report_by_threads_is_cut(rt: HostRuntime) -> Result<(), Fail> {
-    let journal = journal_of(rt.alloc(), ACCEPTS, 2, DECISIONS)?;
-    for limit in LIMITS {
-        assert!(rt;
-            fills_by_threads(&rt, rt.alloc(), journal.as_slice(), *limit),
-            "{limit}"
-        );
-    }
-    Ok(())
-}
-
-#[test]
-fn a_report_by_threads_or_no_memory(rt: HostRuntime) {
-    let alloc = rt.alloc();
-    let Ok(journal) = journal_of(alloc, ACCEPTS, 2, DECISIONS) else {
-        return;
-    };
-    let mut out = Out::new(Vec::new(alloc));
-    let answer = write_by_threads(&rt, alloc, journal.as_slice(), &mut out);
-    assert!(rt; whole_or_front(answer, out.into_inner().as_slice(), remittance().as_bytes()));
+fn a_report_by_threads_is_cut(rt: HostRuntime) {
+    let journal = of_both_files(&rt, rt.alloc());
+    fills_by_threads(&rt, rt.alloc(), &journal, 0);
+    fills_by_threads(&rt, rt.alloc(), &journal, 37);
+    fills_by_threads(&rt, rt.alloc(), &journal, 87);
+    fills_by_threads(&rt, rt.alloc(), &journal, 200);
+    fills_by_threads(&rt, rt.alloc(), &journal, 480);
 }
 
 #[test]
