@@ -1,13 +1,13 @@
 //! Cells and the values of which they hold, values and their literals, and each public call once with ample memory.
-use super::{field_fault_of, hold, holds};
+use super::{cell_of, field_fault_of, hold, holds, plain_of, text_of, value_of};
 use feel_tests::{
-    Cell, CellCause, CellFault, Day, Kind, PlainFault, Text, Value, day_year,
-    field_spells_at_most_one_value, literal_spells_its_value, read_cell, read_plain, read_value,
-    text_spells_at_most_one_cell, text_spells_at_most_one_value, year_in, year_text,
+    Cell, CellCause, CellFault, Day, Kind, PlainFault, Value, day_year,
+    field_spells_at_most_one_value, literal_spells_its_value, text_spells_at_most_one_cell,
+    text_spells_at_most_one_value, year_in, year_text,
 };
 use fixpoint::Fixed;
 use std::alloc::Global;
-use std::test::Fail;
+use std::process::Abort;
 
 const NUMBER_CELLS: [(&str, &str, bool); 29] = [
     ("[1...5]", "0.7", false),
@@ -100,43 +100,46 @@ fn other_kinds_are_neither_equal_nor_ordered(rt: HostRuntime) {
         ("not(1)", Kind::Day, "1970-01-02", true),
         ("not(1)", Kind::Number, "1", false),
     ] {
-        assert_eq!(rt;
-            holds(rt.alloc(), Kind::Number, cell, kind, field),
-            Some(held)
-        );
-    }
-}
-
-// How many tests a cell lists that isn't negated.
-fn test_count(alloc: Global, kind: Kind, text: &str) -> Option<usize> {
-    match read_cell(alloc, kind, text).ok()? {
-        Cell::OneOf(tests) => Some(tests.as_slice().len()),
-        _ => None,
+        assert!(rt; holds(&rt, rt.alloc(), Kind::Number, cell, kind, field) == held);
     }
 }
 
 #[test]
 fn a_cell_keeps_its_tests(rt: HostRuntime) {
-    let count = test_count(rt.alloc(), Kind::Flag, "true,false,true");
-    assert_eq!(rt; count, Some(3));
+    match cell_of(&rt, rt.alloc(), Kind::Flag, "true,false,true") {
+        Cell::OneOf(tests) => assert!(rt; tests.as_slice().len() == 3),
+        _ => panic!(rt; "tests"),
+    }
     text_spells_at_most_one_cell();
 }
 
-// Whether the value that a literal spells is written so.
-fn is_written(alloc: Global, kind: Kind, literal: &str, wanted: &str) -> Option<bool> {
-    let value = read_value(alloc, kind, literal).ok()?;
-    let mut out = Vec::new(alloc);
-    value.write_text(&mut out).ok()?;
-    Some(out.as_slice() == wanted.as_bytes() && value.kind() == kind)
+// Whether the literal is read as the value.
+fn is_read_as(rt: &impl Abort, alloc: Global, kind: Kind, literal: &str, value: &Value) -> bool {
+    let read = value_of(rt, alloc, kind, literal);
+    literal_spells_its_value(value);
+    read == *value
 }
 
-// Whether what is written for a literal is read back as the same value.
-fn is_read_back(alloc: Global, kind: Kind, literal: &str, written: &str) -> Option<bool> {
-    let value = read_value(alloc, kind, literal).ok()?;
-    is_read_as(alloc, kind, written, &value)
+// Whether the literal of a value is written behind a text. Where memory is refused, the text is as it was.
+fn is_written(rt: &impl Abort, alloc: Global, value: &Value, wanted: &str) -> bool {
+    let mut out = begun(rt, alloc);
+    if value.write_text(&mut out).is_err() {
+        assert!(rt; out.as_slice() == b"x = ".as_slice());
+        value
+            .write_text(&mut out)
+            .expect(rt, "memory for a literal");
+    }
+    out.as_slice().strip_prefix(b"x = ") == Some(wanted.as_bytes())
 }
 
-const LITERALS: [(Kind, &str, &str); 13] = [
+fn begun(rt: &impl Abort, alloc: Global) -> Vec<u8> {
+    match Vec::from_slice(alloc, b"x = ") {
+        Ok(out) => out,
+        Err(_) => Vec::from_slice(alloc, b"x = ").expect(rt, "memory for a text"),
+    }
+}
+
+const LITERALS: [(Kind, &str, &str); 18] = [
     (Kind::Day, "date(\"2024-02-29\")", "date(\"2024-02-29\")"),
     (
         Kind::Day,
@@ -154,95 +157,72 @@ const LITERALS: [(Kind, &str, &str); 13] = [
     (Kind::Number, " .5 ", "0.5"),
     (Kind::Number, "-0", "0"),
     (Kind::Number, "99999999999.9999", "99999999999.9999"),
+    (Kind::Text, "\"a\\\"b\"", "\"a\\\"b\""),
+    (
+        Kind::Text,
+        "\"a\\\"b\\\\c and some more\"",
+        "\"a\\\"b\\\\c and some more\"",
+    ),
+    (Kind::Flag, "true", "true"),
+    (Kind::Number, "-.5", "-0.5"),
+    (Kind::Number, "1.5", "1.5"),
 ];
 
+// What is written for a literal is read back as the same value. The gate runs it once for each of its allocations, with that one
+// refused.
 #[test]
-fn literals_are_written_and_read_back(rt: HostRuntime) {
+fn literals_are_written_and_read_back_though_memory_is_refused(rt: HostRuntime) {
     for row in &LITERALS {
         let (kind, literal, wanted) = *row;
-        let written = is_written(rt.alloc(), kind, literal, wanted);
-        assert_eq!(rt; written, Some(true), "{literal}");
-        let read = is_read_back(rt.alloc(), kind, literal, wanted);
-        assert_eq!(rt; read, Some(true), "{literal}");
+        let value = value_of(&rt, rt.alloc(), kind, literal);
+        assert!(rt;
+            value.kind() == kind && is_written(&rt, rt.alloc(), &value, wanted),
+            "{literal}"
+        );
+        assert!(rt;
+            is_read_as(&rt, rt.alloc(), kind, wanted, &value),
+            "{literal}"
+        );
     }
     text_spells_at_most_one_value();
 }
 
-// Whether the literal is read as the value; none where it isn't read.
-fn is_read_as(alloc: Global, kind: Kind, literal: &str, value: &Value) -> Option<bool> {
-    let read = read_value(alloc, kind, literal).ok()?;
-    literal_spells_its_value(value);
-    Some(read == *value)
-}
-
 #[test]
-fn literals_have_their_numbers_and_flags(rt: HostRuntime) -> Result<(), Fail> {
-    let number = Value::Number(Fixed::from_units(12_345).ok_or("in range")?);
-    assert_eq!(rt;
-        is_read_as(rt.alloc(), Kind::Number, "1.23450", &number),
-        Some(true)
+fn literals_have_their_values(rt: HostRuntime) {
+    let number = Value::Number(Fixed::from_units(12_345).expect(&rt, "in range"));
+    assert!(rt; is_read_as(&rt, rt.alloc(), Kind::Number, "1.23450", &number));
+    assert!(rt; is_read_as(&rt, rt.alloc(), Kind::Flag, "false", &Value::Flag(false)));
+    let day = Day::from_epoch_day(19_782).expect(&rt, "a day");
+    assert!(rt; day.epoch_day() == 19_782);
+    assert!(rt;
+        is_read_as(
+            &rt,
+            rt.alloc(),
+            Kind::Day,
+            "date(\"2024-02-29\")",
+            &Value::Day(day)
+        )
     );
-    let flag = Value::Flag(false);
-    assert_eq!(rt;
-        is_read_as(rt.alloc(), Kind::Flag, "false", &flag),
-        Some(true)
-    );
-    Ok(())
 }
 
 #[test]
-fn literals_have_their_days(rt: HostRuntime) -> Result<(), Fail> {
-    let day = Day::from_epoch_day(19_782).ok_or("a day")?;
-    assert_eq!(rt; day.epoch_day(), 19_782);
-    let value = Value::Day(day);
-    let read = is_read_as(rt.alloc(), Kind::Day, "date(\"2024-02-29\")", &value);
-    assert_eq!(rt; read, Some(true));
-    Ok(())
-}
-
-// Whether a text shows its bytes.
-fn is_shown(text: &Text) -> bool {
-    text.as_str() == "a\"b" && text.as_bytes() == b"a\"b".as_slice()
-}
-
-// Whether a text that is written over a longer one equals it; none where memory is refused.
-fn is_copied_over(alloc: Global, text: &Text) -> Option<bool> {
-    let mut over = Text::new(alloc, "longer").ok()?;
-    over.copy_from(text).ok()?;
-    Some(over == *text)
-}
-
-// Whether a copy of a value of text is the value that its literal spells.
-fn is_copy_read(alloc: Global, value: &Value) -> Option<bool> {
-    let copy = value.duplicate(alloc).ok()?;
-    let is_read = is_read_as(alloc, Kind::Text, "\"a\\\"b\"", &copy)?;
-    Some(is_read && copy.kind() == Kind::Text)
-}
-
-fn quoted(alloc: Global) -> Option<Text> {
-    Text::new(alloc, "a\"b").ok()
-}
-
-#[test]
-fn texts_are_shown_and_copied(rt: HostRuntime) -> Result<(), Fail> {
-    let text = quoted(rt.alloc()).ok_or("memory")?;
-    assert!(rt; is_shown(&text));
-    assert_eq!(rt; is_copied_over(rt.alloc(), &text), Some(true));
-    Ok(())
-}
-
-#[test]
-fn literals_have_their_texts(rt: HostRuntime) -> Result<(), Fail> {
-    let text = quoted(rt.alloc()).ok_or("memory")?;
-    assert_eq!(rt; is_copy_read(rt.alloc(), &Value::Text(text)), Some(true));
-    Ok(())
+fn texts_are_shown_and_copied(rt: HostRuntime) {
+    let text = text_of(&rt, rt.alloc(), "a\"b");
+    assert!(rt; text.as_str() == "a\"b" && text.as_bytes() == b"a\"b".as_slice());
+    let mut over = text_of(&rt, rt.alloc(), "longer");
+    over.copy_from(&text).expect(&rt, "memory");
+    assert!(rt; over == text);
+    let copy = Value::Text(text)
+        .duplicate(rt.alloc())
+        .expect(&rt, "memory");
+    assert!(rt; copy.kind() == Kind::Text);
+    assert!(rt; is_read_as(&rt, rt.alloc(), Kind::Text, "\"a\\\"b\"", &copy));
 }
 
 // Whether the field is the day of this number.
-fn is_day(alloc: Global, field: &str, number: i32) -> Option<bool> {
-    let day = Day::from_epoch_day(number)?;
-    let read = read_plain(alloc, Kind::Day, field).ok()?;
-    Some(read == Value::Day(day))
+fn is_day(rt: &impl Abort, alloc: Global, field: &str, number: i32) -> bool {
+    let day = Day::from_epoch_day(number).expect(rt, "a day");
+    plain_of(rt, alloc, Kind::Day, field) == Value::Day(day)
 }
 
 #[test]
@@ -254,11 +234,11 @@ fn days_are_those_of_the_years_1_to_9999(rt: HostRuntime) {
         ("2000-02-29", 11_016, 2000),
         ("9999-12-31", 2_932_896, 9999),
     ] {
-        assert_eq!(rt; is_day(rt.alloc(), field, number), Some(true), "{field}");
-        assert_eq!(rt; day_year(number), year, "{field}");
+        assert!(rt; is_day(&rt, rt.alloc(), field, number), "{field}");
+        assert!(rt; day_year(number) == year, "{field}");
     }
-    assert_eq!(rt; Day::from_epoch_day(-719_163), None);
-    assert_eq!(rt; Day::from_epoch_day(2_932_897), None);
+    assert!(rt; Day::from_epoch_day(-719_163).is_none());
+    assert!(rt; Day::from_epoch_day(2_932_897).is_none());
 }
 
 const YEARS: [(&str, u16); 4] = [("0001", 1), ("0970", 970), ("2024", 2024), ("9999", 9999)];
@@ -281,12 +261,6 @@ fn other_texts_are_no_years(rt: HostRuntime) {
     for text in &NO_YEARS {
         assert!(rt; year_in(text.as_bytes()).is_none(), "{text}");
     }
-}
-
-// Whether the field is the value that the literal spells.
-fn is_value_of(alloc: Global, kind: Kind, field: &str, literal: &str) -> Option<bool> {
-    let value = read_plain(alloc, kind, field).ok()?;
-    is_read_as(alloc, kind, literal, &value)
 }
 
 const FIELDS: [(Kind, &str, &str); 8] = [
@@ -316,13 +290,14 @@ const BAD_FIELDS: [(Kind, &str); 13] = [
     (Kind::Day, ""),
 ];
 
+// The gate runs it once for each of its allocations, with that one refused.
 #[test]
-fn plain_fields_are_values(rt: HostRuntime) {
+fn plain_fields_are_values_though_memory_is_refused(rt: HostRuntime) {
     for row in &FIELDS {
         let (kind, field, literal) = *row;
-        assert_eq!(rt;
-            is_value_of(rt.alloc(), kind, field, literal),
-            Some(true),
+        let value = plain_of(&rt, rt.alloc(), kind, field);
+        assert!(rt;
+            is_read_as(&rt, rt.alloc(), kind, literal, &value),
             "{field}"
         );
     }
@@ -333,9 +308,8 @@ fn plain_fields_are_values(rt: HostRuntime) {
 fn plain_fields_are_refused(rt: HostRuntime) {
     for row in &BAD_FIELDS {
         let (kind, field) = *row;
-        assert_eq!(rt;
-            field_fault_of(rt.alloc(), kind, field),
-            Some(PlainFault::Bad),
+        assert!(rt;
+            field_fault_of(rt.alloc(), kind, field) == Some(PlainFault::Bad),
             "{field}"
         );
     }
@@ -356,16 +330,14 @@ const CAUSES: [(CellCause, u8); 8] = [
 fn faults_have_numbers(rt: HostRuntime) {
     for row in &CAUSES {
         let (cause, number) = *row;
-        assert_eq!(rt; cause.number(), number);
+        assert!(rt; cause.number() == number);
     }
-    assert_eq!(rt; PlainFault::Bad.number(), 1);
-    assert_eq!(rt; PlainFault::OutOfMemory.number(), 2);
+    assert!(rt; PlainFault::Bad.number() == 1 && PlainFault::OutOfMemory.number() == 2);
 }
 
 #[test]
-fn faults_are_told(rt: HostRuntime) -> Result<(), Fail> {
+fn faults_are_told(rt: HostRuntime) {
     let cause = CellCause::BadDate;
-    let told = format!(in rt.alloc(); "{}", CellFault { at: 17, cause })?;
-    assert_eq!(rt; told.as_str(), "bad date at byte 17");
-    Ok(())
+    let told = format!(in rt.alloc(); "{}", CellFault { at: 17, cause }).expect(&rt, "memory");
+    assert!(rt; told.as_str() == "bad date at byte 17");
 }

@@ -1,22 +1,23 @@
 //! Long texts: strings and lists at their limits and beyond, and the longest cell, `not(`, 64 strings of 256 bytes with
 //! commas between them, and `)`. Each of its fronts is read too: those shorter than `not(` stand in the table of cells.
-use super::{fault_of, field_fault_of, holds, repeated};
+use super::{cell_of, fault_of, field_fault_of, plain_of, repeated};
 use feel_tests::CellCause::{BadEscape, Literal, Token, TooMany, Trailing, WrongKind};
 use feel_tests::{CellCause, CellFault, Kind, PlainFault, TEST_LIMIT, TEXT_LIMIT_BYTES};
-use std::alloc::{AllocError, Global};
-use std::test::Fail;
+use std::alloc::Global;
+use std::process::Abort;
 
 // The fault of a cell's text: so many copies of a piece between a front and a back.
 fn long_fault_of(
+    rt: &impl Abort,
     alloc: Global,
     kind: Kind,
     front: &str,
     piece: &str,
     times: usize,
     back: &str,
-) -> Result<Option<CellFault>, AllocError> {
-    let text = repeated(alloc, front, piece, times, back)?;
-    Ok(fault_of(alloc, kind, text.as_str()))
+) -> Option<CellFault> {
+    let text = repeated(rt, alloc, front, piece, times, back);
+    fault_of(alloc, kind, text.as_str())
 }
 
 // Round 63 tests that follow the front's.
@@ -33,15 +34,14 @@ const LISTS: [(&str, &str, CellCause, usize); 9] = [
 ];
 
 #[test]
-fn after_64_tests_and_a_comma(rt: HostRuntime) -> Result<(), Fail> {
+fn after_64_tests_and_a_comma(rt: HostRuntime) {
     for row in &LISTS {
         let (front, back, cause, at) = *row;
-        let fault = long_fault_of(rt.alloc(), Kind::Number, front, ",1", 63, back)?;
-        assert_eq!(rt; fault, Some(CellFault { at, cause }), "{front} {back}");
+        let fault = long_fault_of(&rt, rt.alloc(), Kind::Number, front, ",1", 63, back);
+        assert!(rt; fault == Some(CellFault { at, cause }), "{front} {back}");
     }
-    let fault = long_fault_of(rt.alloc(), Kind::Number, "not(1", ",1", 63, ")")?;
-    assert_eq!(rt; fault, None);
-    Ok(())
+    let fault = long_fault_of(&rt, rt.alloc(), Kind::Number, "not(1", ",1", 63, ")");
+    assert!(rt; fault.is_none());
 }
 
 // Round a string of 257 bytes, which is refused at its quote.
@@ -58,47 +58,43 @@ const STRINGS: [(Kind, &str, &str, CellCause, usize); 9] = [
 ];
 
 #[test]
-fn long_strings_are_refused_at_their_quote(rt: HostRuntime) -> Result<(), Fail> {
+fn long_strings_are_refused_at_their_quote(rt: HostRuntime) {
     for row in &STRINGS {
         let (kind, front, back, cause, at) = *row;
-        let fault = long_fault_of(rt.alloc(), kind, front, "x", 257, back)?;
-        assert_eq!(rt; fault, Some(CellFault { at, cause }), "{front} {back}");
+        let fault = long_fault_of(&rt, rt.alloc(), kind, front, "x", 257, back);
+        assert!(rt; fault == Some(CellFault { at, cause }), "{front} {back}");
     }
-    Ok(())
 }
 
 #[test]
-fn an_escape_counts_as_one_byte(rt: HostRuntime) -> Result<(), Fail> {
-    let fault = long_fault_of(rt.alloc(), Kind::Text, "\"", "\\\\", 256, "\"")?;
-    assert_eq!(rt; fault, None);
-    let fault = long_fault_of(rt.alloc(), Kind::Text, "\"", "\\\\", 257, "\"")?;
-    assert_eq!(rt;
-        fault,
-        Some(CellFault {
-            at: 0,
-            cause: Literal
-        })
-    );
-    Ok(())
+fn an_escape_counts_as_one_byte(rt: HostRuntime) {
+    let fault = long_fault_of(&rt, rt.alloc(), Kind::Text, "\"", "\\\\", 256, "\"");
+    assert!(rt; fault.is_none());
+    let fault = long_fault_of(&rt, rt.alloc(), Kind::Text, "\"", "\\\\", 257, "\"");
+    let refused = CellFault {
+        at: 0,
+        cause: Literal,
+    };
+    assert!(rt; fault == Some(refused));
 }
 
 #[test]
-fn a_field_has_at_most_256_bytes(rt: HostRuntime) -> Result<(), Fail> {
-    let most = repeated(rt.alloc(), "", "x", TEXT_LIMIT_BYTES, "")?;
-    assert_eq!(rt; field_fault_of(rt.alloc(), Kind::Text, most.as_str()), None);
-    let long = repeated(rt.alloc(), "", "x", 257, "")?;
+fn a_field_has_at_most_256_bytes(rt: HostRuntime) {
+    let most = repeated(&rt, rt.alloc(), "", "x", TEXT_LIMIT_BYTES, "");
+    assert!(rt; field_fault_of(rt.alloc(), Kind::Text, most.as_str()).is_none());
+    let long = repeated(&rt, rt.alloc(), "", "x", 257, "");
     let fault = field_fault_of(rt.alloc(), Kind::Text, long.as_str());
-    assert_eq!(rt; fault, Some(PlainFault::Bad));
-    Ok(())
+    assert!(rt; fault == Some(PlainFault::Bad));
 }
 
 // The bytes of a string and of what follows it: two quotes, and a comma or the bracket.
 const STEP_BYTES: usize = TEXT_LIMIT_BYTES + 3;
 
-fn longest_cell(alloc: Global) -> Result<String, AllocError> {
-    let last = repeated(alloc, "\"", "x", TEXT_LIMIT_BYTES, "\")")?;
-    let string = repeated(alloc, "\"", "x", TEXT_LIMIT_BYTES, "\",")?;
+fn longest_cell(rt: &impl Abort, alloc: Global) -> String {
+    let last = repeated(rt, alloc, "\"", "x", TEXT_LIMIT_BYTES, "\")");
+    let string = repeated(rt, alloc, "\"", "x", TEXT_LIMIT_BYTES, "\",");
     repeated(
+        rt,
         alloc,
         "not(",
         string.as_str(),
@@ -108,22 +104,12 @@ fn longest_cell(alloc: Global) -> Result<String, AllocError> {
 }
 
 #[test]
-fn the_longest_cell_is_read(rt: HostRuntime) -> Result<(), Fail> {
-    let text = longest_cell(rt.alloc())?;
-    assert_eq!(rt;
-        holds(rt.alloc(), Kind::Text, text.as_str(), Kind::Text, "x"),
-        Some(true)
-    );
-    let field = repeated(rt.alloc(), "", "x", TEXT_LIMIT_BYTES, "")?;
-    let held = holds(
-        rt.alloc(),
-        Kind::Text,
-        text.as_str(),
-        Kind::Text,
-        field.as_str(),
-    );
-    assert_eq!(rt; held, Some(false));
-    Ok(())
+fn the_longest_cell_is_read(rt: HostRuntime) {
+    let text = longest_cell(&rt, rt.alloc());
+    let cell = cell_of(&rt, rt.alloc(), Kind::Text, text.as_str());
+    assert!(rt; cell.holds(&plain_of(&rt, rt.alloc(), Kind::Text, "x")));
+    let field = repeated(&rt, rt.alloc(), "", "x", TEXT_LIMIT_BYTES, "");
+    assert!(rt; !cell.holds(&plain_of(&rt, rt.alloc(), Kind::Text, field.as_str())));
 }
 
 // Where a front of the longest cell ends too early: at the quote of the string that it cuts, or
@@ -139,14 +125,13 @@ fn early_end(len: usize) -> usize {
 }
 
 #[test]
-fn every_front_of_the_longest_cell_is_answered(rt: HostRuntime) -> Result<(), Fail> {
-    let text = longest_cell(rt.alloc())?;
+fn every_front_of_the_longest_cell_is_answered(rt: HostRuntime) {
+    let text = longest_cell(&rt, rt.alloc());
     let bytes = text.as_bytes();
     for len in 4..bytes.len() {
         let front = str::from_utf8(&bytes[..len]).expect(&rt, "text");
         let fault = fault_of(rt.alloc(), Kind::Text, front);
         let at = early_end(len);
-        assert_eq!(rt; fault, Some(CellFault { at, cause: Token }), "{len}");
+        assert!(rt; fault == Some(CellFault { at, cause: Token }), "{len}");
     }
-    Ok(())
 }

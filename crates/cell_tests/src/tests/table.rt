@@ -1,5 +1,5 @@
 //! Cell texts with the answers that the format gives them: which are cells of a kind, and where the
-//! others have which fault; and the same of literals alone.
+//! others have which fault; and the same of literals alone. The gate runs tests once for each of their allocations, with that one refused.
 use super::{are_cells, are_no_literals, are_refused};
 use feel_tests::CellCause::{BadDate, BadEscape, Literal, Token, Trailing, WrongKind};
 use feel_tests::{CellCause, Kind};
@@ -35,7 +35,7 @@ const FAULTS_WITHOUT_ORDER: [(&str, CellCause, usize); 10] = [
     ("not([", WrongKind, 4),
 ];
 
-const NUMBER_CELLS: [&str; 35] = [
+const NUMBER_CELLS: [&str; 36] = [
     "1",
     "-1",
     ".5",
@@ -71,9 +71,10 @@ const NUMBER_CELLS: [&str; 35] = [
     ">=-.5",
     "<-5",
     "[1 .. 2]",
+    "1,2,3,[4..5]",
 ];
 
-const NUMBER_FAULTS: [(&str, CellCause, usize); 81] = [
+const NUMBER_FAULTS: [(&str, CellCause, usize); 82] = [
     ("1..5", Trailing, 1),
     ("[1..5", Token, 5),
     ("1.23451", Literal, 0),
@@ -161,9 +162,10 @@ const NUMBER_FAULTS: [(&str, CellCause, usize); 81] = [
     ("<==1", Token, 2),
     ("< =1", Token, 2),
     ("...5", Token, 0),
+    ("1,2,3,\"x\"", WrongKind, 6),
 ];
 
-const TEXT_CELLS: [&str; 11] = [
+const TEXT_CELLS: [&str; 12] = [
     "\"A\"",
     "\"\"",
     "\"a b\"",
@@ -175,9 +177,10 @@ const TEXT_CELLS: [&str; 11] = [
     "not ( \"A\" )",
     "\"é\"",
     "\"\n\t\x01\"",
+    "not(\"A\",\"B\\\"\",\"C\")",
 ];
 
-const TEXT_FAULTS: [(&str, CellCause, usize); 29] = [
+const TEXT_FAULTS: [(&str, CellCause, usize); 30] = [
     ("n", Token, 0),
     ("no", Token, 0),
     ("<\"A\"", WrongKind, 0),
@@ -210,15 +213,17 @@ const TEXT_FAULTS: [(&str, CellCause, usize); 29] = [
     ("\"\u{e9}\\q\"", BadEscape, 3),
     ("\"\u{20ac}\" \u{e9}", Trailing, 6),
     ("\t\"\u{e9}\" ,", Token, 7),
+    ("\"A\",\"B\\q\"", BadEscape, 6),
 ];
 
-const FLAG_CELLS: [&str; 6] = [
+const FLAG_CELLS: [&str; 7] = [
     "true",
     "false",
     " true ",
     "true,false",
     "not(true)",
     "not( false )",
+    "true,false,true",
 ];
 
 const FLAG_FAULTS: [(&str, CellCause, usize); 16] = [
@@ -242,7 +247,7 @@ const FLAG_FAULTS: [(&str, CellCause, usize); 16] = [
     ("not(true<", Token, 8),
 ];
 
-const DAY_CELLS: [&str; 12] = [
+const DAY_CELLS: [&str; 13] = [
     "date(\"2024-02-29\")",
     "date ( \"2024-01-01\" )",
     "date(\"0001-01-01\")",
@@ -255,6 +260,7 @@ const DAY_CELLS: [&str; 12] = [
     "not(date(\"2024-02-29\"))",
     "date(\"2000-02-29\")",
     " date\t(\r\"2024-01-01\"\n) ",
+    "date(\"2024-02-29\"),<date(\"2024-02-29\")",
 ];
 
 const DAY_FAULTS: [(&str, CellCause, usize); 39] = [
@@ -334,7 +340,7 @@ fn texts_of_all_kinds(rt: HostRuntime) {
 }
 
 #[test]
-fn texts_of_numbers_and_days(rt: HostRuntime) {
+fn texts_of_numbers_and_days_though_memory_is_refused(rt: HostRuntime) {
     let alloc = rt.alloc();
     are_cells(&rt, alloc, Kind::Number, &NUMBER_CELLS);
     are_refused(&rt, alloc, Kind::Number, &NUMBER_FAULTS);
@@ -343,7 +349,7 @@ fn texts_of_numbers_and_days(rt: HostRuntime) {
 }
 
 #[test]
-fn texts_of_texts_and_flags(rt: HostRuntime) {
+fn texts_of_texts_and_flags_though_memory_is_refused(rt: HostRuntime) {
     let alloc = rt.alloc();
     are_cells(&rt, alloc, Kind::Text, &TEXT_CELLS);
     are_refused(&rt, alloc, Kind::Text, &TEXT_FAULTS);
