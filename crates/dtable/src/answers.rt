@@ -8,7 +8,7 @@ use std::alloc::{AllocError, Global};
 use std::marker::Model;
 
 /// Of how many tables the answers are listed without memory of their own.
-const INLINE_TABLES: usize = 8;
+const INLINE_TABLES: usize = 5;
 
 /// The answers of a table, one for each output, which contracts see as their list.
 #[derive(Debug, Drop)]

@@ -1,5 +1,5 @@
 //! The parts of a number text, and the count of ten-thousandths that they write.
-ghost use Rattle.std.specs.Prelude.{◌≡◌, ◌≢◌, ◌++◌, false, min, slice_index, MatchOption};
+ghost use Rattle.std.specs.Prelude.{◌≡◌, ◌≢◌, ◌≤◌, ◌-◌, ◌^◌, ◌++◌, false, min, slice_index, MatchOption};
 ghost use Rattle.std.specs.Fmt.{sign_text};
 ghost use Rattle.std.specs.Str.Parse.{AllDigits, digits_value};
 ghost use Rattle.fixpoint.specs.NumberText.{IsNumberText, without_end_zeros};
@@ -76,12 +76,26 @@ pub fn ten_thousandths(whole: &[u8], fraction: &[u8]) -> Result<u64, NumFault>
         return Err(NumFault::TooFine);
     }
     let ones = capped_value(whole);
-    let rest = capped_value(decimals) * 10u64.pow(4 - decimals.len() as u32);
+    let rest = capped_value(decimals) * unit_of_last(decimals.len());
     let count = ones * UNITS_PER_ONE as u64 + rest;
     if count > MAX_UNITS as u64 {
         Err(NumFault::TooLarge)
     } else {
         Ok(count)
+    }
+}
+
+/// How many ten-thousandths one of the last digit is worth, of so many behind the dot.
+fn unit_of_last(decimals: usize) -> u64
+    requires { decimals ≤ 4 }
+    ensures { result ≡ 10 ^ (4 - decimals) }
+{
+    match decimals {
+        0 => 10_000,
+        1 => 1_000,
+        2 => 100,
+        3 => 10,
+        _ => 1,
     }
 }
 

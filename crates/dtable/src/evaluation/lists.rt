@@ -41,7 +41,7 @@ pub fn lists_of(
 ) -> Result<Sequence<Answer>, AllocError>
     ensures { IfOk result (λ answers. answers ≡ lists table.now rules.now) }
 {
-    let mut answers = Sequence::new(alloc);
+    let mut answers = Sequence::with_capacity(alloc, table.outputs.len())?;
     for column in 0..table.outputs.len() {
         answers.push(Answer::Many(column_of(alloc, table, rules, column)?))?;
     }
@@ -57,7 +57,7 @@ fn column_of(
 ) -> Result<Sequence<Value>, AllocError>
     ensures { IfOk result (λ values. values ≡ column_of table.now rules.now column) }
 {
-    let mut values = Sequence::new(alloc);
+    let mut values = Sequence::with_capacity(alloc, rules.len())?;
     for rule in rules {
         if let Some(value) = table.entry(*rule, column) {
             values.push(value.duplicate(alloc)?)?;

@@ -16,22 +16,22 @@ capped_value-requires c =
 
 pub overflow_mul-rest : goal.overflow_mul-rest
 overflow_mul-rest c =
-    let rest = rest_is c.args.fraction.now c.without_end_zeros-decimals.result.now c.capped_value.result c.pow.result
-    c.requires.fraction c.without_end_zeros-decimals.ensures c.if-decimals-gt4.false c.capped_value.ensures c.pow.ensures in
+    let rest = rest_is c.args.fraction.now c.without_end_zeros-decimals.result.now c.capped_value.result c.unit_of_last.result
+    c.requires.fraction c.without_end_zeros-decimals.ensures c.if-decimals-gt4.false c.capped_value.ensures c.unit_of_last.ensures in
     omega (arith, rest)
 
 pub overflow_add-count : goal.overflow_add-count
 overflow_add-count c =
-    let rest = rest_is c.args.fraction.now c.without_end_zeros-decimals.result.now c.capped_value.result c.pow.result
-    c.requires.fraction c.without_end_zeros-decimals.ensures c.if-decimals-gt4.false c.capped_value.ensures c.pow.ensures in
+    let rest = rest_is c.args.fraction.now c.without_end_zeros-decimals.result.now c.capped_value.result c.unit_of_last.result
+    c.requires.fraction c.without_end_zeros-decimals.ensures c.if-decimals-gt4.false c.capped_value.ensures c.unit_of_last.ensures in
     omega (arith, rest)
 
 pub returns-then-count : goal.returns-then-count
 returns-then-count c =
     let whole = c.args.whole.now in
     let kept = c.without_end_zeros-decimals.result.now in
-    let rest = rest_is c.args.fraction.now kept c.capped_value.result c.pow.result
-    c.requires.fraction c.without_end_zeros-decimals.ensures c.if-decimals-gt4.false c.capped_value.ensures c.pow.ensures in (
+    let rest = rest_is c.args.fraction.now kept c.capped_value.result c.unit_of_last.result
+    c.requires.fraction c.without_end_zeros-decimals.ensures c.if-decimals-gt4.false c.capped_value.ensures c.unit_of_last.ensures in (
       digits_value 10 whole * 10000 + digits_value 10 kept * 10 ^ (4 - length kept),
       whole_count whole c.args.fraction.now kept c.without_end_zeros-decimals.ensures c.if-decimals-gt4.false,
       omega (arith, rest),
@@ -41,10 +41,10 @@ pub returns-else-count : goal.returns-else-count
 returns-else-count c =
     let whole = c.args.whole.now in
     let kept = c.without_end_zeros-decimals.result.now in
-    let rest = rest_is c.args.fraction.now kept c.capped_value.result c.pow.result
-    c.requires.fraction c.without_end_zeros-decimals.ensures c.if-decimals-gt4.false c.capped_value.ensures c.pow.ensures in
+    let rest = rest_is c.args.fraction.now kept c.capped_value.result c.unit_of_last.result
+    c.requires.fraction c.without_end_zeros-decimals.ensures c.if-decimals-gt4.false c.capped_value.ensures c.unit_of_last.ensures in
     let exact : digits_value 10 whole * 10000 + digits_value 10 kept * 10 ^ (4 - length kept)
-    ≡ c.capped_value-ones.result * 10000 + c.capped_value.result * c.pow.result = omega (arith, rest) in (
+    ≡ c.capped_value-ones.result * 10000 + c.capped_value.result * c.unit_of_last.result = omega (arith, rest) in (
       subst (IsCountOf whole c.args.fraction.now) exact
           (whole_count whole c.args.fraction.now kept c.without_end_zeros-decimals.ensures c.if-decimals-gt4.false),
       omega arith,
