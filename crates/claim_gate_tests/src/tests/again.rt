@@ -14,7 +14,7 @@ use claim_gate::{
     TakeFault, Taken,
 };
 use settlement::Outcome;
-use std::alloc::{AllocError, Global};
+use std::alloc::Global;
 use std::process::Abort;
 
 // How far a gate is, and how long its journal.
@@ -116,15 +116,11 @@ pub fn finish<'t>(
 }
 
 /// `Job::again`.
-pub fn copy(rt: &impl Abort, alloc: Global, job: &Job) -> Result<Job, AllocError>
-    ensures { IfOk result (λ copy. copy ≡ job.now) }
+pub fn copy(rt: &impl Abort, alloc: Global, job: &Job) -> Job
+    ensures { result ≡ job.now }
 {
     match job.again(alloc) {
-        Ok(copy) => Ok(copy),
-        Err(_) => {
-            let copy = job.again(alloc);
-            assert!(rt; copy.is_ok());
-            copy
-        }
+        Ok(copy) => copy,
+        Err(_) => job.again(alloc).expect(rt, "memory for a copy"),
     }
 }

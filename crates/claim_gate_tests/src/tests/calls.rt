@@ -1,5 +1,5 @@
-//! The calls of a gate, with the answers that are wanted: another answer ends the test, unless it is want of memory.
-ghost use Rattle.std.specs.Prelude.{◌≡◌, IfOk, OnOk};
+//! The calls of a gate, with the answers that are wanted: another answer ends the test. A call that is refused memory is made once more.
+ghost use Rattle.std.specs.Prelude.{◌≡◌, IfOk};
 ghost use Rattle.journal.specs.Settled.{outcome_of};
 ghost use Rattle.claim_terms.specs.Terms.{ForTerms};
 ghost use Rattle.claim_gate.specs.Replies.{HasClaims, IsFiled};
@@ -7,9 +7,7 @@ ghost use Rattle.claim_gate_tests.specs.Words.{IsAtWork, WorkStays};
 
 use super::again;
 use super::filing::offer_at;
-use claim_gate::{
-    EndFault, FinishFault, GateState, Job, Offer, OfferFault, TakeFault, Taken, Terms,
-};
+use claim_gate::{EndFault, FinishFault, GateState, Job, Offer, OfferFault, Taken, Terms};
 use journal::jobs_stay;
 use settlement::{Outcome, decide};
 use std::alloc::{AllocError, Global};
@@ -22,20 +20,16 @@ fn accept<'t>(
     gate: &mut GateState<'t>,
     offer: Offer,
     position: usize,
-) -> Result<(), AllocError>
+)
     requires terms { gate.old.terms ≡ terms.now }
     requires filed { ForTerms terms.now (λ T. IsFiled T offer) }
     ensures terms { gate.new.terms ≡ terms.now }
-    ensures stays { OnOk result (WorkStays gate.old gate.new) }
+    ensures stays { WorkStays gate.old gate.new }
 {
     jobs_stay();
     let _plan = terms.plan();
     match again::offer(rt, gate, offer) {
-        Ok(accepted) => {
-            assert!(rt; accepted.position == position);
-            Ok(())
-        }
-        Err((OfferFault::OutOfMemory, _)) => Err(AllocError),
+        Ok(accepted) => assert!(rt; accepted.position == position),
         Err(_) => panic!(rt; "an accepted claim"),
     }
 }
@@ -49,14 +43,13 @@ pub fn accept_at<'t>(
     provider: usize,
     place: usize,
     position: usize,
-) -> Result<(), AllocError>
+)
     requires terms { gate.old.terms ≡ terms.now }
     ensures terms { gate.new.terms ≡ terms.now }
-    ensures stays { OnOk result (WorkStays gate.old gate.new) }
+    ensures stays { WorkStays gate.old gate.new }
 {
-    let offer = offer_at(rt, alloc, terms, provider, place)?;
-    accept(rt, terms, gate, offer, position)?;
-    Ok(())
+    let offer = offer_at(rt, alloc, terms, provider, place);
+    accept(rt, terms, gate, offer, position);
 }
 
 // Offers a claim, which is refused: it comes back, and the journal is as before.
@@ -93,13 +86,13 @@ pub fn refuse_at<'t>(
     provider: usize,
     place: usize,
     fault: OfferFault,
-) -> Result<Offer, AllocError>
+) -> Offer
     requires terms { gate.old.terms ≡ terms.now }
     ensures terms { gate.new.terms ≡ terms.now }
-    ensures stays { OnOk result (WorkStays gate.old gate.new) }
+    ensures stays { WorkStays gate.old gate.new }
 {
-    let offer = offer_at(rt, alloc, terms, provider, place)?;
-    Ok(refuse(rt, terms, gate, offer, fault))
+    let offer = offer_at(rt, alloc, terms, provider, place);
+    refuse(rt, terms, gate, offer, fault)
 }
 
 // Takes a claim, which is that at a position.
@@ -108,48 +101,38 @@ pub fn take_job<'t>(
     terms: &'t Terms<'t>,
     gate: &mut GateState<'t>,
     position: usize,
-) -> Result<Job, AllocError>
+) -> Job
     requires terms { gate.old.terms ≡ terms.now }
     ensures terms { gate.new.terms ≡ terms.now }
-    ensures stays { OnOk result (WorkStays gate.old gate.new) }
-    ensures at_work { IfOk result (λ job. IsAtWork gate.new job) }
+    ensures stays { WorkStays gate.old gate.new }
+    ensures at_work { IsAtWork gate.new result }
 {
     jobs_stay();
     let _plan = terms.plan();
     match again::take(rt, gate) {
         Ok(Taken::Work(job)) => {
             assert!(rt; job.position == position);
-            Ok(job)
+            job
         }
-        Err(TakeFault::OutOfMemory) => Err(AllocError),
-        Ok(_) => panic!(rt; "work"),
+        _ => panic!(rt; "work"),
     }
 }
 
 // Takes nothing, since nothing is ready.
-pub fn find_nothing<'t>(
-    rt: &impl Abort,
-    terms: &'t Terms<'t>,
-    gate: &mut GateState<'t>,
-) -> Result<(), AllocError>
+pub fn find_nothing<'t>(rt: &impl Abort, terms: &'t Terms<'t>, gate: &mut GateState<'t>)
     requires terms { gate.old.terms ≡ terms.now }
     ensures terms { gate.new.terms ≡ terms.now }
-    ensures stays { OnOk result (WorkStays gate.old gate.new) }
+    ensures stays { WorkStays gate.old gate.new }
 {
     let _plan = terms.plan();
     let length = gate.journal().len();
     match again::take(rt, gate) {
-        Ok(Taken::NothingReady) => {
-            assert!(rt; gate.journal().len() == length);
-            Ok(())
-        }
-        Err(TakeFault::OutOfMemory) => Err(AllocError),
-        Ok(_) => panic!(rt; "nothing ready"),
+        Ok(Taken::NothingReady) => assert!(rt; gate.journal().len() == length),
+        _ => panic!(rt; "nothing ready"),
     }
 }
 
-// The outcome of a job.
-pub fn settled(
+fn decide_once(
     rt: &impl Abort,
     alloc: Global,
     terms: &Terms,
@@ -163,6 +146,16 @@ pub fn settled(
     decide(alloc, plan, &job.claim, job.acc)
 }
 
+// The outcome of a job.
+pub fn settled(rt: &impl Abort, alloc: Global, terms: &Terms, job: &Job) -> Outcome
+    ensures { result ≡ outcome_of terms.now.plan job.now.claim job.now.acc }
+{
+    match decide_once(rt, alloc, terms, job) {
+        Ok(outcome) => outcome,
+        Err(_) => decide_once(rt, alloc, terms, job).expect(rt, "memory for an outcome"),
+    }
+}
+
 // Finishes a job with its outcome, which is recorded.
 pub fn record<'t>(
     rt: &impl Abort,
@@ -170,17 +163,16 @@ pub fn record<'t>(
     terms: &'t Terms<'t>,
     gate: &mut GateState<'t>,
     job: Job,
-) -> Result<(), AllocError>
+)
     requires terms { gate.old.terms ≡ terms.now }
     requires at_work { IsAtWork gate.old job }
     ensures terms { gate.new.terms ≡ terms.now }
-    ensures stays { OnOk result (WorkStays gate.old gate.new) }
+    ensures stays { WorkStays gate.old gate.new }
 {
     jobs_stay();
-    let outcome = settled(rt, alloc, terms, &job)?;
+    let outcome = settled(rt, alloc, terms, &job);
     match again::finish(rt, gate, job, outcome) {
-        Ok(_) => Ok(()),
-        Err((FinishFault::OutOfMemory, _, _)) => Err(AllocError),
+        Ok(_) => {}
         Err(_) => panic!(rt; "a recorded outcome"),
     }
 }
@@ -193,19 +185,19 @@ pub fn refuse_outcome<'t>(
     gate: &mut GateState<'t>,
     job: Job,
     fault: FinishFault,
-) -> Result<(Job, Outcome), AllocError>
+) -> (Job, Outcome)
     requires terms { gate.old.terms ≡ terms.now }
     requires at_work { IsAtWork gate.old job }
     ensures terms { gate.new.terms ≡ terms.now }
     ensures stays { WorkStays gate.old gate.new }
 {
-    let outcome = settled(rt, alloc, terms, &job)?;
+    let outcome = settled(rt, alloc, terms, &job);
     let length = gate.journal().len();
     match gate.finish(job, outcome) {
         Ok(_) => panic!(rt; "a refusal"),
         Err((given, job, outcome)) => {
             assert!(rt; given == fault && gate.journal().len() == length);
-            Ok((job, outcome))
+            (job, outcome)
         }
     }
 }
@@ -217,15 +209,14 @@ pub fn end<'t>(
     gate: &mut GateState<'t>,
     provider: usize,
     count: usize,
-) -> Result<(), AllocError>
+)
     requires terms { gate.old.terms ≡ terms.now }
     requires claims { ForTerms terms.now (λ T. HasClaims T provider count) }
     ensures terms { gate.new.terms ≡ terms.now }
 {
     let _plan = terms.plan();
     match again::end(rt, gate, provider, count) {
-        Ok(_) => Ok(()),
-        Err(EndFault::OutOfMemory) => Err(AllocError),
+        Ok(_) => {}
         Err(_) => panic!(rt; "an end"),
     }
 }

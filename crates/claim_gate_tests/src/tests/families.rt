@@ -1,16 +1,15 @@
 //! Claims of families: those of one take turns, and each is settled at what its member's and its family's earlier ones left.
-ghost use Rattle.std.specs.Prelude.{◌≡◌, IfOk, OnOk};
+ghost use Rattle.std.specs.Prelude.{◌≡◌};
 ghost use Rattle.claim_gate_tests.specs.Words.{IsAtWork, WorkStays};
 
 use super::calls::{accept_at, find_nothing, record, take_job};
-use super::filing::{plan_of, terms_of};
+use super::filing::gate_of;
+use super::runs::{Calls, run};
 use super::worked::is_job;
 use claim_gate::{GateState, Job, Terms};
-use dtable::Plan;
 use settlement::Acc;
-use std::alloc::{AllocError, Global};
+use std::alloc::Global;
 use std::process::Abort;
-use std::test::Fail;
 use worked_examples::{family_file, family_plan};
 
 // What is met of the member's deductible, and of the family's; what the member has paid out of pocket, and the family.
@@ -22,33 +21,24 @@ fn stands_at(acc: Acc, met: i64, fmet: i64, oop: i64, foop: i64) -> bool {
 }
 
 // Accepts all four claims: three of members of one family, and one of another.
-fn accept_all<'t>(
-    rt: &impl Abort,
-    alloc: Global,
-    terms: &'t Terms<'t>,
-    gate: &mut GateState<'t>,
-) -> Result<(), AllocError>
+fn accept_all<'t>(rt: &impl Abort, alloc: Global, terms: &'t Terms<'t>, gate: &mut GateState<'t>)
     requires terms { gate.old.terms ≡ terms.now }
     ensures terms { gate.new.terms ≡ terms.now }
 {
-    accept_at(rt, alloc, terms, gate, 1, 0, 0)?;
-    accept_at(rt, alloc, terms, gate, 1, 1, 1)?;
-    accept_at(rt, alloc, terms, gate, 1, 2, 2)?;
+    accept_at(rt, alloc, terms, gate, 1, 0, 0);
+    accept_at(rt, alloc, terms, gate, 1, 1, 1);
+    accept_at(rt, alloc, terms, gate, 1, 2, 2);
     accept_at(rt, alloc, terms, gate, 1, 3, 3)
 }
 
 // The first claim of each family is taken, and no other. Gives that of the first.
-fn take_firsts<'t>(
-    rt: &impl Abort,
-    terms: &'t Terms<'t>,
-    gate: &mut GateState<'t>,
-) -> Result<Job, AllocError>
+fn take_firsts<'t>(rt: &impl Abort, terms: &'t Terms<'t>, gate: &mut GateState<'t>) -> Job
     requires terms { gate.old.terms ≡ terms.now }
     ensures terms { gate.new.terms ≡ terms.now }
-    ensures at_work { IfOk result (λ job. IsAtWork gate.new job) }
+    ensures at_work { IsAtWork gate.new result }
 {
-    let first = take_job(rt, terms, gate, 0)?;
-    let other = take_job(rt, terms, gate, 3)?;
+    let first = take_job(rt, terms, gate, 0);
+    let other = take_job(rt, terms, gate, 3);
     assert!(rt; is_job(&first, 0, "e1") && is_job(&other, 3, "e4"));
     assert!(rt; stands_at(other.acc, 0, 0, 0, 0));
     alone(rt, terms, gate, first)
@@ -63,62 +53,47 @@ fn go_on<'t>(
     job: Job,
     fmet: i64,
     foop: i64,
-) -> Result<Job, AllocError>
+) -> Job
     requires terms { gate.old.terms ≡ terms.now }
     requires at_work { IsAtWork gate.old job }
     ensures terms { gate.new.terms ≡ terms.now }
-    ensures at_work { IfOk result (λ next. IsAtWork gate.new next) }
+    ensures at_work { IsAtWork gate.new result }
 {
     let position = job.position.saturating_add(1);
-    record(rt, alloc, terms, gate, job)?;
-    let next = take_job(rt, terms, gate, position)?;
+    record(rt, alloc, terms, gate, job);
+    let next = take_job(rt, terms, gate, position);
     assert!(rt; stands_at(next.acc, 0, fmet, 0, foop));
     alone(rt, terms, gate, next)
 }
 
 // The job is in work, and no other claim may be taken.
-fn alone<'t>(
-    rt: &impl Abort,
-    terms: &'t Terms<'t>,
-    gate: &mut GateState<'t>,
-    job: Job,
-) -> Result<Job, AllocError>
+fn alone<'t>(rt: &impl Abort, terms: &'t Terms<'t>, gate: &mut GateState<'t>, job: Job) -> Job
     requires terms { gate.old.terms ≡ terms.now }
     requires at_work { IsAtWork gate.old job }
     ensures terms { gate.new.terms ≡ terms.now }
-    ensures at_work { IfOk result (λ job. IsAtWork gate.new job) }
+    ensures at_work { IsAtWork gate.new result }
 {
-    find_nothing(rt, terms, gate)?;
-    Ok(job)
+    find_nothing(rt, terms, gate);
+    job
 }
 
-fn family_calls(rt: &impl Abort, alloc: Global, terms: &Terms) -> Result<(), AllocError> {
-    let mut gate = GateState::new(alloc, terms)?;
-    accept_all(rt, alloc, terms, &mut gate)?;
-    let first = take_firsts(rt, terms, &mut gate)?;
-    let second = go_on(rt, alloc, terms, &mut gate, first, 500_000, 600_000)?;
-    let _third = go_on(rt, alloc, terms, &mut gate, second, 800_000, 1_000_000)?;
-    Ok(())
+pub fn family_calls(rt: &impl Abort, alloc: Global, terms: &Terms) {
+    let mut gate = gate_of(rt, alloc, terms);
+    accept_all(rt, alloc, terms, &mut gate);
+    let first = take_firsts(rt, terms, &mut gate);
+    let second = go_on(rt, alloc, terms, &mut gate, first, 500_000, 600_000);
+    let _third = go_on(rt, alloc, terms, &mut gate, second, 800_000, 1_000_000);
 }
 
-fn take_turns(rt: &impl Abort, alloc: Global) -> Result<(), AllocError> {
-    let plan = plan_of(alloc, family_plan().as_bytes())?;
-    take_turns_under(rt, alloc, &plan)
-}
-
-fn take_turns_under(rt: &impl Abort, alloc: Global, plan: &Plan) -> Result<(), AllocError> {
+#[test]
+fn claims_of_a_family_take_turns_though_memory_is_refused(rt: HostRuntime) {
     let files = [family_file()];
-    let terms = terms_of(alloc, plan, &files, None)?;
-    family_calls(rt, alloc, &terms)
-}
-
-#[test]
-fn claims_of_a_family_take_turns(rt: HostRuntime) -> Result<(), Fail> {
-    take_turns(&rt, rt.alloc())?;
-    Ok(())
-}
-
-#[test]
-fn claims_of_a_family_take_turns_or_no_memory(rt: HostRuntime) {
-    let _wanting = take_turns(&rt, rt.alloc());
+    run(
+        &rt,
+        rt.alloc(),
+        family_plan(),
+        &files,
+        None,
+        Calls::TakeFamiliesTurns,
+    );
 }

@@ -1,10 +1,11 @@
-//! The claims of providers' files, one after another, as who reads the files offers them.
+//! What the tests begin with, and the claims of providers' files, one after another, as who reads the files offers them. What is refused memory is
+//! asked for once more.
 ghost use Rattle.std.specs.Prelude.{◌≡◌, ◌+◌, IfOk, OnOk};
 ghost use Rattle.claim_terms.specs.Terms.{ForTerms};
 ghost use Rattle.claim_gate.specs.Replies.{HasClaims, IsFiled};
 ghost use Rattle.claim_gate_tests.specs.Words.{IsReader};
 
-use claim_gate::{Offer, Terms};
+use claim_gate::{GateState, Offer, Terms};
 use dtable::{Plan, read_plan};
 use intake_csv::{
     Row, Rows, given_row_is_the_first, no_records_give_no_rows, reader_begins_with_all_rows,
@@ -12,25 +13,52 @@ use intake_csv::{
 use std::alloc::{AllocError, Global};
 use std::process::Abort;
 
-// The plan of a text.
-pub fn plan_of(alloc: Global, text: &[u8]) -> Result<Plan, AllocError> {
+fn read_once(alloc: Global, text: &[u8]) -> Result<Plan, AllocError> {
     let Ok(plan) = read_plan(alloc, text) else {
         return Err(AllocError);
     };
     Ok(plan)
 }
 
+// The plan of a text.
+pub fn plan_of(rt: &impl Abort, alloc: Global, text: &[u8]) -> Plan {
+    match read_once(alloc, text) {
+        Ok(plan) => plan,
+        Err(_) => read_once(alloc, text).expect(rt, "a plan"),
+    }
+}
+
 // The terms of a plan and of files, without balances.
 pub fn terms_of<'a>(
+    rt: &impl Abort,
     alloc: Global,
     plan: &'a Plan,
     files: &'a [&'a [u8]],
     cutoff: Option<u64>,
-) -> Result<Terms<'a>, AllocError> {
+) -> Terms<'a> {
+    if let Ok(terms) = Terms::new(alloc, plan, files, None, cutoff) {
+        return terms;
+    }
     let Ok(terms) = Terms::new(alloc, plan, files, None, cutoff) else {
-        return Err(AllocError);
+        panic!(rt; "terms");
     };
-    Ok(terms)
+    terms
+}
+
+fn begun<'t>(alloc: Global, terms: &'t Terms<'t>) -> Result<GateState<'t>, AllocError>
+    ensures { IfOk result (λ gate. gate.terms ≡ terms.now) }
+{
+    GateState::new(alloc, terms)
+}
+
+// A gate to which nothing was offered.
+pub fn gate_of<'t>(rt: &impl Abort, alloc: Global, terms: &'t Terms<'t>) -> GateState<'t>
+    ensures { result.terms ≡ terms.now }
+{
+    match begun(alloc, terms) {
+        Ok(gate) => gate,
+        Err(_) => begun(alloc, terms).expect(rt, "memory for a gate"),
+    }
 }
 
 // A reader at the start of a provider's file.
@@ -93,8 +121,23 @@ fn go_by(
     Ok(())
 }
 
-// The claim at a place of a provider's file, whose records up to it are claims, as an offer.
-pub fn offer_at(
+// The claim behind so many others at the start of a provider's file, as an offer.
+fn offer_behind(
+    rt: &impl Abort,
+    terms: &Terms,
+    provider: usize,
+    rows: &mut Rows,
+    place: usize,
+) -> Result<Offer, AllocError>
+    requires reader { ForTerms terms.now (λ T. IsReader T provider rows.old) }
+    requires place { rows.old.place ≡ 0 }
+    ensures filed { IfOk result (λ offer. ForTerms terms.now (λ T. IsFiled T offer)) }
+{
+    go_by(rt, terms, provider, rows, place)?;
+    next_offer(rt, terms, provider, rows)
+}
+
+fn read_offer(
     rt: &impl Abort,
     alloc: Global,
     terms: &Terms,
@@ -104,12 +147,46 @@ pub fn offer_at(
     ensures { IfOk result (λ offer. ForTerms terms.now (λ T. IsFiled T offer)) }
 {
     let mut rows = open(rt, alloc, terms, provider)?;
-    go_by(rt, terms, provider, &mut rows, place)?;
-    next_offer(rt, terms, provider, &mut rows)
+    offer_behind(rt, terms, provider, &mut rows, place)
 }
 
-// Reads a provider's file to its end: so many claims, and nothing else.
-pub fn read_all(
+// The claim at a place of a provider's file, whose records up to it are claims, as an offer.
+pub fn offer_at(
+    rt: &impl Abort,
+    alloc: Global,
+    terms: &Terms,
+    provider: usize,
+    place: usize,
+) -> Offer
+    ensures { ForTerms terms.now (λ T. IsFiled T result) }
+{
+    match read_offer(rt, alloc, terms, provider, place) {
+        Ok(offer) => offer,
+        Err(_) => read_offer(rt, alloc, terms, provider, place).expect(rt, "memory for a claim"),
+    }
+}
+
+// Goes to the end of a file, behind so many claims, and nothing else.
+fn go_to_end(
+    rt: &impl Abort,
+    terms: &Terms,
+    provider: usize,
+    rows: &mut Rows,
+    count: usize,
+) -> Result<(), AllocError>
+    requires reader { ForTerms terms.now (λ T. IsReader T provider rows.old) }
+    requires place { rows.old.place ≡ 0 }
+    ensures { OnOk result (ForTerms terms.now (λ T. HasClaims T provider count)) }
+{
+    no_records_give_no_rows();
+    go_by(rt, terms, provider, rows, count)?;
+    match rows.next()? {
+        None => Ok(()),
+        Some(_) => panic!(rt; "the end of the file"),
+    }
+}
+
+fn read_through(
     rt: &impl Abort,
     alloc: Global,
     terms: &Terms,
@@ -118,12 +195,17 @@ pub fn read_all(
 ) -> Result<(), AllocError>
     ensures { OnOk result (ForTerms terms.now (λ T. HasClaims T provider count)) }
 {
-    no_records_give_no_rows();
     let mut rows = open(rt, alloc, terms, provider)?;
-    go_by(rt, terms, provider, &mut rows, count)?;
-    match rows.next()? {
-        None => Ok(()),
-        Some(_) => panic!(rt; "the end of the file"),
+    go_to_end(rt, terms, provider, &mut rows, count)
+}
+
+// Reads a provider's file to its end: so many claims, and nothing else.
+pub fn read_all(rt: &impl Abort, alloc: Global, terms: &Terms, provider: usize, count: usize)
+    ensures { ForTerms terms.now (λ T. HasClaims T provider count) }
+{
+    match read_through(rt, alloc, terms, provider, count) {
+        Ok(()) => {}
+        Err(_) => read_through(rt, alloc, terms, provider, count).expect(rt, "memory for a file"),
     }
 }
 

@@ -1,27 +1,20 @@
-//! A gate behind a lock whose calls are each refused memory once, an outcome that is handed in twice, and two threads that offer the same
-//! file.
-ghost use Rattle.std.specs.Prelude.{◌≡◌, IfOk};
+//! A run of one claim behind a lock, whose outcome is handed in twice.
+ghost use Rattle.std.specs.Prelude.{◌≡◌};
 ghost use Rattle.claim_gate_tests.specs.Words.{IsAtWork, IsCaller};
 
-use super::filing::{offer_at, plan_of, read_all, terms_of};
-use super::in_turn::over_a_ticket_lock;
+use super::events::is_journal;
+use super::filing::{gate_of, read_all};
+use super::runs::{Calls, run};
 use super::shared::{accept_at, record, refuse_outcome, take_job};
-use super::worked::{is_at, is_closed, is_job, is_paid_40, one_claim};
+use super::worked::{is_at, is_job, is_paid_40, one_claim};
 use super::{again, again_shared};
-use claim_gate::{Event, FinishFault, Gate, GateState, Job, LockedGate, SerialGate, Terms};
-use dtable::Plan;
+use claim_gate::{FinishFault, Gate, Job, LockedGate, SerialGate, Terms};
 use journal::jobs_stay;
-use std::alloc::{AllocError, Global};
+use std::alloc::Global;
 use std::process::Abort;
 use std::sync::Wait;
-use std::test::Fail;
 use turn_lock::{Section, SpinLock, TicketLock};
 use worked_examples::health_plan;
-
-#[test]
-fn two_passes_over_a_ticket_lock_or_no_memory(rt: HostRuntime) {
-    let _wanting = over_a_ticket_lock(&rt, rt.alloc());
-}
 
 // A job and its copy: the outcome is recorded once, and then job and outcome come back.
 fn decide_copy<G: Gate>(
@@ -31,19 +24,19 @@ fn decide_copy<G: Gate>(
     gate: &G,
     pass: G::Pass,
     job: Job,
-) -> Result<G::Pass, AllocError>
+) -> G::Pass
     requires caller { IsCaller (G.has_pass gate.now) G.known terms.now pass }
     requires at_work { IsAtWork (G.known pass).seen job }
-    ensures caller { IfOk result (IsCaller (G.has_pass gate.now) G.known terms.now) }
+    ensures caller { IsCaller (G.has_pass gate.now) G.known terms.now result }
 {
     jobs_stay();
-    let copy = again::copy(rt, alloc, &job)?;
+    let copy = again::copy(rt, alloc, &job);
     assert!(rt; is_first_job(&copy));
-    let pass = record(rt, alloc, terms, gate, pass, job)?;
+    let pass = record(rt, alloc, terms, gate, pass, job);
     let decided = FinishFault::AlreadyDecided;
-    let (pass, back, outcome) = refuse_outcome(rt, alloc, terms, gate, pass, copy, decided)?;
+    let (pass, back, outcome) = refuse_outcome(rt, alloc, terms, gate, pass, copy, decided);
     assert!(rt; is_job(&back, 0, "c1") && is_paid_40(&outcome));
-    Ok(pass)
+    pass
 }
 
 // Whether a job is that of the first claim, of a member that has met nothing.
@@ -58,28 +51,15 @@ fn decide_only<G: Gate>(
     terms: &Terms,
     gate: &G,
     pass: G::Pass,
-) -> Result<G::Pass, AllocError>
+) -> G::Pass
     requires caller { IsCaller (G.has_pass gate.now) G.known terms.now pass }
-    ensures caller { IfOk result (IsCaller (G.has_pass gate.now) G.known terms.now) }
+    ensures caller { IsCaller (G.has_pass gate.now) G.known terms.now result }
 {
-    let pass = accept_at(rt, alloc, terms, gate, pass, (1, 0), 0)?;
-    read_all(rt, alloc, terms, 1, 1)?;
+    let pass = accept_at(rt, alloc, terms, gate, pass, (1, 0), 0);
+    read_all(rt, alloc, terms, 1, 1);
     let pass = again_shared::end(rt, terms, gate, pass, 1, 1);
-    let (pass, job) = take_job(rt, terms, gate, pass, 0)?;
+    let (pass, job) = take_job(rt, terms, gate, pass, 0);
     decide_copy(rt, alloc, terms, gate, pass, job)
-}
-
-// Whether a journal is that of a run of one claim.
-fn is_run_of_one(journal: &[Event]) -> bool {
-    let [
-        front @ ..,
-        Event::Take { position: 0 },
-        Event::Decide { position: 0, .. },
-    ] = journal
-    else {
-        return false;
-    };
-    is_closed(front)
 }
 
 fn run_of_one<S: Section + Drop>(
@@ -88,7 +68,7 @@ fn run_of_one<S: Section + Drop>(
     terms: &Terms,
     lock: S,
     pass: S::Pass,
-) -> Result<(), AllocError>
+)
 where
     S::Value: SerialGate + Drop,
     S::Pass: Send + Drop,
@@ -96,60 +76,43 @@ where
     requires terms { (S.Value.shown (S.seen pass)).terms ≡ terms.now }
 {
     let gate = LockedGate::over(lock);
-    let pass = decide_only(rt, alloc, terms, &gate, pass)?;
+    let pass = decide_only(rt, alloc, terms, &gate, pass);
     match gate.retire(rt, pass) {
-        Ok(state) => assert!(rt; is_run_of_one(state.journal())),
+        Ok(state) => assert!(rt; is_journal(state.journal(), b"A10E1 C  T0 D0 ")),
         Err(_) => panic!(rt; "the gate of one thread"),
     }
-    Ok(())
 }
 
-fn by_a_spin_lock(
-    rt: &(impl Abort + Wait),
-    alloc: Global,
-    terms: &Terms,
-) -> Result<(), AllocError> {
-    let (lock, pass) = SpinLock::new(alloc, GateState::new(alloc, terms)?)?;
+fn by_a_spin_lock(rt: &(impl Abort + Wait), alloc: Global, terms: &Terms) {
+    let (lock, pass) = match SpinLock::new(alloc, gate_of(rt, alloc, terms)) {
+        Ok(made) => made,
+        Err(_) => SpinLock::new(alloc, gate_of(rt, alloc, terms)).expect(rt, "memory for a lock"),
+    };
     run_of_one(rt, alloc, terms, lock, pass)
 }
 
-fn by_a_ticket_lock(
-    rt: &(impl Abort + Wait),
-    alloc: Global,
-    terms: &Terms,
-) -> Result<(), AllocError> {
-    let (lock, pass) = TicketLock::new(alloc, GateState::new(alloc, terms)?)?;
+fn by_a_ticket_lock(rt: &(impl Abort + Wait), alloc: Global, terms: &Terms) {
+    let (lock, pass) = match TicketLock::new(alloc, gate_of(rt, alloc, terms)) {
+        Ok(made) => made,
+        Err(_) => TicketLock::new(alloc, gate_of(rt, alloc, terms)).expect(rt, "memory for a lock"),
+    };
     run_of_one(rt, alloc, terms, lock, pass)
 }
 
-// By both locks.
-fn runs_of_one(rt: &(impl Abort + Wait), alloc: Global) -> Result<(), AllocError> {
-    let plan = plan_of(alloc, health_plan().as_bytes())?;
-    runs_of_one_under(rt, alloc, &plan)
-}
-
-fn runs_of_one_under(
-    rt: &(impl Abort + Wait),
-    alloc: Global,
-    plan: &Plan,
-) -> Result<(), AllocError> {
-    let files = [one_claim()];
-    let terms = terms_of(alloc, plan, &files, None)?;
-    by_both_locks(rt, alloc, &terms)
-}
-
-fn by_both_locks(rt: &(impl Abort + Wait), alloc: Global, terms: &Terms) -> Result<(), AllocError> {
-    by_a_spin_lock(rt, alloc, terms)?;
+pub fn by_both_locks(rt: &(impl Abort + Wait), alloc: Global, terms: &Terms) {
+    by_a_spin_lock(rt, alloc, terms);
     by_a_ticket_lock(rt, alloc, terms)
 }
 
 #[test]
-fn an_outcome_is_recorded_once_behind_a_lock(rt: HostRuntime) -> Result<(), Fail> {
-    runs_of_one(&rt, rt.alloc())?;
-    Ok(())
-}
-
-#[test]
-fn an_outcome_behind_a_lock_or_no_memory(rt: HostRuntime) {
-    let _wanting = runs_of_one(&rt, rt.alloc());
+fn an_outcome_is_recorded_once_behind_a_lock_though_memory_is_refused(rt: HostRuntime) {
+    let files = [one_claim()];
+    run(
+        &rt,
+        rt.alloc(),
+        health_plan(),
+        &files,
+        None,
+        Calls::DecideTwiceByLocks,
+    );
 }

@@ -1,18 +1,17 @@
 //! A gate behind a lock of which two tickets are left, one, or none: each call behind the last one is answered so, and the pass
 //! and the values come back.
-ghost use Rattle.std.specs.Prelude.{◌≡◌, IfOk, IfErr};
+ghost use Rattle.std.specs.Prelude.{◌≡◌};
 ghost use Rattle.claim_gate_tests.specs.Words.{IsAtWork, IsCaller};
 
 use super::calls::settled;
-use super::filing::{is_offer, offer_at, plan_of, read_all, terms_of};
+use super::filing::{gate_of, is_offer, offer_at, read_all};
+use super::runs::{Calls, run};
 use super::shared::{accept_at, take_job};
 use super::worked::{is_job, is_paid_40};
-use claim_gate::{Gate, GateState, Job, LockedGate, SerialGate, Terms};
-use dtable::Plan;
-use std::alloc::{AllocError, Global};
+use claim_gate::{Gate, Job, LockedGate, SerialGate, Terms};
+use std::alloc::Global;
 use std::process::Abort;
 use std::sync::Wait;
-use std::test::Fail;
 use turn_lock::{Section, TicketLock};
 use worked_examples::{first_file, health_plan, second_file};
 
@@ -23,12 +22,12 @@ fn worn_intake<G: Gate>(
     terms: &Terms,
     gate: &G,
     pass: G::Pass,
-) -> Result<G::Pass, AllocError>
+) -> G::Pass
     requires caller { IsCaller (G.has_pass gate.now) G.known terms.now pass }
-    ensures caller { IfOk result (IsCaller (G.has_pass gate.now) G.known terms.now) }
+    ensures caller { IsCaller (G.has_pass gate.now) G.known terms.now result }
 {
-    let offer = offer_at(rt, alloc, terms, 1, 0)?;
-    read_all(rt, alloc, terms, 1, 4)?;
+    let offer = offer_at(rt, alloc, terms, 1, 0);
+    read_all(rt, alloc, terms, 1, 4);
     let Err((_, pass, back)) = gate.offer(rt, pass, offer) else {
         panic!(rt; "no ticket for an offer");
     };
@@ -36,7 +35,7 @@ fn worn_intake<G: Gate>(
     let Err((_, pass)) = gate.end(rt, pass, 1, 4) else {
         panic!(rt; "no ticket for an end");
     };
-    Ok(pass)
+    pass
 }
 
 // The other calls.
@@ -63,7 +62,7 @@ fn calls_over<S: Section + Drop>(
     terms: &Terms,
     lock: S,
     pass: S::Pass,
-) -> Result<(), AllocError>
+)
 where
     S::Value: SerialGate + Drop,
     S::Pass: Send + Drop,
@@ -71,11 +70,10 @@ where
     requires terms { (S.Value.shown (S.seen pass)).terms ≡ terms.now }
 {
     let gate = LockedGate::over(lock);
-    let pass = accept_at(rt, alloc, terms, &gate, pass, (1, 0), 0)?;
-    let pass = worn_intake(rt, alloc, terms, &gate, pass)?;
+    let pass = accept_at(rt, alloc, terms, &gate, pass, (1, 0), 0);
+    let pass = worn_intake(rt, alloc, terms, &gate, pass);
     let pass = worn_calls(rt, &gate, pass);
     assert!(rt; gate.retire(rt, pass).is_err());
-    Ok(())
 }
 
 // No claim is accepted at all.
@@ -85,7 +83,7 @@ fn calls_without<S: Section + Drop>(
     terms: &Terms,
     lock: S,
     pass: S::Pass,
-) -> Result<(), AllocError>
+)
 where
     S::Value: SerialGate + Drop,
     S::Pass: Send + Drop,
@@ -93,9 +91,8 @@ where
     requires terms { (S.Value.shown (S.seen pass)).terms ≡ terms.now }
 {
     let gate = LockedGate::over(lock);
-    let pass = worn_intake(rt, alloc, terms, &gate, pass)?;
+    let pass = worn_intake(rt, alloc, terms, &gate, pass);
     let _pass = worn_calls(rt, &gate, pass);
-    Ok(())
 }
 
 // The outcome of a job: both come back.
@@ -106,16 +103,15 @@ fn worn_finish<G: Gate>(
     gate: &G,
     pass: G::Pass,
     job: Job,
-) -> Result<(), AllocError>
+)
     requires caller { IsCaller (G.has_pass gate.now) G.known terms.now pass }
     requires at_work { IsAtWork (G.known pass).seen job }
 {
-    let outcome = settled(rt, alloc, terms, &job)?;
+    let outcome = settled(rt, alloc, terms, &job);
     let Err((_, _pass, job, outcome)) = gate.finish(rt, pass, job, outcome) else {
         panic!(rt; "no ticket for a finish");
     };
     assert!(rt; is_job(&job, 0, "c1") && is_paid_40(&outcome));
-    Ok(())
 }
 
 // The first claim is taken by the last ticket.
@@ -125,7 +121,7 @@ fn finish_over<S: Section + Drop>(
     terms: &Terms,
     lock: S,
     pass: S::Pass,
-) -> Result<(), AllocError>
+)
 where
     S::Value: SerialGate + Drop,
     S::Pass: Send + Drop,
@@ -133,72 +129,62 @@ where
     requires terms { (S.Value.shown (S.seen pass)).terms ≡ terms.now }
 {
     let gate = LockedGate::over(lock);
-    let pass = accept_at(rt, alloc, terms, &gate, pass, (1, 0), 0)?;
-    let (pass, job) = take_job(rt, terms, &gate, pass, 0)?;
+    let pass = accept_at(rt, alloc, terms, &gate, pass, (1, 0), 0);
+    let (pass, job) = take_job(rt, terms, &gate, pass, 0);
     worn_finish(rt, alloc, terms, &gate, pass, job)
 }
 
-fn one_ticket(rt: &(impl Abort + Wait), alloc: Global, terms: &Terms) -> Result<(), AllocError> {
-    let state = GateState::new(alloc, terms)?;
-    let (lock, pass) = TicketLock::new_at(alloc, state, u64::MAX - 1)?;
+fn one_ticket(rt: &(impl Abort + Wait), alloc: Global, terms: &Terms) {
+    let state = gate_of(rt, alloc, terms);
+    let (lock, pass) = TicketLock::new_at(alloc, state, u64::MAX - 1).expect(
+        rt,
+        "memory for a lock",
+    );
     calls_over(rt, alloc, terms, lock, pass)
 }
 
-fn no_ticket(rt: &(impl Abort + Wait), alloc: Global, terms: &Terms) -> Result<(), AllocError> {
-    let state = GateState::new(alloc, terms)?;
-    let (lock, pass) = TicketLock::new_at(alloc, state, u64::MAX)?;
+fn no_ticket(rt: &(impl Abort + Wait), alloc: Global, terms: &Terms) {
+    let state = gate_of(rt, alloc, terms);
+    let (lock, pass) = TicketLock::new_at(alloc, state, u64::MAX).expect(rt, "memory for a lock");
     calls_without(rt, alloc, terms, lock, pass)
 }
 
-fn two_tickets(rt: &(impl Abort + Wait), alloc: Global, terms: &Terms) -> Result<(), AllocError> {
-    let state = GateState::new(alloc, terms)?;
-    let (lock, pass) = TicketLock::new_at(alloc, state, u64::MAX - 2)?;
+pub fn two_tickets(rt: &(impl Abort + Wait), alloc: Global, terms: &Terms) {
+    let state = gate_of(rt, alloc, terms);
+    let (lock, pass) = TicketLock::new_at(alloc, state, u64::MAX - 2).expect(
+        rt,
+        "memory for a lock",
+    );
     finish_over(rt, alloc, terms, lock, pass)
 }
 
-fn by_few_tickets(rt: &(impl Abort + Wait), alloc: Global) -> Result<(), AllocError> {
-    let plan = plan_of(alloc, health_plan().as_bytes())?;
-    by_few_tickets_under(rt, alloc, &plan)
-}
-
-fn by_few_tickets_under(
-    rt: &(impl Abort + Wait),
-    alloc: Global,
-    plan: &Plan,
-) -> Result<(), AllocError> {
-    let files = [first_file(), second_file()];
-    let terms = terms_of(alloc, plan, &files, None)?;
-    few_tickets(rt, alloc, &terms)
-}
-
-fn few_tickets(rt: &(impl Abort + Wait), alloc: Global, terms: &Terms) -> Result<(), AllocError> {
-    no_ticket(rt, alloc, terms)?;
+pub fn few_tickets(rt: &(impl Abort + Wait), alloc: Global, terms: &Terms) {
+    no_ticket(rt, alloc, terms);
     one_ticket(rt, alloc, terms)
 }
 
-fn by_two_tickets(rt: &(impl Abort + Wait), alloc: Global) -> Result<(), AllocError> {
-    let plan = plan_of(alloc, health_plan().as_bytes())?;
-    by_two_tickets_under(rt, alloc, &plan)
-}
-
-fn by_two_tickets_under(
-    rt: &(impl Abort + Wait),
-    alloc: Global,
-    plan: &Plan,
-) -> Result<(), AllocError> {
+#[test]
+fn no_call_without_a_ticket(rt: HostRuntime) {
     let files = [first_file(), second_file()];
-    let terms = terms_of(alloc, plan, &files, None)?;
-    two_tickets(rt, alloc, &terms)
+    run(
+        &rt,
+        rt.alloc(),
+        health_plan(),
+        &files,
+        None,
+        Calls::LastTickets,
+    );
 }
 
 #[test]
-fn no_call_without_a_ticket(rt: HostRuntime) -> Result<(), Fail> {
-    by_few_tickets(&rt, rt.alloc())?;
-    Ok(())
-}
-
-#[test]
-fn no_outcome_without_a_ticket(rt: HostRuntime) -> Result<(), Fail> {
-    by_two_tickets(&rt, rt.alloc())?;
-    Ok(())
+fn no_outcome_without_a_ticket(rt: HostRuntime) {
+    let files = [first_file(), second_file()];
+    run(
+        &rt,
+        rt.alloc(),
+        health_plan(),
+        &files,
+        None,
+        Calls::OutcomeWithoutTicket,
+    );
 }

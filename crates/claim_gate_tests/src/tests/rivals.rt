@@ -1,17 +1,15 @@
 //! Two threads offer the same file, each by a pass of its own, and go on at the expected place where the other was there before.
-ghost use Rattle.std.specs.Prelude.{◌≡◌, IfOk};
+ghost use Rattle.std.specs.Prelude.{◌≡◌};
 ghost use Rattle.claim_terms.specs.Terms.{ForTerms};
 ghost use Rattle.claim_gate.specs.Replies.{IsFiled};
 ghost use Rattle.claim_gate_tests.specs.Words.{IsCaller};
 
-use super::filing::{offer_at, plan_of, terms_of};
-use claim_gate::{Event, Gate, GateState, LockedGate, Offer, OfferFault, SerialGate, Terms};
-use dtable::Plan;
-use std::alloc::{AllocError, Global};
+use super::filing::{gate_of, offer_at, plan_of, terms_of};
+use claim_gate::{Event, Gate, LockedGate, Offer, OfferFault, SerialGate, Terms};
+use std::alloc::Global;
 use std::process::Abort;
 use std::sync::Wait;
 use std::sync::atomic::{AtomicU64, Ordering};
-use std::test::Fail;
 use std::thread;
 use std::thread::Threads;
 use turn_lock::{Section, TicketLock};
@@ -111,7 +109,7 @@ fn offer_from<R: Wait + Abort, G: Gate>(
     if place >= 4 {
         return (place, pass);
     }
-    let offer = offer_at(rt, alloc, terms, 1, place).expect(rt, "memory for a claim");
+    let offer = offer_at(rt, alloc, terms, 1, place);
     offer_next(rt, terms, gate, pass, offer, told)
 }
 
@@ -184,38 +182,24 @@ where
     }
 }
 
-fn rivals<R: Threads + Wait + Abort + Sync>(
-    rt: &R,
-    alloc: Global,
-    terms: &Terms,
-) -> Result<(), AllocError> {
-    let (lock, pass) = TicketLock::new(alloc, GateState::new(alloc, terms)?)?;
+fn rivals<R: Threads + Wait + Abort + Sync>(rt: &R, alloc: Global, terms: &Terms) {
+    let (lock, pass) = match TicketLock::new(alloc, gate_of(rt, alloc, terms)) {
+        Ok(made) => made,
+        Err(_) => TicketLock::new(alloc, gate_of(rt, alloc, terms)).expect(rt, "memory for a lock"),
+    };
     rivals_over(rt, alloc, terms, lock, pass);
-    Ok(())
 }
 
-fn rivals_of_files<R: Threads + Wait + Abort + Sync>(
-    rt: &R,
-    alloc: Global,
-) -> Result<(), AllocError> {
-    let plan = plan_of(alloc, health_plan().as_bytes())?;
-    rivals_of_files_under(rt, alloc, &plan)
-}
-
-fn rivals_of_files_under<R: Threads + Wait + Abort + Sync>(
-    rt: &R,
-    alloc: Global,
-    plan: &Plan,
-) -> Result<(), AllocError> {
+fn rivals_of_files<R: Threads + Wait + Abort + Sync>(rt: &R, alloc: Global) {
+    let plan = plan_of(rt, alloc, health_plan().as_bytes());
     let files = [first_file(), second_file()];
-    let terms = terms_of(alloc, plan, &files, None)?;
-    rivals(rt, alloc, &terms)
+    let terms = terms_of(rt, alloc, &plan, &files, None);
+    rivals(rt, alloc, &terms);
 }
 
 #[test]
-fn two_threads_offer_the_same_file(rt: HostRuntime) -> Result<(), Fail> {
+fn two_threads_offer_the_same_file(rt: HostRuntime) {
     for _ in 0..10 {
-        rivals_of_files(&rt, rt.alloc())?;
+        rivals_of_files(&rt, rt.alloc());
     }
-    Ok(())
 }

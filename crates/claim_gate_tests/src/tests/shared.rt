@@ -1,5 +1,6 @@
-//! The calls of a gate behind a lock, each with the answer that is wanted: another one ends the test, unless it is want of memory.
-ghost use Rattle.std.specs.Prelude.{◌≡◌, IfOk};
+//! The calls of a gate behind a lock, each with the answer that is wanted: another one ends the test. A call that is refused memory is made
+//! once more.
+ghost use Rattle.std.specs.Prelude.{◌≡◌};
 ghost use Rattle.claim_terms.specs.Terms.{ForTerms};
 ghost use Rattle.claim_gate.specs.Replies.{HasClaims, IsFiled};
 ghost use Rattle.journal.specs.Gate.{LeadsTo};
@@ -11,7 +12,7 @@ use super::filing::offer_at;
 use claim_gate::{EndFault, FinishFault, Gate, Job, Offer, OfferFault, TakeFault, Taken, Terms};
 use journal::jobs_stay;
 use settlement::Outcome;
-use std::alloc::{AllocError, Global};
+use std::alloc::Global;
 use std::process::Abort;
 use std::sync::Wait;
 
@@ -23,11 +24,11 @@ fn accept<G: Gate>(
     pass: G::Pass,
     offer: Offer,
     position: usize,
-) -> Result<G::Pass, AllocError>
+) -> G::Pass
     requires caller { IsCaller (G.has_pass gate.now) G.known terms.now pass }
     requires filed { ForTerms terms.now (λ T. IsFiled T offer) }
-    ensures caller { IfOk result (IsCaller (G.has_pass gate.now) G.known terms.now) }
-    ensures leads { IfOk result (λ p. LeadsTo (G.known pass).seen (G.known p).seen) }
+    ensures caller { IsCaller (G.has_pass gate.now) G.known terms.now result }
+    ensures leads { LeadsTo (G.known pass).seen (G.known result).seen }
 {
     let _plan = terms.plan();
     let filed = (offer.provider, offer.place);
@@ -37,11 +38,11 @@ fn accept<G: Gate>(
     match reply {
         Ok(accepted) => {
             assert!(rt; accepted.position == position);
-            Ok(pass)
+            pass
         }
         Err((OfferFault::OutOfMemory, back)) => {
             assert!(rt; (back.provider, back.place) == filed);
-            Ok(again_shared::accept(rt, terms, gate, pass, back, position))
+            again_shared::accept(rt, terms, gate, pass, back, position)
         }
         Err(_) => panic!(rt; "an accepted claim"),
     }
@@ -84,13 +85,13 @@ pub fn accept_at<G: Gate>(
     pass: G::Pass,
     filed: (usize, usize),
     position: usize,
-) -> Result<G::Pass, AllocError>
+) -> G::Pass
     requires caller { IsCaller (G.has_pass gate.now) G.known terms.now pass }
-    ensures caller { IfOk result (IsCaller (G.has_pass gate.now) G.known terms.now) }
-    ensures leads { IfOk result (λ p. LeadsTo (G.known pass).seen (G.known p).seen) }
+    ensures caller { IsCaller (G.has_pass gate.now) G.known terms.now result }
+    ensures leads { LeadsTo (G.known pass).seen (G.known result).seen }
 {
     let (provider, place) = filed;
-    let offer = offer_at(rt, alloc, terms, provider, place)?;
+    let offer = offer_at(rt, alloc, terms, provider, place);
     accept(rt, terms, gate, pass, offer, position)
 }
 
@@ -103,14 +104,14 @@ pub fn refuse_at<G: Gate>(
     pass: G::Pass,
     filed: (usize, usize),
     fault: OfferFault,
-) -> Result<(G::Pass, Offer), AllocError>
+) -> (G::Pass, Offer)
     requires caller { IsCaller (G.has_pass gate.now) G.known terms.now pass }
-    ensures caller { IfOk result (λ r. IsCaller (G.has_pass gate.now) G.known terms.now r.0) }
-    ensures leads { IfOk result (λ r. LeadsTo (G.known pass).seen (G.known r.0).seen) }
+    ensures caller { IsCaller (G.has_pass gate.now) G.known terms.now result.0 }
+    ensures leads { LeadsTo (G.known pass).seen (G.known result.0).seen }
 {
     let (provider, place) = filed;
-    let offer = offer_at(rt, alloc, terms, provider, place)?;
-    Ok(refuse(rt, terms, gate, pass, offer, fault))
+    let offer = offer_at(rt, alloc, terms, provider, place);
+    refuse(rt, terms, gate, pass, offer, fault)
 }
 
 // Takes a claim, which is that at a position.
@@ -120,11 +121,11 @@ pub fn take_job<G: Gate>(
     gate: &G,
     pass: G::Pass,
     position: usize,
-) -> Result<(G::Pass, Job), AllocError>
+) -> (G::Pass, Job)
     requires caller { IsCaller (G.has_pass gate.now) G.known terms.now pass }
-    ensures caller { IfOk result (λ r. IsCaller (G.has_pass gate.now) G.known terms.now r.0) }
-    ensures leads { IfOk result (λ r. LeadsTo (G.known pass).seen (G.known r.0).seen) }
-    ensures at_work { IfOk result (λ r. IsAtWork (G.known r.0).seen r.1) }
+    ensures caller { IsCaller (G.has_pass gate.now) G.known terms.now result.0 }
+    ensures leads { LeadsTo (G.known pass).seen (G.known result.0).seen }
+    ensures at_work { IsAtWork (G.known result.0).seen result.1 }
 {
     jobs_stay();
     let _plan = terms.plan();
@@ -134,11 +135,9 @@ pub fn take_job<G: Gate>(
     match reply {
         Ok(Taken::Work(job)) => {
             assert!(rt; job.position == position);
-            Ok((pass, job))
+            (pass, job)
         }
-        Err(TakeFault::OutOfMemory) => {
-            Ok(again_shared::take_job(rt, terms, gate, pass, position))
-        }
+        Err(TakeFault::OutOfMemory) => again_shared::take_job(rt, terms, gate, pass, position),
         Ok(_) => panic!(rt; "work"),
     }
 }
@@ -149,20 +148,20 @@ pub fn find_nothing<G: Gate>(
     terms: &Terms,
     gate: &G,
     pass: G::Pass,
-) -> Result<G::Pass, AllocError>
+) -> G::Pass
     requires caller { IsCaller (G.has_pass gate.now) G.known terms.now pass }
-    ensures caller { IfOk result (IsCaller (G.has_pass gate.now) G.known terms.now) }
-    ensures leads { IfOk result (λ p. LeadsTo (G.known pass).seen (G.known p).seen) }
+    ensures caller { IsCaller (G.has_pass gate.now) G.known terms.now result }
+    ensures leads { LeadsTo (G.known pass).seen (G.known result).seen }
 {
     let _plan = terms.plan();
     let Ok((reply, pass)) = gate.take(rt, pass) else {
         panic!(rt; "a reply");
     };
-    match reply {
-        Ok(Taken::NothingReady) => Ok(pass),
-        Err(TakeFault::OutOfMemory) => Ok(again_shared::find_nothing(rt, terms, gate, pass)),
-        Ok(_) => panic!(rt; "nothing ready"),
+    if reply.is_err() {
+        return again_shared::find_nothing(rt, terms, gate, pass);
     }
+    assert!(rt; matches!(reply, Ok(Taken::NothingReady)));
+    pass
 }
 
 // Finishes a job with its outcome, which is recorded.
@@ -173,23 +172,23 @@ pub fn record<G: Gate>(
     gate: &G,
     pass: G::Pass,
     job: Job,
-) -> Result<G::Pass, AllocError>
+) -> G::Pass
     requires caller { IsCaller (G.has_pass gate.now) G.known terms.now pass }
     requires at_work { IsAtWork (G.known pass).seen job }
-    ensures caller { IfOk result (IsCaller (G.has_pass gate.now) G.known terms.now) }
-    ensures leads { IfOk result (λ p. LeadsTo (G.known pass).seen (G.known p).seen) }
+    ensures caller { IsCaller (G.has_pass gate.now) G.known terms.now result }
+    ensures leads { LeadsTo (G.known pass).seen (G.known result).seen }
 {
     jobs_stay();
-    let outcome = settled(rt, alloc, terms, &job)?;
+    let outcome = settled(rt, alloc, terms, &job);
     let given = (job.position, outcome.paid);
     let Ok((reply, pass)) = gate.finish(rt, pass, job, outcome) else {
         panic!(rt; "a reply");
     };
     match reply {
-        Ok(_) => Ok(pass),
+        Ok(_) => pass,
         Err((FinishFault::OutOfMemory, job, outcome)) => {
             assert!(rt; (job.position, outcome.paid) == given);
-            Ok(again_shared::record(rt, terms, gate, pass, job, outcome))
+            again_shared::record(rt, terms, gate, pass, job, outcome)
         }
         Err(_) => panic!(rt; "a recorded outcome"),
     }
@@ -204,13 +203,13 @@ pub fn refuse_outcome<G: Gate>(
     pass: G::Pass,
     job: Job,
     fault: FinishFault,
-) -> Result<(G::Pass, Job, Outcome), AllocError>
+) -> (G::Pass, Job, Outcome)
     requires caller { IsCaller (G.has_pass gate.now) G.known terms.now pass }
     requires at_work { IsAtWork (G.known pass).seen job }
-    ensures caller { IfOk result (λ r. IsCaller (G.has_pass gate.now) G.known terms.now r.0) }
-    ensures leads { IfOk result (λ r. LeadsTo (G.known pass).seen (G.known r.0).seen) }
+    ensures caller { IsCaller (G.has_pass gate.now) G.known terms.now result.0 }
+    ensures leads { LeadsTo (G.known pass).seen (G.known result.0).seen }
 {
-    let outcome = settled(rt, alloc, terms, &job)?;
+    let outcome = settled(rt, alloc, terms, &job);
     let Ok((reply, pass)) = gate.finish(rt, pass, job, outcome) else {
         panic!(rt; "a reply");
     };
@@ -218,7 +217,7 @@ pub fn refuse_outcome<G: Gate>(
         Ok(_) => panic!(rt; "a refusal"),
         Err((given, job, outcome)) => {
             assert!(rt; given == fault);
-            Ok((pass, job, outcome))
+            (pass, job, outcome)
         }
     }
 }

@@ -2,10 +2,10 @@ use Rattle.claim_gate_tests.proofs.Filing.{goes_on, work_taken}
 use Rattle.std.proofs.Common.{rules}
 use Rattle.claim_gate_tests.proofs.tests.calls.take_job.Goals as goal
 
-pub returns-in-Ok-Work-clause-stays : goal.returns-in-Ok-Work-clause-stays
-returns-in-Ok-Work-clause-stays g c =
+pub returns-clause-stays : goal.returns-clause-stays
+returns-clause-stays g c =
     goes_on c.jobs_stay.ensures c.args.gate.now c.take.new.gate c.take.ensures.terms (search rules)
 
-pub returns-in-Ok-Work-clause-at_work : goal.returns-in-Ok-Work-clause-at_work
-returns-in-Ok-Work-clause-at_work g c =
+pub returns-clause-at_work : goal.returns-clause-at_work
+returns-clause-at_work g c =
     work_taken c.jobs_stay.ensures c.args.gate.now c.take.new.gate c.in-Ok-Work.job (search rules) (search rules)

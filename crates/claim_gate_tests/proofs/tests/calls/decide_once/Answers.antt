@@ -1,5 +1,5 @@
 use Rattle.journal.specs.Settled.{outcome_of}
-use Rattle.claim_gate_tests.proofs.tests.calls.settled.Goals as goal
+use Rattle.claim_gate_tests.proofs.tests.calls.decide_once.Goals as goal
 
 pub returns : goal.returns
 unfolding outcome_of

@@ -1,0 +1,36 @@
+//! A journal as bytes, so that a test has the wanted one in a line.
+
+use claim_gate::Event;
+
+// How many bytes stand for an event.
+const WORD_BYTES: usize = 3;
+
+// What an event is, with its provider and place, or with its position. Those of the tests are below 10.
+fn word_of(event: &Event) -> [u8; WORD_BYTES] {
+    match event {
+        Event::Accept { provider, place } => [b'A', digit(*provider), digit(*place)],
+        Event::End { provider } => [b'E', digit(*provider), b' '],
+        Event::Take { position } => [b'T', digit(*position), b' '],
+        Event::Decide { position, .. } => [b'D', digit(*position), b' '],
+        Event::Close => [b'C', b' ', b' '],
+    }
+}
+
+fn digit(number: usize) -> u8 {
+    match u8::try_from(number) {
+        Ok(number) if number < 10 => b'0' + number,
+        _ => b'?',
+    }
+}
+
+// Whether a journal has these events, and no other.
+pub fn is_journal(journal: &[Event], words: &[u8]) -> bool {
+    let mut rest = words;
+    for event in journal {
+        if !rest.starts_with(&word_of(event)) {
+            return false;
+        }
+        rest = rest.get(WORD_BYTES..).unwrap_or(&[]);
+    }
+    rest.is_empty()
+}
