@@ -1,16 +1,16 @@
 //! Whole plans, from their texts to their values: chains of tables, lists, and want of memory.
-use crate::answers::{give, give_text, literal_of, shown, shown_by_place};
+use crate::answers::{
+    give, give_text, inputs_of, literal_of, plan_of, shown, shown_by_place, value_of,
+};
 use crate::plans::{chain_plan, sum_and_level_plan};
 use crate::tables::told;
 use dtable::{
-    Env, Fault, InputData, Inputs, Name, Plan, PlanFault, Sequence, Valuer, all_names, read_plan,
-    rules_have_one_priority_order, text_spells_at_most_one_plan,
+    InputData, Inputs, Name, Plan, Sequence, all_names, rules_have_one_priority_order,
+    text_spells_at_most_one_plan,
 };
-use feel_tests::{Kind, Value};
-use fixpoint::Fixed;
-use std::alloc::{AllocError, Global};
+use feel_tests::Kind;
+use std::alloc::Global;
 use std::process::Abort;
-use std::test::Fail;
 use worked_examples::health_plan;
 
 /// The places of some names in the health plan.
@@ -24,26 +24,26 @@ const MET: usize = 5;
 type Claim = (&'static str, &'static str, &'static str, &'static str);
 
 /// The inputs of a claim under the health plan.
-fn claimed(rt: &impl Abort, alloc: Global, plan: &Plan, claim: &Claim) -> Result<Inputs, Fail> {
-    let mut inputs = Inputs::new(alloc, plan)?;
-    give(alloc, &mut inputs, CODE, claim.0)?;
-    give(alloc, &mut inputs, BILLED, claim.1)?;
+fn claimed(rt: &impl Abort, alloc: Global, plan: &Plan, claim: &Claim) -> Inputs {
+    let mut inputs = inputs_of(rt, alloc, plan);
+    give(rt, alloc, &mut inputs, CODE, claim.0);
+    give(rt, alloc, &mut inputs, BILLED, claim.1);
     assert!(rt; !plan.ready(&inputs) && inputs.get(MET).is_none());
-    give(alloc, &mut inputs, MET, claim.2)?;
+    give(rt, alloc, &mut inputs, MET, claim.2);
     assert!(rt; inputs.get(MET).is_some());
-    Ok(inputs)
+    inputs
 }
 
 /// The health plan answers what is wanted for the claim.
-fn is_answered(rt: &impl Abort, alloc: Global, plan: &Plan, claim: &Claim) -> Result<(), Fail> {
-    let inputs = claimed(rt, alloc, plan, claim)?;
-    assert!(rt; plan.ready(&inputs));
-    let values = plan.value(alloc, &inputs)?;
-    let text = shown(alloc, &values, &["covered", "fee", "note"])?;
+fn is_answered(rt: &impl Abort, alloc: Global, plan: &Plan, claim: &Claim) {
+    let inputs = claimed(rt, alloc, plan, claim);
+    let values = value_of(rt, alloc, plan, &inputs);
+    let text = shown(rt, alloc, &values, &["covered", "fee", "note"]);
     assert_eq!(rt; text.as_slice(), claim.3.as_bytes());
-    let placed = shown_by_place(alloc, plan, &values, &["covered", "fee", "note"])?;
+    let placed = shown_by_place(rt, alloc, plan, &values, &["covered", "fee", "note"]);
     assert_eq!(rt; placed.as_slice(), claim.3.as_bytes());
-    Ok(())
+    drop(values);
+    drop(inputs);
 }
 
 fn claims() -> &'static [Claim] {
@@ -60,17 +60,13 @@ fn claims() -> &'static [Claim] {
     ]
 }
 
-fn are_answered(rt: &impl Abort, alloc: Global, plan: &Plan) -> Result<(), Fail> {
-    for claim in claims() {
-        is_answered(rt, alloc, plan, claim)?;
-    }
-    Ok(())
-}
-
 #[test]
-fn the_health_plan_has_its_values(rt: HostRuntime) -> Result<(), Fail> {
-    let plan = read_plan(rt.alloc(), health_plan().as_bytes())?;
-    are_answered(&rt, rt.alloc(), &plan)
+fn the_health_plan_has_its_values(rt: HostRuntime) {
+    let plan = plan_of(&rt, rt.alloc(), health_plan().as_bytes());
+    for claim in claims() {
+        is_answered(&rt, rt.alloc(), &plan, claim);
+    }
+    drop(plan);
 }
 
 /// Texts that are given one over the other, a shorter one and a longer one in turn, and their literals.
@@ -83,30 +79,36 @@ fn codes() -> &'static [(&'static str, &'static str)] {
     ]
 }
 
-fn are_given(rt: &impl Abort, alloc: Global, inputs: &mut Inputs) -> Result<(), AllocError> {
+fn is_given(rt: &impl Abort, alloc: Global, inputs: &mut Inputs, given: &str, literal: &str) {
+    give_text(rt, alloc, inputs, CODE, given);
+    let text = literal_of(rt, alloc, inputs.get(CODE));
+    assert!(rt; text.as_slice() == literal.as_bytes(), "{given}");
+}
+
+#[test]
+fn a_text_is_given_over_another(rt: HostRuntime) {
+    let plan = plan_of(&rt, rt.alloc(), health_plan().as_bytes());
+    let mut inputs = inputs_of(&rt, rt.alloc(), &plan);
     for (given, literal) in codes() {
-        assert!(rt; give_text(alloc, inputs, CODE, given)?);
-        let text = literal_of(alloc, inputs.get(CODE))?;
-        assert!(rt; text.as_slice() == literal.as_bytes(), "{given}");
+        is_given(&rt, rt.alloc(), &mut inputs, given, literal);
     }
-    Ok(())
+    drop(inputs);
+    drop(plan);
+}
+
+fn needs_what_it_reads(plan: &Plan) -> bool {
+    plan.needs(BILLED) && plan.needs(CODE) && plan.needs(MET)
+}
+
+fn needs_others(plan: &Plan) -> bool {
+    plan.needs(0) || plan.needs(7) || plan.needs(99)
 }
 
 #[test]
-fn a_text_is_given_over_another(rt: HostRuntime) -> Result<(), Fail> {
-    let plan = read_plan(rt.alloc(), health_plan().as_bytes())?;
-    let mut inputs = Inputs::new(rt.alloc(), &plan)?;
-    assert!(rt; are_given(&rt, rt.alloc(), &mut inputs).is_ok());
-    Ok(())
-}
-
-#[test]
-fn what_a_plan_needs(rt: HostRuntime) -> Result<(), Fail> {
-    let plan = read_plan(rt.alloc(), health_plan().as_bytes())?;
-    let plan = plan.plan();
-    assert!(rt; plan.needs(BILLED) && plan.needs(CODE) && plan.needs(MET));
-    assert!(rt; !plan.needs(0) && !plan.needs(7) && !plan.needs(99));
-    Ok(())
+fn what_a_plan_needs(rt: HostRuntime) {
+    let plan = plan_of(&rt, rt.alloc(), health_plan().as_bytes());
+    assert!(rt; needs_what_it_reads(&plan) && !needs_others(&plan));
+    drop(plan);
 }
 
 /// A value of `x`, and what `z` answers.
@@ -119,18 +121,14 @@ fn levels() -> &'static [(&'static str, &'static str)] {
     ]
 }
 
-fn are_levels(rt: &impl Abort, alloc: Global, plan: &Plan) -> Result<(), Fail> {
+#[test]
+fn a_table_reads_an_earlier_one(rt: HostRuntime) {
+    let plan = plan_of(&rt, rt.alloc(), sum_and_level_plan());
     for (x, wanted) in levels() {
-        let text = told(rt, alloc, plan, x, "z")?;
+        let text = told(&rt, rt.alloc(), &plan, x, "z");
         assert!(rt; text.as_slice() == wanted.as_bytes(), "{x}");
     }
-    Ok(())
-}
-
-#[test]
-fn a_table_reads_an_earlier_one(rt: HostRuntime) -> Result<(), Fail> {
-    let plan = read_plan(rt.alloc(), sum_and_level_plan())?;
-    are_levels(&rt, rt.alloc(), &plan)
+    drop(plan);
 }
 
 fn outputs_of_chain() -> &'static [&'static str] {
@@ -142,55 +140,40 @@ fn chain_answers() -> &'static str {
     "3.25\n\"HIGH\"\nlist \"CALL\" \"MAIL\"\nlist \"OVER\" \"LOOK\"\nlist 3 1\n2\n"
 }
 
-/// Whether the chain's outputs answer what is wanted, where there is memory for their text.
-fn are_values_of_chain(alloc: Global, values: &Env) -> bool {
-    match shown(alloc, values, outputs_of_chain()) {
-        Ok(text) => text.as_slice() == chain_answers().as_bytes(),
-        Err(_) => true,
-    }
+fn is_chain_answered(rt: &impl Abort, alloc: Global, plan: &Plan, inputs: &Inputs) {
+    let values = value_of(rt, alloc, plan, inputs);
+    let text = shown(rt, alloc, &values, outputs_of_chain());
+    assert_eq!(rt; text.as_slice(), chain_answers().as_bytes());
+    drop(values);
 }
 
-// The gate runs it once for each of its allocations, with that one refused: each refusal ends in one of the early returns.
+// The gate runs it once for each of its allocations, with that one refused: the answer says so, and is the right one when it is asked for
+// once more.
 #[test]
-fn a_chain_has_its_values_or_no_memory(rt: HostRuntime) -> Result<(), Fail> {
-    let plan = match read_plan(rt.alloc(), chain_plan()) {
-        Ok(plan) => plan,
-        Err(fault) => {
-            assert_eq!(rt; fault, PlanFault::from(AllocError));
-            return Ok(());
-        }
-    };
-    let Ok(mut inputs) = Inputs::new(rt.alloc(), &plan) else {
-        return Ok(());
-    };
-    let billed = Fixed::from_units(1_200_000).ok_or("a number")?;
-    if let Some(Kind::Number) = inputs.kind_at(BILLED) {
-        inputs.set(BILLED, Value::Number(billed));
-    }
-    assert!(rt; plan.ready(&inputs));
-    match plan.value(rt.alloc(), &inputs) {
-        Ok(values) => assert!(rt; are_values_of_chain(rt.alloc(), &values)),
-        Err(fault) => assert_eq!(rt; fault, Fault::OutOfMemory),
-    }
-    Ok(())
+fn a_chain_has_its_values_though_memory_is_refused(rt: HostRuntime) {
+    let plan = plan_of(&rt, rt.alloc(), chain_plan());
+    let mut inputs = inputs_of(&rt, rt.alloc(), &plan);
+    give(&rt, rt.alloc(), &mut inputs, BILLED, "120");
+    is_chain_answered(&rt, rt.alloc(), &plan, &inputs);
+    drop(inputs);
+    drop(plan);
 }
 
 #[test]
-fn names_stand_in_order_and_laws_hold(rt: HostRuntime) -> Result<(), Fail> {
+fn names_stand_in_order_and_laws_hold(rt: HostRuntime) {
     rules_have_one_priority_order();
     text_spells_at_most_one_plan();
     let mut fields = Sequence::new(rt.alloc());
-    fields.push(InputData {
-        name: Name::new(rt.alloc(), "code")?,
+    let pushed = fields.push(InputData {
+        name: Name::new(rt.alloc(), "code").expect(&rt, "memory for a name"),
         kind: Kind::Text,
-    })?;
-    let names = all_names(rt.alloc(), false, fields)?;
+    });
+    assert!(rt; pushed.is_ok());
+    let names = all_names(rt.alloc(), false, fields).expect(&rt, "memory for names");
     assert_eq!(rt; names.len(), 8);
-    assert!(rt;
-        names
-            .as_slice()
-            .get(CODE)
-            .is_some_and(|data| data.name.as_str() == "code")
-    );
-    Ok(())
+    let Some(data) = names.as_slice().get(CODE) else {
+        panic!(rt; "a field");
+    };
+    assert!(rt; data.name.as_str() == "code");
+    drop(names);
 }

@@ -1,10 +1,10 @@
 //! The plan reader: a plan with every key, broken plans with the fault of each, and each prefix of a plan.
+use crate::answers::plan_of;
 use crate::plans::{full_plan, roles_plan, score_plan};
-use dtable::{FamilyRoles, Hit, InputData, Roles, Source, Table, read_plan};
+use dtable::{FamilyRoles, Hit, InputData, PlanFault, Roles, Source, Table, read_plan};
 use feel_tests::Kind;
 use std::alloc::Global;
 use std::process::Abort;
-use std::test::Fail;
 use worked_examples::health_plan;
 
 fn has_name(names: &[InputData], place: usize, name: &str, kind: Kind) -> bool {
@@ -38,10 +38,10 @@ fn plan_names() -> &'static [(&'static str, Kind)] {
 }
 
 #[test]
-fn a_plan_has_its_names(rt: HostRuntime) -> Result<(), Fail> {
-    let plan = read_plan(rt.alloc(), full_plan().as_bytes())?;
+fn a_plan_has_its_names(rt: HostRuntime) {
+    let plan = plan_of(&rt, rt.alloc(), full_plan().as_bytes());
     assert!(rt; are_names(plan.names(), plan_names()));
-    Ok(())
+    drop(plan);
 }
 
 /// A plan that keeps families, with a field, and roles alone.
@@ -79,11 +79,11 @@ fn family_names() -> &'static [(&'static str, Kind)] {
 }
 
 #[test]
-fn a_plan_that_keeps_families_has_their_names(rt: HostRuntime) -> Result<(), Fail> {
-    let plan = read_plan(rt.alloc(), families_plan().as_bytes())?;
+fn a_plan_that_keeps_families_has_their_names(rt: HostRuntime) {
+    let plan = plan_of(&rt, rt.alloc(), families_plan().as_bytes());
     assert!(rt; plan.version() == 3 && plan.keeps_years() && plan.keeps_families());
     assert!(rt; are_names(plan.names(), family_names()));
-    Ok(())
+    drop(plan);
 }
 
 fn is_literal(source: &Source) -> bool {
@@ -115,10 +115,10 @@ fn has_family_limits(roles: &Roles) -> bool {
 }
 
 #[test]
-fn a_plan_that_keeps_families_has_their_limits(rt: HostRuntime) -> Result<(), Fail> {
-    let plan = read_plan(rt.alloc(), families_plan().as_bytes())?;
+fn a_plan_that_keeps_families_has_their_limits(rt: HostRuntime) {
+    let plan = plan_of(&rt, rt.alloc(), families_plan().as_bytes());
     assert!(rt; plan.roles().is_some_and(has_family_limits));
-    Ok(())
+    drop(plan);
 }
 
 /// Edits of this plan.
@@ -144,8 +144,8 @@ fn family_faults() -> &'static [Edit] {
 }
 
 #[test]
-fn faults_of_families(rt: HostRuntime) -> Result<(), Fail> {
-    are_refused(&rt, rt.alloc(), families_plan(), family_faults())
+fn faults_of_families(rt: HostRuntime) {
+    are_refused(&rt, rt.alloc(), families_plan(), family_faults());
 }
 
 fn has_hit(tables: &[Table], place: usize, hit: Hit) -> bool {
@@ -153,14 +153,14 @@ fn has_hit(tables: &[Table], place: usize, hit: Hit) -> bool {
 }
 
 #[test]
-fn a_plan_has_its_tables(rt: HostRuntime) -> Result<(), Fail> {
-    let plan = read_plan(rt.alloc(), full_plan().as_bytes())?;
+fn a_plan_has_its_tables(rt: HostRuntime) {
+    let plan = plan_of(&rt, rt.alloc(), full_plan().as_bytes());
     let tables = plan.tables();
     assert_eq!(rt; tables.len(), 3);
     assert!(rt;
         has_hit(tables, 0, Hit::P) && has_hit(tables, 1, Hit::Sum) && has_hit(tables, 2, Hit::R)
     );
-    Ok(())
+    drop(plan);
 }
 
 fn is_output(source: &Source, wanted: &str) -> bool {
@@ -186,46 +186,52 @@ fn are_full_roles(roles: &Roles) -> bool {
 }
 
 #[test]
-fn a_plan_has_its_roles(rt: HostRuntime) -> Result<(), Fail> {
-    let plan = read_plan(rt.alloc(), full_plan().as_bytes())?;
+fn a_plan_has_its_roles(rt: HostRuntime) {
+    let plan = plan_of(&rt, rt.alloc(), full_plan().as_bytes());
     assert!(rt; plan.roles().is_some_and(are_full_roles));
-    Ok(())
+    drop(plan);
 }
 
 /// An edit of a plan: a part of its text and what replaces it; the fault's number and place: table, rule, column.
 type Edit = (&'static str, &'static str, &'static str);
 
 /// The plan with the first place of a part replaced by another.
-fn edited(alloc: Global, plan: &str, old: &str, new: &str) -> Result<String, Fail> {
-    let (before, after) = plan.split_once(old).ok_or("not in the plan")?;
-    let mut text = String::from_str(alloc, before)?;
-    text.push_str(new)?;
-    text.push_str(after)?;
-    Ok(text)
+fn edited(rt: &impl Abort, alloc: Global, plan: &str, old: &str, new: &str) -> String {
+    let Some((before, after)) = plan.split_once(old) else {
+        panic!(rt; "not in the plan");
+    };
+    format!(in alloc; "{before}{new}{after}").expect(rt, "memory for a text")
 }
 
-/// The number and the place of a text's fault.
-fn fault_of(alloc: Global, text: &[u8]) -> Result<String, Fail> {
+/// The number and the place of a text's fault; nothing where it is a plan.
+fn fault_of(rt: &impl Abort, alloc: Global, text: &[u8]) -> String {
     match read_plan(alloc, text) {
-        Ok(_) => Ok(String::new(alloc)),
-        Err(fault) => Ok(format!(in alloc;
-            "{} {} {} {}",
-            fault.cause.number(),
-            fault.table,
-            fault.rule,
-            fault.column
-        )?),
+        Ok(plan) => {
+            drop(plan);
+            String::new(alloc)
+        }
+        Err(fault) => placed(rt, alloc, fault),
     }
+}
+
+fn placed(rt: &impl Abort, alloc: Global, fault: PlanFault) -> String {
+    let text = format!(in alloc;
+        "{} {} {} {}",
+        fault.cause.number(),
+        fault.table,
+        fault.rule,
+        fault.column
+    );
+    text.expect(rt, "memory for a text")
 }
 
 /// Each edit spoils the plan, with its fault.
-fn are_refused(rt: &impl Abort, alloc: Global, plan: &str, edits: &[Edit]) -> Result<(), Fail> {
+fn are_refused(rt: &impl Abort, alloc: Global, plan: &str, edits: &[Edit]) {
     for (old, new, wanted) in edits {
-        let text = edited(alloc, plan, old, new)?;
-        let fault = fault_of(alloc, text.as_bytes())?;
+        let text = edited(rt, alloc, plan, old, new);
+        let fault = fault_of(rt, alloc, text.as_bytes());
         assert_eq!(rt; fault.as_str(), *wanted, "{text}");
     }
-    Ok(())
 }
 
 /// Edits of the plan with one table.
@@ -252,8 +258,8 @@ fn table_faults() -> &'static [Edit] {
 }
 
 #[test]
-fn faults_of_tables(rt: HostRuntime) -> Result<(), Fail> {
-    are_refused(&rt, rt.alloc(), score_plan(), table_faults())
+fn faults_of_tables(rt: HostRuntime) {
+    are_refused(&rt, rt.alloc(), score_plan(), table_faults());
 }
 
 /// Edits of the plan with roles alone.
@@ -265,8 +271,8 @@ fn role_faults() -> &'static [Edit] {
 }
 
 #[test]
-fn faults_of_roles(rt: HostRuntime) -> Result<(), Fail> {
-    are_refused(&rt, rt.alloc(), roles_plan(), role_faults())
+fn faults_of_roles(rt: HostRuntime) {
+    are_refused(&rt, rt.alloc(), roles_plan(), role_faults());
 }
 
 /// The prefixes of the health plan that are TOML: from this length to that one, and the number and the place of the fault; nothing where
@@ -308,16 +314,15 @@ fn answer_to(length: usize) -> &'static str {
 }
 
 #[test]
-fn each_prefix_is_answered(rt: HostRuntime) -> Result<(), Fail> {
+fn each_prefix_is_answered(rt: HostRuntime) {
     let bytes = health_plan().as_bytes();
     assert_eq!(rt; bytes.len(), 640);
     for length in 0..=bytes.len() {
-        let fault = fault_of(rt.alloc(), &bytes[..length])?;
+        let fault = fault_of(&rt, rt.alloc(), &bytes[..length]);
         assert_eq!(rt;
             fault.as_str(),
             answer_to(length),
             "a prefix of {length} bytes"
         );
     }
-    Ok(())
 }

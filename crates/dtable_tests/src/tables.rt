@@ -1,12 +1,11 @@
 //! Hit policies by worked examples: what the one table of a plan answers.
-use crate::answers::{give, listed, literal_of, shown};
+use crate::answers::{give, inputs_of, listed, literal_of, plan_of, shown};
 use dtable::{
-    Answers, AnswersByTable, Fault, Input, Inputs, Plan, Valuer, answers_by_hit, read_plan,
-    table_value, value_read,
+    Answers, AnswersByTable, Env, Fault, Inputs, Plan, Valuer, answers_by_hit, table_value,
+    value_read,
 };
-use std::alloc::{AllocError, Global};
+use std::alloc::Global;
 use std::process::Abort;
-use std::test::Fail;
 
 /// The place of the field `x` among the names.
 const X: usize = 4;
@@ -196,76 +195,72 @@ fn behind_hit() -> &'static str {
     "'\ninputs = [{name = 'x', values = '[0..5]'}]\noutputs = ["
 }
 
-fn text_over_x(alloc: Global, hit: &str, outputs: &str, rules: &str) -> Result<String, AllocError> {
-    let mut text = String::from_str(alloc, front())?;
-    text.push_str(hit)?;
-    text.push_str(behind_hit())?;
-    text.push_str(outputs)?;
-    text.push_str("]\nrules = [")?;
-    text.push_str(rules)?;
-    text.push_str("]\n")?;
-    Ok(text)
+fn text_over_x(rt: &impl Abort, alloc: Global, hit: &str, outputs: &str, rules: &str) -> String {
+    let (front, behind) = (front(), behind_hit());
+    let text = format!(in alloc; "{front}{hit}{behind}{outputs}]\nrules = [{rules}]\n");
+    text.expect(rt, "memory for a text")
 }
 
-fn over_x(alloc: Global, hit: &str, outputs: &str, rules: &str) -> Result<Plan, Fail> {
-    let text = text_over_x(alloc, hit, outputs, rules)?;
-    Ok(read_plan(alloc, text.as_bytes())?)
+fn over_x(rt: &impl Abort, alloc: Global, hit: &str, outputs: &str, rules: &str) -> Plan {
+    let text = text_over_x(rt, alloc, hit, outputs, rules);
+    plan_of(rt, alloc, text.as_bytes())
 }
 
 /// What the output answers where `x` is this literal, or the fault of the tables.
-pub fn told(
-    rt: &impl Abort,
-    alloc: Global,
-    plan: &Plan,
-    x: &str,
-    output: &str,
-) -> Result<Vec<u8>, Fail> {
-    let mut inputs = Inputs::new(alloc, plan)?;
-    give(alloc, &mut inputs, X, x)?;
+pub fn told(rt: &impl Abort, alloc: Global, plan: &Plan, x: &str, output: &str) -> Vec<u8> {
+    let mut inputs = inputs_of(rt, alloc, plan);
+    give(rt, alloc, &mut inputs, X, x);
     assert!(rt; plan.ready(&inputs));
-    match plan.value(alloc, &inputs) {
-        Ok(values) => Ok(shown(alloc, &values, &[output])?),
-        Err(fault) => fault_text(alloc, fault),
-    }
+    let told = match plan.value(alloc, &inputs) {
+        Ok(values) => told_of(rt, alloc, values, output),
+        Err(fault) => fault_text(rt, alloc, fault),
+    };
+    drop(inputs);
+    told
 }
 
-fn fault_text(alloc: Global, fault: Fault) -> Result<Vec<u8>, Fail> {
-    let text = format!(in alloc; "{fault}")?;
-    Ok(Vec::from_slice(alloc, text.as_bytes())?)
+fn told_of(rt: &impl Abort, alloc: Global, values: Env, output: &str) -> Vec<u8> {
+    let text = shown(rt, alloc, &values, &[output]);
+    drop(values);
+    text
+}
+
+fn fault_text(rt: &impl Abort, alloc: Global, fault: Fault) -> Vec<u8> {
+    let told = format!(in alloc; "{fault}").expect(rt, "memory for a text");
+    told.into_bytes()
 }
 
 /// A table answers what its row says.
-fn is_answered(rt: &impl Abort, alloc: Global, x: &str, row: &Row) -> Result<(), Fail> {
+fn is_answered(rt: &impl Abort, alloc: Global, x: &str, row: &Row) {
     let (hit, outputs, rules, output, wanted) = row;
-    let plan = over_x(alloc, hit, outputs.text(), rules.text())?;
-    let text = told(rt, alloc, &plan, x, output)?;
+    let plan = over_x(rt, alloc, hit, outputs.text(), rules.text());
+    let text = told(rt, alloc, &plan, x, output);
     assert!(rt;
         text.as_slice() == wanted.as_bytes(),
         "{hit} {output} {wanted}"
     );
-    Ok(())
+    drop(plan);
 }
 
-fn are_answered(rt: &impl Abort, alloc: Global, rows: &[Row]) -> Result<(), Fail> {
+fn are_answered(rt: &impl Abort, alloc: Global, rows: &[Row]) {
     for row in rows {
-        is_answered(rt, alloc, "2", row)?;
+        is_answered(rt, alloc, "2", row);
     }
-    Ok(())
 }
 
 #[test]
-fn two_rules_match(rt: HostRuntime) -> Result<(), Fail> {
-    are_answered(&rt, rt.alloc(), two_matches())
+fn two_rules_match(rt: HostRuntime) {
+    are_answered(&rt, rt.alloc(), two_matches());
 }
 
 #[test]
-fn priorities_go_from_left_to_right(rt: HostRuntime) -> Result<(), Fail> {
-    are_answered(&rt, rt.alloc(), priorities())
+fn priorities_go_from_left_to_right(rt: HostRuntime) {
+    are_answered(&rt, rt.alloc(), priorities());
 }
 
 #[test]
-fn matches_are_aggregated(rt: HostRuntime) -> Result<(), Fail> {
-    are_answered(&rt, rt.alloc(), numbers())
+fn matches_are_aggregated(rt: HostRuntime) {
+    are_answered(&rt, rt.alloc(), numbers());
 }
 
 fn outside() -> &'static str {
@@ -273,79 +268,72 @@ fn outside() -> &'static str {
 }
 
 #[test]
-fn values_outside_and_defaults(rt: HostRuntime) -> Result<(), Fail> {
+fn values_outside_and_defaults(rt: HostRuntime) {
     let row = ("U", Outputs::Number, Rules::Above, "y", outside());
-    is_answered(&rt, rt.alloc(), "6", &row)?;
-    are_answered(&rt, rt.alloc(), defaults())
+    is_answered(&rt, rt.alloc(), "6", &row);
+    are_answered(&rt, rt.alloc(), defaults());
 }
 
 // The literal of what the first input of a plan's first table reads.
 fn first_read(
+    rt: &impl Abort,
     alloc: Global,
     plan: &Plan,
     inputs: &Inputs,
     earlier: &[Answers<'_>],
-) -> Result<Vec<u8>, AllocError> {
-    match plan.tables() {
-        [table, ..] => first_in(alloc, table.inputs.as_slice(), inputs, earlier),
-        [] => Ok(Vec::new(alloc)),
-    }
-}
-
-fn first_in(
-    alloc: Global,
-    columns: &[Input],
-    inputs: &Inputs,
-    earlier: &[Answers<'_>],
-) -> Result<Vec<u8>, AllocError> {
-    match columns {
-        [input, ..] => literal_of(alloc, value_read(inputs, earlier, input.origin)),
-        [] => Ok(Vec::new(alloc)),
-    }
+) -> Vec<u8> {
+    let [table, ..] = plan.tables() else {
+        panic!(rt; "a table");
+    };
+    let [input, ..] = table.inputs.as_slice() else {
+        panic!(rt; "an input");
+    };
+    literal_of(rt, alloc, value_read(inputs, earlier, input.origin))
 }
 
 /// A plan whose one table has two rules that match 2, of which the first one answers.
-fn first_of_two(alloc: Global) -> Result<Plan, Fail> {
-    over_x(alloc, "F", Outputs::Number.text(), Rules::Other.text())
+fn first_of_two(rt: &impl Abort, alloc: Global) -> Plan {
+    over_x(rt, alloc, "F", Outputs::Number.text(), Rules::Other.text())
 }
 
 /// Where the rules match 2, the table answers the number of the first; where the second is all that matches, its number.
-fn are_answered_for_matches(
-    rt: &impl Abort,
-    alloc: Global,
-    inputs: &Inputs,
-    plan: &Plan,
-) -> Result<(), Fail> {
+fn is_answered_for_matches(rt: &impl Abort, alloc: Global, inputs: &Inputs, plan: &Plan) {
     let earlier = AnswersByTable::new(alloc);
-    let read = first_read(alloc, plan, inputs, earlier.as_slice())?;
+    let read = first_read(rt, alloc, plan, inputs, earlier.as_slice());
     assert!(rt; read.as_slice() == b"2".as_slice());
-    for table in plan.tables() {
-        let answers = table_value(alloc, inputs, earlier.as_slice(), table)?;
-        let first = listed(alloc, answers.as_slice())?;
-        assert!(rt; first.as_slice() == b"1\n".as_slice());
-    }
-    Ok(())
+    let [table] = plan.tables() else {
+        panic!(rt; "one table");
+    };
+    let answers = table_value(alloc, inputs, earlier.as_slice(), table).expect(rt, "answers");
+    let first = listed(rt, alloc, answers.as_slice());
+    assert!(rt; first.as_slice() == b"1\n".as_slice());
+    drop(answers);
+    drop(earlier);
 }
 
-fn is_answered_for_the_second(rt: &impl Abort, alloc: Global, plan: &Plan) -> Result<(), Fail> {
-    for table in plan.tables() {
-        let answers = answers_by_hit(alloc, 1, table, &[1])?;
-        let second = listed(alloc, answers.as_slice())?;
-        assert!(rt; second.as_slice() == b"2\n".as_slice());
-    }
-    Ok(())
-}
-
-#[test]
-fn a_table_is_answered_for_the_rules_that_match(rt: HostRuntime) -> Result<(), Fail> {
-    let plan = first_of_two(rt.alloc())?;
-    let mut inputs = Inputs::new(rt.alloc(), &plan)?;
-    give(rt.alloc(), &mut inputs, X, "2")?;
-    are_answered_for_matches(&rt, rt.alloc(), &inputs, &plan)
+fn is_answered_for_the_second(rt: &impl Abort, alloc: Global, plan: &Plan) {
+    let [table] = plan.tables() else {
+        panic!(rt; "one table");
+    };
+    let answers = answers_by_hit(alloc, 1, table, &[1]).expect(rt, "answers");
+    let second = listed(rt, alloc, answers.as_slice());
+    assert!(rt; second.as_slice() == b"2\n".as_slice());
+    drop(answers);
 }
 
 #[test]
-fn a_table_is_answered_for_rules_that_are_given(rt: HostRuntime) -> Result<(), Fail> {
-    let plan = first_of_two(rt.alloc())?;
-    is_answered_for_the_second(&rt, rt.alloc(), &plan)
+fn a_table_is_answered_for_the_rules_that_match(rt: HostRuntime) {
+    let plan = first_of_two(&rt, rt.alloc());
+    let mut inputs = inputs_of(&rt, rt.alloc(), &plan);
+    give(&rt, rt.alloc(), &mut inputs, X, "2");
+    is_answered_for_matches(&rt, rt.alloc(), &inputs, &plan);
+    drop(inputs);
+    drop(plan);
+}
+
+#[test]
+fn a_table_is_answered_for_rules_that_are_given(rt: HostRuntime) {
+    let plan = first_of_two(&rt, rt.alloc());
+    is_answered_for_the_second(&rt, rt.alloc(), &plan);
+    drop(plan);
 }
