@@ -1,4 +1,7 @@
-//! Settlements by worked examples. Amounts are in cents.
+//! Settlements by worked examples. Amounts are in cents. What is refused memory is asked for once more.
+//!
+//! Who holds a plan, a claim or an outcome ends with `drop` of it: that is one call to the prover, and the end of a scope is each of its
+//! parts.
 ghost use Rattle.std.specs.Prelude.{◌≡◌};
 
 mod examples;
@@ -10,7 +13,7 @@ use examples::{
     Example, MOST, before_capped, behind_a_pended, capped, first, naming, paid, rates, scored,
     second, treated, uncapped, unpaid, written,
 };
-use feel_tests::{Day, PlainFault, TEXT_LIMIT_BYTES, Text, Value, read_plain};
+use feel_tests::{Day, Kind, PlainFault, TEXT_LIMIT_BYTES, Text, Value, read_plain};
 use fixpoint::Fixed;
 use plans::{chained, faulty, flat, flat_by_year, named, open, rate_of_claim};
 use settlement::{
@@ -20,7 +23,6 @@ use settlement::{
 use std::alloc::{AllocError, Global};
 use std::fmt::Write;
 use std::process::Abort;
-use std::test::Fail;
 use worked_examples::health_plan;
 
 fn money(rt: &impl Abort, cents: i64) -> Money {
@@ -38,71 +40,73 @@ fn cents(money: Money) -> i64 {
     money.amount().units() / 100
 }
 
-fn text(rt: &impl Abort, alloc: Global, text: &str) -> Result<Text, AllocError> {
+fn text(rt: &impl Abort, alloc: Global, text: &str) -> Text {
     assert!(rt; text.len() <= TEXT_LIMIT_BYTES);
-    Text::new(alloc, text)
+    match Text::new(alloc, text) {
+        Ok(made) => made,
+        Err(_) => Text::new(alloc, text).expect(rt, "memory for a text"),
+    }
 }
 
-fn values(
-    rt: &impl Abort,
-    alloc: Global,
-    plan: &Plan,
-    texts: &[&str],
-) -> Result<Sequence<Value>, AllocError> {
-    let mut values = Sequence::new(alloc);
-    for (data, text) in fields_of(plan).iter().zip(texts) {
-        match read_plain(alloc, data.kind, text) {
-            Ok(value) => values.push(value)?,
-            Err(fault) => {
-                assert!(rt; matches!(fault, PlainFault::OutOfMemory));
-                return Err(AllocError);
-            }
+fn value(rt: &impl Abort, alloc: Global, kind: Kind, text: &str) -> Value {
+    match read_plain(alloc, kind, text) {
+        Ok(value) => value,
+        Err(fault) => {
+            assert!(rt; matches!(fault, PlainFault::OutOfMemory));
+            read_plain(alloc, kind, text).expect(rt, "a value")
         }
     }
-    Ok(values)
+}
+
+// Room for so many values.
+fn room(rt: &impl Abort, alloc: Global, count: usize) -> Sequence<Value> {
+    match Sequence::with_capacity(alloc, count) {
+        Ok(room) => room,
+        Err(_) => Sequence::with_capacity(alloc, count).expect(rt, "memory for values"),
+    }
+}
+
+fn values(rt: &impl Abort, alloc: Global, plan: &Plan, texts: &[&str]) -> Sequence<Value> {
+    let mut values = room(rt, alloc, texts.len());
+    for (data, text) in fields_of(plan).iter().zip(texts) {
+        let pushed = values.push(value(rt, alloc, data.kind, text));
+        assert!(rt; pushed.is_ok());
+    }
+    values
 }
 
 // The family of a claim, where the plan keeps families.
-fn family_under(rt: &impl Abort, alloc: Global, plan: &Plan) -> Result<Option<Text>, AllocError> {
+fn family_under(rt: &impl Abort, alloc: Global, plan: &Plan) -> Option<Text> {
     if plan.keeps_families() {
-        Ok(Some(text(rt, alloc, "F1")?))
+        Some(text(rt, alloc, "F1"))
     } else {
-        Ok(None)
+        None
     }
 }
 
-fn claim(
-    rt: &impl Abort,
-    alloc: Global,
-    plan: &Plan,
-    billed: i64,
-    texts: &[&str],
-) -> Result<Claim, AllocError> {
-    Ok(Claim {
-        id: text(rt, alloc, "c1")?,
-        family: family_under(rt, alloc, plan)?,
-        member: text(rt, alloc, "M1")?,
+fn claim(rt: &impl Abort, alloc: Global, plan: &Plan, billed: i64, texts: &[&str]) -> Claim {
+    Claim {
+        id: text(rt, alloc, "c1"),
+        family: family_under(rt, alloc, plan),
+        member: text(rt, alloc, "M1"),
         service: Day::from_epoch_day(19_727).expect(rt, "a day"),
         billed: money(rt, billed),
-        fields: values(rt, alloc, plan, texts)?,
-    })
+        fields: values(rt, alloc, plan, texts),
+    }
 }
 
-fn decided(
-    rt: &impl Abort,
-    alloc: Global,
-    plan: &Plan,
-    example: &Example,
-) -> Result<Outcome, AllocError> {
-    let (fields, billed, before, _) = example;
-    let claim = claim(rt, alloc, plan, *billed, fields)?;
+// The outcome of a claim by the plan.
+fn decided(rt: &impl Abort, alloc: Global, plan: &Plan, claim: &Claim, before: &Acc) -> Outcome {
     assert!(rt; plan.roles().is_some());
     assert!(rt; claim.is_of(plan));
-    decide(alloc, plan, &claim, acc(rt, *before))
+    match decide(alloc, plan, claim, *before) {
+        Ok(outcome) => outcome,
+        Err(_) => decide(alloc, plan, claim, *before).expect(rt, "memory for an outcome"),
+    }
 }
 
 // The outcome of one claim more.
-fn adjudicated(
+fn decided_next(
     rt: &impl Abort,
     alloc: Global,
     desk: &mut Adjudicator<Plan>,
@@ -113,81 +117,106 @@ fn adjudicated(
     ensures { desk.new ≡ desk.old }
 {
     let (fields, billed, before, _) = example;
-    let claim = claim(rt, alloc, plan, *billed, fields)?;
+    let claim = claim(rt, alloc, plan, *billed, fields);
     assert!(rt; plan.roles().is_some());
     assert!(rt; claim.is_of(plan));
-    desk.decide(alloc, &claim, acc(rt, *before))
+    let outcome = desk.decide(alloc, &claim, acc(rt, *before));
+    drop(claim);
+    outcome
 }
 
-// An outcome in a line: its verdict, amounts and remarks, and the accumulators that it leaves.
-fn told(alloc: Global, outcome: &Outcome, before: Acc) -> Result<String, AllocError> {
+// An outcome in a line: its verdict, amounts and remarks, and the accumulators that it leaves, those of the family behind the member's
+// where they are asked for.
+fn told(rt: &impl Abort, alloc: Global, outcome: &Outcome, before: &Acc, family: bool) -> String {
     let mut told = String::new(alloc);
+    if tell(&mut told, outcome, before, family).is_err() {
+        told.clear();
+        assert!(rt; tell(&mut told, outcome, before, family).is_ok());
+    }
+    told
+}
+
+fn tell(
+    told: &mut String,
+    outcome: &Outcome,
+    before: &Acc,
+    family: bool,
+) -> Result<(), AllocError> {
     write!(told, "{:?}", outcome.verdict)?;
-    tell_amounts(&mut told, outcome)?;
+    tell_amounts(told, outcome)?;
     for place in 0..outcome.remarks.len() {
         if let Some(remark) = outcome.remarks.get(place) {
             write!(told, " {remark}")?;
         }
     }
-    tell_left(&mut told, after(before, outcome))?;
-    Ok(told)
+    tell_left(told, after(*before, outcome), family)
 }
 
 fn tell_amounts(told: &mut String, outcome: &Outcome) -> Result<(), AllocError> {
-    let deducted = [outcome.allowed, outcome.ded, outcome.copay];
-    for amount in deducted {
-        write!(told, " {}", cents(amount))?;
-    }
-    let divided = [outcome.coins, outcome.share, outcome.paid];
-    for amount in divided {
-        write!(told, " {}", cents(amount))?;
-    }
-    Ok(())
+    tell_amount(told, outcome.allowed)?;
+    tell_amount(told, outcome.ded)?;
+    tell_amount(told, outcome.copay)?;
+    tell_amount(told, outcome.coins)?;
+    tell_amount(told, outcome.share)?;
+    tell_amount(told, outcome.paid)
 }
 
-fn tell_left(told: &mut String, left: Option<Acc>) -> Result<(), AllocError> {
+fn tell_amount(told: &mut String, amount: Money) -> Result<(), AllocError> {
+    write!(told, " {}", cents(amount))
+}
+
+fn tell_left(told: &mut String, left: Option<Acc>, family: bool) -> Result<(), AllocError> {
     match left {
-        Some(acc) => {
-            let (met, oop, paid) = (cents(acc.met), cents(acc.oop), cents(acc.paid));
-            write!(told, ", {met} {oop} {paid}")
-        }
-        None => write!(told, ", out of range"),
+        Some(acc) => tell_acc(told, acc, family),
+        None => told.push_str(", out of range"),
     }
 }
 
-fn is_told(
-    rt: &impl Abort,
-    alloc: Global,
-    outcome: &Outcome,
-    example: &Example,
-) -> Result<(), AllocError> {
-    let (_, _, before, wanted) = example;
-    let told = told(alloc, outcome, acc(rt, *before))?;
-    assert_eq!(rt; told.as_str(), *wanted);
+fn tell_acc(told: &mut String, acc: Acc, family: bool) -> Result<(), AllocError> {
+    told.push(',')?;
+    tell_amount(told, acc.met)?;
+    tell_amount(told, acc.oop)?;
+    tell_amount(told, acc.paid)?;
+    if family {
+        tell_amount(told, acc.fmet)?;
+        tell_amount(told, acc.foop)?;
+    }
     Ok(())
+}
+
+fn is_told(rt: &impl Abort, alloc: Global, outcome: &Outcome, example: &Example) {
+    let (_, _, before, wanted) = example;
+    let told = told(rt, alloc, outcome, &acc(rt, *before), false);
+    assert_eq!(rt; told.as_str(), *wanted);
 }
 
 // Decides a claim by the plan.
-fn settles(
-    rt: &impl Abort,
-    alloc: Global,
-    plan: &Plan,
-    example: &Example,
-) -> Result<(), AllocError> {
-    let outcome = decided(rt, alloc, plan, example)?;
-    is_told(rt, alloc, &outcome, example)
+fn settles(rt: &impl Abort, alloc: Global, plan: &Plan, example: &Example) {
+    let (fields, billed, before, _) = example;
+    let claim = claim(rt, alloc, plan, *billed, fields);
+    let outcome = decided(rt, alloc, plan, &claim, &acc(rt, *before));
+    is_told(rt, alloc, &outcome, example);
+    drop(outcome);
+    drop(claim);
 }
 
 fn plan(rt: &impl Abort, alloc: Global, text: &str) -> Plan {
-    read_plan(alloc, text.as_bytes()).expect(rt, "a plan")
+    match read_plan(alloc, text.as_bytes()) {
+        Ok(plan) => plan,
+        Err(fault) => {
+            assert_eq!(rt; fault, PlanFault::from(AllocError));
+            read_plan(alloc, text.as_bytes()).expect(rt, "a plan")
+        }
+    }
 }
 
 // Decides the claims by the plan, each by a call of its own.
 fn decides(rt: &impl Abort, alloc: Global, text: &str, examples: &[Example]) {
     let plan = plan(rt, alloc, text);
     for example in examples {
-        assert!(rt; settles(rt, alloc, &plan, example).is_ok());
+        settles(rt, alloc, &plan, example);
     }
+    drop(plan);
 }
 
 #[test]
@@ -222,9 +251,19 @@ fn tables_give_cover_fee_and_remarks(rt: HostRuntime) {
     decides(&rt, rt.alloc(), health_plan(), treated());
 }
 
+// The gate runs it once for each of its allocations, with that one refused.
 #[test]
-fn tables_in_a_chain(rt: HostRuntime) {
+fn tables_in_a_chain_though_memory_is_refused(rt: HostRuntime) {
     decides(&rt, rt.alloc(), chained(), &[capped(), uncapped()]);
+}
+
+fn desk<'v>(rt: &impl Abort, alloc: Global, plan: &'v Plan) -> Adjudicator<'v, Plan>
+    ensures { result ≡ plan.now }
+{
+    match Adjudicator::new(alloc, plan) {
+        Ok(desk) => desk,
+        Err(_) => Adjudicator::new(alloc, plan).expect(rt, "memory for an adjudicator"),
+    }
 }
 
 // Decides one claim more.
@@ -234,32 +273,35 @@ fn settles_next(
     desk: &mut Adjudicator<Plan>,
     plan: &Plan,
     example: &Example,
-) -> Result<(), AllocError>
+)
     requires { desk.old ≡ plan.now }
     ensures { desk.new ≡ desk.old }
 {
-    let outcome = adjudicated(rt, alloc, desk, plan, example)?;
-    is_told(rt, alloc, &outcome, example)
+    let outcome = match decided_next(rt, alloc, desk, plan, example) {
+        Ok(outcome) => outcome,
+        Err(_) => {
+            decided_next(rt, alloc, desk, plan, example).expect(rt, "memory for an outcome")
+        }
+    };
+    is_told(rt, alloc, &outcome, example);
+    drop(outcome);
 }
 
 // Decides two claims by one adjudicator.
-fn settles_both(
-    rt: &impl Abort,
-    alloc: Global,
-    plan: &Plan,
-    examples: &[Example],
-) -> Result<(), AllocError> {
-    let mut desk = Adjudicator::new(alloc, plan)?;
+fn settles_both(rt: &impl Abort, alloc: Global, plan: &Plan, examples: &[Example]) {
+    let mut desk = desk(rt, alloc, plan);
     let [first, second] = examples else {
         panic!(rt; "two claims");
     };
-    settles_next(rt, alloc, &mut desk, plan, first)?;
-    settles_next(rt, alloc, &mut desk, plan, second)
+    settles_next(rt, alloc, &mut desk, plan, first);
+    settles_next(rt, alloc, &mut desk, plan, second);
+    drop(desk);
 }
 
 fn decides_both(rt: &impl Abort, alloc: Global, text: &str, examples: &[Example]) {
     let plan = plan(rt, alloc, text);
-    assert!(rt; settles_both(rt, alloc, &plan, examples).is_ok());
+    settles_both(rt, alloc, &plan, examples);
+    drop(plan);
 }
 
 #[test]
@@ -277,45 +319,22 @@ fn what_each_claim_and_each_member_has(rt: HostRuntime) {
     decides_both(&rt, rt.alloc(), named(), naming());
 }
 
-// The plan, or none where no memory is left to read it.
-fn plan_or_no_memory(rt: &impl Abort, alloc: Global, text: &str) -> Option<Plan> {
-    match read_plan(alloc, text.as_bytes()) {
-        Ok(plan) => Some(plan),
-        Err(fault) => {
-            assert!(rt; fault == PlanFault::from(AllocError));
-            None
-        }
-    }
-}
-
-// The gate runs it once for each of its allocations, with that one refused: each refusal ends in one of the early returns.
-#[test]
-fn a_claim_is_decided_or_no_memory(rt: HostRuntime) {
-    if let Some(plan) = plan_or_no_memory(&rt, rt.alloc(), chained()) {
-        let _decided = settles(&rt, rt.alloc(), &plan, &capped());
-    }
-}
-
-// A decision that is refused leaves no trace in the next.
-#[test]
-fn an_adjudicator_decides_after_a_refusal_or_no_memory(rt: HostRuntime) {
-    if let Some(plan) = plan_or_no_memory(&rt, rt.alloc(), chained()) {
-        settles_after_a_refusal(&rt, rt.alloc(), &plan);
-    }
-}
-
+// A decision that is refused memory, and is not asked for again, leaves no trace in the next, of another claim.
 fn settles_after_a_refusal(rt: &impl Abort, alloc: Global, plan: &Plan) {
-    if let Ok(mut desk) = Adjudicator::new(alloc, plan) {
-        let _first = settles_next(rt, alloc, &mut desk, plan, &before_capped());
-        let _second = settles_next(rt, alloc, &mut desk, plan, &capped());
+    let mut desk = desk(rt, alloc, plan);
+    if let Ok(outcome) = decided_next(rt, alloc, &mut desk, plan, &before_capped()) {
+        is_told(rt, alloc, &outcome, &before_capped());
+        drop(outcome);
     }
+    settles_next(rt, alloc, &mut desk, plan, &capped());
+    drop(desk);
 }
 
 #[test]
-fn a_claim_is_copied_or_no_memory(rt: HostRuntime) {
-    if let Some(plan) = plan_or_no_memory(&rt, rt.alloc(), health_plan()) {
-        let _copied = copies(&rt, rt.alloc(), &plan);
-    }
+fn an_adjudicator_decides_though_memory_is_refused(rt: HostRuntime) {
+    let plan = plan(&rt, rt.alloc(), chained());
+    settles_after_a_refusal(&rt, rt.alloc(), &plan);
+    drop(plan);
 }
 
 fn some_paid(rt: &impl Abort) -> Outcome {
@@ -345,46 +364,42 @@ fn added() -> &'static [((i64, i64, i64), &'static str)] {
     ]
 }
 
-fn leaves(
-    rt: &impl Abort,
-    alloc: Global,
-    outcome: &Outcome,
-    before: Acc,
-    wanted: &str,
-) -> Result<(), AllocError> {
+fn leaves(rt: &impl Abort, alloc: Global, outcome: &Outcome, before: Acc, wanted: &str) {
     let mut told = String::new(alloc);
-    tell_left(&mut told, after(before, outcome))?;
+    assert!(rt; tell_left(&mut told, after(before, outcome), false).is_ok());
     assert_eq!(rt; told.as_str(), wanted);
-    Ok(())
 }
 
 #[test]
 fn accumulators_leave_the_range_one_by_one(rt: HostRuntime) {
     let outcome = some_paid(&rt);
     for (before, wanted) in added() {
-        let before = acc(&rt, *before);
-        assert!(rt; leaves(&rt, rt.alloc(), &outcome, before, wanted).is_ok());
+        leaves(&rt, rt.alloc(), &outcome, acc(&rt, *before), wanted);
     }
+    drop(outcome);
 }
 
 fn may_cross_threads<T: Send + Sync>(_value: &T) {}
 
 #[test]
 fn an_outcome_may_cross_threads(rt: HostRuntime) {
-    may_cross_threads(&some_paid(&rt));
+    let outcome = some_paid(&rt);
+    may_cross_threads(&outcome);
+    drop(outcome);
 }
 
 // The claim has the fields of its plan, and not those of another, which has more.
-fn fits_one(rt: &impl Abort, alloc: Global, plan: &Plan) -> Result<(), AllocError> {
-    let claim = claim(rt, alloc, plan, 100, &["A"])?;
+fn fits_one(rt: &impl Abort, alloc: Global, plan: &Plan) {
+    let claim = claim(rt, alloc, plan, 100, &["A"]);
     assert!(rt; claim.is_of(plan));
     fits_not(rt, alloc, &claim);
-    Ok(())
+    drop(claim);
 }
 
 fn fits_not(rt: &impl Abort, alloc: Global, claim: &Claim) {
     let open = plan(rt, alloc, open());
     assert!(rt; has_more(&open, claim));
+    drop(open);
 }
 
 fn has_more(open: &Plan, claim: &Claim) -> bool {
@@ -395,32 +410,43 @@ fn has_more(open: &Plan, claim: &Claim) -> bool {
 fn claims_have_the_fields_of_their_plan(rt: HostRuntime) {
     let health = plan(&rt, rt.alloc(), health_plan());
     assert!(rt; fields_of(&health).len() == 1);
-    assert!(rt; fits_one(&rt, rt.alloc(), &health).is_ok());
+    fits_one(&rt, rt.alloc(), &health);
+    drop(health);
 }
 
 // The year whose accumulators a claim of 5 January 2024 is settled at.
-fn year_under(rt: &impl Abort, alloc: Global, text: &str) -> Result<u16, AllocError> {
+fn year_under(rt: &impl Abort, alloc: Global, text: &str) -> u16 {
     let plan = plan(rt, alloc, text);
-    year_of_claim(rt, alloc, &plan)
-}
-
-fn year_of_claim(rt: &impl Abort, alloc: Global, plan: &Plan) -> Result<u16, AllocError> {
-    let claim = claim(rt, alloc, plan, 100, &[])?;
-    Ok(account_year(plan, &claim))
+    let claim = claim(rt, alloc, &plan, 100, &[]);
+    let year = account_year(&plan, &claim);
+    drop(claim);
+    drop(plan);
+    year
 }
 
 #[test]
 fn accumulators_are_kept_by_the_year_under_version_2(rt: HostRuntime) {
-    assert!(rt; matches!(year_under(&rt, rt.alloc(), flat()), Ok(0)));
-    assert!(rt; matches!(year_under(&rt, rt.alloc(), flat_by_year()), Ok(2024)));
+    assert!(rt; year_under(&rt, rt.alloc(), flat()) == 0);
+    assert!(rt; year_under(&rt, rt.alloc(), flat_by_year()) == 2024);
+}
+
+// A copy of a claim.
+fn copy(rt: &impl Abort, alloc: Global, claim: &Claim) -> Claim {
+    match claim.duplicate(alloc) {
+        Ok(copy) => copy,
+        Err(_) => claim.duplicate(alloc).expect(rt, "memory for a copy"),
+    }
 }
 
 // Copies a claim, and looks at the copy.
-fn copies(rt: &impl Abort, alloc: Global, plan: &Plan) -> Result<(), AllocError> {
-    let claim = claim(rt, alloc, plan, 100, &["A"])?;
-    let copy = claim.duplicate(alloc)?;
-    is_that_claim(rt, plan, &copy);
-    Ok(())
+fn copies(rt: &impl Abort, alloc: Global, text: &str) {
+    let plan = plan(rt, alloc, text);
+    let claim = claim(rt, alloc, &plan, 100, &["A"]);
+    let copied = copy(rt, alloc, &claim);
+    is_that_claim(rt, &plan, &copied);
+    drop(copied);
+    drop(claim);
+    drop(plan);
 }
 
 fn is_that_claim(rt: &impl Abort, plan: &Plan, claim: &Claim) {
@@ -430,16 +456,14 @@ fn is_that_claim(rt: &impl Abort, plan: &Plan, claim: &Claim) {
 }
 
 #[test]
-fn a_copy_of_a_claim(rt: HostRuntime) {
-    let plan = plan(&rt, rt.alloc(), health_plan());
-    assert!(rt; copies(&rt, rt.alloc(), &plan).is_ok());
+fn a_copy_of_a_claim_though_memory_is_refused(rt: HostRuntime) {
+    copies(&rt, rt.alloc(), health_plan());
 }
 
 #[test]
-fn amounts_that_are_no_money(rt: HostRuntime) -> Result<(), Fail> {
-    let below = Fixed::from_units(-100).ok_or("a number")?;
+fn amounts_that_are_no_money(rt: HostRuntime) {
+    let below = Fixed::from_units(-100).expect(&rt, "a number");
     assert!(rt; Money::new(below).is_none());
-    let finer = Fixed::from_units(150).ok_or("a number")?;
+    let finer = Fixed::from_units(150).expect(&rt, "a number");
     assert!(rt; Money::new(finer).is_none());
-    Ok(())
 }

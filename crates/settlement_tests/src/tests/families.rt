@@ -2,11 +2,10 @@
 
 use super::examples::MOST;
 use super::plans::{families_named, families_open};
-use super::{cents, claim, copies, money, plan, plan_or_no_memory, some_paid};
+use super::{claim, copies, decided, money, plan, some_paid, told};
 use dtable::Plan;
-use settlement::{Acc, Claim, Outcome, Role, after, decide, fields_of};
-use std::alloc::{AllocError, Global};
-use std::fmt::Write;
+use settlement::{Acc, Claim, Role, after, fields_of};
+use std::alloc::Global;
 use std::process::Abort;
 use worked_examples::{family_plan, health_plan};
 
@@ -114,49 +113,24 @@ pub fn acc(rt: &impl Abort, sums: Sums) -> Acc {
     }
 }
 
-fn decided(
-    rt: &impl Abort,
-    alloc: Global,
-    plan: &Plan,
-    example: &Example,
-) -> Result<Outcome, AllocError> {
-    let (fields, billed, before, _) = example;
-    let claim = claim(rt, alloc, plan, *billed, fields)?;
-    assert!(rt; plan.roles().is_some());
-    assert!(rt; claim.is_of(plan));
-    decide(alloc, plan, &claim, acc(rt, *before))
-}
-
 // Decides a claim by the plan.
-fn settles(
-    rt: &impl Abort,
-    alloc: Global,
-    plan: &Plan,
-    example: &Example,
-) -> Result<(), AllocError> {
-    let outcome = decided(rt, alloc, plan, example)?;
-    let (_, _, before, wanted) = example;
-    let mut told = super::told(alloc, &outcome, acc(rt, *before))?;
-    tell_family(&mut told, after(acc(rt, *before), &outcome))?;
+fn settles(rt: &impl Abort, alloc: Global, plan: &Plan, example: &Example) {
+    let (fields, billed, before, wanted) = example;
+    let claim = claim(rt, alloc, plan, *billed, fields);
+    let before = acc(rt, *before);
+    let outcome = decided(rt, alloc, plan, &claim, &before);
+    let told = told(rt, alloc, &outcome, &before, true);
     assert_eq!(rt; told.as_str(), *wanted);
-    Ok(())
-}
-
-fn tell_family(told: &mut String, left: Option<Acc>) -> Result<(), AllocError> {
-    match left {
-        Some(acc) => {
-            let (fmet, foop) = (cents(acc.fmet), cents(acc.foop));
-            write!(told, " {fmet} {foop}")
-        }
-        None => Ok(()),
-    }
+    drop(outcome);
+    drop(claim);
 }
 
 fn decides(rt: &impl Abort, alloc: Global, text: &str, examples: &[Example]) {
     let plan = plan(rt, alloc, text);
     for example in examples {
-        assert!(rt; settles(rt, alloc, &plan, example).is_ok());
+        settles(rt, alloc, &plan, example);
     }
+    drop(plan);
 }
 
 #[test]
@@ -171,45 +145,22 @@ fn the_familys_roles_are_tried_last(rt: HostRuntime) {
     decides(&rt, rt.alloc(), families_open(), opened());
 }
 
+// The gate runs it once for each of its allocations, with that one refused.
 #[test]
-fn what_each_family_has(rt: HostRuntime) {
+fn what_each_family_has_though_memory_is_refused(rt: HostRuntime) {
     decides(&rt, rt.alloc(), families_named(), naming());
 }
 
-// The gate runs it once for each of its allocations, with that one refused.
 #[test]
-fn a_claim_of_a_family_is_decided_or_no_memory(rt: HostRuntime) {
-    if let Some(plan) = plan_or_no_memory(&rt, rt.alloc(), families_named()) {
-        if let [example, _] = naming() {
-            let _decided = settles(&rt, rt.alloc(), &plan, example);
-        }
-    }
-}
-
-#[test]
-fn a_copy_of_a_claim_of_a_family(rt: HostRuntime) {
-    let plan = plan(&rt, rt.alloc(), family_plan());
-    assert!(rt; copies(&rt, rt.alloc(), &plan).is_ok());
-}
-
-#[test]
-fn a_claim_of_a_family_is_copied_or_no_memory(rt: HostRuntime) {
-    if let Some(plan) = plan_or_no_memory(&rt, rt.alloc(), family_plan()) {
-        let _copied = copies(&rt, rt.alloc(), &plan);
-    }
+fn a_copy_of_a_claim_of_a_family_though_memory_is_refused(rt: HostRuntime) {
+    copies(&rt, rt.alloc(), family_plan());
 }
 
 // The claim of the first plan is none of the other, which has the same field.
-fn fits_one_of(
-    rt: &impl Abort,
-    alloc: Global,
-    plan: &Plan,
-    other: &Plan,
-    family: &str,
-) -> Result<(), AllocError> {
-    let claim = claim(rt, alloc, plan, 100, &["A"])?;
+fn fits_one_of(rt: &impl Abort, alloc: Global, plan: &Plan, other: &Plan, family: &str) {
+    let claim = claim(rt, alloc, plan, 100, &["A"]);
     assert!(rt; is_of_one(&claim, plan, other) && is_of_family(&claim, family));
-    Ok(())
+    drop(claim);
 }
 
 fn is_of_one(claim: &Claim, plan: &Plan, other: &Plan) -> bool {
@@ -225,8 +176,10 @@ fn claims_have_a_family_where_the_plan_keeps_families(rt: HostRuntime) {
     let alone = plan(&rt, rt.alloc(), health_plan());
     let families = plan(&rt, rt.alloc(), family_plan());
     assert!(rt; fields_of(&families).len() == 1);
-    assert!(rt; fits_one_of(&rt, rt.alloc(), &alone, &families, "M1").is_ok());
-    assert!(rt; fits_one_of(&rt, rt.alloc(), &families, &alone, "F1").is_ok());
+    fits_one_of(&rt, rt.alloc(), &alone, &families, "M1");
+    fits_one_of(&rt, rt.alloc(), &families, &alone, "F1");
+    drop(families);
+    drop(alone);
 }
 
 // An outcome adds 1.00 to what the family met, and 2.00 to what it paid.
@@ -236,4 +189,5 @@ fn the_familys_sums_leave_the_range_one_by_one(rt: HostRuntime) {
     assert!(rt; after(acc(&rt, (0, 0, 0, MOST, 0)), &outcome).is_none());
     assert!(rt; after(acc(&rt, (0, 0, 0, 0, MOST)), &outcome).is_none());
     assert!(rt; after(acc(&rt, (0, 0, 0, MOST - 100, MOST - 200)), &outcome).is_some());
+    drop(outcome);
 }
