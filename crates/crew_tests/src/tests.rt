@@ -1,32 +1,33 @@
 //! Runs by worked examples: what each claim comes to is written by hand, whatever the schedule.
+use claim_gate::Batch;
 use claim_terms::Terms;
 use crew::{RunFault, WORKERS_LIMIT, run};
 use dtable::{Plan, read_plan};
-use journal::Event;
-use settlement::{Money, Outcome};
-use std::alloc::{AllocError, Global};
+use journals::{comes_to, count_of, is_ends_and_close};
+use std::alloc::Global;
 use std::fmt::Write;
 use std::process::Abort;
 use std::sync::Wait;
-use std::test::Fail;
 use std::thread::Threads;
-use worked_examples::{first_file, header, health_plan, second_file};
+use worked_examples::{balances, both_files, header, health_plan, second_file};
 
 mod behind_others;
 mod hostile;
+mod journals;
 mod meeting;
+mod met;
 mod refusing;
 mod stopping;
 mod watched;
 
-const THREE: &[u8] = b"claim,member,service,billed,code
+const THREE: &str = "claim,member,service,billed,code
 e1,M3,2024-01-05,120.00,A
 e2,M3,2024-02-01,40.00,B
 e3,M4,2024-02-02,40.00,X
 ";
 
 /// Refused records in front of the first claim, between the claims, and behind the last.
-const REFUSED: &[u8] = b"claim,member,service,billed,code
+const REFUSED: &str = "claim,member,service,billed,code
 c,,2024-01-01,1.00,A
 a,\"M\"\"1\",2024-02-29,1.00,A
 b,M2,2024-01-01
@@ -36,12 +37,8 @@ d1,M2,2024-01-09,30.00,B
 f,M,2024-01-01,-1.00,A
 ";
 
-const BALANCES: &[u8] = b"member,met,oop,paid
-M1,50.00,10.00,5.00
-";
-
 /// The claims of both files by provider and place, and how many events of each kind there are.
-const BOTH_FILES: &str = "1 0 Paid 100.00 50.00 10.00 8.00 60.00 40.00 OVER
+const OUTCOMES_OF_BOTH: &str = "1 0 Paid 100.00 50.00 10.00 8.00 60.00 40.00 OVER
 1 1 Paid 40.00 0.00 10.00 6.00 0.00 40.00 MET
 1 2 Pended(NoRule { table: 1 }) 0.00 0.00 0.00 0.00 0.00 0.00
 1 3 Paid 100.00 0.00 10.00 18.00 0.00 100.00 MET
@@ -67,19 +64,15 @@ accepts 2 takes 2 decides 2 ends 2 closes 1
 
 // A function for each text: what calls it is proved without the text.
 fn file_three() -> &'static [u8] {
-    THREE
+    THREE.as_bytes()
 }
 
 fn refused() -> &'static [u8] {
-    REFUSED
+    REFUSED.as_bytes()
 }
 
-fn balances() -> &'static [u8] {
-    BALANCES
-}
-
-fn both_files() -> &'static str {
-    BOTH_FILES
+fn outcomes_of_both() -> &'static str {
+    OUTCOMES_OF_BOTH
 }
 
 fn from_balances() -> &'static str {
@@ -90,129 +83,46 @@ fn between_refused() -> &'static str {
     BETWEEN_REFUSED
 }
 
-fn plan(rt: &impl Abort, alloc: Global) -> Plan {
-    read_plan(alloc, health_plan().as_bytes()).expect(rt, "a plan")
-}
-
-fn terms<'a>(rt: &impl Abort, alloc: Global, plan: &'a Plan, files: &'a [&'a [u8]]) -> Terms<'a> {
-    Terms::new(alloc, plan, files, None, None).expect(rt, "terms")
-}
-
-// An outcome: its verdict, its amounts as money, and its remarks.
-fn write_outcome(text: &mut String, outcome: &Outcome) -> Result<(), AllocError> {
-    write!(text, "{:?}", outcome.verdict)?;
-    write_amounts(text, outcome)?;
-    for place in 0..outcome.remarks.len() {
-        if let Some(remark) = outcome.remarks.get(place) {
-            write!(text, " {remark}")?;
-        }
+// The plan of each run. What is refused memory is asked for once more, here and below.
+fn plan_of(rt: &impl Abort, alloc: Global) -> Plan {
+    let text = health_plan().as_bytes();
+    if let Ok(plan) = read_plan(alloc, text) {
+        return plan;
     }
-    Ok(())
-}
-
-fn write_amounts(text: &mut String, outcome: &Outcome) -> Result<(), AllocError> {
-    let deducted = [outcome.allowed, outcome.ded, outcome.copay];
-    for amount in deducted {
-        write_amount(text, amount)?;
-    }
-    let divided = [outcome.coins, outcome.share, outcome.paid];
-    for amount in divided {
-        write_amount(text, amount)?;
-    }
-    Ok(())
-}
-
-fn write_amount(text: &mut String, amount: Money) -> Result<(), AllocError> {
-    let cents = amount.amount().units() / 100;
-    write!(text, " {}.{:02}", cents / 100, cents % 100)
-}
-
-// The outcome of the claim at a position.
-fn write_decision(text: &mut String, journal: &[Event], position: usize) -> Result<(), AllocError> {
-    for event in journal {
-        if let Event::Decide {
-            position: decided,
-            outcome,
-        } = event
-            && *decided == position
-        {
-            write_outcome(text, outcome.outcome())?;
-        }
-    }
-    Ok(())
-}
-
-// A provider's claims in the order in which they were accepted, each with its place and its outcome, a line each.
-fn write_claims(text: &mut String, journal: &[Event], provider: usize) -> Result<(), AllocError> {
-    let mut position = 0usize;
-    for event in journal {
-        if let Event::Accept {
-            provider: from,
-            place,
-        } = event
-        {
-            if *from == provider {
-                write!(text, "{provider} {place} ")?;
-                write_decision(text, journal, position)?;
-                writeln!(text, "")?;
-            }
-            position = position.saturating_add(1);
-        }
-    }
-    Ok(())
-}
-
-/// How many events of each kind there are.
-#[derive(Clone, Copy, Debug, PartialEq)]
-struct EventCounts {
-    accepts: usize,
-    takes: usize,
-    decides: usize,
-    ends: usize,
-    closes: usize,
-}
-
-fn count_events(journal: &[Event]) -> EventCounts {
-    let mut kinds = EventCounts {
-        accepts: 0,
-        takes: 0,
-        decides: 0,
-        ends: 0,
-        closes: 0,
+    let Ok(plan) = read_plan(alloc, text) else {
+        panic!(rt; "a plan");
     };
-    for event in journal {
-        let count = match event {
-            Event::Accept { .. } => &mut kinds.accepts,
-            Event::Take { .. } => &mut kinds.takes,
-            Event::Decide { .. } => &mut kinds.decides,
-            Event::End { .. } => &mut kinds.ends,
-            Event::Close => &mut kinds.closes,
-        };
-        *count = count.saturating_add(1);
-    }
-    kinds
+    plan
 }
 
-// What a journal comes to, whatever the schedule was.
-fn summary(alloc: Global, journal: &[Event], providers: usize) -> Result<String, AllocError> {
-    let mut text = String::new(alloc);
-    for place in 0..providers {
-        write_claims(&mut text, journal, place + 1)?;
+// The terms of a plan and of files, without balances.
+fn terms_of<'a>(
+    rt: &impl Abort,
+    alloc: Global,
+    plan: &'a Plan,
+    files: &'a [&'a [u8]],
+    cutoff: Option<u64>,
+) -> Terms<'a> {
+    if let Ok(terms) = Terms::new(alloc, plan, files, None, cutoff) {
+        return terms;
     }
-    let k = count_events(journal);
-    write!(text, "accepts {} takes {} ", k.accepts, k.takes)?;
-    writeln!(
-        text,
-        "decides {} ends {} closes {}",
-        k.decides, k.ends, k.closes
-    )?;
-    Ok(text)
+    let Ok(terms) = Terms::new(alloc, plan, files, None, cutoff) else {
+        panic!(rt; "terms");
+    };
+    terms
 }
 
-// Compares what a journal comes to.
-fn comes_to(rt: &impl Abort, alloc: Global, journal: &[Event], providers: usize, wanted: &str) {
-    let text = summary(alloc, journal, providers).expect(rt, "a summary");
-    assert!(rt; text.as_str() == wanted);
+// The finished journal of a run by so many workers.
+fn batch_of<'t, R: Threads + Wait + Abort + Sync>(
+    rt: &R,
+    alloc: Global,
+    terms: &'t Terms,
+    workers: usize,
+) -> Batch<'t> {
+    match run(rt, alloc, terms, workers) {
+        Ok(batch) => batch,
+        Err(_) => panic!(rt; "a run"),
+    }
 }
 
 // Runs by so many workers, and compares what the run comes to.
@@ -223,181 +133,302 @@ fn runs_by<R: Threads + Wait + Abort + Sync>(
     workers: usize,
     wanted: &str,
 ) {
-    let batch = run(rt, alloc, terms, workers).expect(rt, "a run");
+    let batch = batch_of(rt, alloc, terms, workers);
     comes_to(rt, alloc, batch.journal(), terms.files().len(), wanted);
 }
 
-// Runs over files by several numbers of workers.
-fn runs_over<R: Threads + Wait + Abort + Sync>(
-    rt: &R,
-    alloc: Global,
-    files: &[&[u8]],
-    balances: Option<&[u8]>,
-    wanted: &str,
-) {
-    let plan = plan(rt, alloc);
-    runs_under(rt, alloc, &plan, files, balances, wanted);
-}
-
-fn runs_under<R: Threads + Wait + Abort + Sync>(
-    rt: &R,
-    alloc: Global,
-    plan: &Plan,
-    files: &[&[u8]],
-    balances: Option<&[u8]>,
-    wanted: &str,
-) {
-    let terms = Terms::new(alloc, plan, files, balances, None).expect(rt, "terms");
-    runs_by_several(rt, alloc, &terms, wanted);
-}
-
+// Runs by several numbers of workers.
 fn runs_by_several<R: Threads + Wait + Abort + Sync>(
     rt: &R,
     alloc: Global,
     terms: &Terms,
     wanted: &str,
 ) {
-    for workers in [1, 2, 4, WORKERS_LIMIT] {
-        runs_by(rt, alloc, terms, workers, wanted);
+    runs_by(rt, alloc, terms, 1, wanted);
+    runs_by(rt, alloc, terms, 2, wanted);
+    runs_by(rt, alloc, terms, 4, wanted);
+    runs_by(rt, alloc, terms, WORKERS_LIMIT, wanted);
+}
+
+// Runs over two files.
+fn runs_over<R: Threads + Wait + Abort + Sync>(
+    rt: &R,
+    alloc: Global,
+    plan: &Plan,
+    files: &[&[u8]],
+    balances: Option<&[u8]>,
+    wanted: &str,
+) {
+    let Ok(terms) = Terms::new(alloc, plan, files, balances, None) else {
+        panic!(rt; "terms");
+    };
+    runs_by_several(rt, alloc, &terms, wanted);
+}
+
+fn check_worked<R: Threads + Wait + Abort + Sync>(rt: &R, alloc: Global, plan: &Plan) {
+    runs_over(rt, alloc, plan, both_files(), None, outcomes_of_both());
+    let balances = Some(balances());
+    runs_over(rt, alloc, plan, both_files(), balances, from_balances());
+    let files = [refused(), header()];
+    runs_over(rt, alloc, plan, &files, None, between_refused());
+}
+
+// How far a run by two workers up to a cutoff comes.
+fn check_cutoff<R: Threads + Wait + Abort + Sync>(
+    rt: &R,
+    alloc: Global,
+    plan: &Plan,
+    cutoff: u64,
+    accepts: usize,
+) {
+    let files = [file_three(), file_three()];
+    let terms = terms_of(rt, alloc, plan, &files, Some(cutoff));
+    let batch = batch_of(rt, alloc, &terms, 2);
+    assert!(rt; count_of(batch.journal(), "accepts") == accepts, "{cutoff}");
+    assert!(rt; count_of(batch.journal(), "takes") == accepts, "{cutoff}");
+    assert!(rt; count_of(batch.journal(), "decides") == accepts, "{cutoff}");
+    assert!(rt; count_of(batch.journal(), "closes") == 1, "{cutoff}");
+}
+
+fn check_cutoffs<R: Threads + Wait + Abort + Sync>(rt: &R, alloc: Global, plan: &Plan) {
+    check_cutoff(rt, alloc, plan, 0, 0);
+    check_cutoff(rt, alloc, plan, 1, 1);
+    check_cutoff(rt, alloc, plan, 4, 4);
+    check_cutoff(rt, alloc, plan, 6, 6);
+    check_cutoff(rt, alloc, plan, 7, 6);
+}
+
+// Whether a fault is this one, by its number.
+fn is(fault: RunFault, wanted: RunFault) -> bool {
+    fault.number() == wanted.number()
+}
+
+// Whether a run had this fault.
+fn had(fault: Option<RunFault>, wanted: RunFault) -> bool {
+    match fault {
+        Some(fault) => is(fault, wanted),
+        None => false,
+    }
+}
+
+fn check_workers<R: Threads + Wait + Abort + Sync>(
+    rt: &R,
+    alloc: Global,
+    terms: &Terms,
+    workers: usize,
+) {
+    match run(rt, alloc, terms, workers) {
+        Ok(_) => panic!(rt; "a refusal"),
+        Err(fault) => assert!(rt; is(fault, RunFault::Workers), "{workers}"),
+    }
+}
+
+// No worker, and too many.
+fn check_crews<R: Threads + Wait + Abort + Sync>(rt: &R, alloc: Global, plan: &Plan) {
+    let files = [second_file()];
+    let terms = terms_of(rt, alloc, plan, &files, None);
+    check_workers(rt, alloc, &terms, 0);
+    check_workers(rt, alloc, &terms, WORKERS_LIMIT + 1);
+    check_workers(rt, alloc, &terms, usize::MAX);
+}
+
+// The journal of a run over files that have no claim is one end of each provider, and the close.
+fn ends_all<R: Threads + Wait + Abort + Sync>(
+    rt: &R,
+    alloc: Global,
+    plan: &Plan,
+    files: &[&[u8]],
+    workers: usize,
+) {
+    let terms = terms_of(rt, alloc, plan, files, None);
+    let batch = batch_of(rt, alloc, &terms, workers);
+    assert!(rt; is_ends_and_close(batch.journal(), files.len()));
+}
+
+fn check_headers<R: Threads + Wait + Abort + Sync>(rt: &R, alloc: Global, plan: &Plan) {
+    let one = [header()];
+    ends_all(rt, alloc, plan, &one, 2);
+    let many = [header(); 64];
+    ends_all(rt, alloc, plan, &many, 4);
+}
+
+// The runs of a test.
+#[derive(Clone, Copy)]
+enum Runs {
+    OverTwoFiles,
+    UpToCutoffs,
+    OfOtherCrews,
+    OverHeaders,
+    ThoughRefused,
+    OnGates(OnGates),
+}
+
+// Runs over both files on gates that others call too, that wear out, or that answer at the worst moment.
+#[derive(Clone, Copy)]
+enum OnGates {
+    AllThreads,
+    CalledOff,
+    WorkersMeet,
+    IntakesMeet,
+    BehindOthers,
+    StoppedGate,
+    StoppedOutcomes,
+    RefusedOnce,
+    RefusedTwice,
+}
+
+// One function has the plan of all tests, and one the terms of those on gates: what holds one is dear to prove.
+fn check<R: Threads + Wait + Abort + Sync>(rt: &R, alloc: Global, runs: Runs) {
+    let plan = plan_of(rt, alloc);
+    match runs {
+        Runs::OverTwoFiles => check_worked(rt, alloc, &plan),
+        Runs::UpToCutoffs => check_cutoffs(rt, alloc, &plan),
+        Runs::OfOtherCrews => check_crews(rt, alloc, &plan),
+        Runs::OverHeaders => check_headers(rt, alloc, &plan),
+        Runs::ThoughRefused => check_refused(rt, alloc, &plan),
+        Runs::OnGates(runs) => check_on_gates(rt, alloc, &plan, runs),
+    }
+}
+
+fn check_on_gates<R: Threads + Wait + Abort + Sync>(
+    rt: &R,
+    alloc: Global,
+    plan: &Plan,
+    runs: OnGates,
+) {
+    let terms = terms_of(rt, alloc, plan, both_files(), None);
+    match runs {
+        OnGates::AllThreads => hostile::check_all_threads(rt, alloc, &terms),
+        OnGates::CalledOff => hostile::check_called_off(rt, alloc, &terms),
+        OnGates::WorkersMeet => meeting::check_workers(rt, alloc, &terms),
+        OnGates::IntakesMeet => meeting::check_intakes(rt, alloc, &terms),
+        OnGates::BehindOthers => behind_others::goes_on(rt, alloc, &terms),
+        OnGates::StoppedGate => stopping::check_stopped_gate(rt, alloc, &terms),
+        OnGates::StoppedOutcomes => stopping::check_stopped_outcomes(rt, alloc, &terms),
+        OnGates::RefusedOnce => refusing::check_refused_once(rt, alloc, &terms),
+        OnGates::RefusedTwice => refusing::check_refused_twice(rt, alloc, plan),
     }
 }
 
 #[test]
 fn runs_over_two_files(rt: HostRuntime) {
-    let files = [first_file(), second_file()];
-    runs_over(&rt, rt.alloc(), &files, None, both_files());
-    let balances = Some(balances());
-    runs_over(&rt, rt.alloc(), &files, balances, from_balances());
-    let files = [refused(), header()];
-    runs_over(&rt, rt.alloc(), &files, None, between_refused());
-}
-
-// Whether the journal of a run by two workers is the end of its only provider, and the close.
-fn is_empty_run<R: Threads + Wait + Abort + Sync>(rt: &R, alloc: Global, terms: &Terms) -> bool {
-    let batch = run(rt, alloc, terms, 2).expect(rt, "a run");
-    matches!(batch.journal(), [Event::End { provider: 1 }, Event::Close])
-}
-
-fn is_empty_under<R: Threads + Wait + Abort + Sync>(rt: &R, alloc: Global, plan: &Plan) -> bool {
-    let files = [header()];
-    let terms = terms(rt, alloc, plan, &files);
-    is_empty_run(rt, alloc, &terms)
-}
-
-#[test]
-fn a_run_over_a_header_alone(rt: HostRuntime) {
-    let plan = plan(&rt, rt.alloc());
-    assert!(rt; is_empty_under(&rt, rt.alloc(), &plan));
-}
-
-// The events of a run by two workers.
-fn events_of<R: Threads + Wait + Abort + Sync>(
-    rt: &R,
-    alloc: Global,
-    terms: &Terms,
-) -> EventCounts {
-    let batch = run(rt, alloc, terms, 2).expect(rt, "a run");
-    count_events(batch.journal())
-}
-
-// The same up to a cutoff.
-fn events_up_to<R: Threads + Wait + Abort + Sync>(
-    rt: &R,
-    alloc: Global,
-    plan: &Plan,
-    cutoff: u64,
-) -> EventCounts {
-    let files = [file_three(), file_three()];
-    let terms = Terms::new(alloc, plan, &files, None, Some(cutoff)).expect(rt, "terms");
-    events_of(rt, alloc, &terms)
-}
-
-fn check_cutoffs<R: Threads + Wait + Abort + Sync>(rt: &R, alloc: Global, plan: &Plan) {
-    for (cutoff, accepts) in [(0, 0), (1, 1), (4, 4), (6, 6), (7, 6)] {
-        let kinds = events_up_to(rt, alloc, plan, cutoff);
-        assert_eq!(rt; kinds.accepts, accepts);
-        assert_eq!(rt; kinds.takes, accepts);
-        assert_eq!(rt; kinds.decides, accepts);
-        assert_eq!(rt; kinds.closes, 1);
-    }
+    check(&rt, rt.alloc(), Runs::OverTwoFiles);
 }
 
 #[test]
 fn a_run_up_to_a_cutoff(rt: HostRuntime) {
-    let plan = plan(&rt, rt.alloc());
-    check_cutoffs(&rt, rt.alloc(), &plan);
-}
-
-// The fault of a run by so many workers.
-fn run_fault<R: Threads + Wait + Abort + Sync>(
-    rt: &R,
-    alloc: Global,
-    terms: &Terms,
-    workers: usize,
-) -> Option<RunFault> {
-    run(rt, alloc, terms, workers).err()
-}
-
-fn check_workers<R: Threads + Wait + Abort + Sync>(rt: &R, alloc: Global, terms: &Terms) {
-    for workers in [0, WORKERS_LIMIT + 1, usize::MAX] {
-        let fault = run_fault(rt, alloc, terms, workers);
-        assert!(rt; fault == Some(RunFault::Workers));
-    }
-}
-
-fn workers_under<R: Threads + Wait + Abort + Sync>(rt: &R, alloc: Global, plan: &Plan) {
-    let files = [second_file()];
-    let terms = terms(rt, alloc, plan, &files);
-    check_workers(rt, alloc, &terms);
+    check(&rt, rt.alloc(), Runs::UpToCutoffs);
 }
 
 #[test]
 fn a_run_refuses_no_worker_and_too_many(rt: HostRuntime) {
-    let plan = plan(&rt, rt.alloc());
-    workers_under(&rt, rt.alloc(), &plan);
+    check(&rt, rt.alloc(), Runs::OfOtherCrews);
 }
-
-const FAULTS: [(RunFault, u8, &str); 5] = [
-    (RunFault::Workers, 1, "no worker, or too many workers"),
-    (RunFault::OutOfMemory, 2, "out of memory"),
-    (RunFault::Thread, 3, "a thread can't be started"),
-    (RunFault::Worn, 4, "the lock has no ticket left"),
-    (RunFault::Stopped, 5, "the run was stopped"),
-];
 
 #[test]
-fn faults_have_numbers_and_texts(rt: HostRuntime) -> Result<(), Fail> {
-    for (fault, number, wanted) in &FAULTS {
-        assert!(rt; fault.number() == *number);
-        let mut text = String::new(rt.alloc());
-        write!(text, "{fault}")?;
-        assert!(rt; text.as_str() == *wanted);
-    }
-    Ok(())
+fn a_run_over_a_header_alone(rt: HostRuntime) {
+    check(&rt, rt.alloc(), Runs::OverHeaders);
 }
 
-// A run by two workers: its whole journal, or a refusal for memory or a thread.
-fn runs_or_not<R: Threads + Wait + Abort + Sync>(rt: &R, alloc: Global, terms: &Terms) {
-    match run(rt, alloc, terms, 2) {
-        Ok(batch) => assert!(rt; batch.journal().len() == 21),
-        Err(fault) => assert!(rt; is_wanting(fault)),
-    }
+#[test]
+fn a_run_has_an_intake_a_file_and_its_workers(rt: HostRuntime) {
+    check(&rt, rt.alloc(), Runs::OnGates(OnGates::AllThreads));
+}
+
+#[test]
+fn runs_that_others_call_off(rt: HostRuntime) {
+    check(&rt, rt.alloc(), Runs::OnGates(OnGates::CalledOff));
+}
+
+#[test]
+fn two_workers_meet(rt: HostRuntime) {
+    check(&rt, rt.alloc(), Runs::OnGates(OnGates::WorkersMeet));
+}
+
+#[test]
+fn two_intakes_meet(rt: HostRuntime) {
+    check(&rt, rt.alloc(), Runs::OnGates(OnGates::IntakesMeet));
+}
+
+#[test]
+fn intakes_go_on_where_others_are(rt: HostRuntime) {
+    check(&rt, rt.alloc(), Runs::OnGates(OnGates::BehindOthers));
+}
+
+#[test]
+fn a_run_on_a_stopped_gate(rt: HostRuntime) {
+    check(&rt, rt.alloc(), Runs::OnGates(OnGates::StoppedGate));
+}
+
+#[test]
+fn a_work_s_finish_is_stopped(rt: HostRuntime) {
+    check(&rt, rt.alloc(), Runs::OnGates(OnGates::StoppedOutcomes));
+}
+
+#[test]
+fn a_call_refused_memory_is_made_once_more(rt: HostRuntime) {
+    check(&rt, rt.alloc(), Runs::OnGates(OnGates::RefusedOnce));
+}
+
+#[test]
+fn a_call_refused_memory_twice_ends_the_run(rt: HostRuntime) {
+    check(&rt, rt.alloc(), Runs::OnGates(OnGates::RefusedTwice));
+}
+
+const FAULT_LINES: &str = "1 no worker, or too many workers
+2 out of memory
+3 a thread can't be started
+4 the lock has no ticket left
+5 the run was stopped
+";
+
+fn fault_lines() -> &'static str {
+    FAULT_LINES
+}
+
+// A fault's number and text, a line each.
+fn write_fault(rt: &impl Abort, text: &mut String, fault: RunFault) {
+    let number = fault.number();
+    writeln!(text, "{number} {fault}").expect(rt, "memory for a line");
+}
+
+#[test]
+fn faults_have_numbers_and_texts(rt: HostRuntime) {
+    let mut text = String::new(rt.alloc());
+    write_fault(&rt, &mut text, RunFault::Workers);
+    write_fault(&rt, &mut text, RunFault::OutOfMemory);
+    write_fault(&rt, &mut text, RunFault::Thread);
+    write_fault(&rt, &mut text, RunFault::Worn);
+    write_fault(&rt, &mut text, RunFault::Stopped);
+    assert!(rt; text.as_str() == fault_lines());
 }
 
 fn is_wanting(fault: RunFault) -> bool {
-    fault == RunFault::OutOfMemory || fault == RunFault::Thread
+    is(fault, RunFault::OutOfMemory) || is(fault, RunFault::Thread)
 }
 
-fn runs_or_not_under<R: Threads + Wait + Abort + Sync>(rt: &R, alloc: Global, plan: &Plan) {
-    let files = [first_file(), second_file()];
-    if let Ok(terms) = Terms::new(alloc, plan, &files, None, None) {
-        runs_or_not(rt, alloc, &terms);
+// The whole journal of a run by two workers; one that is refused memory or a thread says so, and is run once more.
+fn batch_though_refused<'t, R: Threads + Wait + Abort + Sync>(
+    rt: &R,
+    alloc: Global,
+    terms: &'t Terms,
+) -> Batch<'t> {
+    match run(rt, alloc, terms, 2) {
+        Ok(batch) => batch,
+        Err(fault) => {
+            assert!(rt; is_wanting(fault));
+            batch_of(rt, alloc, terms, 2)
+        }
     }
+}
+
+fn check_refused<R: Threads + Wait + Abort + Sync>(rt: &R, alloc: Global, plan: &Plan) {
+    let terms = terms_of(rt, alloc, plan, both_files(), None);
+    let batch = batch_though_refused(rt, alloc, &terms);
+    assert!(rt; batch.journal().len() == 21);
 }
 
 #[test]
-fn a_run_or_no_memory(rt: HostRuntime) {
-    if let Ok(plan) = read_plan(rt.alloc(), health_plan().as_bytes()) {
-        runs_or_not_under(&rt, rt.alloc(), &plan);
-    }
+fn a_run_though_memory_is_refused(rt: HostRuntime) {
+    check(&rt, rt.alloc(), Runs::ThoughRefused);
 }

@@ -5,20 +5,19 @@ ghost use Rattle.journal.specs.Terms.{claims_of};
 ghost use Rattle.claim_terms.specs.Terms.{ForTerms};
 ghost use Rattle.crew.specs.Sharing.{HasAccepted};
 
+use super::journals::comes_to;
+use super::outcomes_of_both;
 use super::watched::{WatchedGate, nothing};
-use super::{both_files, comes_to, plan, terms};
 use claim_gate::{Gate, GateState, LockedGate, Offer, SerialGate};
 use claim_terms::{Terms, terms_are_seen};
-use crew::{RunFault, run_with};
-use dtable::Plan;
+use crew::run_with;
 use intake_csv::{Row, given_row_has_the_claim, reader_begins_with_all_rows};
 use settlement::Claim;
-use std::alloc::{AllocError, Global};
+use std::alloc::Global;
 use std::process::Abort;
 use std::sync::Wait;
 use std::thread::Threads;
 use turn_lock::{Section, SpinLock};
-use worked_examples::{first_file, second_file};
 
 // Offers the first provider's claim at a place, which is accepted. Only claims of this provider were before, so its position is that place.
 fn accept<R: Wait + Abort, G: Gate>(
@@ -107,75 +106,14 @@ where
         panic!(rt; "a run behind others");
     };
     match gate.inner().retire(rt, mine) {
-        Ok(state) => comes_to(rt, alloc, state.journal(), files, both_files()),
+        Ok(state) => comes_to(rt, alloc, state.journal(), files, outcomes_of_both()),
         Err(_) => panic!(rt; "the gate of the run"),
     }
 }
 
-// The fault of a run on a gate that was stopped.
-fn run_stopped<S: Section + Drop + Sync, R: Threads + Wait + Sync>(
-    rt: &R,
-    alloc: Global,
-    terms: &Terms,
-    lock: S,
-    pass: S::Pass,
-) -> Option<RunFault>
-where
-    S::Value: SerialGate + Drop + Send + Sync,
-    S::Pass: Send + Drop,
-    requires own { S.has_pass lock pass }
-    requires terms { (S.Value.shown (S.seen pass)).terms ≡ terms.now }
-{
-    let gate = LockedGate::over(lock);
-    let (mine, theirs) = gate.split(pass);
-    let _ = gate.stop(rt, theirs);
-    match run_with(rt, alloc, terms, 2, &gate, mine) {
-        Ok(_) => None,
-        Err((fault, _)) => Some(fault),
-    }
-}
-
-// The same behind a spin lock.
-fn goes_on<R: Threads + Wait + Abort + Sync>(
-    rt: &R,
-    alloc: Global,
-    terms: &Terms,
-) -> Result<(), AllocError> {
-    let (lock, pass) = SpinLock::new(alloc, GateState::new(alloc, terms)?)?;
+/// The same behind a spin lock.
+pub fn goes_on<R: Threads + Wait + Abort + Sync>(rt: &R, alloc: Global, terms: &Terms) {
+    let state = GateState::new(alloc, terms).expect(rt, "a gate");
+    let (lock, pass) = SpinLock::new(alloc, state).expect(rt, "a lock");
     run_behind_others(rt, alloc, terms, lock, pass);
-    Ok(())
-}
-
-fn goes_on_under<R: Threads + Wait + Abort + Sync>(rt: &R, alloc: Global, plan: &Plan) -> bool {
-    let files = [first_file(), second_file()];
-    let terms = terms(rt, alloc, plan, &files);
-    goes_on(rt, alloc, &terms).is_ok()
-}
-
-#[test]
-fn intakes_go_on_where_others_are(rt: HostRuntime) {
-    let plan = plan(&rt, rt.alloc());
-    assert!(rt; goes_on_under(&rt, rt.alloc(), &plan));
-}
-
-// Whether a run on a gate that was stopped is so refused, behind a spin lock.
-fn is_stopped<R: Threads + Wait + Sync>(
-    rt: &R,
-    alloc: Global,
-    terms: &Terms,
-) -> Result<bool, AllocError> {
-    let (lock, pass) = SpinLock::new(alloc, GateState::new(alloc, terms)?)?;
-    Ok(run_stopped(rt, alloc, terms, lock, pass) == Some(RunFault::Stopped))
-}
-
-fn is_stopped_under<R: Threads + Wait + Abort + Sync>(rt: &R, alloc: Global, plan: &Plan) -> bool {
-    let files = [first_file(), second_file()];
-    let terms = terms(rt, alloc, plan, &files);
-    is_stopped(rt, alloc, &terms) == Ok(true)
-}
-
-#[test]
-fn a_run_on_a_stopped_gate(rt: HostRuntime) {
-    let plan = plan(&rt, rt.alloc());
-    assert!(rt; is_stopped_under(&rt, rt.alloc(), &plan));
 }

@@ -25,6 +25,7 @@ pub struct Crowd {
     wanted: u64,
     inside: AtomicU64,
     most: AtomicU64,
+    numbers: AtomicU64,
     open: AtomicU64,
 }
 
@@ -35,18 +36,22 @@ impl Crowd {
             wanted,
             inside: AtomicU64::new(0),
             most: AtomicU64::new(0),
+            numbers: AtomicU64::new(0),
             open: AtomicU64::new(0),
         }
     }
 
-    // The last who is wanted sees for a while whether more come, and lets all go on.
-    fn come<R: Wait>(&self, rt: &R) {
-        let inside = self.inside.fetch_add(1, Ordering::SeqCst).saturating_add(1);
+    // The last who is wanted sees for a while whether more come, and lets all go on. Who comes before that leaves a number.
+    fn come<R: Wait>(&self, rt: &R, number: u64) {
+        let inside = next_number(&self.inside);
         self.most.fetch_max(inside, Ordering::SeqCst);
-        if inside == self.wanted && self.open.load(Ordering::SeqCst) == 0 {
-            self.open
-                .park_timeout(rt, 0, Duration::from_millis(LINGER_MILLIS));
-            self.open.store(1, Ordering::SeqCst);
+        if self.open.load(Ordering::SeqCst) == 0 {
+            self.numbers.fetch_add(number, Ordering::SeqCst);
+            if inside == self.wanted {
+                self.open
+                    .park_timeout(rt, 0, Duration::from_millis(LINGER_MILLIS));
+                self.open.store(1, Ordering::SeqCst);
+            }
         }
         if inside < self.wanted {
             wait_for(&self.open, 1);
@@ -61,6 +66,11 @@ impl Crowd {
     pub fn most(&self) -> u64 {
         self.most.load(Ordering::SeqCst)
     }
+
+    /// The sum of the numbers of those who met.
+    pub fn numbers(&self) -> u64 {
+        self.numbers.load(Ordering::SeqCst)
+    }
 }
 
 // Waits until a word is so great; after a very long while it gives up.
@@ -73,12 +83,19 @@ fn wait_for(word: &AtomicU64, least: u64) {
     }
 }
 
+// Counts one more, and gives its number, from 1.
+fn next_number(count: &AtomicU64) -> u64 {
+    count.fetch_add(1, Ordering::SeqCst).saturating_add(1)
+}
+
 /// What a watched gate does beside handing calls on.
-#[derive(Clone, Copy)]
+#[derive(Drop)]
 pub struct Watch {
     /// So many `take`s are to be there at once, and so many `offer`s; none where nobody waits.
     pub takes: u64,
     pub offers: u64,
+    /// Somebody has stopped the gate before the run.
+    pub is_stopped: bool,
     /// At this `take`, counted from 1, somebody stops the gate.
     pub stop_at_take: u64,
     /// Somebody stops the gate before each outcome is handed in.
@@ -86,6 +103,11 @@ pub struct Watch {
     /// Somebody else ends the first provider before its intake does, which is then refused for memory, once so many callers were
     /// told that the run is over; 0 where nobody does.
     pub overs: u64,
+    /// How many of the first calls of each kind are refused for memory, whatever memory there is.
+    pub refused_offers: u64,
+    pub refused_ends: u64,
+    pub refused_takes: u64,
+    pub refused_outcomes: u64,
 }
 
 /// A gate that hands calls on and does nothing else.
@@ -93,9 +115,14 @@ pub fn nothing() -> Watch {
     Watch {
         takes: 0,
         offers: 0,
+        is_stopped: false,
         stop_at_take: 0,
         stops_outcomes: false,
         overs: 0,
+        refused_offers: 0,
+        refused_ends: 0,
+        refused_takes: 0,
+        refused_outcomes: 0,
     }
 }
 
@@ -106,7 +133,10 @@ pub struct WatchedGate<G> {
     watch: Watch,
     pub takes: Crowd,
     pub offers: Crowd,
+    offered: AtomicU64,
+    ended: AtomicU64,
     taken: AtomicU64,
+    finished: AtomicU64,
     overs: AtomicU64,
     handed_back: AtomicU64,
 }
@@ -115,12 +145,17 @@ impl<G> WatchedGate<G> {
     pub fn over(gate: G, watch: Watch) -> WatchedGate<G>
         ensures { result.gate ≡ gate }
     {
+        let takes = Crowd::of(watch.takes);
+        let offers = Crowd::of(watch.offers);
         WatchedGate {
             gate,
             watch,
-            takes: Crowd::of(watch.takes),
-            offers: Crowd::of(watch.offers),
+            takes,
+            offers,
+            offered: AtomicU64::new(0),
+            ended: AtomicU64::new(0),
             taken: AtomicU64::new(0),
+            finished: AtomicU64::new(0),
             overs: AtomicU64::new(0),
             handed_back: AtomicU64::new(0),
         }
@@ -138,9 +173,9 @@ impl<G> WatchedGate<G> {
         self.handed_back.load(Ordering::SeqCst)
     }
 
-    // Whether somebody stops the gate before this `take`.
-    fn is_last_take(&self) -> bool {
-        self.taken.fetch_add(1, Ordering::SeqCst).saturating_add(1) == self.watch.stop_at_take
+    // Whether somebody else ends this provider before its intake does.
+    fn is_ended_by_another(&self, provider: usize) -> bool {
+        provider == 1 && self.watch.overs != 0
     }
 
     fn note_taken(&self, answer: &Result<Taken, TakeFault>) {
@@ -164,6 +199,8 @@ impl<G> WatchedGate<G> {
     }
 }
 
+// A refused call asks for the counts of the gate below: a section that changes nothing. What somebody else does, it does by a pass
+// split off the caller's.
 impl<G: Gate> Gate for WatchedGate<G> {
     type Pass = G::Pass;
 
@@ -183,7 +220,13 @@ impl<G: Gate> Gate for WatchedGate<G> {
         pass: G::Pass,
         offer: Offer,
     ) -> Result<(Result<Accepted, (OfferFault, Offer)>, G::Pass), (Worn, G::Pass, Offer)> {
-        self.offers.come(rt);
+        if next_number(&self.offered) <= self.watch.refused_offers {
+            return match self.gate.counts(rt, pass) {
+                Ok((_, pass)) => Ok((Err((OfferFault::OutOfMemory, offer)), pass)),
+                Err((worn, pass)) => Err((worn, pass, offer)),
+            };
+        }
+        self.offers.come(rt, offer.provider as u64);
         let answer = self.gate.offer(rt, pass, offer);
         self.offers.go();
         answer
@@ -196,15 +239,19 @@ impl<G: Gate> Gate for WatchedGate<G> {
         provider: usize,
         count: usize,
     ) -> Result<(Result<Ended, EndFault>, G::Pass), (Worn, G::Pass)> {
-        if provider != 1 || self.watch.overs == 0 {
+        let is_ended = self.is_ended_by_another(provider);
+        let is_refused = is_ended || next_number(&self.ended) <= self.watch.refused_ends;
+        let (pass, other) = self.gate.split(pass);
+        if is_ended {
+            let _ = self.gate.end(rt, other, provider, count);
+            wait_for(&self.overs, self.watch.overs);
+        }
+        if !is_refused {
             return self.gate.end(rt, pass, provider, count);
         }
-        let (pass, other) = self.gate.split(pass);
-        let _ended = self.gate.end(rt, other, provider, count);
-        wait_for(&self.overs, self.watch.overs);
-        match self.gate.end(rt, pass, provider, count) {
-            Ok((Err(_), pass)) => Ok((Err(EndFault::OutOfMemory), pass)),
-            answer => answer,
+        match self.gate.counts(rt, pass) {
+            Ok((_, pass)) => Ok((Err(EndFault::OutOfMemory), pass)),
+            Err((worn, pass)) => Err((worn, pass)),
         }
     }
 
@@ -213,11 +260,18 @@ impl<G: Gate> Gate for WatchedGate<G> {
         rt: &R,
         pass: G::Pass,
     ) -> Result<(Result<Taken, TakeFault>, G::Pass), (Worn, G::Pass)> {
-        let (pass, other) = self.gate.split(pass);
-        if self.is_last_take() {
-            let _stopped = self.gate.stop(rt, other);
+        let number = next_number(&self.taken);
+        if number <= self.watch.refused_takes {
+            return match self.gate.counts(rt, pass) {
+                Ok((_, pass)) => Ok((Err(TakeFault::OutOfMemory), pass)),
+                Err((worn, pass)) => Err((worn, pass)),
+            };
         }
-        self.takes.come(rt);
+        let (pass, other) = self.gate.split(pass);
+        if number == self.watch.stop_at_take {
+            let _ = self.gate.stop(rt, other);
+        }
+        self.takes.come(rt, 0);
         let answer = self.gate.take(rt, pass);
         self.takes.go();
         if let Ok((taken, _)) = &answer {
@@ -236,10 +290,16 @@ impl<G: Gate> Gate for WatchedGate<G> {
         (Result<Recorded, (FinishFault, Job, Outcome)>, G::Pass),
         (Worn, G::Pass, Job, Outcome),
     > {
+        if next_number(&self.finished) <= self.watch.refused_outcomes {
+            return match self.gate.counts(rt, pass) {
+                Ok((_, pass)) => Ok((Err((FinishFault::OutOfMemory, job, outcome)), pass)),
+                Err((worn, pass)) => Err((worn, pass, job, outcome)),
+            };
+        }
         let (position, paid) = (job.position, outcome.paid);
         let (pass, other) = self.gate.split(pass);
         if self.watch.stops_outcomes {
-            let _stopped = self.gate.stop(rt, other);
+            let _ = self.gate.stop(rt, other);
         }
         let answer = self.gate.finish(rt, pass, job, outcome);
         if let Ok((recorded, _)) = &answer {

@@ -1,0 +1,119 @@
+//! Runs on a watched gate, and what came of them.
+
+ghost use Rattle.std.specs.Prelude.{◌≡◌};
+
+use super::watched::{Watch, WatchedGate};
+use claim_gate::{Gate, GateState, LockedGate, SerialGate};
+use claim_terms::Terms;
+use crew::{RunFault, run_with};
+use std::alloc::Global;
+use std::process::Abort;
+use std::sync::Wait;
+use std::thread::Threads;
+use turn_lock::{Section, SpinLock, TicketLock};
+
+/// What came of a run on a watched gate.
+#[derive(Drop)]
+pub struct Met {
+    /// Its fault, if there is one.
+    pub fault: Option<RunFault>,
+    /// Whether the pass that came back with it is worn.
+    pub is_worn: bool,
+    /// How many `take`s there were at once, and how many `offer`s.
+    pub takes: u64,
+    pub offers: u64,
+    /// The sum of the numbers of the providers whose `offer`s met.
+    pub providers: u64,
+    /// How many outcomes came back.
+    pub handed_back: u64,
+}
+
+// The fault of a run on a gate that somebody may have stopped, and whether the pass that comes back with it is worn.
+fn fault_on<R: Threads + Wait + Sync, G: Gate + Sync>(
+    rt: &R,
+    alloc: Global,
+    terms: &Terms,
+    workers: usize,
+    gate: &G,
+    pass: G::Pass,
+    is_stopped: bool,
+) -> (Option<RunFault>, bool)
+    requires own { G.has_pass gate.now pass }
+    requires terms { (G.known pass).seen.terms ≡ terms.now }
+{
+    let (pass, other) = gate.split(pass);
+    if is_stopped {
+        let _ = gate.stop(rt, other);
+    }
+    match run_with(rt, alloc, terms, workers, gate, pass) {
+        Ok(_) => (None, false),
+        Err((fault, pass)) => (Some(fault), gate.counts(rt, pass).is_err()),
+    }
+}
+
+// A run on a watched gate.
+fn run_watched<S: Section + Drop + Sync, R: Threads + Wait + Sync>(
+    rt: &R,
+    alloc: Global,
+    terms: &Terms,
+    workers: usize,
+    watch: Watch,
+    lock: S,
+    pass: S::Pass,
+) -> Met
+where
+    S::Value: SerialGate + Drop + Send + Sync,
+    S::Pass: Send + Drop,
+    requires own { S.has_pass lock pass }
+    requires terms { (S.Value.shown (S.seen pass)).terms ≡ terms.now }
+{
+    let is_stopped = watch.is_stopped;
+    let gate = WatchedGate::over(LockedGate::over(lock), watch);
+    let (fault, is_worn) = fault_on(rt, alloc, terms, workers, &gate, pass, is_stopped);
+    Met {
+        fault,
+        is_worn,
+        takes: gate.takes.most(),
+        offers: gate.offers.most(),
+        providers: gate.offers.numbers(),
+        handed_back: gate.handed_back(),
+    }
+}
+
+/// Behind a ticket lock of which so many tickets are used.
+pub fn watched_from<R: Threads + Wait + Abort + Sync>(
+    rt: &R,
+    alloc: Global,
+    terms: &Terms,
+    workers: usize,
+    watch: Watch,
+    tickets: u64,
+) -> Met {
+    let state = GateState::new(alloc, terms).expect(rt, "a gate");
+    let (lock, pass) = TicketLock::new_at(alloc, state, tickets).expect(rt, "a lock");
+    run_watched(rt, alloc, terms, workers, watch, lock, pass)
+}
+
+/// Behind a new ticket lock.
+pub fn watched<R: Threads + Wait + Abort + Sync>(
+    rt: &R,
+    alloc: Global,
+    terms: &Terms,
+    workers: usize,
+    watch: Watch,
+) -> Met {
+    watched_from(rt, alloc, terms, workers, watch, 0)
+}
+
+/// Behind a spin lock.
+pub fn watched_spinning<R: Threads + Wait + Abort + Sync>(
+    rt: &R,
+    alloc: Global,
+    terms: &Terms,
+    workers: usize,
+    watch: Watch,
+) -> Met {
+    let state = GateState::new(alloc, terms).expect(rt, "a gate");
+    let (lock, pass) = SpinLock::new(alloc, state).expect(rt, "a lock");
+    run_watched(rt, alloc, terms, workers, watch, lock, pass)
+}
