@@ -85,6 +85,18 @@ pub record AreRemarks (earlier : List (List SeenOutput)) (entry : Data) (name : 
   pub written : entry ≡ string name
   pub lists : IsTrue (lists_texts earlier name)
 
+-- the roles of what a claim is covered for: a flag, and two amounts of money
+pub record AreBenefits (names : List InputData) (earlier : List (List SeenOutput)) (entry : Data) (its_cover its_fee its_deductible : Source) : Type 0 where
+  pub cover : IsRole names earlier Flag (codes "cover") entry its_cover
+  pub fee : IsRole names earlier Money (codes "fee") entry its_fee
+  pub deductible : IsRole names earlier Money (codes "deductible") entry its_deductible
+
+-- the roles of what a member shares: an amount of money, a rate, and the limit of all of it
+pub record AreShares (names : List InputData) (earlier : List (List SeenOutput)) (entry : Data) (its_copay its_rate its_oop_max : Source) : Type 0 where
+  pub copay : IsRole names earlier Money (codes "copay") entry its_copay
+  pub rate : IsRole names earlier Rate (codes "rate") entry its_rate
+  pub oop_max : IsRole names earlier Money (codes "oop_max") entry its_oop_max
+
 -- the limits of the family: amounts of money
 pub record AreLimits (names : List InputData) (earlier : List (List SeenOutput)) (entry : Data) (limits : FamilyRoles) : Type 0 where
   pub deductible : IsRole names earlier Money (codes "family_deductible") entry limits.deductible

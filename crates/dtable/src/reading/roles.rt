@@ -10,7 +10,7 @@ ghost use Rattle.dtable.specs.Document.{string_at, Optionally};
 ghost use Rattle.dtable.specs.Limits.{name_limit_bytes};
 ghost use Rattle.dtable.specs.Plan.{same_kind};
 ghost use Rattle.dtable.specs.Reading.{Reads};
-ghost use Rattle.dtable.specs.RoleFile.{AreFamilyRoles, AreLimits, AreRoles, AreRemarks, IsRole, IsSource, IsNamedSource, IsLiteralSource, Meets, asked_kind, lists_texts};
+ghost use Rattle.dtable.specs.RoleFile.{AreBenefits, AreFamilyRoles, AreLimits, AreRoles, AreRemarks, AreShares, IsRole, IsSource, IsNamedSource, IsLiteralSource, Meets, asked_kind, lists_texts};
 ghost use Rattle.dtable.specs.Scope.{seen_of};
 
 use super::place::Place;
@@ -70,24 +70,40 @@ fn read_role_table(
         names,
         tables,
     };
-    let cover = table.read(alloc, "cover", Asked::Flag, 1)?;
-    let fee = table.read(alloc, "fee", Asked::Money, 2)?;
-    let deductible = table.read(alloc, "deductible", Asked::Money, 3)?;
-    let copay = table.read(alloc, "copay", Asked::Money, 4)?;
-    let rate = table.read(alloc, "rate", Asked::Rate, 5)?;
-    let oop_max = table.read(alloc, "oop_max", Asked::Money, 6)?;
+    let benefits = read_benefits(alloc, &table)?;
+    let shares = read_shares(alloc, &table)?;
     let remarks = read_remarks(alloc, roles, tables, Place::TEXT.in_column(7))?;
     let family = read_family_roles(alloc, &table, families)?;
     Ok(Roles {
-        cover,
-        fee,
-        deductible,
-        copay,
-        rate,
-        oop_max,
+        cover: benefits.0,
+        fee: benefits.1,
+        deductible: benefits.2,
+        copay: shares.0,
+        rate: shares.1,
+        oop_max: shares.2,
         remarks,
         family,
     })
+}
+
+/// Reads the cover, the fee and the deductible.
+fn read_benefits(alloc: Global, table: &RoleTable) -> Result<(Source, Source, Source), PlanFault>
+    ensures { Reads (λ read. AreBenefits table.now.names.now (map seen_of table.now.tables.now) (view table.now.roles.now) read.0 read.1 read.2) result }
+{
+    let cover = table.read(alloc, "cover", Asked::Flag, 1)?;
+    let fee = table.read(alloc, "fee", Asked::Money, 2)?;
+    let deductible = table.read(alloc, "deductible", Asked::Money, 3)?;
+    Ok((cover, fee, deductible))
+}
+
+/// Reads the copay, the rate of the coinsurance and the limit of what is paid out of pocket.
+fn read_shares(alloc: Global, table: &RoleTable) -> Result<(Source, Source, Source), PlanFault>
+    ensures { Reads (λ read. AreShares table.now.names.now (map seen_of table.now.tables.now) (view table.now.roles.now) read.0 read.1 read.2) result }
+{
+    let copay = table.read(alloc, "copay", Asked::Money, 4)?;
+    let rate = table.read(alloc, "rate", Asked::Rate, 5)?;
+    let oop_max = table.read(alloc, "oop_max", Asked::Money, 6)?;
+    Ok((copay, rate, oop_max))
 }
 
 /// Reads the family's limits where families are kept; where they aren't, the keys are none of the plan's.
