@@ -1,14 +1,13 @@
 //! The check of tables by worked examples, on its calls. Regions of each kind stand as text in cases of the built program's
-//! `check`.
-ghost use Rattle.std.specs.Prelude.{IsTrue};
-ghost use Rattle.cutplan.specs.Masks.{IsColumnNumber};
+//! `check`. What is refused memory is asked for once more.
+ghost use Rattle.std.specs.Prelude.{◌≡◌};
 ghost use Rattle.cutplan.specs.Numbered.{IsTableNumber};
 
 mod alike;
 mod places;
 mod plans;
 
-use cutplan::{CELL_LIMIT, CheckFault, Region, compile};
+use cutplan::{CELL_LIMIT, CheckFault, CutPlan, Region, compile};
 use dtable::{Plan, PlanFault, Sequence, read_plan};
 use feel_tests::{Literals, Value, append_joined};
 use plans::{
@@ -16,53 +15,40 @@ use plans::{
 };
 use std::alloc::{AllocError, Global};
 use std::process::Abort;
-use std::test::Fail;
 
-// The plan of a text; none where memory is refused.
-fn read(rt: &impl Abort, alloc: Global, text: &[u8]) -> Result<Plan, AllocError> {
+// The plan of a text.
+fn plan_of(rt: &impl Abort, alloc: Global, text: &[u8]) -> Plan {
     match read_plan(alloc, text) {
-        Ok(plan) => Ok(plan),
-        Err(fault) => {
-            assert_eq!(rt; fault, PlanFault::from(AllocError));
-            Err(AllocError)
-        }
+        Ok(plan) => return plan,
+        Err(fault) => assert!(rt; fault == PlanFault::from(AllocError)),
     }
+    let Ok(plan) = read_plan(alloc, text) else {
+        panic!(rt; "a plan");
+    };
+    plan
 }
 
-// The gaps of a plan's first table. Who holds a plan holds no cut plan beside it, which would cost the proof minutes.
-fn gaps(rt: &impl Abort, alloc: Global, text: &[u8]) -> Result<Vec<Sequence<Region>>, CheckFault> {
-    let plan = read(rt, alloc, text)?;
-    gaps_of(rt, alloc, &plan)
+// The plan, made ready for its check and for values by masks.
+fn cut_of<'p>(rt: &impl Abort, alloc: Global, plan: &'p Plan) -> CutPlan<'p>
+    ensures { result ≡ plan.now }
+{
+    if let Ok(cut) = compile(alloc, plan) {
+        return cut;
+    }
+    let Ok(cut) = compile(alloc, plan) else {
+        panic!(rt; "memory for a cut plan");
+    };
+    cut
 }
 
-fn gaps_of(
-    rt: &impl Abort,
-    alloc: Global,
-    plan: &Plan,
-) -> Result<Vec<Sequence<Region>>, CheckFault> {
-    assert!(rt; plan.tables().len() > 0);
-    let cut = compile(alloc, plan)?;
-    cut.gaps(alloc, 1)
-}
-
-// The overlaps of a plan's first table.
-fn overlaps(
-    rt: &impl Abort,
-    alloc: Global,
-    text: &[u8],
-) -> Result<Vec<(usize, usize)>, AllocError> {
-    let plan = read(rt, alloc, text)?;
-    overlaps_of(rt, alloc, &plan)
-}
-
-fn overlaps_of(
-    rt: &impl Abort,
-    alloc: Global,
-    plan: &Plan,
-) -> Result<Vec<(usize, usize)>, AllocError> {
-    assert!(rt; plan.tables().len() > 0);
-    let cut = compile(alloc, plan)?;
-    cut.overlaps(alloc, 1)
+// The gaps of a plan's first table.
+fn gaps_of(alloc: Global, cut: &CutPlan) -> Result<Vec<Sequence<Region>>, CheckFault>
+    requires { IsTableNumber cut.now 1 }
+{
+    match cut.gaps(alloc, 1) {
+        Err(CheckFault::OutOfMemory) => cut.gaps(alloc, 1),
+        answer => answer,
+    }
 }
 
 // Whether this is the one pair of these rules.
@@ -113,114 +99,132 @@ fn write_behind(text: &mut Vec<u8>, mark: &[u8], cut: &Value) -> Result<(), Allo
     cut.write_text(text)
 }
 
-// Whether these are the cells, where there is memory for their text.
-fn are_shown(alloc: Global, cells: &[Sequence<Region>], wanted: &str) -> bool {
-    match shown(alloc, cells) {
-        Ok(text) => text.as_slice() == wanted.as_bytes(),
-        Err(_) => true,
+/// The gaps that are wanted of a table.
+#[derive(Clone, Copy)]
+enum Gaps<'a> {
+    /// These, as text.
+    Shown(&'a str),
+    /// So many.
+    Count(usize),
+    /// None, since the table has too many cells.
+    TooWide,
+}
+
+fn check_cells(rt: &impl Abort, alloc: Global, cells: &[Sequence<Region>], wanted: Gaps<'_>) {
+    match wanted {
+        Gaps::Shown(wanted) => check_shown(rt, alloc, cells, wanted),
+        Gaps::Count(count) => assert!(rt; cells.len() == count),
+        Gaps::TooWide => panic!(rt; "too many cells"),
     }
 }
 
-#[test]
-fn numbers_that_no_rule_covers_are_gaps(rt: HostRuntime) -> Result<(), Fail> {
-    let cells = gaps(&rt, rt.alloc(), apart())?;
-    assert!(rt; are_shown(rt.alloc(), cells.as_slice(), "1;\n>5;\n"));
-    let pairs = overlaps(&rt, rt.alloc(), apart())?;
-    assert!(rt; pairs.is_empty());
-    Ok(())
+fn check_shown(rt: &impl Abort, alloc: Global, cells: &[Sequence<Region>], wanted: &str) {
+    let text = match shown(alloc, cells) {
+        Ok(text) => text,
+        Err(_) => shown(alloc, cells).expect(rt, "memory for a text"),
+    };
+    assert!(rt; text.as_slice() == wanted.as_bytes());
 }
 
-#[test]
-fn rules_that_share_a_number_overlap(rt: HostRuntime) -> Result<(), Fail> {
-    let cells = gaps(&rt, rt.alloc(), at_five())?;
-    assert!(rt; cells.is_empty());
-    let pairs = overlaps(&rt, rt.alloc(), at_five())?;
-    assert!(rt; is_pair(pairs.as_slice(), 1, 2));
-    Ok(())
-}
-
-#[test]
-fn any_other_text_is_a_gap(rt: HostRuntime) -> Result<(), Fail> {
-    let cells = gaps(&rt, rt.alloc(), codes())?;
-    assert!(rt; are_shown(rt.alloc(), cells.as_slice(), "none of \"A\",\"B\";\n"));
-    let pairs = overlaps(&rt, rt.alloc(), codes())?;
-    assert!(rt; pairs.is_empty());
-    Ok(())
-}
-
-#[test]
-fn named_texts_leave_no_gap(rt: HostRuntime) -> Result<(), Fail> {
-    let cells = gaps(&rt, rt.alloc(), allowed_codes())?;
-    assert!(rt; cells.is_empty());
-    let pairs = overlaps(&rt, rt.alloc(), allowed_codes())?;
-    assert!(rt; pairs.is_empty());
-    Ok(())
-}
-
-#[test]
-fn sixteen_regions_in_each_of_four_columns(rt: HostRuntime) -> Result<(), Fail> {
-    let cells = gaps(&rt, rt.alloc(), sixteen_regions())?;
-    assert_eq!(rt; cells.len(), 61_440);
-    Ok(())
-}
-
-#[test]
-fn seventeen_regions_in_each_of_four_columns(rt: HostRuntime) {
-    let fault = gaps(&rt, rt.alloc(), seventeen_regions()).err();
-    assert_eq!(rt; fault, Some(CheckFault::TooWide));
-    assert_eq!(rt; CELL_LIMIT, 65_536);
-}
-
-fn gaps_of_flag_and_code() -> &'static str {
-    "false;\"A\";\ntrue;none of \"A\",\"B\";\n"
-}
-
-// The gate runs it once for each of its allocations, with that one refused: no call answers anything else in its place.
-#[test]
-fn gaps_and_overlaps_are_listed_or_no_memory(rt: HostRuntime) {
-    match gaps(&rt, rt.alloc(), flag_and_code()) {
-        Ok(cells) => assert!(rt; are_shown(rt.alloc(), cells.as_slice(), gaps_of_flag_and_code())),
-        Err(fault) => assert_eq!(rt; fault, CheckFault::OutOfMemory),
-    }
-    if let Ok(pairs) = overlaps(&rt, rt.alloc(), flag_and_code()) {
-        assert!(rt; is_pair(pairs.as_slice(), 2, 3));
-    }
-}
-
-// The first words of the masks are these.
-fn have_first_words(masks: &[[u64; 4]], words: &[u64]) -> bool {
-    masks.len() == words.len() && masks.iter().zip(words).all(|(mask, word)| mask[0] == *word)
-}
-
-fn has_one_column(plan: &Plan) -> bool
-    ensures { IsTrue result → IsTableNumber plan.now 1 × IsColumnNumber plan.now 1 1 }
+// These are the gaps of a plan's first table.
+fn check_gaps(rt: &impl Abort, alloc: Global, cut: &CutPlan, wanted: Gaps<'_>)
+    requires { IsTableNumber cut.now 1 }
 {
-    plan.tables().len() == 1 && plan.tables()[0].inputs.len() == 1
-}
-
-fn has_two_rules(plan: &Plan) -> bool {
-    match plan.tables() {
-        [table] => table.rules.len() == 2,
-        _ => false,
+    match gaps_of(alloc, cut) {
+        Ok(cells) => check_cells(rt, alloc, cells.as_slice(), wanted),
+        Err(fault) => {
+            assert!(rt; fault == CheckFault::TooWide && matches!(wanted, Gaps::TooWide));
+        }
     }
 }
 
-fn have_masks(
+// This is the one overlap of a plan's first table, or there is none.
+fn check_overlaps(rt: &impl Abort, alloc: Global, cut: &CutPlan, wanted: Option<(usize, usize)>)
+    requires { IsTableNumber cut.now 1 }
+{
+    let pairs = match cut.overlaps(alloc, 1) {
+        Ok(pairs) => pairs,
+        Err(_) => cut.overlaps(alloc, 1).expect(rt, "memory for pairs"),
+    };
+    match wanted {
+        Some((first, second)) => assert!(rt; is_pair(pairs.as_slice(), first, second)),
+        None => assert!(rt; pairs.is_empty()),
+    }
+}
+
+fn check_first(
     rt: &impl Abort,
     alloc: Global,
     plan: &Plan,
-    words: &[u64],
-) -> Result<(), AllocError> {
-    assert!(rt; has_one_column(plan));
-    let cut = compile(alloc, plan)?;
-    assert!(rt; have_first_words(cut.masks(1, 1), words));
-    Ok(())
+    gaps: Gaps<'_>,
+    overlap: Option<(usize, usize)>,
+) {
+    assert!(rt; plan.tables().len() > 0);
+    let cut = cut_of(rt, alloc, plan);
+    check_gaps(rt, alloc, &cut, gaps);
+    check_overlaps(rt, alloc, &cut, overlap);
+}
+
+// Compares the gaps of the first table of the plan that the text spells, and its one overlap.
+fn check(
+    rt: &impl Abort,
+    alloc: Global,
+    text: &[u8],
+    gaps: Gaps<'_>,
+    overlap: Option<(usize, usize)>,
+) {
+    let plan = plan_of(rt, alloc, text);
+    check_first(rt, alloc, &plan, gaps, overlap);
 }
 
 #[test]
-fn masks_of_two_stretches(rt: HostRuntime) -> Result<(), Fail> {
-    let plan = read(&rt, rt.alloc(), apart())?;
-    assert!(rt; has_two_rules(&plan));
-    assert!(rt; have_masks(&rt, rt.alloc(), &plan, &[1, 0, 2, 2, 2, 0]).is_ok());
-    Ok(())
+fn numbers_that_no_rule_covers_are_gaps(rt: HostRuntime) {
+    check(&rt, rt.alloc(), apart(), Gaps::Shown("1;\n>5;\n"), None);
+}
+
+#[test]
+fn rules_that_share_a_number_overlap(rt: HostRuntime) {
+    check(&rt, rt.alloc(), at_five(), Gaps::Shown(""), Some((1, 2)));
+}
+
+#[test]
+fn any_other_text_is_a_gap(rt: HostRuntime) {
+    check(
+        &rt,
+        rt.alloc(),
+        codes(),
+        Gaps::Shown("none of \"A\",\"B\";\n"),
+        None,
+    );
+}
+
+#[test]
+fn named_texts_leave_no_gap(rt: HostRuntime) {
+    check(&rt, rt.alloc(), allowed_codes(), Gaps::Shown(""), None);
+}
+
+// The gate runs it once for each of its allocations, with that one refused.
+#[test]
+fn gaps_and_overlaps_are_listed_though_memory_is_refused(rt: HostRuntime) {
+    let gaps = "false;\"A\";\ntrue;none of \"A\",\"B\";\n";
+    check(
+        &rt,
+        rt.alloc(),
+        flag_and_code(),
+        Gaps::Shown(gaps),
+        Some((2, 3)),
+    );
+}
+
+#[test]
+fn sixteen_and_seventeen_regions_in_each_of_four_columns(rt: HostRuntime) {
+    check(
+        &rt,
+        rt.alloc(),
+        sixteen_regions(),
+        Gaps::Count(61_440),
+        None,
+    );
+    check(&rt, rt.alloc(), seventeen_regions(), Gaps::TooWide, None);
+    assert!(rt; CELL_LIMIT == 65_536);
 }

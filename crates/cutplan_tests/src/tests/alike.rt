@@ -1,18 +1,19 @@
 //! A plan and its cut plan answer alike: at each cut, one unit below and above it, at each text that is named, and at one
 //! that isn't.
-ghost use Rattle.std.specs.Prelude.{◌≡◌};
+ghost use Rattle.std.specs.Prelude.{◌≡◌, IsTrue};
+ghost use Rattle.cutplan.specs.Masks.{IsColumnNumber};
+ghost use Rattle.cutplan.specs.Numbered.{IsTableNumber};
 
 use super::plans::{
     allowed_codes, apart, at_five, chain, codes, days, flag_and_code, ranked, sixteen_regions,
     stretches, three_rules,
 };
-use super::read;
-use cutplan::{CutPlan, compile};
+use super::{cut_of, plan_of};
+use cutplan::CutPlan;
 use dtable::{Answer, AnswersByTable, Env, Inputs, Plan, Valuer};
 use feel_tests::read_value;
-use std::alloc::Global;
+use std::alloc::{AllocError, Global};
 use std::process::Abort;
-use std::test::Fail;
 use worked_examples::health_plan;
 
 /// The place of the first field among the names.
@@ -47,28 +48,33 @@ fn remark_amounts() -> &'static [(&'static str, &'static str)] {
 }
 
 /// What the plan's outputs answer at these values, each with its place, or the fault, as text.
-fn told<V: Valuer>(
-    rt: &impl Abort,
-    alloc: Global,
-    valuer: &V,
-    given: &[(usize, &str)],
-) -> Result<Vec<u8>, Fail> {
-    let mut inputs = Inputs::new(alloc, valuer.plan())?;
+fn told<V: Valuer>(rt: &impl Abort, alloc: Global, valuer: &V, given: &[(usize, &str)]) -> Vec<u8> {
+    let mut inputs = Inputs::new(alloc, valuer.plan()).expect(rt, "memory for inputs");
     for (place, literal) in given {
         if !literal.is_empty() {
-            give(alloc, &mut inputs, *place, literal)?;
+            give(rt, alloc, &mut inputs, *place, literal);
         }
     }
-    assert!(rt; valuer.plan().ready(&inputs));
-    let mut text = Vec::new(alloc);
-    match valuer.value(alloc, &inputs) {
-        Ok(values) => write_answers(&mut text, valuer.plan(), &values)?,
-        Err(fault) => text.extend_from_slice(format!(in alloc; "{fault}")?.as_bytes())?,
+    told_at(rt, alloc, valuer, &inputs)
+}
+
+fn told_at<V: Valuer>(rt: &impl Abort, alloc: Global, valuer: &V, inputs: &Inputs) -> Vec<u8> {
+    assert!(rt; valuer.plan().ready(inputs));
+    match valuer.value(alloc, inputs) {
+        Ok(values) => answers_of(alloc, valuer.plan(), &values).expect(rt, "memory for a text"),
+        Err(fault) => format!(in alloc; "{fault}")
+            .expect(rt, "memory for a text")
+            .into_bytes(),
     }
+}
+
+fn answers_of(alloc: Global, plan: &Plan, values: &Env) -> Result<Vec<u8>, AllocError> {
+    let mut text = Vec::new(alloc);
+    write_answers(&mut text, plan, values)?;
     Ok(text)
 }
 
-fn write_answers(text: &mut Vec<u8>, plan: &Plan, values: &Env) -> Result<(), Fail> {
+fn write_answers(text: &mut Vec<u8>, plan: &Plan, values: &Env) -> Result<(), AllocError> {
     for table in plan.tables() {
         for output in table.outputs.as_slice() {
             write_answer(text, values.get(output.name.as_str()))?;
@@ -79,14 +85,15 @@ fn write_answers(text: &mut Vec<u8>, plan: &Plan, values: &Env) -> Result<(), Fa
 }
 
 // Gives the name at the place the value that the literal spells.
-fn give(alloc: Global, inputs: &mut Inputs, place: usize, literal: &str) -> Result<(), Fail> {
-    let kind = inputs.kind_at(place).ok_or("no such name")?;
-    let value = read_value(alloc, kind, literal)?;
+fn give(rt: &impl Abort, alloc: Global, inputs: &mut Inputs, place: usize, literal: &str) {
+    let kind = inputs.kind_at(place).expect(rt, "a name");
+    let Ok(value) = read_value(alloc, kind, literal) else {
+        panic!(rt; "a literal");
+    };
     inputs.set(place, value);
-    Ok(())
 }
 
-fn write_answer(text: &mut Vec<u8>, answer: Option<&Answer>) -> Result<(), Fail> {
+fn write_answer(text: &mut Vec<u8>, answer: Option<&Answer>) -> Result<(), AllocError> {
     match answer {
         Some(Answer::One(value)) => value.write_text(text)?,
         Some(Answer::Many(list)) => {
@@ -101,56 +108,62 @@ fn write_answer(text: &mut Vec<u8>, answer: Option<&Answer>) -> Result<(), Fail>
 }
 
 /// The plan and its cut plan answer alike at these values.
-fn is_alike_at(
-    rt: &impl Abort,
-    alloc: Global,
-    plan: &Plan,
-    cut: &CutPlan,
-    given: &[(usize, &str)],
-) -> Result<(), Fail> {
-    let plain = told(rt, alloc, plan, given)?;
-    let by_masks = told(rt, alloc, cut, given)?;
-    assert_eq!(rt; plain.as_slice(), by_masks.as_slice());
-    Ok(())
+fn check_at(rt: &impl Abort, alloc: Global, plan: &Plan, cut: &CutPlan, given: &[(usize, &str)]) {
+    let plain = told(rt, alloc, plan, given);
+    let by_masks = told(rt, alloc, cut, given);
+    assert!(rt; plain.as_slice() == by_masks.as_slice());
 }
 
-/// A plan and its cut plan answer alike at each of these literals.
-fn are_alike_at(
+/// A plan and its cut plan answer alike at each of these literals of its first field and of its second.
+fn check_each(
     rt: &impl Abort,
     alloc: Global,
     plan: &Plan,
     cut: &CutPlan,
     given: (&[&str], &[&str]),
-) -> Result<(), Fail> {
+) {
     for first in given.0 {
         for second in given.1 {
             let given = [(FIRST, *first), (FIRST + 1, *second)];
-            is_alike_at(rt, alloc, plan, cut, &given)?;
+            check_at(rt, alloc, plan, cut, &given);
         }
     }
-    Ok(())
 }
 
-fn is_cut_alike(
-    rt: &impl Abort,
-    alloc: Global,
-    plan: &Plan,
-    given: (&[&str], &[&str]),
-) -> Result<(), Fail> {
-    let cut = compile(alloc, plan)?;
-    are_alike_at(rt, alloc, plan, &cut, given)
+/// What is tried of a plan and its cut plan. One function holds the plan for all, since each that does costs the proof long.
+#[derive(Clone, Copy)]
+enum Tried<'a> {
+    /// They answer alike at each of these literals of the first field and of the second.
+    Alike(&'a [&'a str], &'a [&'a str]),
+    /// The masks tell which rules match at each of these literals of the first field.
+    Told(&'a [&'a str]),
+    /// The cut plan answers so at this literal of the first field.
+    Answer(&'a str, &'a str),
+    /// They answer alike at each code and amount of the health plan.
+    Remarks,
+    /// The masks of the one column of two rules begin with these words.
+    Masks(&'a [u64]),
 }
 
-/// The plan that the text spells and its cut plan answer alike at these literals of its first field and of its second.
-fn is_alike(
-    rt: &impl Abort,
-    alloc: Global,
-    text: &[u8],
-    firsts: &[&str],
-    seconds: &[&str],
-) -> Result<(), Fail> {
-    let plan = read(rt, alloc, text)?;
-    is_cut_alike(rt, alloc, &plan, (firsts, seconds))
+fn try_cut(rt: &impl Abort, alloc: Global, plan: &Plan, tried: Tried<'_>) {
+    let cut = cut_of(rt, alloc, plan);
+    match tried {
+        Tried::Alike(firsts, seconds) => check_each(rt, alloc, plan, &cut, (firsts, seconds)),
+        Tried::Told(literals) => check_each_told(rt, alloc, plan, &cut, literals),
+        Tried::Answer(literal, answer) => check_answer(rt, alloc, &cut, literal, answer),
+        Tried::Remarks => check_remarks(rt, alloc, plan, &cut),
+        Tried::Masks(words) => check_masks(rt, plan, &cut, words),
+    }
+}
+
+fn try_plan(rt: &impl Abort, alloc: Global, text: &[u8], tried: Tried<'_>) {
+    let plan = plan_of(rt, alloc, text);
+    try_cut(rt, alloc, &plan, tried);
+}
+
+/// The plan that the text spells and its cut plan answer alike at these literals.
+fn check(rt: &impl Abort, alloc: Global, text: &[u8], firsts: &[&str], seconds: &[&str]) {
+    try_plan(rt, alloc, text, Tried::Alike(firsts, seconds));
 }
 
 fn around_apart() -> Literals {
@@ -176,23 +189,20 @@ fn around_three_rules() -> Literals {
 }
 
 #[test]
-fn numbers_are_valued_alike(rt: HostRuntime) -> Result<(), Fail> {
-    is_alike(&rt, rt.alloc(), apart(), around_apart(), none())?;
-    is_alike(&rt, rt.alloc(), at_five(), around_five(), none())?;
-    is_alike(&rt, rt.alloc(), three_rules(), around_three_rules(), none())
+fn numbers_are_valued_alike(rt: HostRuntime) {
+    check(&rt, rt.alloc(), apart(), around_apart(), none());
+    check(&rt, rt.alloc(), at_five(), around_five(), none());
+    check(&rt, rt.alloc(), three_rules(), around_three_rules(), none());
 }
 
-fn answers_two(rt: &impl Abort, alloc: Global, plan: &Plan) -> Result<Vec<u8>, Fail> {
-    let cut = compile(alloc, plan)?;
-    told(rt, alloc, &cut, &[(FIRST, "2")])
+fn check_answer(rt: &impl Abort, alloc: Global, cut: &CutPlan, literal: &str, answer: &str) {
+    let answers = told(rt, alloc, cut, &[(FIRST, literal)]);
+    assert!(rt; answers.as_slice() == answer.as_bytes());
 }
 
 #[test]
-fn two_of_three_rules_answer_by_masks(rt: HostRuntime) -> Result<(), Fail> {
-    let plan = read(&rt, rt.alloc(), three_rules())?;
-    let answers = answers_two(&rt, rt.alloc(), &plan)?;
-    assert!(rt; answers.as_slice() == b"1 1 \n".as_slice());
-    Ok(())
+fn two_of_three_rules_answer_by_masks(rt: HostRuntime) {
+    try_plan(&rt, rt.alloc(), three_rules(), Tried::Answer("2", "1 1 \n"));
 }
 
 fn around_sixteen_regions() -> Literals {
@@ -202,14 +212,14 @@ fn around_sixteen_regions() -> Literals {
 }
 
 #[test]
-fn four_columns_are_valued_alike(rt: HostRuntime) -> Result<(), Fail> {
-    is_alike(
+fn four_columns_are_valued_alike(rt: HostRuntime) {
+    check(
         &rt,
         rt.alloc(),
         sixteen_regions(),
         around_sixteen_regions(),
         none(),
-    )
+    );
 }
 
 fn of_codes() -> Literals {
@@ -225,16 +235,16 @@ fn flags() -> Literals {
 }
 
 #[test]
-fn texts_and_flags_are_valued_alike(rt: HostRuntime) -> Result<(), Fail> {
-    is_alike(&rt, rt.alloc(), codes(), of_codes(), none())?;
-    is_alike(&rt, rt.alloc(), allowed_codes(), of_allowed_codes(), none())?;
-    is_alike(
+fn texts_and_flags_are_valued_alike(rt: HostRuntime) {
+    check(&rt, rt.alloc(), codes(), of_codes(), none());
+    check(&rt, rt.alloc(), allowed_codes(), of_allowed_codes(), none());
+    check(
         &rt,
         rt.alloc(),
         flag_and_code(),
         flags(),
         of_allowed_codes(),
-    )
+    );
 }
 
 fn around_days() -> Literals {
@@ -250,8 +260,8 @@ fn around_days() -> Literals {
 }
 
 #[test]
-fn days_are_valued_alike(rt: HostRuntime) -> Result<(), Fail> {
-    is_alike(&rt, rt.alloc(), days(), around_days(), none())
+fn days_are_valued_alike(rt: HostRuntime) {
+    check(&rt, rt.alloc(), days(), around_days(), none());
 }
 
 fn around_chain() -> Literals {
@@ -261,8 +271,8 @@ fn around_chain() -> Literals {
 }
 
 #[test]
-fn chained_tables_are_valued_alike(rt: HostRuntime) -> Result<(), Fail> {
-    is_alike(&rt, rt.alloc(), chain(), around_chain(), none())
+fn chained_tables_are_valued_alike(rt: HostRuntime) {
+    check(&rt, rt.alloc(), chain(), around_chain(), none());
 }
 
 fn around_ranked() -> Literals {
@@ -270,8 +280,8 @@ fn around_ranked() -> Literals {
 }
 
 #[test]
-fn ranked_rules_are_valued_alike(rt: HostRuntime) -> Result<(), Fail> {
-    is_alike(&rt, rt.alloc(), ranked(), around_ranked(), none())
+fn ranked_rules_are_valued_alike(rt: HostRuntime) {
+    check(&rt, rt.alloc(), ranked(), around_ranked(), none());
 }
 
 fn around_stretches() -> Literals {
@@ -279,66 +289,45 @@ fn around_stretches() -> Literals {
 }
 
 #[test]
-fn stretches_side_by_side_are_valued_alike(rt: HostRuntime) -> Result<(), Fail> {
-    is_alike(&rt, rt.alloc(), stretches(), around_stretches(), none())
+fn stretches_side_by_side_are_valued_alike(rt: HostRuntime) {
+    check(&rt, rt.alloc(), stretches(), around_stretches(), none());
 }
 
 /// The health plan and its cut plan answer alike at each code and amount.
-fn are_remarks_alike(
-    rt: &impl Abort,
-    alloc: Global,
-    plan: &Plan,
-    cut: &CutPlan,
-) -> Result<(), Fail> {
+fn check_remarks(rt: &impl Abort, alloc: Global, plan: &Plan, cut: &CutPlan) {
     for code in remark_codes() {
         for (billed, met) in remark_amounts() {
             let given = [(FIRST, *code), (BILLED, *billed), (MET, *met)];
-            is_alike_at(rt, alloc, plan, cut, &given)?;
+            check_at(rt, alloc, plan, cut, &given);
         }
     }
-    Ok(())
-}
-
-fn are_cut_remarks_alike(rt: &impl Abort, alloc: Global, plan: &Plan) -> Result<(), Fail> {
-    let cut = compile(alloc, plan)?;
-    are_remarks_alike(rt, alloc, plan, &cut)
 }
 
 #[test]
-fn remarks_are_valued_alike(rt: HostRuntime) -> Result<(), Fail> {
-    let plan = read(&rt, rt.alloc(), health_plan().as_bytes())?;
-    are_cut_remarks_alike(&rt, rt.alloc(), &plan)
+fn remarks_are_valued_alike(rt: HostRuntime) {
+    try_plan(&rt, rt.alloc(), health_plan().as_bytes(), Tried::Remarks);
 }
 
-/// Whether the masks of the one table tell which rules match.
-fn is_told(alloc: Global, plan: &Plan, cut: &CutPlan, literal: &str) -> Result<bool, Fail>
+/// The masks of each table tell which rules match.
+fn check_told(rt: &impl Abort, alloc: Global, plan: &Plan, cut: &CutPlan, literal: &str)
     requires { cut.now ≡ plan.now }
 {
-    let mut inputs = Inputs::new(alloc, plan)?;
-    give(alloc, &mut inputs, FIRST, literal)?;
+    let mut inputs = Inputs::new(alloc, plan).expect(rt, "memory for inputs");
+    give(rt, alloc, &mut inputs, FIRST, literal);
     let earlier = AnswersByTable::new(alloc);
     for (place, table) in plan.tables().iter().enumerate() {
         let mask = cut.matching_mask(&inputs, earlier.as_slice(), place, table);
-        if mask.is_none() {
-            return Ok(false);
-        }
+        assert!(rt; mask.is_some(), "{literal}");
     }
-    Ok(true)
 }
 
-fn are_told(rt: &impl Abort, alloc: Global, plan: &Plan, literals: &[&str]) -> Result<(), Fail> {
-    let cut = compile(alloc, plan)?;
+fn check_each_told(rt: &impl Abort, alloc: Global, plan: &Plan, cut: &CutPlan, literals: &[&str])
+    requires { cut.now ≡ plan.now }
+{
     for literal in literals {
         let literal: &str = literal;
-        let told = is_told(alloc, plan, &cut, literal)?;
-        assert!(rt; told, "{literal}");
+        check_told(rt, alloc, plan, cut, literal);
     }
-    Ok(())
-}
-
-fn is_known(rt: &impl Abort, alloc: Global, text: &[u8], literals: &[&str]) -> Result<(), Fail> {
-    let plan = read(rt, alloc, text)?;
-    are_told(rt, alloc, &plan, literals)
 }
 
 fn allowed() -> Literals {
@@ -346,9 +335,40 @@ fn allowed() -> Literals {
 }
 
 #[test]
-fn masks_tell_of_allowed_values(rt: HostRuntime) -> Result<(), Fail> {
-    is_known(&rt, rt.alloc(), apart(), around_apart())?;
-    is_known(&rt, rt.alloc(), codes(), of_codes())?;
-    is_known(&rt, rt.alloc(), allowed_codes(), allowed())?;
-    is_known(&rt, rt.alloc(), days(), around_days())
+fn masks_tell_of_allowed_values(rt: HostRuntime) {
+    try_plan(&rt, rt.alloc(), apart(), Tried::Told(around_apart()));
+    try_plan(&rt, rt.alloc(), codes(), Tried::Told(of_codes()));
+    try_plan(&rt, rt.alloc(), allowed_codes(), Tried::Told(allowed()));
+    try_plan(&rt, rt.alloc(), days(), Tried::Told(around_days()));
+}
+
+// The first words of the masks are these.
+fn have_first_words(masks: &[[u64; 4]], words: &[u64]) -> bool {
+    masks.len() == words.len() && masks.iter().zip(words).all(|(mask, word)| mask[0] == *word)
+}
+
+fn has_one_column(plan: &Plan) -> bool
+    ensures { IsTrue result → IsTableNumber plan.now 1 × IsColumnNumber plan.now 1 1 }
+{
+    plan.tables().len() == 1 && plan.tables()[0].inputs.len() == 1
+}
+
+fn has_two_rules(plan: &Plan) -> bool {
+    match plan.tables() {
+        [table] => table.rules.len() == 2,
+        _ => false,
+    }
+}
+
+fn check_masks(rt: &impl Abort, plan: &Plan, cut: &CutPlan, words: &[u64])
+    requires { cut.now ≡ plan.now }
+{
+    assert!(rt; has_one_column(plan));
+    assert!(rt; has_two_rules(plan));
+    assert!(rt; have_first_words(cut.masks(1, 1), words));
+}
+
+#[test]
+fn masks_of_two_stretches(rt: HostRuntime) {
+    try_plan(&rt, rt.alloc(), apart(), Tried::Masks(&[1, 0, 2, 2, 2, 0]));
 }
