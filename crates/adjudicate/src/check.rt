@@ -86,7 +86,9 @@ fn told_of_text(alloc: Global, plan: &[u8], telling: Telling) -> Result<ToldPlan
     ensures refused { IfErr result (RefusesPlan plan.now) }
 {
     let plan = read_plan(alloc, plan)?;
-    Ok(checked(alloc, &plan, telling)?)
+    let told = checked(alloc, &plan, telling);
+    drop(plan);
+    Ok(told?)
 }
 
 // Writes the text of what is told. A writer that fails in its midst is a refusal.

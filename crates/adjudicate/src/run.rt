@@ -3,13 +3,14 @@
 ghost use Rattle.std.specs.Prelude.{◌≡◌, IfOk, IfErr, OnOk};
 ghost use Rattle.fixpoint.specs.Out.{writer_of, has_failed};
 ghost use Rattle.crew.specs.Workers.{IsWorkerCount};
+ghost use Rattle.dtable.specs.PlanFile.{IsPlanText};
 ghost use Rattle.adjudicate.specs.RunText.{IsRemittance, IsRemittanceOf, run_texts};
 ghost use Rattle.adjudicate.specs.RunStop.{IsRunReason, StopsRemittance, WritesRemittanceUntil};
 ghost use Rattle.adjudicate.specs.Stop.{WritesText, failed_after};
 
 use crate::stop::Stop;
 use claim_terms::{Terms, terms_are_seen};
-use dtable::read_plan;
+use dtable::{Plan, read_plan};
 use fixpoint::Out;
 use remit::write_report_by_threads;
 use std::io::Write;
@@ -56,10 +57,33 @@ pub fn do_run<R: Threads + Wait + Sync + AllocGlobal, W: Write>(
     ensures ok_failed { OnOk result (has_failed out.new ≡ has_failed out.old) }
     ensures failed { IfErr result (λ stop. has_failed out.new ≡ failed_after (has_failed out.old) stop) }
 {
-    let alloc = rt.alloc();
-    let plan = read_plan(alloc, input.plan)?;
-    let terms = Terms::new(alloc, &plan, input.files, input.balances, input.cutoff)?;
-    write_remittance(rt, &terms, input.workers, out)
+    let plan = read_plan(rt.alloc(), input.plan)?;
+    let done = run_plan(rt, &plan, input, out);
+    drop(plan);
+    done
+}
+
+// The same, once the plan is read.
+fn run_plan<R: Threads + Wait + Sync + AllocGlobal, W: Write>(
+    rt: &R,
+    plan: &Plan,
+    input: RunInput,
+    out: &mut Out<W>,
+) -> Result<(), Stop>
+    requires spelled { IsPlanText (run_texts input).plan plan.now }
+    ensures written { OnOk result (WritesText (IsRemittance (run_texts input.entry))
+        (W.contents (writer_of out.old)) (W.contents (writer_of out.new))) }
+    ensures workers { OnOk result (IsWorkerCount input.entry.workers) }
+    ensures reason { IfErr result (IsRunReason (run_texts input.entry) input.entry.workers) }
+    ensures stopped { IfErr result (WritesRemittanceUntil (run_texts input.entry)
+        (W.contents (writer_of out.old)) (W.contents (writer_of out.new))) }
+    ensures ok_failed { OnOk result (has_failed out.new ≡ has_failed out.old) }
+    ensures failed { IfErr result (λ stop. has_failed out.new ≡ failed_after (has_failed out.old) stop) }
+{
+    let terms = Terms::new(rt.alloc(), plan, input.files, input.balances, input.cutoff)?;
+    let done = write_remittance(rt, &terms, input.workers, out);
+    drop(terms);
+    done
 }
 
 // Runs by so many workers, and writes the report of the run straight to the writer.

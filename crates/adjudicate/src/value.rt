@@ -47,7 +47,9 @@ fn value_text(alloc: Global, plan: &[u8], arguments: &[&str]) -> Result<Vec<u8>,
     ensures refused { IfErr result (RefusesText plan.now (texts_of arguments.now)) }
 {
     let plan = read_plan(alloc, plan)?;
-    plan_text(alloc, &plan, arguments)
+    let text = plan_text(alloc, &plan, arguments);
+    drop(plan);
+    text
 }
 
 // The text that the command prints for a plan.

@@ -9,8 +9,8 @@ returns-in_err-plan-clause-refused c =
 
 pub returns-clause-text : goal.returns-clause-text
 returns-clause-text c =
-    IfOk-weaker c.plan_text.result _ _ (λ text is_text. record { plan = c.in_ok-plan.plan; spelled = c.in_ok-plan.ensures.plan; is_text = is_text }) c.plan_text.ensures.text
+    IfOk-weaker c.plan_text-text.result _ _ (λ text is_text. record { plan = c.in_ok-plan.plan; spelled = c.in_ok-plan.ensures.plan; is_text = is_text }) c.plan_text-text.ensures.text
 
 pub returns-clause-refused : goal.returns-clause-refused
 returns-clause-refused c =
-    IfErr-weaker c.plan_text.result _ _ (λ s refused. refuses_spelled _ _ c.in_ok-plan.plan s c.in_ok-plan.ensures.plan refused) c.plan_text.ensures.refused
+    IfErr-weaker c.plan_text-text.result _ _ (λ s refused. refuses_spelled _ _ c.in_ok-plan.plan s c.in_ok-plan.ensures.plan refused) c.plan_text-text.ensures.refused
