@@ -1,13 +1,11 @@
-//! Terms by worked examples.
+//! Terms by worked examples. What is refused memory is asked for once more.
 use claim_terms::{FILES_LIMIT, Terms, TermsFault};
 use dtable::{Plan, Sequence, read_plan};
 use feel_tests::{Day, TEXT_LIMIT_BYTES, Text};
-use intake_csv::{BalanceFault, FILE_LIMIT_BYTES, FileFault, Row, RowCause, RowFault};
+use intake_csv::{BalanceFault, FILE_LIMIT_BYTES, FileFault, Row, RowCause, RowFault, Rows};
 use settlement::{Acc, Claim};
-use std::alloc::{AllocError, Global};
-use std::fmt::Write;
+use std::alloc::Global;
 use std::process::Abort;
-use std::test::Fail;
 
 mod families;
 
@@ -44,7 +42,44 @@ const TWICE: &[u8] = b"member,met,oop,paid\nM1,50.00,10.00,5.00\nM1,50.00,10.00,
 const TOO_MANY: [&[u8]; 65] = [CLAIMS; 65];
 
 fn plan(rt: &impl Abort, alloc: Global, text: &[u8]) -> Plan {
-    read_plan(alloc, text).expect(rt, "a plan")
+    if let Ok(plan) = read_plan(alloc, text) {
+        return plan;
+    }
+    let Ok(plan) = read_plan(alloc, text) else {
+        panic!(rt; "a plan");
+    };
+    plan
+}
+
+/// What is tried of a plan. One function holds the plan for all, since each that does costs the proof long.
+#[derive(Clone, Copy)]
+enum Tried {
+    Terms,
+    NumbersOfFiles,
+    Faults,
+    NoRoles,
+    LargeFile,
+    Rows,
+    Openings,
+    Sums,
+}
+
+fn check(rt: &impl Abort, alloc: Global, text: &[u8], tried: Tried) {
+    let plan = plan(rt, alloc, text);
+    check_plan(rt, alloc, &plan, tried);
+}
+
+fn check_plan(rt: &impl Abort, alloc: Global, plan: &Plan, tried: Tried) {
+    match tried {
+        Tried::Terms => check_terms(rt, alloc, plan),
+        Tried::NumbersOfFiles => check_numbers_of_files(rt, alloc, plan, &TOO_MANY),
+        Tried::Faults => check_faults(rt, alloc, plan),
+        Tried::NoRoles => check_no_roles(rt, alloc, plan),
+        Tried::LargeFile => check_large_file(rt, alloc, plan),
+        Tried::Rows => check_rows_of_files(rt, alloc, plan),
+        Tried::Openings => families::check_openings(rt, alloc, plan),
+        Tried::Sums => families::check_sums(rt, alloc, plan),
+    }
 }
 
 // The fault of these texts, if they have one.
@@ -73,33 +108,42 @@ fn terms<'a>(
     balances: Option<&[u8]>,
     cutoff: Option<u64>,
 ) -> Terms<'a> {
-    Terms::new(alloc, plan, files, balances, cutoff).expect(rt, "terms")
+    match Terms::new(alloc, plan, files, balances, cutoff) {
+        Ok(terms) => return terms,
+        Err(fault) => assert!(rt; fault == TermsFault::OutOfMemory),
+    }
+    let Ok(terms) = Terms::new(alloc, plan, files, balances, cutoff) else {
+        panic!(rt; "terms");
+    };
+    terms
 }
 
-// A claim of a member.
-fn claim(rt: &impl Abort, alloc: Global, member: &str) -> Result<Claim, AllocError> {
-    assert!(rt; member.len() <= TEXT_LIMIT_BYTES);
-    Ok(Claim {
-        id: Text::new(alloc, "c1")?,
-        family: None,
-        member: Text::new(alloc, member)?,
-        service: Day::from_epoch_day(19_727).expect(rt, "a day"),
+fn text(rt: &impl Abort, alloc: Global, text: &str) -> Text {
+    assert!(rt; text.len() <= TEXT_LIMIT_BYTES);
+    Text::new(alloc, text).expect(rt, "a text in its place")
+}
+
+// A claim of a member, of a family or none, by its day of service.
+fn claim(rt: &impl Abort, alloc: Global, day: i32, of: Option<&str>, member: &str) -> Claim {
+    let family = match of {
+        Some(family) => Some(text(rt, alloc, family)),
+        None => None,
+    };
+    Claim {
+        id: text(rt, alloc, "c1"),
+        family,
+        member: text(rt, alloc, member),
+        service: Day::from_epoch_day(day).expect(rt, "a day"),
         billed: Acc::zero().met,
         fields: Sequence::new(alloc),
-    })
+    }
 }
 
 // Compares what a member begins with.
-fn opens(
-    rt: &impl Abort,
-    alloc: Global,
-    terms: &Terms,
-    wanted: (&str, i64, i64, i64),
-) -> Result<(), AllocError> {
+fn opens(rt: &impl Abort, alloc: Global, terms: &Terms, wanted: (&str, i64, i64, i64)) {
     let (member, met, oop, paid) = wanted;
-    let claim = claim(rt, alloc, member)?;
+    let claim = claim(rt, alloc, 19_727, None, member);
     assert!(rt; same(terms.opening(&claim), met, oop, paid), "{member}");
-    Ok(())
 }
 
 fn has_files(rt: &impl Abort, terms: &Terms, wanted: &[&[u8]]) {
@@ -109,32 +153,40 @@ fn has_files(rt: &impl Abort, terms: &Terms, wanted: &[&[u8]]) {
     }
 }
 
-#[test]
-fn terms_of_texts(rt: HostRuntime) {
-    let plan = plan(&rt, rt.alloc(), PLAN);
+fn check_terms(rt: &impl Abort, alloc: Global, plan: &Plan) {
     let files = [CLAIMS, OTHER_CLAIMS];
-    let terms = terms(&rt, rt.alloc(), &plan, &files, Some(BALANCES), Some(7));
-    assert!(rt; terms.plan().names().len() == 8 && terms.plan().roles().is_some());
-    assert!(rt; terms.cutoff() == Some(7));
-    has_files(&rt, &terms, &files);
-    let first = opens(&rt, rt.alloc(), &terms, ("M1", 500_000, 100_000, 50_000));
-    let other = opens(&rt, rt.alloc(), &terms, ("M2", 0, 0, 0));
-    assert!(rt; first.is_ok() && other.is_ok());
+    let full = terms(rt, alloc, plan, &files, Some(BALANCES), Some(7));
+    check_full(rt, alloc, &full, &files);
+    check_without_balances(rt, alloc, plan);
 }
 
-#[test]
-fn terms_without_balances_and_cutoff(rt: HostRuntime) {
-    let plan = plan(&rt, rt.alloc(), PLAN);
-    let files = [CLAIMS];
-    let terms = terms(&rt, rt.alloc(), &plan, &files, None, None);
+fn check_full(rt: &impl Abort, alloc: Global, terms: &Terms, files: &[&[u8]]) {
+    assert!(rt; terms.plan().names().len() == 8 && terms.plan().roles().is_some());
+    assert!(rt; terms.cutoff() == Some(7));
+    has_files(rt, terms, files);
+    opens(rt, alloc, terms, ("M1", 500_000, 100_000, 50_000));
+    opens(rt, alloc, terms, ("M2", 0, 0, 0));
+}
+
+fn check_without_balances(rt: &impl Abort, alloc: Global, plan: &Plan) {
+    let terms = terms(rt, alloc, plan, &[CLAIMS], None, None);
+    check_plain(rt, alloc, &terms);
+}
+
+fn check_plain(rt: &impl Abort, alloc: Global, terms: &Terms) {
     assert!(rt; terms.cutoff().is_none());
-    assert!(rt; opens(&rt, rt.alloc(), &terms, ("M1", 0, 0, 0)).is_ok());
+    opens(rt, alloc, terms, ("M1", 0, 0, 0));
+}
+
+// The gate runs it once for each of its allocations, with that one refused.
+#[test]
+fn terms_of_texts_though_memory_is_refused(rt: HostRuntime) {
+    check(&rt, rt.alloc(), PLAN, Tried::Terms);
 }
 
 #[test]
 fn as_many_files_as_a_run_may_have(rt: HostRuntime) {
-    let plan = plan(&rt, rt.alloc(), PLAN);
-    check_numbers_of_files(&rt, rt.alloc(), &plan, &TOO_MANY);
+    check(&rt, rt.alloc(), PLAN, Tried::NumbersOfFiles);
 }
 
 fn check_numbers_of_files(rt: &impl Abort, alloc: Global, plan: &Plan, files: &[&[u8]]) {
@@ -176,46 +228,46 @@ const REFUSED: [(&[&[u8]], &[u8], TermsFault); 4] = [
     ),
 ];
 
-#[test]
-fn faults_come_in_order(rt: HostRuntime) {
-    check_no_roles(&rt, rt.alloc());
-    let plan = plan(&rt, rt.alloc(), PLAN);
+fn check_faults(rt: &impl Abort, alloc: Global, plan: &Plan) {
     for (files, balances, fault) in &REFUSED {
-        let refused = fault_of(rt.alloc(), &plan, files, Some(balances));
+        let refused = fault_of(alloc, plan, files, Some(balances));
         assert!(rt; refused == Some(*fault));
     }
 }
 
-fn check_no_roles(rt: &impl Abort, alloc: Global) {
-    let plan = plan(rt, alloc, NO_ROLES);
-    let refused = fault_of(alloc, &plan, &[], Some(TWICE));
+fn check_no_roles(rt: &impl Abort, alloc: Global, plan: &Plan) {
+    let refused = fault_of(alloc, plan, &[], Some(TWICE));
     assert!(rt; refused == Some(TermsFault::NoRoles));
 }
 
 #[test]
-fn a_file_that_is_too_large(rt: HostRuntime) {
-    let plan = plan(&rt, rt.alloc(), PLAN);
-    assert!(rt; check_too_large(&rt, rt.alloc(), &plan).is_ok());
+fn faults_come_in_order(rt: HostRuntime) {
+    check(&rt, rt.alloc(), NO_ROLES, Tried::NoRoles);
+    check(&rt, rt.alloc(), PLAN, Tried::Faults);
 }
 
-fn check_too_large(rt: &impl Abort, alloc: Global, plan: &Plan) -> Result<(), AllocError> {
-    let text = too_large(alloc, CLAIMS)?;
+fn check_large_file(rt: &impl Abort, alloc: Global, plan: &Plan) {
+    let text = too_large(rt, alloc, CLAIMS);
     assert!(rt; text.len() == 16_777_217);
     let refused = fault_of(alloc, plan, &[&text, NO_CODE], None);
     let fault = FileFault::TooLarge;
     assert!(rt; refused == Some(TermsFault::File { provider: 1, fault }));
-    Ok(())
+}
+
+#[test]
+fn a_file_that_is_too_large(rt: HostRuntime) {
+    check(&rt, rt.alloc(), PLAN, Tried::LargeFile);
 }
 
 // The text with as many empty lines that it has one byte more than a file may have.
-fn too_large(alloc: Global, text: &[u8]) -> Result<Vec<u8>, AllocError> {
+fn too_large(rt: &impl Abort, alloc: Global, text: &[u8]) -> Vec<u8> {
     let size = FILE_LIMIT_BYTES.saturating_add(1);
-    let mut large = Vec::with_capacity(alloc, size)?;
-    large.extend_from_slice(text)?;
+    let mut large = Vec::with_capacity(alloc, size).expect(rt, "memory for a file");
+    large.extend_from_slice(text).expect(rt, "room");
     for _ in 0..size.saturating_sub(text.len()) {
-        large.push(b'\n')?;
+        large.push(b'\n').expect(rt, "room");
     }
-    Ok(large)
+    large
 }
 
 /// Faults, with their numbers and texts.
@@ -239,56 +291,50 @@ const FAULTS: [(TermsFault, u8, &str); 5] = [
 ];
 
 #[test]
-fn faults_have_numbers_and_texts(rt: HostRuntime) -> Result<(), Fail> {
+fn faults_have_numbers_and_texts(rt: HostRuntime) {
     for (fault, number, wanted) in &FAULTS {
         assert!(rt; fault.number() == *number);
-        let mut text = String::new(rt.alloc());
-        write!(text, "{fault}")?;
-        assert!(rt; text.as_str() == *wanted);
-    }
-    Ok(())
-}
-
-#[test]
-fn terms_or_no_memory(rt: HostRuntime) {
-    if let Ok(plan) = read_plan(rt.alloc(), PLAN) {
-        check_terms_or_no_memory(&rt, rt.alloc(), &plan, &[CLAIMS, CLAIMS]);
+        let told = format!(in rt.alloc(); "{fault}").expect(&rt, "memory for a text");
+        assert!(rt; told.as_str() == *wanted);
     }
 }
 
-fn check_terms_or_no_memory(rt: &impl Abort, alloc: Global, plan: &Plan, files: &[&[u8]]) {
-    match Terms::new(alloc, plan, files, Some(BALANCES), None) {
-        Ok(terms) => {
-            let _opened = opens(rt, alloc, &terms, ("M1", 500_000, 100_000, 50_000));
-        }
-        Err(fault) => assert!(rt; fault == TermsFault::OutOfMemory),
+// Whether a claim comes next, and not the end of the file.
+fn has_claim(rt: &impl Abort, rows: &mut Rows) -> bool {
+    match rows.next().expect(rt, "memory for a row") {
+        Some(Row::Good { .. }) => true,
+        Some(Row::Bad { .. }) => panic!(rt; "a claim"),
+        None => false,
     }
 }
 
-// Compares how many rows each provider's file has.
-fn has_rows(
-    rt: &impl Abort,
-    alloc: Global,
-    terms: &Terms,
-    wanted: &[usize],
-) -> Result<(), AllocError> {
-    assert!(rt; terms.files().len() == wanted.len());
-    for place in 0..wanted.len() {
-        assert!(rt; place < terms.files().len());
-        let mut rows = terms.rows(alloc, place + 1)?;
-        for _ in 0..wanted[place] {
-            assert!(rt; matches!(rows.next()?, Some(Row::Good { .. })));
-        }
-        assert!(rt; rows.next()?.is_none());
+// A provider's file has so many claims, and nothing else.
+fn check_rows(rt: &impl Abort, alloc: Global, terms: &Terms, provider: usize, count: usize) {
+    let files = terms.files();
+    assert!(rt; 1 <= provider && provider <= files.len());
+    let mut rows = terms
+        .rows(alloc, provider)
+        .expect(rt, "memory for a reader");
+    for _ in 0..count {
+        assert!(rt; has_claim(rt, &mut rows));
     }
-    Ok(())
+    assert!(rt; !has_claim(rt, &mut rows));
+}
+
+fn check_rows_of_files(rt: &impl Abort, alloc: Global, plan: &Plan) {
+    let terms = terms(rt, alloc, plan, &[CLAIMS, OTHER_CLAIMS], None, None);
+    check_each(rt, alloc, &terms);
+}
+
+fn check_each(rt: &impl Abort, alloc: Global, terms: &Terms) {
+    assert!(rt; terms.files().len() == 2);
+    for _ in 0..2 {
+        check_rows(rt, alloc, terms, 1, 1);
+        check_rows(rt, alloc, terms, 2, 0);
+    }
 }
 
 #[test]
 fn rows_of_each_file_begin_anew(rt: HostRuntime) {
-    let plan = plan(&rt, rt.alloc(), PLAN);
-    let files = [CLAIMS, OTHER_CLAIMS];
-    let terms = terms(&rt, rt.alloc(), &plan, &files, None, None);
-    assert!(rt; has_rows(&rt, rt.alloc(), &terms, &[1, 0]).is_ok());
-    assert!(rt; has_rows(&rt, rt.alloc(), &terms, &[1, 0]).is_ok());
+    check(&rt, rt.alloc(), PLAN, Tried::Rows);
 }

@@ -1,11 +1,10 @@
 //! Terms of a plan that keeps accumulators for families.
-use super::{fault_of, plan, terms};
+use super::{Tried, check, claim, fault_of, terms};
 use claim_terms::{Terms, TermsFault};
-use dtable::Sequence;
-use feel_tests::{Day, TEXT_LIMIT_BYTES, Text};
+use dtable::Plan;
 use intake_csv::{BalanceFault, RowCause, RowFault};
-use settlement::{Acc, Claim};
-use std::alloc::{AllocError, Global};
+use settlement::Acc;
+use std::alloc::Global;
 use std::process::Abort;
 
 /// A plan that pays what is billed, up to 5.00.
@@ -67,25 +66,6 @@ const OPENINGS: [(i32, &str, &str, [i64; 4]); 6] = [
     (IN_2025, "F1", "M1", [0, 0, 0, 0]),
 ];
 
-// A claim of a member of a family.
-fn claim(
-    rt: &impl Abort,
-    alloc: Global,
-    day: i32,
-    family: &str,
-    member: &str,
-) -> Result<Claim, AllocError> {
-    assert!(rt; family.len() <= TEXT_LIMIT_BYTES && member.len() <= TEXT_LIMIT_BYTES);
-    Ok(Claim {
-        id: Text::new(alloc, "c1")?,
-        family: Some(Text::new(alloc, family)?),
-        member: Text::new(alloc, member)?,
-        service: Day::from_epoch_day(day).expect(rt, "a day"),
-        billed: Acc::zero().met,
-        fields: Sequence::new(alloc),
-    })
-}
-
 fn sums_of(acc: Acc) -> [i64; 4] {
     [
         acc.met.amount().units(),
@@ -95,23 +75,24 @@ fn sums_of(acc: Acc) -> [i64; 4] {
     ]
 }
 
-fn check_openings(rt: &impl Abort, alloc: Global, terms: &Terms) -> Result<(), AllocError> {
+fn check_each(rt: &impl Abort, alloc: Global, terms: &Terms) {
     for (day, family, member, wanted) in &OPENINGS {
-        let claim = claim(rt, alloc, *day, family, member)?;
+        let claim = claim(rt, alloc, *day, Some(family), member);
         assert!(rt;
             sums_of(terms.opening(&claim)) == *wanted,
             "{family} {member}"
         );
     }
-    Ok(())
+}
+
+pub fn check_openings(rt: &impl Abort, alloc: Global, plan: &Plan) {
+    let terms = terms(rt, alloc, plan, &[CLAIMS], Some(BALANCES), None);
+    check_each(rt, alloc, &terms);
 }
 
 #[test]
 fn openings_of_families(rt: HostRuntime) {
-    let plan = plan(&rt, rt.alloc(), PLAN);
-    let files = [CLAIMS];
-    let terms = terms(&rt, rt.alloc(), &plan, &files, Some(BALANCES), None);
-    assert!(rt; check_openings(&rt, rt.alloc(), &terms).is_ok());
+    check(&rt, rt.alloc(), PLAN, Tried::Openings);
 }
 
 /// Balances that make no terms, with the column and the cause that the second record is told with.
@@ -121,15 +102,18 @@ const REFUSED: [(&[u8], usize, RowCause); 3] = [
     (TWICE, 2, RowCause::Repeated),
 ];
 
-#[test]
-fn sums_of_families_in_range(rt: HostRuntime) {
-    let plan = plan(&rt, rt.alloc(), PLAN);
+pub fn check_sums(rt: &impl Abort, alloc: Global, plan: &Plan) {
     for (balances, column, cause) in &REFUSED {
         let fault = RowFault {
             column: *column,
             cause: *cause,
         };
-        let refused = fault_of(rt.alloc(), &plan, &[CLAIMS], Some(balances));
+        let refused = fault_of(alloc, plan, &[CLAIMS], Some(balances));
         assert!(rt; refused == Some(TermsFault::Balances(BalanceFault::Row { number: 2, fault })));
     }
+}
+
+#[test]
+fn sums_of_families_in_range(rt: HostRuntime) {
+    check(&rt, rt.alloc(), PLAN, Tried::Sums);
 }
