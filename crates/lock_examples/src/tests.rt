@@ -4,37 +4,34 @@ mod locks;
 use crate::{
     Copies, CopyPass, Names, Visitors, agree, earlier, note, second_finds_what_the_first_left,
 };
-use std::test::Fail;
 use turn_lock::{SpinLock, TicketLock};
 
 #[test]
-fn a_lock_of_copies_loses_what_another_pass_left(rt: HostRuntime) -> Result<(), Fail> {
+fn a_lock_of_copies_loses_what_another_pass_left(rt: HostRuntime) {
     let opening = Visitors { count: 3 };
-    let (lock, pass) = SpinLock::new(rt.alloc(), opening)?;
+    let (lock, pass) = SpinLock::new(rt.alloc(), opening).expect(&rt, "memory for a lock");
     assert!(rt; second_finds_what_the_first_left(&rt, &lock, pass));
-    let (lock, pass) = TicketLock::new(rt.alloc(), opening)?;
+    let (lock, pass) = TicketLock::new(rt.alloc(), opening).expect(&rt, "memory for a lock");
     assert!(rt; second_finds_what_the_first_left(&rt, &lock, pass));
     let pass = CopyPass::new(opening);
     assert!(rt; !second_finds_what_the_first_left(&rt, &Copies, pass));
-    Ok(())
 }
 
 #[test]
-fn two_callers_agree_who_came_earlier(rt: HostRuntime) -> Result<(), Fail> {
+fn two_callers_agree_who_came_earlier(rt: HostRuntime) {
     let names = Names {
         noted: Vec::new(rt.alloc()),
     };
-    let (lock, pass) = TicketLock::new(rt.alloc(), names)?;
+    let (lock, pass) = TicketLock::new(rt.alloc(), names).expect(&rt, "memory for a lock");
     let (a, b) = lock.split(pass);
     let Some(nine) = note(&rt, &lock, a, 9) else {
-        return Err(Fail::new("9 was not noted"));
+        panic!(rt; "9 was not noted");
     };
     let Some(five) = note(&rt, &lock, b, 5) else {
-        return Err(Fail::new("5 was not noted"));
+        panic!(rt; "5 was not noted");
     };
     let (five, nine) = agree(&lock, five, nine);
     assert_eq!(rt; earlier(&five, &nine), 9);
     assert_eq!(rt; earlier(&nine, &five), 9);
     assert_eq!(rt; (nine.place, five.place), (0, 1));
-    Ok(())
 }

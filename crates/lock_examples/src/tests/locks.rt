@@ -2,15 +2,15 @@
 
 ghost use Rattle.std.specs.Prelude.{IfOk};
 ghost use Rattle.lock_examples.specs.Lists.{GoesOn, same_list, longer_list, either_list};
+ghost use Rattle.turn_lock.specs.SpinShown.{IsPassOf as IsSpinPassOf};
 ghost use Rattle.turn_lock.specs.TicketShown.{IsPassOf};
 
-use std::alloc::{AllocError, Global};
+use std::alloc::Global;
 use std::process::Abort;
 use std::sync::Wait;
-use std::test::Fail;
 use std::thread;
 use std::thread::Threads;
-use turn_lock::{DrawFault, Growing, Pass, Raced, Section, SpinLock, TicketLock, Worn};
+use turn_lock::{DrawFault, Growing, Pass, Raced, Section, SpinLock, SpinPass, TicketLock, Worn};
 
 #[derive(Clone, Copy, PartialEq, Debug)]
 struct Entry {
@@ -60,28 +60,58 @@ impl Book for Entries {
     }
 }
 
+// A spin lock behind which nothing was appended. What is refused memory is asked for once more.
+fn spin_lock(rt: &impl Abort, alloc: Global) -> (SpinLock<Entries>, SpinPass<Entries>)
+    ensures { IsSpinPassOf result.0 result.1 }
+{
+    match SpinLock::new(alloc, Entries::new(alloc)) {
+        Ok(made) => made,
+        Err(_) => SpinLock::new(alloc, Entries::new(alloc)).expect(rt, "memory for a lock"),
+    }
+}
+
+fn ticket_lock(rt: &impl Abort, alloc: Global) -> (TicketLock<Entries>, Pass<Entries>)
+    ensures { IsPassOf result.0 result.1 }
+{
+    match TicketLock::new(alloc, Entries::new(alloc)) {
+        Ok(made) => made,
+        Err(_) => TicketLock::new(alloc, Entries::new(alloc)).expect(rt, "memory for a lock"),
+    }
+}
+
+// A ticket lock whose first ticket is this one.
+fn ticket_lock_at(
+    rt: &impl Abort,
+    alloc: Global,
+    first: u64,
+) -> (TicketLock<Entries>, Pass<Entries>)
+    ensures { IsPassOf result.0 result.1 }
+{
+    TicketLock::new_at(alloc, Entries::new(alloc), first).expect(rt, "memory for a lock")
+}
+
 fn line(number: u64) -> Entry {
     Entry { thread: 0, number }
 }
 
 #[test]
-fn tickets_are_served_in_their_order(rt: HostRuntime) -> Result<(), Fail> {
-    let (lock, pass) = TicketLock::new(rt.alloc(), Entries::new(rt.alloc()))?;
+fn tickets_are_served_in_their_order(rt: HostRuntime) {
+    let (lock, pass) = ticket_lock(&rt, rt.alloc());
     let (a, b) = lock.split(pass);
     let Ok(a) = lock.look(a) else {
-        return Err(Fail::new("the first look is worn"));
+        panic!(rt; "the first look is worn");
     };
     assert_eq!(rt; a.next(), 0);
     let Ok(b) = lock.try_draw(b) else {
-        return Err(Fail::new("no ticket for b"));
+        panic!(rt; "no ticket for b");
     };
     assert_eq!(rt; b.ticket(), 0);
     let Err((Raced { next }, a)) = lock.draw(a) else {
-        return Err(Fail::new("a has drawn the ticket of b"));
+        panic!(rt; "a has drawn the ticket of b");
     };
     assert_eq!(rt; next, 1);
     let Ok(a) = lock.try_draw(a) else {
-        return Err(Fail::new("no ticket for a"));
+        panic!(rt; "no ticket for a");
     };
     assert_eq!(rt; a.ticket(), 1);
     let (mut value, b) = lock.enter(&rt, b);
@@ -93,107 +123,103 @@ fn tickets_are_served_in_their_order(rt: HostRuntime) -> Result<(), Fail> {
     assert_eq!(rt; a.ticket(), 1);
     let value = lock.retire(a, value);
     assert_eq!(rt; value.entries(), [line(7)].as_slice());
-    Ok(())
 }
 
 #[test]
-fn spin_lock_gives_the_value_left(rt: HostRuntime) -> Result<(), Fail> {
-    let (lock, pass) = SpinLock::new(rt.alloc(), Entries::new(rt.alloc()))?;
+fn spin_lock_gives_the_value_left(rt: HostRuntime) {
+    let (lock, pass) = spin_lock(&rt, rt.alloc());
     let Ok((mut value, holder)) = lock.lock(&rt, pass) else {
-        return Err(Fail::new("a spin lock is worn"));
+        panic!(rt; "a spin lock is worn");
     };
     assert!(rt; value.append(line(7)));
     let pass = lock.leave(holder, value);
     let Ok((value, holder)) = lock.lock(&rt, pass) else {
-        return Err(Fail::new("a spin lock is worn"));
+        panic!(rt; "a spin lock is worn");
     };
     let value = lock.retire(holder, value);
     assert_eq!(rt; value.entries(), [line(7)].as_slice());
-    Ok(())
 }
 
 // Each call that would draw a ticket answers `Worn`, and the pass comes back.
-fn refused<R: Wait>(
+fn refused<R: Wait + Abort>(
     rt: &R,
     lock: &TicketLock<Entries>,
     pass: Pass<Entries>,
-) -> Result<Pass<Entries>, Fail>
+) -> Pass<Entries>
     requires { IsPassOf lock.now pass }
-    ensures { IfOk result (λ p. IsPassOf lock.now p) }
+    ensures { IsPassOf lock.now result }
 {
     let Err((Worn, pass)) = lock.look(pass) else {
-        return Err(Fail::new("a look of a worn pass"));
+        panic!(rt; "a look of a worn pass");
     };
     let Err((DrawFault::Worn, pass)) = lock.try_draw(pass) else {
-        return Err(Fail::new("a draw of a worn pass"));
+        panic!(rt; "a draw of a worn pass");
     };
     match lock.lock(rt, pass) {
         Ok((value, holder)) => {
             drop(lock.retire(holder, value));
-            Err(Fail::new("a section of a worn pass"))
+            panic!(rt; "a section of a worn pass")
         }
-        Err((Worn, pass)) => Ok(pass),
+        Err((Worn, pass)) => pass,
     }
 }
 
 #[test]
-fn the_last_ticket_wears_the_lock(rt: HostRuntime) -> Result<(), Fail> {
+fn the_last_ticket_wears_the_lock(rt: HostRuntime) {
     let first = u64::MAX - 1;
-    let (lock, pass) = TicketLock::new_at(rt.alloc(), Entries::new(rt.alloc()), first)?;
+    let (lock, pass) = ticket_lock_at(&rt, rt.alloc(), first);
     let Ok((mut value, holder)) = lock.lock(&rt, pass) else {
-        return Err(Fail::new("the last ticket is refused"));
+        panic!(rt; "the last ticket is refused");
     };
     assert_eq!(rt; holder.ticket(), first);
     value.append(line(7));
     let pass = lock.leave(holder, value);
-    let pass = refused(&rt, &lock, pass)?;
-    refused(&rt, &lock, pass)?;
-    let (lock, pass) = TicketLock::new_at(rt.alloc(), Entries::new(rt.alloc()), u64::MAX)?;
-    refused(&rt, &lock, pass)?;
-    Ok(())
+    let pass = refused(&rt, &lock, pass);
+    refused(&rt, &lock, pass);
+    let (lock, pass) = ticket_lock_at(&rt, rt.alloc(), u64::MAX);
+    refused(&rt, &lock, pass);
 }
 
 #[test]
-fn tickets_go_on_behind_a_retired_holder(rt: HostRuntime) -> Result<(), Fail> {
-    let (lock, pass) = TicketLock::new(rt.alloc(), Entries::new(rt.alloc()))?;
+fn tickets_go_on_behind_a_retired_holder(rt: HostRuntime) {
+    let (lock, pass) = ticket_lock(&rt, rt.alloc());
     let (a, b) = lock.split(pass);
     let Ok((value, a)) = lock.lock(&rt, a) else {
-        return Err(Fail::new("the first ticket is refused"));
+        panic!(rt; "the first ticket is refused");
     };
     assert_eq!(rt; a.ticket(), 0);
     let value = lock.retire(a, value);
     assert_eq!(rt; value.entries().len(), 0);
     let Ok(b) = lock.look(b) else {
-        return Err(Fail::new("no look behind a retired holder"));
+        panic!(rt; "no look behind a retired holder");
     };
     assert_eq!(rt; b.next(), 1);
     let Ok(b) = lock.draw(b) else {
-        return Err(Fail::new("no ticket behind a retired holder"));
+        panic!(rt; "no ticket behind a retired holder");
     };
     assert_eq!(rt; b.ticket(), 1);
-    Ok(())
 }
 
-// The gate runs it once for each of its allocations, with that one refused: the call says so, and is made again.
+fn make_a_spin_lock<R: Wait + Abort>(rt: &R, alloc: Global) {
+    let (lock, pass) = spin_lock(rt, alloc);
+    let Ok((value, holder)) = lock.lock(rt, pass) else {
+        panic!(rt; "a new spin lock is worn");
+    };
+    assert!(rt; lock.retire(holder, value).entries().is_empty());
+}
+
+fn make_a_ticket_lock<R: Wait + Abort>(rt: &R, alloc: Global) {
+    let (lock, pass) = ticket_lock(rt, alloc);
+    let Ok((value, holder)) = lock.lock(rt, pass) else {
+        panic!(rt; "a new ticket lock is worn");
+    };
+    assert!(rt; lock.retire(holder, value).entries().is_empty());
+}
+
 #[test]
-fn locks_are_made_or_no_memory(rt: HostRuntime) -> Result<(), Fail> {
-    let (lock, pass) = match SpinLock::new(rt.alloc(), Entries::new(rt.alloc())) {
-        Ok(made) => made,
-        Err(AllocError) => SpinLock::new(rt.alloc(), Entries::new(rt.alloc()))?,
-    };
-    let Ok((value, holder)) = lock.lock(&rt, pass) else {
-        return Err(Fail::new("a new spin lock is worn"));
-    };
-    assert_eq!(rt; lock.retire(holder, value).entries().len(), 0);
-    let (lock, pass) = match TicketLock::new(rt.alloc(), Entries::new(rt.alloc())) {
-        Ok(made) => made,
-        Err(AllocError) => TicketLock::new(rt.alloc(), Entries::new(rt.alloc()))?,
-    };
-    let Ok((value, holder)) = lock.lock(&rt, pass) else {
-        return Err(Fail::new("a new ticket lock is worn"));
-    };
-    assert_eq!(rt; lock.retire(holder, value).entries().len(), 0);
-    Ok(())
+fn locks_are_made_though_memory_is_refused(rt: HostRuntime) {
+    make_a_spin_lock(&rt, rt.alloc());
+    make_a_ticket_lock(&rt, rt.alloc());
 }
 
 // One section for each entry of a thread.
@@ -292,30 +318,44 @@ fn assert_each_in_order<A: Abort>(rt: &A, entries: &[Entry], threads: u64, count
     }
 }
 
-#[test]
-fn threads_append_through_a_spin_lock(rt: HostRuntime) -> Result<(), Fail> {
-    for (threads, count) in [(2, 5000), (8, 1250)] {
-        let (lock, pass) = SpinLock::new(rt.alloc(), Entries::new(rt.alloc()))?;
-        let Ok(value) = left_by_threads(&rt, &lock, pass, threads, count) else {
-            return Err(Fail::new("a spin lock is worn"));
-        };
-        assert_eq!(rt; value.entries().len(), 10_000);
-        assert_each_in_order(&rt, value.entries(), threads, count);
-    }
-    Ok(())
+fn append_through_a_spin_lock<R: Threads + Wait + Abort + Sync>(
+    rt: &R,
+    alloc: Global,
+    threads: u64,
+    count: u64,
+) {
+    let (lock, pass) = spin_lock(rt, alloc);
+    let Ok(value) = left_by_threads(rt, &lock, pass, threads, count) else {
+        panic!(rt; "a spin lock is worn");
+    };
+    assert!(rt; value.entries().len() == 10_000);
+    assert_each_in_order(rt, value.entries(), threads, count);
 }
 
 #[test]
-fn threads_append_through_a_ticket_lock(rt: HostRuntime) -> Result<(), Fail> {
-    for (threads, count) in [(2, 5000), (8, 1250)] {
-        let (lock, pass) = TicketLock::new(rt.alloc(), Entries::new(rt.alloc()))?;
-        let Ok(value) = left_by_threads(&rt, &lock, pass, threads, count) else {
-            return Err(Fail::new("a new ticket lock is worn"));
-        };
-        assert_eq!(rt; value.entries().len(), 10_000);
-        assert_each_in_order(&rt, value.entries(), threads, count);
-    }
-    Ok(())
+fn threads_append_through_a_spin_lock(rt: HostRuntime) {
+    append_through_a_spin_lock(&rt, rt.alloc(), 2, 5000);
+    append_through_a_spin_lock(&rt, rt.alloc(), 8, 1250);
+}
+
+fn append_through_a_ticket_lock<R: Threads + Wait + Abort + Sync>(
+    rt: &R,
+    alloc: Global,
+    threads: u64,
+    count: u64,
+) {
+    let (lock, pass) = ticket_lock(rt, alloc);
+    let Ok(value) = left_by_threads(rt, &lock, pass, threads, count) else {
+        panic!(rt; "a new ticket lock is worn");
+    };
+    assert!(rt; value.entries().len() == 10_000);
+    assert_each_in_order(rt, value.entries(), threads, count);
+}
+
+#[test]
+fn threads_append_through_a_ticket_lock(rt: HostRuntime) {
+    append_through_a_ticket_lock(&rt, rt.alloc(), 2, 5000);
+    append_through_a_ticket_lock(&rt, rt.alloc(), 8, 1250);
 }
 
 #[test]
@@ -330,29 +370,24 @@ fn each_law_is_called(_rt: HostRuntime) {
 }
 
 // One section, which finds so many entries, and in which this one is appended, if there is one.
-fn in_section<R: Wait>(
+fn in_section<R: Wait + Abort>(
     rt: &R,
     lock: &TicketLock<Entries>,
     pass: Pass<Entries>,
     expected: usize,
     entry: Option<Entry>,
-) -> Result<Pass<Entries>, Fail>
+) -> Pass<Entries>
     requires { IsPassOf lock.now pass }
-    ensures { IfOk result (λ p. IsPassOf lock.now p) }
+    ensures { IsPassOf lock.now result }
 {
     let Ok((mut value, holding)) = lock.lock(rt, pass) else {
-        return Err(Fail::new("a lock with tickets left is worn"));
+        panic!(rt; "a lock with tickets left is worn");
     };
-    let found = value.entries().len();
+    assert!(rt; value.entries().len() == expected);
     if let Some(entry) = entry {
         value.append(entry);
     }
-    let pass = lock.leave(holding, value);
-    if found == expected {
-        Ok(pass)
-    } else {
-        Err(Fail::new("a section found another number of entries"))
-    }
+    lock.leave(holding, value)
 }
 
 // Meets, of which the caller asks only that both passes come back.
@@ -368,39 +403,37 @@ fn meet(
 }
 
 #[test]
-fn two_passes_meet(rt: HostRuntime) -> Result<(), Fail> {
-    let (lock, pass) = TicketLock::new(rt.alloc(), Entries::new(rt.alloc()))?;
+fn two_passes_meet(rt: HostRuntime) {
+    let (lock, pass) = ticket_lock(&rt, rt.alloc());
     let (a, b) = lock.split(pass);
-    let a = in_section(&rt, &lock, a, 0, Some(line(7)))?;
+    let a = in_section(&rt, &lock, a, 0, Some(line(7)));
     let (a, b) = meet(&lock, a, b);
-    let b = in_section(&rt, &lock, b, 1, None)?;
-    let b = in_section(&rt, &lock, b, 1, Some(line(8)))?;
+    let b = in_section(&rt, &lock, b, 1, None);
+    let b = in_section(&rt, &lock, b, 1, Some(line(8)));
     let (a, b) = meet(&lock, a, b);
     drop(b);
     let Ok((value, holding)) = lock.lock(&rt, a) else {
-        return Err(Fail::new("a lock with tickets left is worn"));
+        panic!(rt; "a lock with tickets left is worn");
     };
     assert_eq!(rt; holding.ticket(), 3);
     let value = lock.retire(holding, value);
     assert_eq!(rt; value.entries(), [line(7), line(8)].as_slice());
-    Ok(())
 }
 
 #[test]
-fn two_worn_passes_meet(rt: HostRuntime) -> Result<(), Fail> {
-    let (lock, pass) = TicketLock::new_at(rt.alloc(), Entries::new(rt.alloc()), u64::MAX)?;
+fn two_worn_passes_meet(rt: HostRuntime) {
+    let (lock, pass) = ticket_lock_at(&rt, rt.alloc(), u64::MAX);
     let (a, b) = lock.split(pass);
     let Err((Worn, a)) = lock.look(a) else {
-        return Err(Fail::new("a look of a worn pass"));
+        panic!(rt; "a look of a worn pass");
     };
     let (a, b) = meet(&lock, a, b);
     let Err((Worn, a)) = lock.look(a) else {
-        return Err(Fail::new("a look of a worn pass that has met another"));
+        panic!(rt; "a look of a worn pass that has met another");
     };
     let Err((Worn, b)) = lock.look(b) else {
-        return Err(Fail::new("a look of a pass that has met a worn one"));
+        panic!(rt; "a look of a pass that has met a worn one");
     };
     let (a, b) = meet(&lock, b, a);
     assert!(rt; lock.look(a).is_err() && lock.look(b).is_err());
-    Ok(())
 }
