@@ -4,8 +4,8 @@ use crate::testing::{
 };
 use adjudicate::{do_check, do_harmful_check};
 use fixpoint::Out;
-use std::alloc::{AllocError, Global};
-use std::test::Fail;
+use std::alloc::Global;
+use std::process::Abort;
 
 mod regions;
 
@@ -122,50 +122,40 @@ fn a_text_that_is_no_plan_is_refused(rt: HostRuntime) {
 }
 
 // A writer that has room for so many bytes of the text gets these.
-fn fills(
-    alloc: Global,
-    limit: usize,
-    width: usize,
-    when_full: WhenFull,
-) -> Result<bool, AllocError> {
-    let mut out = Out::new(Narrow::new(alloc, limit, width, when_full)?);
+fn fills(rt: &impl Abort, alloc: Global, limit: usize, width: usize, when_full: WhenFull) -> bool {
+    let mut out = Out::new(Narrow::new(rt, alloc, limit, width, when_full));
     let result = do_check(alloc, TWO_GAPS.as_bytes(), &mut out);
     if limit < TOLD_GAPS.len() {
-        Ok(is_cut(result, out, TOLD_GAPS, limit))
+        is_cut(result, out, TOLD_GAPS, limit)
     } else {
-        Ok(is_whole(result, out, TOLD_GAPS))
+        is_whole(result, out, TOLD_GAPS)
     }
 }
 
 #[test]
-fn a_full_writer_has_the_first_bytes(rt: HostRuntime) -> Result<(), Fail> {
+fn a_full_writer_has_the_first_bytes(rt: HostRuntime) {
     for writer in WRITERS {
         let (width, when_full) = *writer;
         for limit in 0..50 {
-            assert!(rt; fills(rt.alloc(), limit, width, when_full)?, "{limit}");
+            assert!(rt; fills(&rt, rt.alloc(), limit, width, when_full), "{limit}");
         }
     }
-    Ok(())
 }
 
 #[test]
-fn a_write_fault_has_its_line(rt: HostRuntime) -> Result<(), Fail> {
+fn a_write_fault_has_its_line(rt: HostRuntime) {
     let alloc = rt.alloc();
-    let mut out = Out::new(Narrow::new(alloc, 5, 64, WhenFull::Fails)?);
+    let mut out = Out::new(Narrow::new(&rt, alloc, 5, 64, WhenFull::Fails));
     let stop = do_check(alloc, TWO_GAPS.as_bytes(), &mut out).expect_err(&rt, "a refusal");
     assert!(rt; says(&stop, "write fault at 5\n", 3));
     assert!(rt; out.into_inner().has_first("gap t", 5));
-    Ok(())
 }
 
 /// Run it with each allocation refused in turn: all of them but the writer's are the command's.
 #[test]
 fn a_check_or_no_memory(rt: HostRuntime) {
     let alloc = rt.alloc();
-    let Ok(writer) = Narrow::new(alloc, 64, 64, WhenFull::Fails) else {
-        return;
-    };
-    let mut out = Out::new(writer);
+    let mut out = Out::new(Narrow::new(&rt, alloc, 64, 64, WhenFull::Fails));
     let result = do_check(alloc, TWO_GAPS.as_bytes(), &mut out);
     assert!(rt; is_whole_or_none(result, out, TOLD_GAPS));
 }

@@ -2,9 +2,8 @@
 use crate::testing::{Narrow, WhenFull, is_cut, is_printed, is_refused, is_whole, says};
 use adjudicate::{RunInput, Stop, WORKERS_LIMIT, do_run};
 use fixpoint::Out;
-use std::alloc::AllocError;
+use std::process::Abort;
 use std::sync::Wait;
-use std::test::Fail;
 use std::thread::Threads;
 use worked_examples::{
     balances, both_files, empty_remittance, header, health_plan, late_remittance, remittance,
@@ -28,7 +27,7 @@ b3,M2,2024-01-01,1.00,X
 ];
 
 /// Four of their claims are accepted: three and one, two and two, or one and three.
-const SPLITS: &[&str] = &[
+const THREE_AND_ONE: &str =
     "provider,record,claim,member,status,reason,allowed,ded,copay,coins,share,paid,remarks\r
 1,1,a1,M1,denied,,0.00,0.00,0.00,0.00,0.00,0.00,\r
 1,2,a2,M1,denied,,0.00,0.00,0.00,0.00,0.00,0.00,\r
@@ -37,7 +36,9 @@ const SPLITS: &[&str] = &[
 2,2,b2,M2,late,,,,,,,,\r
 2,3,b3,M2,late,,,,,,,,\r
 total,4,,,,,0.00,0.00,0.00,0.00,0.00,0.00,\r
-",
+";
+
+const TWO_AND_TWO: &str =
     "provider,record,claim,member,status,reason,allowed,ded,copay,coins,share,paid,remarks\r
 1,1,a1,M1,denied,,0.00,0.00,0.00,0.00,0.00,0.00,\r
 1,2,a2,M1,denied,,0.00,0.00,0.00,0.00,0.00,0.00,\r
@@ -46,7 +47,9 @@ total,4,,,,,0.00,0.00,0.00,0.00,0.00,0.00,\r
 2,2,b2,M2,denied,,0.00,0.00,0.00,0.00,0.00,0.00,\r
 2,3,b3,M2,late,,,,,,,,\r
 total,4,,,,,0.00,0.00,0.00,0.00,0.00,0.00,\r
-",
+";
+
+const ONE_AND_THREE: &str =
     "provider,record,claim,member,status,reason,allowed,ded,copay,coins,share,paid,remarks\r
 1,1,a1,M1,denied,,0.00,0.00,0.00,0.00,0.00,0.00,\r
 1,2,a2,M1,late,,,,,,,,\r
@@ -55,8 +58,7 @@ total,4,,,,,0.00,0.00,0.00,0.00,0.00,0.00,\r
 2,2,b2,M2,denied,,0.00,0.00,0.00,0.00,0.00,0.00,\r
 2,3,b3,M2,denied,,0.00,0.00,0.00,0.00,0.00,0.00,\r
 total,4,,,,,0.00,0.00,0.00,0.00,0.00,0.00,\r
-",
-];
+";
 
 /// A member whose number has a quote, and records that are no claims: too few fields, no member, no such day, no whole
 /// cents, an amount below zero, and a member that is no UTF-8.
@@ -117,15 +119,25 @@ const WRITERS: &[(usize, WhenFull)] = &[
     (1_024, WhenFull::TakesNothing),
 ];
 
-// A run by the plan, with four workers.
-fn run_of<'a>(files: &'a [&'a [u8]]) -> RunInput<'a> {
+// A run without a cutoff.
+fn input_of<'a>(
+    plan: &'a [u8],
+    balances: Option<&'a [u8]>,
+    files: &'a [&'a [u8]],
+    workers: usize,
+) -> RunInput<'a> {
     RunInput {
-        plan: health_plan().as_bytes(),
-        balances: None,
+        plan,
+        balances,
         files,
         cutoff: None,
-        workers: 4,
+        workers,
     }
+}
+
+// A run by the plan, with four workers.
+fn run_of<'a>(files: &'a [&'a [u8]]) -> RunInput<'a> {
+    input_of(health_plan().as_bytes(), None, files, 4)
 }
 
 // The run gives this remittance.
@@ -135,48 +147,55 @@ fn gives<R: Threads + Wait + Sync + AllocGlobal>(rt: &R, input: RunInput, report
     is_printed(answer, out, report)
 }
 
+// The run of both files with so many workers gives this remittance.
+fn gives_at<R: Threads + Wait + Abort + Sync + AllocGlobal>(
+    rt: &R,
+    workers: usize,
+    cutoff: Option<u64>,
+    report: &str,
+) {
+    let mut input = run_of(both_files());
+    input.workers = workers;
+    input.cutoff = cutoff;
+    assert!(rt; gives(rt, input, report), "{workers} {report}");
+}
+
 #[test]
 fn two_files_in_one_remittance(rt: HostRuntime) {
-    for (workers, cutoff, report) in [
-        (1, None, remittance()),
-        (2, None, remittance()),
-        (4, None, remittance()),
-        (WORKERS_LIMIT, None, remittance()),
-        (4, Some(0), late_remittance()),
-        (4, Some(6), remittance()),
-        (4, Some(7), remittance()),
-        (4, Some(u64::MAX), remittance()),
-    ] {
-        let mut input = run_of(both_files());
-        input.workers = workers;
-        input.cutoff = cutoff;
-        assert!(rt; gives(&rt, input, report), "{workers} {report}");
-    }
+    gives_at(&rt, 1, None, remittance());
+    gives_at(&rt, 2, None, remittance());
+    gives_at(&rt, 4, None, remittance());
+    gives_at(&rt, WORKERS_LIMIT, None, remittance());
+    gives_at(&rt, 4, Some(0), late_remittance());
+    gives_at(&rt, 4, Some(6), remittance());
+    gives_at(&rt, 4, Some(7), remittance());
+    gives_at(&rt, 4, Some(u64::MAX), remittance());
+}
+
+// The run of one file gives this remittance.
+fn gives_of_file<R: Threads + Wait + Abort + Sync + AllocGlobal>(
+    rt: &R,
+    file: &[u8],
+    balances: Option<&[u8]>,
+    report: &str,
+) {
+    let files = [file];
+    let input = input_of(health_plan().as_bytes(), balances, &files, 2);
+    assert!(rt; gives(rt, input, report), "{report}");
 }
 
 #[test]
 fn files_in_many_forms(rt: HostRuntime) {
-    for (file, balances, report) in [
-        (header(), None, empty_remittance()),
-        (REFUSED, None, REFUSED_REPORT),
-        (REFUSED_BEHIND_A_MARK, None, REFUSED_REPORT),
-        (ONE_EACH, Some(balances()), ONE_EACH_REPORT),
-    ] {
-        let files = [file];
-        let mut input = run_of(&files);
-        input.balances = balances;
-        input.workers = 2;
-        assert!(rt; gives(&rt, input, report), "{report}");
-    }
+    gives_of_file(&rt, header(), None, empty_remittance());
+    gives_of_file(&rt, REFUSED, None, REFUSED_REPORT);
+    gives_of_file(&rt, REFUSED_BEHIND_A_MARK, None, REFUSED_REPORT);
+    gives_of_file(&rt, ONE_EACH, Some(balances()), ONE_EACH_REPORT);
 }
 
 fn is_a_split(report: &[u8]) -> bool {
-    for split in SPLITS {
-        if split.as_bytes() == report {
-            return true;
-        }
-    }
-    false
+    report == THREE_AND_ONE.as_bytes()
+        || report == TWO_AND_TWO.as_bytes()
+        || report == ONE_AND_THREE.as_bytes()
 }
 
 // A run that accepts four of six claims gives one of the remittances.
@@ -191,64 +210,56 @@ fn gives_a_split<R: Threads + Wait + Sync + AllocGlobal>(rt: &R, workers: usize)
 
 #[test]
 fn a_cutoff_leaves_claims_over(rt: HostRuntime) {
-    for workers in [1, 2, 4, WORKERS_LIMIT] {
-        assert!(rt; gives_a_split(&rt, workers), "{workers}");
-    }
+    assert!(rt; gives_a_split(&rt, 1));
+    assert!(rt; gives_a_split(&rt, 2));
+    assert!(rt; gives_a_split(&rt, 4));
+    assert!(rt; gives_a_split(&rt, WORKERS_LIMIT));
 }
 
 // A writer that has room for so many bytes of the report gets these.
-fn fills<R: Threads + Wait + Sync + AllocGlobal>(
+fn fills<R: Threads + Wait + Abort + Sync + AllocGlobal>(
     rt: &R,
     limit: usize,
     width: usize,
     when_full: WhenFull,
-) -> Result<bool, AllocError> {
-    let mut out = Out::new(Narrow::new(rt.alloc(), limit, width, when_full)?);
+) -> bool {
+    let mut out = Out::new(Narrow::new(rt, rt.alloc(), limit, width, when_full));
     let answer = do_run(rt, run_of(both_files()), &mut out);
     if limit < remittance().len() {
-        Ok(is_cut(answer, out, remittance(), limit))
+        is_cut(answer, out, remittance(), limit)
     } else {
-        Ok(is_whole(answer, out, remittance()))
+        is_whole(answer, out, remittance())
     }
 }
 
 #[test]
-fn a_full_writer_has_the_first_bytes(rt: HostRuntime) -> Result<(), Fail> {
+fn a_full_writer_has_the_first_bytes(rt: HostRuntime) {
     for writer in WRITERS {
         let (width, when_full) = *writer;
         for limit in LIMITS {
-            assert!(rt; fills(&rt, *limit, width, when_full)?, "{limit}");
+            assert!(rt; fills(&rt, *limit, width, when_full), "{limit}");
         }
-        assert!(rt;
-            fills(&rt, remittance().len(), width, when_full)?,
-            "{width}"
-        );
+        assert!(rt; fills(&rt, remittance().len(), width, when_full), "{width}");
     }
-    Ok(())
 }
 
 #[test]
-fn a_writer_is_full_at_each_length(rt: HostRuntime) -> Result<(), Fail> {
+fn a_writer_is_full_at_each_length(rt: HostRuntime) {
     for limit in 0..remittance().len() {
-        assert!(rt; fills(&rt, limit, 1_024, WhenFull::Fails)?, "{limit}");
-        assert!(rt;
-            fills(&rt, limit, 1_024, WhenFull::TakesNothing)?,
-            "{limit}"
-        );
+        assert!(rt; fills(&rt, limit, 1_024, WhenFull::Fails), "{limit}");
+        assert!(rt; fills(&rt, limit, 1_024, WhenFull::TakesNothing), "{limit}");
     }
-    Ok(())
 }
 
 #[test]
-fn a_write_fault_has_its_line(rt: HostRuntime) -> Result<(), Fail> {
-    let mut out = Out::new(Narrow::new(rt.alloc(), 37, 1_024, WhenFull::Fails)?);
+fn a_write_fault_has_its_line(rt: HostRuntime) {
+    let mut out = Out::new(Narrow::new(&rt, rt.alloc(), 37, 1_024, WhenFull::Fails));
     let stop = do_run(&rt, run_of(both_files()), &mut out).expect_err(&rt, "a refusal");
     assert!(rt; says(&stop, "write fault at 37\n", 3));
     assert!(rt;
         out.into_inner()
             .has_first("provider,record,claim,member,status,r", 37)
     );
-    Ok(())
 }
 
 // For want of memory a writer has got some first bytes of the report, and where a thread can't be started none.
@@ -263,10 +274,7 @@ fn lacks_memory(stop: &Stop, taken: &[u8]) -> bool {
 /// thread's differs from run to run; where a thread can't be started the answer says so, and nothing is written.
 #[test]
 fn a_run_or_no_memory(rt: HostRuntime) {
-    let Ok(writer) = Narrow::new(rt.alloc(), 1_024, 1_024, WhenFull::Fails) else {
-        return;
-    };
-    let mut out = Out::new(writer);
+    let mut out = Out::new(Narrow::new(&rt, rt.alloc(), 1_024, 1_024, WhenFull::Fails));
     match do_run(&rt, run_of(both_files()), &mut out) {
         Ok(()) => assert!(rt; out.into_inner().has_first(remittance(), remittance().len())),
         Err(stop) => {

@@ -8,7 +8,6 @@ use feel_tests::{CellCause, CellFault};
 use intake_csv::{BalanceFault, FileFault, RowCause, RowFault};
 use remit::{WriteCause, WriteFault};
 use std::alloc::AllocError;
-use std::test::Fail;
 
 // A plan's fault with each place the same.
 fn plan_fault(place: usize, cause: PlanCause) -> Stop {
@@ -31,7 +30,7 @@ fn the_longest_line_has_room(rt: HostRuntime) {
 }
 
 #[test]
-fn refusals_of_a_plan_and_its_values(rt: HostRuntime) -> Result<(), Fail> {
+fn refusals_of_a_plan_and_its_values(rt: HostRuntime) {
     let kind = plan_fault(0, PlanCause::Kind);
     assert!(rt; says(&kind, "plan fault 5 table 0 rule 0 column 0\n", 1));
     let argument = Stop::Argument {
@@ -39,9 +38,8 @@ fn refusals_of_a_plan_and_its_values(rt: HostRuntime) -> Result<(), Fail> {
         fault: ArgumentFault::RepeatedName,
     };
     assert!(rt; says(&argument, "argument 2 fault 3\n", 1));
-    let missing = Stop::Missing(Name::new(rt.alloc(), "x")?);
+    let missing = Stop::Missing(Name::new(rt.alloc(), "x").expect(&rt, "memory for a name"));
     assert!(rt; says(&missing, "missing x\n", 1));
-    Ok(())
 }
 
 #[test]

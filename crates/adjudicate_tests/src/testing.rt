@@ -1,9 +1,10 @@
 //! What the tests of several commands share.
 use adjudicate::{LINE_LIMIT_BYTES, Stop};
 use fixpoint::Out;
-use std::alloc::{AllocError, Global};
+use std::alloc::Global;
 use std::io;
 use std::io::{ErrorKind, Write};
+use std::process::Abort;
 
 /// The refusal has this line and this status.
 pub fn says(stop: &Stop, line: &str, status: u8) -> bool {
@@ -64,19 +65,28 @@ pub struct Narrow {
     when_full: WhenFull,
 }
 
+// What is refused memory is asked for once more.
+fn room_for(rt: &impl Abort, alloc: Global, limit: usize) -> Vec<u8> {
+    if let Ok(room) = Vec::with_capacity(alloc, limit) {
+        return room;
+    }
+    Vec::with_capacity(alloc, limit).expect(rt, "memory for a writer")
+}
+
 impl Narrow {
     pub fn new(
+        rt: &impl Abort,
         alloc: Global,
         limit: usize,
         width: usize,
         when_full: WhenFull,
-    ) -> Result<Narrow, AllocError> {
-        Ok(Narrow {
-            taken: Vec::with_capacity(alloc, limit)?,
+    ) -> Narrow {
+        Narrow {
+            taken: room_for(rt, alloc, limit),
             limit,
             width,
             when_full,
-        })
+        }
     }
 
     /// The bytes that it has got.

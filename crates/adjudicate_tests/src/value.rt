@@ -4,9 +4,8 @@ use crate::testing::{
 };
 use adjudicate::do_value;
 use fixpoint::Out;
-use std::alloc::{AllocError, Global};
+use std::alloc::Global;
 use std::process::Abort;
-use std::test::Fail;
 
 mod hit_policies;
 mod plan_faults;
@@ -114,40 +113,31 @@ fn refuses_what_has_no_value(rt: HostRuntime) {
 }
 
 // A writer that has room for so many bytes of the text gets these.
-fn fills(
-    alloc: Global,
-    limit: usize,
-    width: usize,
-    when_full: WhenFull,
-) -> Result<bool, AllocError> {
-    let mut out = Out::new(Narrow::new(alloc, limit, width, when_full)?);
+fn fills(rt: &impl Abort, alloc: Global, limit: usize, width: usize, when_full: WhenFull) -> bool {
+    let mut out = Out::new(Narrow::new(rt, alloc, limit, width, when_full));
     let result = do_value(alloc, CROSSED.as_bytes(), ARGUMENTS, &mut out);
     if limit < TEXT.len() {
-        Ok(is_cut(result, out, TEXT, limit))
+        is_cut(result, out, TEXT, limit)
     } else {
-        Ok(is_whole(result, out, TEXT))
+        is_whole(result, out, TEXT)
     }
 }
 
 #[test]
-fn a_full_writer_has_the_first_bytes(rt: HostRuntime) -> Result<(), Fail> {
+fn a_full_writer_has_the_first_bytes(rt: HostRuntime) {
     for writer in WRITERS {
         let (width, when_full) = *writer;
         for limit in 0..15 {
-            assert!(rt; fills(rt.alloc(), limit, width, when_full)?, "{limit}");
+            assert!(rt; fills(&rt, rt.alloc(), limit, width, when_full), "{limit}");
         }
     }
-    Ok(())
 }
 
 /// Run it with each allocation refused in turn: all of them but the writer's are the command's.
 #[test]
 fn a_value_or_no_memory(rt: HostRuntime) {
     let alloc = rt.alloc();
-    let Ok(writer) = Narrow::new(alloc, 32, 32, WhenFull::Fails) else {
-        return;
-    };
-    let mut out = Out::new(writer);
+    let mut out = Out::new(Narrow::new(&rt, alloc, 32, 32, WhenFull::Fails));
     let result = do_value(alloc, PLAN.as_bytes(), &["x=10"], &mut out);
     assert!(rt; is_whole_or_none(result, out, "y = 2.5\n"));
 }

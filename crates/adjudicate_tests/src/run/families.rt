@@ -25,24 +25,21 @@ total,4,,,,,,,330.00,50.00,40.00,48.00,70.00,260.00,\r
 
 // A run over families.
 fn families<'a>(files: &'a [&'a [u8]], balances: Option<&'a [u8]>, workers: usize) -> RunInput<'a> {
-    RunInput {
-        plan: family_plan().as_bytes(),
-        balances,
-        files,
-        cutoff: None,
-        workers,
-    }
+    input_of(family_plan().as_bytes(), balances, files, workers)
+}
+
+fn gives_of_families<R: Threads + Wait + Abort + Sync + AllocGlobal>(rt: &R, workers: usize) {
+    let files = [family_file()];
+    let input = families(&files, None, workers);
+    assert!(rt; gives(rt, input, family_remittance()), "{workers}");
 }
 
 #[test]
 fn families_in_one_remittance(rt: HostRuntime) {
-    let files = [family_file()];
-    for workers in [1, 2, 4, WORKERS_LIMIT] {
-        assert!(rt;
-            gives(&rt, families(&files, None, workers), family_remittance()),
-            "{workers}"
-        );
-    }
+    gives_of_families(&rt, 1);
+    gives_of_families(&rt, 2);
+    gives_of_families(&rt, 4);
+    gives_of_families(&rt, WORKERS_LIMIT);
 }
 
 #[test]

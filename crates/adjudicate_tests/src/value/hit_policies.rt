@@ -1,19 +1,19 @@
 //! Tables by their hit policies (DMN 1.4, hit policies), at worked values.
 use super::{gives, refuses};
 use std::alloc::Global;
-use std::test::Fail;
+use std::process::Abort;
 
 /// The texts behind one another.
-pub fn joined(alloc: Global, texts: &[&str]) -> Result<String, Fail> {
+pub fn joined(rt: &impl Abort, alloc: Global, texts: &[&str]) -> String {
     let mut whole = String::new(alloc);
     for text in texts {
-        whole.push_str(text)?;
+        whole.push_str(text).expect(rt, "memory for a text");
     }
-    Ok(whole)
+    whole
 }
 
 /// A plan with the field `x` and one table over it: its hit policy, the entries of `outputs`, and those of `rules`.
-fn plan_over_x(alloc: Global, hit: &str, outputs: &str, rules: &str) -> Result<String, Fail> {
+fn plan_over_x(rt: &impl Abort, alloc: Global, hit: &str, outputs: &str, rules: &str) -> String {
     let parts = [
         "version = 1\nfields = [{name = \"x\", kind = \"number\"}]\n[[tables]]\nhit = \"",
         hit,
@@ -23,7 +23,7 @@ fn plan_over_x(alloc: Global, hit: &str, outputs: &str, rules: &str) -> Result<S
         rules,
         "]\n",
     ];
-    joined(alloc, &parts)
+    joined(rt, alloc, &parts)
 }
 
 /// The output `y` of kind number.
@@ -104,21 +104,19 @@ const REFUSED: &[(&str, &str, &str, &str)] = &[
 ];
 
 #[test]
-fn hit_policies_give(rt: HostRuntime) -> Result<(), Fail> {
+fn hit_policies_give(rt: HostRuntime) {
     for row in PRINTED {
         let (hit, outputs, rules, text) = *row;
-        let plan = plan_over_x(rt.alloc(), hit, outputs, rules)?;
+        let plan = plan_over_x(&rt, rt.alloc(), hit, outputs, rules);
         assert!(rt; gives(rt.alloc(), plan.as_str(), &["x=2"], text), "{hit}");
     }
-    Ok(())
 }
 
 #[test]
-fn hit_policies_refuse(rt: HostRuntime) -> Result<(), Fail> {
+fn hit_policies_refuse(rt: HostRuntime) {
     for row in REFUSED {
         let (hit, outputs, rules, line) = *row;
-        let plan = plan_over_x(rt.alloc(), hit, outputs, rules)?;
+        let plan = plan_over_x(&rt, rt.alloc(), hit, outputs, rules);
         assert!(rt; refuses(rt.alloc(), plan.as_str(), &["x=2"], line), "{hit}");
     }
-    Ok(())
 }

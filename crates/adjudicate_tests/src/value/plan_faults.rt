@@ -1,7 +1,6 @@
 //! Plans that are refused, each at its place.
 use super::hit_policies::joined;
 use super::{PLAN, refuses};
-use std::test::Fail;
 
 const FIELD: &str = "{name = \"x\", kind = \"number\"}";
 
@@ -55,15 +54,14 @@ rate = \"2\"
 ";
 
 #[test]
-fn a_part_of_the_plan_changed(rt: HostRuntime) -> Result<(), Fail> {
+fn a_part_of_the_plan_changed(rt: HostRuntime) {
     let alloc = rt.alloc();
     for row in CHANGED {
         let (old, new, line) = *row;
         let (front, back) = PLAN.split_once(old).expect(&rt, "a part of the plan");
-        let plan = joined(alloc, &[front, new, back])?;
+        let plan = joined(&rt, alloc, &[front, new, back]);
         assert!(rt; refuses(alloc, plan.as_str(), &["x=1"], line), "{line}");
     }
-    Ok(())
 }
 
 #[test]
