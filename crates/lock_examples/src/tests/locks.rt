@@ -3,16 +3,18 @@
 ghost use Rattle.std.specs.Prelude.{IfOk};
 ghost use Rattle.lock_examples.specs.Lists.{GoesOn, same_list, longer_list, either_list};
 ghost use Rattle.turn_lock.specs.SpinShown.{IsPassOf as IsSpinPassOf};
-ghost use Rattle.turn_lock.specs.TicketShown.{IsPassOf};
+ghost use Rattle.turn_lock.specs.TicketShown.{IsDrawnOf, IsPassOf};
 
 use std::alloc::Global;
 use std::process::Abort;
 use std::sync::Wait;
 use std::thread;
 use std::thread::Threads;
-use turn_lock::{DrawFault, Growing, Pass, Raced, Section, SpinLock, SpinPass, TicketLock, Worn};
+use turn_lock::{
+    DrawFault, Drawn, Growing, Pass, Raced, Section, SpinLock, SpinPass, TicketLock, Worn,
+};
 
-#[derive(Clone, Copy, PartialEq, Debug)]
+#[derive(Clone, Copy, PartialEq)]
 struct Entry {
     thread: u64,
     number: u64,
@@ -94,35 +96,60 @@ fn line(number: u64) -> Entry {
     Entry { thread: 0, number }
 }
 
+// The second pass draws the ticket at which the first has looked, and the first the next one.
+fn draw_both(
+    rt: &impl Abort,
+    lock: &TicketLock<Entries>,
+    a: Pass<Entries>,
+    b: Pass<Entries>,
+) -> (Drawn<Entries>, Drawn<Entries>)
+    requires { IsPassOf lock.now a × IsPassOf lock.now b }
+    ensures { IsDrawnOf lock.now result.0 × IsDrawnOf lock.now result.1 }
+{
+    let Ok(a) = lock.look(a) else {
+        panic!(rt; "the first look is worn");
+    };
+    assert!(rt; a.next() == 0);
+    let Ok(b) = lock.try_draw(b) else {
+        panic!(rt; "no ticket for b");
+    };
+    assert!(rt; b.ticket() == 0);
+    let Err((Raced { next }, a)) = lock.draw(a) else {
+        panic!(rt; "a has drawn the ticket of b");
+    };
+    assert!(rt; next == 1);
+    let Ok(a) = lock.try_draw(a) else {
+        panic!(rt; "no ticket for a");
+    };
+    assert!(rt; a.ticket() == 1);
+    (a, b)
+}
+
+// Whose ticket comes first finds nothing and appends an entry, which the other finds.
+fn serve_both<R: Wait + Abort>(
+    rt: &R,
+    lock: &TicketLock<Entries>,
+    a: Drawn<Entries>,
+    b: Drawn<Entries>,
+)
+    requires { IsDrawnOf lock.now a × IsDrawnOf lock.now b }
+{
+    let (mut value, b) = lock.enter(rt, b);
+    assert!(rt; b.ticket() == 0 && value.entries().is_empty());
+    assert!(rt; value.append(line(7)));
+    let _ = lock.leave(b, value);
+    let (value, a) = lock.enter(rt, a);
+    assert!(rt; a.ticket() == 1);
+    let value = lock.retire(a, value);
+    assert!(rt; value.entries() == [line(7)].as_slice());
+}
+
 #[test]
 fn tickets_are_served_in_their_order(rt: HostRuntime) {
     let (lock, pass) = ticket_lock(&rt, rt.alloc());
     let (a, b) = lock.split(pass);
-    let Ok(a) = lock.look(a) else {
-        panic!(rt; "the first look is worn");
-    };
-    assert_eq!(rt; a.next(), 0);
-    let Ok(b) = lock.try_draw(b) else {
-        panic!(rt; "no ticket for b");
-    };
-    assert_eq!(rt; b.ticket(), 0);
-    let Err((Raced { next }, a)) = lock.draw(a) else {
-        panic!(rt; "a has drawn the ticket of b");
-    };
-    assert_eq!(rt; next, 1);
-    let Ok(a) = lock.try_draw(a) else {
-        panic!(rt; "no ticket for a");
-    };
-    assert_eq!(rt; a.ticket(), 1);
-    let (mut value, b) = lock.enter(&rt, b);
-    assert_eq!(rt; b.ticket(), 0);
-    assert_eq!(rt; value.entries().len(), 0);
-    assert!(rt; value.append(line(7)));
-    let _ = lock.leave(b, value);
-    let (value, a) = lock.enter(&rt, a);
-    assert_eq!(rt; a.ticket(), 1);
-    let value = lock.retire(a, value);
-    assert_eq!(rt; value.entries(), [line(7)].as_slice());
+    let (a, b) = draw_both(&rt, &lock, a, b);
+    serve_both(&rt, &lock, a, b);
 }
 
 #[test]
@@ -137,7 +164,18 @@ fn spin_lock_gives_the_value_left(rt: HostRuntime) {
         panic!(rt; "a spin lock is worn");
     };
     let value = lock.retire(holder, value);
-    assert_eq!(rt; value.entries(), [line(7)].as_slice());
+    assert!(rt; value.entries() == [line(7)].as_slice());
+}
+
+// A look answers `Worn`, and the pass comes back.
+fn look_worn(rt: &impl Abort, lock: &TicketLock<Entries>, pass: Pass<Entries>) -> Pass<Entries>
+    requires { IsPassOf lock.now pass }
+    ensures { IsPassOf lock.now result }
+{
+    let Err((Worn, pass)) = lock.look(pass) else {
+        panic!(rt; "a look of a worn pass");
+    };
+    pass
 }
 
 // Each call that would draw a ticket answers `Worn`, and the pass comes back.
@@ -149,9 +187,7 @@ fn refused<R: Wait + Abort>(
     requires { IsPassOf lock.now pass }
     ensures { IsPassOf lock.now result }
 {
-    let Err((Worn, pass)) = lock.look(pass) else {
-        panic!(rt; "a look of a worn pass");
-    };
+    let pass = look_worn(rt, lock, pass);
     let Err((DrawFault::Worn, pass)) = lock.try_draw(pass) else {
         panic!(rt; "a draw of a worn pass");
     };
@@ -171,7 +207,7 @@ fn the_last_ticket_wears_the_lock(rt: HostRuntime) {
     let Ok((mut value, holder)) = lock.lock(&rt, pass) else {
         panic!(rt; "the last ticket is refused");
     };
-    assert_eq!(rt; holder.ticket(), first);
+    assert!(rt; holder.ticket() == first);
     value.append(line(7));
     let pass = lock.leave(holder, value);
     let pass = refused(&rt, &lock, pass);
@@ -180,24 +216,39 @@ fn the_last_ticket_wears_the_lock(rt: HostRuntime) {
     refused(&rt, &lock, pass);
 }
 
+fn retire_with_the_first_ticket<R: Wait + Abort>(
+    rt: &R,
+    lock: &TicketLock<Entries>,
+    pass: Pass<Entries>,
+)
+    requires { IsPassOf lock.now pass }
+{
+    let Ok((value, holding)) = lock.lock(rt, pass) else {
+        panic!(rt; "the first ticket is refused");
+    };
+    assert!(rt; holding.ticket() == 0);
+    assert!(rt; lock.retire(holding, value).entries().is_empty());
+}
+
+fn draw_the_second_ticket(rt: &impl Abort, lock: &TicketLock<Entries>, pass: Pass<Entries>)
+    requires { IsPassOf lock.now pass }
+{
+    let Ok(looked) = lock.look(pass) else {
+        panic!(rt; "no look behind a retired holder");
+    };
+    assert!(rt; looked.next() == 1);
+    let Ok(drawn) = lock.draw(looked) else {
+        panic!(rt; "no ticket behind a retired holder");
+    };
+    assert!(rt; drawn.ticket() == 1);
+}
+
 #[test]
 fn tickets_go_on_behind_a_retired_holder(rt: HostRuntime) {
     let (lock, pass) = ticket_lock(&rt, rt.alloc());
     let (a, b) = lock.split(pass);
-    let Ok((value, a)) = lock.lock(&rt, a) else {
-        panic!(rt; "the first ticket is refused");
-    };
-    assert_eq!(rt; a.ticket(), 0);
-    let value = lock.retire(a, value);
-    assert_eq!(rt; value.entries().len(), 0);
-    let Ok(b) = lock.look(b) else {
-        panic!(rt; "no look behind a retired holder");
-    };
-    assert_eq!(rt; b.next(), 1);
-    let Ok(b) = lock.draw(b) else {
-        panic!(rt; "no ticket behind a retired holder");
-    };
-    assert_eq!(rt; b.ticket(), 1);
+    retire_with_the_first_ticket(&rt, &lock, a);
+    draw_the_second_ticket(&rt, &lock, b);
 }
 
 fn make_a_spin_lock<R: Wait + Abort>(rt: &R, alloc: Global) {
@@ -402,38 +453,64 @@ fn meet(
     lock.meet(one, other)
 }
 
+// Gives one pass of both, behind three sections.
+fn meet_between_sections<R: Wait + Abort>(
+    rt: &R,
+    lock: &TicketLock<Entries>,
+    a: Pass<Entries>,
+    b: Pass<Entries>,
+) -> Pass<Entries>
+    requires { IsPassOf lock.now a × IsPassOf lock.now b }
+    ensures { IsPassOf lock.now result }
+{
+    let a = in_section(rt, lock, a, 0, Some(line(7)));
+    let (a, b) = meet(lock, a, b);
+    let b = in_section(rt, lock, b, 1, None);
+    let b = in_section(rt, lock, b, 1, Some(line(8)));
+    let (a, _b) = meet(lock, a, b);
+    a
+}
+
+fn find_both<R: Wait + Abort>(rt: &R, lock: &TicketLock<Entries>, pass: Pass<Entries>)
+    requires { IsPassOf lock.now pass }
+{
+    let Ok((value, holding)) = lock.lock(rt, pass) else {
+        panic!(rt; "a lock with tickets left is worn");
+    };
+    assert!(rt; holding.ticket() == 3);
+    let value = lock.retire(holding, value);
+    assert!(rt; value.entries() == [line(7), line(8)].as_slice());
+}
+
 #[test]
 fn two_passes_meet(rt: HostRuntime) {
     let (lock, pass) = ticket_lock(&rt, rt.alloc());
     let (a, b) = lock.split(pass);
-    let a = in_section(&rt, &lock, a, 0, Some(line(7)));
-    let (a, b) = meet(&lock, a, b);
-    let b = in_section(&rt, &lock, b, 1, None);
-    let b = in_section(&rt, &lock, b, 1, Some(line(8)));
-    let (a, b) = meet(&lock, a, b);
-    drop(b);
-    let Ok((value, holding)) = lock.lock(&rt, a) else {
-        panic!(rt; "a lock with tickets left is worn");
-    };
-    assert_eq!(rt; holding.ticket(), 3);
-    let value = lock.retire(holding, value);
-    assert_eq!(rt; value.entries(), [line(7), line(8)].as_slice());
+    let pass = meet_between_sections(&rt, &lock, a, b);
+    find_both(&rt, &lock, pass);
+}
+
+// The first is worn, and after they have met both are.
+fn meet_worn(
+    rt: &impl Abort,
+    lock: &TicketLock<Entries>,
+    a: Pass<Entries>,
+    b: Pass<Entries>,
+) -> (Pass<Entries>, Pass<Entries>)
+    requires { IsPassOf lock.now a × IsPassOf lock.now b }
+    ensures { IsPassOf lock.now result.0 × IsPassOf lock.now result.1 }
+{
+    let a = look_worn(rt, lock, a);
+    let (a, b) = meet(lock, a, b);
+    (look_worn(rt, lock, a), look_worn(rt, lock, b))
 }
 
 #[test]
 fn two_worn_passes_meet(rt: HostRuntime) {
     let (lock, pass) = ticket_lock_at(&rt, rt.alloc(), u64::MAX);
     let (a, b) = lock.split(pass);
-    let Err((Worn, a)) = lock.look(a) else {
-        panic!(rt; "a look of a worn pass");
-    };
-    let (a, b) = meet(&lock, a, b);
-    let Err((Worn, a)) = lock.look(a) else {
-        panic!(rt; "a look of a worn pass that has met another");
-    };
-    let Err((Worn, b)) = lock.look(b) else {
-        panic!(rt; "a look of a pass that has met a worn one");
-    };
+    let (a, b) = meet_worn(&rt, &lock, a, b);
     let (a, b) = meet(&lock, b, a);
-    assert!(rt; lock.look(a).is_err() && lock.look(b).is_err());
+    look_worn(&rt, &lock, a);
+    look_worn(&rt, &lock, b);
 }
