@@ -135,6 +135,7 @@ fn runs_by<R: Threads + Wait + Abort + Sync>(
 ) {
     let batch = batch_of(rt, alloc, terms, workers);
     comes_to(rt, alloc, batch.journal(), terms.files().len(), wanted);
+    drop(batch);
 }
 
 // Runs by several numbers of workers.
@@ -163,6 +164,7 @@ fn runs_over<R: Threads + Wait + Abort + Sync>(
         panic!(rt; "terms");
     };
     runs_by_several(rt, alloc, &terms, wanted);
+    drop(terms);
 }
 
 fn check_worked<R: Threads + Wait + Abort + Sync>(rt: &R, alloc: Global, plan: &Plan) {
@@ -188,6 +190,8 @@ fn check_cutoff<R: Threads + Wait + Abort + Sync>(
     assert!(rt; count_of(batch.journal(), "takes") == accepts, "{cutoff}");
     assert!(rt; count_of(batch.journal(), "decides") == accepts, "{cutoff}");
     assert!(rt; count_of(batch.journal(), "closes") == 1, "{cutoff}");
+    drop(batch);
+    drop(terms);
 }
 
 fn check_cutoffs<R: Threads + Wait + Abort + Sync>(rt: &R, alloc: Global, plan: &Plan) {
@@ -230,6 +234,7 @@ fn check_crews<R: Threads + Wait + Abort + Sync>(rt: &R, alloc: Global, plan: &P
     check_workers(rt, alloc, &terms, 0);
     check_workers(rt, alloc, &terms, WORKERS_LIMIT + 1);
     check_workers(rt, alloc, &terms, usize::MAX);
+    drop(terms);
 }
 
 // The journal of a run over files that have no claim is one end of each provider, and the close.
@@ -243,6 +248,8 @@ fn ends_all<R: Threads + Wait + Abort + Sync>(
     let terms = terms_of(rt, alloc, plan, files, None);
     let batch = batch_of(rt, alloc, &terms, workers);
     assert!(rt; is_ends_and_close(batch.journal(), files.len()));
+    drop(batch);
+    drop(terms);
 }
 
 fn check_headers<R: Threads + Wait + Abort + Sync>(rt: &R, alloc: Global, plan: &Plan) {
@@ -288,6 +295,7 @@ fn check<R: Threads + Wait + Abort + Sync>(rt: &R, alloc: Global, runs: Runs) {
         Runs::ThoughRefused => check_refused(rt, alloc, &plan),
         Runs::OnGates(runs) => check_on_gates(rt, alloc, &plan, runs),
     }
+    drop(plan);
 }
 
 fn check_on_gates<R: Threads + Wait + Abort + Sync>(
@@ -308,6 +316,7 @@ fn check_on_gates<R: Threads + Wait + Abort + Sync>(
         OnGates::RefusedOnce => refusing::check_refused_once(rt, alloc, &terms),
         OnGates::RefusedTwice => refusing::check_refused_twice(rt, alloc, plan),
     }
+    drop(terms);
 }
 
 #[test]
@@ -426,6 +435,8 @@ fn check_refused<R: Threads + Wait + Abort + Sync>(rt: &R, alloc: Global, plan: 
     let terms = terms_of(rt, alloc, plan, both_files(), None);
     let batch = batch_though_refused(rt, alloc, &terms);
     assert!(rt; batch.journal().len() == 21);
+    drop(batch);
+    drop(terms);
 }
 
 #[test]
