@@ -41,6 +41,7 @@ fn take_firsts<'t>(rt: &impl Abort, terms: &'t Terms<'t>, gate: &mut GateState<'
     let other = take_job(rt, terms, gate, 3);
     assert!(rt; is_job(&first, 0, "e1") && is_job(&other, 3, "e4"));
     assert!(rt; stands_at(other.acc, 0, 0, 0, 0));
+    drop(other);
     alone(rt, terms, gate, first)
 }
 
@@ -82,7 +83,8 @@ pub fn family_calls(rt: &impl Abort, alloc: Global, terms: &Terms) {
     accept_all(rt, alloc, terms, &mut gate);
     let first = take_firsts(rt, terms, &mut gate);
     let second = go_on(rt, alloc, terms, &mut gate, first, 500_000, 600_000);
-    let _third = go_on(rt, alloc, terms, &mut gate, second, 800_000, 1_000_000);
+    drop(go_on(rt, alloc, terms, &mut gate, second, 800_000, 1_000_000));
+    drop(gate);
 }
 
 #[test]

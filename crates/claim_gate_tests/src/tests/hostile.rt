@@ -36,6 +36,8 @@ fn decide_copy<G: Gate>(
     let decided = FinishFault::AlreadyDecided;
     let (pass, back, outcome) = refuse_outcome(rt, alloc, terms, gate, pass, copy, decided);
     assert!(rt; is_job(&back, 0, "c1") && is_paid_40(&outcome));
+    drop(back);
+    drop(outcome);
     pass
 }
 
@@ -81,6 +83,7 @@ where
         Ok(state) => assert!(rt; is_journal(state.journal(), b"A10E1 C  T0 D0 ")),
         Err(_) => panic!(rt; "the gate of one thread"),
     }
+    drop(gate);
 }
 
 fn by_a_spin_lock(rt: &(impl Abort + Wait), alloc: Global, terms: &Terms) {

@@ -33,6 +33,7 @@ fn accept_first<G: Gate>(
     let out_of_turn = OfferFault::OutOfTurn { expected: 1 };
     let (other, back) = refuse_at(rt, alloc, terms, gate, other, (1, 0), out_of_turn);
     assert!(rt; is_offer(&back, 1, 0, "c1"));
+    drop(back);
     (one, other)
 }
 
@@ -91,6 +92,7 @@ fn take_other<G: Gate>(
     let (other, job) = take_job(rt, terms, gate, other, 2);
     assert!(rt; is_job(&job, 2, "d1"));
     assert!(rt; is_at(job.acc, 0, 0, 0));
+    drop(job);
     (one, other)
 }
 
@@ -167,6 +169,7 @@ fn stopped_calls<G: Gate>(
     let stopped = OfferFault::Stopped;
     let (pass, offer) = refuse_at(rt, alloc, terms, gate, pass, (2, 0), stopped);
     assert!(rt; is_offer(&offer, 2, 0, "d1"));
+    drop(offer);
     let pass = refuse_first_end(rt, alloc, terms, gate, pass, EndFault::Stopped);
     find_stopped(rt, terms, gate, pass)
 }
@@ -189,6 +192,8 @@ fn finish_stopped<G: Gate>(
     let stopped = FinishFault::Stopped;
     let (pass, job, outcome) = refuse_outcome(rt, alloc, terms, gate, pass, job, stopped);
     assert!(rt; is_job(&job, 1, "c2") && is_paid_40(&outcome));
+    drop(job);
+    drop(outcome);
     pass
 }
 
@@ -235,6 +240,7 @@ where
         Ok(state) => assert!(rt; is_worked(state.journal())),
         Err(_) => panic!(rt; "the gate of one thread"),
     }
+    drop(gate);
 }
 
 pub fn by_a_spin_lock(rt: &(impl Abort + Wait), alloc: Global, terms: &Terms) {

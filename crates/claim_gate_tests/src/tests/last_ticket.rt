@@ -32,6 +32,7 @@ fn worn_intake<G: Gate>(
         panic!(rt; "no ticket for an offer");
     };
     assert!(rt; is_offer(&back, 1, 0, "c1"));
+    drop(back);
     let Err((_, pass)) = gate.end(rt, pass, 1, 4) else {
         panic!(rt; "no ticket for an end");
     };
@@ -112,6 +113,8 @@ fn worn_finish<G: Gate>(
         panic!(rt; "no ticket for a finish");
     };
     assert!(rt; is_job(&job, 0, "c1") && is_paid_40(&outcome));
+    drop(job);
+    drop(outcome);
 }
 
 // The first claim is taken by the last ticket.

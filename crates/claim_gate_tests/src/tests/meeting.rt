@@ -36,6 +36,7 @@ fn met_calls<V: SerialGate + Send + Drop>(
     let out_of_turn = OfferFault::OutOfTurn { expected: 1 };
     let (other, back) = refuse_at(rt, alloc, terms, &gate, other, (1, 0), out_of_turn);
     assert!(rt; is_offer(&back, 1, 0, "c1"));
+    drop(back);
     let Ok(other) = gate.stop(rt, other) else {
         panic!(rt; "a stop");
     };

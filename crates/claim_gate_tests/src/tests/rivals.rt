@@ -180,6 +180,7 @@ where
         Ok(state) => assert!(rt; told.is_journal(state.journal())),
         Err(_) => panic!(rt; "the gate of one thread"),
     }
+    drop(gate);
 }
 
 fn rivals<R: Threads + Wait + Abort + Sync>(rt: &R, alloc: Global, terms: &Terms) {

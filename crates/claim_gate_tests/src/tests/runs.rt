@@ -71,4 +71,6 @@ pub fn run(
     let plan = plan_of(rt, alloc, plan.as_bytes());
     let terms = terms_of(rt, alloc, &plan, files, cutoff);
     calls.make(rt, alloc, &terms);
+    drop(terms);
+    drop(plan);
 }

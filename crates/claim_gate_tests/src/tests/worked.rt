@@ -63,6 +63,7 @@ fn take_first<'t>(
     let out_of_turn = OfferFault::OutOfTurn { expected: 1 };
     let back = refuse_at(rt, alloc, terms, gate, 1, 0, out_of_turn);
     assert!(rt; is_offer(&back, 1, 0, "c1"));
+    drop(back);
     let job = take_job(rt, terms, gate, 0);
     assert!(rt; is_job(&job, 0, "c1"));
     assert!(rt; is_at(job.acc, 0, 0, 0));
@@ -90,6 +91,7 @@ fn take_other<'t>(rt: &impl Abort, alloc: Global, terms: &'t Terms<'t>, gate: &m
     let job = take_job(rt, terms, gate, 2);
     assert!(rt; is_job(&job, 2, "d1"));
     assert!(rt; is_at(job.acc, 0, 0, 0));
+    drop(job);
 }
 
 // The first member's first claim is decided, and its second one is taken at what that left. Gives that job.
@@ -147,7 +149,7 @@ pub fn is_worked(journal: &[Event]) -> bool {
 // The calls in turn, and a run that isn't finished: the gate comes back.
 pub fn turn_calls(rt: &impl Abort, alloc: Global, terms: &Terms) {
     let mut gate = begin(rt, alloc, terms);
-    let _next = calls_in_turn(rt, alloc, terms, &mut gate);
+    drop(calls_in_turn(rt, alloc, terms, &mut gate));
     end_early(rt, alloc, terms, &mut gate);
     assert!(rt; is_worked(gate.journal()));
     match Batch::from_state(gate, terms) {
@@ -188,13 +190,16 @@ fn decide_copy<'t>(
     let (back, outcome) = refuse_outcome(rt, alloc, terms, gate, copy, decided);
     assert!(rt; is_job(&back, 0, "c1"));
     assert!(rt; is_paid_40(&outcome));
+    drop(back);
+    drop(outcome);
     assert!(rt; gate.counts() == counts(1, 0, 1, false));
 }
 
 pub fn copy_calls(rt: &impl Abort, alloc: Global, terms: &Terms) {
     let mut gate = begin(rt, alloc, terms);
     let job = take_first(rt, alloc, terms, &mut gate);
-    decide_copy(rt, alloc, terms, &mut gate, job)
+    decide_copy(rt, alloc, terms, &mut gate, job);
+    drop(gate);
 }
 
 #[test]
@@ -245,10 +250,13 @@ fn call_stopped<'t>(
     let faults = (OfferFault::Stopped, EndFault::Stopped);
     let offer = refuse_intake(rt, alloc, terms, gate, 2, faults);
     assert!(rt; is_offer(&offer, 1, 2, "c3"));
+    drop(offer);
     find_stopped(rt, terms, gate);
     let stopped = FinishFault::Stopped;
     let (back, outcome) = refuse_outcome(rt, alloc, terms, gate, job, stopped);
     assert!(rt; is_job(&back, 1, "c2") && is_paid_40(&outcome));
+    drop(back);
+    drop(outcome);
 }
 
 // The calls in turn, a stop, and each call again.
@@ -258,6 +266,7 @@ pub fn stop_calls(rt: &impl Abort, alloc: Global, terms: &Terms) {
     halt(terms, &mut gate);
     call_stopped(rt, alloc, terms, &mut gate, job);
     assert!(rt; gate.counts().stopped && is_worked(gate.journal()));
+    drop(gate);
 }
 
 #[test]
@@ -318,6 +327,7 @@ pub fn end_again(rt: &impl Abort, alloc: Global, terms: &Terms) {
     refuse_end(rt, terms, &mut gate, 1, 1, EndFault::AlreadyEnded);
     assert!(rt; is_journal(gate.journal(), b"A10E1 "));
     assert!(rt; gate.counts() == counts(1, 1, 0, false));
+    drop(gate);
 }
 
 #[test]
@@ -339,6 +349,7 @@ pub fn closed_calls(rt: &impl Abort, alloc: Global, terms: &Terms) {
     let faults = (OfferFault::Closed, EndFault::Closed);
     let back = refuse_intake(rt, alloc, terms, &mut gate, 0, faults);
     assert!(rt; is_offer(&back, 1, 0, "c1"));
+    drop(back);
     assert!(rt; is_over(&gate.take()));
     assert!(rt; gate.into_journal().len() == 1);
 }
