@@ -9,7 +9,7 @@ use journal::Event;
 use std::marker::Model;
 
 /// A run whose journal is finished: its terms and its journal.
-#[derive(Debug, Drop)]
+#[derive(Drop)]
 pub struct Batch<'t> {
     terms: &'t Terms<'t>,
     journal: Vec<Event>,

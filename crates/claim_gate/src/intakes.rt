@@ -7,7 +7,7 @@ use std::alloc::{AllocError, Global};
 use std::marker::Model;
 
 /// How far a provider's file is accepted.
-#[derive(Clone, Copy, Debug, PartialEq, Eq, Drop)]
+#[derive(Clone, Copy, PartialEq, Eq, Drop)]
 pub struct Intake {
     /// How many of its claims are accepted.
     pub accepted: usize,
@@ -16,7 +16,7 @@ pub struct Intake {
 }
 
 /// How far each provider's file is accepted. Contracts see the list, in the order of the providers, which count from 1.
-#[derive(Debug, Drop)]
+#[derive(Drop)]
 pub struct Intakes {
     each: Vec<Intake>,
     ended: usize,

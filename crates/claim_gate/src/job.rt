@@ -5,7 +5,7 @@ use settlement::{Acc, Claim};
 use std::alloc::{AllocError, Global};
 
 /// A claim to be decided.
-#[derive(Debug, Drop)]
+#[derive(Drop)]
 pub struct Job {
     /// The claim's position: how many claims were accepted before it.
     pub position: usize,

@@ -3,7 +3,7 @@
 use settlement::Claim;
 
 /// A claim that is offered: that of a provider, which count from 1, at a place among the claims of its file, from 0.
-#[derive(Debug, Drop)]
+#[derive(Drop)]
 pub struct Offer {
     /// The provider.
     pub provider: usize,

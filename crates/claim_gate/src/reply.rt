@@ -3,18 +3,18 @@
 use crate::job::Job;
 
 /// The claim is accepted.
-#[derive(Clone, Copy, Debug, PartialEq, Eq, Hash, Drop)]
+#[derive(Clone, Copy, PartialEq, Eq, Hash, Drop)]
 pub struct Accepted {
     /// Its position: how many claims were accepted before it.
     pub position: usize,
 }
 
 /// The provider has ended.
-#[derive(Clone, Copy, Debug, PartialEq, Eq, Hash, Drop)]
+#[derive(Clone, Copy, PartialEq, Eq, Hash, Drop)]
 pub struct Ended;
 
 /// What there is to do.
-#[derive(Debug, Drop)]
+#[derive(Drop)]
 pub enum Taken {
     /// The gate is stopped.
     Stopped,
@@ -27,5 +27,5 @@ pub enum Taken {
 }
 
 /// The decision is recorded.
-#[derive(Clone, Copy, Debug, PartialEq, Eq, Hash, Drop)]
+#[derive(Clone, Copy, PartialEq, Eq, Hash, Drop)]
 pub struct Recorded;

@@ -32,7 +32,6 @@ use std::marker::Model;
 ///
 /// Each call makes all its growths before its first change, so that a refused one has changed nothing; none walks the
 /// journal, the claims or the families.
-#[derive(Debug, Drop)]
 pub struct GateState<'t> {
     alloc: Global,
     terms: &'t Terms<'t>,
@@ -42,6 +41,21 @@ pub struct GateState<'t> {
     lanes: Lanes,
     intakes: Intakes,
     decisions: usize,
+}
+
+impl Drop for GateState<'_> {
+    fn drop(self) {
+        let GateState {
+            alloc: _,
+            terms: _,
+            journal: _,
+            stopped: _,
+            closed: _,
+            lanes: _,
+            intakes: _,
+            decisions: _,
+        } = self;
+    }
 }
 
 impl<'t> Model for GateState<'t> {
@@ -91,7 +105,16 @@ impl<'t> GateState<'t> {
         ensures journal { result.items ≡ self.entry.journal }
         ensures lawful { IsLawful self.entry }
     {
-        let GateState { journal, .. } = self;
+        let GateState {
+            alloc: _,
+            terms: _,
+            journal,
+            stopped: _,
+            closed: _,
+            lanes: _,
+            intakes: _,
+            decisions: _,
+        } = self;
         journal
     }
 

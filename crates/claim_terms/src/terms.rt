@@ -23,13 +23,24 @@ pub const FILES_LIMIT: usize = 64;
 
 /// What a run is fixed over: a plan with roles, the text of each provider's file, the members' balances, and how many
 /// claims are accepted at most. It borrows the plan and the texts.
-#[derive(Debug, Drop)]
 pub struct Terms<'a> {
     plan: &'a Plan,
     files: &'a [&'a [u8]],
     judged: Sequence<ClaimFile<'a>>,
     balances: Option<Balances>,
     cutoff: Option<u64>,
+}
+
+impl Drop for Terms<'_> {
+    fn drop(self) {
+        let Terms {
+            plan: _,
+            files: _,
+            judged: _,
+            balances: _,
+            cutoff: _,
+        } = self;
+    }
 }
 
 impl<'a> Model for Terms<'a> {

@@ -32,11 +32,20 @@ use summary::{Stream, Tallied};
 use whole_file::Place;
 
 /// The texts of a run, in the order in which they are read.
-#[derive(Drop)]
 struct Texts {
     plan: Vec<u8>,
     balances: Option<Vec<u8>>,
     files: Vec<Vec<u8>>,
+}
+
+impl Drop for Texts {
+    fn drop(self) {
+        let Texts {
+            plan: _,
+            balances: _,
+            files: _,
+        } = self;
+    }
 }
 
 impl Texts {

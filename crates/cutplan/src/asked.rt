@@ -18,7 +18,7 @@ use std::marker::Model;
 
 /// A rule's cell in a column, which contracts see as that cell, if the rule has one. It keeps the cell's literals of the
 /// column's kind in rising order, and what was answered of a value that stood in front of the literal at the place.
-#[derive(Debug, Drop)]
+#[derive(Drop)]
 pub struct Asked<'a> {
     rule: &'a Rule,
     column: usize,

@@ -29,13 +29,24 @@ use std::marker::Model;
 
 /// A plan that can be checked, which contracts see as the plan. It borrows the plan, and keeps the regions of its columns,
 /// their masks and the keys of their texts, and answers of its tables, which it lends.
-#[derive(Debug, Drop)]
 pub struct CutPlan<'a> {
     plan: &'a Plan,
     regions: Sequence<Sequence<Sequence<Region>>>,
     masks: Sequence<Sequence<Sequence<[u64; 4]>>>,
     keys: Sequence<Sequence<Sequence<u64>>>,
     answers: Sequence<KeptAnswers>,
+}
+
+impl Drop for CutPlan<'_> {
+    fn drop(self) {
+        let CutPlan {
+            plan: _,
+            regions: _,
+            masks: _,
+            keys: _,
+            answers: _,
+        } = self;
+    }
 }
 
 impl<'a> Model for CutPlan<'a> {

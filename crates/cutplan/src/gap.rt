@@ -160,7 +160,7 @@ pub fn gap_places(
 }
 
 /// A walk over cells: the places of the gaps among those that it has passed, and how many these are.
-#[derive(Debug, Drop)]
+#[derive(Drop)]
 struct Walk {
     found: Vec<u32>,
     passed: u32,

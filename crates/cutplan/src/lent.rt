@@ -16,12 +16,21 @@ use std::alloc::{AllocError, Global};
 
 /// What a table answers where no rule matches, and where one rule alone does, for each rule; nothing where that is a fault. And how
 /// its rules are ranked.
-#[derive(Debug, Drop)]
 pub struct KeptAnswers {
     pub unmatched: Option<Sequence<Answer>>,
     pub alone: Sequence<Option<Sequence<Answer>>>,
     /// All rules in falling priority, where the policy ranks them.
     pub order: Sequence<usize>,
+}
+
+impl Drop for KeptAnswers {
+    fn drop(self) {
+        let KeptAnswers {
+            unmatched: _,
+            alone: _,
+            order: _,
+        } = self;
+    }
 }
 
 /// The kept answers of these tables, in order.

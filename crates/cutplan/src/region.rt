@@ -13,7 +13,6 @@ use fixpoint::{Fixed, MAX_UNITS};
 use std::alloc::{AllocError, Global};
 
 /// Some of a column's values, of which each of its cells holds alike.
-#[derive(Debug, Drop)]
 pub enum Region {
     /// The numbers or days below the first cut.
     Below(Value),
@@ -27,6 +26,19 @@ pub enum Region {
     Other(Sequence<Value>),
     /// All values of a column of numbers, days or texts without a cut.
     Every,
+}
+
+impl Drop for Region {
+    fn drop(self) {
+        match self {
+            Region::Below(_) => {}
+            Region::At(_) => {}
+            Region::Between(_, _) => {}
+            Region::Above(_) => {}
+            Region::Other(_) => {}
+            Region::Every => {}
+        }
+    }
 }
 
 impl Region {

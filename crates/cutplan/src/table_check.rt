@@ -16,7 +16,7 @@ use std::alloc::{AllocError, Global};
 
 /// What the check of a table finds. A cell of the check is a region of each column; cells are in order column by column from
 /// the left, the last changing fastest, and count from 0.
-#[derive(Debug, Drop)]
+#[derive(Drop)]
 pub struct TableCheck {
     /// The pairs of rules that share an allowed input: the smaller first, in order, each once. Rules are numbered from 1.
     pub overlaps: Vec<(usize, usize)>,

@@ -11,13 +11,13 @@ use std::marker::Model;
 const INLINE_TABLES: usize = 5;
 
 /// The answers of a table, one for each output, which contracts see as their list.
-#[derive(Debug, Drop)]
+#[derive(Drop)]
 pub struct Answers<'a> {
     held: Held<'a>,
 }
 
 /// Where a table's answers are.
-#[derive(Debug, Drop)]
+#[derive(Drop)]
 enum Held<'a> {
     /// In what keeps them for many evaluations.
     Lent(&'a [Answer]),
@@ -75,9 +75,14 @@ impl<'a> Answers<'a> {
 }
 
 /// The answers of tables in order, which contracts see as the list of each table's.
-#[derive(Debug, Drop)]
 pub struct AnswersByTable<'a> {
     tables: SmallVec<Answers<'a>, INLINE_TABLES>,
+}
+
+impl Drop for AnswersByTable<'_> {
+    fn drop(self) {
+        let AnswersByTable { tables: _ } = self;
+    }
 }
 
 impl<'a> Model for AnswersByTable<'a> {

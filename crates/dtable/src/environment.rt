@@ -11,7 +11,6 @@ use feel_tests::{Sequence, Value};
 use std::marker::Model;
 
 /// What a table answers for one output.
-#[derive(Debug, Drop)]
 pub enum Answer {
     /// Its one value.
     One(Value),
@@ -19,11 +18,28 @@ pub enum Answer {
     Many(Sequence<Value>),
 }
 
+impl Drop for Answer {
+    fn drop(self) {
+        match self {
+            Answer::One(_) => {}
+            Answer::Many(_) => {}
+        }
+    }
+}
+
 /// The tables of a plan with their answers.
-#[derive(Debug, Drop)]
 pub struct Env<'a> {
     tables: &'a [Table],
     answers: AnswersByTable<'a>,
+}
+
+impl Drop for Env<'_> {
+    fn drop(self) {
+        let Env {
+            tables: _,
+            answers: _,
+        } = self;
+    }
 }
 
 impl<'a> Model for Env<'a> {

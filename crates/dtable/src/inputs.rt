@@ -12,10 +12,15 @@ use std::alloc::{AllocError, Global};
 use std::marker::Model;
 
 /// The place of one name: the kind of its value, and the value, once it is given.
-#[derive(Debug, Drop)]
 pub struct Slot {
     pub kind: Kind,
     pub value: Option<Value>,
+}
+
+impl Drop for Slot {
+    fn drop(self) {
+        let Slot { kind: _, value: _ } = self;
+    }
 }
 
 impl Slot {
@@ -33,9 +38,14 @@ impl Slot {
 }
 
 /// A place for each name of a plan, in order.
-#[derive(Debug, Drop)]
 pub struct Inputs {
     slots: Vec<Slot>,
+}
+
+impl Drop for Inputs {
+    fn drop(self) {
+        let Inputs { slots: _ } = self;
+    }
 }
 
 impl Model for Inputs {

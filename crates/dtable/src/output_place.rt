@@ -9,7 +9,7 @@ use crate::environment::place_of;
 use crate::table::Table;
 
 /// The place of an output: its table's in the plan, and its own among the table's outputs, both from 0.
-#[derive(Clone, Copy, Debug, PartialEq, Eq)]
+#[derive(Clone, Copy, PartialEq, Eq)]
 pub struct OutputPlace {
     pub table: usize,
     pub column: usize,

@@ -19,12 +19,22 @@ use std::alloc::{AllocError, Global};
 use std::marker::Model;
 
 /// A plan. Contracts see its version, its names, its tables and its roles; `IsPlan` holds of every one.
-#[derive(Debug, Drop)]
 pub struct Plan {
     version: u8,
     names: Sequence<InputData>,
     tables: Sequence<Table>,
     roles: Option<Roles>,
+}
+
+impl Drop for Plan {
+    fn drop(self) {
+        let Plan {
+            version: _,
+            names: _,
+            tables: _,
+            roles: _,
+        } = self;
+    }
 }
 
 impl Model for Plan {

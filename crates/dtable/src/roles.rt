@@ -4,7 +4,6 @@ use crate::name::Name;
 use feel_tests::Value;
 
 /// Where a role's value comes from.
-#[derive(Debug, Drop)]
 pub enum Source {
     /// This value.
     Literal(Value),
@@ -14,8 +13,17 @@ pub enum Source {
     Output(Name),
 }
 
+impl Drop for Source {
+    fn drop(self) {
+        match self {
+            Source::Literal(_) => {}
+            Source::Input(_) => {}
+            Source::Output(_) => {}
+        }
+    }
+}
+
 /// The limits of a family, which stand beside those of its members.
-#[derive(Debug, Drop)]
 pub struct FamilyRoles {
     /// A number: what the family pays before the plan does for all its members.
     pub deductible: Source,
@@ -23,8 +31,16 @@ pub struct FamilyRoles {
     pub oop_max: Source,
 }
 
+impl Drop for FamilyRoles {
+    fn drop(self) {
+        let FamilyRoles {
+            deductible: _,
+            oop_max: _,
+        } = self;
+    }
+}
+
 /// What settles a claim: whether it is covered, the amounts and the rate, the output that lists remarks, and the family's limits.
-#[derive(Debug, Drop)]
 pub struct Roles {
     /// A flag: whether the service is covered.
     pub cover: Source,
@@ -42,4 +58,19 @@ pub struct Roles {
     pub remarks: Option<Name>,
     /// The family's limits, where the plan keeps families.
     pub family: Option<FamilyRoles>,
+}
+
+impl Drop for Roles {
+    fn drop(self) {
+        let Roles {
+            cover: _,
+            fee: _,
+            deductible: _,
+            copay: _,
+            rate: _,
+            oop_max: _,
+            remarks: _,
+            family: _,
+        } = self;
+    }
 }

@@ -12,14 +12,14 @@ use crate::name::Name;
 use feel_tests::{Cell, Kind, Sequence, Value};
 
 /// Input data (DMN 1.4): a name that tables may read from outside, and the kind of its value.
-#[derive(Debug, Drop)]
+#[derive(Drop)]
 pub struct InputData {
     pub name: Name,
     pub kind: Kind,
 }
 
 /// Where an input's value comes from. Places count from 0.
-#[derive(Clone, Copy, Debug, PartialEq, Eq)]
+#[derive(Clone, Copy, PartialEq, Eq)]
 pub enum Origin {
     /// The input data at this place in the plan's names.
     Given(usize),
@@ -28,15 +28,23 @@ pub enum Origin {
 }
 
 /// An input of a table (input clause), with its allowed values, if they are restricted.
-#[derive(Debug, Drop)]
 pub struct Input {
     pub name: Name,
     pub origin: Origin,
     pub values: Option<Cell>,
 }
 
+impl Drop for Input {
+    fn drop(self) {
+        let Input {
+            name: _,
+            origin: _,
+            values: _,
+        } = self;
+    }
+}
+
 /// An output of a table (output clause), with its priority list, highest first, and its default, if it has them.
-#[derive(Debug, Drop)]
 pub struct Output {
     pub name: Name,
     pub kind: Kind,
@@ -44,20 +52,49 @@ pub struct Output {
     pub fallback: Option<Value>,
 }
 
+impl Drop for Output {
+    fn drop(self) {
+        let Output {
+            name: _,
+            kind: _,
+            priority: _,
+            fallback: _,
+        } = self;
+    }
+}
+
 /// A rule of a table (decision rule): a cell for each input, and an entry for each output.
-#[derive(Debug, Drop)]
 pub struct Rule {
     pub cells: Sequence<Cell>,
     pub entries: Sequence<Value>,
 }
 
+impl Drop for Rule {
+    fn drop(self) {
+        let Rule {
+            cells: _,
+            entries: _,
+        } = self;
+    }
+}
+
 /// A decision table.
-#[derive(Debug, Drop)]
 pub struct Table {
     pub hit: Hit,
     pub inputs: Sequence<Input>,
     pub outputs: Sequence<Output>,
     pub rules: Sequence<Rule>,
+}
+
+impl Drop for Table {
+    fn drop(self) {
+        let Table {
+            hit: _,
+            inputs: _,
+            outputs: _,
+            rules: _,
+        } = self;
+    }
 }
 
 impl Table {

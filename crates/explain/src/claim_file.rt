@@ -10,7 +10,7 @@ use std::alloc::{AllocError, Global};
 use toml::Value;
 
 /// What a file holds.
-#[derive(Clone, Copy, Debug, PartialEq, Eq)]
+#[derive(Clone, Copy, PartialEq, Eq)]
 pub enum FileKind {
     Claims,
     Balances,

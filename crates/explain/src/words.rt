@@ -5,7 +5,7 @@ use feel_tests::CellCause;
 use intake_csv::{FileFault, RowCause};
 
 /// What a refusal means, and what to do; nothing where the line says no more than its words do.
-#[derive(Clone, Copy, Debug, PartialEq, Eq)]
+#[derive(Clone, Copy, PartialEq, Eq)]
 pub struct Words {
     pub meaning: &'static str,
     pub remedy: &'static str,

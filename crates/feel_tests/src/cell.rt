@@ -11,7 +11,7 @@ use std::marker::Model;
 pub const TEST_LIMIT: usize = 64;
 
 /// How a value is compared with a literal.
-#[derive(Clone, Copy, Debug, PartialEq, Eq, Hash)]
+#[derive(Clone, Copy, PartialEq, Eq, Hash)]
 pub enum Op {
     /// `<`
     Less,
@@ -24,7 +24,6 @@ pub enum Op {
 }
 
 /// One question about a value.
-#[derive(Debug, Drop)]
 pub enum Test {
     /// It equals this one.
     Equal(Value),
@@ -39,6 +38,21 @@ pub enum Test {
     },
 }
 
+impl Drop for Test {
+    fn drop(self) {
+        match self {
+            Test::Equal(_) => {}
+            Test::Compare(_, _) => {}
+            Test::Between {
+                low: _,
+                low_in: _,
+                high: _,
+                high_in: _,
+            } => {}
+        }
+    }
+}
+
 /// The default is a question like any other. It takes no memory.
 impl Default for Test {
     fn default() -> Test {
@@ -47,9 +61,14 @@ impl Default for Test {
 }
 
 /// The tests of a cell, in the order of its text.
-#[derive(Debug, Drop)]
 pub struct Tests {
     items: SmallVec<Test, 2>,
+}
+
+impl Drop for Tests {
+    fn drop(self) {
+        let Tests { items: _ } = self;
+    }
 }
 
 impl Model for Tests {
@@ -88,7 +107,6 @@ impl Tests {
 }
 
 /// What one entry of a table asks of a value.
-#[derive(Debug, Drop)]
 pub enum Cell {
     /// Nothing: every value is good.
     Dash,
@@ -96,6 +114,16 @@ pub enum Cell {
     OneOf(Tests),
     /// None of the tests is to hold.
     NoneOf(Tests),
+}
+
+impl Drop for Cell {
+    fn drop(self) {
+        match self {
+            Cell::Dash => {}
+            Cell::OneOf(_) => {}
+            Cell::NoneOf(_) => {}
+        }
+    }
 }
 
 impl Cell {

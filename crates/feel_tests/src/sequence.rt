@@ -9,7 +9,7 @@ use std::marker::Model;
 use std::slice;
 
 /// Items in order.
-#[derive(Debug, Drop)]
+#[derive(Drop)]
 pub struct Sequence<T> {
     items: Vec<T>,
 }

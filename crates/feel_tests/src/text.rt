@@ -15,9 +15,14 @@ pub const TEXT_LIMIT_BYTES: usize = 256;
 const INLINE_BYTES: usize = 24;
 
 /// A text, compared by its bytes. A short one stands in its place, a longer one in memory of its own.
-#[derive(Debug, Drop)]
 pub struct Text {
     bytes: SmallVec<u8, INLINE_BYTES>,
+}
+
+impl Drop for Text {
+    fn drop(self) {
+        let Text { bytes: _ } = self;
+    }
 }
 
 impl Model for Text {

@@ -9,7 +9,7 @@ use fixpoint::Fixed;
 use std::alloc::{AllocError, Global};
 
 /// A value of one of the four kinds.
-#[derive(Debug, Drop, PartialEq)]
+#[derive(Drop, PartialEq)]
 pub enum Value {
     /// A decimal number with four places.
     Number(Fixed),

@@ -33,7 +33,7 @@ use std::vec;
 /// What accounts begin with in each year. Contracts see the families of each year, each with its members and what these begin with; a
 /// year's place is its number. Where accumulators aren't kept by the year, all families stand at the place 0; where they aren't kept
 /// for families, each member is one of its own.
-#[derive(Debug, Drop)]
+#[derive(Drop)]
 pub struct Balances {
     years: Vec<BTreeMap<String, Household>>,
 }

@@ -2,7 +2,7 @@
 use crate::fault::RowFault;
 
 /// A row of a file of claims, in brief: whose claim it is, and not what else it holds.
-#[derive(Clone, Copy, Debug, Drop)]
+#[derive(Clone, Copy, Drop)]
 pub enum Brief {
     /// A claim: its number counts the records behind the header, from 1, and its place the claims, from 0.
     Good {
@@ -18,7 +18,7 @@ pub enum Brief {
 }
 
 /// Whose a claim is, by the record that holds it: the places of its fields count from 0.
-#[derive(Clone, Copy, Debug, Drop)]
+#[derive(Clone, Copy, Drop)]
 pub struct Claimant {
     /// The place of the claim's identifier.
     pub id: usize,

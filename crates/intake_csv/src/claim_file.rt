@@ -21,7 +21,7 @@ use std::alloc::{AllocError, Global};
 use std::marker::Model;
 
 /// A file of claims: its text, and where its header has the columns that claims need. It borrows the text.
-#[derive(Debug, Drop)]
+#[derive(Drop)]
 pub struct ClaimFile<'t> {
     text: &'t [u8],
     layout: Layout,

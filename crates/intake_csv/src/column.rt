@@ -8,7 +8,7 @@ use std::alloc::{AllocError, Global};
 use std::marker::Model;
 
 /// What the fields under a column hold.
-#[derive(Clone, Copy, Debug, PartialEq, Eq)]
+#[derive(Clone, Copy, PartialEq, Eq)]
 pub enum Content {
     /// A text that isn't empty: a claim's number, a family or a member.
     Identifier,
@@ -35,14 +35,14 @@ impl Content {
 }
 
 /// A column that a file needs.
-#[derive(Debug, Drop)]
+#[derive(Drop)]
 pub struct Needed {
     pub name: Title,
     pub content: Content,
 }
 
 /// The name of a column, which contracts see as its bytes.
-#[derive(Debug, Drop)]
+#[derive(Drop)]
 pub struct Title {
     text: String,
 }
@@ -84,14 +84,14 @@ pub fn needed_column(alloc: Global, name: &str, content: Content) -> Result<Need
 }
 
 /// A needed column, where the header has it: its place counts from 0.
-#[derive(Clone, Copy, Debug, PartialEq, Eq)]
+#[derive(Clone, Copy, PartialEq, Eq)]
 pub struct Column {
     pub place: usize,
     pub content: Content,
 }
 
 /// How many fields the header has, and where among them the needed columns are.
-#[derive(Debug, Drop)]
+#[derive(Drop)]
 pub struct Layout {
     pub width: usize,
     pub columns: Sequence<Column>,

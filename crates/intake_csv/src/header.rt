@@ -13,7 +13,7 @@ use dtable::Sequence;
 use std::alloc::Global;
 
 /// How a name stands in a header.
-#[derive(Clone, Copy, Debug, PartialEq, Eq)]
+#[derive(Clone, Copy, PartialEq, Eq)]
 pub enum Standing {
     /// Nowhere.
     Missing,

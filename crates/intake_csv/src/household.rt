@@ -9,7 +9,7 @@ use std::collections::BTreeMap;
 use std::marker::Model;
 
 /// Why a member with a balance can't be put behind others of its family.
-#[derive(Clone, Copy, Debug, PartialEq, Eq)]
+#[derive(Clone, Copy, PartialEq, Eq)]
 pub enum Refusal {
     /// It stands there already.
     Again,
@@ -21,13 +21,24 @@ pub enum Refusal {
 
 /// The members of a family in a year, with their balances, and the sums over them. A family of one member, as each is where the plan
 /// keeps no families, takes no map.
-#[derive(Debug, Drop)]
 pub struct Household {
     first: String,
     balance: Balance,
     others: BTreeMap<String, Balance>,
     met: Money,
     oop: Money,
+}
+
+impl Drop for Household {
+    fn drop(self) {
+        let Household {
+            first: _,
+            balance: _,
+            others: _,
+            met: _,
+            oop: _,
+        } = self;
+    }
 }
 
 impl Model for Household {

@@ -16,7 +16,6 @@ use std::mem::replace;
 use std::str;
 
 /// A record of a file. Where all of it is ASCII, which is found once, no field is looked at again to see whether it is text.
-#[derive(Drop)]
 pub struct Line {
     alloc: Global,
     is_ascii: bool,
@@ -24,6 +23,17 @@ pub struct Line {
     texts: StringRecord,
     // The record where it isn't.
     bytes: ByteRecord,
+}
+
+impl Drop for Line {
+    fn drop(self) {
+        let Line {
+            alloc: _,
+            is_ascii: _,
+            texts: _,
+            bytes: _,
+        } = self;
+    }
 }
 
 impl Model for Line {
@@ -37,7 +47,7 @@ impl Model for Line {
 }
 
 /// A field that is no text, since it isn't UTF-8.
-#[derive(Clone, Copy, Debug, PartialEq, Eq, Drop)]
+#[derive(Clone, Copy, PartialEq, Eq, Drop)]
 pub struct NoText;
 
 impl Line {

@@ -20,7 +20,7 @@ use std::alloc::{AllocError, Global};
 use std::marker::Model;
 
 /// A record of a file of claims.
-#[derive(Debug, Drop)]
+#[derive(Drop)]
 pub enum Row {
     /// A claim: its number counts the records behind the header, from 1, and its place the claims, from 0.
     Good {
@@ -36,7 +36,6 @@ pub enum Row {
 }
 
 /// The rows of a file of claims, one after another. It borrows the file's text, and holds one record of it at a time.
-#[derive(Drop)]
 pub struct Rows<'t> {
     alloc: Global,
     layout: Layout,
@@ -44,6 +43,19 @@ pub struct Rows<'t> {
     current: Line,
     next: usize,
     claims: usize,
+}
+
+impl Drop for Rows<'_> {
+    fn drop(self) {
+        let Rows {
+            alloc: _,
+            layout: _,
+            records: _,
+            current: _,
+            next: _,
+            claims: _,
+        } = self;
+    }
 }
 
 impl<'t> Model for Rows<'t> {

@@ -7,7 +7,7 @@ use std::alloc::{AllocFailed, Global};
 use std::marker::Model;
 
 /// The outcome of a claim, on the heap. Contracts see the outcome.
-#[derive(Debug, Drop)]
+#[derive(Drop)]
 pub struct Decision {
     outcome: Box<Outcome>,
 }

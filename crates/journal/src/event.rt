@@ -6,7 +6,7 @@ use crate::decision::Decision;
 ///
 /// An event is a tag and two words, 24 bytes, whatever it tells: a journal has about three for each claim, and grows by
 /// copying. So the outcome of a decision, ten words and its remarks, stands on the heap behind one of the two.
-#[derive(Debug, Drop)]
+#[derive(Drop)]
 pub enum Event {
     /// The next claim of a provider's file is accepted; how many were accepted before is the claim's position.
     Accept {

@@ -16,11 +16,20 @@ use std::alloc::{AllocError, AllocFailed, Global};
 use std::marker::Model;
 
 /// The places of claims, by position. Contracts see the list of places.
-#[derive(Debug, Drop)]
 pub struct Lanes {
     alloc: Global,
     names: Names,
     chains: Chains,
+}
+
+impl Drop for Lanes {
+    fn drop(self) {
+        let Lanes {
+            alloc: _,
+            names: _,
+            chains: _,
+        } = self;
+    }
 }
 
 impl Model for Lanes {

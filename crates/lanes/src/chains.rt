@@ -19,7 +19,6 @@ use std::alloc::{AllocError, Global};
 use std::collections::VecDeque;
 
 /// The slots of all claims by position. Each family has a lane, by the number of its name, in which its claims' slots are linked.
-#[derive(Debug, Drop)]
 pub struct Chains {
     pub slots: Vec<Slot>,
     /// The position of the last claim in each lane.
@@ -30,6 +29,18 @@ pub struct Chains {
     pub households: Lasts,
     /// The positions of the claims that are ready, first come first.
     pub ready: VecDeque<usize>,
+}
+
+impl Drop for Chains {
+    fn drop(self) {
+        let Chains {
+            slots: _,
+            ends: _,
+            accounts: _,
+            households: _,
+            ready: _,
+        } = self;
+    }
 }
 
 impl Chains {

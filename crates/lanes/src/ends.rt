@@ -6,7 +6,7 @@ use std::alloc::{AllocError, Global};
 use std::mem::replace;
 
 /// The last position of each number that has one.
-#[derive(Debug, Drop)]
+#[derive(Drop)]
 pub struct Ends {
     pub positions: Vec<Option<u32>>,
 }

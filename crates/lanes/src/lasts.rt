@@ -13,10 +13,18 @@ pub type Key = (u32, u32, u16);
 
 /// The last position of each key that has one. A member who is a family of its own, in no year, is found by its number, which takes
 /// less memory than a map; a key in the map may have no position.
-#[derive(Debug, Drop)]
 pub struct Lasts {
     pub plain: Ends,
     pub others: BTreeMap<(u32, u32, u16), Option<u32>>,
+}
+
+impl Drop for Lasts {
+    fn drop(self) {
+        let Lasts {
+            plain: _,
+            others: _,
+        } = self;
+    }
 }
 
 impl Lasts {

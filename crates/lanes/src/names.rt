@@ -9,7 +9,7 @@ use std::collections::BTreeMap;
 use std::marker::Model;
 
 /// Names of families and of members, numbered from 0 in the order in which they came. Contracts see the list of them.
-#[derive(Debug, Drop)]
+#[derive(Drop)]
 pub struct Names {
     alloc: Global,
     numbers: BTreeMap<String, u32>,

@@ -7,7 +7,7 @@ use crate::stored::StoredClaim;
 use settlement::Acc;
 
 /// How far a claim is on its way to a decision. One that isn't taken stands apart, so that a decided one takes little.
-#[derive(Debug, Drop)]
+#[derive(Drop)]
 pub enum Phase {
     /// An earlier claim of its family is not decided.
     Waiting(StoredClaim),

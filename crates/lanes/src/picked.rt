@@ -5,7 +5,7 @@ ghost use Rattle.lanes.specs.Places.{started};
 use settlement::{Acc, Claim};
 
 /// A claim, with what the earlier ones left of what it is to be decided at.
-#[derive(Debug, Drop)]
+#[derive(Drop)]
 pub struct Picked {
     /// How many claims were added before it.
     pub position: usize,

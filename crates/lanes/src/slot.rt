@@ -11,7 +11,6 @@ use settlement::Acc;
 use std::mem::replace;
 
 /// Where a claim is kept.
-#[derive(Debug, Drop)]
 pub struct Slot {
     /// The numbers of its family, which is its lane, and of its member, and the year.
     pub key: Key,
@@ -23,6 +22,18 @@ pub struct Slot {
     pub household: Option<u32>,
     /// How far the claim is.
     pub phase: Phase,
+}
+
+impl Drop for Slot {
+    fn drop(self) {
+        let Slot {
+            key: _,
+            next: _,
+            own: _,
+            household: _,
+            phase: _,
+        } = self;
+    }
 }
 
 impl Slot {

@@ -7,7 +7,7 @@ use std::alloc::{AllocFailed, Global};
 use std::marker::Model;
 
 /// A claim on the heap, so that what is kept of a decided one takes little. Contracts see the claim.
-#[derive(Debug, Drop)]
+#[derive(Drop)]
 pub struct StoredClaim {
     claim: Box<Claim>,
 }

@@ -4,7 +4,7 @@ use std::alloc::{AllocError, Global};
 use std::collections::BTreeMap;
 
 /// A step on the way to a value: a key of a table, or an item of an array, counted from 0.
-#[derive(Clone, Copy, Debug, PartialEq, Eq)]
+#[derive(Clone, Copy, PartialEq, Eq)]
 pub enum Step {
     Key(&'static str),
     Item(usize),

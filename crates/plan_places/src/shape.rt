@@ -1,7 +1,7 @@
 //! The keys that a plan has, and what stands behind each.
 
 /// What a value of a plan is, as far as its keys are concerned.
-#[derive(Clone, Copy, Debug, PartialEq, Eq)]
+#[derive(Clone, Copy, PartialEq, Eq)]
 pub enum Shape {
     Plan,
     Fields,

@@ -5,7 +5,7 @@ ghost use Rattle.remit.specs.Amounts.{amount_of, name_of};
 use settlement::{Money, Outcome};
 
 /// An amount of a record.
-#[derive(Clone, Copy, Debug, PartialEq, Eq)]
+#[derive(Clone, Copy, PartialEq, Eq)]
 pub enum Amount {
     Allowed,
     Deductible,

@@ -10,11 +10,20 @@ use settlement::Outcome;
 use std::alloc::{AllocError, Global};
 
 /// The positions of each provider's claims, in order, what the claim at each position is decided to be, and the plan's version.
-#[derive(Drop)]
 pub struct Decisions<'j> {
     version: u8,
     positions: Vec<Vec<usize>>,
     decided: Vec<Option<&'j Outcome>>,
+}
+
+impl Drop for Decisions<'_> {
+    fn drop(self) {
+        let Decisions {
+            version: _,
+            positions: _,
+            decided: _,
+        } = self;
+    }
 }
 
 impl<'j> Decisions<'j> {

@@ -6,7 +6,7 @@ use std::io;
 use std::io::{ErrorKind, Write};
 
 /// A text that isn't held: it would be longer than it may be, or memory is wanting for it.
-#[derive(Clone, Copy, Debug, PartialEq, Eq, Drop)]
+#[derive(Clone, Copy, PartialEq, Eq, Drop)]
 pub struct NotHeld;
 
 /// A text that takes bytes as long as it isn't longer than it may be.

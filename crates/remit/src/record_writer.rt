@@ -17,11 +17,20 @@ use std::mem;
 const PIECE_BYTES: usize = 65_536;
 
 /// Records that are gathered, and how many bytes were handed over before them.
-#[derive(Drop)]
 pub struct RecordWriter {
     alloc: Global,
     gathered: Writer<Vec<u8>>,
     written: usize,
+}
+
+impl Drop for RecordWriter {
+    fn drop(self) {
+        let RecordWriter {
+            alloc: _,
+            gathered: _,
+            written: _,
+        } = self;
+    }
 }
 
 impl RecordWriter {

@@ -9,7 +9,7 @@ use journal::Event;
 use settlement::{Money, Outcome, Verdict};
 
 /// The sums of the amounts over paid claims, in units, in the order of the amounts. No journal is so long that they leave 128 bits.
-#[derive(Clone, Copy, Debug, PartialEq, Eq)]
+#[derive(Clone, Copy, PartialEq, Eq)]
 pub struct Sums {
     units: [u128; AMOUNTS.len()],
 }

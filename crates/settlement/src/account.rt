@@ -9,7 +9,7 @@ use dtable::Plan;
 use feel_tests::day_year;
 
 /// What an account begins with.
-#[derive(Clone, Copy, Debug, PartialEq, Eq)]
+#[derive(Clone, Copy, PartialEq, Eq)]
 pub struct Balance {
     /// What was met of the deductible.
     pub met: Money,

@@ -7,7 +7,7 @@ use crate::money::Money;
 use crate::terms::RoleTerms;
 
 /// What is allowed of what is billed, and who pays it.
-#[derive(Clone, Copy, Debug)]
+#[derive(Clone, Copy)]
 pub struct Amounts {
     pub allowed: Money,
     pub ded: Money,

@@ -22,7 +22,6 @@ const NAMES_BEFORE_WITH_FAMILIES: usize = 5;
 const NAMES_BEHIND_WITH_FAMILIES: usize = 5;
 
 /// A claim: one service to one member.
-#[derive(Debug, Drop)]
 pub struct Claim {
     /// The provider's number for it.
     pub id: Text,
@@ -36,6 +35,19 @@ pub struct Claim {
     pub billed: Money,
     /// The values of the plan's fields, in the plan's order.
     pub fields: Sequence<Value>,
+}
+
+impl Drop for Claim {
+    fn drop(self) {
+        let Claim {
+            id: _,
+            family: _,
+            member: _,
+            service: _,
+            billed: _,
+            fields: _,
+        } = self;
+    }
 }
 
 impl Claim {

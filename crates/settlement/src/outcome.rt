@@ -36,7 +36,6 @@ pub enum Reason {
 }
 
 /// The outcome of a claim: the verdict, the amounts, which are zero unless the claim is paid, and the remarks.
-#[derive(Debug, Drop)]
 pub struct Outcome {
     pub verdict: Verdict,
     /// What the plan allows of what is billed.
@@ -53,6 +52,21 @@ pub struct Outcome {
     pub paid: Money,
     /// What the plan's tables remark on; a pended claim has none.
     pub remarks: Remarks,
+}
+
+impl Drop for Outcome {
+    fn drop(self) {
+        let Outcome {
+            verdict: _,
+            allowed: _,
+            ded: _,
+            copay: _,
+            coins: _,
+            share: _,
+            paid: _,
+            remarks: _,
+        } = self;
+    }
 }
 
 impl Outcome {

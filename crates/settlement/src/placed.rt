@@ -4,14 +4,14 @@ ghost use Rattle.settlement.specs.Placed.{IsPlaced, AreFamilyPlaced, AreRemarksP
 use dtable::{FamilyRoles, Name, OutputPlace, Plan, Source};
 
 /// For each of the family's limits the place of the output that gives its value, if one does.
-#[derive(Debug, Drop)]
+#[derive(Drop)]
 pub struct FamilyPlaces {
     pub deductible: Option<OutputPlace>,
     pub oop_max: Option<OutputPlace>,
 }
 
 /// For each role the place of the output that gives its value, if one does.
-#[derive(Debug, Drop)]
+#[derive(Drop)]
 pub struct RolePlaces {
     pub cover: Option<OutputPlace>,
     pub fee: Option<OutputPlace>,

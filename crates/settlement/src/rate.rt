@@ -7,7 +7,7 @@ use fixpoint::Fixed;
 use std::marker::Model;
 
 /// A number from 0 to 1. Contracts see its units.
-#[derive(Clone, Copy, Debug)]
+#[derive(Clone, Copy)]
 pub struct Rate {
     number: Fixed,
 }

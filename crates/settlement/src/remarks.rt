@@ -16,13 +16,17 @@ const INLINE_PLACES: usize = 16;
 
 /// The remarks of an outcome, in order; contracts see the list of their texts. Remarks that a plan's rules name cost their
 /// places in words that outcomes share, and no copy of a text. No remarks cost nothing.
-#[derive(Debug, Drop)]
 pub struct Remarks {
     listed: Option<Arc<Listed>>,
 }
 
+impl Drop for Remarks {
+    fn drop(self) {
+        let Remarks { listed: _ } = self;
+    }
+}
+
 /// Texts, in order.
-#[derive(Debug, Drop)]
 enum Listed {
     /// The texts at these places of the words.
     Placed {
@@ -31,6 +35,18 @@ enum Listed {
     },
     /// Texts that are no one else's.
     Own(Sequence<Text>),
+}
+
+impl Drop for Listed {
+    fn drop(self) {
+        match self {
+            Listed::Placed {
+                words: _,
+                places: _,
+            } => {}
+            Listed::Own(_) => {}
+        }
+    }
 }
 
 impl Model for Remarks {

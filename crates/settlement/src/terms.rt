@@ -18,14 +18,14 @@ use feel_tests::{Text, Value};
 use std::alloc::{AllocError, Global};
 
 /// The limits of a claim's family: amounts of money.
-#[derive(Clone, Copy, Debug)]
+#[derive(Clone, Copy)]
 pub struct FamilyTerms {
     pub deductible: Money,
     pub oop_max: Money,
 }
 
 /// The number roles of a claim: amounts of money and a rate, and the family's limits, if there are any.
-#[derive(Clone, Copy, Debug)]
+#[derive(Clone, Copy)]
 pub struct RoleTerms {
     pub fee: Money,
     pub deductible: Money,

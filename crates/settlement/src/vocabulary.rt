@@ -13,7 +13,6 @@ use std::sync::Arc;
 
 /// The texts that a plan's rules remark, from which the remarks of each outcome are put together by their places. It
 /// only finds: what it gives is to be asked whether it is what was sought, so that nothing is promised of it.
-#[derive(Drop)]
 pub struct Vocabulary {
     alloc: Global,
     /// The words in the order of the rules, each once, as many as have a place.
@@ -22,6 +21,17 @@ pub struct Vocabulary {
     order: Sequence<u8>,
     /// For each word the remarks that are that word alone.
     alone: Sequence<Remarks>,
+}
+
+impl Drop for Vocabulary {
+    fn drop(self) {
+        let Vocabulary {
+            alloc: _,
+            words: _,
+            order: _,
+            alone: _,
+        } = self;
+    }
 }
 
 impl Vocabulary {

@@ -4,7 +4,7 @@ ghost use Rattle.std.specs.Prelude.{◌≡◌, true};
 ghost use Rattle.summary.specs.Counts.{counted};
 
 /// What became of a record.
-#[derive(Clone, Copy, Debug, PartialEq, Eq)]
+#[derive(Clone, Copy, PartialEq, Eq)]
 pub enum Told {
     Paid,
     Denied,
@@ -28,7 +28,7 @@ impl Told {
 }
 
 /// How many records there were, by what became of them. A count that would leave its range stays at its end.
-#[derive(Clone, Copy, Debug, Default, PartialEq, Eq)]
+#[derive(Clone, Copy, Default, PartialEq, Eq)]
 pub struct Counts {
     pub paid: u64,
     pub denied: u64,

@@ -8,7 +8,7 @@ const WORD_BYTES: usize = 40;
 const PROVIDER: usize = 0;
 
 /// The first bytes of a field.
-#[derive(Clone, Copy, Debug, PartialEq, Eq)]
+#[derive(Clone, Copy, PartialEq, Eq)]
 pub struct Word {
     bytes: [u8; WORD_BYTES],
     length: usize,

@@ -12,7 +12,7 @@ use std::io::Write;
 const PIECE_BYTES: usize = 65_536;
 
 /// How far a text has gone to a writer.
-#[derive(Debug, Drop)]
+#[derive(Drop)]
 pub struct Progress {
     /// How many bytes the writer got, or the greatest number where there are more.
     written: usize,
@@ -40,7 +40,7 @@ impl Progress {
 }
 
 /// What is gathered of a text, and how far the text in front of it has gone.
-#[derive(Debug, Drop)]
+#[derive(Drop)]
 pub struct Pieces {
     gathered: Vec<u8>,
     progress: Progress,

@@ -15,7 +15,7 @@ use std::alloc::{AllocError, Global};
 use std::marker::Model;
 
 /// Which gaps and overlaps are told.
-#[derive(Clone, Copy, Debug)]
+#[derive(Clone, Copy)]
 pub enum Telling {
     /// All.
     All,
@@ -24,7 +24,7 @@ pub enum Telling {
 }
 
 /// Bytes, which contracts see as their list.
-#[derive(Debug, Drop)]
+#[derive(Drop)]
 pub struct Bytes {
     bytes: Vec<u8>,
 }
@@ -47,7 +47,7 @@ impl Bytes {
 }
 
 /// A column of a check.
-#[derive(Debug, Drop)]
+#[derive(Drop)]
 pub struct ColumnText {
     /// What is printed of each of its regions, behind a mark if the column isn't the first.
     pub regions: Sequence<Bytes>,
@@ -68,7 +68,6 @@ impl ColumnText {
 }
 
 /// What is told of a table.
-#[derive(Debug, Drop)]
 pub struct ToldTable {
     /// The overlaps.
     pub overlaps: Vec<(usize, usize)>,
@@ -80,8 +79,19 @@ pub struct ToldTable {
     pub gaps: Vec<u32>,
 }
 
+impl Drop for ToldTable {
+    fn drop(self) {
+        let ToldTable {
+            overlaps: _,
+            is_wide: _,
+            columns: _,
+            gaps: _,
+        } = self;
+    }
+}
+
 /// What is told of a plan.
-#[derive(Debug, Drop)]
+#[derive(Drop)]
 pub struct ToldPlan {
     /// Of each table.
     pub tables: Vec<ToldTable>,

@@ -28,7 +28,7 @@ pub fn read_arguments(alloc: Global, plan: &Plan, arguments: &[&str]) -> Result<
 }
 
 /// What one argument gives: a value for the name at a place, from 0.
-#[derive(Debug, Drop)]
+#[derive(Drop)]
 pub struct Assignment {
     pub place: usize,
     pub value: Value,

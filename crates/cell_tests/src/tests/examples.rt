@@ -106,7 +106,7 @@ fn other_kinds_are_neither_equal_nor_ordered(rt: HostRuntime) {
 
 #[test]
 fn a_cell_keeps_its_tests(rt: HostRuntime) {
-    match cell_of(&rt, rt.alloc(), Kind::Flag, "true,false,true") {
+    match &cell_of(&rt, rt.alloc(), Kind::Flag, "true,false,true") {
         Cell::OneOf(tests) => assert!(rt; tests.as_slice().len() == 3),
         _ => panic!(rt; "tests"),
     }

@@ -6,7 +6,7 @@ use feel_tests::{CellCause, CellFault};
 use std::alloc::AllocError;
 
 /// Where a fault stands: tables, rules and columns count from 1, and 0 says none.
-#[derive(Clone, Copy, Debug, PartialEq, Eq)]
+#[derive(Clone, Copy, PartialEq, Eq)]
 pub struct Place {
     pub table: usize,
     pub rule: usize,

@@ -24,7 +24,7 @@ use std::alloc::{AllocError, Global};
 use toml::Value;
 
 /// What is asked of a role's value.
-#[derive(Clone, Copy, Debug, PartialEq, Eq)]
+#[derive(Clone, Copy, PartialEq, Eq)]
 pub enum Asked {
     /// A flag.
     Flag,
