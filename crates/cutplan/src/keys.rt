@@ -7,9 +7,6 @@ use dtable::Sequence;
 use feel_tests::{Text, Value};
 use std::alloc::{AllocError, Global};
 
-/// How many bytes of a text its key has.
-const KEY_BYTES: usize = 8;
-
 /// The keys of a plan's tables, of each column of a table: one for each region that has a first value, in front of any other text.
 pub fn keys_of_tables(
     alloc: Global,
@@ -70,13 +67,23 @@ pub fn key_of_integer(integer: i64) -> u64 {
     integer.abs_diff(i64::MIN)
 }
 
-/// The first bytes of a text as a number.
+/// The first bytes of a text as a number: of a shorter text its bytes, and zeros behind them.
 pub fn key_of_text(text: &Text) -> u64 {
-    let bytes = text.as_bytes();
+    match text.as_bytes() {
+        [first, second, third, fourth, fifth, sixth, seventh, eighth, ..] => u64::from_be_bytes([
+            *first, *second, *third, *fourth, *fifth, *sixth, *seventh, *eighth,
+        ]),
+        short => key_of_short(short),
+    }
+}
+
+// The bytes as a number whose first byte is the highest, where they are fewer than a number's.
+fn key_of_short(bytes: &[u8]) -> u64 {
     let mut key: u64 = 0;
-    for place in 0..KEY_BYTES {
-        let byte = bytes.get(place).copied().unwrap_or(0);
-        key = key << 8 | u64::from(byte);
+    let mut left: u32 = u64::BITS;
+    for byte in bytes {
+        left = left.saturating_sub(u8::BITS);
+        key |= u64::from(*byte).wrapping_shl(left);
     }
     key
 }
