@@ -80,6 +80,7 @@ pub struct AnswersByTable<'a> {
 }
 
 impl Drop for AnswersByTable<'_> {
+    #[inline]
     fn drop(self) {
         let AnswersByTable { tables: _ } = self;
     }

@@ -19,6 +19,7 @@ pub enum Answer {
 }
 
 impl Drop for Answer {
+    #[inline]
     fn drop(self) {
         match self {
             Answer::One(_) => {}
@@ -34,6 +35,7 @@ pub struct Env<'a> {
 }
 
 impl Drop for Env<'_> {
+    #[inline]
     fn drop(self) {
         let Env {
             tables: _,

@@ -20,6 +20,7 @@ pub struct Text {
 }
 
 impl Drop for Text {
+    #[inline]
     fn drop(self) {
         let Text { bytes: _ } = self;
     }

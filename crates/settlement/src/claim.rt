@@ -38,6 +38,7 @@ pub struct Claim {
 }
 
 impl Drop for Claim {
+    #[inline]
     fn drop(self) {
         let Claim {
             id: _,

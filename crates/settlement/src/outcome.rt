@@ -55,6 +55,7 @@ pub struct Outcome {
 }
 
 impl Drop for Outcome {
+    #[inline]
     fn drop(self) {
         let Outcome {
             verdict: _,

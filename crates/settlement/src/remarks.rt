@@ -21,6 +21,7 @@ pub struct Remarks {
 }
 
 impl Drop for Remarks {
+    #[inline]
     fn drop(self) {
         let Remarks { listed: _ } = self;
     }
