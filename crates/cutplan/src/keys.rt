@@ -70,7 +70,17 @@ pub fn key_of_integer(integer: i64) -> u64 {
 /// The first bytes of a text as a number: of a shorter text its bytes, and zeros behind them.
 pub fn key_of_text(text: &Text) -> u64 {
     match text.as_bytes() {
-        [first, second, third, fourth, fifth, sixth, seventh, eighth, ..] => u64::from_be_bytes([
+        [
+            first,
+            second,
+            third,
+            fourth,
+            fifth,
+            sixth,
+            seventh,
+            eighth,
+            ..
+        ] => u64::from_be_bytes([
             *first, *second, *third, *fourth, *fifth, *sixth, *seventh, *eighth,
         ]),
         short => key_of_short(short),
