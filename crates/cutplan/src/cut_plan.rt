@@ -235,6 +235,7 @@ fn value_of_mask<'k>(
 }
 
 // The same of the rules that the mask has: lent, where they are kept.
+#[inline(always)]
 fn value_of_rules<'k>(
     alloc: Global,
     number: usize,

@@ -63,6 +63,7 @@ fn sought(regions: &[Region], value: &Value) -> usize {
     }
 }
 
+#[inline(always)]
 fn has_at(regions: &[Region], place: usize, value: &Value) -> bool
     requires { OthersRise regions.now }
     ensures { result ≡ has_at regions.now place value.now }
@@ -74,6 +75,7 @@ fn has_at(regions: &[Region], place: usize, value: &Value) -> bool
 }
 
 // Whether the value lies in the region: of other texts, by a search, since a walk over all that are named would cost most.
+#[inline(always)]
 fn has(region: &Region, value: &Value) -> bool
     requires { (names : List Value) → region.now ≡ Other names → AreRisingTexts names }
     ensures { result ≡ is_in region.now value.now }

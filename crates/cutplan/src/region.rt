@@ -61,6 +61,7 @@ impl Region {
 }
 
 /// Whether the value lies in the region.
+#[inline(always)]
 pub fn is_in(region: &Region, value: &Value) -> bool
     ensures { result ≡ is_in region.now value.now }
 {
@@ -82,6 +83,7 @@ pub fn is_among(names: &[Value], value: &Value) -> bool
 }
 
 /// Whether the first number or day is smaller.
+#[inline(always)]
 pub fn is_less(one: &Value, other: &Value) -> bool
     ensures { result ≡ is_less one.now other.now }
 {

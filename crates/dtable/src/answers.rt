@@ -106,6 +106,7 @@ impl<'a> AnswersByTable<'a> {
     }
 
     /// Puts the next table's answers behind the others.
+    #[inline(always)]
     pub fn push(&mut self, answers: Answers<'a>) -> Result<(), AllocError>
         ensures ok { OnOk result (self.new ≡ self.old ++ answers.entry ∷ []) }
         ensures err { OnErr result (self.new ≡ self.old) }

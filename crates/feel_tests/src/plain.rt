@@ -37,6 +37,7 @@ impl PlainFault {
 
 /// Reads a whole field of a CSV record (RFC 4180) as a value: a number text, a text of at most 256
 /// bytes as it is, `true` or `false`, or a date `YYYY-MM-DD`. All else is `PlainFault::Bad`.
+#[inline(always)]
 pub fn read_plain(alloc: Global, kind: Kind, text: &str) -> Result<Value, PlainFault>
     ensures ok { IfOk result (SpellsPlain kind text.now) }
     ensures kind { IfOk result (λ value. kind_of value ≡ kind) }
@@ -50,6 +51,7 @@ pub fn read_plain(alloc: Global, kind: Kind, text: &str) -> Result<Value, PlainF
     }
 }
 
+#[inline(always)]
 fn plain_number(text: &[u8]) -> Result<Value, PlainFault>
     ensures ok { IfOk result (SpellsPlain kinds.Number text.now) }
     ensures refused { IfErr result (RefusesPlain (SpellsPlain kinds.Number text.now)) }
@@ -61,6 +63,7 @@ fn plain_number(text: &[u8]) -> Result<Value, PlainFault>
 }
 
 #[tactic(auto, using(crate::proofs::PlainValues::no_text))]
+#[inline(always)]
 fn plain_text(alloc: Global, text: &str) -> Result<Value, PlainFault>
     ensures ok { IfOk result (SpellsPlain kinds.Text text.now) }
     ensures refused { IfErr result (RefusesPlain (SpellsPlain kinds.Text text.now)) }
@@ -74,6 +77,7 @@ fn plain_text(alloc: Global, text: &str) -> Result<Value, PlainFault>
     }
 }
 
+#[inline(always)]
 fn plain_flag(text: &str) -> Result<Value, PlainFault>
     ensures ok { IfOk result (SpellsPlain kinds.Flag text.now) }
     ensures refused { IfErr result (RefusesPlain (SpellsPlain kinds.Flag text.now)) }
@@ -87,6 +91,7 @@ fn plain_flag(text: &str) -> Result<Value, PlainFault>
     }
 }
 
+#[inline(always)]
 fn plain_day(text: &[u8]) -> Result<Value, PlainFault>
     ensures ok { IfOk result (SpellsPlain kinds.Day text.now) }
     ensures refused { IfErr result (RefusesPlain (SpellsPlain kinds.Day text.now)) }

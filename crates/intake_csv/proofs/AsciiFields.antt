@@ -1,8 +1,8 @@
 -- The fields of a record of ASCII are text.
-use Rattle.std.proofs.Common.{◌+◌, ◌-◌, ◌∷◌, [], ℕ, zero, suc, List, take, drop, arith, get_or-drop}
+use Rattle.std.proofs.Common.{◌≡◌, ◌+◌, ◌-◌, ◌∷◌, [], ℕ, zero, suc, List, Some, IsUtf8, take, drop, arith, get_or-drop}
 use Rattle.std.proofs.lemmas.Str.{IsUtf8-from_ascii}
 use Rattle.std.specs.Str.{IsAscii}
-use Rattle.csv.specs.Records.{AllText, Row, cut_from, fields_of, text_of}
+use Rattle.csv.specs.Records.{AllText, Row, cut_from, field_at, fields_of, text_of}
 
 ascii-take : (n : ℕ) (l : List ℕ) → IsAscii l → IsAscii (take n l)
 ascii-take zero l h i = omega arith
@@ -20,3 +20,10 @@ ascii-parts start (end ∷ ends) bytes h =
 -- each field is text
 pub ascii-fields : (row : Row) → IsAscii (text_of row) → AllText (fields_of row)
 ascii-fields row h = ascii-parts 0 row.ends row.bytes h
+
+-- the field at a place of texts is one
+pub text_at : (fields : List (List ℕ)) (place : ℕ) (field : List ℕ) → AllText fields → field_at fields place ≡ Some field → IsUtf8 field
+unfolding AllText field_at
+text_at [] place field texts there = cc there
+text_at (f ∷ fs) zero field texts there = let same : f ≡ field = cc there in rw same at texts.0
+text_at (f ∷ fs) (suc place) field texts there = text_at fs place field texts.1 there

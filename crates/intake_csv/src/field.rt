@@ -13,6 +13,7 @@ use fixpoint::{Fixed, text_denotes_at_most_one};
 use std::alloc::{AllocError, Global};
 
 /// Reads a field that is a text: its value, or the first of its faults.
+#[inline(always)]
 pub fn read_text(
     alloc: Global,
     content: Content,
@@ -32,6 +33,7 @@ pub fn read_text(
 }
 
 #[tactic(auto, using(crate::proofs::Spelling::identifier_read, crate::proofs::Spelling::unread))]
+#[inline(always)]
 fn read_identifier(alloc: Global, text: &str) -> Result<Result<Value, RowCause>, AllocError>
     requires { IsText text.now }
     ensures { IfOk result (IsFieldRead contents.Identifier text.now) }
@@ -46,6 +48,7 @@ fn read_identifier(alloc: Global, text: &str) -> Result<Result<Value, RowCause>,
     }
 }
 
+#[inline(always)]
 fn read_money(text: &str) -> Result<Value, RowCause>
     requires { IsText text.now }
     ensures { IsFieldRead contents.Money text.now result }
@@ -80,6 +83,7 @@ fn read_year(alloc: Global, text: &str) -> Result<Result<Value, RowCause>, Alloc
 }
 
 #[tactic(auto, using(crate::proofs::Spelling::plain_read, crate::proofs::Spelling::unread))]
+#[inline(always)]
 fn read_of_kind(
     alloc: Global,
     kind: Kind,

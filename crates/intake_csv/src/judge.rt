@@ -75,6 +75,7 @@ pub fn first_fault(
     Ok(first)
 }
 
+#[inline(always)]
 fn judge_under(
     alloc: Global,
     column: Column,
@@ -107,6 +108,7 @@ fn judge_under(
 }
 
 // Whether a field that is a text holds some value, or the first of its faults. A text is a value as it stands, and no copy is made of it.
+#[inline(always)]
 fn judge_text(
     alloc: Global,
     content: Content,

@@ -8,42 +8,37 @@ ghost use Rattle.intake_csv.specs.Records.{Reads};
 ghost use Rattle.intake_csv.specs.declared.records.Stage.TheVariants.{Over, Failed};
 
 use crate::records::Records;
-use csv::{ByteRecord, StringRecord};
+use csv::ByteRecord;
 use feel_tests::{Day, Kind, PlainFault, Value, read_plain};
 use std::alloc::{AllocError, Global};
 use std::marker::Model;
-use std::mem::replace;
 use std::str;
 
 /// A record of a file. Where all of it is ASCII, which is found once, no field is looked at again to see whether it is text.
 pub struct Line {
-    alloc: Global,
     is_ascii: bool,
-    // The record where all of it is ASCII.
-    texts: StringRecord,
-    // The record where it isn't.
-    bytes: ByteRecord,
+    row: ByteRecord,
 }
 
 impl Drop for Line {
     fn drop(self) {
         let Line {
-            alloc: _,
             is_ascii: _,
-            texts: _,
-            bytes: _,
+            row: _,
         } = self;
     }
 }
 
 impl Model for Line {
-    ghost use Rattle.std.specs.Prelude.{cond};
-    ghost use Rattle.csv.specs.Records.{fields_of};
+    ghost use Rattle.std.specs.Prelude.{◌≡◌, true};
+    ghost use Rattle.csv.specs.Records.{AllText, fields_of};
     ghost use Rattle.intake_csv.specs.Records.{Fields};
 
     ghost Value = { Fields };
 
-    ghost view = { λ l. cond l.is_ascii (fields_of l.texts) (fields_of l.bytes) };
+    ghost view = { λ l. fields_of l.row };
+
+    ghost invariant = { λ l. l.is_ascii ≡ true → AllText (fields_of l.row) };
 }
 
 /// A field that is no text, since it isn't UTF-8.
@@ -56,10 +51,8 @@ impl Line {
         ensures { result ≡ [] }
     {
         Line {
-            alloc,
             is_ascii: false,
-            texts: StringRecord::new(alloc),
-            bytes: ByteRecord::new(alloc),
+            row: ByteRecord::new(alloc),
         }
     }
 
@@ -70,57 +63,32 @@ impl Line {
         ensures failed { records.old.stage ≡ Failed → is_err result ≡ true }
         ensures over { records.old.stage ≡ Over → result ≡ Ok false }
     {
-        let mut row = self.take();
-        let read = records.read(&mut row);
-        self.put(row);
+        self.is_ascii = false;
+        let read = records.read(&mut self.row);
+        self.is_ascii = self.row.as_slice().is_ascii();
         read
-    }
-
-    // The memory in which a record is read, with nothing left here.
-    fn take(&mut self) -> ByteRecord {
-        if self.is_ascii {
-            replace(&mut self.texts, StringRecord::new(self.alloc)).into_byte_record()
-        } else {
-            replace(&mut self.bytes, ByteRecord::new(self.alloc))
-        }
-    }
-
-    // Puts a record in the place of this one.
-    fn put(&mut self, row: ByteRecord)
-        ensures { self.new ≡ fields_of row }
-    {
-        self.is_ascii = row.as_slice().is_ascii();
-        if !self.is_ascii {
-            self.bytes = row;
-            return;
-        }
-        match StringRecord::from_byte_record(row) {
-            Ok(texts) => self.texts = texts,
-            Err(_) => unreachable!(),
-        }
     }
 
     /// How many fields there are.
     pub fn len(&self) -> usize
         ensures { result ≡ length self.now }
     {
-        if self.is_ascii {
-            self.texts.len()
-        } else {
-            self.bytes.len()
-        }
+        self.row.len()
     }
 
     /// The field at a place, if there is one: its text, or that it is none.
+    #[tactic(auto, using(crate::proofs::AsciiFields::text_at))]
     pub fn text(&self, place: usize) -> Option<Result<&str, NoText>>
         ensures text { IfSome result (λ found. IfOk found (λ text. field_at self.now place ≡ Some text.now)) }
         ensures none { IfSome result (λ found. IfErr found (λ _. (bytes : List ℕ) × (field_at self.now place ≡ Some bytes) × (¬ IsUtf8 bytes))) }
         ensures lacking { result ≡ None → field_at self.now place ≡ None }
     {
+        let field = self.row.get(place)?;
         if self.is_ascii {
-            return Some(Ok(self.texts.get(place)?));
+            // SAFETY: each field of a record that is ASCII is UTF-8, as the invariant says.
+            return Some(Ok(unsafe { str::from_utf8_unchecked(field) }));
         }
-        match str::from_utf8(self.bytes.get(place)?) {
+        match str::from_utf8(field) {
             Ok(text) => Some(Ok(text)),
             Err(_) => Some(Err(NoText)),
         }
@@ -147,11 +115,7 @@ impl Line {
     pub fn bytes(&self, place: usize) -> Option<&[u8]>
         ensures { option_map (λ s. s.now) result ≡ field_at self.now place }
     {
-        if self.is_ascii {
-            Some(self.texts.get(place)?.as_bytes())
-        } else {
-            self.bytes.get(place)
-        }
+        self.row.get(place)
     }
 }
 

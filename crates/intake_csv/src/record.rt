@@ -78,6 +78,7 @@ fn read_values(
 }
 
 /// The value of the field under a column, or its fault.
+#[inline(always)]
 pub fn read_under(
     alloc: Global,
     column: Column,
