@@ -1,8 +1,9 @@
 -- Names by number, and the map that finds them.
-use Rattle.std.specs.Prelude.{◌≡◌, ◌<◌, ◌==◌, ℕ, cond, List, [], ◌∷◌, ◌++◌, map, length, Some, string_bytes}
+use Rattle.std.specs.Prelude.{◌≡◌, ◌<◌, ◌==◌, ℕ, cond, List, [], ◌∷◌, ◌++◌, map, length, Option, Some}
 use Rattle.std.specs.List.{range_with_len, slice_get}
-use Rattle.std.specs.BTreeMap.{BTreeMap, get_by_text}
-use Rattle.std.specs.declared.string.String.{String}
+use Rattle.std.specs.BTreeMap.{BTreeMap, get_by}
+use Rattle.std.specs.Cmp.Lexicographic.{slice_cmp}
+use Rattle.std.specs.Ordering.{nat_cmp}
 
 -- no name stands twice
 abbrev pub AreDistinct : List (List ℕ) → Type 0
@@ -18,21 +19,25 @@ pub record Grows (old new : List (List ℕ)) : Type 0 where
   pub behind : new ≡ old ++ more
 
 -- which name the entries give a number
-abbrev pub named : {Y : Type 0} → List (String Y × ℕ) → ℕ → List ℕ
+abbrev pub named : List (List ℕ × ℕ) → ℕ → List ℕ
 named [] number = []
-named (entry ∷ rest) number = cond (entry.1 == number) (string_bytes entry.0) (named rest number)
+named (entry ∷ rest) number = cond (entry.1 == number) entry.0 (named rest number)
 
 -- the names by number
-abbrev pub names_of : {Y : Type 0} → BTreeMap (String Y) ℕ → List (List ℕ)
+abbrev pub names_of : BTreeMap (List ℕ) ℕ → List (List ℕ)
 names_of numbers = map (named numbers.entries) (range_with_len 0 (length numbers.entries))
 
+-- the number of a name
+abbrev pub number_in : BTreeMap (List ℕ) ℕ → List ℕ → Option ℕ
+number_in numbers name = get_by (slice_cmp nat_cmp name) numbers
+
 -- each number is below this one
-abbrev pub EachBelow : {Y : Type 0} → ℕ → List (String Y × ℕ) → Type 0
+abbrev pub EachBelow : ℕ → List (List ℕ × ℕ) → Type 0
 EachBelow limit [] = Unit {0}
 EachBelow limit (entry ∷ rest) = (entry.1 < limit) × EachBelow limit rest
 
 -- the numbers are those from 0 on, each of one name
-pub record AreNumbered {Y : Type 0} (numbers : BTreeMap (String Y) ℕ) : Type 0 where
+pub record AreNumbered (numbers : BTreeMap (List ℕ) ℕ) : Type 0 where
   pub below : EachBelow (length numbers.entries) numbers.entries
-  pub names : (name : List ℕ) (number : ℕ) → get_by_text numbers name ≡ Some number → named numbers.entries number ≡ name
-  pub numbers_each : (number : ℕ) → number < length numbers.entries → get_by_text numbers (named numbers.entries number) ≡ Some number
+  pub names : (name : List ℕ) (number : ℕ) → number_in numbers name ≡ Some number → named numbers.entries number ≡ name
+  pub numbers_each : (number : ℕ) → number < length numbers.entries → number_in numbers (named numbers.entries number) ≡ Some number

@@ -127,10 +127,10 @@ fn key_of(names: &mut Names, claim: &Claim, year: u16) -> Result<Key, AllocError
     ensures grows { Grows names.old names.new }
     ensures distinct { AreDistinct names.new }
 {
-    let family = claim.family().as_str();
+    let family = claim.family();
     let lane = names.number(family)?;
-    let member = claim.member.as_str();
-    if member == family {
+    let member = &claim.member;
+    if member.as_str() == family.as_str() {
         return Ok((lane, lane, year));
     }
     let number = names.number(member)?;

@@ -4,6 +4,7 @@ ghost use Rattle.std.specs.List.{slice_get};
 ghost use Rattle.lanes.specs.Names.{AreDistinct, Grows, IsAbsent};
 
 use crate::short::short;
+use feel_tests::Text;
 use std::alloc::{AllocError, Global};
 use std::collections::BTreeMap;
 use std::marker::Model;
@@ -12,7 +13,7 @@ use std::marker::Model;
 #[derive(Drop)]
 pub struct Names {
     alloc: Global,
-    numbers: BTreeMap<String, u32>,
+    numbers: BTreeMap<Text, u32>,
 }
 
 impl Model for Names {
@@ -39,7 +40,7 @@ impl Names {
 
     /// The number of a name, which is added where it isn't there.
     #[tactic(auto, using(crate::proofs::Growing::grows_same, crate::proofs::Growing::grows_added))]
-    pub fn number(&mut self, name: &str) -> Result<u32, AllocError>
+    pub fn number(&mut self, name: &Text) -> Result<u32, AllocError>
         ensures number { IfOk result (λ number. slice_get self.new number ≡ Some name.now) }
         ensures grows { Grows self.old self.new }
         ensures distinct { AreDistinct self.new }
@@ -51,7 +52,7 @@ impl Names {
     }
 
     // The number of a name.
-    fn find(&self, name: &str) -> Option<u32>
+    fn find(&self, name: &Text) -> Option<u32>
         ensures found { IfSome result (λ number. slice_get self.now number ≡ Some name.now) }
         ensures absent { IfNone result (IsAbsent self.now name.now) }
         ensures distinct { AreDistinct self.now }
@@ -60,14 +61,14 @@ impl Names {
     }
 
     // Adds a name that isn't there: its number is how many were there.
-    fn add(&mut self, name: &str) -> Result<u32, AllocError>
+    fn add(&mut self, name: &Text) -> Result<u32, AllocError>
         requires { IsAbsent self.old name.now }
         ensures number { IfOk result (λ number. slice_get self.new number ≡ Some name.now) }
         ensures added { OnOk result (self.new ≡ self.old ++ name.now ∷ []) }
         ensures refused { OnErr result (self.new ≡ self.old) }
         ensures distinct { AreDistinct self.new }
     {
-        let key = String::from_str(self.alloc, name)?;
+        let key = Text::new(self.alloc, name.as_str())?;
         let number = short(self.numbers.len())?;
         let _before = self.numbers.insert(key, number)?;
         Ok(number)

@@ -20,7 +20,7 @@ invariant_of-self-2 c =
     let old = c.self.inside.numbers in
     let key = c.in_ok-key.key in
     let absent = rw (← c.self.view_is) at c.requires in
-    let one = enters old c.insert.new.self key c.args.name.now c.in_ok-number.number c.self.invariant c.in_ok-key.ensures.ok absent (c.in_ok-number.ensures.value ∙ c.len.ensures.len) c.in_ok-_before.ensures.entries c.in_ok-_before.ensures.updates in
+    let one = enters old c.insert.new.self key c.args.name.now c.in_ok-number.number c.self.invariant (c.in_ok-key.ensures ∙ c.as_str.ensures.value) absent (c.in_ok-number.ensures.value ∙ c.len.ensures.len) c.in_ok-_before.ensures.entries c.in_ok-_before.ensures.updates in
     numbered-more old c.insert.new.self key c.args.name.now one
 
 pub returns-clause-added : goal.returns-clause-added
@@ -28,7 +28,7 @@ returns-clause-added c =
     let old = c.self.inside.numbers in
     let key = c.in_ok-key.key in
     let absent = rw (← c.self.view_is) at c.requires in
-    let one = enters old c.insert.new.self key c.args.name.now c.in_ok-number.number c.self.invariant c.in_ok-key.ensures.ok absent (c.in_ok-number.ensures.value ∙ c.len.ensures.len) c.in_ok-_before.ensures.entries c.in_ok-_before.ensures.updates in
+    let one = enters old c.insert.new.self key c.args.name.now c.in_ok-number.number c.self.invariant (c.in_ok-key.ensures ∙ c.as_str.ensures.value) absent (c.in_ok-number.ensures.value ∙ c.len.ensures.len) c.in_ok-_before.ensures.entries c.in_ok-_before.ensures.updates in
     rw (← c.self.view_is) (names-more old c.insert.new.self key c.args.name.now one)
 
 pub returns-clause-distinct : goal.returns-clause-distinct
@@ -36,7 +36,7 @@ returns-clause-distinct c =
     let old = c.self.inside.numbers in
     let key = c.in_ok-key.key in
     let absent = rw (← c.self.view_is) at c.requires in
-    let one = enters old c.insert.new.self key c.args.name.now c.in_ok-number.number c.self.invariant c.in_ok-key.ensures.ok absent (c.in_ok-number.ensures.value ∙ c.len.ensures.len) c.in_ok-_before.ensures.entries c.in_ok-_before.ensures.updates in
+    let one = enters old c.insert.new.self key c.args.name.now c.in_ok-number.number c.self.invariant (c.in_ok-key.ensures ∙ c.as_str.ensures.value) absent (c.in_ok-number.ensures.value ∙ c.len.ensures.len) c.in_ok-_before.ensures.entries c.in_ok-_before.ensures.updates in
     distinct-names c.insert.new.self (numbered-more old c.insert.new.self key c.args.name.now one)
 
 pub returns-clause-number : goal.returns-clause-number
@@ -44,5 +44,5 @@ returns-clause-number c =
     let old = c.self.inside.numbers in
     let key = c.in_ok-key.key in
     let absent = rw (← c.self.view_is) at c.requires in
-    let one = enters old c.insert.new.self key c.args.name.now c.in_ok-number.number c.self.invariant c.in_ok-key.ensures.ok absent (c.in_ok-number.ensures.value ∙ c.len.ensures.len) c.in_ok-_before.ensures.entries c.in_ok-_before.ensures.updates in
+    let one = enters old c.insert.new.self key c.args.name.now c.in_ok-number.number c.self.invariant (c.in_ok-key.ensures ∙ c.as_str.ensures.value) absent (c.in_ok-number.ensures.value ∙ c.len.ensures.len) c.in_ok-_before.ensures.entries c.in_ok-_before.ensures.updates in
     name-new old c.insert.new.self key c.args.name.now c.in_ok-number.number (c.in_ok-number.ensures.value ∙ c.len.ensures.len) one
