@@ -227,3 +227,71 @@ pub files-done : (decided : Deciding) (names : List InputData) (texts : List (Li
 files-done decided names texts place old new past so_far =
     let all = take_all place texts past in
     (so_far.files, subst (λ ts. AreRead names ts so_far.files) all so_far.read, so_far.writes)
+
+-- files are written, and then the next is, or the writing is refused within it
+files-then : (decided : Deciding) (names : List InputData) (texts : List (List ℕ)) (place : ℕ) (a b c : At) (result : Result (Unit {0}) WriteFault)
+    → place < length texts → WritesFiles decided names (take place texts) a b (Ok tt)
+    → WritesFile decided (place + 1) names (get_or texts ((place + 1) - 1) []) b c result → WritesFiles decided names (take (place + 1) texts) a c result
+files-then decided names texts place a b c (Ok done) within before file =
+    let so_far = files-next decided names texts place a b c within (record { files = before.0; read = before.1; writes = before.2 }) file in
+    (so_far.files, so_far.read, so_far.writes)
+files-then decided names texts place a b c (Err fault) within before file =
+    let long = so-long names texts place before.0 (omega (arith, within)) before.1 in
+    let provider : 1 + length before.0 ≡ place + 1 = omega (arith, long) in
+    let first = subst (λ text. IsReadFirst names text file.0) (by-number texts place) file.1 in
+    let more = take_more texts place [] within in (
+      files_text decided 1 before.0 ++ rows_text decided (place + 1) file.0,
+      (λ all are.
+          rw provider at (begin-more decided names (take place texts) (get_or texts place []) [] before.0 file.0 before.1 first all
+          (subst (λ ts. AllZip (AreRowsOf names) ts all) more are))),
+      writes-then a b c (files_text decided 1 before.0) (rows_text decided (place + 1) file.0) tt (Err fault) before.2 file.2,
+    )
+
+-- the first file is written, or the writing is refused within it
+pub first-written : (decided : Deciding) (names : List InputData) (texts : List (List ℕ)) (a b : At) (result : Result (Unit {0}) WriteFault) → 1 ≤ length texts
+    → WritesFile decided 1 names (get_or texts (1 - 1) []) a b result → WritesFiles decided names (take 1 texts) a b result
+first-written decided names texts a b result some file = files-then decided names texts 0 a a b result some ([], none-read names, writes-none a) file
+
+-- the files in front of a provider's are written, and then its file is, or the writing is refused within it
+pub next-written : (decided : Deciding) (names : List InputData) (texts : List (List ℕ)) (provider : ℕ) (a b c : At) (result : Result (Unit {0}) WriteFault)
+    → 1 ≤ provider → provider ≤ length texts → WritesFiles decided names (take (provider - 1) texts) a b (Ok tt)
+    → WritesFile decided provider names (get_or texts (provider - 1) []) b c result → WritesFiles decided names (take provider texts) a c result
+next-written decided names texts provider a b c result least most before file =
+    let same : (provider - 1) + 1 ≡ provider = omega (arith, least) in
+    subst (λ n. WritesFiles decided names (take n texts) a c result) same
+    (files-then decided names texts (provider - 1) a b c result (omega (arith, least, most)) before
+    (subst (λ n. WritesFile decided n names (get_or texts (n - 1) []) b c result) (sym same) file))
+
+-- what begins the text of the files in front begins that of all
+begin-in-front : (decided : Deciding) (names : List InputData) (xs ys : List (List ℕ)) (text : List ℕ) (all : List (List Row)) → Parted (AreRowsOf names) xs ys all
+    → ((front : List (List Row)) → AllZip (AreRowsOf names) xs front → Begin text (files_text decided 1 front)) → Begin text (files_text decided 1 all)
+begin-in-front decided names xs ys text all parts begins =
+    let begin = begins parts.front parts.in_front in
+    let others = files_text decided (1 + length parts.front) parts.behind in
+    record {
+      rest = begin.rest ++ others;
+      whole_is =
+          ap (files_text decided 1) parts.all_is ∙ files-append decided 1 parts.front parts.behind ∙ ap (λ t. t ++ others) begin.whole_is
+          ∙ append_assoc text begin.rest others;
+    }
+
+-- what is refused within the files in front of a provider's is refused within these and its own
+pub refused-in-front : (decided : Deciding) (names : List InputData) (texts : List (List ℕ)) (provider : ℕ) (a b : At) (fault : WriteFault)
+    → 1 ≤ provider → provider ≤ length texts → WritesFiles decided names (take (provider - 1) texts) a b (Err fault) → WritesFiles decided names (take provider texts) a b (Err fault)
+refused-in-front decided names texts provider a b fault least most writes =
+    let front = take (provider - 1) texts in
+    let last = get_or texts (provider - 1) [] in
+    let same : (provider - 1) + 1 ≡ provider = omega (arith, least) in
+    let more = subst (λ n. take n texts ≡ front ++ last ∷ []) same (take_more texts (provider - 1) [] (omega (arith, least, most))) in (
+      writes.0,
+      (λ all are.
+          begin-in-front decided names front (last ∷ []) writes.0 all
+          (parted (AreRowsOf names) front (last ∷ []) all (subst (λ ts. AllZip (AreRowsOf names) ts all) more are)) writes.1),
+      writes.2,
+    )
+
+-- as many first files as there are: all of them
+pub all-written : (decided : Deciding) (names : List InputData) (texts : List (List ℕ)) (count : ℕ) (a b : At) (result : Result (Unit {0}) WriteFault)
+    → count ≡ length texts → WritesFiles decided names (take count texts) a b result → WritesFiles decided names texts a b result
+all-written decided names texts count a b result all writes =
+    subst (λ ts. WritesFiles decided names ts a b result) (take_all count texts (omega (arith, all))) writes

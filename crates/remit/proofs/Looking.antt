@@ -1,18 +1,16 @@
 -- What is looked up of a claim in a lawful journal is what the journal decides of it.
-use Rattle.std.proofs.Common.{Bool, inl, inr, ◌≡◌, ◌≢◌, ◌<◌, ◌≤◌, ◌+◌, ◌-◌, ◌&&◌, ◌==◌, ℕ, zero, suc, true, false, cond, List, [], ◌∷◌, ◌++◌, length, get_or, Option, Some, None, option_and_then, ap, sym, subst, ◌∙◌, refl, zero-add, arith}
-use Rattle.std.specs.Global.{Vec}
+use Rattle.std.proofs.Common.{inl, inr, ◌≡◌, ◌≢◌, ◌<◌, ◌≤◌, ◌+◌, ◌==◌, ℕ, zero, suc, true, false, cond, List, [], ◌∷◌, ◌++◌, length, get_or, Some, option_and_then, ap, sym, subst, ◌∙◌, refl, zero-add, arith}
 use Rattle.std.specs.List.{slice_get}
 use Rattle.std.proofs.lemmas.Bool.{cases_Bool, cases_lt}
 use Rattle.std.proofs.lemmas.Bool.Decides.{nat_tests}
 use Rattle.std.proofs.lemmas.List.{get_or_append_left, get_or_push, length_push}
 use Rattle.std.proofs.lemmas.List.Concat.{flat_map-cons}
-use Rattle.std.proofs.lemmas.Option.{slice_get-get_or}
-use Rattle.journal.specs.Events.{Filed, accept_in, accepted, accepts, place_in, places}
+use Rattle.journal.specs.Events.{Filed, accept_in, accepts, place_in, places}
 use Rattle.journal.specs.Lawful.{counted}
 use Rattle.journal.specs.declared.event.Event.{Event}
 use Rattle.journal.specs.declared.event.Event.TheVariants.{Accept, End, Close, Take, Decide}
 use Rattle.remit.specs.Decided.{decided_as, decision_at, position_from, position_of}
-use Rattle.remit.specs.Looked.{Noted, found_of, outcome_in, positions_from, positions_of}
+use Rattle.remit.specs.Looked.{LaidOut, found_of, positions_from, positions_of}
 use Rattle.remit.specs.declared.decisions.Decisions.{Decisions}
 
 -- the places of a provider among claims
@@ -133,42 +131,10 @@ position-in-order J provider place order =
     subst (FromOn 0) (sym order ∙ places-of J provider) (counted-in-order (length (places J provider))) in
     found-in-order (accepts J) 0 0 provider place in_order ∙ ap (position_from 0 (accepts J) provider) (zero-add place)
 
--- a position that is found is one of these
-found-within : (fs : List Filed) (first provider place k : ℕ) → position_from first fs provider place ≡ Some k → k < first + length fs
-found-within [] first provider place k found = absurd (cc found)
-found-within (f ∷ fs) first provider place k found = elim (cases_Bool ((f.provider == provider) && (f.place == place))) [
-  | inl here ↦
-      let same : first ≡ k = cc (rw here at found) in
-      omega (arith, same)
-  | inr other ↦
-      let rest = found-within fs (suc first) provider place k (rw other at found) in
-      omega (arith, rest)
-]
-
--- what is noted of a position is what the journal decides of it
-decided-at : (version : ℕ) (providers : ℕ) (J : List Event) (decisions : Decisions) → Noted version providers J J decisions → (position : Option ℕ)
-    → ((k : ℕ) → position ≡ Some k → k < accepted J)
-    → option_and_then (λ k. option_and_then outcome_in (slice_get decisions.decided.items k)) position ≡ option_and_then (decision_at J) position
-decided-at version providers J decisions noted None within = refl
-decided-at version providers J decisions noted (Some k) within =
-    let inside = within k refl in
-    let stands = slice_get-get_or decisions.decided.items k None (omega (arith, inside, noted.size)) in
-    ap (option_and_then outcome_in) stands ∙ noted.decided k None inside
-
 -- what is looked up of a claim is what the journal decides of it
-pub looked-right : (version : ℕ) (providers : ℕ) (J : List Event) (decisions : Decisions) → Noted version providers J J decisions
-    → ((provider : ℕ) → places J provider ≡ counted (length (places J provider))) → (d : Vec ℕ) → (provider place : ℕ) → 1 ≤ provider → provider ≤ providers
+pub looked-right : (version : ℕ) (providers : ℕ) (J : List Event) (decisions : Decisions) → LaidOut version providers J decisions
+    → ((provider : ℕ) → places J provider ≡ counted (length (places J provider))) → (provider place : ℕ) → 1 ≤ provider → provider ≤ providers
     → found_of decisions provider place ≡ decided_as J provider place
-looked-right version providers J decisions noted order d zero place least most = absurd (omega (arith, least))
-looked-right version providers J decisions noted order d (suc i) place least most =
-    let known : i < providers = omega (arith, most) in
-    let index : suc i - 1 ≡ i = omega arith in
-    let stands = slice_get-get_or decisions.positions.items i d (omega (arith, known, noted.count)) in
-    let listed = ap (λ ps. slice_get ps place) (noted.positions i d known) ∙ position-in-order J (suc i) place (order (suc i)) in
-    let position : option_and_then (λ positions. slice_get positions.items place) (slice_get decisions.positions.items (suc i - 1)) ≡ position_of J (suc i) place =
-    rw index (ap (option_and_then (λ positions. slice_get positions.items place)) stands ∙ listed) in
-    ap (option_and_then (λ k. option_and_then outcome_in (slice_get decisions.decided.items k))) position
-    ∙ decided-at version providers J decisions noted (position_of J (suc i) place)
-    (λ k found.
-    let within = found-within (accepts J) 0 (suc i) place k found in
-    omega (arith, within))
+looked-right version providers J decisions laid order zero place least most = absurd (omega (arith, least))
+looked-right version providers J decisions laid order (suc i) place least most =
+    laid.found i place (omega (arith, most)) ∙ ap (option_and_then (decision_at J)) (position-in-order J (suc i) place (order (suc i)))

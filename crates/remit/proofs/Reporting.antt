@@ -18,7 +18,7 @@ use Rattle.journal.specs.declared.event.Event.{Event}
 use Rattle.claim_terms.specs.Terms.{AreClaimsOf, IsFinishedOver, IsTermsOf, TermsParts}
 use Rattle.remit.specs.Decided.{decided_as}
 use Rattle.remit.specs.Held.{At, Holds, IsReady, Writes, gathered_of}
-use Rattle.remit.specs.Looked.{Noted, found_of, looked_up}
+use Rattle.remit.specs.Looked.{LaidOut, found_of, looked_up}
 use Rattle.remit.specs.Records.{Deciding, claimant_fields, header_fields, line_of, record_of, records_of, told_of, total_fields}
 use Rattle.remit.specs.Report.{IsReport, record_text, report_records, text_of, told_by_journal}
 use Rattle.remit.specs.Rows.{AreRead, Begin, WritesFiles, files_text}
@@ -26,6 +26,7 @@ use Rattle.remit.specs.Writing.{WritesFront, WritesReport}
 use Rattle.remit.specs.declared.decisions.Decisions.{Decisions}
 use Rattle.remit.specs.declared.fault.WriteCause.TheVariants.{Device, OutOfMemory}
 use Rattle.remit.specs.declared.fault.WriteFault.{WriteFault}
+use Rattle.remit.proofs.Filing.{all-written}
 use Rattle.remit.proofs.Holding.{writes-then}
 use Rattle.remit.proofs.Looking.{looked-right}
 
@@ -73,14 +74,9 @@ records-same version f g first (rows ∷ files) same =
     ap₂ (λ front behind. front ++ behind) (rows-same version f g first rows (λ place. same first place (omega arith) (omega arith)))
     (records-same version f g (suc first) files (λ provider place least most. same provider place (omega (arith, least)) (omega (arith, most))))
 
--- one of these
-some-of : {A : Type 0} (xs : List A) → 0 < length xs → A
-some-of [] within = absurd (omega (arith, within))
-some-of (x ∷ xs) within = x
-
 -- what is looked up gives the records of the report
 pub files-alike : (parts : TermsParts) (J : List Event) (providers : ℕ) (decisions : Decisions) (files : List (List Row)) → IsFinishedOver parts J
-    → Noted parts.plan.version providers J J decisions → providers ≡ length parts.files → AllZip (AreRowsOf parts.plan.names) parts.files files
+    → LaidOut parts.plan.version providers J decisions → providers ≡ length parts.files → AllZip (AreRowsOf parts.plan.names) parts.files files
     → files_text (looked_up decisions) 1 files ≡ files_text (told_by_journal parts.plan.version J) 1 files
 files-alike parts J providers decisions files finished noted as_many are =
     let journal = finished (terms-by parts files) (are-terms parts files are) in
@@ -90,8 +86,7 @@ files-alike parts J providers decisions files finished noted as_many are =
     (records-same parts.plan.version (found_of decisions) (decided_as J) 1 files
     (λ provider place least most.
     let known : provider ≤ providers = omega (arith, most, long, as_many) in
-    let d = some-of decisions.positions.items (omega (arith, least, known, noted.count)) in
-    looked-right parts.plan.version providers J decisions noted journal.lawful.sound.in_order d provider place least known))
+    looked-right parts.plan.version providers J decisions noted journal.lawful.sound.in_order provider place least known))
 
 -- the report's text, in its three parts
 abbrev pub whole_text : ℕ → List Event → List (List Row) → List ℕ
@@ -128,7 +123,7 @@ written-whole start end text fresh writes none =
     subst (Appends start.contents end.contents) (sym all) held.appended
 
 -- the report is written whole
-pub report-written : (parts : TermsParts) (J : List Event) (providers : ℕ) (decisions : Decisions) (a b c d e : At) → IsFinishedOver parts J → Noted parts.plan.version providers J J decisions
+pub report-written : (parts : TermsParts) (J : List Event) (providers : ℕ) (decisions : Decisions) (a b c d e : At) → IsFinishedOver parts J → LaidOut parts.plan.version providers J decisions
     → providers ≡ length parts.files → IsFresh a → Writes a b (record_text (header_fields parts.plan.version)) (Ok tt)
     → WritesFiles (looked_up decisions) parts.plan.names parts.files b c (Ok tt) → Writes c d (record_text (total_fields parts.plan.version J)) (Ok tt) → Writes d e [] (Ok tt)
     → gathered_of e.writer ≡ [] → WritesReport parts J a.contents e.contents
@@ -185,6 +180,12 @@ pub files-same : (old new : Decisions) (names : List InputData) (texts : List (L
     → WritesFiles (looked_up new) names texts a b result → WritesFiles (looked_up old) names texts a b result
 files-same old new names texts a b result kept writes = subst (λ d. WritesFiles (looked_up d) names texts a b result) kept writes
 
+-- what is written of as many first files as there are, by the same decisions, is written of all of them
+pub files-counted : (parts : TermsParts) (count : ℕ) (old new : Decisions) (a b : At) (result : Result (Unit {0}) WriteFault) → count ≡ length parts.files → new ≡ old
+    → WritesFiles (looked_up new) parts.plan.names (take count parts.files) a b result → WritesFiles (looked_up old) parts.plan.names parts.files a b result
+files-counted parts count old new a b result all kept writes =
+    files-same old new parts.plan.names parts.files a b result kept (all-written (looked_up new) parts.plan.names parts.files count a b result all writes)
+
 -- refused in the header
 pub header-refused : (parts : TermsParts) (J : List Event) (a b : At) (fault : WriteFault) → IsFresh a → Writes a b (record_text (header_fields parts.plan.version)) (Err fault)
     → WritesFront parts J fault.written a.contents b.contents
@@ -193,7 +194,7 @@ header-refused parts J a b fault fresh header =
 
 -- refused in the files
 pub files-refused : (parts : TermsParts) (J : List Event) (providers : ℕ) (decisions : Decisions) (a b c : At) (fault : WriteFault) → IsFinishedOver parts J
-    → Noted parts.plan.version providers J J decisions → providers ≡ length parts.files → IsFresh a → Writes a b (record_text (header_fields parts.plan.version)) (Ok tt)
+    → LaidOut parts.plan.version providers J decisions → providers ≡ length parts.files → IsFresh a → Writes a b (record_text (header_fields parts.plan.version)) (Ok tt)
     → WritesFiles (looked_up decisions) parts.plan.names parts.files b c (Err fault) → WritesFront parts J fault.written a.contents c.contents
 files-refused parts J providers decisions a b c fault finished noted as_many fresh header files =
     let text = record_text (header_fields parts.plan.version) ++ files.0 in
@@ -213,7 +214,7 @@ files-refused parts J providers decisions a b c fault finished noted as_many fre
 
 -- the whole text is that of each report
 whole-of-each : (parts : TermsParts) (J : List Event) (providers : ℕ) (decisions : Decisions) (files : List (List Row)) → IsFinishedOver parts J
-    → Noted parts.plan.version providers J J decisions → providers ≡ length parts.files → AreRead parts.plan.names parts.files files → (report : List ℕ)
+    → LaidOut parts.plan.version providers J decisions → providers ≡ length parts.files → AreRead parts.plan.names parts.files files → (report : List ℕ)
     → IsReport parts J report → report ≡ record_text (header_fields parts.plan.version) ++ (files_text (looked_up decisions) 1 files ++ record_text (total_fields parts.plan.version J))
 whole-of-each parts J providers decisions files finished noted as_many read report is =
     let alike = files-alike parts J providers decisions is.files finished noted as_many is.are_rows in
@@ -223,7 +224,7 @@ whole-of-each parts J providers decisions files finished noted as_many read repo
 
 -- refused in the totals
 pub total-refused : (parts : TermsParts) (J : List Event) (providers : ℕ) (decisions : Decisions) (a b c d : At) (fault : WriteFault) → IsFinishedOver parts J
-    → Noted parts.plan.version providers J J decisions → providers ≡ length parts.files → IsFresh a → Writes a b (record_text (header_fields parts.plan.version)) (Ok tt)
+    → LaidOut parts.plan.version providers J decisions → providers ≡ length parts.files → IsFresh a → Writes a b (record_text (header_fields parts.plan.version)) (Ok tt)
     → WritesFiles (looked_up decisions) parts.plan.names parts.files b c (Ok tt) → Writes c d (record_text (total_fields parts.plan.version J)) (Err fault)
     → WritesFront parts J fault.written a.contents d.contents
 total-refused parts J providers decisions a b c d fault finished noted as_many fresh header files total =
@@ -236,7 +237,7 @@ total-refused parts J providers decisions a b c d fault finished noted as_many f
 
 -- refused at the end
 pub end-refused : (parts : TermsParts) (J : List Event) (providers : ℕ) (decisions : Decisions) (a b c d e : At) (fault : WriteFault) → IsFinishedOver parts J
-    → Noted parts.plan.version providers J J decisions → providers ≡ length parts.files → IsFresh a → Writes a b (record_text (header_fields parts.plan.version)) (Ok tt)
+    → LaidOut parts.plan.version providers J decisions → providers ≡ length parts.files → IsFresh a → Writes a b (record_text (header_fields parts.plan.version)) (Ok tt)
     → WritesFiles (looked_up decisions) parts.plan.names parts.files b c (Ok tt) → Writes c d (record_text (total_fields parts.plan.version J)) (Ok tt) → Writes d e [] (Err fault)
     → WritesFront parts J fault.written a.contents e.contents
 end-refused parts J providers decisions a b c d e fault finished noted as_many fresh header files total end =
@@ -254,7 +255,7 @@ end-refused parts J providers decisions a b c d e fault finished noted as_many f
 
 -- the writing ends with what is gathered
 pub ends-written : (parts : TermsParts) (J : List Event) (providers : ℕ) (decisions : Decisions) (a b c d e : At) (result : Result (Unit {0}) WriteFault)
-    → Noted parts.plan.version providers J J decisions → providers ≡ length parts.files → IsFresh a → Writes a b (record_text (header_fields parts.plan.version)) (Ok tt)
+    → LaidOut parts.plan.version providers J decisions → providers ≡ length parts.files → IsFresh a → Writes a b (record_text (header_fields parts.plan.version)) (Ok tt)
     → WritesFiles (looked_up decisions) parts.plan.names parts.files b c (Ok tt) → Writes c d (record_text (total_fields parts.plan.version J)) (Ok tt) → Writes d e [] result
     → OnOk result (gathered_of e.writer ≡ []) → OnOk result (IsFinishedOver parts J → WritesReport parts J a.contents e.contents)
 ends-written parts J providers decisions a b c d e (Ok done) noted as_many fresh header files total end none =
@@ -262,7 +263,7 @@ ends-written parts J providers decisions a b c d e (Ok done) noted as_many fresh
 ends-written parts J providers decisions a b c d e (Err fault) noted as_many fresh header files total end none = tt
 
 pub ends-refused : (parts : TermsParts) (J : List Event) (providers : ℕ) (decisions : Decisions) (a b c d e : At) (result : Result (Unit {0}) WriteFault)
-    → Noted parts.plan.version providers J J decisions → providers ≡ length parts.files → IsFresh a → Writes a b (record_text (header_fields parts.plan.version)) (Ok tt)
+    → LaidOut parts.plan.version providers J decisions → providers ≡ length parts.files → IsFresh a → Writes a b (record_text (header_fields parts.plan.version)) (Ok tt)
     → WritesFiles (looked_up decisions) parts.plan.names parts.files b c (Ok tt) → Writes c d (record_text (total_fields parts.plan.version J)) (Ok tt) → Writes d e [] result
     → IfErr result (λ fault. IsFinishedOver parts J → WritesFront parts J fault.written a.contents e.contents)
 ends-refused parts J providers decisions a b c d e (Ok done) noted as_many fresh header files total end = tt

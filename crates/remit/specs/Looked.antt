@@ -8,11 +8,13 @@ use Rattle.dtable.specs.Environment.{or_else}
 use Rattle.settlement.specs.declared.outcome.Outcome.{Outcome}
 use Rattle.journal.specs.Events.{Filed, accepted, accepts}
 use Rattle.journal.specs.declared.event.Event.{Event}
+use Rattle.journal.specs.declared.event.Event.TheVariants.{Decide}
 use Rattle.remit.specs.declared.amount.Amount.{Amount}
 use Rattle.remit.specs.Amounts.{amounts, amount_of}
 use Rattle.remit.specs.Decided.{decision_at, paid_outcomes, sum_of}
 use Rattle.remit.specs.Records.{Deciding}
 use Rattle.remit.specs.declared.decisions.Decisions.{Decisions}
+use Rattle.remit.specs.declared.decisions.Notes.{Notes}
 use Rattle.remit.specs.declared.sums.Sums.{Sums}
 
 -- the positions of a provider's claims among these, of which the first has the position that is given
@@ -29,30 +31,55 @@ positions_of J provider = positions_from 0 (accepts J) provider
 abbrev pub outcome_in : Option (Bor Outcome) → Option Outcome
 outcome_in outcome = option_map (λ o. o.now) outcome
 
--- the plan's version, the positions of so many providers' claims that one journal accepts, and what another decides of these positions
-pub record Noted (version : ℕ) (providers : ℕ) (accepting deciding : List Event) (decisions : Decisions) : Type 0 where
-  pub version_is : decisions.version ≡ version
-  pub count : length decisions.positions.items ≡ providers
-  pub positions : (i : ℕ) (d : Vec ℕ) → i < providers → (get_or decisions.positions.items i d).items ≡ positions_of accepting (suc i)
-  pub size : length decisions.decided.items ≡ accepted accepting
-  pub decided : (k : ℕ) (d : Option (Bor Outcome)) → k < accepted accepting → outcome_in (get_or decisions.decided.items k d) ≡ decision_at deciding k
+-- what an event decides a claim to be, if it decides one
+abbrev pub outcome_by : Event → Option Outcome
+outcome_by (Decide position outcome) = Some outcome
+outcome_by _ = None
+
+-- what the event at a place of the journal decides a claim to be, if there is one and it decides a claim
+abbrev pub outcome_at : List Event → ℕ → Option Outcome
+outcome_at J place = option_and_then outcome_by (slice_get J place)
+
+-- the positions of so many providers' claims that a journal accepts, and the places in the whole journal at which another decides these
+-- positions
+pub record Noted (whole : List Event) (providers : ℕ) (accepting deciding : List Event) (notes : Notes) : Type 0 where
+  pub count : length notes.positions.items ≡ providers
+  pub positions : (i : ℕ) (d : Vec ℕ) → i < providers → (get_or notes.positions.items i d).items ≡ positions_of accepting (suc i)
+  pub size : length notes.decided.items ≡ accepted accepting
+  pub decided : (k d : ℕ) → k < accepted accepting → outcome_at whole (get_or notes.decided.items k d) ≡ decision_at deciding k
 
 -- a position is put behind those of this provider
 pub record NotesPosition (old new : List (Vec ℕ)) (provider position : ℕ) : Type 0 where
   pub count : length new ≡ length old
   pub each : (i : ℕ) (d : Vec ℕ) → i < length old → (get_or new i d).items ≡ (get_or old i d).items ++ cond (provider == suc i) (position ∷ []) []
 
--- the outcome is noted at this position, where none is yet
-pub record NotesOutcome (old new : List (Option (Bor Outcome))) (position : ℕ) (outcome : Outcome) : Type 0 where
+-- where this outcome is decided is noted of this position, where none is decided yet
+pub record NotesPlace (whole : List Event) (old new : List ℕ) (position : ℕ) (outcome : Option Outcome) : Type 0 where
   pub count : length new ≡ length old
-  pub each : (k : ℕ) (d : Option (Bor Outcome)) → k < length old
-      → outcome_in (get_or new k d) ≡ or_else (outcome_in (get_or old k d)) (cond (position == k) (Some outcome) None)
+  pub each : (k d : ℕ) → k < length old
+      → outcome_at whole (get_or new k d) ≡ or_else (outcome_at whole (get_or old k d)) (cond (position == k) outcome None)
+
+-- each position is replaced by the place at which it is decided; one that is none of these by the end
+pub record Replaces (decided : List ℕ) (end : ℕ) (old new : List ℕ) : Type 0 where
+  pub count : length new ≡ length old
+  pub each : (k d : ℕ) → k < length old → get_or new k d ≡ get_or decided (get_or old k d) end
+
+-- so is each position of each list
+pub record ReplacesEach (decided : List ℕ) (end : ℕ) (old new : List (Vec ℕ)) : Type 0 where
+  pub count : length new ≡ length old
+  pub each : (i : ℕ) (d : Vec ℕ) → i < length old → Replaces decided end (get_or old i d).items (get_or new i d).items
 
 -- what is found of a provider's claim at a place
 abbrev pub found_of : Decisions → ℕ → ℕ → Option Outcome
 found_of decisions provider place =
-    option_and_then (λ position. option_and_then outcome_in (slice_get decisions.decided.items position))
-    (option_and_then (λ positions. slice_get positions.items place) (slice_get decisions.positions.items (provider - 1)))
+    option_and_then (outcome_at decisions.journal.now)
+    (option_and_then (λ places. slice_get places.items place) (slice_get decisions.places.items (provider - 1)))
+
+-- the plan's version, how many claims the journal accepts, and of each claim of so many providers what it decides of its position
+pub record LaidOut (version : ℕ) (providers : ℕ) (J : List Event) (decisions : Decisions) : Type 0 where
+  pub version_is : decisions.version ≡ version
+  pub accepted_is : decisions.accepted ≡ accepted J
+  pub found : (i place : ℕ) → i < providers → found_of decisions (suc i) place ≡ option_and_then (decision_at J) (slice_get (positions_of J (suc i)) place)
 
 -- what records are told by, as it is found
 abbrev pub looked_up : Decisions → Deciding

@@ -1,7 +1,7 @@
 //! The report of a run: what was decided of each record of the providers' files, as CSV (RFC 4180).
 //!
-//! `write_report` writes the report of a finished run, and `write_report_by_threads` the same by a thread a file. Rows come from `intake_csv`, the finished run and its journal from
-//! `claim_gate`, and `csv` writes the records.
+//! `write_report` writes the report of a finished run, and `write_report_by_threads` the same with the help of a thread for each file
+//! behind the first. Rows come from `intake_csv`, the finished run and its journal from `claim_gate`, and `csv` writes the records.
 //!
 //! Begin with `specs/Records.antt` and `specs/Report.antt`, which say what the report is, and `specs/Writing.antt`, which
 //! says what a writer has got of it; then read `report.rt`.

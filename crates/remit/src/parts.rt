@@ -1,17 +1,14 @@
-//! The texts of the files' records, each made by a thread of its own.
-ghost use Rattle.std.specs.Prelude.{◌≡◌, ◌<◌, ◌≤◌, ◌+◌, ◌-◌, ◌^◌, [], get_or, length, IfOk};
-ghost use Rattle.claim_terms.specs.Terms.{TermsParts};
+//! The text of a file's records, held whole: what a thread makes while the records of the files in front are written.
+ghost use Rattle.std.specs.Prelude.{◌≤◌, ◌-◌, [], get_or, length};
 ghost use Rattle.remit.specs.Looked.{looked_up};
-ghost use Rattle.remit.specs.Parts.{AreParts, MayBePart};
+ghost use Rattle.remit.specs.Parts.{MayBePart};
 
 use crate::decisions::Decisions;
 use crate::held_text::{HeldText, NotHeld};
 use crate::report::Report;
 use claim_terms::Terms;
 use fixpoint::Out;
-use std::alloc::{AllocError, Global};
-use std::thread;
-use std::thread::Threads;
+use std::alloc::Global;
 
 /// How many bytes of text are held for each byte of a file. Of the shortest claims a report has some three times as many, and
 /// besides what is remarked.
@@ -20,31 +17,8 @@ const HELD_PER_BYTE: usize = 4;
 /// How many bytes of text are held for a file besides, so that a small one may have long remarks.
 const HELD_BESIDES: usize = 1 << 20;
 
-/// The text of the records of each provider's file, in the order of the files, where it can be held. Where memory is wanting
-/// for the list of them, there is none.
-pub fn parts_by_threads<R: Threads + Sync>(
-    rt: &R,
-    alloc: Global,
-    terms: &Terms,
-    decisions: &Decisions,
-    providers: usize,
-) -> Result<Vec<Result<Vec<u8>, NotHeld>>, AllocError>
-    requires { providers ≡ length terms.now.files }
-    ensures { IfOk result (λ parts. AreParts (looked_up decisions.now) terms.now.plan.names terms.now.files 0 parts.items) }
-{
-    thread::map_indices(
-        rt,
-        alloc,
-        providers,
-        &|place: usize| -> Result<Vec<u8>, NotHeld>
-            requires { (place + 1 < 2 ^ 64) × (place < length terms.now.files) }
-            ensures { MayBePart (looked_up decisions.entry.now) (place + 1) terms.entry.now.plan.names (get_or terms.entry.now.files ((place + 1) - 1) []) result }
-        { part_of(alloc, terms, decisions, place + 1) },
-    )
-}
-
-// The text of the records of a provider's file, where it is no longer than the file lets it be.
-fn part_of(
+/// The text of the records of a provider's file, where it is no longer than the file lets it be.
+pub fn part_of(
     alloc: Global,
     terms: &Terms,
     decisions: &Decisions,

@@ -1,7 +1,7 @@
 //! The report of a run: one record for each record of the providers' files, and one with the totals.
-ghost use Rattle.std.specs.Prelude.{◌≡◌, ◌≤◌, ◌-◌, ℕ, [], ◌∷◌, List, get_or, length, IfErr, OnOk, true};
+ghost use Rattle.std.specs.Prelude.{◌≡◌, ◌≤◌, ◌-◌, [], get_or, length, take, IfErr, OnOk, true};
+ghost use Rattle.std.specs.Thread.{IsSync};
 ghost use Rattle.dtable.specs.Plan.{PlanParts};
-ghost use Rattle.dtable.specs.declared.table.InputData.{InputData};
 ghost use Rattle.fixpoint.specs.Out.{has_failed, writer_of};
 ghost use Rattle.journal.specs.Events.{accepted};
 ghost use Rattle.intake_csv.specs.Brief.{IsBriefOf};
@@ -9,7 +9,7 @@ ghost use Rattle.intake_csv.specs.declared.rows.Row.{Row as AnyRow};
 ghost use Rattle.claim_terms.specs.Terms.{IsFinishedOver};
 ghost use Rattle.remit.specs.Held.{IsReady, Writes, at, gathered_of};
 ghost use Rattle.remit.specs.Looked.{looked_up};
-ghost use Rattle.remit.specs.Parts.{AreParts, MayBePart};
+ghost use Rattle.remit.specs.Parts.{MayBePart};
 ghost use Rattle.remit.specs.Records.{header_fields, record_of, total_fields};
 ghost use Rattle.remit.specs.Report.{record_text};
 ghost use Rattle.remit.specs.Rows.{WritesFile, WritesFiles, WritesLeft};
@@ -19,7 +19,7 @@ ghost use Rattle.remit.specs.declared.fault.WriteCause.TheVariants.{Device, OutO
 use crate::decisions::Decisions;
 use crate::fault::{WriteCause, WriteFault};
 use crate::held_text::NotHeld;
-use crate::parts::parts_by_threads;
+use crate::parts::part_of;
 use crate::record::{fill_header, fill_row, fill_total};
 use crate::record_writer::RecordWriter;
 use crate::sums::Sums;
@@ -31,7 +31,7 @@ use intake_csv::{Brief, Line, Rows};
 use journal::Event;
 use std::alloc::{AllocError, Global};
 use std::io::Write;
-use std::thread::Threads;
+use std::thread::{Threads, join_mut};
 
 /// Writes the report of a finished run as CSV (RFC 4180): a header, a record for each record of the providers' files,
 /// provider by provider and in the order of the file, and a record with the totals. Commas part the fields, and CRLF ends
@@ -56,9 +56,11 @@ pub fn write_report<W: Write>(
     write_journal(alloc, terms, batch.journal(), out)
 }
 
-/// Writes the same report by threads: the records of each file become text by a thread of their own, and the caller's
-/// thread hands the texts to the writer in the order of the files. Until it is written the text of each file is held, if
-/// it is not much longer than the file; where one is, as by long remarks, one thread writes the report in pieces.
+/// Writes the same report by threads: the caller's thread writes the records of the first file straight to the writer, in
+/// pieces, while for each other file a thread makes the text of its records. The caller's thread then hands these texts to
+/// the writer in the order of the files. The text of a file is held until it is written, if it is not much longer than the
+/// file; where it is, as by long remarks, or memory is wanting for it, the caller's thread writes that file's records in
+/// pieces too, in their turn.
 ///
 /// What holds of the bytes, of a refusal and of the writer holds as for `write_report`.
 #[tactic(auto, using(crate::proofs::Reporting::finished_written, crate::proofs::Reporting::finished_refused))]
@@ -106,7 +108,7 @@ pub(crate) fn write_journal<W: Write>(
     report.writer.hand_over(out)
 }
 
-// The same by threads: the records of each file become text by a thread of their own.
+// The same by threads: the records of each file behind the first become text by a thread of their own.
 pub(crate) fn write_journal_by_threads<R: Threads + Sync, W: Write>(
     rt: &R,
     alloc: Global,
@@ -127,22 +129,71 @@ pub(crate) fn write_journal_by_threads<R: Threads + Sync, W: Write>(
             cause: WriteCause::OutOfMemory,
         });
     };
-    let Ok(parts) = parts_by_threads(rt, alloc, terms, &decisions, files.len()) else {
-        return Err(WriteFault {
-            written: 0,
-            cause: WriteCause::OutOfMemory,
-        });
-    };
-    // What can't be held as a whole, one thread hands on in pieces.
-    if parts.as_slice().iter().any(|part| part.is_err()) {
-        drop(parts);
-        return write_journal(alloc, terms, journal, out);
-    }
     let mut report = Report::new(alloc, &decisions);
     report.write_header(terms, out)?;
-    report.write_parts(parts, out)?;
+    write_files_by_threads(rt, terms, files.len(), &mut report, out)?;
     report.write_total(terms, journal, out)?;
     report.finish(out)
+}
+
+// Writes the rows of so many first files: those of the first as they are made, and each other file's by a text that a
+// thread made meanwhile.
+#[cycle(files)]
+fn write_files_by_threads<R: Threads + Sync, W: Write>(
+    rt: &R,
+    terms: &Terms,
+    providers: usize,
+    report: &mut Report,
+    out: &mut Out<W>,
+) -> Result<(), WriteFault>
+    requires least { 1 ≤ providers }
+    requires most { providers ≤ length terms.now.files }
+    ensures writes { WritesFiles (looked_up report.old.decisions.now) terms.now.plan.names (take providers terms.now.files)
+        (at (W.contents (writer_of out.old)) (has_failed out.old) report.old.writer)
+        (at (W.contents (writer_of out.new)) (has_failed out.new) report.new.writer) result }
+    ensures decisions { report.new.decisions ≡ report.old.decisions }
+{
+    if providers == 1 {
+        return report.write_file(terms, 1, out);
+    }
+    let (part, written) = write_files_in_front(rt, terms, providers, report, out);
+    written?;
+    report.write_part(terms, providers, part, out)
+}
+
+// Writes the rows of the files in front of a provider's, while a thread makes the text of that provider's. So the threads
+// of all files start before the first row is written, and each text is written as soon as those in front of it are. Where
+// no thread can be made, the caller's makes that text too, behind the rows in front.
+#[cycle(files)]
+fn write_files_in_front<R: Threads + Sync, W: Write>(
+    rt: &R,
+    terms: &Terms,
+    provider: usize,
+    report: &mut Report,
+    out: &mut Out<W>,
+) -> (Result<Vec<u8>, NotHeld>, Result<(), WriteFault>)
+    requires least { 2 ≤ provider }
+    requires most { provider ≤ length terms.now.files }
+    ensures part { MayBePart (looked_up report.old.decisions.now) provider terms.now.plan.names (get_or terms.now.files (provider - 1) []) result.0 }
+    ensures writes { WritesFiles (looked_up report.old.decisions.now) terms.now.plan.names (take (provider - 1) terms.now.files)
+        (at (W.contents (writer_of out.old)) (has_failed out.old) report.old.writer)
+        (at (W.contents (writer_of out.new)) (has_failed out.new) report.new.writer) result.1 }
+    ensures decisions { report.new.decisions ≡ report.old.decisions }
+{
+    let (alloc, decisions) = (report.alloc, report.decisions);
+    let in_front = provider - 1;
+    let mut make = || -> Result<Vec<u8>, NotHeld>
+        requires { (1 ≤ provider) × (provider ≤ length terms.now.files) }
+        ensures { MayBePart (looked_up decisions.entry.now) provider terms.entry.now.plan.names (get_or terms.entry.now.files (provider - 1) []) result }
+    { part_of(alloc, terms, decisions, provider) };
+    let mut write = || -> Result<(), WriteFault>
+        requires { IsSync R.row × (1 ≤ in_front) × (in_front ≤ length terms.now.files) }
+        ensures writes { WritesFiles (looked_up report.entry.now.decisions.now) terms.entry.now.plan.names (take in_front terms.entry.now.files)
+            (at (W.contents (writer_of out.entry.now)) (has_failed out.entry.now) report.entry.now.writer)
+            (at (W.contents (writer_of out.exit.now)) (has_failed out.exit.now) report.exit.now.writer) result }
+        ensures decisions { report.exit.now.decisions ≡ report.entry.now.decisions }
+    { write_files_by_threads(rt, terms, in_front, report, out) };
+    join_mut(rt, &mut make, &mut write)
 }
 
 /// A report that is being written.
@@ -204,39 +255,26 @@ impl<'d, 'j> Report<'d, 'j> {
         Ok(())
     }
 
-    // Writes the parts of all files, each of which is the text of a file's rows.
-    fn write_parts<W: Write>(
-        &mut self,
-        parts: Vec<Result<Vec<u8>, NotHeld>>,
-        out: &mut Out<W>,
-    ) -> Result<(), WriteFault>
-        ensures writes { (names : List InputData) (texts : List (List ℕ)) → AreParts (looked_up self.old.decisions.now) names texts 0 parts.items
-            → WritesFiles (looked_up self.old.decisions.now) names texts
-            (at (W.contents (writer_of out.old)) (has_failed out.old) self.old.writer)
-            (at (W.contents (writer_of out.new)) (has_failed out.new) self.new.writer) result }
-        ensures decisions { self.new.decisions ≡ self.old.decisions }
-    {
-        for part in parts {
-            self.write_part(part, out)?;
-        }
-        Ok(())
-    }
-
-    // Writes the text of a file's rows, and gives its memory back; no memory, where it isn't held.
+    // Writes the rows of a provider's file by their text, and gives its memory back. Where that isn't held, they are written
+    // as they are made.
     fn write_part<W: Write>(
         &mut self,
+        terms: &Terms,
+        provider: usize,
         part: Result<Vec<u8>, NotHeld>,
         out: &mut Out<W>,
     ) -> Result<(), WriteFault>
-        ensures writes { (provider : ℕ) (names : List InputData) (text : List ℕ) → MayBePart (looked_up self.old.decisions.now) provider names text part
-            → WritesFile (looked_up self.old.decisions.now) provider names text
+        requires least { 1 ≤ provider }
+        requires most { provider ≤ length terms.now.files }
+        requires part { MayBePart (looked_up self.old.decisions.now) provider terms.now.plan.names (get_or terms.now.files (provider - 1) []) part }
+        ensures writes { WritesFile (looked_up self.old.decisions.now) provider terms.now.plan.names (get_or terms.now.files (provider - 1) [])
             (at (W.contents (writer_of out.old)) (has_failed out.old) self.old.writer)
             (at (W.contents (writer_of out.new)) (has_failed out.new) self.new.writer) result }
         ensures decisions { self.new.decisions ≡ self.old.decisions }
     {
         match part {
             Ok(text) => self.writer.write_text(text, out),
-            Err(NotHeld) => Err(self.writer.no_memory()),
+            Err(NotHeld) => self.write_file(terms, provider, out),
         }
     }
 
@@ -338,7 +376,7 @@ impl<'d, 'j> Report<'d, 'j> {
         journal: &[Event],
         out: &mut Out<W>,
     ) -> Result<(), WriteFault>
-        requires { length self.old.decisions.now.decided.items ≡ accepted journal.now }
+        requires { self.old.decisions.now.accepted ≡ accepted journal.now }
         ensures { Writes (at (W.contents (writer_of out.old)) (has_failed out.old) self.old.writer)
             (at (W.contents (writer_of out.new)) (has_failed out.new) self.new.writer) (record_text (total_fields terms.now.plan.version journal.now)) result }
     {

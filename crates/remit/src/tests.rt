@@ -158,19 +158,30 @@ fn a_writer_that_takes_nothing(rt: HostRuntime) {
     assert!(rt; is_filled(answer, out, b""));
 }
 
-// The report's first records over a file of records that have one field each.
-fn one_field_records(rt: &impl Abort, alloc: Global, count: usize) -> String {
-    let mut text = String::new(alloc);
-    text.push_str(texts::header_record())
-        .expect(rt, "memory for a text");
+// Puts behind a text the report's records over a provider's file of records that have one field each.
+fn push_one_field_records(
+    rt: &impl Abort,
+    alloc: Global,
+    text: &mut String,
+    provider: usize,
+    count: usize,
+) {
     for number in 0..count {
         let line = format!(in alloc;
-            "1,{},,,refused,fieldcount,,,,,,,\r\n",
+            "{provider},{},,,refused,fieldcount,,,,,,,\r\n",
             number.saturating_add(1)
         )
         .expect(rt, "memory for a line");
         text.push_str(line.as_str()).expect(rt, "memory for a text");
     }
+}
+
+// The report's first records over a file of records that have one field each.
+fn one_field_records(rt: &impl Abort, alloc: Global, count: usize) -> String {
+    let mut text = String::new(alloc);
+    text.push_str(texts::header_record())
+        .expect(rt, "memory for a text");
+    push_one_field_records(rt, alloc, &mut text, 1, count);
     text
 }
 

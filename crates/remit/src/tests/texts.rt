@@ -105,3 +105,10 @@ const HEADER_RECORD: &str =
 pub fn header_record() -> &'static str {
     HEADER_RECORD
 }
+
+const TOTAL_OF_NONE: &str = "total,0,,,,,0.00,0.00,0.00,0.00,0.00,0.00,\r\n";
+
+// The record with the totals where no claim is accepted.
+pub fn total_of_none() -> &'static str {
+    TOTAL_OF_NONE
+}

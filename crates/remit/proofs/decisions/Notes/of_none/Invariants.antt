@@ -1,6 +1,6 @@
 use Rattle.std.proofs.Common.{◌≡◌, ◌<◌, ℕ, [], get_or, length}
 use Rattle.std.specs.Global.{Vec}
-use Rattle.remit.proofs.decisions.Decisions.of_none.Given as goal
+use Rattle.remit.proofs.decisions.Notes.of_none.Given as goal
 
 -- so many lists, each empty
 abbrev pub invariant-loop : goal.invariant-loop
