@@ -10,6 +10,7 @@ mod hostile;
 mod in_turn;
 mod last_ticket;
 mod meeting;
+mod no_room;
 mod rivals;
 mod runs;
 mod shared;

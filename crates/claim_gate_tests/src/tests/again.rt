@@ -9,6 +9,7 @@ ghost use Rattle.journal.specs.declared.event.Event.TheVariants as events;
 ghost use Rattle.claim_gate.specs.Parts.{at};
 ghost use Rattle.claim_gate.specs.Replies.{take_reply, HasClaims, IsFiled, IsWorkOf};
 
+use super::events::{Word, last_word};
 use claim_gate::{
     Accepted, Counts, EndFault, Ended, FinishFault, GateState, Job, Offer, OfferFault, Recorded,
     TakeFault, Taken,
@@ -17,9 +18,10 @@ use settlement::Outcome;
 use std::alloc::Global;
 use std::process::Abort;
 
-// How far a gate is, and how long its journal.
-fn mark(gate: &GateState) -> (Counts, usize) {
-    (gate.counts(), gate.journal().len())
+// How far a gate is, how long its journal, and its last event.
+fn mark(gate: &GateState) -> (Counts, usize, Option<Word>) {
+    let journal = gate.journal();
+    (gate.counts(), journal.len(), last_word(journal))
 }
 
 /// `GateState::offer`.

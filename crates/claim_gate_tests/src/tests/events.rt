@@ -5,8 +5,10 @@ use claim_gate::Event;
 // How many bytes stand for an event.
 const WORD_BYTES: usize = 3;
 
+pub type Word = [u8; WORD_BYTES];
+
 // What an event is, with its provider and place, or with its position. Those of the tests are below 10.
-fn word_of(event: &Event) -> [u8; WORD_BYTES] {
+fn word_of(event: &Event) -> Word {
     match event {
         Event::Accept { provider, place } => [b'A', digit(*provider), digit(*place)],
         Event::End { provider } => [b'E', digit(*provider), b' '],
@@ -20,6 +22,14 @@ fn digit(number: usize) -> u8 {
     match u8::try_from(number) {
         Ok(number) if number < 10 => b'0' + number,
         _ => b'?',
+    }
+}
+
+// What the last event of a journal is, if there is one.
+pub fn last_word(journal: &[Event]) -> Option<Word> {
+    match journal.last() {
+        Some(event) => Some(word_of(event)),
+        None => None,
     }
 }
 

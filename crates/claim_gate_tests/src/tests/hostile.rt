@@ -7,7 +7,7 @@ use super::filing::{gate_of, read_all};
 use super::runs::{Calls, run};
 use super::shared::{accept_at, record, refuse_outcome, take_job};
 use super::worked::{is_at, is_job, is_paid_40, one_claim};
-use super::{again, again_shared};
+use super::{again, again_shared, counts};
 use claim_gate::{FinishFault, Gate, Job, LockedGate, SerialGate, Terms};
 use journal::jobs_stay;
 use std::alloc::Global;
@@ -32,7 +32,8 @@ fn decide_copy<G: Gate>(
     jobs_stay();
     let copy = again::copy(rt, alloc, &job);
     assert!(rt; is_first_job(&copy));
-    let pass = record(rt, alloc, terms, gate, pass, job);
+    let before = counts(1, 1, 0, true);
+    let pass = record(rt, alloc, terms, gate, pass, job, before);
     let decided = FinishFault::AlreadyDecided;
     let (pass, back, outcome) = refuse_outcome(rt, alloc, terms, gate, pass, copy, decided);
     assert!(rt; is_job(&back, 0, "c1") && is_paid_40(&outcome));
@@ -57,10 +58,13 @@ fn decide_only<G: Gate>(
     requires caller { IsCaller (G.has_pass gate.now) G.known terms.now pass }
     ensures caller { IsCaller (G.has_pass gate.now) G.known terms.now result }
 {
-    let pass = accept_at(rt, alloc, terms, gate, pass, (1, 0), 0);
+    let before = counts(0, 0, 0, false);
+    let pass = accept_at(rt, alloc, terms, gate, pass, (1, 0), 0, before);
     read_all(rt, alloc, terms, 1, 1);
-    let pass = again_shared::end(rt, terms, gate, pass, 1, 1);
-    let (pass, job) = take_job(rt, terms, gate, pass, 0);
+    let before = counts(1, 0, 0, false);
+    let pass = again_shared::end(rt, terms, gate, pass, 1, 1, before);
+    let before = counts(1, 1, 0, true);
+    let (pass, job) = take_job(rt, terms, gate, pass, 0, before);
     decide_copy(rt, alloc, terms, gate, pass, job)
 }
 

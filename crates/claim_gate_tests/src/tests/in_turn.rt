@@ -3,6 +3,7 @@ ghost use Rattle.std.specs.Prelude.{◌≡◌};
 ghost use Rattle.journal.specs.Gate.{LeadsTo};
 ghost use Rattle.claim_gate_tests.specs.Words.{AreCallers, IsAtWork, IsCaller};
 
+use super::counts;
 use super::filing::{gate_of, is_offer, read_all};
 use super::runs::{Calls, run};
 use super::shared::{
@@ -29,7 +30,8 @@ fn accept_first<G: Gate>(
     ensures callers { AreCallers (G.has_pass gate.now) G.known terms.now result }
 {
     let (one, other) = passes;
-    let one = accept_at(rt, alloc, terms, gate, one, (1, 0), 0);
+    let before = counts(0, 0, 0, false);
+    let one = accept_at(rt, alloc, terms, gate, one, (1, 0), 0, before);
     let out_of_turn = OfferFault::OutOfTurn { expected: 1 };
     let (other, back) = refuse_at(rt, alloc, terms, gate, other, (1, 0), out_of_turn);
     assert!(rt; is_offer(&back, 1, 0, "c1"));
@@ -50,7 +52,7 @@ fn take_first<G: Gate>(
     ensures at_work { IsAtWork (G.known result.0).seen result.2 }
 {
     let (one, other) = accept_first(rt, alloc, terms, gate, passes);
-    let (one, job) = take_job(rt, terms, gate, one, 0);
+    let (one, job) = take_job(rt, terms, gate, one, 0, counts(1, 0, 0, false));
     assert!(rt; is_job(&job, 0, "c1"));
     assert!(rt; is_at(job.acc, 0, 0, 0));
     (one, other, job)
@@ -69,9 +71,10 @@ fn second_waits<G: Gate>(
     ensures leads { LeadsTo (G.known passes.0).seen (G.known result.0).seen }
 {
     let (one, other) = passes;
-    let other = find_nothing(rt, terms, gate, other);
-    let one = accept_at(rt, alloc, terms, gate, one, (1, 1), 1);
-    let other = find_nothing(rt, terms, gate, other);
+    let before = counts(1, 0, 0, false);
+    let other = find_nothing(rt, terms, gate, other, before);
+    let one = accept_at(rt, alloc, terms, gate, one, (1, 1), 1, before);
+    let other = find_nothing(rt, terms, gate, other, counts(2, 0, 0, false));
     (one, other)
 }
 
@@ -88,8 +91,9 @@ fn take_other<G: Gate>(
     ensures leads { LeadsTo (G.known passes.0).seen (G.known result.0).seen }
 {
     let (one, other) = passes;
-    let one = accept_at(rt, alloc, terms, gate, one, (2, 0), 2);
-    let (other, job) = take_job(rt, terms, gate, other, 2);
+    let before = counts(2, 0, 0, false);
+    let one = accept_at(rt, alloc, terms, gate, one, (2, 0), 2, before);
+    let (other, job) = take_job(rt, terms, gate, other, 2, counts(3, 0, 0, false));
     assert!(rt; is_job(&job, 2, "d1"));
     assert!(rt; is_at(job.acc, 0, 0, 0));
     drop(job);
@@ -111,8 +115,9 @@ fn take_second<G: Gate>(
     ensures at_work { IsAtWork (G.known result.1).seen result.2 }
 {
     let (one, other) = passes;
-    let one = record(rt, alloc, terms, gate, one, job);
-    let (other, next) = take_job(rt, terms, gate, other, 1);
+    let before = counts(3, 0, 0, false);
+    let one = record(rt, alloc, terms, gate, one, job, before);
+    let (other, next) = take_job(rt, terms, gate, other, 1, counts(3, 0, 1, false));
     assert!(rt; is_job(&next, 1, "c2"));
     assert!(rt; is_at(next.acc, 500_000, 600_000, 400_000));
     (one, other, next)

@@ -4,6 +4,7 @@ ghost use Rattle.std.specs.Prelude.{◌≡◌};
 ghost use Rattle.claim_gate_tests.specs.Words.{IsAtWork, IsCaller};
 
 use super::calls::settled;
+use super::counts;
 use super::filing::{gate_of, is_offer, offer_at, read_all};
 use super::runs::{Calls, run};
 use super::shared::{accept_at, take_job};
@@ -71,7 +72,8 @@ where
     requires terms { (S.Value.shown (S.seen pass)).terms ≡ terms.now }
 {
     let gate = LockedGate::over(lock);
-    let pass = accept_at(rt, alloc, terms, &gate, pass, (1, 0), 0);
+    let before = counts(0, 0, 0, false);
+    let pass = accept_at(rt, alloc, terms, &gate, pass, (1, 0), 0, before);
     let pass = worn_intake(rt, alloc, terms, &gate, pass);
     let pass = worn_calls(rt, &gate, pass);
     assert!(rt; gate.retire(rt, pass).is_err());
@@ -132,8 +134,9 @@ where
     requires terms { (S.Value.shown (S.seen pass)).terms ≡ terms.now }
 {
     let gate = LockedGate::over(lock);
-    let pass = accept_at(rt, alloc, terms, &gate, pass, (1, 0), 0);
-    let (pass, job) = take_job(rt, terms, &gate, pass, 0);
+    let before = counts(0, 0, 0, false);
+    let pass = accept_at(rt, alloc, terms, &gate, pass, (1, 0), 0, before);
+    let (pass, job) = take_job(rt, terms, &gate, pass, 0, counts(1, 0, 0, false));
     worn_finish(rt, alloc, terms, &gate, pass, job)
 }
 

@@ -3,6 +3,7 @@
 ghost use Rattle.std.specs.Prelude.{◌≡◌};
 ghost use Rattle.turn_lock.specs.TicketShown.{IsPassOf, pass_knows};
 
+use super::counts;
 use super::filing::{gate_of, is_offer};
 use super::runs::{Calls, run};
 use super::shared::{accept_at, find_stopped, refuse_at};
@@ -27,7 +28,8 @@ fn met_calls<V: SerialGate + Send + Drop>(
 {
     let gate = LockedGate::over(lock);
     let (one, other) = gate.split(pass);
-    let one = accept_at(rt, alloc, terms, &gate, one, (1, 0), 0);
+    let before = counts(0, 0, 0, false);
+    let one = accept_at(rt, alloc, terms, &gate, one, (1, 0), 0, before);
     let (one, other) = gate.meet(one, other);
     let Ok((counts, other)) = gate.counts(rt, other) else {
         panic!(rt; "counts");

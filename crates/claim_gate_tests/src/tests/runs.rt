@@ -6,6 +6,7 @@ use super::hostile::by_both_locks;
 use super::in_turn::{by_a_spin_lock, by_a_ticket_lock};
 use super::last_ticket::{few_tickets, two_tickets};
 use super::meeting::{meet_once, meet_without};
+use super::no_room::full_calls;
 use super::worked::{closed_calls, copy_calls, end_again, end_calls, stop_calls, turn_calls};
 use super::{admit_none, begin_calls, stop_none};
 use claim_gate::Terms;
@@ -33,6 +34,7 @@ pub enum Calls {
     OutcomeWithoutTicket,
     Meet,
     MeetWithoutTicket,
+    FillJournals,
 }
 
 impl Calls {
@@ -55,6 +57,7 @@ impl Calls {
             Calls::OutcomeWithoutTicket => two_tickets(rt, alloc, terms),
             Calls::Meet => meet_once(rt, alloc, terms),
             Calls::MeetWithoutTicket => meet_without(rt, alloc, terms),
+            Calls::FillJournals => full_calls(rt, alloc, terms),
         }
     }
 }

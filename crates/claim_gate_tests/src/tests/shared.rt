@@ -1,5 +1,5 @@
 //! The calls of a gate behind a lock, each with the answer that is wanted: another one ends the test. A call that is refused memory is made
-//! once more.
+//! once more, once the gate is seen to be as far as before: `before` is how far it is when the call is made first.
 ghost use Rattle.std.specs.Prelude.{◌≡◌};
 ghost use Rattle.claim_terms.specs.Terms.{ForTerms};
 ghost use Rattle.claim_gate.specs.Replies.{HasClaims, IsFiled};
@@ -9,7 +9,9 @@ ghost use Rattle.claim_gate_tests.specs.Words.{IsAtWork, IsCaller};
 use super::again_shared;
 use super::calls::settled;
 use super::filing::offer_at;
-use claim_gate::{EndFault, FinishFault, Gate, Job, Offer, OfferFault, TakeFault, Taken, Terms};
+use claim_gate::{
+    Counts, EndFault, FinishFault, Gate, Job, Offer, OfferFault, TakeFault, Taken, Terms,
+};
 use journal::jobs_stay;
 use settlement::Outcome;
 use std::alloc::Global;
@@ -24,6 +26,7 @@ fn accept<G: Gate>(
     pass: G::Pass,
     offer: Offer,
     position: usize,
+    before: Counts,
 ) -> G::Pass
     requires caller { IsCaller (G.has_pass gate.now) G.known terms.now pass }
     requires filed { ForTerms terms.now (λ T. IsFiled T offer) }
@@ -42,7 +45,7 @@ fn accept<G: Gate>(
         }
         Err((OfferFault::OutOfMemory, back)) => {
             assert!(rt; (back.provider, back.place) == filed);
-            again_shared::accept(rt, terms, gate, pass, back, position)
+            again_shared::accept(rt, terms, gate, pass, back, position, before)
         }
         Err(_) => panic!(rt; "an accepted claim"),
     }
@@ -85,6 +88,7 @@ pub fn accept_at<G: Gate>(
     pass: G::Pass,
     filed: (usize, usize),
     position: usize,
+    before: Counts,
 ) -> G::Pass
     requires caller { IsCaller (G.has_pass gate.now) G.known terms.now pass }
     ensures caller { IsCaller (G.has_pass gate.now) G.known terms.now result }
@@ -92,7 +96,7 @@ pub fn accept_at<G: Gate>(
 {
     let (provider, place) = filed;
     let offer = offer_at(rt, alloc, terms, provider, place);
-    accept(rt, terms, gate, pass, offer, position)
+    accept(rt, terms, gate, pass, offer, position, before)
 }
 
 // Offers the claim at a place of a provider's file, which is refused.
@@ -121,6 +125,7 @@ pub fn take_job<G: Gate>(
     gate: &G,
     pass: G::Pass,
     position: usize,
+    before: Counts,
 ) -> (G::Pass, Job)
     requires caller { IsCaller (G.has_pass gate.now) G.known terms.now pass }
     ensures caller { IsCaller (G.has_pass gate.now) G.known terms.now result.0 }
@@ -137,7 +142,9 @@ pub fn take_job<G: Gate>(
             assert!(rt; job.position == position);
             (pass, job)
         }
-        Err(TakeFault::OutOfMemory) => again_shared::take_job(rt, terms, gate, pass, position),
+        Err(TakeFault::OutOfMemory) => {
+            again_shared::take_job(rt, terms, gate, pass, position, before)
+        }
         Ok(_) => panic!(rt; "work"),
     }
 }
@@ -148,6 +155,7 @@ pub fn find_nothing<G: Gate>(
     terms: &Terms,
     gate: &G,
     pass: G::Pass,
+    before: Counts,
 ) -> G::Pass
     requires caller { IsCaller (G.has_pass gate.now) G.known terms.now pass }
     ensures caller { IsCaller (G.has_pass gate.now) G.known terms.now result }
@@ -158,7 +166,7 @@ pub fn find_nothing<G: Gate>(
         panic!(rt; "a reply");
     };
     if reply.is_err() {
-        return again_shared::find_nothing(rt, terms, gate, pass);
+        return again_shared::find_nothing(rt, terms, gate, pass, before);
     }
     assert!(rt; matches!(reply, Ok(Taken::NothingReady)));
     pass
@@ -172,6 +180,7 @@ pub fn record<G: Gate>(
     gate: &G,
     pass: G::Pass,
     job: Job,
+    before: Counts,
 ) -> G::Pass
     requires caller { IsCaller (G.has_pass gate.now) G.known terms.now pass }
     requires at_work { IsAtWork (G.known pass).seen job }
@@ -188,7 +197,7 @@ pub fn record<G: Gate>(
         Ok(_) => pass,
         Err((FinishFault::OutOfMemory, job, outcome)) => {
             assert!(rt; (job.position, outcome.paid) == given);
-            again_shared::record(rt, terms, gate, pass, job, outcome)
+            again_shared::record(rt, terms, gate, pass, job, outcome, before)
         }
         Err(_) => panic!(rt; "a recorded outcome"),
     }
