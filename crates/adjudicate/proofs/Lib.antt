@@ -1,12 +1,7 @@
-pub mod Answered
-pub mod Causes
-pub mod Givens
-pub mod Names
 pub mod Piecewise
-pub mod ReadNames
 pub mod Refusals
 pub mod Remittances
 pub mod Spelled
-pub mod Splits
+pub mod Statuses
 pub mod TableLines
 pub mod ToldLines

@@ -1,5 +1,5 @@
 -- What a writer has got of a text that is put in pieces, and what is gathered of it.
-use Rattle.std.proofs.Common.{◌≡◌, ℕ, zero, suc, ◌+◌, ◌-◌, ◌/◌, ◌%◌, ◌^◌, ◌<◌, ◌≤◌, inl, inr, Bool, true, false, List, [], ◌∷◌, ◌++◌, length, get_or, take, drop, max, min, cond, Option, Some, None, Result, Ok, Err, IfErr, IfOk, OnOk, OnErr, codes, decimal, refl, ap, ap₂, sym, subst, ◌∙◌, append_assoc, append-nil, take-append-drop, length-append, length-take-le, length-drop, arith}
+use Rattle.std.proofs.Common.{◌≡◌, ℕ, ◌+◌, ◌/◌, ◌%◌, ◌<◌, ◌≤◌, inl, inr, Bool, true, false, List, [], ◌∷◌, ◌++◌, length, get_or, take, drop, max, min, Option, Some, None, Result, Ok, Err, decimal, refl, ap, ap₂, sym, subst, ◌∙◌, append_assoc, append-nil, take-append-drop, length-append, length-take-le, length-drop, arith}
 use Rattle.std.specs.Prelude.{nat_lt}
 use Rattle.std.specs.Bool.{OnTrue}
 use Rattle.std.specs.List.{flat_map}
@@ -11,7 +11,7 @@ use Rattle.fixpoint.specs.Out.{PutsFront}
 use Rattle.fixpoint.specs.declared.whole_text.Cut.{Cut}
 use Rattle.adjudicate.specs.declared.check.pieces.Pieces.{Pieces}
 use Rattle.adjudicate.specs.declared.check.pieces.Progress.{Progress}
-use Rattle.adjudicate.specs.Pieces.{At, AtProgress, Ends, EndsText, Gone, GoneBy, Holds, IsCutAt, IsEmpty, IsGone, Passes, Puts, Start, at, at_progress, greatest_count, starting}
+use Rattle.adjudicate.specs.Pieces.{At, Ends, EndsText, Gone, GoneBy, Holds, IsCutAt, IsEmpty, IsGone, Passes, Puts, at, at_progress, greatest_count, starting}
 use Rattle.adjudicate.specs.declared.check.told.ColumnText.{ColumnText}
 use Rattle.adjudicate.specs.declared.check.told.ToldTable.{ToldTable}
 use Rattle.adjudicate.specs.CheckText.{wide_line}

@@ -24,11 +24,13 @@ use Rattle.crew.specs.declared.fault.RunFault.TheVariants as run
 use Rattle.remit.specs.Report.{IsReport, report_records, text_of}
 use Rattle.remit.specs.Writing.{WritesFront, WritesReport}
 use Rattle.remit.specs.declared.fault.WriteFault.{WriteFault}
+use Rattle.valuation.specs.Stop.{WritesText}
+use Rattle.valuation.specs.declared.stop.ValueStop.TheVariants as value
 use Rattle.adjudicate.specs.declared.stop.Stop.{Stop}
 use Rattle.adjudicate.specs.declared.stop.Stop.TheVariants as stop
 use Rattle.adjudicate.specs.RunText.{AreTermsOfTexts, IsRemittance, IsRemittanceOf, RunTexts, WritesRemittanceFront}
 use Rattle.adjudicate.specs.RunStop.{IsRunReason, IsStopOfRun, IsStopOfTerms, IsStopOfWrite, StopsRemittance, WritesRemittanceUntil}
-use Rattle.adjudicate.specs.Stop.{IsStopOfPlan, WritesText, failed_after}
+use Rattle.adjudicate.specs.Stop.{IsStopOfPlan, failed_after}
 
 -- the claims of files are those among their rows
 claims_of_rows : (names : List InputData) (texts : List (List ℕ)) (files : List (List Row)) → AllZip (AreRowsOf names) texts files
@@ -88,8 +90,8 @@ module _ (parts : TermsParts) (J : List Event) (finished : IsFinishedOver parts 
   -- so a report that ends early ends the remittance
   pub stops_by_write : (workers : ℕ) (fault : WriteFault) (s : Stop) → ¬ ForTerms parts (λ T. ⊥)
       → WritesFront parts J fault.written old new → IsStopOfWrite fault s → StopsRemittance parts workers old new s
-  stops_by_write workers fault (stop.Write written) seen w made = rw made.0 (writes_front fault.written seen w)
-  stops_by_write workers fault stop.NoMemory seen w made = inr (fault.written, writes_front fault.written seen w)
+  stops_by_write workers fault (stop.Value (value.Write written)) seen w made = rw made.0 (writes_front fault.written seen w)
+  stops_by_write workers fault (stop.Value value.NoMemory) seen w made = inr (fault.written, writes_front fault.written seen w)
   stops_by_write workers fault _ seen w made = absurd made
 
 -- a fault of the run ends it before anything is written
@@ -100,16 +102,16 @@ stops_by_run parts workers contents fault (stop.Run same) refused made =
     let P : RunFault → Type 0 = λ f. f ≢ run.OutOfMemory in
     let Q : RunFault → Type 0 = λ f. (f ≡ run.Workers) ↔ (¬ IsWorkerCount workers) in
     (record { told = subst P equal made.1; refused = subst Q equal refused }, Keeps-refl contents)
-stops_by_run parts workers contents fault stop.NoMemory refused made = inl (Keeps-refl contents)
+stops_by_run parts workers contents fault (stop.Value value.NoMemory) refused made = inl (Keeps-refl contents)
 stops_by_run parts workers contents fault _ refused made = absurd made
 
 -- why a run is refused: the plan's text spells no plan
 pub reason_of_plan : (texts : RunTexts) (workers : ℕ) (fault : PlanFault) (s : Stop)
     → (fault.cause ≢ cause.OutOfMemory → (plan : PlanParts) → ¬ IsPlanText texts.plan plan) → IsStopOfPlan fault s → IsRunReason texts workers s
-reason_of_plan texts workers fault (stop.Plan same) none made =
+reason_of_plan texts workers fault (stop.Value (value.Plan same)) none made =
     let P : PlanFault → Type 0 = λ f. f.cause ≢ cause.OutOfMemory in
     (subst P (sym made.0) made.1, none made.1)
-reason_of_plan texts workers fault stop.NoMemory none made = tt
+reason_of_plan texts workers fault (stop.Value value.NoMemory) none made = tt
 reason_of_plan texts workers fault _ none made = absurd made
 
 -- or under the plan the texts make no terms
@@ -120,20 +122,20 @@ reason_of_terms texts workers plan fault (stop.Terms same) spelled has made =
     let P : TermsFault → Type 0 = λ f. HasTermsFault plan texts.files texts.balances f in
     let Q : TermsFault → Type 0 = λ f. f ≢ terms.OutOfMemory in
     (plan, spelled, (subst P equal has, subst Q equal made.1))
-reason_of_terms texts workers plan fault stop.NoMemory spelled has made = tt
+reason_of_terms texts workers plan fault (stop.Value value.NoMemory) spelled has made = tt
 reason_of_terms texts workers plan fault _ spelled has made = absurd made
 
 -- and then nothing is written
 pub kept_by_terms : (texts : RunTexts) (contents : Option (List ℕ)) (fault : TermsFault) (s : Stop) → IsStopOfTerms fault s
     → WritesRemittanceUntil texts contents contents s
 kept_by_terms texts contents fault (stop.Terms same) made = Keeps-refl contents
-kept_by_terms texts contents fault stop.NoMemory made = inl (Keeps-refl contents)
+kept_by_terms texts contents fault (stop.Value value.NoMemory) made = inl (Keeps-refl contents)
 kept_by_terms texts contents fault _ made = absurd made
 
 -- and the writer has failed where it had before
 pub failed_by_terms : (failed : Bool) (fault : TermsFault) (s : Stop) → IsStopOfTerms fault s → failed ≡ failed_after failed s
 failed_by_terms failed fault (stop.Terms same) made = refl
-failed_by_terms failed fault stop.NoMemory made = refl
+failed_by_terms failed fault (stop.Value value.NoMemory) made = refl
 failed_by_terms failed fault _ made = absurd made
 
 -- what is written for the terms of the texts is written for the texts
@@ -144,9 +146,9 @@ module _ (texts : RunTexts) (parts : TermsParts) (over : AreTermsOfTexts texts p
 
   front_over : (workers : ℕ) (s : Stop) → StopsRemittance parts workers old new s → WritesRemittanceUntil texts old new s
   front_over workers (stop.Run fault) h = h.1
-  front_over workers (stop.Write written) h = record { parts = parts; over = over; writes = h }
-  front_over workers stop.NoMemory (inl kept) = inl kept
-  front_over workers stop.NoMemory (inr (written, h)) = inr (written, record { parts = parts; over = over; writes = h })
+  front_over workers (stop.Value (value.Write written)) h = record { parts = parts; over = over; writes = h }
+  front_over workers (stop.Value value.NoMemory) (inl kept) = inl kept
+  front_over workers (stop.Value value.NoMemory) (inr (written, h)) = inr (written, record { parts = parts; over = over; writes = h })
   front_over workers _ h = absurd h
 
   pub stopped_over : {X : Type 0} (workers : ℕ) (r : Result X Stop) → IfErr r (StopsRemittance parts workers old new) → IfErr r (WritesRemittanceUntil texts old new)
@@ -155,8 +157,8 @@ module _ (texts : RunTexts) (parts : TermsParts) (over : AreTermsOfTexts texts p
   -- and it ends for a fault of the run, or for a reason that can come with any texts
   reason_over : (workers : ℕ) (s : Stop) → StopsRemittance parts workers old new s → IsRunReason texts workers s
   reason_over workers (stop.Run fault) h = (over.plan, over.spelled, record { parts = parts; are_terms = over.are_terms; refuses = h.0 })
-  reason_over workers (stop.Write written) h = tt
-  reason_over workers stop.NoMemory h = tt
+  reason_over workers (stop.Value (value.Write written)) h = tt
+  reason_over workers (stop.Value value.NoMemory) h = tt
   reason_over workers _ h = absurd h
 
   pub reasons_over : {X : Type 0} (workers : ℕ) (r : Result X Stop) → IfErr r (StopsRemittance parts workers old new) → IfErr r (IsRunReason texts workers)

@@ -1,7 +1,7 @@
 -- What is told of a plan makes the lines of its check: the texts of cells at the places of gaps are those of the gaps.
-use Rattle.std.proofs.Common.{◌≡◌, ℕ, zero, suc, ◌+◌, ◌-◌, ◌*◌, ◌/◌, ◌%◌, ◌≤◌, ◌<◌, Bool, true, false, cond, eqb, not, inl, inr, List, [], ◌∷◌, ◌++◌, length, get_or, map, filter, min, max, codes, decimal, Option, Some, None, is_some, refl, ap, ap₂, sym, subst, ◌∙◌, append_assoc, append-nil, length-append, arith}
+use Rattle.std.proofs.Common.{◌≡◌, ℕ, zero, suc, ◌+◌, ◌-◌, ◌*◌, ◌/◌, ◌%◌, ◌≤◌, ◌<◌, Bool, true, false, cond, eqb, not, inl, inr, List, [], ◌∷◌, ◌++◌, length, get_or, map, filter, min, max, codes, decimal, Option, Some, None, is_some, refl, ap, ap₂, sym, subst, ◌∙◌, length-append, arith}
 use Rattle.std.specs.Global.{Vec}
-use Rattle.std.specs.List.{flat_map, join_by, list_any, range_with_len, slice_get}
+use Rattle.std.specs.List.{flat_map, join_by, range_with_len, slice_get}
 use Rattle.std.specs.Option.{option_map_or}
 use Rattle.std.proofs.lemmas.Bool.{cases_lt, false≢true, ne_eqb, le-ltb, lt-ltb}
 use Rattle.std.proofs.lemmas.List.{length-map}
@@ -12,7 +12,7 @@ use Rattle.dtable.specs.declared.table.Table.{Table}
 use Rattle.dtable.specs.Plan.{PlanParts}
 use Rattle.cutplan.specs.declared.region.Region.{Region}
 use Rattle.cutplan.specs.Check.{cells, gaps}
-use Rattle.cutplan.specs.Numbered.{IsTableNumber, cell_limit, cells_of, gaps_of}
+use Rattle.cutplan.specs.Numbered.{cell_limit, cells_of, gaps_of}
 use Rattle.cutplan.specs.Places.{ArePlaces, is_gap, is_gap_of, places, regions_of}
 use Rattle.cutplan.specs.Regions.{table_regions}
 use Rattle.cutplan.proofs.Places.{places-cons}
@@ -20,9 +20,9 @@ use Rattle.adjudicate.specs.declared.check.told.ColumnText.{ColumnText}
 use Rattle.adjudicate.specs.declared.check.told.Telling.{Telling}
 use Rattle.adjudicate.specs.declared.check.told.ToldPlan.{ToldPlan}
 use Rattle.adjudicate.specs.declared.check.told.ToldTable.{ToldTable}
-use Rattle.adjudicate.specs.ValueText.{line_end}
-use Rattle.adjudicate.specs.CheckText.{counts_line, gap_line, is_wide, overlap_line, region_text, table_numbers, told_gaps, wide_line, wide_lines}
-use Rattle.adjudicate.specs.Telling.{gap_count_in, gaps_in, overlap_count_in, overlaps_in, table_lines, tells_gaps, text_in}
+use Rattle.valuation.specs.ValueText.{line_end}
+use Rattle.adjudicate.specs.CheckText.{counts_line, gap_line, is_wide, overlap_line, region_text, told_gaps}
+use Rattle.adjudicate.specs.Telling.{gaps_in, overlaps_in, table_lines, tells_gaps, text_in}
 use Rattle.adjudicate.specs.Told.{AreTold, IsTold, IsToldOf, IsToldOfFirst, cell_text, column_texts, column_texts_if, marked_region, separator, told_gap_line, told_lines, told_places, told_table_lines, told_text, told_wide_lines}
 use Rattle.adjudicate.proofs.TableLines.{count_more}
 

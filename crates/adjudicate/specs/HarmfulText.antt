@@ -1,5 +1,5 @@
 -- What the command `check --harmful` prints for a plan's text: of what `check` prints, the gaps and overlaps that are faults where they are met.
-use Rattle.std.specs.Prelude.{◌≡◌, ℕ, ◌++◌, Bool, if◌then◌else◌, List, [], length, filter, flat_map}
+use Rattle.std.specs.Prelude.{◌≡◌, ℕ, ◌++◌, if◌then◌else◌, List, [], length, filter, flat_map}
 use Rattle.std.specs.List.{sum_by}
 use Rattle.dtable.specs.Plan.{PlanParts}
 use Rattle.dtable.specs.PlanFile.{IsPlanText}

@@ -1,6 +1,4 @@
-pub mod Arguments
 pub mod Told
-pub mod ValueText
 pub mod CheckText
 pub mod HarmfulText
 pub mod Telling

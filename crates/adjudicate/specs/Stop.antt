@@ -1,28 +1,7 @@
--- What each refusal says of the texts, its line on standard error, and its exit status.
-use Rattle.std.specs.Prelude.{◌≡◌, ◌≢◌, ℕ, ◌+◌, ◌<◌, ◌++◌, Bool, true, List, [], ◌∷◌, length, codes, decimal, Option, Some, None, Err, Contains, slice_get, take}
-use Rattle.std.specs.Io.KnownBytes.{Appends, Keeps}
-use Rattle.std.specs.Option.{option_map_or}
-use Rattle.fixpoint.specs.Out.{PutsFront}
-use Rattle.feel_tests.specs.declared.fault.CellFault.{CellFault}
-use Rattle.feel_tests.specs.declared.fault.CellCause.TheVariants as cell
-use Rattle.feel_tests.specs.Fault.{number_of as cell_cause_number}
-use Rattle.feel_tests.specs.declared.value.Value.{Value}
-use Rattle.feel_tests.specs.Cell.{SpellsValue}
-use Rattle.dtable.specs.declared.fault.Fault.{Fault}
-use Rattle.dtable.specs.declared.fault.Fault.TheVariants as faults
-use Rattle.dtable.specs.declared.inputs.Slot.{Slot}
-use Rattle.dtable.specs.declared.plan_fault.PlanCause.{PlanCause}
-use Rattle.dtable.specs.declared.plan_fault.PlanCause.TheVariants as cause
+-- What each refusal says of the texts, its line on standard error, and its exit status: of those that `value` has what is said of them there.
+use Rattle.std.specs.Prelude.{ℕ, ◌++◌, Bool, List, [], ◌∷◌, codes, decimal, Option}
+use Rattle.std.specs.Io.KnownBytes.{Keeps}
 use Rattle.dtable.specs.declared.plan_fault.PlanFault.{PlanFault}
-use Rattle.dtable.specs.declared.table.InputData.{InputData}
-use Rattle.dtable.specs.CauseNumber.{number_of as plan_cause_number}
-use Rattle.dtable.specs.Environment.{env}
-use Rattle.dtable.specs.Inputs.{IsReady, value_at}
-use Rattle.dtable.specs.Plan.{PlanParts}
-use Rattle.dtable.specs.PlanFile.{IsPlanText}
-use Rattle.dtable.specs.Scope.{data_names}
-use Rattle.settlement.specs.ReasonText.{reason_text}
-use Rattle.settlement.specs.Settlement.{reason_of}
 use Rattle.intake_csv.specs.declared.fault.BalanceFault.{BalanceFault}
 use Rattle.intake_csv.specs.declared.fault.BalanceFault.TheVariants as balance
 use Rattle.intake_csv.specs.declared.fault.RowFault.{RowFault}
@@ -33,48 +12,11 @@ use Rattle.claim_terms.specs.declared.fault.TermsFault.TheVariants as terms
 use Rattle.crew.specs.FaultNumber.{number_of as run_number}
 use Rattle.crew.specs.declared.fault.RunFault.{RunFault}
 use Rattle.crew.specs.declared.fault.RunFault.TheVariants as run
-use Rattle.adjudicate.specs.declared.stop.ArgumentFault.{ArgumentFault}
-use Rattle.adjudicate.specs.declared.stop.ArgumentFault.TheVariants as argument
+use Rattle.valuation.specs.declared.stop.ValueStop.{ValueStop}
+use Rattle.valuation.specs.Stop.{IsPlanReason as IsPlanReasonOfValue, IsReason as IsReasonOfValue, IsStopOfPlan as IsValueStopOfPlan, WritesUntil as WritesUntilValueStop, failed_after as failed_after_value, status_of as status_of_value, stop_text as value_stop_text}
+use Rattle.valuation.specs.ValueText.{line_end}
 use Rattle.adjudicate.specs.declared.stop.Stop.{Stop}
 use Rattle.adjudicate.specs.declared.stop.Stop.TheVariants as stop
-use Rattle.adjudicate.specs.Arguments.{equals_sign, IsSplit, NamesData, Gives, IsFirstMissing}
-use Rattle.adjudicate.specs.ValueText.{line_end}
-
--- ` cell K at B`
-abbrev pub cell_fault_text : CellFault → List ℕ
-cell_fault_text fault = codes " cell " ++ (decimal (cell_cause_number fault.cause) ++ (codes " at " ++ decimal fault.at))
-
--- the same where a plan's fault is a cell's
-abbrev pub plan_cause_text : PlanCause → List ℕ
-plan_cause_text (cause.Cell fault) = cell_fault_text fault
-plan_cause_text _ = []
-
--- `plan fault N table T rule R column C`, for a cell followed by ` cell K at B`
-abbrev pub plan_fault_text : PlanFault → List ℕ
-plan_fault_text fault =
-    codes "plan fault " ++ (decimal (plan_cause_number fault.cause) ++ (codes " table " ++ (decimal fault.table
-    ++ (codes " rule " ++ (decimal fault.rule ++ (codes " column " ++ (decimal fault.column ++ plan_cause_text fault.cause)))))))
-
--- the number of an argument's fault
-abbrev pub argument_fault_number : ArgumentFault → ℕ
-argument_fault_number argument.NoEquals = 1
-argument_fault_number argument.UnknownName = 2
-argument_fault_number argument.RepeatedName = 3
-argument_fault_number (argument.Literal fault) = 4
-
--- the same where an argument's fault is its literal's
-abbrev pub argument_cell_text : ArgumentFault → List ℕ
-argument_cell_text (argument.Literal fault) = cell_fault_text fault
-argument_cell_text _ = []
-
--- `argument K fault N`, for a literal followed by ` cell K at B`
-abbrev pub argument_fault_text : ℕ → ArgumentFault → List ℕ
-argument_fault_text number fault =
-    codes "argument " ++ (decimal number ++ (codes " fault " ++ (decimal (argument_fault_number fault) ++ argument_cell_text fault)))
-
--- the reason of a fault of the tables, as a claim's; want of memory is none
-abbrev pub fault_text : Fault → List ℕ
-fault_text fault = option_map_or reason_text (reason_of fault) (codes "memory")
 
 -- ` record R cause C column K`
 abbrev pub record_fault_text : ℕ → RowFault → List ℕ
@@ -102,14 +44,9 @@ run_fault_text fault = codes "run fault " ++ decimal (run_number fault)
 
 -- the words of a refusal
 abbrev pub stop_text : Stop → List ℕ
-stop_text (stop.Plan fault) = plan_fault_text fault
-stop_text (stop.Argument number fault) = argument_fault_text number fault
-stop_text (stop.Missing name) = codes "missing " ++ name
-stop_text (stop.Tables fault) = codes "fault " ++ fault_text fault
+stop_text (stop.Value s) = value_stop_text s
 stop_text (stop.Terms fault) = terms_fault_text fault
 stop_text (stop.Run fault) = run_fault_text fault
-stop_text (stop.Write written) = codes "write fault at " ++ decimal written
-stop_text stop.NoMemory = codes "no memory"
 
 -- the line of a refusal
 abbrev pub stop_line : Stop → List ℕ
@@ -122,131 +59,33 @@ run_status _ = 3
 
 -- 1 where the texts are refused, 3 where a resource is wanting
 abbrev pub status_of : Stop → ℕ
-status_of (stop.Plan fault) = 1
-status_of (stop.Argument number fault) = 1
-status_of (stop.Missing name) = 1
-status_of (stop.Tables fault) = 1
+status_of (stop.Value s) = status_of_value s
 status_of (stop.Terms fault) = 1
 status_of (stop.Run fault) = run_status fault
-status_of (stop.Write written) = 3
-status_of stop.NoMemory = 3
 
--- why an argument gives no value, beside what the arguments in front of it gave: the faults are tried in this order
-abbrev pub IsArgumentFault : List InputData → List Slot → List ℕ → ArgumentFault → Type 0
-IsArgumentFault names given text argument.NoEquals = ¬ Contains text equals_sign
-IsArgumentFault names given text argument.UnknownName = (name : List ℕ) × (literal : List ℕ) × IsSplit text name literal × ¬ Contains (data_names names) name
-IsArgumentFault names given text argument.RepeatedName =
-    (place : ℕ) × (input : InputData) × (literal : List ℕ) × (value : Value) × NamesData names text place input literal × (value_at given place ≡ Some value)
-IsArgumentFault names given text (argument.Literal fault) =
-    (place : ℕ) × (input : InputData) × (literal : List ℕ) × NamesData names text place input literal × (value_at given place ≡ None)
-    × (fault.cause ≢ cell.OutOfMemory) × ((value : Value) → ¬ SpellsValue input.kind literal value)
-
--- the argument with this number is the first that gives no value, for this reason
-pub record IsFirstBadArgument (names : List InputData) (arguments : List (List ℕ)) (number : ℕ) (fault : ArgumentFault) : Type 0 where
-  pub place : ℕ
-  pub counted : number ≡ place + 1
-  pub text : List ℕ
-  pub standing : slice_get arguments place ≡ Some text
-  pub given : List Slot
-  pub gives : Gives names (take place arguments) given
-  pub fault_is : IsArgumentFault names given text fault
-
--- the arguments give this refusal for a plan; want of memory can come with any
-abbrev pub RefusesValue : PlanParts → List (List ℕ) → Stop → Type 0
-RefusesValue plan arguments (stop.Argument number fault) = IsFirstBadArgument plan.names arguments number fault
-RefusesValue plan arguments (stop.Missing name) = (given : List Slot) × Gives plan.names arguments given × IsFirstMissing plan.names plan.tables given name
-RefusesValue plan arguments (stop.Tables fault) =
-    (given : List Slot) × Gives plan.names arguments given × IsReady plan.tables given × (fault ≢ faults.OutOfMemory) × (env plan given ≡ Err fault)
-RefusesValue plan arguments stop.NoMemory = Unit {0}
-RefusesValue plan arguments _ = ⊥
-
--- the arguments give this refusal for the plan that the plan's text spells
-abbrev pub RefusesSpelled : List ℕ → List (List ℕ) → Stop → Type 0
-RefusesSpelled plan_text arguments s = (plan : PlanParts) × IsPlanText plan_text plan × RefusesValue plan arguments s
-
--- the plan's text spells no plan; want of memory while it is read is another thing
-abbrev pub SpellsNoPlan : List ℕ → PlanFault → Type 0
-SpellsNoPlan plan_text fault = (fault.cause ≢ cause.OutOfMemory) × ((plan : PlanParts) → ¬ IsPlanText plan_text plan)
+-- the refusal is one that `value` has, and such a one
+abbrev pub IsOfValue : (ValueStop → Type 0) → Stop → Type 0
+IsOfValue IsSuch (stop.Value s) = IsSuch s
+IsOfValue IsSuch _ = ⊥
 
 -- the texts give this refusal: for a refusal of the texts, what is wrong with them; the others can come with any texts
 abbrev pub IsReason : List ℕ → List (List ℕ) → Stop → Type 0
-IsReason plan_text arguments (stop.Plan fault) = SpellsNoPlan plan_text fault
-IsReason plan_text arguments (stop.Write written) = Unit {0}
-IsReason plan_text arguments stop.NoMemory = Unit {0}
-IsReason plan_text arguments s = RefusesSpelled plan_text arguments s
+IsReason plan_text arguments s = IsOfValue (IsReasonOfValue plan_text arguments) s
 
 -- the plan's text gives this refusal of a command that takes nothing else
 abbrev pub IsPlanReason : List ℕ → Stop → Type 0
-IsPlanReason plan_text (stop.Plan fault) = SpellsNoPlan plan_text fault
-IsPlanReason plan_text (stop.Write written) = Unit {0}
-IsPlanReason plan_text stop.NoMemory = Unit {0}
-IsPlanReason plan_text _ = ⊥
-
--- what a writer has got, once a command is done: a text of those that the command may print
-pub record WritesText (IsText : List ℕ → Type 0) (old new : Option (List ℕ)) : Type 0 where
-  pub text : List ℕ
-  pub is_text : IsText text
-  pub appended : Appends old new text
-
--- the writer has got exactly the first bytes of such a text, as many as `written` says, and not all of them
-pub record WritesFront (IsText : List ℕ → Type 0) (old new : Option (List ℕ)) (written : ℕ) : Type 0 where
-  pub text : List ℕ
-  pub is_text : IsText text
-  pub cut : written < length text
-  pub appended : Appends old new (take written text)
+IsPlanReason plan_text s = IsOfValue (IsPlanReasonOfValue plan_text) s
 
 -- what a writer has got at a refusal: the first bytes of the text where the writer failed, and otherwise nothing
 abbrev pub WritesUntil : (List ℕ → Type 0) → Option (List ℕ) → Option (List ℕ) → Stop → Type 0
-WritesUntil IsText old new (stop.Write written) = WritesFront IsText old new written
+WritesUntil IsText old new (stop.Value s) = WritesUntilValueStop IsText old new s
 WritesUntil IsText old new _ = Keeps old new
 
 -- whether the writer has failed after a refusal: at a write fault it has, and no other refusal changes that
 abbrev pub failed_after : Bool → Stop → Bool
-failed_after before (stop.Write written) = true
+failed_after before (stop.Value s) = failed_after_value before s
 failed_after before _ = before
 
--- the refusal that a fault of the plan's text becomes: want of memory is no fault of the text
+-- the refusal that a fault of the plan's text becomes
 abbrev pub IsStopOfPlan : PlanFault → Stop → Type 0
-IsStopOfPlan fault (stop.Plan same) = (same ≡ fault) × (fault.cause ≢ cause.OutOfMemory)
-IsStopOfPlan fault stop.NoMemory = fault.cause ≡ cause.OutOfMemory
-IsStopOfPlan fault _ = ⊥
-
--- the refusal that a fault of the tables becomes: want of memory is no fault of the tables
-abbrev pub IsStopOfTables : Fault → Stop → Type 0
-IsStopOfTables fault (stop.Tables same) = (same ≡ fault) × (fault ≢ faults.OutOfMemory)
-IsStopOfTables fault stop.NoMemory = fault ≡ faults.OutOfMemory
-IsStopOfTables fault _ = ⊥
-
--- the argument's fault is want of memory while its literal was read
-abbrev pub IsMemoryFault : ArgumentFault → Type 0
-IsMemoryFault argument.NoEquals = ⊥
-IsMemoryFault argument.UnknownName = ⊥
-IsMemoryFault argument.RepeatedName = ⊥
-IsMemoryFault (argument.Literal fault) = fault.cause ≡ cell.OutOfMemory
-
--- the refusal that a fault of the argument with this number becomes: want of memory is no fault of the argument
-abbrev pub IsStopOfArgument : ℕ → ArgumentFault → Stop → Type 0
-IsStopOfArgument number fault (stop.Argument same_number same) = (same_number ≡ number) × (same ≡ fault) × ¬ IsMemoryFault fault
-IsStopOfArgument number fault stop.NoMemory = IsMemoryFault fault
-IsStopOfArgument number fault _ = ⊥
-
--- a refusal of the arguments, before the tables are looked at
-abbrev pub RefusesArguments : List InputData → List (List ℕ) → Stop → Type 0
-RefusesArguments names arguments (stop.Argument number fault) = IsFirstBadArgument names arguments number fault
-RefusesArguments names arguments stop.NoMemory = Unit {0}
-RefusesArguments names arguments _ = ⊥
-
--- a refusal of the texts, or want of memory: what `value` answers before it writes
-abbrev pub RefusesText : List ℕ → List (List ℕ) → Stop → Type 0
-RefusesText plan_text arguments (stop.Write written) = ⊥
-RefusesText plan_text arguments s = IsReason plan_text arguments s
-
--- the same of a command that takes a plan alone
-abbrev pub RefusesPlan : List ℕ → Stop → Type 0
-RefusesPlan plan_text (stop.Write written) = ⊥
-RefusesPlan plan_text s = IsPlanReason plan_text s
-
--- a write fault in the midst of a text, which the writer has got up to there
-abbrev pub PutsUntil : List ℕ → Option (List ℕ) → Option (List ℕ) → Stop → Type 0
-PutsUntil text old new (stop.Write written) = PutsFront text written old new
-PutsUntil text old new _ = ⊥
+IsStopOfPlan fault s = IsOfValue (IsValueStopOfPlan fault) s

@@ -1,6 +1,6 @@
 -- What is told of a plan's check, before it is printed: gaps by their places among the cells of a table's check. Tables are numbered from 1, and
 -- places count from 0.
-use Rattle.std.specs.Prelude.{◌≡◌, ℕ, ◌+◌, ◌/◌, ◌%◌, ◌<◌, ◌++◌, ◌==◌, Bool, if◌then◌else◌, List, [], ◌∷◌, length, map, flat_map, min, max, codes, decimal, Option, Some, None, get_or}
+use Rattle.std.specs.Prelude.{◌≡◌, ℕ, ◌+◌, ◌/◌, ◌%◌, ◌++◌, ◌==◌, Bool, if◌then◌else◌, List, [], ◌∷◌, length, map, flat_map, min, max, codes, decimal, Option, Some, None, get_or}
 use Rattle.std.specs.Global.{Vec}
 use Rattle.std.specs.List.{join_by}
 use Rattle.dtable.specs.Plan.{PlanParts}
@@ -11,7 +11,7 @@ use Rattle.adjudicate.specs.declared.check.told.ColumnText.{ColumnText}
 use Rattle.adjudicate.specs.declared.check.told.Telling.{Telling}
 use Rattle.adjudicate.specs.declared.check.told.ToldPlan.{ToldPlan}
 use Rattle.adjudicate.specs.declared.check.told.ToldTable.{ToldTable}
-use Rattle.adjudicate.specs.ValueText.{line_end}
+use Rattle.valuation.specs.ValueText.{line_end}
 use Rattle.adjudicate.specs.CheckText.{counts_line, is_wide, overlap_line, region_text, table_numbers, wide_line}
 use Rattle.adjudicate.specs.Telling.{gap_count_in, gaps_in, overlap_count_in, overlaps_in, tells_gaps}
 

@@ -4,11 +4,12 @@
 ghost use Rattle.std.specs.Prelude.{◌≡◌, ◌<◌, true, IfOk, IfErr, OnErr, OnOk, length};
 ghost use Rattle.std.specs.Io.KnownBytes.{Appends};
 ghost use Rattle.fixpoint.specs.Out.{writer_of, has_failed};
+ghost use Rattle.valuation.specs.Stop.{PutsUntil, RefusesPlan, WritesText, WritesUntil as WritesUntilValueStop, IsPlanReason as IsPlanReasonOfValue, failed_after as failed_after_value};
 ghost use Rattle.adjudicate.specs.CheckText.{IsCheckText};
 ghost use Rattle.adjudicate.specs.HarmfulText.{IsHarmfulCheckText};
 ghost use Rattle.adjudicate.specs.Telling.{IsToldText};
 ghost use Rattle.adjudicate.specs.Pieces.{greatest_count};
-ghost use Rattle.adjudicate.specs.Stop.{PutsUntil, WritesText, WritesUntil, IsPlanReason, failed_after, RefusesPlan};
+ghost use Rattle.adjudicate.specs.Stop.{WritesUntil, IsPlanReason, failed_after};
 ghost use Rattle.adjudicate.specs.Told.{told_text};
 
 pub mod pieces;
@@ -22,6 +23,7 @@ use std::alloc::Global;
 use std::io::Write;
 use text::{checked, put_told};
 use told::{Telling, ToldPlan};
+use valuation::ValueStop;
 
 /// Checks the plan's tables, and writes a line for each pair of rules that can match together (`overlap`) and each
 /// region of inputs that no rule covers (`gap`), a line for each table with too many regions (`wide`), and the counts.
@@ -59,7 +61,6 @@ pub fn do_harmful_check<W: Write>(alloc: Global, plan: &[u8], out: &mut Out<W>) 
 }
 
 /// Checks the plan's tables as `do_check` or `do_harmful_check` does, by what is to be told.
-#[tactic(auto, using(crate::proofs::Refusals::writes_whole, crate::proofs::Refusals::writes_front))]
 pub fn do_telling_check<W: Write>(
     alloc: Global,
     plan: &[u8],
@@ -74,13 +75,35 @@ pub fn do_telling_check<W: Write>(
     ensures ok_failed { OnOk result (has_failed out.new ≡ has_failed out.old) }
     ensures failed { IfErr result (λ stop. has_failed out.new ≡ failed_after (has_failed out.old) stop) }
 {
+    match put_told_of_text(alloc, plan, telling, out) {
+        Ok(()) => Ok(()),
+        Err(stop) => Err(Stop::Value(stop)),
+    }
+}
+
+// The same, with what it may be refused by: what a command over a plan alone has.
+#[tactic(auto, using(crate::proofs::Refusals::writes_whole, crate::proofs::Refusals::writes_front))]
+fn put_told_of_text<W: Write>(
+    alloc: Global,
+    plan: &[u8],
+    telling: Telling,
+    out: &mut Out<W>,
+) -> Result<(), ValueStop>
+    ensures written { OnOk result (WritesText (IsToldText telling plan.now)
+        (W.contents (writer_of out.old)) (W.contents (writer_of out.new))) }
+    ensures reason { IfErr result (IsPlanReasonOfValue plan.now) }
+    ensures stopped { IfErr result (WritesUntilValueStop (IsToldText telling plan.now)
+        (W.contents (writer_of out.old)) (W.contents (writer_of out.new))) }
+    ensures ok_failed { OnOk result (has_failed out.new ≡ has_failed out.old) }
+    ensures failed { IfErr result (λ stop. has_failed out.new ≡ failed_after_value (has_failed out.old) stop) }
+{
     let told = told_of_text(alloc, plan, telling)?;
     put_check(alloc, &told, out)
 }
 
 // What is told of a plan's text.
 #[tactic(auto, using(crate::proofs::Refusals::refuses_spelling, crate::proofs::Spelled::told_is_spelled))]
-fn told_of_text(alloc: Global, plan: &[u8], telling: Telling) -> Result<ToldPlan, Stop>
+fn told_of_text(alloc: Global, plan: &[u8], telling: Telling) -> Result<ToldPlan, ValueStop>
     ensures text { IfOk result (λ told. IsToldText telling plan.now (told_text told)) }
     ensures counted { IfOk result (λ told. length (told_text told) < greatest_count) }
     ensures refused { IfErr result (RefusesPlan plan.now) }
@@ -92,7 +115,7 @@ fn told_of_text(alloc: Global, plan: &[u8], telling: Telling) -> Result<ToldPlan
 }
 
 // Writes the text of what is told. A writer that fails in its midst is a refusal.
-fn put_check<W: Write>(alloc: Global, told: &ToldPlan, out: &mut Out<W>) -> Result<(), Stop>
+fn put_check<W: Write>(alloc: Global, told: &ToldPlan, out: &mut Out<W>) -> Result<(), ValueStop>
     requires { length (told_text told.now) < greatest_count }
     ensures ok { OnOk result (Appends (W.contents (writer_of out.old)) (W.contents (writer_of out.new)) (told_text told.now)) }
     ensures ok_failed { OnOk result (has_failed out.new ≡ has_failed out.old) }
@@ -101,6 +124,6 @@ fn put_check<W: Write>(alloc: Global, told: &ToldPlan, out: &mut Out<W>) -> Resu
 {
     match put_told(alloc, told, out) {
         Ok(_) => Ok(()),
-        Err(Cut { written }) => Err(Stop::Write { written }),
+        Err(Cut { written }) => Err(ValueStop::Write { written }),
     }
 }

@@ -4,9 +4,10 @@ ghost use Rattle.std.specs.Prelude.{◌≡◌, IfOk, IfErr, OnOk};
 ghost use Rattle.fixpoint.specs.Out.{writer_of, has_failed};
 ghost use Rattle.crew.specs.Workers.{IsWorkerCount};
 ghost use Rattle.dtable.specs.PlanFile.{IsPlanText};
+ghost use Rattle.valuation.specs.Stop.{WritesText};
 ghost use Rattle.adjudicate.specs.RunText.{IsRemittance, IsRemittanceOf, run_texts};
 ghost use Rattle.adjudicate.specs.RunStop.{IsRunReason, StopsRemittance, WritesRemittanceUntil};
-ghost use Rattle.adjudicate.specs.Stop.{WritesText, failed_after};
+ghost use Rattle.adjudicate.specs.Stop.{failed_after};
 
 use crate::stop::Stop;
 use claim_terms::{Terms, terms_are_seen};

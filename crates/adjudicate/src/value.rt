@@ -1,26 +1,19 @@
 //! The command `value`: what a plan's tables give at the values of some arguments, a line for each output.
 
-ghost use Rattle.std.specs.Prelude.{◌≡◌, IfOk, IfErr, OnOk};
+ghost use Rattle.std.specs.Prelude.{◌≡◌, IfErr, OnOk};
 ghost use Rattle.fixpoint.specs.Out.{writer_of, has_failed};
 ghost use Rattle.claim_terms.specs.Terms.{texts_of};
-ghost use Rattle.adjudicate.specs.ValueText.{IsTextOf, IsValueText};
-ghost use Rattle.adjudicate.specs.Stop.{WritesText, WritesUntil, IsReason, failed_after, RefusesText, RefusesValue};
+ghost use Rattle.valuation.specs.Stop.{WritesText};
+ghost use Rattle.valuation.specs.ValueText.{IsValueText};
+ghost use Rattle.adjudicate.specs.Stop.{WritesUntil, IsReason, failed_after};
 
-pub mod arguments;
-pub mod text;
-
-use crate::output::put_text;
 use crate::stop::Stop;
-use arguments::{first_missing, read_arguments};
-use dtable::{Name, Plan, Valuer, read_plan};
 use fixpoint::Out;
 use std::alloc::Global;
 use std::io::Write;
-use text::value_lines;
 
 /// Evaluates the plan's tables at the arguments, each `NAME=LITERAL`, and writes the value of each output.
 /// The whole text is made before its first byte is written.
-#[tactic(auto, using(crate::proofs::Refusals::writes_whole, crate::proofs::Refusals::writes_front))]
 pub fn do_value<W: Write>(
     alloc: Global,
     plan: &[u8],
@@ -37,30 +30,8 @@ pub fn do_value<W: Write>(
     ensures ok_failed { OnOk result (has_failed out.new ≡ has_failed out.old) }
     ensures failed { IfErr result (λ stop. has_failed out.new ≡ failed_after (has_failed out.old) stop) }
 {
-    let text = value_text(alloc, plan, arguments)?;
-    put_text(text.as_slice(), out)
-}
-
-// The text that the command prints.
-fn value_text(alloc: Global, plan: &[u8], arguments: &[&str]) -> Result<Vec<u8>, Stop>
-    ensures text { IfOk result (λ text. IsValueText plan.now (texts_of arguments.now) text.items) }
-    ensures refused { IfErr result (RefusesText plan.now (texts_of arguments.now)) }
-{
-    let plan = read_plan(alloc, plan)?;
-    let text = plan_text(alloc, &plan, arguments);
-    drop(plan);
-    text
-}
-
-// The text that the command prints for a plan.
-fn plan_text(alloc: Global, plan: &Plan, arguments: &[&str]) -> Result<Vec<u8>, Stop>
-    ensures text { IfOk result (λ text. IsTextOf plan.now (texts_of arguments.now) text.items) }
-    ensures refused { IfErr result (RefusesValue plan.now (texts_of arguments.now)) }
-{
-    let inputs = read_arguments(alloc, plan, arguments)?;
-    if let Some(input) = first_missing(plan, &inputs) {
-        return Err(Stop::Missing(Name::new(alloc, input.name.as_str())?));
+    match valuation::do_value(alloc, plan, arguments, out) {
+        Ok(()) => Ok(()),
+        Err(stop) => Err(Stop::Value(stop)),
     }
-    let values = plan.value(alloc, &inputs)?;
-    Ok(value_lines(alloc, plan.tables(), &values)?)
 }

@@ -1,6 +1,6 @@
 //! The lines of refusals, as the formats give them, where no end-to-end case of the program shows them.
 use crate::testing::says;
-use adjudicate::{ArgumentFault, LINE_LIMIT_BYTES, Stop};
+use adjudicate::{ArgumentFault, LINE_LIMIT_BYTES, Stop, ValueStop};
 use claim_terms::TermsFault;
 use crew::RunFault;
 use dtable::{Fault, Name, PlanCause, PlanFault};
@@ -11,7 +11,7 @@ use std::alloc::AllocError;
 
 // A plan's fault with each place the same.
 fn plan_fault(place: usize, cause: PlanCause) -> Stop {
-    Stop::Plan(PlanFault {
+    Stop::from(PlanFault {
         table: place,
         rule: place,
         column: place,
@@ -33,23 +33,25 @@ fn the_longest_line_has_room(rt: HostRuntime) {
 fn refusals_of_a_plan_and_its_values(rt: HostRuntime) {
     let kind = plan_fault(0, PlanCause::Kind);
     assert!(rt; says(&kind, "plan fault 5 table 0 rule 0 column 0\n", 1));
-    let argument = Stop::Argument {
+    let argument = Stop::Value(ValueStop::Argument {
         number: 2,
         fault: ArgumentFault::RepeatedName,
-    };
+    });
     assert!(rt; says(&argument, "argument 2 fault 3\n", 1));
-    let missing = Stop::Missing(Name::new(rt.alloc(), "x").expect(&rt, "memory for a name"));
+    let name = Name::new(rt.alloc(), "x").expect(&rt, "memory for a name");
+    let missing = Stop::Value(ValueStop::Missing(name));
     assert!(rt; says(&missing, "missing x\n", 1));
 }
 
 #[test]
 fn refusals_of_the_tables(rt: HostRuntime) {
-    let outside = Stop::from(Fault::Outside {
+    let outside = Stop::Value(ValueStop::from(Fault::Outside {
         table: 32,
         column: 16,
-    });
+    }));
     assert!(rt; says(&outside, "fault outside:32:16\n", 1));
-    assert!(rt; says(&Stop::from(Fault::OutOfMemory), "no memory\n", 3));
+    let memory = Stop::Value(ValueStop::from(Fault::OutOfMemory));
+    assert!(rt; says(&memory, "no memory\n", 3));
     assert!(rt; says(&Stop::from(AllocError), "no memory\n", 3));
 }
 

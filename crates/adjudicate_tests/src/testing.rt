@@ -1,5 +1,5 @@
 //! What the tests of several commands share.
-use adjudicate::{LINE_LIMIT_BYTES, Stop};
+use adjudicate::{LINE_LIMIT_BYTES, Stop, ValueStop};
 use fixpoint::Out;
 use std::alloc::Global;
 use std::io;
@@ -28,7 +28,7 @@ pub fn is_refused(answer: Result<(), Stop>, out: Out<Vec<u8>>, line: &str) -> bo
 
 /// A writer has got so many first bytes of this text, and the refusal tells so.
 pub fn is_cut(answer: Result<(), Stop>, out: Out<Narrow>, text: &str, limit: usize) -> bool {
-    let Err(Stop::Write { written }) = answer else {
+    let Err(Stop::Value(ValueStop::Write { written })) = answer else {
         return false;
     };
     written == limit && out.failed() && out.into_inner().has_first(text, limit)

@@ -1,228 +1,70 @@
-//! A line on standard error, put together in memory of fixed size.
+//! The words of the refusals of a run, on a line on standard error.
 
-ghost use Rattle.std.specs.Prelude.{◌≡◌, ℕ, ◌+◌, ◌<◌, ◌≤◌, ◌++◌, [], List, codes, decimal, length, take};
-ghost use Rattle.settlement.specs.ReasonText.{reason_text};
-ghost use Rattle.adjudicate.specs.Stop.{plan_fault_text, argument_fault_text, balance_fault_text, cell_fault_text, fault_text, record_fault_text, run_fault_text, terms_fault_text};
+ghost use Rattle.std.specs.Prelude.{◌≡◌, ◌≤◌, ◌++◌, length};
+ghost use Rattle.adjudicate.specs.Stop.{balance_fault_text, record_fault_text, run_fault_text, terms_fault_text};
 
-use super::ArgumentFault;
 use claim_terms::TermsFault;
 use crew::RunFault;
-use dtable::{Fault, PlanCause, PlanFault};
-use feel_tests::CellFault;
 use intake_csv::{BalanceFault, RowFault};
-use itoa::Buffer;
-use settlement::Reason;
-use std::marker::Model;
+use valuation::Line;
 
-/// How many bytes a refusal's line has at most, with its end.
-pub const LINE_LIMIT_BYTES: usize = 128;
-
-/// A line so far: bytes, of which there is room for `LINE_LIMIT_BYTES`.
-#[derive(Drop)]
-pub struct Line {
-    bytes: [u8; LINE_LIMIT_BYTES],
-    length: usize,
+/// Puts the words of a fault of the terms on an empty line.
+pub fn put_terms_fault(line: &mut Line, fault: &TermsFault)
+    requires { length line.old ≡ 0 }
+    ensures text { line.new ≡ line.old ++ terms_fault_text fault.now }
+    ensures short { length line.new ≤ 100 }
+{
+    line.put("terms fault ");
+    line.put_cause(fault.number());
+    match fault {
+        TermsFault::File { provider, fault } => {
+            line.put(" file ");
+            line.put_number(*provider);
+            line.put(" cause ");
+            line.put_cause(fault.number());
+        }
+        TermsFault::Balances(fault) => put_balance_fault(line, fault),
+        _ => {}
+    }
 }
 
-impl Model for Line {
-    ghost use Rattle.std.specs.Prelude.{List, ℕ, ◌≤◌, take};
-    ghost use Rattle.adjudicate.specs.declared.stop.line.TheConstants.{LINE_LIMIT_BYTES};
-
-    ghost Value = { List ℕ };
-
-    ghost view = { λ line. take line.length line.bytes };
-
-    ghost invariant = { λ line. line.length ≤ LINE_LIMIT_BYTES };
+/// Puts the words of a fault of a run on an empty line.
+pub fn put_run_fault(line: &mut Line, fault: &RunFault)
+    requires { length line.old ≡ 0 }
+    ensures text { line.new ≡ line.old ++ run_fault_text fault.now }
+    ensures short { length line.new ≤ 100 }
+{
+    line.put("run fault ");
+    line.put_cause(fault.number());
 }
 
-impl Line {
-    pub fn new() -> Self
-        ensures { result ≡ [] }
-    {
-        Line {
-            bytes: [0; LINE_LIMIT_BYTES],
-            length: 0,
+// Puts what is wrong with the balances behind the line.
+fn put_balance_fault(line: &mut Line, fault: &BalanceFault)
+    requires { length line.old ≤ 14 }
+    ensures text { line.new ≡ line.old ++ balance_fault_text fault.now }
+    ensures short { length line.new ≤ 100 }
+{
+    match fault {
+        BalanceFault::File(fault) => {
+            line.put(" cause ");
+            line.put_cause(fault.number());
         }
+        BalanceFault::Row { number, fault } => put_record_fault(line, *number, fault),
+        BalanceFault::OutOfMemory => {}
     }
+}
 
-    /// Puts a text behind the line.
-    pub fn put(&mut self, text: &str)
-        requires { length self.old + length text.now ≤ LINE_LIMIT_BYTES }
-        ensures { self.new ≡ self.old ++ text.now }
-    {
-        let end = self.length + text.len();
-        self.bytes[self.length..end].copy_from_slice(text.as_bytes());
-        self.length = end;
-    }
-
-    /// Puts a number's decimal digits behind the line.
-    pub fn put_number(&mut self, number: usize)
-        requires { length self.old + 20 ≤ LINE_LIMIT_BYTES }
-        ensures text { self.new ≡ self.old ++ decimal number }
-        ensures short { length self.new ≤ length self.old + 20 }
-    {
-        self.put(Buffer::new().format(number));
-    }
-
-    // Puts the one or two digits of a cause's number behind the line.
-    fn put_cause(&mut self, number: u8)
-        requires small { number < 100 }
-        requires room { length self.old + 2 ≤ LINE_LIMIT_BYTES }
-        ensures text { self.new ≡ self.old ++ decimal number }
-        ensures short { length self.new ≤ length self.old + 2 }
-    {
-        self.put(Buffer::new().format(number));
-    }
-
-    /// Copies the line to the front of the buffer, and returns its length.
-    pub fn copy_to(&self, buffer: &mut [u8; LINE_LIMIT_BYTES]) -> usize
-        ensures fits { result ≤ LINE_LIMIT_BYTES }
-        ensures written { take result buffer.new ≡ self.now }
-    {
-        *buffer = self.bytes;
-        self.length
-    }
-
-    /// Puts the words of a plan's fault on an empty line.
-    pub fn put_plan_fault(&mut self, fault: &PlanFault)
-        requires { length self.old ≡ 0 }
-        ensures text { self.new ≡ self.old ++ plan_fault_text fault.now }
-        ensures short { length self.new ≤ 126 }
-    {
-        self.put("plan fault ");
-        self.put_cause(fault.cause.number());
-        self.put(" table ");
-        self.put_number(fault.table);
-        self.put(" rule ");
-        self.put_number(fault.rule);
-        self.put(" column ");
-        self.put_number(fault.column);
-        if let PlanCause::Cell(cell) = &fault.cause {
-            self.put_cell_fault(cell);
-        }
-    }
-
-    /// Puts the words of an argument's fault on an empty line.
-    pub fn put_argument_fault(&mut self, number: usize, fault: &ArgumentFault)
-        requires { length self.old ≡ 0 }
-        ensures text { self.new ≡ self.old ++ argument_fault_text number fault.now }
-        ensures short { length self.new ≤ 100 }
-    {
-        self.put("argument ");
-        self.put_number(number);
-        self.put(" fault ");
-        self.put_cause(fault.number());
-        if let ArgumentFault::Literal(cell) = fault {
-            self.put_cell_fault(cell);
-        }
-    }
-
-    /// Puts the words of the tables' fault on an empty line.
-    pub fn put_tables_fault(&mut self, fault: &Fault)
-        requires { length self.old ≡ 0 }
-        ensures text { self.new ≡ self.old ++ (codes "fault " ++ fault_text fault.now) }
-        ensures short { length self.new ≤ 100 }
-    {
-        self.put("fault ");
-        match Reason::of(*fault) {
-            Some(reason) => self.put_reason(reason),
-            None => self.put("memory"),
-        }
-    }
-
-    /// Puts the words of a fault of the terms on an empty line.
-    pub fn put_terms_fault(&mut self, fault: &TermsFault)
-        requires { length self.old ≡ 0 }
-        ensures text { self.new ≡ self.old ++ terms_fault_text fault.now }
-        ensures short { length self.new ≤ 100 }
-    {
-        self.put("terms fault ");
-        self.put_cause(fault.number());
-        match fault {
-            TermsFault::File { provider, fault } => {
-                self.put(" file ");
-                self.put_number(*provider);
-                self.put(" cause ");
-                self.put_cause(fault.number());
-            }
-            TermsFault::Balances(fault) => self.put_balance_fault(fault),
-            _ => {}
-        }
-    }
-
-    /// Puts the words of a fault of a run on an empty line.
-    pub fn put_run_fault(&mut self, fault: &RunFault)
-        requires { length self.old ≡ 0 }
-        ensures text { self.new ≡ self.old ++ run_fault_text fault.now }
-        ensures short { length self.new ≤ 100 }
-    {
-        self.put("run fault ");
-        self.put_cause(fault.number());
-    }
-
-    // Puts what is wrong with the balances behind the line.
-    fn put_balance_fault(&mut self, fault: &BalanceFault)
-        requires { length self.old ≤ 14 }
-        ensures text { self.new ≡ self.old ++ balance_fault_text fault.now }
-        ensures short { length self.new ≤ 100 }
-    {
-        match fault {
-            BalanceFault::File(fault) => {
-                self.put(" cause ");
-                self.put_cause(fault.number());
-            }
-            BalanceFault::Row { number, fault } => self.put_record_fault(*number, fault),
-            BalanceFault::OutOfMemory => {}
-        }
-    }
-
-    // Puts the record with this number, and what is wrong with it, behind the line.
-    fn put_record_fault(&mut self, number: usize, fault: &RowFault)
-        requires { length self.old ≤ 14 }
-        ensures text { self.new ≡ self.old ++ record_fault_text number fault.now }
-        ensures short { length self.new ≤ 100 }
-    {
-        let RowFault { column, cause } = *fault;
-        self.put(" record ");
-        self.put_number(number);
-        self.put(" cause ");
-        self.put_cause(cause.number());
-        self.put(" column ");
-        self.put_number(column);
-    }
-
-    // Puts a reason behind the line.
-    fn put_reason(&mut self, reason: Reason)
-        requires { length self.old + 49 ≤ LINE_LIMIT_BYTES }
-        ensures text { self.new ≡ self.old ++ reason_text reason }
-        ensures short { length self.new ≤ length self.old + 49 }
-    {
-        self.put(reason.word());
-        self.put_numbered(":", reason.place());
-        if let Some(column) = reason.column() {
-            self.put_numbered(":", column);
-        }
-    }
-
-    // Puts a mark and a number behind the line.
-    fn put_numbered(&mut self, mark: &str, number: usize)
-        requires { length self.old + (length mark.now + 20) ≤ LINE_LIMIT_BYTES }
-        ensures text { self.new ≡ self.old ++ (mark.now ++ decimal number) }
-        ensures short { length self.new ≤ length self.old + (length mark.now + 20) }
-    {
-        self.put(mark);
-        self.put_number(number);
-    }
-
-    // Puts the words of a cell's fault behind the line.
-    fn put_cell_fault(&mut self, fault: &CellFault)
-        requires { length self.old + 32 ≤ LINE_LIMIT_BYTES }
-        ensures text { self.new ≡ self.old ++ cell_fault_text fault.now }
-        ensures short { length self.new ≤ length self.old + 32 }
-    {
-        self.put(" cell ");
-        self.put_cause(fault.cause.number());
-        self.put(" at ");
-        self.put_number(fault.at);
-    }
+// Puts the record with this number, and what is wrong with it, behind the line.
+fn put_record_fault(line: &mut Line, number: usize, fault: &RowFault)
+    requires { length line.old ≤ 14 }
+    ensures text { line.new ≡ line.old ++ record_fault_text number fault.now }
+    ensures short { length line.new ≤ 100 }
+{
+    let RowFault { column, cause } = *fault;
+    line.put(" record ");
+    line.put_number(number);
+    line.put(" cause ");
+    line.put_cause(cause.number());
+    line.put(" column ");
+    line.put_number(column);
 }

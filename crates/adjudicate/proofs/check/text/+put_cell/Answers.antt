@@ -1,4 +1,4 @@
-use Rattle.std.proofs.Common.{arith, length, ◌≡◌}
+use Rattle.std.proofs.Common.{arith}
 use Rattle.adjudicate.specs.Pieces.{at}
 use Rattle.adjudicate.proofs.Piecewise.{puts-cell, puts-no-cell}
 use Rattle.adjudicate.proofs.check.text.+put_cell.Goals as goal

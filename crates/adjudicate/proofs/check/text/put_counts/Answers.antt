@@ -1,5 +1,5 @@
 use Rattle.adjudicate.specs.Pieces.{at}
-use Rattle.adjudicate.proofs.Piecewise.{puts-then, puts-three}
+use Rattle.adjudicate.proofs.Piecewise.{puts-three}
 use Rattle.adjudicate.proofs.check.text.put_counts.Goals as goal
 
 pub returns : goal.returns

@@ -1,5 +1,3 @@
-use Rattle.std.proofs.Common.{◌≡◌, refl, subst, rules}
-use Rattle.adjudicate.specs.Told.{IsToldOfFirst}
 use Rattle.adjudicate.proofs.ToldLines.{plan_more}
 use Rattle.adjudicate.proofs.check.told.told_plan.Goals as goal
 
