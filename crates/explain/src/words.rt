@@ -1,8 +1,8 @@
-//! The table of texts: what each refusal means, and what to do. `docs/FAULTS.md` has the same texts.
+//! The table of texts: what each refusal of a plan, of its values and of the program's surroundings means, and what to do. `docs/FAULTS.md` has the
+//! same texts.
 
 use dtable::{Fault, PlanCause};
 use feel_tests::CellCause;
-use intake_csv::{FileFault, RowCause};
 
 /// What a refusal means, and what to do; nothing where the line says no more than its words do.
 #[derive(Clone, Copy, PartialEq, Eq)]
@@ -11,7 +11,8 @@ pub struct Words {
     pub remedy: &'static str,
 }
 
-fn both(meaning: &'static str, remedy: &'static str) -> Words {
+/// A meaning, and what to do.
+pub fn both(meaning: &'static str, remedy: &'static str) -> Words {
     Words { meaning, remedy }
 }
 
@@ -128,67 +129,6 @@ pub fn tables_words(fault: &Fault) -> Words {
     }
 }
 
-/// The words of a fault of the terms, by its number.
-pub fn terms_words(number: u8) -> Words {
-    match number {
-        1 => both(
-            "`run`: the plan has no roles, so that it settles no claims",
-            "add `[roles]`",
-        ),
-        2 => both(
-            "`run`: more than 64 files",
-            "run them in several parts, the balances of each from the one before",
-        ),
-        3 => both(
-            "`run`: file P is no file of claims under this plan, for the cause F below; it is the first such",
-            "correct that file",
-        ),
-        _ => both(
-            "`run`: the balances are no such file, for the cause F below",
-            "correct it",
-        ),
-    }
-}
-
-/// The words of a file's fault.
-pub fn file_words(fault: FileFault) -> Words {
-    match fault {
-        FileFault::TooLarge => both(
-            "the file has more than 16,777,216 bytes",
-            "split it; a provider may have several files",
-        ),
-        FileFault::NoHeader => both(
-            "the file has no record: it is empty, or has empty lines alone",
-            "give it a header",
-        ),
-        FileFault::MissingColumn => both(
-            "the header lacks a column that is needed: `claim`, `member`, `service`, `billed` and the plan's fields; of balances `member`, `met`, `oop`, `paid`, and from version 2 on `year`; of both under version 3 `family`",
-            "add the column",
-        ),
-        FileFault::DuplicateColumn => {
-            both("the header has a needed column twice", "rename one of them")
-        }
-        FileFault::OutOfMemory => memory(),
-    }
-}
-
-/// What a record's fault is.
-pub fn record_words(cause: RowCause) -> &'static str {
-    match cause {
-        RowCause::FieldCount => "it has another number of fields than the header; K is 0",
-        RowCause::Utf8 => "the field is not UTF-8",
-        RowCause::TooLong => "the field is longer than 256 bytes",
-        RowCause::EmptyId => "the member is empty, or under version 3 the family",
-        RowCause::Value => "an amount is no number, or a year isn't four digits, 0001 to 9999",
-        RowCause::NotCents => "an amount has part of a cent",
-        RowCause::Negative => "an amount is below zero",
-        RowCause::Repeated =>
-            "the member stood in an earlier record, from version 2 on in one of the same year, under version 3 of the same family",
-        RowCause::Sum =>
-            "with this record the sum of the amount over the family's members in the year leaves the number range",
-    }
-}
-
 /// The words of the lines that no text gives: a missing value, and what is wanting of files, streams, memory and threads. They are known by the
 /// line's first words.
 pub fn resource_words(line: &str) -> Option<Words> {
@@ -237,7 +177,8 @@ pub fn resource_words(line: &str) -> Option<Words> {
     None
 }
 
-fn memory() -> Words {
+/// The words of a refusal that the program tells otherwise: as want of memory.
+pub fn memory() -> Words {
     both(
         "memory was refused; the program tells this as `no memory`",
         "run again with more",

@@ -1,4 +1,5 @@
-//! Tests of `explain` by worked examples. They stand apart from it, since the tests of a crate are proved together with all of its code.
+//! Tests of `explain` and of `explain_files` by worked examples. They stand apart from them, since the tests of a crate are proved together with all
+//! of its code.
 #![tactic(auto)]
 
 #[cfg(test)]

@@ -1,7 +1,6 @@
 use dtable::{Fault, PlanCause, PlanFault};
-use explain::{
-    FileKind, explain_file, explain_literal, explain_plan, explain_record, explain_tables,
-};
+use explain::{explain_literal, explain_plan, explain_tables};
+use explain_files::{FileKind, explain_file, explain_record};
 use feel_tests::{CellCause, CellFault};
 use intake_csv::{FileFault, RowCause, RowFault};
 use std::test::Fail;

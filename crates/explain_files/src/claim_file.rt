@@ -1,9 +1,8 @@
 //! Which column of a file of claims or balances is meant.
 
-use crate::page::Page;
-use crate::spot::{count_at, value_at};
 use crate::words::{file_words, record_words, terms_words};
 use csv::{ByteRecord, ReaderBuilder};
+use explain::{Page, count_at, value_at};
 use intake_csv::{FileFault, RowFault};
 use plan_places::Step;
 use std::alloc::{AllocError, Global};
