@@ -5,7 +5,8 @@ use Rattle.std.proofs.lemmas.List.{get_or-map, length-map}
 use Rattle.std.proofs.lemmas.List.Elements.{all_zip_more}
 use Rattle.claim_terms.specs.Terms.{texts_of}
 use Rattle.console.specs.Reading.{IsReadUpTo}
-use Rattle.commands.specs.Texts.{AreNamedTexts, Whole}
+use Rattle.value_command.specs.Texts.{Whole}
+use Rattle.commands.specs.Texts.{AreNamedTexts}
 
 -- with one text more
 named_more : (whole : Whole) (limit : ℕ) (names : List (Bor (List ℕ))) (place : ℕ) (d : Bor (List ℕ)) (texts : List (List ℕ)) (bytes : List ℕ) → place < length names

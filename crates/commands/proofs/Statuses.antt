@@ -1,8 +1,9 @@
 -- The statuses of the program's commands, from those of their parts.
 use Rattle.std.proofs.Common.{◌≡◌, ◌⊎◌, inl, inr, ℕ}
 use Rattle.clap.specs.declared.parser.matches.ArgMatches.{ArgMatches}
+use Rattle.value_command.specs.Texts.{Whole}
 use Rattle.commands.specs.Ends.{HasRemittance, RunIsDone, RunIsRefused, IsRefusedRun}
-use Rattle.commands.specs.Texts.{HasNamedTexts, Whole}
+use Rattle.commands.specs.Texts.{HasNamedTexts}
 use Rattle.commands.specs.declared.run.Texts.{Texts}
 
 -- `run` over the texts that are named

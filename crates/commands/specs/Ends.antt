@@ -1,48 +1,23 @@
 -- How a command of the program ends.
-use Rattle.std.specs.Prelude.{◌≡◌, ◌⊎◌, ℕ, List, Option, None, Some, Result, Ok, Err}
-use Rattle.clap.specs.Words.{kind_of}
+use Rattle.std.specs.Prelude.{◌⊎◌, ℕ, List, Option, Result, Ok, Err}
 use Rattle.clap.specs.declared.error.Error.{Error}
-use Rattle.clap.specs.declared.error.kind.ErrorKind.TheVariants.{DisplayHelp, DisplayVersion}
 use Rattle.clap.specs.declared.parser.matches.ArgMatches.{ArgMatches}
-use Rattle.console.specs.declared.names.TheConstants.{ASSIGNMENT, CHECK, RUN, VALUE}
+use Rattle.console.specs.declared.names.TheConstants.{CHECK, RUN, VALUE}
+use Rattle.value_command.specs.Ends.{Ends, HasText, IsHelp, IsStatusOf, ValueIsDone, ValueIsRefused}
+use Rattle.value_command.specs.Texts.{IsNamedPlan, Whole}
 use Rattle.adjudicate.specs.declared.check.told.Telling.{Telling}
 use Rattle.adjudicate.specs.declared.stop.Stop.{Stop}
 use Rattle.adjudicate.specs.RunStop.{IsRunReason}
 use Rattle.adjudicate.specs.RunText.{IsRemittance}
-use Rattle.adjudicate.specs.Stop.{IsPlanReason, IsReason, status_of}
+use Rattle.adjudicate.specs.Stop.{IsPlanReason, status_of}
 use Rattle.adjudicate.specs.Telling.{IsToldText}
-use Rattle.adjudicate.specs.ValueText.{IsValueText}
 use Rattle.commands.specs.declared.run.Texts.{Texts}
-use Rattle.commands.specs.Texts.{HasNamedTexts, IsNamedPlan, Whole, texts_at}
-use Rattle.commands.specs.Words.{IsCommand, IsCutoff, IsStrict, IsTelling, IsWorkers, words_at}
-
--- there is a text that the command may print
-pub record HasText (IsText : List ℕ → Type 0) : Type 0 where
-  pub text : List ℕ
-  pub is_text : IsText text
+use Rattle.commands.specs.Texts.{HasNamedTexts, texts_at}
+use Rattle.commands.specs.Words.{IsCutoff, IsStrict, IsTelling, IsWorkers}
 
 -- there is such a refusal, and this is its status
-pub record IsStatusOfRefusal (IsReason : Stop → Type 0) (status : ℕ) : Type 0 where
-  pub stop : Stop
-  pub reason : IsReason stop
-  pub is_status : status ≡ status_of stop
-
--- there is a text that the command may print, and it stands in the place, where the place's text is known
-abbrev pub PutsText : (List ℕ → Type 0) → Option (List ℕ) → Option (List ℕ) → Type 0
-PutsText IsText None new = HasText IsText
-PutsText IsText (Some old) new = (text : List ℕ) × IsText text × (new ≡ Some text)
-
--- `value` can end with 0: the plan that is named has such a text at the arguments that are given
-pub record ValueIsDone (whole : Whole) (words : ArgMatches) : Type 0 where
-  pub plan : List ℕ
-  pub named : IsNamedPlan whole words plan
-  pub has_text : HasText (IsValueText plan (words_at words ASSIGNMENT.now))
-
--- this is the status of a refusal of `value`, of the plan that is named at the arguments that are given
-pub record ValueIsRefused (whole : Whole) (words : ArgMatches) (status : ℕ) : Type 0 where
-  pub plan : List ℕ
-  pub named : IsNamedPlan whole words plan
-  pub refused : IsStatusOfRefusal (IsReason plan (words_at words ASSIGNMENT.now)) status
+abbrev pub IsStatusOfRefusal : (Stop → Type 0) → ℕ → Type 0
+IsStatusOfRefusal IsReason status = IsStatusOf status_of IsReason status
 
 -- `check` can end with 0: the plan that is named has such a text, of what is to be told
 pub record CheckIsDone (whole : Whole) (words : ArgMatches) : Type 0 where
@@ -92,12 +67,6 @@ pub record TextsAreRefused (whole : Whole) (words : ArgMatches) (status : ℕ) :
 abbrev pub RunIsRefused : Whole → ArgMatches → ℕ → Type 0
 RunIsRefused whole words status = TextsAreRefused whole words status ⊎ IsStrict words
 
--- the words name this command, which ends so by the words behind its name
-pub record Ends (matches : ArgMatches) (name : List ℕ) (EndsSo : ArgMatches → Type 0) : Type 0 where
-  pub words : ArgMatches
-  pub behind : IsCommand matches name words
-  pub ends_so : EndsSo words
-
 -- the command that is named can end with 0
 abbrev pub CommandIsDone : Whole → ArgMatches → Type 0
 CommandIsDone whole matches =
@@ -108,10 +77,6 @@ abbrev pub CommandIsRefused : Whole → ArgMatches → ℕ → Type 0
 CommandIsRefused whole matches status =
     Ends matches VALUE.now (λ words. ValueIsRefused whole words status)
     ⊎ (Ends matches CHECK.now (λ words. CheckIsRefused whole words status) ⊎ Ends matches RUN.now (λ words. RunIsRefused whole words status))
-
--- help or the version was asked for
-abbrev pub IsHelp : Error → Type 0
-IsHelp fault = (kind_of fault ≡ DisplayHelp) ⊎ (kind_of fault ≡ DisplayVersion)
 
 -- the words name a command that can end with 0, or ask for help or the version
 abbrev pub IsDone : Whole → Result ArgMatches Error → Type 0

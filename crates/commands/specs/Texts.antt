@@ -1,23 +1,14 @@
--- The texts that a command reads, as far as they are known: each by its name, up to one byte beyond its limit.
+-- The texts that a run reads, as far as they are known: each by its name, up to one byte beyond its limit.
 use Rattle.std.specs.Prelude.{◌≡◌, ℕ, List, Option, None, Some, IsSomeAnd, map, option_map}
 use Rattle.std.specs.List.{AllZip}
 use Rattle.clap.specs.declared.parser.matches.ArgMatches.{ArgMatches}
 use Rattle.console.specs.Reading.{IsReadUpTo}
-use Rattle.console.specs.declared.names.TheConstants.{BALANCES, FILE, PLAN}
-use Rattle.dtable.specs.Limits.{plan_limit_bytes}
+use Rattle.console.specs.declared.names.TheConstants.{BALANCES, FILE}
 use Rattle.intake_csv.specs.Limits.{file_limit_bytes}
+use Rattle.value_command.specs.Texts.{IsNamedPlan, Whole}
+use Rattle.value_command.specs.Words.{word_at, words_at}
 use Rattle.adjudicate.specs.RunText.{RunTexts}
 use Rattle.commands.specs.declared.run.Texts.{Texts}
-use Rattle.commands.specs.Words.{word_at, words_at}
-
--- the whole text with each name, where it is known
-abbrev pub Whole : Type 0
-Whole = List ℕ → Option (List ℕ)
-
--- there is a name, and the bytes are those of its text
-abbrev pub IsNamedText : ℕ → Whole → Option (List ℕ) → List ℕ → Type 0
-IsNamedText limit whole None bytes = ⊥
-IsNamedText limit whole (Some name) bytes = IsReadUpTo limit (whole name) bytes
 
 -- the bytes are those of the text with a name, or there is neither
 abbrev pub IsTextIfNamed : ℕ → Whole → Option (List ℕ) → Option (List ℕ) → Type 0
@@ -27,10 +18,6 @@ IsTextIfNamed limit whole (Some name) text = IsSomeAnd text (IsReadUpTo limit (w
 -- the bytes of each text are those of the text with its name
 abbrev pub AreNamedTexts : ℕ → Whole → List (List ℕ) → List (List ℕ) → Type 0
 AreNamedTexts limit whole names texts = AllZip (λ name bytes. IsReadUpTo limit (whole name) bytes) names texts
-
--- these are the bytes of the plan that is named
-abbrev pub IsNamedPlan : Whole → ArgMatches → List ℕ → Type 0
-IsNamedPlan whole matches plan = IsNamedText plan_limit_bytes whole (word_at matches PLAN.now) plan
 
 -- these are the bytes of the balances that are named, if they are
 abbrev pub AreNamedBalances : Whole → ArgMatches → Option (List ℕ) → Type 0

@@ -1,20 +1,12 @@
 -- What the words of a command ask for, as they were matched.
-use Rattle.std.specs.Prelude.{◌≡◌, ◌<◌, ◌^◌, ℕ, Bool, true, false, List, [], Option, None, Some, codes, option_map, unwrap_or}
+use Rattle.std.specs.Prelude.{◌≡◌, ◌<◌, ◌^◌, ℕ, Bool, true, false, List, Option, None, Some, codes}
 use Rattle.std.specs.Option.{SomeIff}
 use Rattle.std.specs.Str.Parse.{IsNumeral, digits_value, without_leading_plus}
-use Rattle.clap.specs.Words.{found_of, first_value, matched_of, one_text, raw_values, rows_of, subcommand_name_of, subcommand_rows_of}
+use Rattle.clap.specs.Words.{found_of, one_text}
 use Rattle.clap.specs.declared.parser.matches.ArgMatches.{ArgMatches}
 use Rattle.console.specs.declared.names.TheConstants.{CUTOFF, HARMFUL, STRICT, WORKERS}
 use Rattle.adjudicate.specs.declared.check.told.Telling.{Telling}
 use Rattle.adjudicate.specs.declared.check.told.Telling.TheVariants.{All, Harmful}
-
--- the word behind a name, if there is one
-abbrev pub word_at : ArgMatches → List ℕ → Option (List ℕ)
-word_at matches name = first_value (found_of matches) name
-
--- all words behind a name
-abbrev pub words_at : ArgMatches → List ℕ → List (List ℕ)
-words_at matches name = unwrap_or (option_map raw_values (matched_of (found_of matches) name)) []
 
 -- the text by which a flag or a number is told, if there is one
 abbrev pub text_at : ArgMatches → List ℕ → Option (List ℕ)
@@ -53,8 +45,3 @@ IsCutoff matches cutoff = IsNumber (text_at matches CUTOFF.now) cutoff
 -- so many threads are to decide claims
 abbrev pub IsWorkers : ArgMatches → ℕ → Type 0
 IsWorkers matches workers = IsNumber (text_at matches WORKERS.now) (Some workers)
-
--- the words name this command, and these are the words behind its name
-pub record IsCommand (matches : ArgMatches) (name : List ℕ) (words : ArgMatches) : Type 0 where
-  pub named : subcommand_name_of matches ≡ Some name
-  pub behind : option_map (λ p. p.1) (subcommand_rows_of matches) ≡ Some (rows_of (found_of words))

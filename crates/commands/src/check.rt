@@ -4,13 +4,11 @@ ghost use Rattle.std.specs.Prelude.{◌≡◌, ◌≢◌, ◌≤◌};
 ghost use Rattle.std.specs.Io.KnownBytes.{Keeps};
 ghost use Rattle.adjudicate.specs.Stop.{IsPlanReason};
 ghost use Rattle.adjudicate.specs.Telling.{IsToldText};
-ghost use Rattle.commands.specs.Ends.{CheckIsDone, CheckIsRefused, HasText, IsStatusOfRefusal, PutsText};
+ghost use Rattle.value_command.specs.Ends.{HasText, PutsText};
+ghost use Rattle.commands.specs.Ends.{CheckIsDone, CheckIsRefused, IsStatusOfRefusal};
 
-use crate::explaining::About;
-use crate::files::plan_of;
-use crate::output::{output_of, placed, unwritable};
+use crate::explaining::{AboutFiles, explain_refusal};
 use crate::strict::unread;
-use crate::telling::ended;
 use crate::words::{is_strict, telling_of};
 use adjudicate::{Telling, do_telling_check};
 use clap::ArgMatches;
@@ -18,6 +16,7 @@ use console::{DONE, REFUSED, RESOURCE, Sources};
 use fixpoint::Out;
 use std::io;
 use std::rt::Files;
+use value_command::{About, ended, output_of, placed, plan_of, unwritable};
 use whole_file::Place;
 
 /// The command `check`.
@@ -56,7 +55,11 @@ fn check_plan<R: Files + Print + Eprint + AllocGlobal>(
     ensures done { result ≡ DONE → HasText (IsToldText telling plan.now) }
     ensures refused { result ≢ DONE → IsStatusOfRefusal (IsPlanReason plan.now) result }
 {
-    let about = About::of_plan(explains, matches, plan);
+    let about = About {
+        explains,
+        words: matches,
+        plan,
+    };
     match output_of(rt, &about) {
         Ok(Some(mut file)) => check_into(rt, &about, plan, telling, &mut file),
         Ok(None) => check(rt, &about, plan, telling),
@@ -65,7 +68,7 @@ fn check_plan<R: Files + Print + Eprint + AllocGlobal>(
 }
 
 /// The command `check` over the text of a plan.
-#[tactic(auto, using(crate::proofs::Ends::ends_known, crate::proofs::Ends::ends_done, crate::proofs::Ends::ends_refused))]
+#[tactic(auto, using(crate::proofs::Ends::ends_done))]
 fn check<R: Print + Eprint + AllocGlobal>(
     rt: &R,
     about: &About,
@@ -78,7 +81,9 @@ fn check<R: Print + Eprint + AllocGlobal>(
 {
     let mut out = Out::new(io::writer(rt));
     let answer = do_telling_check(rt.alloc(), plan, telling, &mut out);
-    ended(rt, about, &answer)
+    let status = ended(rt, &answer);
+    explain_refusal(rt, &AboutFiles::of_plan(*about), &answer);
+    status
 }
 
 /// The same into a place, which has the whole text then or what stood there before.
@@ -101,5 +106,7 @@ fn check_into<R: Eprint + AllocGlobal, P: Place>(
     };
     let mut out = Out::new(text);
     let outcome = do_telling_check(rt.alloc(), plan, telling, &mut out);
-    placed(rt, about, place, out.into_inner(), &outcome)
+    let status = placed(rt, about, place, out.into_inner(), &outcome);
+    explain_refusal(rt, &AboutFiles::of_plan(*about), &outcome);
+    status
 }

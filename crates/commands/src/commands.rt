@@ -5,7 +5,6 @@ ghost use Rattle.commands.specs.Ends.{CommandIsDone, CommandIsRefused, IsDone, I
 
 use crate::check::check_of;
 use crate::run::run_of;
-use crate::value::value_of;
 use adjudicate::WORKERS_LIMIT;
 use clap::{ArgMatches, Error};
 use console::names::{CHECK, RUN, VALUE};
@@ -14,6 +13,7 @@ use std::rt::{Env, Files};
 use std::sync::Wait;
 use std::thread::Threads;
 use std::time::Clock;
+use value_command::value_of;
 
 /// Does what the command line says, over these texts, and answers the exit status.
 /// Where somebody watches standard error, a run that takes long shows signs of life there.

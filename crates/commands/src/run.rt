@@ -7,15 +7,13 @@ ghost use Rattle.adjudicate.specs.RunStop.{IsRunReason};
 ghost use Rattle.console.specs.Reading.{IsReadUpTo};
 ghost use Rattle.intake_csv.specs.Limits.{file_limit_bytes};
 ghost use Rattle.adjudicate.specs.RunText.{IsRemittance, run_texts};
-ghost use Rattle.commands.specs.Ends.{HasRemittance, HasText, IsStatusOfRefusal, PutsText, RunIsDone, RunIsRefused, IsRefusedRun};
+ghost use Rattle.value_command.specs.Ends.{HasText, PutsText};
+ghost use Rattle.commands.specs.Ends.{HasRemittance, IsStatusOfRefusal, RunIsDone, RunIsRefused, IsRefusedRun};
 ghost use Rattle.commands.specs.Texts.{AreNamedBalances, AreNamedFiles, HasNamedTexts};
 ghost use Rattle.commands.specs.Words.{IsStrict};
 
-use crate::explaining::About;
-use crate::files::{plan_of, read_or_tell};
-use crate::output::{output_of, placed, unwritable};
+use crate::explaining::{AboutFiles, explain_refusal};
 use crate::strict::unread;
-use crate::telling::ended;
 use crate::words::{cutoff_of, is_strict, workers_of};
 use adjudicate::{FILE_LIMIT_BYTES, RunInput, do_run};
 use clap::ArgMatches;
@@ -29,6 +27,7 @@ use std::sync::Wait;
 use std::thread::Threads;
 use std::time::Clock;
 use summary::{Stream, Tallied};
+use value_command::{About, ended, output_of, placed, plan_of, read_or_tell, unwritable};
 use whole_file::Place;
 
 /// The texts of a run, in the order in which they are read.
@@ -60,14 +59,16 @@ impl Texts {
     }
 
     /// What the run is about, as its refusals are told.
-    fn about<'a, 'w>(&'a self, explains: bool, words: &'a ArgMatches<'w>) -> About<'a, 'w> {
-        About::of_run(
-            explains,
-            words,
-            self.plan.as_slice(),
-            self.balances_slice().unwrap_or(&[]),
-            self.files.as_slice(),
-        )
+    fn about<'a, 'w>(&'a self, explains: bool, words: &'a ArgMatches<'w>) -> AboutFiles<'a, 'w> {
+        AboutFiles {
+            plan: About {
+                explains,
+                words,
+                plan: self.plan.as_slice(),
+            },
+            balances: self.balances_slice().unwrap_or(&[]),
+            files: self.files.as_slice(),
+        }
     }
 }
 
@@ -140,14 +141,14 @@ where
 }
 
 /// Runs to where the words say, and tells what became of the records where that is wanted.
-fn run_anywhere<R>(rt: &R, about: &About, input: RunInput, has_summary: bool) -> u8
+fn run_anywhere<R>(rt: &R, about: &AboutFiles, input: RunInput, has_summary: bool) -> u8
 where
     R: Files + Print + Eprint + AllocGlobal + Threads + Wait + Sync,
     ensures known { result ≤ RESOURCE }
     ensures done { result ≡ DONE → HasText (IsRemittance (run_texts input.entry)) }
     ensures refused { result ≢ DONE → IsStatusOfRefusal (IsRunReason (run_texts input.entry) input.entry.workers) result }
 {
-    match output_of(rt, about) {
+    match output_of(rt, &about.plan) {
         Ok(Some(file)) if has_summary => run_tallied(rt, about, input, file),
         Ok(Some(mut file)) => run_into(rt, about, input, &mut file),
         Ok(None) if has_summary => run_tallied(rt, about, input, Stream::new(rt)),
@@ -158,7 +159,7 @@ where
 
 /// Runs into a place, and tells what became of the records.
 #[tactic(auto, using(crate::proofs::Ends::put_is_text))]
-fn run_tallied<R, P: Place + Drop>(rt: &R, about: &About, input: RunInput, place: P) -> u8
+fn run_tallied<R, P: Place + Drop>(rt: &R, about: &AboutFiles, input: RunInput, place: P) -> u8
 where
     R: Eprint + AllocGlobal + Threads + Wait + Sync,
     ensures known { result ≤ RESOURCE }
@@ -177,8 +178,7 @@ where
 }
 
 /// The command `run` over its texts.
-#[tactic(auto, using(crate::proofs::Ends::ends_known, crate::proofs::Ends::ends_done, crate::proofs::Ends::ends_refused))]
-fn run<R>(rt: &R, about: &About, input: RunInput) -> u8
+fn run<R>(rt: &R, about: &AboutFiles, input: RunInput) -> u8
 where
     R: Print + Eprint + AllocGlobal + Threads + Wait + Sync,
     ensures known { result ≤ RESOURCE }
@@ -187,12 +187,14 @@ where
 {
     let mut out = Out::new(io::writer(rt));
     let answer = do_run(rt, input, &mut out);
-    ended(rt, about, &answer)
+    let status = ended(rt, &answer);
+    explain_refusal(rt, about, &answer);
+    status
 }
 
 /// The same into a place, which has the whole remittance then or what stood there before.
 #[tactic(auto, using(crate::proofs::Ends::placed_done, crate::proofs::Ends::kept_twice))]
-fn run_into<R, P: Place>(rt: &R, about: &About, input: RunInput, place: &mut P) -> u8
+fn run_into<R, P: Place>(rt: &R, about: &AboutFiles, input: RunInput, place: &mut P) -> u8
 where
     R: Eprint + AllocGlobal + Threads + Wait + Sync,
     ensures known { result ≤ RESOURCE }
@@ -202,11 +204,13 @@ where
 {
     let text = match place.begin() {
         Ok(text) => text,
-        Err(fault) => return unwritable(rt, about, &fault),
+        Err(fault) => return unwritable(rt, &about.plan, &fault),
     };
     let mut out = Out::new(text);
     let outcome = do_run(rt, input, &mut out);
-    placed(rt, about, place, out.into_inner(), &outcome)
+    let status = placed(rt, &about.plan, place, out.into_inner(), &outcome);
+    explain_refusal(rt, about, &outcome);
+    status
 }
 
 /// The files' texts, as a run borrows them.

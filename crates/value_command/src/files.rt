@@ -2,13 +2,13 @@
 
 ghost use Rattle.std.specs.Prelude.{◌≡◌, ◌≤◌, IfErr, IfOk};
 ghost use Rattle.console.specs.Reading.{IsReadUpTo};
-ghost use Rattle.commands.specs.Texts.{IsNamedPlan};
+ghost use Rattle.value_command.specs.Texts.{IsNamedPlan};
 
 use crate::explaining::explain_unreadable;
-use adjudicate::PLAN_LIMIT_BYTES;
 use clap::ArgMatches;
 use console::names::PLAN;
 use console::{RESOURCE, ReadFault, Sources, USAGE, no_memory, read_text, told};
+use dtable::PLAN_LIMIT_BYTES;
 
 /// The text of the plan that the command line names; where it can't be read, that is told, and its status answered.
 pub fn plan_of<R: Eprint + AllocGlobal, S: Sources>(

@@ -2,23 +2,23 @@
 
 ghost use Rattle.std.specs.Prelude.{◌≡◌, ◌≢◌, ◌≤◌};
 ghost use Rattle.std.specs.Io.KnownBytes.{Keeps};
-ghost use Rattle.claim_terms.specs.Terms.{texts_of};
-ghost use Rattle.adjudicate.specs.Stop.{IsReason};
-ghost use Rattle.adjudicate.specs.ValueText.{IsValueText};
-ghost use Rattle.commands.specs.Ends.{HasText, IsStatusOfRefusal, PutsText, ValueIsDone, ValueIsRefused};
-ghost use Rattle.commands.specs.Words.{words_at};
+ghost use Rattle.valuation.specs.Arguments.{argument_texts};
+ghost use Rattle.valuation.specs.Stop.{IsReason};
+ghost use Rattle.valuation.specs.ValueText.{IsValueText};
+ghost use Rattle.value_command.specs.Ends.{HasText, IsStatusOfRefusal, PutsText, ValueIsDone, ValueIsRefused};
+ghost use Rattle.value_command.specs.Words.{words_at};
 
-use crate::explaining::About;
+use crate::explaining::{About, explain_refusal};
 use crate::files::plan_of;
 use crate::output::{output_of, placed, unwritable};
 use crate::telling::ended;
-use adjudicate::do_value;
 use clap::ArgMatches;
 use console::names::ASSIGNMENT;
 use console::{DONE, REFUSED, RESOURCE, Sources};
 use fixpoint::Out;
 use std::io;
 use std::rt::Files;
+use valuation::do_value;
 use whole_file::Place;
 
 /// The command `value`.
@@ -51,7 +51,11 @@ fn value_plan<R: Files + Print + Eprint + AllocGlobal>(
     ensures refused { result ≢ DONE → IsStatusOfRefusal (IsReason plan.now (words_at matches.now ASSIGNMENT.now)) result }
 {
     let assignments = matches.get_strs(ASSIGNMENT).unwrap_or(&[]);
-    let about = About::of_plan(explains, matches, plan);
+    let about = About {
+        explains,
+        words: matches,
+        plan,
+    };
     match output_of(rt, &about) {
         Ok(Some(mut file)) => value_into(rt, &about, plan, assignments, &mut file),
         Ok(None) => value(rt, &about, plan, assignments),
@@ -60,7 +64,7 @@ fn value_plan<R: Files + Print + Eprint + AllocGlobal>(
 }
 
 /// The command `value` over the text of a plan.
-#[tactic(auto, using(crate::proofs::Ends::ends_known, crate::proofs::Ends::ends_done, crate::proofs::Ends::ends_refused))]
+#[tactic(auto, using(crate::proofs::Ends::ends_done))]
 fn value<R: Print + Eprint + AllocGlobal>(
     rt: &R,
     about: &About,
@@ -68,12 +72,14 @@ fn value<R: Print + Eprint + AllocGlobal>(
     assignments: &[&str],
 ) -> u8
     ensures known { result ≤ RESOURCE }
-    ensures done { result ≡ DONE → HasText (IsValueText plan.now (texts_of assignments.now)) }
-    ensures refused { result ≢ DONE → IsStatusOfRefusal (IsReason plan.now (texts_of assignments.now)) result }
+    ensures done { result ≡ DONE → HasText (IsValueText plan.now (argument_texts assignments.now)) }
+    ensures refused { result ≢ DONE → IsStatusOfRefusal (IsReason plan.now (argument_texts assignments.now)) result }
 {
     let mut out = Out::new(io::writer(rt));
     let answer = do_value(rt.alloc(), plan, assignments, &mut out);
-    ended(rt, about, &answer)
+    let status = ended(rt, &answer);
+    explain_refusal(rt, about, &answer);
+    status
 }
 
 /// The same into a place, which has the whole text then or what stood there before.
@@ -86,9 +92,9 @@ fn value_into<R: Eprint + AllocGlobal, P: Place>(
     place: &mut P,
 ) -> u8
     ensures known { result ≤ RESOURCE }
-    ensures done { result ≡ DONE → PutsText (IsValueText plan.now (texts_of assignments.now)) (P.stands place.old) (P.stands place.new) }
+    ensures done { result ≡ DONE → PutsText (IsValueText plan.now (argument_texts assignments.now)) (P.stands place.old) (P.stands place.new) }
     ensures kept { result ≢ DONE → Keeps (P.stands place.old) (P.stands place.new) }
-    ensures refused { result ≢ DONE → IsStatusOfRefusal (IsReason plan.now (texts_of assignments.now)) result }
+    ensures refused { result ≢ DONE → IsStatusOfRefusal (IsReason plan.now (argument_texts assignments.now)) result }
 {
     let text = match place.begin() {
         Ok(text) => text,
@@ -96,5 +102,7 @@ fn value_into<R: Eprint + AllocGlobal, P: Place>(
     };
     let mut out = Out::new(text);
     let outcome = do_value(rt.alloc(), plan, assignments, &mut out);
-    placed(rt, about, place, out.into_inner(), &outcome)
+    let status = placed(rt, about, place, out.into_inner(), &outcome);
+    explain_refusal(rt, about, &outcome);
+    status
 }

@@ -1,17 +1,16 @@
 //! The file that a command's results go to, if there is one: they are put into it once they are whole.
 
-ghost use Rattle.std.specs.Prelude.{◌≡◌, ◌≢◌, ◌⊎◌, IfErr, IsOk, MatchResult};
+ghost use Rattle.std.specs.Prelude.{◌≡◌, ◌≢◌, ◌≤◌, ◌⊎◌, IfErr, IsOk, MatchResult, OnErr};
 ghost use Rattle.std.specs.Io.KnownBytes.{Keeps};
 ghost use Rattle.whole_file.specs.Place.{Becomes};
-ghost use Rattle.adjudicate.specs.Stop.{status_of};
 
 use crate::explaining::{About, explain_unreadable};
 use crate::telling::tell;
-use adjudicate::Stop;
 use console::names::{OUTPUT, STREAM};
 use console::{DONE, RESOURCE, no_memory, told};
 use std::io;
 use std::rt::Files;
+use valuation::Refusal;
 use whole_file::{FilePlace, Place, finish};
 
 /// The line that tells that the results can't be put into the file.
@@ -36,15 +35,16 @@ pub fn output_of<'a, R: Files + Eprint + AllocGlobal>(
 
 /// Ends the writing of a command's text: it is put into its place where the command is done, and given up where it is refused, or can't be
 /// put there. Answers the command's status.
-#[tactic(auto, using(crate::proofs::Ends::no_refusal_is_done))]
-pub fn placed<R: Eprint + AllocGlobal, P: Place>(
+pub fn placed<R: Eprint + AllocGlobal, P: Place, S: Refusal>(
     rt: &R,
     about: &About,
     place: &mut P,
     text: P::Text,
-    answer: &Result<(), Stop>,
+    answer: &Result<(), S>,
 ) -> u8
-    ensures status { MatchResult answer.now (λ _. (result ≡ DONE) ⊎ (result ≡ RESOURCE)) (λ stop. result ≡ status_of stop) }
+    ensures known { result ≤ RESOURCE }
+    ensures status { MatchResult answer.now (λ _. (result ≡ DONE) ⊎ (result ≡ RESOURCE)) (λ stop. result ≡ S.status stop) }
+    ensures refused { OnErr answer.now (result ≢ DONE) }
     ensures put { result ≡ DONE → Becomes (P.stands place.old) (P.stands place.new) (P.Text.contents text) }
     ensures kept { result ≢ DONE → Keeps (P.stands place.old) (P.stands place.new) }
 {
@@ -55,7 +55,7 @@ pub fn placed<R: Eprint + AllocGlobal, P: Place>(
         },
         Err(stop) => {
             let _ = finish(place, text, false);
-            tell(rt, about, stop)
+            tell(rt, stop)
         }
     }
 }
