@@ -5,7 +5,7 @@ use crate::fault::{EndFault, FinishFault, OfferFault, TakeFault};
 use crate::job::Job;
 use crate::offer::Offer;
 use crate::reply::{Accepted, Ended, Recorded, Taken};
-use settlement::Outcome;
+use settlement::{Claim, Outcome};
 use std::sync::Wait;
 use turn_lock::Worn;
 
@@ -56,6 +56,19 @@ pub trait Gate {
         ensures back { IfOk result (λ r. IfErr r.0 (λ refused. refused.1 ≡ offer)) }
         ensures worn { IfErr result (λ e. IsWornOut (has_pass self.now) is_worn known (known pass) e.1) }
         ensures worn_back { IfErr result (λ e. e.2 ≡ offer) }
+        ensures late { is_worn pass → IsErr result };
+
+    /// Tells the gate which claims are to be offered next, so that it looks up at once what it will need for them. Nothing changes.
+    fn foresee<R: Wait>(
+        &self,
+        rt: &R,
+        pass: Self::Pass,
+        claims: &[Claim],
+    ) -> Result<Self::Pass, (Worn, Self::Pass)>
+        requires { has_pass self.now pass }
+        ensures served { IfOk result (IsServed (has_pass self.now) known (known pass)) }
+        ensures same { IfOk result (λ p. Went (λ old new. new ≡ old) (known p)) }
+        ensures worn { IfErr result (λ e. IsWornOut (has_pass self.now) is_worn known (known pass) e.1) }
         ensures late { is_worn pass → IsErr result };
 
     /// Ends a provider whose claims, so many, are all accepted.

@@ -12,7 +12,7 @@ use crate::offer::Offer;
 use crate::reply::{Accepted, Ended, Recorded, Taken};
 use crate::serial::SerialGate;
 use journal::jobs_stay;
-use settlement::Outcome;
+use settlement::{Claim, Outcome};
 use std::sync::Wait;
 use turn_lock::{Pass, Section, TicketLock, Worn};
 
@@ -106,6 +106,23 @@ where
                 Ok((reply, self.lock.leave(holder, state)))
             }
             Err((worn, pass)) => Err((worn, pass, offer)),
+        }
+    }
+
+    fn foresee<R: Wait>(
+        &self,
+        rt: &R,
+        pass: S::Pass,
+        claims: &[Claim],
+    ) -> Result<S::Pass, (Worn, S::Pass)> {
+        match self.lock.lock(rt, pass) {
+            Ok((mut state, holder)) => {
+                // Known from here: the journal that is left is lawful.
+                let _lawful = state.journal();
+                state.foresee(claims);
+                Ok(self.lock.leave(holder, state))
+            }
+            Err(worn) => Err(worn),
         }
     }
 

@@ -7,7 +7,7 @@ use crate::offer::Offer;
 use crate::reply::{Accepted, Ended, Recorded, Taken};
 use crate::state::GateState;
 use journal::Event;
-use settlement::Outcome;
+use settlement::{Claim, Outcome};
 use turn_lock::Growing;
 
 impl<'t> Growing for GateState<'t> {
@@ -52,6 +52,12 @@ pub trait SerialGate: Growing {
         ensures reply { ForTerms (shown self.old).terms (λ T. Offers (at T (shown self.old)) offer.provider offer.place (offer_reply result) (at T (shown self.new))) }
         ensures lawful { IsLawful (shown self.new) }
         ensures back { IfErr result (λ refused. refused.1 ≡ offer) };
+
+    /// `GateState::foresee`.
+    fn foresee(&mut self, claims: &[Claim])
+        ensures grown { Self.leads self.old self.new }
+        ensures same { shown self.new ≡ shown self.old }
+        ensures lawful { IsLawful (shown self.new) };
 
     /// `GateState::end`.
     fn end(&mut self, provider: usize, count: usize) -> Result<Ended, EndFault>
@@ -108,6 +114,10 @@ impl<'t> SerialGate for GateState<'t> {
         self.offer(offer)
     }
 
+    fn foresee(&mut self, claims: &[Claim]) {
+        self.foresee(claims);
+    }
+
     fn end(&mut self, provider: usize, count: usize) -> Result<Ended, EndFault> {
         self.end(provider, count)
     }
@@ -145,6 +155,10 @@ impl<V: SerialGate> SerialGate for Box<V> {
 
     fn offer(&mut self, offer: Offer) -> Result<Accepted, (OfferFault, Offer)> {
         (**self).offer(offer)
+    }
+
+    fn foresee(&mut self, claims: &[Claim]) {
+        (**self).foresee(claims);
     }
 
     fn end(&mut self, provider: usize, count: usize) -> Result<Ended, EndFault> {

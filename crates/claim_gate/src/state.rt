@@ -24,7 +24,7 @@ use crate::reply::{Accepted, Ended, Recorded, Taken};
 use claim_terms::Terms;
 use journal::{Decision, Event, gate_stays_lawful, starts_lawful};
 use lanes::{Lanes, Picked};
-use settlement::{Acc, Outcome, account_year, after};
+use settlement::{Acc, Claim, Outcome, account_year, after};
 use std::alloc::{AllocError, Global};
 use std::marker::Model;
 
@@ -178,6 +178,14 @@ impl<'t> GateState<'t> {
         let accepted = self.lanes.len();
         self.closed = close_if_due(&mut self.journal, self.terms, accepted, &self.intakes);
         Ok(Accepted { position })
+    }
+
+    /// Reads what these claims will need when they are offered, many at once, so that each offer finds it at hand. Nothing changes.
+    pub fn foresee(&mut self, claims: &[Claim])
+        ensures same { self.new ≡ self.old }
+        ensures lawful { IsLawful self.new }
+    {
+        self.lanes.foresee(claims);
     }
 
     /// Ends a provider whose claims, so many, are all accepted.

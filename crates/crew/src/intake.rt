@@ -18,7 +18,7 @@ use intake_csv::{
 use settlement::Claim;
 use std::alloc::{AllocError, Global};
 use std::sync::Wait;
-use turns::{CALLS_LIMIT, Turns};
+use turns::{CALLS_LIMIT, Turn, Turns};
 
 /// The claims of records that an intake has read and not offered yet, and whether they are the last of its file.
 struct Ahead {
@@ -108,10 +108,10 @@ fn offer_all<R: Wait, G: Gate>(
     rt: &R,
     terms: &Terms,
     gate: &G,
-    mut pass: G::Pass,
+    pass: G::Pass,
     provider: usize,
     first: usize,
-    mut expected: usize,
+    expected: usize,
     claims: Vec<Claim>,
     turns: &Turns,
 ) -> Result<(Option<usize>, G::Pass), (RunFault, G::Pass)>
@@ -126,6 +126,54 @@ fn offer_all<R: Wait, G: Gate>(
     ensures leaves { IfErr result (LeavesWith (G.has_pass gate.now) G.known pass) }
 {
     let turn = turns.begin_offers(rt);
+    let pass = match foresee(rt, gate, pass, claims.as_slice()) {
+        Ok(pass) => pass,
+        Err(left) => return Err(left),
+    };
+    offer_each(
+        rt, terms, gate, pass, provider, first, expected, claims, &turn,
+    )
+}
+
+// Tells the gate which claims come, before the first of them is offered.
+fn foresee<R: Wait, G: Gate>(
+    rt: &R,
+    gate: &G,
+    pass: G::Pass,
+    claims: &[Claim],
+) -> Result<G::Pass, (RunFault, G::Pass)>
+    requires own { G.has_pass gate.now pass }
+    ensures goes_on { IfOk result (GoesOn (G.has_pass gate.now) G.known pass) }
+    ensures leaves { IfErr result (LeavesWith (G.has_pass gate.now) G.known pass) }
+{
+    match gate.foresee(rt, pass, claims) {
+        Ok(pass) => Ok(pass),
+        Err((_, pass)) => Err((RunFault::Worn, pass)),
+    }
+}
+
+// The same in a turn that has begun.
+fn offer_each<R: Wait, G: Gate>(
+    rt: &R,
+    terms: &Terms,
+    gate: &G,
+    mut pass: G::Pass,
+    provider: usize,
+    first: usize,
+    mut expected: usize,
+    claims: Vec<Claim>,
+    turn: &Turn,
+) -> Result<(Option<usize>, G::Pass), (RunFault, G::Pass)>
+    requires own { G.has_pass gate.now pass }
+    requires terms { (G.known pass).seen.terms ≡ terms.now }
+    requires filed { ForTerms terms.now (λ T. AreNext T provider first claims.items) }
+    requires taken { HasAccepted (G.known pass).seen provider expected }
+    requires reached { first ≤ expected }
+    requires room { first + length claims.items < 2 ^ 64 }
+    ensures goes_on { IfOk result (λ r. GoesOn (G.has_pass gate.now) G.known pass r.1) }
+    ensures next { IfOk result (λ r. GoesOnBehind (G.known r.1).seen provider (first + length claims.items) r.0) }
+    ensures leaves { IfErr result (LeavesWith (G.has_pass gate.now) G.known pass) }
+{
     let mut place = first;
     for claim in claims {
         let offered = Offer {

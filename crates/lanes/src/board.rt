@@ -6,11 +6,11 @@ ghost use Rattle.lanes.specs.Places.{InTurn, InWork};
 ghost use Rattle.lanes.specs.Calls.{place_behind, with_phase, with_decision, IsPicked, IsInWork, NothingReady, is_decided_at};
 ghost use Rattle.lanes.specs.Chains.{IsKeyOf};
 
+use crate::ahead::Ahead;
 use crate::chains::Chains;
 use crate::lasts::Key;
 use crate::names::Names;
 use crate::picked::Picked;
-use crate::stored::StoredClaim;
 use settlement::{Acc, Claim};
 use std::alloc::{AllocError, AllocFailed, Global};
 use std::marker::Model;
@@ -20,6 +20,7 @@ pub struct Lanes {
     alloc: Global,
     names: Names,
     chains: Chains,
+    ahead: Ahead,
 }
 
 impl Drop for Lanes {
@@ -28,6 +29,7 @@ impl Drop for Lanes {
             alloc: _,
             names: _,
             chains: _,
+            ahead: _,
         } = self;
     }
 }
@@ -53,6 +55,7 @@ impl Lanes {
             alloc,
             names: Names::new(alloc),
             chains: Chains::new(alloc),
+            ahead: Ahead::new(),
         }
     }
 
@@ -75,15 +78,19 @@ impl Lanes {
         let Ok(key) = key_of(&mut self.names, &claim, year) else {
             return Err(AllocFailed { value: claim });
         };
-        if self.chains.prepare(key).is_err() {
+        let Ok(place) = self.chains.prepare(self.alloc, key) else {
             return Err(AllocFailed { value: claim });
-        }
-        let stored = match StoredClaim::new(self.alloc, claim) {
-            Ok(stored) => stored,
-            Err(failed) => return Err(failed),
         };
-        self.chains.add(key, stored);
+        self.chains.add(key, place.fill(claim));
         Ok(())
+    }
+
+    /// Reads what these claims will need when they are added. Contracts see no change.
+    pub fn foresee(&mut self, claims: &[Claim])
+        ensures same { self.new ≡ self.old }
+        ensures in_turn { InTurn self.new }
+    {
+        self.ahead.foresee(&self.names, &self.chains, claims);
     }
 
     /// Takes a claim that is ready, if there is one.
@@ -95,6 +102,7 @@ impl Lanes {
         ensures was_in_turn { InTurn self.old }
         ensures in_turn { InTurn self.new }
     {
+        self.ahead.fetch(&self.chains);
         self.chains.take()
     }
 

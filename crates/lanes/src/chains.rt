@@ -13,7 +13,7 @@ use crate::phase::Phase;
 use crate::picked::Picked;
 use crate::short::short;
 use crate::slot::{Slot, left_at};
-use crate::stored::StoredClaim;
+use crate::stored::{EmptyPlace, StoredClaim};
 use settlement::Acc;
 use std::alloc::{AllocError, Global};
 use std::collections::VecDeque;
@@ -29,6 +29,8 @@ pub struct Chains {
     pub households: Lasts,
     /// The positions of the claims that are ready, first come first.
     pub ready: VecDeque<usize>,
+    /// Places of claims that were taken, for those to come.
+    pub spares: Vec<EmptyPlace>,
 }
 
 impl Drop for Chains {
@@ -39,6 +41,7 @@ impl Drop for Chains {
             accounts: _,
             households: _,
             ready: _,
+            spares: _,
         } = self;
     }
 }
@@ -58,11 +61,12 @@ impl Chains {
             accounts: Lasts::new(alloc),
             households: Lasts::new(alloc),
             ready: VecDeque::new(alloc),
+            spares: Vec::new(alloc),
         }
     }
 
-    /// Makes room for one claim more, of this account.
-    pub fn prepare(&mut self, key: Key) -> Result<(), AllocError>
+    /// Makes room for one claim more, of this account, and gives a place for it: one that was left, if there is one.
+    pub fn prepare(&mut self, alloc: Global, key: Key) -> Result<EmptyPlace, AllocError>
         ensures same { AreAs self.old self.new }
         ensures room { OnOk result (HasRoom self.new key) }
     {
@@ -71,7 +75,11 @@ impl Chains {
         self.ready.reserve(1)?;
         self.ends.prepare(key.0)?;
         self.accounts.prepare(key)?;
-        self.households.prepare((key.0, key.0, key.2))
+        self.households.prepare((key.0, key.0, key.2))?;
+        match self.spares.pop() {
+            Some(place) => Ok(place),
+            None => EmptyPlace::new(alloc),
+        }
     }
 
     /// Adds a claim of an account behind the others.
@@ -115,7 +123,9 @@ impl Chains {
         let position = self.ready.pop_front()?;
         let own = left_at(&self.slots, self.slots[position].own);
         let household = left_at(&self.slots, self.slots[position].household);
-        let claim = self.slots[position].pick().into_claim();
+        let (claim, place) = self.slots[position].pick().into_parts();
+        // Where there is no memory to keep it, the place is given back.
+        let _ = self.spares.push(place);
         Some(Picked {
             position,
             claim,

@@ -21,6 +21,11 @@ impl Ends {
         }
     }
 
+    /// The last position of a number.
+    pub fn last_of(&self, number: u32) -> Option<u32> {
+        self.positions.get(number as usize).copied().flatten()
+    }
+
     /// Makes room for a number: what is found stays as it is.
     pub fn prepare(&mut self, number: u32) -> Result<(), AllocError>
         ensures same { (n : ℕ) → end_of self.new n ≡ end_of self.old n }

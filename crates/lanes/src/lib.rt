@@ -6,9 +6,11 @@
 //! Begin with `specs/Places.antt` and `specs/Calls.antt`; then read `board.rt`.
 #![tactic(auto)]
 
+mod ahead;
 mod board;
 mod chains;
 mod ends;
+mod hints;
 mod lasts;
 mod names;
 mod phase;

@@ -3,6 +3,7 @@ ghost use Rattle.std.specs.Prelude.{◌≡◌, ◌++◌, ◌∷◌, [], Some, On
 ghost use Rattle.std.specs.List.{slice_get};
 ghost use Rattle.lanes.specs.Names.{AreDistinct, Grows, IsAbsent};
 
+use crate::hints::Hints;
 use crate::short::short;
 use feel_tests::Text;
 use std::alloc::{AllocError, Global};
@@ -13,18 +14,20 @@ use std::marker::Model;
 #[derive(Drop)]
 pub struct Names {
     alloc: Global,
+    names: Vec<Text>,
     numbers: BTreeMap<Text, u32>,
+    hints: Hints,
 }
 
 impl Model for Names {
     ghost use Rattle.std.specs.Prelude.{List, ℕ};
-    ghost use Rattle.lanes.specs.Names.{names_of, AreNumbered};
+    ghost use Rattle.lanes.specs.Names.{AreNumbered};
 
     ghost Value = { List (List ℕ) };
 
-    ghost view = { λ names. names_of names.numbers };
+    ghost view = { λ names. names.names.items };
 
-    ghost invariant = { λ names. AreNumbered names.numbers };
+    ghost invariant = { λ names. AreNumbered names.names.items names.numbers };
 }
 
 impl Names {
@@ -34,7 +37,9 @@ impl Names {
     {
         Names {
             alloc,
+            names: Vec::new(alloc),
             numbers: BTreeMap::new(alloc),
+            hints: Hints::new(alloc),
         }
     }
 
@@ -45,9 +50,41 @@ impl Names {
         ensures grows { Grows self.old self.new }
         ensures distinct { AreDistinct self.new }
     {
+        if let Some(number) = self.hinted(name) {
+            return Ok(number);
+        }
         match self.find(name) {
-            Some(number) => Ok(number),
+            Some(number) => {
+                self.hints.note(name, number);
+                Ok(number)
+            }
             None => self.add(name),
+        }
+    }
+
+    /// The number that a name may have; 0 where nothing is known.
+    pub fn hint(&self, name: &Text) -> u32 {
+        self.hints.of(name).unwrap_or(0)
+    }
+
+    /// How many bytes the name with a number has.
+    pub fn bytes_of(&self, number: u32) -> usize {
+        self.names
+            .get(number as usize)
+            .map_or(0, |name| name.as_bytes().len())
+    }
+
+    // The number of a name, where the hint for it is right.
+    fn hinted(&self, name: &Text) -> Option<u32>
+        ensures found { IfSome result (λ number. slice_get self.now number ≡ Some name.now) }
+        ensures distinct { AreDistinct self.now }
+    {
+        let hint = self.hints.of(name)?;
+        let there = self.names.get(hint as usize)?;
+        if there.as_str() == name.as_str() {
+            Some(hint)
+        } else {
+            None
         }
     }
 
@@ -69,8 +106,13 @@ impl Names {
         ensures distinct { AreDistinct self.new }
     {
         let key = Text::new(self.alloc, name.as_str())?;
-        let number = short(self.numbers.len())?;
+        let entry = Text::new(self.alloc, name.as_str())?;
+        let number = short(self.names.as_slice().len())?;
+        self.names.reserve(1)?;
         let _before = self.numbers.insert(key, number)?;
+        self.names.push_reserved(entry);
+        self.hints.make_enough(self.names.len());
+        self.hints.note(name, number);
         Ok(number)
     }
 }

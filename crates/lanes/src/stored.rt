@@ -1,43 +1,70 @@
 //! A claim that stands apart.
 ghost use Rattle.std.specs.Prelude.{◌≡◌, IfOk};
-ghost use Rattle.std.specs.Result.{IfErr};
 
 use settlement::Claim;
-use std::alloc::{AllocFailed, Global};
+use std::alloc::{AllocError, Global};
 use std::marker::Model;
+
+/// A place on the heap that a claim can stand in, and that has none. Its memory goes from one claim to the next, so that who takes a claim gives
+/// none back that another thread got.
+#[derive(Drop)]
+pub struct EmptyPlace {
+    place: Box<Option<Claim>>,
+}
 
 /// A claim on the heap, so that what is kept of a decided one takes little. Contracts see the claim.
 #[derive(Drop)]
 pub struct StoredClaim {
-    claim: Box<Claim>,
+    place: Box<Option<Claim>>,
 }
 
 impl Model for StoredClaim {
-    ghost use Rattle.std.specs.Prelude.{box_value};
+    ghost use Rattle.std.specs.Prelude.{IsSome, box_value};
+    ghost use Rattle.lanes.specs.Stored.{claim_in};
     ghost use Rattle.settlement.specs.declared.claim.Claim.{Claim};
 
     ghost Value = { Claim };
 
-    ghost view = { λ stored. box_value stored.claim };
+    ghost view = { λ stored. claim_in (box_value stored.place) };
+
+    ghost invariant = { λ stored. IsSome (box_value stored.place) };
+}
+
+impl EmptyPlace {
+    /// A place of its own.
+    pub fn new(alloc: Global) -> Result<EmptyPlace, AllocError> {
+        Ok(EmptyPlace {
+            place: Box::new(alloc, None)?,
+        })
+    }
+
+    /// Puts a claim into the place.
+    pub fn fill(self, claim: Claim) -> StoredClaim
+        ensures { result ≡ claim }
+    {
+        let EmptyPlace { mut place } = self;
+        let _none = Box::replace(&mut place, Some(claim));
+        StoredClaim { place }
+    }
 }
 
 impl StoredClaim {
-    /// The claim on the heap; it comes back where there is no memory.
-    pub fn new(alloc: Global, claim: Claim) -> Result<StoredClaim, AllocFailed<Claim>>
-        ensures value { IfOk result (λ stored. stored ≡ claim) }
-        ensures back { IfErr result (λ failed. failed.value ≡ claim) }
-    {
-        match Box::new(alloc, claim) {
-            Ok(claim) => Ok(StoredClaim { claim }),
-            Err(failed) => Err(failed),
+    /// How many bytes the claim's number has.
+    pub fn id_bytes(&self) -> usize {
+        match &*self.place {
+            Some(claim) => claim.id.as_bytes().len(),
+            None => 0,
         }
     }
 
-    /// The claim, taken out again.
-    pub fn into_claim(self) -> Claim
-        ensures { result ≡ self }
+    /// The claim, taken out again, and its place.
+    pub fn into_parts(self) -> (Claim, EmptyPlace)
+        ensures { result.0 ≡ self }
     {
-        let StoredClaim { claim } = self;
-        Box::into_inner(claim)
+        let StoredClaim { mut place } = self;
+        match Box::replace(&mut place, None) {
+            Some(claim) => (claim, EmptyPlace { place }),
+            None => unreachable!(),
+        }
     }
 }

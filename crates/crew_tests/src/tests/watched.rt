@@ -6,7 +6,7 @@ use claim_gate::{
     Accepted, Counts, EndFault, Ended, FinishFault, Gate, Job, Offer, OfferFault, Recorded,
     TakeFault, Taken,
 };
-use settlement::{Money, Outcome};
+use settlement::{Claim, Money, Outcome};
 use std::sync::Wait;
 use std::sync::atomic::{AtomicU64, Ordering};
 use std::thread;
@@ -230,6 +230,15 @@ impl<G: Gate> Gate for WatchedGate<G> {
         let answer = self.gate.offer(rt, pass, offer);
         self.offers.go();
         answer
+    }
+
+    fn foresee<R: Wait>(
+        &self,
+        rt: &R,
+        pass: G::Pass,
+        claims: &[Claim],
+    ) -> Result<G::Pass, (Worn, G::Pass)> {
+        self.gate.foresee(rt, pass, claims)
     }
 
     fn end<R: Wait>(

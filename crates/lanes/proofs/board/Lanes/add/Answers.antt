@@ -16,16 +16,16 @@ pub returns-in_default-clause-in_turn : goal.returns-in_default-clause-in_turn
 returns-in_default-clause-in_turn c =
     (grown-kept c.self.inside.names c.key_of.new.names c.self.inside.chains c.self.invariant c.in_default.ensures.grows c.in_default.ensures.distinct).in_turn
 
-pub invariant_of-self-then-is_err : goal.invariant_of-self-then-is_err
-invariant_of-self-then-is_err c =
+pub invariant_of-self-in_default-prepare : goal.invariant_of-self-in_default-prepare
+invariant_of-self-in_default-prepare c =
     prepared-kept c.self.inside.names c.key_of.new.names c.self.inside.chains c.prepare.new.self c.self.invariant c.in-Ok.ensures.grows c.in-Ok.ensures.distinct c.prepare.ensures.same
 
-pub returns-then-is_err-clause-refused : goal.returns-then-is_err-clause-refused
-returns-then-is_err-clause-refused c =
+pub returns-in_default-prepare-clause-refused : goal.returns-in_default-prepare-clause-refused
+returns-in_default-prepare-clause-refused c =
     prepared-places c.self.inside.names c.key_of.new.names c.self.inside.chains c.prepare.new.self c.self.invariant c.in-Ok.ensures.grows c.prepare.ensures.same ∙ c.self.view_is
 
-pub returns-then-is_err-clause-in_turn : goal.returns-then-is_err-clause-in_turn
-returns-then-is_err-clause-in_turn c =
+pub returns-in_default-prepare-clause-in_turn : goal.returns-in_default-prepare-clause-in_turn
+returns-in_default-prepare-clause-in_turn c =
     (prepared-kept c.self.inside.names c.key_of.new.names c.self.inside.chains c.prepare.new.self c.self.invariant c.in-Ok.ensures.grows c.in-Ok.ensures.distinct c.prepare.ensures.same).in_turn
 
 pub add-requires-clause-within : goal.add-requires-clause-within
@@ -38,7 +38,7 @@ done : (c : goal.After-add) → Adds c.key_of.new.names c.prepare.new.self c.add
 done c = record {
   kept = prepared-kept c.self.inside.names c.key_of.new.names c.self.inside.chains c.prepare.new.self c.self.invariant c.in-Ok.ensures.grows c.in-Ok.ensures.distinct c.prepare.ensures.same;
   key_is = c.in-Ok.ensures.key;
-  slots = rw (← c.in-Ok-new.ensures.value) c.add.ensures.slots;
+  slots = rw (← c.fill.ensures) c.add.ensures.slots;
   back = c.add.ensures.back;
 }
 
@@ -53,15 +53,3 @@ returns-clause-added c =
 
 pub returns-clause-in_turn : goal.returns-clause-in_turn
 returns-clause-in_turn c = (added-kept c.key_of.new.names c.prepare.new.self c.add.new.self c.in-Ok.key c.args.claim c.args.year (done c)).in_turn
-
-pub invariant_of-self-in-Err : goal.invariant_of-self-in-Err
-invariant_of-self-in-Err c =
-    prepared-kept c.self.inside.names c.key_of.new.names c.self.inside.chains c.prepare.new.self c.self.invariant c.in-Ok.ensures.grows c.in-Ok.ensures.distinct c.prepare.ensures.same
-
-pub returns-in-Err-clause-refused : goal.returns-in-Err-clause-refused
-returns-in-Err-clause-refused c =
-    prepared-places c.self.inside.names c.key_of.new.names c.self.inside.chains c.prepare.new.self c.self.invariant c.in-Ok.ensures.grows c.prepare.ensures.same ∙ c.self.view_is
-
-pub returns-in-Err-clause-in_turn : goal.returns-in-Err-clause-in_turn
-returns-in-Err-clause-in_turn c =
-    (prepared-kept c.self.inside.names c.key_of.new.names c.self.inside.chains c.prepare.new.self c.self.invariant c.in-Ok.ensures.grows c.in-Ok.ensures.distinct c.prepare.ensures.same).in_turn

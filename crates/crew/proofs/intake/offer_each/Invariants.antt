@@ -4,7 +4,7 @@ use Rattle.claim_terms.specs.Terms.{ForTerms}
 use Rattle.crew.specs.Passes.{GoesOn}
 use Rattle.crew.specs.Reading.{AreNext}
 use Rattle.crew.specs.Sharing.{HasAccepted}
-use Rattle.crew.proofs.intake.offer_all.Given as goal
+use Rattle.crew.proofs.intake.offer_each.Given as goal
 
 abbrev pub invariant-loop-claim : goal.invariant-loop-claim
 invariant-loop-claim g l =
