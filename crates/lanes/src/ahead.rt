@@ -10,28 +10,34 @@ use crate::ends::Ends;
 use crate::names::Names;
 use crate::slot::Slot;
 use settlement::Claim;
+use std::alloc::Global;
 
 /// For so many claims at once: a processor has about so many reads under way.
 const CLAIMS_AT_ONCE: usize = 12;
 
-/// How many of the next claims are fetched already, and a number made of what was read, without which the reads could be left out.
+/// How many of the next claims to be taken are fetched already, the numbers that the families of the next claims to be added may have, how many
+/// of those were added, and a number made of what was read, without which the reads could be left out.
 #[derive(Drop)]
 pub struct Ahead {
     fetched: usize,
+    coming: Vec<u32>,
+    added: usize,
     read: usize,
 }
 
 impl Ahead {
     /// Nothing is fetched.
-    pub fn new() -> Ahead {
+    pub fn new(alloc: Global) -> Ahead {
         Ahead {
             fetched: 0,
+            coming: Vec::new(alloc),
+            added: 0,
             read: 0,
         }
     }
 
     /// Before a claim is taken: fetches what it and some behind it need, where that isn't fetched yet.
-    pub fn fetch(&mut self, chains: &Chains) {
+    pub fn fetch_taken(&mut self, chains: &Chains) {
         if self.fetched > 0 {
             self.fetched -= 1;
             return;
@@ -47,15 +53,62 @@ impl Ahead {
         self.read = read;
     }
 
-    /// Before these claims are added: fetches what they need.
-    pub fn foresee(&mut self, names: &Names, chains: &Chains, claims: &[Claim]) {
-        let mut rest = claims;
-        for _ in 0..=claims.len() / CLAIMS_AT_ONCE {
-            let (next, behind) = rest.split_at(rest.len().min(CLAIMS_AT_ONCE));
-            self.read = self.read.wrapping_add(foreseen(names, chains, next));
-            rest = behind;
+    /// Looks up which numbers the families of these claims may have, before they are added.
+    pub fn foresee(&mut self, names: &Names, claims: &[Claim]) {
+        self.coming.clear();
+        self.added = 0;
+        for claim in claims {
+            // Where there is no memory, those behind it are looked up one by one.
+            let Ok(()) = self.coming.push(names.place_of(claim.family())) else {
+                break;
+            };
+        }
+        for number in self.coming.iter_mut() {
+            *number = names.hint_at(*number);
         }
     }
+
+    /// Before a claim is added: fetches what it and some behind it need, where that isn't fetched yet, and gives the number that its
+    /// family may have.
+    pub fn fetch_added(&mut self, names: &Names, chains: &Chains) -> Option<u32> {
+        let number = self.coming.get(self.added).copied()?;
+        if self.added % CLAIMS_AT_ONCE == 0 {
+            let read = read_of_places(chains).wrapping_add(self.read_of_coming(names, chains));
+            self.read = self.read.wrapping_add(read);
+        }
+        self.added = self.added.saturating_add(1);
+        Some(number)
+    }
+
+    // A number made of what the next claims to be added need.
+    fn read_of_coming(&self, names: &Names, chains: &Chains) -> usize {
+        let mut lasts = [None; CLAIMS_AT_ONCE];
+        let mut read = 0usize;
+        for (place, last) in lasts.iter_mut().enumerate() {
+            if let Some(number) = self.coming.get(self.added.saturating_add(place)) {
+                read = read.wrapping_add(names.bytes_of(*number));
+                read = read.wrapping_add(position_in(&chains.households.plain, *number));
+                read = read.wrapping_add(position_in(&chains.accounts.plain, *number));
+                *last = chains.ends.last_of(*number);
+            }
+        }
+        for last in &lasts {
+            read = read.wrapping_add(left_by(chains, *last));
+        }
+        read
+    }
+}
+
+// A number made of the places on the heap that the next claims will stand in.
+fn read_of_places(chains: &Chains) -> usize {
+    let spares = chains.spares.len();
+    let mut read = 0usize;
+    for place in 1..=CLAIMS_AT_ONCE {
+        if let Some(spare) = chains.spares.get(spares.wrapping_sub(place)) {
+            read = read.wrapping_add(usize::from(spare.is_empty()));
+        }
+    }
+    read
 }
 
 // The slot of the claim that stands at a place of the queue.
@@ -89,30 +142,6 @@ fn left_by(chains: &Chains, position: Option<u32>) -> usize {
         },
         None => 0,
     }
-}
-
-// A number made of what these claims need, at most `CLAIMS_AT_ONCE` of them.
-fn foreseen(names: &Names, chains: &Chains, claims: &[Claim]) -> usize {
-    let mut numbers = [0u32; CLAIMS_AT_ONCE];
-    for (place, claim) in claims.iter().enumerate() {
-        if let Some(number) = numbers.get_mut(place) {
-            *number = names.hint(claim.family());
-        }
-    }
-    let mut lasts = [None; CLAIMS_AT_ONCE];
-    let mut read = 0usize;
-    for (place, number) in numbers.iter().enumerate() {
-        read = read.wrapping_add(names.bytes_of(*number));
-        read = read.wrapping_add(position_in(&chains.households.plain, *number));
-        read = read.wrapping_add(position_in(&chains.accounts.plain, *number));
-        if let Some(last) = lasts.get_mut(place) {
-            *last = chains.ends.last_of(*number);
-        }
-    }
-    for last in &lasts {
-        read = read.wrapping_add(left_by(chains, *last));
-    }
-    read
 }
 
 // A number made of the last position of a number.

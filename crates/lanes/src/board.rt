@@ -55,7 +55,7 @@ impl Lanes {
             alloc,
             names: Names::new(alloc),
             chains: Chains::new(alloc),
-            ahead: Ahead::new(),
+            ahead: Ahead::new(alloc),
         }
     }
 
@@ -75,7 +75,8 @@ impl Lanes {
         ensures refused { IfErr result (λ _. self.new ≡ self.old) }
         ensures in_turn { InTurn self.new }
     {
-        let Ok(key) = key_of(&mut self.names, &claim, year) else {
+        let likely = self.ahead.fetch_added(&self.names, &self.chains);
+        let Ok(key) = key_of(&mut self.names, &claim, year, likely) else {
             return Err(AllocFailed { value: claim });
         };
         let Ok(place) = self.chains.prepare(self.alloc, key) else {
@@ -90,7 +91,7 @@ impl Lanes {
         ensures same { self.new ≡ self.old }
         ensures in_turn { InTurn self.new }
     {
-        self.ahead.foresee(&self.names, &self.chains, claims);
+        self.ahead.foresee(&self.names, claims);
     }
 
     /// Takes a claim that is ready, if there is one.
@@ -102,7 +103,7 @@ impl Lanes {
         ensures was_in_turn { InTurn self.old }
         ensures in_turn { InTurn self.new }
     {
-        self.ahead.fetch(&self.chains);
+        self.ahead.fetch_taken(&self.chains);
         self.chains.take()
     }
 
@@ -128,19 +129,24 @@ impl Lanes {
     }
 }
 
-// The account of a claim in a year, by numbers; names that are new get one.
+// The account of a claim in a year, by numbers; names that are new get one. A number that its family may have is tried first.
 #[tactic(auto, using(crate::proofs::Growing::grows_on, crate::proofs::Growing::key_alone, crate::proofs::Growing::key_apart))]
-fn key_of(names: &mut Names, claim: &Claim, year: u16) -> Result<Key, AllocError>
+fn key_of(
+    names: &mut Names,
+    claim: &Claim,
+    year: u16,
+    likely: Option<u32>,
+) -> Result<Key, AllocError>
     ensures key { IfOk result (λ key. IsKeyOf names.new key (account_in year claim.now)) }
     ensures grows { Grows names.old names.new }
     ensures distinct { AreDistinct names.new }
 {
     let family = claim.family();
-    let lane = names.number(family)?;
+    let lane = names.number(family, likely)?;
     let member = &claim.member;
     if member.as_str() == family.as_str() {
         return Ok((lane, lane, year));
     }
-    let number = names.number(member)?;
+    let number = names.number(member, None)?;
     Ok((lane, number, year))
 }

@@ -33,11 +33,20 @@ impl Hints {
     }
 
     /// The number to try first.
-    #[inline]
     pub fn of(&self, name: &Text) -> Option<u32> {
         self.numbers
             .get(place_of(name, self.numbers.len()))
             .copied()
+    }
+
+    /// Where the hint for a name stands; 0 where there are so many that its place is no number of 32 bits.
+    pub fn place_of(&self, name: &Text) -> u32 {
+        u32::try_from(place_of(name, self.numbers.len())).unwrap_or(0)
+    }
+
+    /// The hint at a place; 0 where there is none.
+    pub fn at(&self, place: u32) -> u32 {
+        self.numbers.get(place as usize).copied().unwrap_or(0)
     }
 
     /// Notes the number of a name.

@@ -43,14 +43,17 @@ impl Names {
         }
     }
 
-    /// The number of a name, which is added where it isn't there.
+    /// The number of a name, which is added where it isn't there. A number that it may have is tried first.
     #[tactic(auto, using(crate::proofs::Growing::grows_same, crate::proofs::Growing::grows_added))]
-    pub fn number(&mut self, name: &Text) -> Result<u32, AllocError>
+    pub fn number(&mut self, name: &Text, likely: Option<u32>) -> Result<u32, AllocError>
         ensures number { IfOk result (λ number. slice_get self.new number ≡ Some name.now) }
         ensures grows { Grows self.old self.new }
         ensures distinct { AreDistinct self.new }
     {
-        if let Some(number) = self.hinted(name) {
+        if let Some(number) = self.tried(name, likely) {
+            return Ok(number);
+        }
+        if let Some(number) = self.tried(name, self.hints.of(name)) {
             return Ok(number);
         }
         match self.find(name) {
@@ -62,9 +65,14 @@ impl Names {
         }
     }
 
-    /// The number that a name may have; 0 where nothing is known.
-    pub fn hint(&self, name: &Text) -> u32 {
-        self.hints.of(name).unwrap_or(0)
+    /// Where the hint for a name stands.
+    pub fn place_of(&self, name: &Text) -> u32 {
+        self.hints.place_of(name)
+    }
+
+    /// The number that a name with its hint at this place may have.
+    pub fn hint_at(&self, place: u32) -> u32 {
+        self.hints.at(place)
     }
 
     /// How many bytes the name with a number has.
@@ -74,13 +82,14 @@ impl Names {
             .map_or(0, |name| name.as_bytes().len())
     }
 
-    // The number of a name, where the hint for it is right.
-    fn hinted(&self, name: &Text) -> Option<u32>
+    // The number, where it is the name's.
+    fn tried(&self, name: &Text, likely: Option<u32>) -> Option<u32>
         ensures found { IfSome result (λ number. slice_get self.now number ≡ Some name.now) }
         ensures distinct { AreDistinct self.now }
     {
-        let hint = self.hints.of(name)?;
-        let there = self.names.get(hint as usize)?;
+        let names = self.names.as_slice();
+        let hint = likely?;
+        let there = names.get(hint as usize)?;
         if there.as_str() == name.as_str() {
             Some(hint)
         } else {

@@ -38,6 +38,11 @@ impl EmptyPlace {
         })
     }
 
+    /// Whether it has no claim, as each of these.
+    pub fn is_empty(&self) -> bool {
+        self.place.is_none()
+    }
+
     /// Puts a claim into the place.
     pub fn fill(self, claim: Claim) -> StoredClaim
         ensures { result ≡ claim }
