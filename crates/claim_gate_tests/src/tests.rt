@@ -51,6 +51,7 @@ fn counts(accepted: usize, ended: usize, decided: usize, closed: bool) -> Counts
 // A gate to which nothing was offered.
 fn begin_calls(rt: &impl Abort, alloc: Global, terms: &Terms) {
     let mut gate = gate_of(rt, alloc, terms);
+    gate.foresee(&[]);
     assert!(rt; gate.journal().is_empty());
     assert!(rt; gate.counts() == counts(0, 0, 0, false));
     assert!(rt; is_nothing_ready(&gate.take()));

@@ -18,7 +18,7 @@ use intake_csv::{
 use settlement::Claim;
 use std::alloc::{AllocError, Global};
 use std::sync::Wait;
-use turns::{CALLS_LIMIT, Turn, Turns};
+use turns::{OFFERS_LIMIT, Turn, Turns};
 
 /// The claims of records that an intake has read and not offered yet, and whether they are the last of its file.
 struct Ahead {
@@ -83,8 +83,8 @@ fn read_ahead(alloc: Global, rows: &mut Rows<'_>) -> Result<Ahead, AllocError>
 {
     // Known from here: a row that a reader gives is the first of those that it has left.
     given_row_has_the_claim();
-    let mut claims = Vec::with_capacity(alloc, CALLS_LIMIT as usize)?;
-    'records: for record in 0..CALLS_LIMIT {
+    let mut claims = Vec::with_capacity(alloc, OFFERS_LIMIT as usize)?;
+    'records: for record in 0..OFFERS_LIMIT {
         let Some(row) = rows.next()? else {
             return Ok(Ahead {
                 claims,

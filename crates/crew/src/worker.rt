@@ -18,7 +18,7 @@ use journal::jobs_stay;
 use settlement::{Adjudicator, Outcome};
 use std::alloc::{AllocError, Global};
 use std::sync::Wait;
-use turns::{CALLS_LIMIT, Turn, Turns};
+use turns::{TAKES_LIMIT, Turn, Turns};
 
 /// What a worker is to do.
 enum Task {
@@ -140,7 +140,7 @@ fn gather<R: Wait, G: Gate>(
 {
     // Known from here: a job stays one in each later state of the gate.
     jobs_stay();
-    'calls: for _ in 0..CALLS_LIMIT {
+    'calls: for _ in 0..TAKES_LIMIT {
         let (task, back) = match take(rt, terms, gate, pass) {
             Ok(taken) => taken,
             Err(left) => return Err(left),

@@ -155,6 +155,22 @@ fn go_on(rt: &impl Abort, alloc: Global) {
     decide_next(rt, &mut lanes, 3, "d", 900, 950);
 }
 
+// What was foreseen changes nothing, and claims come as they are, also where those of others were foreseen.
+fn foresee_others(rt: &impl Abort, alloc: Global) {
+    let mut lanes = Lanes::new(alloc);
+    add(rt, alloc, &mut lanes, "a", "M1");
+    add(rt, alloc, &mut lanes, "b", "M2");
+    lanes.foresee(&[
+        claim(rt, alloc, "x", None, "M1"),
+        claim(rt, alloc, "y", None, "M3"),
+    ]);
+    assert!(rt; lanes.len() == 2);
+    add(rt, alloc, &mut lanes, "c", "M2");
+    decide_next(rt, &mut lanes, 0, "a", 100, 700);
+    decide_next(rt, &mut lanes, 1, "b", 100, 300);
+    decide_next(rt, &mut lanes, 2, "c", 300, 400);
+}
+
 // A member's claims of two years take turns, and each year begins with what it began with.
 fn begin_anew(rt: &impl Abort, alloc: Global) {
     let mut lanes = Lanes::new(alloc);
@@ -195,4 +211,5 @@ fn members_claims_take_turns_though_memory_is_refused(rt: HostRuntime) {
     take_turns(&rt, rt.alloc());
     go_on(&rt, rt.alloc());
     begin_anew(&rt, rt.alloc());
+    foresee_others(&rt, rt.alloc());
 }

@@ -12,4 +12,4 @@
 mod backlog;
 mod turns;
 
-pub use turns::{CALLS_LIMIT, Turn, Turns};
+pub use turns::{OFFERS_LIMIT, TAKES_LIMIT, Turn, Turns};

@@ -17,9 +17,12 @@ use std::time::Duration;
 #[cfg(test)]
 mod tests;
 
-/// How many claims a thread offers or takes in one turn at most. A turn is to be long beside the time that a sleeper takes to wake up,
+/// How many claims an intake offers in one turn at most. A turn is to be long beside the time that a sleeper takes to wake up,
 /// and short beside the time in which the others run out of work.
-pub const CALLS_LIMIT: u32 = 1_024;
+pub const OFFERS_LIMIT: u32 = 1_024;
+
+/// How many claims a worker takes in one turn at most: as many as two intakes offer, since there are fewer turns then.
+pub const TAKES_LIMIT: u32 = 2_048;
 
 /// Nobody has the turn.
 const FREE: u32 = 0;
