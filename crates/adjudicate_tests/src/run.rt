@@ -10,7 +10,7 @@ use worked_examples::{
 };
 
 mod families;
-mod refusals;
+mod refused;
 
 /// Two files of three claims each, none of them covered.
 const THREE_AND_THREE: &[&[u8]] = &[

@@ -21,25 +21,34 @@ pub trait Sources {
 
 /// The system's files, each by its path, and standard input by `-`. Of their texts nothing is known.
 #[derive(Drop)]
-pub struct FileSources<'a, R> {
-    rt: &'a R,
+pub struct FileSources<'a> {
+    rt: &'a HostRuntime,
 }
 
-impl<'a, R: Files + Input> FileSources<'a, R> {
+impl<'a> FileSources<'a> {
     /// The files and the standard input of this runtime.
-    pub fn new(rt: &'a R) -> FileSources<'a, R> {
+    pub fn new(rt: &'a HostRuntime) -> FileSources<'a> {
         FileSources { rt }
     }
 }
 
 /// A file, or standard input.
-#[derive(Drop)]
-pub enum FileSource<F, I> {
-    File(F),
-    Input(I),
+pub enum FileSource {
+    File(<HostRuntime as Files>::File),
+    Input(<HostRuntime as Input>::Reader),
 }
 
-impl<F: Read, I: Read> Read for FileSource<F, I> {
+// (by hand, so that a program that owns one need not prove how each of its parts is let go)
+impl Drop for FileSource {
+    fn drop(self) {
+        match self {
+            FileSource::File(_) => {}
+            FileSource::Input(_) => {}
+        }
+    }
+}
+
+impl Read for FileSource {
     fn read(&mut self, buf: &mut [u8]) -> io::Result<usize> {
         match self {
             FileSource::File(file) => file.read(buf),
@@ -48,10 +57,10 @@ impl<F: Read, I: Read> Read for FileSource<F, I> {
     }
 }
 
-impl<R: Files + Input> Sources for FileSources<'_, R> {
-    type Source = FileSource<R::File, R::Reader>;
+impl Sources for FileSources<'_> {
+    type Source = FileSource;
 
-    fn reader_of(&self, name: &str) -> io::Result<FileSource<R::File, R::Reader>> {
+    fn reader_of(&self, name: &str) -> io::Result<FileSource> {
         if name == STREAM {
             return Ok(FileSource::Input(self.rt.reader()));
         }

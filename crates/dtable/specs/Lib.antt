@@ -7,7 +7,6 @@ pub mod Priority
 pub mod HitPolicy
 pub mod Environment
 pub mod Held
-pub mod CauseNumber
 pub mod Document
 pub mod NameForm
 pub mod Scope

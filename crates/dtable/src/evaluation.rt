@@ -11,7 +11,6 @@ mod single;
 
 use crate::answers::{Answers, AnswersByTable};
 use crate::environment::{Answer, Env};
-use crate::fault::Fault;
 use crate::hit::Hit;
 use crate::inputs::Inputs;
 use crate::plan::Plan;
@@ -22,6 +21,7 @@ pub use lists::lists_of;
 pub use priority::{in_priority_order, rules_are_ranked_once, rules_have_one_priority_order};
 pub use single::rules_agree;
 use std::alloc::Global;
+use table_faults::Fault;
 
 impl Valuer for Plan {
     ghost plan_of = { λ plan. plan };

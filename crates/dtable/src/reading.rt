@@ -23,7 +23,6 @@ mod scope;
 mod tables;
 
 use crate::plan::{Plan, has_families};
-use crate::plan_fault::{PlanCause, PlanFault};
 use document::{read_document, required};
 use feel_tests::{text_spells_at_most_one_cell, text_spells_at_most_one_value};
 pub use limits::PLAN_LIMIT_BYTES;
@@ -31,6 +30,7 @@ use names::read_names;
 use place::Place;
 use roles::read_roles;
 use std::alloc::Global;
+use table_faults::{PlanCause, PlanFault};
 use tables::read_tables;
 use toml::Value;
 

@@ -6,10 +6,10 @@ ghost use Rattle.dtable.specs.Inputs.{IsReady};
 ghost use Rattle.dtable.specs.Plan.{PlanParts};
 
 use crate::environment::Env;
-use crate::fault::Fault;
 use crate::inputs::Inputs;
 use crate::plan::Plan;
 use std::alloc::Global;
+use table_faults::Fault;
 
 /// An evaluator of a plan's tables.
 pub trait Valuer {

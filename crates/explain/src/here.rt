@@ -1,9 +1,9 @@
 //! What is amiss at the place of a plan's fault, of the things that its cause may mean. Where the document tells no more, nothing is said.
 
 use crate::spot::{Spot, count_at, role_name, text_at, value_at};
-use dtable::{PlanCause, PlanFault};
 use plan_places::{Step, is_one_edit};
 use std::alloc::{AllocError, Global};
+use table_faults::{PlanCause, PlanFault};
 use toml::Value;
 
 /// What is amiss; empty where no more is known.

@@ -4,9 +4,9 @@ use crate::here::amiss;
 use crate::page::Page;
 use crate::spot::{spot_of, value_at};
 use crate::words::{cell_words, plan_words};
-use dtable::{PlanCause, PlanFault};
 use plan_places::places_of;
 use std::alloc::{AllocError, Global};
+use table_faults::{PlanCause, PlanFault};
 use toml::Value;
 
 /// What the fault of a plan's text means, for a file of this name: where it stands, the text of the cell, and what to do.

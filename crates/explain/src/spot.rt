@@ -1,8 +1,8 @@
 //! The value of a plan's document that a table, a rule and a column name.
 
-use dtable::{PlanCause, PlanFault};
 use plan_places::Step;
 use std::alloc::{AllocError, Global};
+use table_faults::{PlanCause, PlanFault};
 use toml::Value;
 
 /// The name of a role, by its number from 1; nothing where there is none.

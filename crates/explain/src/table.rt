@@ -3,9 +3,9 @@
 use crate::page::Page;
 use crate::spot::{count_at, name_of};
 use crate::words::tables_words;
-use dtable::Fault;
 use plan_places::{Step, places_of};
 use std::alloc::{AllocError, Global};
+use table_faults::Fault;
 use toml::Value;
 
 /// What a fault of the tables means, for a plan in a file of this name.

@@ -1,9 +1,8 @@
-use dtable::{Fault, PlanCause, PlanFault};
 use explain::{explain_literal, explain_plan, explain_tables};
 use explain_files::{FileKind, explain_file, explain_record};
-use feel_tests::{CellCause, CellFault};
 use intake_csv::{FileFault, RowCause, RowFault};
 use std::test::Fail;
+use table_faults::{CellCause, CellFault, Fault, PlanCause, PlanFault};
 
 fn plan() -> &'static [u8] {
     b"version = 1

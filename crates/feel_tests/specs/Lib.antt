@@ -1,7 +1,6 @@
 pub mod Limits
 pub mod TextBytes
 pub mod DayNumber
-pub mod Fault
 pub mod Calendar
 pub mod Value
 pub mod Holds

@@ -6,7 +6,6 @@ ghost use Rattle.feel_tests.specs.Grammar.{date_word, IsLiteral};
 ghost use Rattle.feel_tests.specs.Parts.{DeniesPart, IsQuoteFirst};
 
 use crate::dates::day_of;
-use crate::fault::CellCause;
 use crate::kind::Kind;
 use crate::refusal::{Refusal, symbol_at};
 use crate::strings::quoted_at;
@@ -16,6 +15,7 @@ use crate::value::Value;
 use crate::word::{Token, first_token};
 use fixpoint::Fixed;
 use std::alloc::Global;
+use table_faults::CellCause;
 
 /// Reads one literal.
 pub fn literal_at(alloc: Global, kind: Kind, text: &[u8]) -> Result<(Value, &[u8]), Refusal>

@@ -8,7 +8,6 @@ ghost use Rattle.feel_tests.specs.Cell.{SpellsCell, SpellsValue, Refuses};
 ghost use Rattle.feel_tests.specs.Parts.{Denies, DeniesPart, IsWholeList};
 
 use crate::cell::{Cell, TEST_LIMIT, Tests};
-use crate::fault::{CellCause, CellFault};
 use crate::kind::Kind;
 use crate::literals::literal_at;
 use crate::refusal::{Refusal, symbol_at};
@@ -17,6 +16,7 @@ use crate::unary::test_at;
 use crate::value::Value;
 use crate::word::{Token, after_symbol, first_token, is_blank};
 use std::alloc::Global;
+use table_faults::{CellCause, CellFault};
 
 /// Reads the whole text of a cell of a column of this kind (DMN 1.4, S-FEEL, unary tests).
 /// The text is read once, from left to right, and its first fault is answered; or

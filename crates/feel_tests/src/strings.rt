@@ -4,10 +4,10 @@ ghost use Rattle.feel_tests.specs.Words.{skip_white, Quoted, Begins};
 ghost use Rattle.feel_tests.specs.Parts.{DeniesPart};
 ghost use Rattle.feel_tests.specs.Fronts.{IsPiece};
 
-use crate::fault::CellCause;
 use crate::refusal::Refusal;
 use crate::word::{Token, first_token};
 use std::alloc::Global;
+use table_faults::CellCause;
 
 /// Reads a string, of any length: the bytes that it stands for.
 pub fn quoted_at(alloc: Global, text: &[u8]) -> Result<(Vec<u8>, &[u8]), Refusal>

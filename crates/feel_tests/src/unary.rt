@@ -5,13 +5,13 @@ ghost use Rattle.feel_tests.specs.Grammar.{op_symbol, IsTest};
 ghost use Rattle.feel_tests.specs.Parts.{DeniesPart, IsStart, IsEnd, IsSpanTest};
 
 use crate::cell::{Op, Test};
-use crate::fault::CellCause;
 use crate::kind::Kind;
 use crate::literals::literal_at;
 use crate::refusal::{Refusal, symbol_at};
 use crate::symbol::Symbol;
 use crate::word::first_symbol;
 use std::alloc::Global;
+use table_faults::CellCause;
 
 /// Reads one test.
 pub fn test_at(alloc: Global, kind: Kind, text: &[u8]) -> Result<(Test, &[u8]), Refusal>

@@ -1,7 +1,7 @@
 //! The texts of the report's fields.
 ghost use Rattle.std.specs.Prelude.{◌≡◌, pos, string_bytes, IfOk, OnOk};
 ghost use Rattle.fixpoint.specs.Money.{money_text};
-ghost use Rattle.settlement.specs.ReasonText.{reason_text};
+ghost use Rattle.reasons.specs.ReasonText.{reason_text};
 ghost use Rattle.remit.specs.Texts.{fault_text, remarks_text};
 
 use intake_csv::{RowCause, RowFault};

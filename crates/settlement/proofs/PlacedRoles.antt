@@ -1,7 +1,7 @@
 -- The places of a plan's roles among what its tables answer.
 use Rattle.std.proofs.Common.{◌≡◌, List, [], Some, Result, Ok, Err, refl, subst}
 use Rattle.dtable.specs.declared.environment.Answer.{Answer}
-use Rattle.dtable.specs.declared.fault.Fault.{Fault}
+use Rattle.table_faults.specs.declared.fault.Fault.{Fault}
 use Rattle.dtable.specs.declared.inputs.Slot.{Slot}
 use Rattle.dtable.specs.declared.roles.Roles.{Roles}
 use Rattle.dtable.specs.Environment.{Environment, answers_of, env}

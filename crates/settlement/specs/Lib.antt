@@ -10,4 +10,3 @@ pub mod Accumulators
 pub mod Accounts
 pub mod Settlement
 pub mod Opening
-pub mod ReasonText

@@ -16,20 +16,10 @@ use Rattle.dtable.specs.declared.roles.Source.TheVariants.{Literal, Input, Outpu
 use Rattle.dtable.specs.Environment.{Environment, answer_of}
 use Rattle.dtable.specs.Inputs.{value_at}
 use Rattle.dtable.specs.Matching.{single}
-use Rattle.settlement.specs.declared.role.Role.{Role}
-use Rattle.settlement.specs.declared.role.Role.TheVariants.{Fee, Deductible, Copay, Rate, OopMax, FamilyDeductible, FamilyOopMax}
+use Rattle.reasons.specs.declared.role.Role.{Role}
+use Rattle.reasons.specs.declared.role.Role.TheVariants.{Fee, Deductible, Copay, Rate, OopMax, FamilyDeductible, FamilyOopMax}
 use Rattle.settlement.specs.declared.terms.FamilyTerms.{FamilyTerms}
 use Rattle.settlement.specs.declared.terms.RoleTerms.{RoleTerms}
-
--- the number of a role in a program's messages
-abbrev pub number_of : Role → ℕ
-number_of Fee = 2
-number_of Deductible = 3
-number_of Copay = 4
-number_of Rate = 5
-number_of OopMax = 6
-number_of FamilyDeductible = 8
-number_of FamilyOopMax = 9
 
 -- the answer of the output with this name
 abbrev pub answer_named : Environment → List ℕ → Option Answer

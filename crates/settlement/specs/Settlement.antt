@@ -2,21 +2,21 @@
 use Rattle.std.specs.Prelude.{ℤ, pos, ◌+ℤ◌, ◌-ℤ◌, ℕ, List, [], Option, Some, None, option_map, Result, Ok, Err, if◌then◌else◌}
 use Rattle.std.specs.Int.{int_min, int_max}
 use Rattle.fixpoint.specs.Money.{cents_of_product}
-use Rattle.dtable.specs.declared.fault.Fault.{Fault}
-use Rattle.dtable.specs.declared.fault.Fault.TheVariants as faults
+use Rattle.table_faults.specs.declared.fault.Fault.{Fault}
 use Rattle.dtable.specs.declared.inputs.Slot.{Slot}
 use Rattle.dtable.specs.declared.roles.Roles.{Roles}
 use Rattle.dtable.specs.Environment.{Environment, env}
 use Rattle.dtable.specs.Plan.{PlanParts}
+use Rattle.reasons.specs.Reason.{reason_of}
 use Rattle.settlement.specs.declared.acc.Acc.{Acc}
 use Rattle.settlement.specs.declared.amounts.Amounts.{Amounts}
 use Rattle.settlement.specs.declared.claim.Claim.{Claim}
 use Rattle.settlement.specs.declared.outcome.Outcome.{Outcome}
-use Rattle.settlement.specs.declared.outcome.Reason.{Reason}
-use Rattle.settlement.specs.declared.outcome.Reason.TheVariants.{Outside, NoRule, Clash, Range, Term}
+use Rattle.reasons.specs.declared.reason.Reason.{Reason}
+use Rattle.reasons.specs.declared.reason.Reason.TheVariants.{Range, Term}
 use Rattle.settlement.specs.declared.outcome.Verdict.{Verdict}
 use Rattle.settlement.specs.declared.outcome.Verdict.TheVariants.{Paid, Denied, Pended}
-use Rattle.settlement.specs.declared.role.Role.{Role}
+use Rattle.reasons.specs.declared.role.Role.{Role}
 use Rattle.settlement.specs.declared.terms.RoleTerms.{RoleTerms}
 use Rattle.settlement.specs.Accumulators.{after, are_in_range}
 use Rattle.settlement.specs.Given.{given_by}
@@ -87,14 +87,6 @@ denied remarks = unpaid Denied remarks
 -- a claim that waits for a person, with no remarks
 abbrev pub pended : Reason → Outcome
 pended reason = unpaid (Pended reason) []
-
--- why a fault of the tables pends a claim; want of memory is no fault of theirs
-abbrev pub reason_of : Fault → Option Reason
-reason_of (faults.Outside table column) = Some (Outside table column)
-reason_of (faults.NoRule table) = Some (NoRule table)
-reason_of (faults.Clash table) = Some (Clash table)
-reason_of (faults.Range table) = Some (Range table)
-reason_of faults.OutOfMemory = None
 
 -- a claim whose accumulators would leave the number range waits instead, for a range that is no table's
 abbrev pub within_range : Acc → Outcome → Outcome

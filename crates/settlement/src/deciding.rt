@@ -15,11 +15,12 @@ use crate::amounts::amounts_of;
 use crate::claim::Claim;
 use crate::given::{give, places_read};
 use crate::money::Money;
-use crate::outcome::{Outcome, Reason};
+use crate::outcome::Outcome;
 use crate::placed::{RolePlaces, role_places};
 use crate::terms::{is_covered, remarks, terms_of};
 use crate::vocabulary::Vocabulary;
 use dtable::{Env, Inputs, Roles, Sequence, Valuer};
+use reasons::Reason;
 use std::alloc::{AllocError, Global};
 use std::marker::Model;
 

@@ -4,7 +4,7 @@
 //! A `Claim` is what a provider files, an `Acc` what is kept of a member. `decide` has the plan's tables evaluated at
 //! both, by any `Valuer` of `dtable`, reads the plan's roles in their answers and gives the `Outcome`: paid with its
 //! amounts, denied, or pended with a `Reason`. `after` gives the accumulators that the outcome leaves.
-//! Numbers come from `fixpoint`, values from `feel_tests`.
+//! Numbers come from `fixpoint`, values from `feel_tests`, reasons from `reasons`.
 //!
 //! Begin with `specs/Settlement.antt`, which has the rules, one a line; then read `deciding.rt`.
 #![tactic(auto)]
@@ -20,7 +20,6 @@ mod outcome;
 mod placed;
 mod rate;
 mod remarks;
-mod role;
 mod terms;
 mod vocabulary;
 
@@ -29,6 +28,6 @@ pub use account::{Balance, account_year};
 pub use claim::{Claim, fields_of};
 pub use deciding::{Adjudicator, after, decide};
 pub use money::Money;
-pub use outcome::{Outcome, Reason, Verdict};
+pub use outcome::{Outcome, Verdict};
+pub use reasons::{Reason, Role};
 pub use remarks::Remarks;
-pub use role::Role;

@@ -11,10 +11,10 @@ use crate::money::Money;
 use crate::placed::{FamilyPlaces, RolePlaces};
 use crate::rate::Rate;
 use crate::remarks::Remarks;
-use crate::role::Role;
 use crate::vocabulary::Vocabulary;
 use dtable::{Answer, Env, FamilyRoles, Inputs, Name, OutputPlace, Roles, Sequence, Source};
 use feel_tests::{Text, Value};
+use reasons::Role;
 use std::alloc::{AllocError, Global};
 
 /// The limits of a claim's family: amounts of money.

@@ -2,21 +2,20 @@
 //! host can embed it and tests can call it.
 //!
 //! `value` is the command: arguments, the value of a plan's tables, printed lines. `stop` names every refusal of it, with its line and its
-//! exit status; `refusal` is what a caller needs of refusals of any command.
+//! exit status.
 //!
 //! Plans and their evaluation come from `dtable`, cells and values from `feel_tests`, numbers and the counting writer from `fixpoint`, the
-//! words of a fault of the tables from `settlement`.
+//! words of a fault of the tables from `reasons`, what a caller needs of refusals of any command from `refusals`.
 //!
 //! Begin with `value.rt`, whose `do_value` carries the promises, and with `specs/ValueText.antt` and `specs/Stop.antt`, which say
 //! what it prints and why it stops.
 #![tactic(auto)]
 
 mod output;
-mod refusal;
 mod stop;
 mod value;
 
-pub use refusal::Refusal;
-pub use stop::line::{LINE_LIMIT_BYTES, Line};
+pub use refusals::{LINE_LIMIT_BYTES, Refusal};
+pub use stop::line::Line;
 pub use stop::{ArgumentFault, ValueStop};
 pub use value::do_value;

@@ -5,10 +5,10 @@ ghost use Rattle.valuation.specs.Stop.{IsStopOfArgument, argument_fault_number, 
 
 pub mod line;
 
-use crate::refusal::Refusal;
 use dtable::{Fault, Name, PlanCause, PlanFault};
 use feel_tests::{CellCause, CellFault};
-use line::{LINE_LIMIT_BYTES, Line};
+use line::Line;
+use refusals::{LINE_LIMIT_BYTES, Refusal};
 use std::alloc::{AllocError, AllocFailed};
 use thiserror::Error;
 

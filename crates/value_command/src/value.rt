@@ -8,11 +8,10 @@ ghost use Rattle.valuation.specs.ValueText.{IsValueText};
 ghost use Rattle.value_command.specs.Ends.{HasText, IsStatusOfRefusal, PutsText, ValueIsDone, ValueIsRefused};
 ghost use Rattle.value_command.specs.Words.{words_at};
 
-use crate::explaining::{About, explain_refusal};
+use crate::explaining::explain_refusal;
 use crate::files::plan_of;
-use crate::output::{output_of, placed, unwritable};
-use crate::telling::ended;
 use clap::ArgMatches;
+use command_parts::{About, ended, output_of, placed, unwritable};
 use console::names::ASSIGNMENT;
 use console::{DONE, REFUSED, RESOURCE, Sources};
 use fixpoint::Out;

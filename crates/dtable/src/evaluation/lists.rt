@@ -5,10 +5,10 @@ ghost use Rattle.dtable.specs.Priority.{in_priority_order};
 
 use super::priority;
 use crate::environment::Answer;
-use crate::fault::Fault;
 use crate::table::Table;
 use feel_tests::{Sequence, Value};
 use std::alloc::{AllocError, Global};
+use table_faults::Fault;
 
 /// Rule order, and Collect in this profile: for each output its entries, in rule order.
 pub fn in_rule_order(

@@ -8,11 +8,11 @@ ghost use Rattle.dtable.specs.HitPolicy.{Gives, joined, IsFarFromOverflow, aggre
 
 use super::single;
 use crate::environment::Answer;
-use crate::fault::Fault;
 use crate::table::Table;
 use feel_tests::{Sequence, Value};
 use fixpoint::{Fixed, UNITS_PER_ONE};
 use std::alloc::Global;
+use table_faults::Fault;
 
 /// `C+`: the sum. It is formed whole before its range is looked at.
 pub fn sum(

@@ -4,10 +4,10 @@ ghost use Rattle.std.specs.List.{list_all};
 ghost use Rattle.dtable.specs.HitPolicy.{Gives, ones, unmatched, unique, agree, any, of_rule};
 
 use crate::environment::Answer;
-use crate::fault::Fault;
 use crate::table::{Output, Table};
 use feel_tests::{Sequence, Value};
 use std::alloc::{AllocError, Global};
+use table_faults::Fault;
 
 /// The value where no rule matches: the defaults, where every output has one.
 pub fn unmatched(alloc: Global, number: usize, table: &Table) -> Result<Sequence<Answer>, Fault>

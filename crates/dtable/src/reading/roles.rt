@@ -16,11 +16,11 @@ ghost use Rattle.dtable.specs.Scope.{seen_of};
 use super::place::Place;
 use super::scope::{kind_at, origin_of};
 use crate::name::Name;
-use crate::plan_fault::{PlanCause, PlanFault};
 use crate::roles::{FamilyRoles, Roles, Source};
 use crate::table::{InputData, Origin, Output, Table};
 use feel_tests::{CellCause, Kind, Value as Literal, read_value, text_spells_at_most_one_value};
 use std::alloc::{AllocError, Global};
+use table_faults::{PlanCause, PlanFault};
 use toml::Value;
 
 /// What is asked of a role's value.

@@ -14,10 +14,10 @@ use super::place::Place;
 use super::rules::read_rules;
 use crate::demands::meets_demands;
 use crate::hit::Hit;
-use crate::plan_fault::{PlanCause, PlanFault};
 use crate::table::{InputData, Table};
 use feel_tests::{Sequence, text_spells_at_most_one_cell, text_spells_at_most_one_value};
 use std::alloc::Global;
+use table_faults::{PlanCause, PlanFault};
 use toml::Value;
 
 /// Reads the tables of a document.

@@ -1,18 +1,16 @@
 //! A line on standard error, put together in memory of fixed size.
 
 ghost use Rattle.std.specs.Prelude.{◌≡◌, ℕ, ◌+◌, ◌<◌, ◌≤◌, ◌++◌, [], List, codes, decimal, length, take};
-ghost use Rattle.settlement.specs.ReasonText.{reason_text};
+ghost use Rattle.reasons.specs.ReasonText.{reason_text};
 ghost use Rattle.valuation.specs.Stop.{plan_fault_text, argument_fault_text, cell_fault_text, fault_text};
 
 use super::ArgumentFault;
 use dtable::{Fault, PlanCause, PlanFault};
 use feel_tests::CellFault;
 use itoa::Buffer;
-use settlement::Reason;
+use reasons::Reason;
+use refusals::LINE_LIMIT_BYTES;
 use std::marker::Model;
-
-/// How many bytes a refusal's line has at most, with its end.
-pub const LINE_LIMIT_BYTES: usize = 128;
 
 /// A line so far: bytes, of which there is room for `LINE_LIMIT_BYTES`.
 #[derive(Drop)]
@@ -23,7 +21,7 @@ pub struct Line {
 
 impl Model for Line {
     ghost use Rattle.std.specs.Prelude.{List, ℕ, ◌≤◌, take};
-    ghost use Rattle.valuation.specs.declared.stop.line.TheConstants.{LINE_LIMIT_BYTES};
+    ghost use Rattle.refusals.specs.declared.refusal.TheConstants.{LINE_LIMIT_BYTES};
 
     ghost Value = { List ℕ };
 

@@ -8,9 +8,9 @@ use crate::explaining::{About, explain_unreadable};
 use crate::telling::tell;
 use console::names::{OUTPUT, STREAM};
 use console::{DONE, RESOURCE, no_memory, told};
+use refusals::Refusal;
 use std::io;
 use std::rt::Files;
-use valuation::Refusal;
 use whole_file::{FilePlace, Place, finish};
 
 /// The line that tells that the results can't be put into the file.

@@ -2,7 +2,8 @@
 
 ghost use Rattle.std.specs.Prelude.{◌≡◌, ◌≤◌, ℕ, List, take};
 
-use crate::stop::line::LINE_LIMIT_BYTES;
+/// How many bytes a refusal's line has at most, with its end.
+pub const LINE_LIMIT_BYTES: usize = 128;
 
 /// Why a command stopped: a refusal has one line on standard error and one exit status.
 pub trait Refusal {

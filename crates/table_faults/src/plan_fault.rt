@@ -1,8 +1,8 @@
 //! Why a text is no plan, and where.
 ghost use Rattle.std.specs.Prelude.{◌≡◌};
-ghost use Rattle.dtable.specs.CauseNumber.{number_of};
+ghost use Rattle.table_faults.specs.PlanCauseNumber.{number_of};
 
-use feel_tests::CellFault;
+use crate::cell_fault::CellFault;
 use std::alloc::AllocError;
 use thiserror::Error;
 
@@ -85,7 +85,7 @@ pub struct PlanFault {
 
 impl From<AllocError> for PlanFault {
     ghost use Rattle.std.specs.Prelude.{◌≡◌};
-    ghost use Rattle.dtable.specs.declared.plan_fault.PlanCause.TheVariants.{OutOfMemory};
+    ghost use Rattle.table_faults.specs.declared.plan_fault.PlanCause.TheVariants.{OutOfMemory};
 
     ghost from_gives = { λ _ fault. fault ≡ record { table = 0; rule = 0; column = 0; cause = OutOfMemory } };
 

@@ -1,0 +1,32 @@
+//! The texts that the command line names; where one can't be read, that is told.
+
+ghost use Rattle.std.specs.Prelude.{◌≡◌, IfErr, IfOk};
+ghost use Rattle.console.specs.Reading.{IsReadUpTo};
+
+use crate::explaining::explain_unreadable;
+use console::{RESOURCE, ReadFault, Sources, no_memory, read_text, told};
+
+/// The bytes of the text with this name; where it can't be read, the line is told, and its status answered.
+pub fn read_or_tell<R: Eprint + AllocGlobal, S: Sources>(
+    rt: &R,
+    sources: &S,
+    name: &str,
+    limit_bytes: usize,
+    line: &str,
+    explains: bool,
+) -> Result<Vec<u8>, u8>
+    ensures read { IfOk result (λ bytes. IsReadUpTo limit_bytes (S.whole sources.now name.now) bytes.items) }
+    ensures failed { IfErr result (λ status. status ≡ RESOURCE) }
+{
+    match read_text(rt.alloc(), sources, name, limit_bytes) {
+        Ok(bytes) => Ok(bytes),
+        Err(ReadFault::Unreadable(fault)) => {
+            let status = told(rt, line, RESOURCE);
+            if explains {
+                explain_unreadable(rt, line, name, &fault);
+            }
+            Err(status)
+        }
+        Err(ReadFault::OutOfMemory) => Err(no_memory(rt)),
+    }
+}

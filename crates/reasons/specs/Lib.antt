@@ -1,0 +1,3 @@
+pub mod Role
+pub mod Reason
+pub mod ReasonText

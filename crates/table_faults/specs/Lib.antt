@@ -1,0 +1,2 @@
+pub mod CellCauseNumber
+pub mod PlanCauseNumber
