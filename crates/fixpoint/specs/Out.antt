@@ -1,6 +1,7 @@
--- What contracts see of an `Out`: its writer, and whether it has failed.
+-- What contracts see of an `Out`: its writer, and whether it has failed; and of a text that is held.
 use Rattle.std.specs.Prelude.{◌<◌, ℕ, Bool, List, length, take, Option}
 use Rattle.std.specs.Io.KnownBytes.{Appends}
+use Rattle.fixpoint.specs.declared.held_text.HeldText.{HeldText}
 use Rattle.fixpoint.specs.declared.out.Out.{Out}
 
 -- the writer
@@ -10,6 +11,10 @@ writer_of out = out.writer
 -- whether a write has failed
 abbrev pub has_failed : {W : Type 0} → Out W → Bool
 has_failed out = out.failed
+
+-- the bytes that a text holds
+abbrev pub held_in : HeldText → List ℕ
+held_in held = held.text.items
 
 -- the writer got so many first bytes of the text, and not all of them
 pub record PutsFront (text : List ℕ) (written : ℕ) (old new : Option (List ℕ)) : Type 0 where

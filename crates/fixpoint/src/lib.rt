@@ -4,8 +4,8 @@
 //! contracts see it as that count. `Fixed::parse` reads a number text, `write_into` writes the
 //! shortest one and `write_money` the one with two decimals. Sums are exact, products are rounded
 //! once to whole cents. `Out` passes pieces of bytes to a writer, one write a piece, and
-//! `put_all` a whole text.
-//! The digits come from `itoa`, the messages of the faults from `thiserror`. Nothing here allocates.
+//! `put_all` a whole text; `HeldText` is a writer into memory that takes no more than it may.
+//! The digits come from `itoa`, the messages of the faults from `thiserror`. Nothing but `HeldText` allocates.
 //!
 //! Begin with `specs/Number.antt`, `specs/NumberText.antt` and `specs/Money.antt`, which say what
 //! numbers, their texts and money are; then read `fixed.rt`, and `out.rt` with `specs/Out.antt`.
@@ -13,6 +13,7 @@
 
 mod fault;
 mod fixed;
+mod held_text;
 mod laws;
 mod out;
 mod reading;
@@ -22,6 +23,7 @@ mod writing;
 
 pub use fault::NumFault;
 pub use fixed::{Fixed, MAX_UNITS, UNITS_PER_ONE};
+pub use held_text::HeldText;
 pub use laws::{
     money_text_denotes, products_are_rounded, shortest_text_denotes, text_denotes_at_most_one,
 };

@@ -10,15 +10,12 @@
 mod amount;
 mod decisions;
 mod fault;
-mod held_text;
 mod parts;
 mod record;
 mod record_writer;
 mod report;
 mod sums;
-#[cfg(test)]
-mod tests;
 mod texts;
 
 pub use fault::{WriteCause, WriteFault};
-pub use report::{write_report, write_report_by_threads};
+pub use report::{write_journal, write_journal_by_threads, write_report, write_report_by_threads};

@@ -4,11 +4,14 @@ ghost use Rattle.remit.specs.Looked.{looked_up};
 ghost use Rattle.remit.specs.Parts.{MayBePart};
 
 use crate::decisions::Decisions;
-use crate::held_text::{HeldText, NotHeld};
 use crate::report::Report;
 use claim_terms::Terms;
-use fixpoint::Out;
+use fixpoint::{HeldText, Out};
 use std::alloc::Global;
+
+/// A text that isn't held: it would be longer than it may be, or memory is wanting for it.
+#[derive(Clone, Copy, PartialEq, Eq, Drop)]
+pub struct NotHeld;
 
 /// How many bytes of text are held for each byte of a file. Of the shortest claims a report has some three times as many, and
 /// besides what is remarked.

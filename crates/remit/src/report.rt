@@ -18,8 +18,7 @@ ghost use Rattle.remit.specs.declared.fault.WriteCause.TheVariants.{Device, OutO
 
 use crate::decisions::Decisions;
 use crate::fault::{WriteCause, WriteFault};
-use crate::held_text::NotHeld;
-use crate::parts::part_of;
+use crate::parts::{NotHeld, part_of};
 use crate::record::{fill_header, fill_row, fill_total};
 use crate::record_writer::RecordWriter;
 use crate::sums::Sums;
@@ -81,8 +80,9 @@ pub fn write_report_by_threads<R: Threads + Sync, W: Write>(
     write_journal_by_threads(rt, alloc, terms, batch.journal(), out)
 }
 
-// Writes the report of a journal that is finished over these terms; of any other journal nothing is said.
-pub(crate) fn write_journal<W: Write>(
+/// Writes the report of a journal that is finished over these terms, as `write_report` writes that of a run; of any other
+/// journal only the writer's state is said.
+pub fn write_journal<W: Write>(
     alloc: Global,
     terms: &Terms,
     journal: &[Event],
@@ -108,8 +108,8 @@ pub(crate) fn write_journal<W: Write>(
     report.writer.hand_over(out)
 }
 
-// The same by threads: the records of each file behind the first become text by a thread of their own.
-pub(crate) fn write_journal_by_threads<R: Threads + Sync, W: Write>(
+/// The same by threads: the records of each file behind the first become text by a thread of their own.
+pub fn write_journal_by_threads<R: Threads + Sync, W: Write>(
     rt: &R,
     alloc: Global,
     terms: &Terms,

@@ -1,5 +1,5 @@
 //! Writers that are full after some bytes.
-use fixpoint::{Cut, Failed, Out, put_all};
+use fixpoint::{Cut, Failed, HeldText, Out, put_all};
 use std::alloc::Global;
 use std::io;
 use std::io::{ErrorKind, Write};
@@ -91,4 +91,13 @@ fn put_texts_until_full(rt: &impl Abort, alloc: Global, when_full: WhenFull) {
 fn puts_a_text_until_the_writer_is_full(rt: HostRuntime) {
     put_texts_until_full(&rt, rt.alloc(), WhenFull::Fails);
     put_texts_until_full(&rt, rt.alloc(), WhenFull::TakesNothing);
+}
+
+#[test]
+fn a_text_is_held_up_to_its_limit(rt: HostRuntime) {
+    let mut held = HeldText::new(rt.alloc(), 3);
+    assert!(rt; matches!(held.write(b"ab"), Ok(2)));
+    assert!(rt; held.write(b"cd").is_err());
+    assert!(rt; matches!(held.write(b"c"), Ok(1)));
+    assert!(rt; held.into_text().as_slice() == b"abc".as_slice());
 }

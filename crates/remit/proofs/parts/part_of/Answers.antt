@@ -1,4 +1,5 @@
 use Rattle.std.proofs.Common.{◌≡◌, ◌-◌, [], Some, ap, false, get_or, is_err, sym, ◌∙◌}
+use Rattle.fixpoint.specs.Out.{held_in}
 use Rattle.remit.specs.Held.{at}
 use Rattle.remit.specs.Looked.{looked_up}
 use Rattle.remit.proofs.Parting.{part-made}
@@ -13,5 +14,5 @@ returns c =
     (at _ _ c.new-report.result.writer) (at _ _ c.write_file.new.self.writer) (at _ _ c.finish.new.self.writer) c.into_text.result.items c.write_file.result
     c.finish.result first last (record { gathered = made.gathered; written = made.written; ready = made.ready })
     (rw made.decisions at c.write_file.ensures.writes) c.finish.ensures.writes c.finish.ensures.all
-    (ap (λ h. Some h.text.items) c.new-out.ensures.writer ∙ ap Some c.new.ensures)
-    (ap (λ h. Some h.text.items) (sym c.into_inner.ensures) ∙ ap (λ v. Some v.items) (sym c.into_text.ensures))
+    (ap (λ h. Some (held_in h)) c.new-out.ensures.writer ∙ ap Some c.new.ensures)
+    (ap (λ h. Some (held_in h)) (sym c.into_inner.ensures) ∙ ap Some (sym c.into_text.ensures))

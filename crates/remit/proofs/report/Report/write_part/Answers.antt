@@ -1,4 +1,4 @@
-use Rattle.std.proofs.Common.{◌-◌, [], get_or}
+use Rattle.std.proofs.Common.{rules, ◌-◌, [], get_or}
 use Rattle.remit.specs.Held.{at}
 use Rattle.remit.specs.Looked.{looked_up}
 use Rattle.remit.proofs.Parting.{part-written}
@@ -8,3 +8,6 @@ pub returns-in-Ok-clause-writes : goal.returns-in-Ok-clause-writes
 returns-in-Ok-clause-writes g c =
     part-written (looked_up c.args.self.now.decisions.now) c.args.provider c.args.terms.now.plan.names (get_or c.args.terms.now.files (c.args.provider - 1) [])
     c.in-Ok.text.items (at _ _ c.args.self.now.writer) (at _ _ c.write_text.new.self) c.write_text.result (rw c.in-Ok.is at c.requires.part) c.write_text.ensures
+
+pub returns-in-Err-clause-writes : goal.returns-in-Err-clause-writes
+returns-in-Err-clause-writes g c = search rules

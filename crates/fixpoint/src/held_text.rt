@@ -1,13 +1,10 @@
 //! Texts in memory that aren't longer than they may be.
 ghost use Rattle.std.specs.Prelude.{◌≡◌, [], Some};
+ghost use Rattle.fixpoint.specs.Out.{held_in};
 
 use std::alloc::Global;
 use std::io;
 use std::io::{ErrorKind, Write};
-
-/// A text that isn't held: it would be longer than it may be, or memory is wanting for it.
-#[derive(Clone, Copy, PartialEq, Eq, Drop)]
-pub struct NotHeld;
 
 /// A text that takes bytes as long as it isn't longer than it may be.
 #[derive(Drop)]
@@ -19,7 +16,7 @@ pub struct HeldText {
 impl HeldText {
     /// An empty text of at most so many bytes.
     pub fn new(alloc: Global, most: usize) -> HeldText
-        ensures { result.text.items ≡ [] }
+        ensures { held_in result ≡ [] }
     {
         HeldText {
             text: Vec::new(alloc),
@@ -29,14 +26,16 @@ impl HeldText {
 
     /// The text.
     pub fn into_text(self) -> Vec<u8>
-        ensures { result ≡ self.text }
+        ensures { result.items ≡ held_in self }
     {
         self.text
     }
 }
 
 impl Write for HeldText {
-    ghost contents = { λ held. Some held.text.items };
+    ghost use Rattle.fixpoint.specs.Out.{held_in};
+
+    ghost contents = { λ held. Some (held_in held) };
 
     fn write(&mut self, piece: &[u8]) -> io::Result<usize> {
         if piece.len() > self.most.saturating_sub(self.text.len()) {

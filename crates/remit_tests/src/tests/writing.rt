@@ -1,13 +1,12 @@
 //! How the tests write reports: what is refused memory before that is asked for once more.
 ghost use Rattle.std.specs.Prelude.{◌≡◌};
 
-use crate::report::write_journal;
-use crate::{WriteCause, WriteFault, write_report};
 use claim_gate::{Batch, GateState};
 use claim_terms::Terms;
 use dtable::{Plan, read_plan};
 use fixpoint::Out;
 use journal::Event;
+use remit::{WriteCause, WriteFault, write_journal, write_report};
 use std::alloc::Global;
 use std::io;
 use std::io::{ErrorKind, Write};

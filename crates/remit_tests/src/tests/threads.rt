@@ -2,12 +2,10 @@
 use super::journals::{of_both_files, of_no_claims};
 use super::writing::{is_filled, is_whole, late_batch, plan_of, terms_of, with_room};
 use super::{push_one_field_records, repeated, texts};
-use crate::held_text::HeldText;
-use crate::report::write_journal_by_threads;
-use crate::{WriteFault, write_report_by_threads};
 use claim_terms::Terms;
 use fixpoint::Out;
 use journal::Event;
+use remit::{WriteFault, write_journal_by_threads, write_report_by_threads};
 use std::alloc::Global;
 use std::io::Write;
 use std::process::Abort;
@@ -172,13 +170,4 @@ fn a_report_is_cut_in_a_text_that_is_not_held(rt: HostRuntime) {
     let mut out = with_room(rt.alloc(), 1_400_000, true);
     let answer = write_by_threads(&rt, rt.alloc(), &files, Some(0), &[Event::Close], &mut out);
     assert!(rt; is_filled(answer, out, report.as_bytes()));
-}
-
-#[test]
-fn a_text_is_held_up_to_its_limit(rt: HostRuntime) {
-    let mut held = HeldText::new(rt.alloc(), 3);
-    assert!(rt; matches!(held.write(b"ab"), Ok(2)));
-    assert!(rt; held.write(b"cd").is_err());
-    assert!(rt; matches!(held.write(b"c"), Ok(1)));
-    assert!(rt; held.into_text().as_slice() == b"abc".as_slice());
 }

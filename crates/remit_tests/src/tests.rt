@@ -1,7 +1,7 @@
 //! Reports by worked examples: the journals and the reports are written by hand.
-use crate::WriteCause;
 use fixpoint::Out;
 use journal::Event;
+use remit::WriteCause;
 use std::alloc::Global;
 use std::process::Abort;
 use worked_examples::{both_files, empty_remittance, header, late_remittance, remittance};
