@@ -1,19 +1,18 @@
 //! What is amiss at the place of a plan's fault, of the things that its cause may mean. Where the document tells no more, nothing is said.
 
-use crate::spot::{Spot, count_at, role_name, text_at, value_at};
+use crate::spot::{count_at, role_name, text_at, value_at};
 use plan_places::{Step, is_one_edit};
 use std::alloc::{AllocError, Global};
 use table_faults::{PlanCause, PlanFault};
 use toml::Value;
 
-/// What is amiss; empty where no more is known.
+/// What is amiss, by what the document has at the fault's place; empty where no more is known.
 pub fn amiss(
     alloc: Global,
     document: &Value,
-    spot: &Spot,
+    entry: Option<&Value>,
     fault: &PlanFault,
 ) -> Result<String, AllocError> {
-    let entry = value_at(document, spot.steps.as_slice());
     match fault.cause {
         PlanCause::Missing => missing_key(alloc, entry, wanted_keys(document, fault)),
         PlanCause::Role => role(alloc, document, fault.column),
@@ -21,7 +20,7 @@ pub fn amiss(
             alloc,
             "cells and literals are strings: they stand in quotes, numbers too",
         ),
-        PlanCause::Kind if fault.rule > 0 => cells(alloc, document, spot, fault.table),
+        PlanCause::Kind if fault.rule > 0 => cells(alloc, document, entry, fault.table),
         PlanCause::Kind => kind(alloc, entry),
         PlanCause::Unknown => unknown(alloc, document, entry),
         PlanCause::Cell(cell) => {
@@ -106,23 +105,35 @@ fn not_of_kind(
     let mut said = format!(in alloc;
         "`{word}` is no {kind}, nor the name of one; the plan's own are:"
     )?;
-    let mut entries = Vec::new(alloc);
-    push_entries(&mut entries, document.get("fields"))?;
+    push_single_values(&mut said, document, kind)?;
+    Ok(said)
+}
+
+// The names of the plan's single values of this kind, or that there is none.
+fn push_single_values(said: &mut String, document: &Value, kind: &str) -> Result<(), AllocError> {
+    let mut count = push_names(said, 0, items(document.get("fields")), kind)?;
     for table in tables(document) {
         if !matches!(
             table.get("hit").and_then(Value::as_str),
             Some("R" | "O" | "C")
         ) {
-            push_entries(&mut entries, table.get("outputs"))?;
+            count = push_names(said, count, items(table.get("outputs")), kind)?;
         }
     }
-    push_names(&mut said, entries.as_slice(), kind)?;
-    Ok(said)
+    if count == 0 {
+        said.push_str(" none")?;
+    }
+    Ok(())
 }
 
-// The names of the entries of this kind, or that there is none.
-fn push_names(said: &mut String, entries: &[&Value], kind: &str) -> Result<(), AllocError> {
-    let mut count = 0usize;
+// The names of the entries of this kind, behind so many others. Returns how many there are by then.
+fn push_names(
+    said: &mut String,
+    before: usize,
+    entries: &[Value],
+    kind: &str,
+) -> Result<usize, AllocError> {
+    let mut count = before;
     for entry in entries {
         if text_at(entry, &[], "kind") == kind {
             said.push_str(if count == 0 { " " } else { ", " })?;
@@ -130,10 +141,7 @@ fn push_names(said: &mut String, entries: &[&Value], kind: &str) -> Result<(), A
             count = count.saturating_add(1);
         }
     }
-    if count == 0 {
-        said.push_str(" none")?;
-    }
-    Ok(())
+    Ok(count)
 }
 
 fn tables(document: &Value) -> &[Value] {
@@ -148,21 +156,16 @@ fn items(array: Option<&Value>) -> &[Value] {
     }
 }
 
-fn push_entries<'d>(
-    entries: &mut Vec<&'d Value>,
-    array: Option<&'d Value>,
-) -> Result<(), AllocError> {
-    for entry in items(array) {
-        entries.push(entry)?;
-    }
-    Ok(())
-}
-
 // That a rule has another number of cells or literals than its table has columns.
-fn cells(alloc: Global, document: &Value, spot: &Spot, table: usize) -> Result<String, AllocError> {
+fn cells(
+    alloc: Global,
+    document: &Value,
+    rule: Option<&Value>,
+    table: usize,
+) -> Result<String, AllocError> {
     let columns = [Step::Key("tables"), Step::Item(table.saturating_sub(1))];
     for (part, of) in [("when", "inputs"), ("then", "outputs")] {
-        let has = count_at(document, spot.steps.as_slice(), part);
+        let has = items(rule.and_then(|rule| rule.get(part))).len();
         let wanted = count_at(document, &columns, of);
         if has != wanted {
             return format!(in alloc; "`{part}` has {has}, and the table has {wanted} {of}");
@@ -190,16 +193,8 @@ fn unknown(alloc: Global, document: &Value, entry: Option<&Value>) -> Result<Str
     else {
         return Ok(String::new(alloc));
     };
-    let mut entries = Vec::new(alloc);
-    push_entries(&mut entries, document.get("fields"))?;
-    for table in tables(document) {
-        push_entries(&mut entries, table.get("outputs"))?;
-    }
-    for entry in entries.as_slice() {
-        let near = text_at(entry, &[], "name");
-        if is_one_edit(near.as_bytes(), name.as_bytes()) {
-            return format!(in alloc; "nothing before is called `{name}`; near it is `{near}`");
-        }
+    if let Some(near) = near_value(document, name) {
+        return format!(in alloc; "nothing before is called `{name}`; near it is `{near}`");
     }
     match near_key(Some(document), "fields") {
         Some(near) if document.get("fields").is_none() => format!(in alloc;
@@ -207,6 +202,29 @@ fn unknown(alloc: Global, document: &Value, entry: Option<&Value>) -> Result<Str
         ),
         _ => format!(in alloc; "nothing before is called `{name}`"),
     }
+}
+
+// The name of a field or an output that is one edit away from another: the first such one.
+fn near_value<'d>(document: &'d Value, name: &str) -> Option<&'d str> {
+    if let Some(near) = near_name(items(document.get("fields")), name) {
+        return Some(near);
+    }
+    for table in tables(document) {
+        if let Some(near) = near_name(items(table.get("outputs")), name) {
+            return Some(near);
+        }
+    }
+    None
+}
+
+fn near_name<'d>(entries: &'d [Value], name: &str) -> Option<&'d str> {
+    for entry in entries {
+        let near = text_at(entry, &[], "name");
+        if is_one_edit(near.as_bytes(), name.as_bytes()) {
+            return Some(near);
+        }
+    }
+    None
 }
 
 // What the text of a cell or literal looks like that can't be read from its byte at this offset on.

@@ -1,15 +1,20 @@
 //! Lines for a person.
 
 use crate::words::{Words, resource_words};
-use plan_places::position_of;
+use plan_places::{Step, places_of, position_of};
 use shown::push_shown;
 use std::alloc::{AllocError, Global};
 
 /// Lines, put together.
-#[derive(Drop)]
 pub struct Page {
     alloc: Global,
     text: String,
+}
+
+impl Drop for Page {
+    fn drop(self) {
+        let Page { alloc: _, text: _ } = self;
+    }
 }
 
 impl Page {
@@ -58,6 +63,12 @@ impl Page {
         let (line, column) = (position.line, position.column);
         let place = format!(in self.alloc; "{name}, line {line}, column {column}")?;
         self.line(&[place.as_str()])
+    }
+
+    /// Where the value that the steps lead to stands in a plan's text, or the last one on the way that is there.
+    pub fn place_of(&mut self, name: &str, text: &str, steps: &[Step]) -> Result<(), AllocError> {
+        let places = places_of(self.alloc, text)?;
+        self.place(name, text.as_bytes(), places.nearest(steps))
     }
 
     /// The line of a text that has this byte, and a mark below the byte.

@@ -2,11 +2,10 @@
 
 use crate::here::amiss;
 use crate::page::Page;
-use crate::spot::{spot_of, value_at};
+use crate::spot::{value_at, way_of, what_of};
 use crate::words::{cell_words, plan_words};
-use plan_places::places_of;
 use std::alloc::{AllocError, Global};
-use table_faults::{PlanCause, PlanFault};
+use table_faults::{CellFault, PlanCause, PlanFault};
 use toml::Value;
 
 /// What the fault of a plan's text means, for a file of this name: where it stands, the text of the cell, and what to do.
@@ -40,22 +39,46 @@ fn add_place(
     document: &Value,
     fault: &PlanFault,
 ) -> Result<(), AllocError> {
-    let spot = spot_of(alloc, document, fault)?;
+    let way = way_of(document, fault);
     if let Ok(text) = str::from_utf8(text) {
-        let places = places_of(alloc, text)?;
-        page.place(name, text.as_bytes(), places.nearest(spot.steps.as_slice()))?;
+        page.place_of(name, text, way.as_slice())?;
     }
-    page.line(&[spot.what.as_str()])?;
+    add_what(alloc, page, document, fault)?;
+    let value = value_at(document, way.as_slice());
     if let PlanCause::Cell(cell) = fault.cause {
-        let value = value_at(document, spot.steps.as_slice());
-        if let Some(text) = value.and_then(Value::as_str) {
-            page.mark(text, cell.at)?;
-        }
-        page.line(&[cell_words(cell.cause)])?;
+        add_cell(page, value, cell)?;
     }
-    let amiss = amiss(alloc, document, &spot, fault)?;
-    if !amiss.is_empty() {
-        page.line(&[amiss.as_str()])?;
+    add_amiss(alloc, page, document, value, fault)
+}
+
+fn add_what(
+    alloc: Global,
+    page: &mut Page,
+    document: &Value,
+    fault: &PlanFault,
+) -> Result<(), AllocError> {
+    let what = what_of(alloc, document, fault)?;
+    page.line(&[what.as_str()])
+}
+
+// The text of a cell or literal with a mark at its fault, and what that is.
+fn add_cell(page: &mut Page, value: Option<&Value>, fault: CellFault) -> Result<(), AllocError> {
+    if let Some(text) = value.and_then(Value::as_str) {
+        page.mark(text, fault.at)?;
     }
-    Ok(())
+    page.line(&[cell_words(fault.cause)])
+}
+
+fn add_amiss(
+    alloc: Global,
+    page: &mut Page,
+    document: &Value,
+    value: Option<&Value>,
+    fault: &PlanFault,
+) -> Result<(), AllocError> {
+    let amiss = amiss(alloc, document, value, fault)?;
+    if amiss.is_empty() {
+        return Ok(());
+    }
+    page.line(&[amiss.as_str()])
 }

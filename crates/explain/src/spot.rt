@@ -21,11 +21,50 @@ pub fn role_name(number: usize) -> &'static str {
     }
 }
 
-/// The way to a value from the top of the document, and what it is in words.
-#[derive(Drop)]
-pub struct Spot {
-    pub steps: Vec<Step>,
-    pub what: String,
+/// How many steps the longest way has: to a cell of a rule of a table.
+const MOST_STEPS: usize = 6;
+
+/// The way to a value from the top of the document. It takes no memory, so that nothing is to be let go where it is made.
+#[derive(Clone, Copy)]
+pub struct Way {
+    steps: [Step; MOST_STEPS],
+    count: usize,
+}
+
+impl Way {
+    // The top of the document.
+    fn top() -> Way {
+        Way {
+            steps: [Step::Item(0); MOST_STEPS],
+            count: 0,
+        }
+    }
+
+    /// The way on to the value at a key.
+    pub fn key(self, key: &'static str) -> Way {
+        self.on(Step::Key(key))
+    }
+
+    // The way on to an item, by its number from 1.
+    fn item(self, number: usize) -> Way {
+        self.on(Step::Item(number.saturating_sub(1)))
+    }
+
+    fn on(self, step: Step) -> Way {
+        let Way { mut steps, count } = self;
+        if count < MOST_STEPS {
+            steps[count] = step;
+        }
+        Way {
+            steps,
+            count: count.saturating_add(1),
+        }
+    }
+
+    /// The steps.
+    pub fn as_slice(&self) -> &[Step] {
+        self.steps.get(..self.count).unwrap_or(&[])
+    }
 }
 
 /// The value that the document has at the end of the steps.
@@ -40,40 +79,119 @@ pub fn value_at<'d>(document: &'d Value, steps: &[Step]) -> Option<&'d Value> {
     Some(value)
 }
 
-/// The spot of a plan's fault.
-pub fn spot_of(alloc: Global, document: &Value, fault: &PlanFault) -> Result<Spot, AllocError> {
+/// The way to the place of a plan's fault.
+pub fn way_of(document: &Value, fault: &PlanFault) -> Way {
     if fault.table == 0 {
-        return top_spot(alloc, document, fault);
+        return top_way(document, fault);
     }
-    let table = fault.table;
-    let mut steps = Vec::new(alloc);
-    steps.push(Step::Key("tables"))?;
-    steps.push(Step::Item(table.saturating_sub(1)))?;
-    let inputs = count_at(document, steps.as_slice(), "inputs");
-    let mut what = format!(in alloc; "table {table}")?;
-    if fault.rule > 0 {
-        let rule = fault.rule;
-        steps.push(Step::Key("rules"))?;
-        steps.push(Step::Item(rule.saturating_sub(1)))?;
-        let line = format!(in alloc; ", rule {rule}")?;
-        what.push_str(line.as_str())?;
+    let table = table_way(fault.table);
+    let rule = if fault.rule > 0 {
+        table.key("rules").item(fault.rule)
+    } else {
+        table
+    };
+    if fault.column == 0 {
+        return rule;
     }
-    if fault.column > 0 {
-        let name = name_of(document, table, fault.column, inputs);
-        let number = fault
-            .column
-            .saturating_sub(if fault.column > inputs { inputs } else { 0 });
-        let is_input = fault.column <= inputs;
-        steps.push(Step::Key(part_of(fault.rule > 0, is_input)))?;
-        steps.push(Step::Item(number.saturating_sub(1)))?;
-        let side = if is_input { "input" } else { "output" };
-        let line = format!(in alloc; ", {side} {number} {name}")?;
-        what.push_str(line.as_str())?;
-        if fault.rule == 0 && is_input && matches!(fault.cause, PlanCause::Cell(_)) {
-            steps.push(Step::Key("values"))?;
+    let column = Column::of(document, fault.table, fault.column);
+    let cell = rule.key(column.part(fault.rule > 0)).item(column.number);
+    if fault.rule == 0 && column.is_input && matches!(fault.cause, PlanCause::Cell(_)) {
+        cell.key("values")
+    } else {
+        cell
+    }
+}
+
+/// What stands at the place of a plan's fault, in words.
+pub fn what_of(alloc: Global, document: &Value, fault: &PlanFault) -> Result<String, AllocError> {
+    if fault.table == 0 {
+        return top_words(alloc, document, fault);
+    }
+    let (table, rule) = (fault.table, fault.rule);
+    if fault.column == 0 {
+        return rule_words(alloc, table, rule);
+    }
+    let column = Column::of(document, table, fault.column);
+    let (side, number, name) = (column.side(), column.number, column.name);
+    if rule > 0 {
+        format!(in alloc; "table {table}, rule {rule}, {side} {number} {name}")
+    } else {
+        format!(in alloc; "table {table}, {side} {number} {name}")
+    }
+}
+
+/// The words of a rule of a table; of the table, where the rule is 0.
+fn rule_words(alloc: Global, table: usize, rule: usize) -> Result<String, AllocError> {
+    if rule > 0 {
+        format!(in alloc; "table {table}, rule {rule}")
+    } else {
+        format!(in alloc; "table {table}")
+    }
+}
+
+/// The way to a table, by its number from 1.
+fn table_way(table: usize) -> Way {
+    Way::top().key("tables").item(table)
+}
+
+/// The way to an input of a table, both by their numbers from 1; to the table, where the input is 0.
+pub fn input_way(table: usize, input: usize) -> Way {
+    let table = table_way(table);
+    if input > 0 {
+        table.key("inputs").item(input)
+    } else {
+        table
+    }
+}
+
+/// The words of an input of a table; of the table, where the input is 0.
+pub fn input_words(
+    alloc: Global,
+    document: &Value,
+    table: usize,
+    input: usize,
+) -> Result<String, AllocError> {
+    if input == 0 {
+        return rule_words(alloc, table, 0);
+    }
+    let name = Column::of(document, table, input).name;
+    format!(in alloc; "table {table}, input {input} {name}")
+}
+
+/// A column of a table: an input or an output, by its number among these from 1, and its name; nothing where it has none.
+#[derive(Clone, Copy)]
+struct Column<'d> {
+    is_input: bool,
+    number: usize,
+    name: &'d str,
+}
+
+impl<'d> Column<'d> {
+    fn of(document: &'d Value, table: usize, column: usize) -> Column<'d> {
+        let way = table_way(table);
+        let inputs = count_at(document, way.as_slice(), "inputs");
+        let is_input = column <= inputs;
+        let number = if is_input {
+            column
+        } else {
+            column.saturating_sub(inputs)
+        };
+        let way = way.key(part_of(false, is_input)).item(number);
+        Column {
+            is_input,
+            number,
+            name: text_at(document, way.as_slice(), "name"),
         }
     }
-    Ok(Spot { steps, what })
+
+    // The key of the array that it stands in, of a rule or of its table.
+    fn part(&self, is_rule: bool) -> &'static str {
+        part_of(is_rule, self.is_input)
+    }
+
+    fn side(&self) -> &'static str {
+        if self.is_input { "input" } else { "output" }
+    }
 }
 
 // The key of the array that a column of a rule, or of a table, stands in.
@@ -86,24 +204,34 @@ fn part_of(is_rule: bool, is_input: bool) -> &'static str {
     }
 }
 
-// A spot outside of tables: a role, a field, or the document.
-fn top_spot(alloc: Global, document: &Value, fault: &PlanFault) -> Result<Spot, AllocError> {
-    let mut steps = Vec::new(alloc);
+// The way to a place outside of tables: a role, a field, or the document.
+fn top_way(document: &Value, fault: &PlanFault) -> Way {
     let column = fault.column;
-    let what = if column == 0 {
-        String::from_str(alloc, "the plan as a whole")?
+    if column == 0 {
+        Way::top()
     } else if is_role(document, fault) {
-        let name = role_name(column);
-        steps.push(Step::Key("roles"))?;
-        steps.push(Step::Key(name))?;
-        format!(in alloc; "role {column} {name}")?
+        Way::top().key("roles").key(role_name(column))
     } else {
-        steps.push(Step::Key("fields"))?;
-        steps.push(Step::Item(column.saturating_sub(1)))?;
-        let name = text_at(document, steps.as_slice(), "name");
-        format!(in alloc; "field {column} {name}")?
-    };
-    Ok(Spot { steps, what })
+        field_way(column)
+    }
+}
+
+fn field_way(field: usize) -> Way {
+    Way::top().key("fields").item(field)
+}
+
+// What stands there, in words.
+fn top_words(alloc: Global, document: &Value, fault: &PlanFault) -> Result<String, AllocError> {
+    let column = fault.column;
+    if column == 0 {
+        return String::from_str(alloc, "the plan as a whole");
+    }
+    if is_role(document, fault) {
+        let name = role_name(column);
+        return format!(in alloc; "role {column} {name}");
+    }
+    let name = text_at(document, field_way(column).as_slice(), "name");
+    format!(in alloc; "field {column} {name}")
 }
 
 // Whether a column outside of tables is a role's: such causes are.
@@ -112,23 +240,6 @@ fn is_role(document: &Value, fault: &PlanFault) -> bool {
         PlanCause::Role | PlanCause::Money => true,
         _ => count_at(document, &[], "fields") < fault.column,
     }
-}
-
-/// The name of an input or an output of a table, by its column; nothing where there is none.
-pub fn name_of(document: &Value, table: usize, column: usize, inputs: usize) -> &str {
-    let is_input = column <= inputs;
-    let number = if is_input {
-        column
-    } else {
-        column.saturating_sub(inputs)
-    };
-    let steps = [
-        Step::Key("tables"),
-        Step::Item(table.saturating_sub(1)),
-        Step::Key(part_of(false, is_input)),
-        Step::Item(number.saturating_sub(1)),
-    ];
-    text_at(document, &steps, "name")
 }
 
 /// The string at a key behind the steps; nothing where there is none.

@@ -1,9 +1,8 @@
 //! What a fault of the tables means, and of which table and input.
 
 use crate::page::Page;
-use crate::spot::{count_at, name_of};
+use crate::spot::{input_way, input_words};
 use crate::words::tables_words;
-use plan_places::{Step, places_of};
 use std::alloc::{AllocError, Global};
 use table_faults::Fault;
 use toml::Value;
@@ -16,42 +15,53 @@ pub fn explain_tables(
     fault: &Fault,
 ) -> Result<Page, AllocError> {
     let mut page = Page::new(alloc);
-    let (table, column) = match fault {
+    let (table, input) = match fault {
         Fault::Outside { table, column } => (*table, *column),
         Fault::NoRule { table } | Fault::Clash { table } | Fault::Range { table } => (*table, 0),
         Fault::OutOfMemory => (0, 0),
     };
     if table > 0
         && let Ok(text) = str::from_utf8(text)
-        && let Ok(members) = toml::table_from_str(alloc, text)
     {
-        let steps = [
-            Step::Key("tables"),
-            Step::Item(table.saturating_sub(1)),
-            Step::Key("inputs"),
-            Step::Item(column.saturating_sub(1)),
-        ];
-        let end = if column > 0 { 4 } else { 2 };
-        let steps = steps.get(..end).unwrap_or(&[]);
-        page.place(
-            name,
-            text.as_bytes(),
-            places_of(alloc, text)?.nearest(steps),
-        )?;
-        let document = Value::Table(members);
-        let inputs = count_at(&document, steps.get(..2).unwrap_or(&[]), "inputs");
-        let input = if column > 0 {
-            name_of(&document, table, column, inputs)
-        } else {
-            ""
-        };
-        let what = if column > 0 {
-            format!(in alloc; "table {table}, input {column} {input}")?
-        } else {
-            format!(in alloc; "table {table}")?
-        };
-        page.line(&[what.as_str()])?;
+        add_table(alloc, &mut page, name, text, table, input)?;
     }
     page.words(tables_words(fault))?;
     Ok(page)
+}
+
+// Where the table, or its input, stands in the plan's text, if that is a document.
+fn add_table(
+    alloc: Global,
+    page: &mut Page,
+    name: &str,
+    text: &str,
+    table: usize,
+    input: usize,
+) -> Result<(), AllocError> {
+    match toml::table_from_str(alloc, text) {
+        Ok(members) => add_input(
+            alloc,
+            page,
+            name,
+            text,
+            &Value::Table(members),
+            table,
+            input,
+        ),
+        Err(_) => Ok(()),
+    }
+}
+
+fn add_input(
+    alloc: Global,
+    page: &mut Page,
+    name: &str,
+    text: &str,
+    document: &Value,
+    table: usize,
+    input: usize,
+) -> Result<(), AllocError> {
+    page.place_of(name, text, input_way(table, input).as_slice())?;
+    let words = input_words(alloc, document, table, input)?;
+    page.line(&[words.as_str()])
 }
