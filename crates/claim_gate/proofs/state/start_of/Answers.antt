@@ -1,4 +1,4 @@
-use Rattle.std.proofs.Common.{sym, ◌∙◌}
+use Rattle.std.proofs.Common.{rules, sym, ◌∙◌}
 use Rattle.claim_gate.proofs.Replying.{begun_alike}
 use Rattle.claim_gate.proofs.state.start_of.Goals as goal
 
@@ -6,3 +6,6 @@ pub returns-then-has_begun : goal.returns-then-has_begun
 returns-then-has_begun c =
     c.start.ensures
     ∙ begun_alike c.args.picked.now.own c.args.picked.now.household c.zero.result _ (sym c.has_begun.ensures ∙ c.if-has_begun.true)
+
+pub returns : goal.returns
+returns c = search rules

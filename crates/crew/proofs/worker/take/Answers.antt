@@ -1,4 +1,4 @@
-use Rattle.std.proofs.Common.{◌∙◌}
+use Rattle.std.proofs.Common.{rules, ◌∙◌}
 use Rattle.crew.proofs.Passes.{after_section, leaves_stopped, section_later, worn_later}
 use Rattle.crew.proofs.Sections.{over_seen, stopped_seen, work_seen}
 use Rattle.crew.proofs.worker.take.Goals as goal
@@ -48,3 +48,6 @@ returns-in-Ok-Stopped-clause-leaves g c =
     let reply = rw (c.in-Ok-Stopped.is, c.in-Ok-Stopped.field-0-is) at c.in-Ok.ensures.reply in
     leaves_stopped own known c.args.pass after (section_later own known c.args.pass c.tries.pass after c.tries.invariant.0 c.in-Ok.ensures.served)
     (stopped_seen c.args.terms.now c.terms_are_seen.ensures (known c.tries.pass) (known after) c.tries.invariant.1 c.in-Ok.ensures.served.section reply)
+
+pub returns-in-Ok-NothingReady-clause-task : goal.returns-in-Ok-NothingReady-clause-task
+returns-in-Ok-NothingReady-clause-task g c = search rules

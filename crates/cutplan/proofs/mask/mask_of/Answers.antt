@@ -1,4 +1,4 @@
-use Rattle.std.proofs.Common.{◌<◌, ap, length, subst, sym, ◌∙◌}
+use Rattle.std.proofs.Common.{rules, ◌<◌, ap, length, subst, sym, ◌∙◌}
 use Rattle.std.proofs.lemmas.List.{set-get_or}
 use Rattle.std.specs.List.{slice_set}
 use Rattle.cutplan.specs.Parts.{cell_holds_in, holds_among}
@@ -22,3 +22,6 @@ rules-preserved c =
 pub returns-clause-marks : goal.returns-clause-marks
 returns-clause-marks c =
     has_all c.rules.mask c.rules.place c.args.asked.now c.args.region.now c.rules-test.false c.rules.invariant.1 c.rules.invariant.2
+
+pub rules-init : goal.rules-init
+rules-init c = search rules

@@ -1,4 +1,4 @@
-use Rattle.std.proofs.Common.{◌≡◌, false, arith, length-drop, length-take, ℕ}
+use Rattle.std.proofs.Common.{rules, ◌≡◌, false, arith, length-drop, length-take, ℕ}
 use Rattle.fixpoint.specs.Out.{has_failed}
 use Rattle.fixpoint.proofs.Puts.{Appends-front}
 use Rattle.fixpoint.proofs.whole_text.put_all.Goals as goal
@@ -13,3 +13,6 @@ loop-written-preserved g c =
       wrote = Appends-front _ _ _ _ _ _ before.wrote c.in-Ok.ensures.bytes;
       failed = cc (sound.0, sound.1, before.failed);
     }
+
+pub returns-in-Err-clause-front : goal.returns-in-Err-clause-front
+returns-in-Err-clause-front g c = search rules

@@ -1,3 +1,4 @@
+use Rattle.std.proofs.lemmas.Grind.{common_steps}
 use Rattle.std.proofs.Common.{◌-◌, ◌<◌, length, drop, take, arith, subst, sym}
 use Rattle.std.specs.List.{All, Any}
 use Rattle.intake_csv.specs.Judged.{IsRefusedUnder}
@@ -44,3 +45,6 @@ returns-clause-none c =
     subst (λ all. TellsRefused row all c.claim_behind-2.result) c.as_slice.ensures
     (refused-among row _ columns c.claim_behind-2.result
     (λ refused. any-within (IsRefusedUnder row) 1 (length columns - 1) columns (any-within (IsRefusedUnder row) 1 _ behind refused)) c.claim_behind-2.ensures.none)
+
+pub returns-clause-claim : goal.returns-clause-claim
+returns-clause-claim c = grind (arith, common_steps)

@@ -9,3 +9,12 @@ returns-then-offer-expected-clause-reply c =
 pub accept-requires-clause-in_turn : goal.accept-requires-clause-in_turn
 accept-requires-clause-in_turn c =
     in_turn c.self.inside c.args.self.now c.self.view_is c.self.invariant c.args.offer c.accepted-expected.result c.requires (search rules) (search rules)
+
+pub returns-then-self-2-clause-reply : goal.returns-then-self-2-clause-reply
+returns-then-self-2-clause-reply c = search rules
+
+pub returns-then-self-2-clause-lawful : goal.returns-then-self-2-clause-lawful
+returns-then-self-2-clause-lawful c = search rules
+
+pub returns-then-self-2-clause-refused : goal.returns-then-self-2-clause-refused
+returns-then-self-2-clause-refused c = search rules

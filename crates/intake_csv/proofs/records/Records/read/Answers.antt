@@ -1,4 +1,4 @@
-use Rattle.std.proofs.Common.{arith, drop, refl}
+use Rattle.std.proofs.Common.{rules, arith, drop, refl}
 use Rattle.csv.specs.Records.{fields_of}
 use Rattle.intake_csv.specs.Reader.{HasLeft}
 use Rattle.intake_csv.specs.Records.{records_of}
@@ -42,3 +42,15 @@ returns-clause-reads c =
     let read = rw c.if-not-found.false at (c.in-Ok.ensures.reads at.untrimmed at.ready) in
     let gives = reader-gives i.reader c.read_byte_record.new.self (records_of i.text.now) i.given (fields_of c.read_byte_record.new.row) at read (c.in-Ok.ensures.ready at.untrimmed) in
     rw (← c.self.view_is, c.in-Reading.is) (gives.next, refl, refl)
+
+pub invariant_of-self : goal.invariant_of-self
+invariant_of-self c = search rules
+
+pub returns-in_default-clause-refused : goal.returns-in_default-clause-refused
+returns-in_default-clause-refused c = search rules
+
+pub returns-in-Over-clause-refused : goal.returns-in-Over-clause-refused
+returns-in-Over-clause-refused c = search rules
+
+pub returns-in-Over-clause-over : goal.returns-in-Over-clause-over
+returns-in-Over-clause-over c = search rules
