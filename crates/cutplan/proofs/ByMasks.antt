@@ -1,7 +1,7 @@
 -- What the masks of a table's first columns tell, column by column.
-use Rattle.std.proofs.Common.{◌≡◌, ℕ, zero, suc, ◌+◌, ◌<◌, ◌≤◌, ◌&&◌, ◌||◌, Bool, true, false, not, List, [], ◌∷◌, length, get_or, map, take, Some, refl, ap, sym, subst, ◌∙◌, add-one, arith}
+use Rattle.std.proofs.Common.{◌≡◌, ℕ, zero, suc, ◌+◌, ◌-◌, ◌<◌, ◌≤◌, ◌&&◌, ◌||◌, Bool, true, false, not, List, [], ◌∷◌, length, get_or, map, take, Some, refl, ap, sym, subst, ◌∙◌, add-one, arith}
 use Rattle.std.specs.Prelude.{nat_lt, Result}
-use Rattle.std.specs.List.{flat_map, list_any, slice_get, AllZip, enumerate_from}
+use Rattle.std.specs.List.{flat_map, list_any, slice_get, AllZip}
 use Rattle.std.specs.Option.{option_map_or}
 use Rattle.std.proofs.lemmas.Bool.{both_ways, and_from, le-ltb}
 use Rattle.std.proofs.lemmas.List.{take_all}
@@ -19,16 +19,18 @@ use Rattle.dtable.specs.Environment.{table_value, inside, number_behind}
 use Rattle.dtable.specs.HitPolicy.{Gives, by_hit}
 use Rattle.dtable.specs.Matching.{value_read, holds_of, cells_hold, matching, rule_matches, is_outside}
 use Rattle.dtable.specs.Plan.{PlanParts}
+use Rattle.cutplan.specs.declared.kept.KeptColumn.{KeptColumn}
 use Rattle.cutplan.specs.declared.region.Region.{Region}
 use Rattle.cutplan.specs.Values.{is_value, kind_read}
 use Rattle.cutplan.specs.Regions.{column_of, columns_from, column_literals, rule_literals, literals, regions, is_allowed, is_in, table_regions}
 use Rattle.cutplan.specs.Check.{rule_cells}
-use Rattle.cutplan.specs.Masks.{has_rule, rules_in, is_marked, Marks, AreMasks, AreTableMasks}
-use Rattle.cutplan.specs.Found.{has_at, IsMaskRead, IsMatchingMask, IsCut}
+use Rattle.cutplan.specs.Masks.{has_rule, rules_in, is_marked, Marks, AreMasks, AreMasksOf, IsColumnNumber}
+use Rattle.cutplan.specs.Found.{has_at, IsMatchingMask}
+use Rattle.cutplan.specs.Kept.{AreKept, AreKeptColumns, IsCut, IsKeptColumn, IsMaskOf, IsMaskRead}
 use Rattle.cutplan.proofs.Alike.{Among, among_right}
 use Rattle.cutplan.proofs.MaskRules.{among_got, column_marks, rules_match}
 use Rattle.cutplan.proofs.FirstRules.{less_alike}
-use Rattle.cutplan.proofs.Keeping.{at_number, numbered_at}
+use Rattle.cutplan.proofs.Keeping.{at_place, column_kept, column_within, kept_long}
 use Rattle.cutplan.proofs.Matched.{inside_alike, listed_allowed, none_first}
 use Rattle.cutplan.proofs.Telling.{not_so}
 
@@ -98,24 +100,28 @@ pub record IsRead (given : List Slot) (earlier : List (List Answer)) (t : Table)
   pub words : length mask ≡ 4
   pub has : (place : ℕ) → place < 256 → has_rule mask place ≡ (nat_lt place (length t.rules) && next_holds given earlier (rule_cells t place) column input)
 
-one_read : (p : PlanParts) (given : List Slot) (earlier : List (List Answer)) (t : Table) (column : ℕ) (input : Input) (masks : List (List ℕ)) (mask : List ℕ)
-    → AreMasks t column (regions (column_of p t column input)) masks → IsMaskRead p given earlier input (regions (column_of p t column input)) masks mask → IsRead given earlier t column input mask
-one_read p given earlier t column input masks mask all read =
-    let v = read.value in
+-- the mask of the value that a column reads
+pub one_read : (p : PlanParts) (given : List Slot) (earlier : List (List Answer)) (t : Table) (column : ℕ) (input : Input) (kept : KeptColumn) (v : Value) (mask : List ℕ)
+    → IsKeptColumn p t column input kept → value_read given earlier kept.origin ≡ Some v → IsMaskOf kept v mask → IsRead given earlier t column input mask
+one_read p given earlier t column input kept v mask is_kept reads is =
     let rs = regions (column_of p t column input) in
-    let there = lies_at rs read.place v read.inside in
-    let r_at : Among there.region rs = among_got rs read.place there.region there.at in
+    let read : value_read given earlier input.origin ≡ Some v = ap (value_read given earlier) (sym is_kept.origin) ∙ reads in
+    let of_kind : is_value (kind_read p input.origin) v ≡ true = subst (λ kind. is_value kind v ≡ true) is_kept.kind is.of_kind in
+    let within : has_at rs is.place v ≡ true = subst (λ xs. has_at xs is.place v ≡ true) is_kept.listed is.inside in
+    let all : AreMasks t column rs kept.masks = subst (λ xs. AreMasks t column xs kept.masks) is_kept.listed is_kept.masks in
+    let there = lies_at rs is.place v within in
+    let r_at : Among there.region rs = among_got rs is.place there.region there.at in
     let lits = column_literals t column input.values in
-    let allowed = listed_allowed (kind_read p input.origin) lits input.values (λ l l_at. among_right l (flat_map (rule_literals column) t.rules) (option_map_or literals input.values []) l_at) v read.of_kind there.region r_at there.inside in
-    let is : is_allowed (column_of p t column input) v ≡ true = and_from (is_value (kind_read p input.origin) v) (option_map_or (λ cell. holds cell v) input.values true) read.of_kind allowed in
-    let marks = zip_at (λ region mask. Marks (is_marked t column region) mask) rs masks read.place there.region mask all there.at read.mask_at in
+    let allowed = listed_allowed (kind_read p input.origin) lits input.values (λ l l_at. among_right l (flat_map (rule_literals column) t.rules) (option_map_or literals input.values []) l_at) v of_kind there.region r_at there.inside in
+    let so : is_allowed (column_of p t column input) v ≡ true = and_from (is_value (kind_read p input.origin) v) (option_map_or (λ cell. holds cell v) input.values true) of_kind allowed in
+    let marks = zip_at (λ region mask. Marks (is_marked t column region) mask) rs kept.masks is.place there.region mask all there.at is.mask_at in
     record {
-      inside = ap (λ found. option_map_or (λ cell. not (holds_of found cell)) input.values false) read.read
+      inside = ap (λ found. option_map_or (λ cell. not (holds_of found cell)) input.values false) read
           ∙ not_so (option_map_or (λ cell. not (holds_of (Some v) cell)) input.values false) (sym (inside_alike input.values v) ∙ allowed);
       words = marks.words;
       has = λ place within.
-          column_marks p t column input there.region v mask r_at is there.inside marks place within
-          ∙ ap (λ found. nat_lt place (length t.rules) && option_map_or (λ cell. holds_of found cell) (slice_get (rule_cells t place) column) true) (sym read.read);
+          column_marks p t column input there.region v mask r_at so there.inside marks place within
+          ∙ ap (λ found. nat_lt place (length t.rules) && option_map_or (λ cell. holds_of found cell) (slice_get (rule_cells t place) column) true) (sym read);
     }
 
 both : (a b c : Bool) → ((a && b) && (a && c)) ≡ (a && (b && c))
@@ -159,19 +165,6 @@ column_regions p t columns column input rs are at rs_at =
     let here = regions_at p t 0 t.inputs column input at ∙ ap (λ k. Some (regions (column_of p t k input))) zero_more in
     same_Some (regions (column_of p t column input)) rs (sym here ∙ ap (λ cs. slice_get cs column) (sym are) ∙ rs_at)
 
--- the column at a place, by its regions and its masks
-pub read_at : (p : PlanParts) (given : List Slot) (earlier : List (List Answer)) (t : Table) (columns : List (List Region)) (masks : List (List (List ℕ))) (column : ℕ) (input : Input)
-    (rs : List Region) (kept : List (List ℕ)) (read : List ℕ)
-    → columns ≡ table_regions p t → AreTableMasks t columns masks → slice_get t.inputs column ≡ Some input → slice_get columns column ≡ Some rs → slice_get masks column ≡ Some kept
-    → IsMaskRead p given earlier input rs kept read → IsRead given earlier t column input read
-read_at p given earlier t columns masks column input rs kept read are all at rs_at kept_at is =
-    let zero_more : 0 + column ≡ column = omega arith in
-    let same = column_regions p t columns column input rs are at rs_at in
-    let placed = numbered_at 0 columns column rs rs_at ∙ ap (λ k. Some (at_number k rs)) zero_more in
-    let marks : AreMasks t column rs kept =
-    zip_at (λ (c : ℕ × List Region) (kept : List (List ℕ)). AreMasks t c.0 c.1 kept) (enumerate_from 0 columns) masks column (at_number column rs) kept all placed kept_at in
-    one_read p given earlier t column input kept read (subst (λ x. AreMasks t column x kept) (sym same) marks) (subst (λ x. IsMaskRead p given earlier input x kept read) (sym same) is)
-
 -- before the first column
 pub none_met : (given : List Slot) (earlier : List (List Answer)) (t : Table) (mask : List ℕ) → Marks (λ place. nat_lt place (length t.rules)) mask → AreMet given earlier t 0 mask
 none_met given earlier t mask marks = record {
@@ -212,39 +205,52 @@ got_at [] i x below is = absurd (omega (arith, below))
 got_at (y ∷ ys) zero x below is = ap (λ z. Some z) (sym is)
 got_at (y ∷ ys) (suc i) x below is = got_at ys i x (omega (arith, below)) is
 
-mapped_at : {X Y : Type 0} (f : X → Y) (xs : List X) (i : ℕ) (x : X) → slice_get xs i ≡ Some x → slice_get (map f xs) i ≡ Some (f x)
-mapped_at f [] i x at = absurd (none-some x at)
-mapped_at f (y ∷ ys) zero x at = ap (λ z. Some (f z)) (same_Some y x at)
-mapped_at f (y ∷ ys) (suc i) x at = mapped_at f ys i x at
-
 -- what is found at a place
 pub found_at : {X : Type 0} (xs : List X) (i : ℕ) (x : X) → true ≡ nat_lt i (length xs) → x ≡ get_or xs i x → slice_get xs i ≡ Some x
 found_at [] i x below is = absurd (both_ways false refl (sym (below ∙ le-ltb i 0 (omega arith))))
 found_at (y ∷ ys) zero x below is = ap (λ z. Some z) (sym is)
 found_at (y ∷ ys) (suc i) x below is = found_at ys i x (below ∙ less_alike (suc i) (suc (length ys)) i (length ys) (λ less. omega (arith, less)) (λ more. omega (arith, more))) is
 
--- the column at a place, as it is found there
-pub column_read : (p : PlanParts) (given : List Slot) (earlier : List (List Answer)) (t : Table) (items : List Input) (columns : List (List Region)) (masks : List (List (List ℕ))) (column : ℕ) (input : Input)
-    (rs listed : List Region) (kept lent : List (List ℕ)) (read : List ℕ)
-    → items ≡ t.inputs → column < length items → input ≡ get_or items column input → columns ≡ table_regions p t → AreTableMasks t columns masks
-    → true ≡ nat_lt column (length columns) → rs ≡ get_or columns column rs → true ≡ nat_lt column (length masks) → kept ≡ get_or masks column kept
-    → listed ≡ rs → lent ≡ kept → IsMaskRead p given earlier input listed lent read → IsRead given earlier t column input read
-column_read p given earlier t items columns masks column input rs listed kept lent read same below standing are all rs_below rs_is kept_below kept_is listed_is lent_is is =
-    let at : slice_get t.inputs column ≡ Some input = ap (λ xs. slice_get xs column) (sym same) ∙ got_at items column input below standing in
-    read_at p given earlier t columns masks column input rs kept read are all at (found_at columns column rs rs_below rs_is) (found_at masks column kept kept_below kept_is)
-    (subst (λ x. IsMaskRead p given earlier input x kept read) listed_is (subst (λ y. IsMaskRead p given earlier input listed y read) lent_is is))
+-- there is an input for each column kept
+pub input_at : (p : PlanParts) (t : Table) (kept : List KeptColumn) (i : ℕ) (column : KeptColumn) → AreKeptColumns p t kept → i < length kept → column ≡ get_or kept i column
+    → (input : Input) × (slice_get t.inputs i ≡ Some input) × IsKeptColumn p t i input column
+input_at p t kept i column all below is =
+    let long = kept_long p t kept all in
+    let found = at_place t.inputs i (omega (arith, long, below)) in
+    (found.0, found.1, column_kept p t kept i found.0 column all found.1 is)
+
+-- the mask that a column gives is one more
+pub column_met : (t : Table) (kept : List KeptColumn) (given : List Slot) (earlier : List (List Answer)) (i : ℕ) (column : KeptColumn) (mask read new : List ℕ) → AreKept t kept → i < length kept → column ≡ get_or kept i column
+    → IsMaskRead given earlier column read → AreMet given earlier t i mask → length new ≡ 4
+    → ((place : ℕ) → place < 256 → has_rule new place ≡ (has_rule mask place && has_rule read place)) → AreMet given earlier t (i + 1) new
+column_met t kept given earlier i column mask read new all below is is_read met words has =
+    let found = input_at all.plan t kept i column all.columns below is in
+    more_met given earlier t i found.0 mask read new found.1 met (one_read all.plan given earlier t i found.0 column is_read.value read found.2 is_read.read is_read.is) words has
+
+-- it is four words
+pub column_words : (t : Table) (kept : List KeptColumn) (given : List Slot) (earlier : List (List Answer)) (i : ℕ) (column : KeptColumn) (read : List ℕ) → AreKept t kept → i < length kept → column ≡ get_or kept i column
+    → IsMaskRead given earlier column read → length read ≡ 4
+column_words t kept given earlier i column read all below is is_read =
+    let found = input_at all.plan t kept i column all.columns below is in
+    (one_read all.plan given earlier t i found.0 column is_read.value read found.2 is_read.read is_read.is).words
+
+-- behind the last column kept
+pub kept_met : (t : Table) (kept : List KeptColumn) (given : List Slot) (earlier : List (List Answer)) (i : ℕ) (mask : List ℕ) → AreKept t kept → length kept ≤ i → AreMet given earlier t i mask → IsMatchingMask given earlier t mask
+kept_met t kept given earlier i mask all last met =
+    let long = kept_long all.plan t kept all.columns in
+    all_met given earlier t i mask (omega (arith, long, last)) met
 
 -- what a cut plan keeps at a table's place
-pub regions_kept : (p : PlanParts) (regions : List (List (List Region))) (masks : List (List (List (List ℕ)))) (place : ℕ) (t : Table) (rs : List (List Region))
-    → IsCut p regions masks → slice_get p.tables place ≡ Some t → slice_get regions place ≡ Some rs → rs ≡ table_regions p t
-regions_kept p regions masks place t rs cut at there =
-    same_Some rs (table_regions p t) (sym there ∙ ap (λ found. slice_get found place) cut.regions ∙ mapped_at (table_regions p) p.tables place t at)
+pub kept_at : (p : PlanParts) (kept : List (List KeptColumn)) (place : ℕ) (t : Table) (columns : List KeptColumn) → IsCut p kept → slice_get p.tables place ≡ Some t → slice_get kept place ≡ Some columns → AreKeptColumns p t columns
+kept_at p kept place t columns cut at there = zip_at (AreKeptColumns p) p.tables kept place t columns cut.columns at there
 
-pub masks_kept : (p : PlanParts) (regions : List (List (List Region))) (masks : List (List (List (List ℕ)))) (place : ℕ) (t : Table) (rs : List (List Region)) (kept : List (List (List ℕ)))
-    → IsCut p regions masks → slice_get p.tables place ≡ Some t → slice_get regions place ≡ Some rs → slice_get masks place ≡ Some kept → length t.rules ≤ 256 → AreTableMasks t rs kept
-masks_kept p regions masks place t rs kept cut at rs_at kept_at few =
-    subst (λ x. AreTableMasks t x kept) (sym (regions_kept p regions masks place t rs cut at rs_at))
-    (zip_at (λ (t : Table) (kept : List (List (List ℕ))). length t.rules ≤ 256 → AreTableMasks t (table_regions p t) kept) p.tables masks place t kept cut.masks at kept_at few)
+-- the masks kept of a column are its masks
+pub column_masks : (p : PlanParts) (number column : ℕ) (kept : List KeptColumn) (found : KeptColumn) → ((t : Table) → slice_get p.tables (number - 1) ≡ Some t → AreKeptColumns p t kept)
+    → IsColumnNumber p number column → found ≡ get_or kept (column - 1) found → AreMasksOf p number column found.masks
+column_masks p number column kept found all place is t regions at there =
+    let input = input_at p t kept (column - 1) found (all t at) (column_within p number column t kept (all t at) at place) is in
+    let listed = column_regions p t (table_regions p t) (column - 1) input.0 regions refl input.1 there in
+    subst (λ rs. AreMasks t (column - 1) rs found.masks) (input.2.listed ∙ listed) input.2.masks
 
 -- the value of a table, where a mask has the rules that match
 pub value_by_mask : (given : List Slot) (earlier : List (List Answer)) (t : Table) (mask : List ℕ) (result : Result (List Answer) Fault) → IsMatchingMask given earlier t mask → length t.rules ≤ 256

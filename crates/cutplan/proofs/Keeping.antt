@@ -2,20 +2,18 @@
 use Rattle.std.proofs.Common.{◌≡◌, ℕ, zero, suc, ◌+◌, ◌-◌, ◌<◌, ◌≤◌, List, [], ◌∷◌, ◌++◌, length, get_or, take, map, Option, Some, None, refl, ap, sym, ◌∙◌, subst, arith}
 use Rattle.std.specs.List.{All, AllZip, enumerate_from, slice_get}
 use Rattle.std.specs.Option.{OnSome, option_map_or}
-use Rattle.std.proofs.lemmas.List.{length-map, map-append, take_all, take_more}
+use Rattle.std.proofs.lemmas.List.{map-append, take_all, take_more}
 use Rattle.std.proofs.lemmas.List.FromFn.{length-enumerate_from, get_or-enumerate_from}
 use Rattle.std.proofs.lemmas.Option.{none-some, same_Some}
 use Rattle.feel_tests.specs.declared.cell.Cell.{Cell}
 use Rattle.dtable.specs.declared.table.Input.{Input}
 use Rattle.dtable.specs.declared.table.Table.{Table}
 use Rattle.dtable.specs.Plan.{PlanParts, IsPlan}
+use Rattle.cutplan.specs.declared.kept.KeptColumn.{KeptColumn}
 use Rattle.cutplan.specs.declared.region.Region.{Region}
-use Rattle.cutplan.specs.Regions.{columns, columns_from, regions, table_regions}
 use Rattle.cutplan.specs.Parts.{holds_among, AreMasksBy}
-use Rattle.cutplan.specs.Masks.{Marks, AreMasks, AreTableMasks, AreKept, IsColumnNumber, AreMasksOf}
-use Rattle.cutplan.specs.Check.{cells}
-use Rattle.cutplan.specs.Numbered.{cells_of}
-use Rattle.cutplan.specs.Found.{IsCut}
+use Rattle.cutplan.specs.Masks.{Marks, AreMasks, AreTableMasks, IsColumnNumber}
+use Rattle.cutplan.specs.Kept.{AreKeptColumns, IsCut, IsKeptColumn}
 
 all_push : {X Y : Type 0} (R : X → Y → Type 0) (xs : List X) (ys : List Y) (x : X) (y : Y) → AllZip R xs ys → R x y → AllZip R (xs ++ x ∷ []) (ys ++ y ∷ [])
 all_push R [] [] x y all r = (r, tt)
@@ -30,7 +28,7 @@ all_long R (z ∷ zs) [] all = absurd all
 all_long R (z ∷ zs) (w ∷ ws) all = ap suc (all_long R zs ws all.1)
 
 -- one thing more on either side
-one_more : {X Y : Type 0} (R : X → Y → Type 0) (xs : List X) (ys new : List Y) (i : ℕ) (x : X) (y : Y) → i < length xs → x ≡ get_or xs i x → AllZip R (take i xs) ys → R x y → new ≡ ys ++ y ∷ [] → AllZip R (take (i + 1) xs) new
+pub one_more : {X Y : Type 0} (R : X → Y → Type 0) (xs : List X) (ys new : List Y) (i : ℕ) (x : X) (y : Y) → i < length xs → x ≡ get_or xs i x → AllZip R (take i xs) ys → R x y → new ≡ ys ++ y ∷ [] → AllZip R (take (i + 1) xs) new
 one_more R xs ys new i x y below is all r pushed =
     let front = take_more xs i x below ∙ ap (λ z. take i xs ++ z ∷ []) (sym is) in
     subst (λ zs. AllZip R (take (i + 1) xs) zs) (sym pushed) (subst (λ zs. AllZip R zs (ys ++ y ∷ [])) (sym front) (all_push R (take i xs) ys x y all r))
@@ -61,11 +59,30 @@ more_columns t columns masks new i regions kept below is all here pushed =
     one_more (λ (c : ℕ × List Region) (kept : List (List ℕ)). AreMasks t c.0 c.1 kept) (enumerate_from 0 columns) masks new i (at_number i regions) kept
     (subst (λ n. i < n) (sym (length-enumerate_from 0 columns)) below) (placed_column columns i regions below is) all here pushed
 
--- the masks of one table more
-pub more_tables : (p : PlanParts) (tables : List Table) (masks new : List (List (List (List ℕ)))) (i : ℕ) (t : Table) (kept : List (List (List ℕ))) → i < length tables → t ≡ get_or tables i t
-    → AreKept p (take i tables) masks → (length t.rules ≤ 256 → AreTableMasks t (table_regions p t) kept) → new ≡ masks ++ kept ∷ [] → AreKept p (take (i + 1) tables) new
-more_tables p tables masks new i t kept below is all here pushed =
-    one_more (λ (t : Table) (kept : List (List (List ℕ))). length t.rules ≤ 256 → AreTableMasks t (table_regions p t) kept) tables masks new i t kept below is all here pushed
+-- the first columns kept of a table
+abbrev pub AreFirstKept : PlanParts → Table → ℕ → List KeptColumn → Type 0
+AreFirstKept p t i kept = AllZip (λ (input : ℕ × Input) (column : KeptColumn). IsKeptColumn p t input.0 input.1 column) (take i (enumerate_from 0 t.inputs)) kept
+
+-- one column more
+pub more_kept : (p : PlanParts) (t : Table) (inputs : List Input) (kept new : List KeptColumn) (i : ℕ) (input : Input) (column : KeptColumn) → inputs ≡ t.inputs → i < length inputs → input ≡ get_or inputs i input
+    → AreFirstKept p t i kept → IsKeptColumn p t i input column → new ≡ kept ++ column ∷ [] → AreFirstKept p t (i + 1) new
+more_kept p t inputs kept new i input column same below is all here pushed =
+    let within : i < length t.inputs = subst (λ xs. i < length xs) same below in
+    let standing : input ≡ get_or t.inputs i input = subst (λ xs. input ≡ get_or xs i input) same is in
+    one_more (λ (input : ℕ × Input) (column : KeptColumn). IsKeptColumn p t input.0 input.1 column) (enumerate_from 0 t.inputs) kept new i (at_number i input) column
+    (subst (λ n. i < n) (sym (length-enumerate_from 0 t.inputs)) within) (placed_column t.inputs i input within standing) all here pushed
+
+-- all columns of a table
+pub all_kept : (p : PlanParts) (t : Table) (inputs : List Input) (i : ℕ) (kept : List KeptColumn) → inputs ≡ t.inputs → length inputs ≤ i → AreFirstKept p t i kept → AreKeptColumns p t kept
+all_kept p t inputs i kept same last all =
+    let long = length-enumerate_from 0 t.inputs in
+    let end : length t.inputs ≤ i = subst (λ xs. length xs ≤ i) same last in
+    subst (λ is. AllZip (λ (input : ℕ × Input) (column : KeptColumn). IsKeptColumn p t input.0 input.1 column) is kept) (take_all i (enumerate_from 0 t.inputs) (omega (arith, long, end))) all
+
+-- those of one table more
+pub more_tables : (p : PlanParts) (tables : List Table) (kept new : List (List KeptColumn)) (i : ℕ) (t : Table) (columns : List KeptColumn) → i < length tables → t ≡ get_or tables i t
+    → AllZip (AreKeptColumns p) (take i tables) kept → AreKeptColumns p t columns → new ≡ kept ++ columns ∷ [] → AllZip (AreKeptColumns p) (take (i + 1) tables) new
+more_tables p tables kept new i t columns below is all here pushed = one_more (AreKeptColumns p) tables kept new i t columns below is all here pushed
 
 -- what a function makes of one thing more
 pub more_mapped : {X Y : Type 0} (f : X → Y) (xs : List X) (ys new : List Y) (i : ℕ) (x : X) (y : Y) → i < length xs → x ≡ get_or xs i x → ys ≡ map f (take i xs) → y ≡ f x → new ≡ ys ++ y ∷ [] → new ≡ map f (take (i + 1) xs)
@@ -85,10 +102,6 @@ pub at_place : {X : Type 0} (xs : List X) (n : ℕ) → n < length xs → (x : X
 at_place [] n below = absurd (omega (arith, below))
 at_place (y ∷ ys) zero below = (y, refl)
 at_place (y ∷ ys) (suc n) below = at_place ys n (omega (arith, below))
-
-columns_long : (p : PlanParts) (t : Table) (k : ℕ) (inputs : List Input) → length (map regions (columns_from p t k inputs)) ≡ length inputs
-columns_long p t k [] = refl
-columns_long p t k (i ∷ is) = ap suc (columns_long p t (k + 1) is)
 
 -- the table of this number has no more rules than a mask has bits
 abbrev pub HasFewRules : PlanParts → ℕ → Type 0
@@ -115,58 +128,19 @@ pub few_rules : (p : PlanParts) → IsPlan p → All (λ t. length t.rules ≤ 2
 few_rules p plan k d below = (plan.limits.each_table k d below).rules
 
 -- what is kept of a plan
-pub cut_of : (p : PlanParts) (regions_kept : List (List (List Region))) (masks_kept : List (List (List (List ℕ)))) → regions_kept ≡ map (table_regions p) p.tables → AreKept p p.tables masks_kept → IsPlan p → IsCut p regions_kept masks_kept
-cut_of p regions_kept masks_kept regions masks plan = record { regions = regions; masks = masks; few = few_rules p plan }
+pub cut_of : (p : PlanParts) (kept : List (List KeptColumn)) → AllZip (AreKeptColumns p) p.tables kept → IsPlan p → IsCut p kept
+cut_of p kept columns plan = record { columns = columns; few = few_rules p plan }
 
--- the regions of a table's columns are kept at its place
-pub regions_within : (p : PlanParts) (regions : List (List (List Region))) (number : ℕ) → regions ≡ map (table_regions p) p.tables → 1 ≤ number → number ≤ length p.tables → number - 1 < length regions
-regions_within p regions number all low high =
-    let long = length-map p.tables (table_regions p) in
-    let same = ap length all in
-    omega (arith, long, same, low, high)
-
-mapped_got : {X Y : Type 0} (f : X → Y) (xs : List X) (i : ℕ) (x : X) (y : Y) → slice_get xs i ≡ Some x → y ≡ get_or (map f xs) i y → y ≡ f x
-mapped_got f [] i x y at is = absurd (none-some x at)
-mapped_got f (z ∷ zs) zero x y at is = is ∙ ap f (same_Some z x at)
-mapped_got f (z ∷ zs) (suc i) x y at is = mapped_got f zs i x y at is
-
-pub regions_at : (p : PlanParts) (regions : List (List (List Region))) (number : ℕ) (kept : List (List Region)) (t : Table) → regions ≡ map (table_regions p) p.tables → slice_get p.tables (number - 1) ≡ Some t
-    → kept ≡ get_or regions (number - 1) kept → kept ≡ table_regions p t
-regions_at p regions number kept t all at is = mapped_got (table_regions p) p.tables (number - 1) t kept at (is ∙ ap (λ rs. get_or rs (number - 1) kept) all)
-
--- they make the cells of its check
-pub cells_at : (p : PlanParts) (regions : List (List (List Region))) (number : ℕ) (kept : List (List Region)) → regions ≡ map (table_regions p) p.tables → 1 ≤ number → number ≤ length p.tables
-    → kept ≡ get_or regions (number - 1) kept → cells kept ≡ cells_of p number
-cells_at p regions number kept all low high is =
-    let table = at_place p.tables (number - 1) (omega (arith, low, high)) in
-    ap cells (regions_at p regions number kept table.0 all table.1 is) ∙ sym (ap (λ found. option_map_or (λ t. cells (table_regions p t)) found []) table.1)
-
--- a table's masks are kept at its place
-pub table_within : (p : PlanParts) (masks : List (List (List (List ℕ)))) (number : ℕ) → AreKept p p.tables masks → 1 ≤ number → number ≤ length p.tables → number - 1 < length masks
-table_within p masks number all low high =
-    let long = all_long (λ (t : Table) (kept : List (List (List ℕ))). length t.rules ≤ 256 → AreTableMasks t (table_regions p t) kept) p.tables masks all in
+-- what is kept of a table stands at its place
+pub table_within : (p : PlanParts) (kept : List (List KeptColumn)) (number : ℕ) → AllZip (AreKeptColumns p) p.tables kept → 1 ≤ number → number ≤ length p.tables → number - 1 < length kept
+table_within p kept number all low high =
+    let long = all_long (AreKeptColumns p) p.tables kept all in
     omega (arith, long, low, high)
 
--- they are its masks
-pub table_kept : (p : PlanParts) (masks : List (List (List (List ℕ)))) (number : ℕ) (kept : List (List (List ℕ))) → AreKept p p.tables masks → HasFewRules p number → kept ≡ get_or masks (number - 1) kept
-    → (t : Table) → slice_get p.tables (number - 1) ≡ Some t → AreTableMasks t (table_regions p t) kept
-table_kept p masks number kept all few is t at =
-    other_at (λ (t : Table) (kept : List (List (List ℕ))). length t.rules ≤ 256 → AreTableMasks t (table_regions p t) kept) p.tables masks (number - 1) t kept all at is
-    (subst (λ found. option_map_or (λ x. length x.rules) found 0 ≤ 256) at few)
-
--- a column's masks are kept at its place
-pub column_within : (p : PlanParts) (masks : List (List (List (List ℕ)))) (number column : ℕ) (kept : List (List (List ℕ))) → AreKept p p.tables masks → HasFewRules p number → 1 ≤ number → number ≤ length p.tables
-    → kept ≡ get_or masks (number - 1) kept → IsColumnNumber p number column → column - 1 < length kept
-column_within p masks number column kept all few low high is place =
-    let below : number - 1 < length p.tables = omega (arith, low, high) in
-    let table = at_place p.tables (number - 1) below in
-    let t = table.0 in
-    let long = all_long (λ (c : ℕ × List Region) (kept : List (List ℕ)). AreMasks t c.0 c.1 kept) (enumerate_from 0 (table_regions p t)) kept (table_kept p masks number kept all few is t table.1) in
-    let numbered = length-enumerate_from 0 (table_regions p t) in
-    let inputs = columns_long p t 0 t.inputs in
-    let first = place.0 in
-    let last : column ≤ length t.inputs = subst (λ found. column ≤ option_map_or (λ x. length x.inputs) found 0) table.1 place.1 in
-    omega (arith, long, numbered, inputs, first, last)
+-- it is kept of that table
+pub table_kept : (p : PlanParts) (kept : List (List KeptColumn)) (place : ℕ) (columns : List KeptColumn) (t : Table) → AllZip (AreKeptColumns p) p.tables kept → columns ≡ get_or kept place columns
+    → slice_get p.tables place ≡ Some t → AreKeptColumns p t columns
+table_kept p kept place columns t all is at = other_at (AreKeptColumns p) p.tables kept place t columns all at is
 
 -- what stands at a place, with its place
 pub numbered_at : {X : Type 0} (n : ℕ) (xs : List X) (i : ℕ) (x : X) → slice_get xs i ≡ Some x → slice_get (enumerate_from n xs) i ≡ Some (at_number (n + i) x)
@@ -178,12 +152,25 @@ numbered_at n (y ∷ ys) (suc i) x at =
     let there : (n + 1) + i ≡ n + suc i = omega arith in
     numbered_at (n + 1) ys i x at ∙ ap (λ k. Some (at_number k x)) there
 
--- they are its masks
-pub column_kept : (p : PlanParts) (masks : List (List (List (List ℕ)))) (number column : ℕ) (kept : List (List (List ℕ))) (found : List (List ℕ)) → AreKept p p.tables masks → HasFewRules p number
-    → kept ≡ get_or masks (number - 1) kept → found ≡ get_or kept (column - 1) found → AreMasksOf p number column found
-column_kept p masks number column kept found all few is here t regions at there =
-    other_at (λ (c : ℕ × List Region) (kept : List (List ℕ)). AreMasks t c.0 c.1 kept) (enumerate_from 0 (table_regions p t)) kept (column - 1) (at_number (column - 1) regions) found (table_kept p masks number kept all few is t at)
-    (let zero_more : 0 + (column - 1) ≡ column - 1 = omega arith in numbered_at 0 (table_regions p t) (column - 1) regions there ∙ ap (λ n. Some (at_number n regions)) zero_more) here
+-- a table has as many columns kept as inputs
+pub kept_long : (p : PlanParts) (t : Table) (kept : List KeptColumn) → AreKeptColumns p t kept → length t.inputs ≡ length kept
+kept_long p t kept all = sym (length-enumerate_from 0 t.inputs) ∙ all_long (λ (input : ℕ × Input) (column : KeptColumn). IsKeptColumn p t input.0 input.1 column) (enumerate_from 0 t.inputs) kept all
+
+-- what is kept of a column stands at its place
+pub column_kept : (p : PlanParts) (t : Table) (kept : List KeptColumn) (i : ℕ) (input : Input) (column : KeptColumn) → AreKeptColumns p t kept → slice_get t.inputs i ≡ Some input → column ≡ get_or kept i column
+    → IsKeptColumn p t i input column
+column_kept p t kept i input column all at is =
+    let zero_more : 0 + i ≡ i = omega arith in
+    other_at (λ (input : ℕ × Input) (column : KeptColumn). IsKeptColumn p t input.0 input.1 column) (enumerate_from 0 t.inputs) kept i (at_number i input) column all
+    (numbered_at 0 t.inputs i input at ∙ ap (λ n. Some (at_number n input)) zero_more) is
+
+-- a column of this number has its place
+pub column_within : (p : PlanParts) (number column : ℕ) (t : Table) (kept : List KeptColumn) → AreKeptColumns p t kept → slice_get p.tables (number - 1) ≡ Some t → IsColumnNumber p number column → column - 1 < length kept
+column_within p number column t kept all at place =
+    let long = kept_long p t kept all in
+    let first = place.0 in
+    let last : column ≤ length t.inputs = subst (λ found. column ≤ option_map_or (λ x. length x.inputs) found 0) at place.1 in
+    omega (arith, long, first, last)
 
 -- the masks of all columns
 pub all_columns : (t : Table) (i : ℕ) (columns : List (List Region)) (masks : List (List (List ℕ))) → length columns ≤ i → AreFirstMasks t i columns masks → AreTableMasks t columns masks

@@ -73,10 +73,10 @@ answers_are (Ok made) answers is = ap (λ a. Ok a) (same_Some made answers is)
 answers_are (Err fault) answers is = absurd (none-some answers is)
 
 -- kept answers are the table's, whatever its number
-as_answered : (t : Table) (rules : List ℕ) (answers : List Answer) → answered t rules ≡ Some answers → (number : ℕ) → by_hit t.hit number t rules ≡ Ok answers
+pub as_answered : (t : Table) (rules : List ℕ) (answers : List Answer) → answered t rules ≡ Some answers → (number : ℕ) → by_hit t.hit number t rules ≡ Ok answers
 as_answered t rules answers is number = answers_are (by_hit t.hit number t rules) answers (hit_alike t.hit number 1 t rules ∙ is)
 
-mapped_number : {X : Type 0} (f : ℕ → X) (from n i : ℕ) (x : X) → slice_get (map f (range_with_len from n)) i ≡ Some x → f (from + i) ≡ x
+pub mapped_number : {X : Type 0} (f : ℕ → X) (from n i : ℕ) (x : X) → slice_get (map f (range_with_len from n)) i ≡ Some x → f (from + i) ≡ x
 mapped_number f from zero i x at = absurd (none-some x at)
 mapped_number f from (suc n) zero x at = let here : from + 0 ≡ from = omega arith in ap f here ∙ same_Some (f from) x at
 mapped_number f from (suc n) (suc i) x at =

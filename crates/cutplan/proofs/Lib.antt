@@ -35,3 +35,4 @@ pub mod Asking
 pub mod Meeting
 pub mod Places
 pub mod Sorting
+pub mod FewSets

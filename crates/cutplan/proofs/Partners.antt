@@ -1,23 +1,18 @@
 -- The rules that share a region of each column, by masks.
-use Rattle.std.proofs.Common.{◌≡◌, ℕ, zero, suc, ◌+◌, ◌-◌, ◌/◌, ◌%◌, ◌<◌, ◌≤◌, ◌&&◌, ◌||◌, Bool, true, false, cond, List, [], ◌∷◌, ◌++◌, length, get_or, map, filter, Some, refl, ap, sym, ◌∙◌, subst, arith}
+use Rattle.std.proofs.Common.{◌≡◌, ℕ, zero, suc, ◌+◌, ◌-◌, ◌/◌, ◌%◌, ◌<◌, ◌≤◌, ◌&&◌, ◌||◌, Bool, true, false, cond, List, [], ◌∷◌, ◌++◌, length, get_or, map, filter, Some, refl, ap, sym, ◌∙◌, arith}
 use Rattle.std.specs.Prelude.{bit_or, max, nat_lt, ◌==◌}
 use Rattle.std.specs.Int.{bit_at}
 use Rattle.std.specs.List.{AllZip, flat_map, list_all, range_with_len, enumerate_from, slice_get}
-use Rattle.std.specs.Option.{option_map_or}
 use Rattle.std.proofs.lemmas.Bool.{lt-ltb, eq-eqb}
 use Rattle.std.proofs.lemmas.List.Elements.{filter-append}
 use Rattle.std.proofs.lemmas.Option.{same_Some}
 use Rattle.std.proofs.lemmas.Nat.Bits.{bit_at_or, bit_at-lt}
 use Rattle.dtable.specs.declared.table.Table.{Table}
-use Rattle.dtable.specs.Plan.{PlanParts, IsPlan, IsTableWithin}
 use Rattle.cutplan.specs.declared.region.Region.{Region}
 use Rattle.cutplan.specs.Check.{holds_at, meet, meet_in, pairs, pairs_with}
-use Rattle.cutplan.specs.Regions.{table_regions}
-use Rattle.cutplan.specs.Masks.{has_rule, Marks, AreMasks, AreTableMasks, AreKept}
+use Rattle.cutplan.specs.Masks.{has_rule, Marks, AreMasks, AreTableMasks}
 use Rattle.cutplan.specs.Parts.{are_whole, share, share_all}
 use Rattle.cutplan.proofs.MaskBits.{four}
-use Rattle.cutplan.proofs.ByMasks.{got_at}
-use Rattle.cutplan.proofs.Keeping.{at_place, table_kept, HasFewRules}
 use Rattle.cutplan.proofs.Pairing.{pairs_more, pair_more}
 
 -- the greater of two bits
@@ -148,30 +143,3 @@ got : {X : Type 0} (xs : List X) (i : ℕ) (x : X) → slice_get xs i ≡ Some x
 got [] i x at = refl
 got (y ∷ ys) zero x at = same_Some y x at
 got (y ∷ ys) (suc i) x at = got ys i x at
-
--- a plan's tables have no more rules than a mask has bits
-pub few_rules : (p : PlanParts) (number : ℕ) → IsPlan p → 1 ≤ number → number ≤ length p.tables → HasFewRules p number
-few_rules p number is low high =
-    let below : number - 1 < length p.tables = omega (arith, low, high) in
-    let table = at_place p.tables (number - 1) below in
-    let t = table.0 in
-    let within = subst IsTableWithin (got p.tables (number - 1) t table.1) (is.limits.each_table (number - 1) t below) in
-    let few : length t.rules ≤ 256 = within.rules in
-    subst (λ found. option_map_or (λ t. length t.rules) found 0 ≤ 256) (sym table.1) few
-
--- what is kept of the table of a number
-pub record IsKept (p : PlanParts) (number : ℕ) (t : Table) (kept : List (List (List ℕ))) : Type 0 where
-  pub few : length t.rules ≤ 256
-  pub masks : AreTableMasks t (table_regions p t) kept
-  pub at : slice_get p.tables (number - 1) ≡ Some t
-
-pub kept_masks : (p : PlanParts) (masks : List (List (List (List ℕ)))) (number : ℕ) (kept : List (List (List ℕ))) (tables : List Table) (t : Table)
-    → IsPlan p → AreKept p p.tables masks → 1 ≤ number → number ≤ length p.tables → kept ≡ get_or masks (number - 1) kept → tables ≡ p.tables → t ≡ get_or tables (number - 1) t → IsKept p number t kept
-kept_masks p masks number kept tables t plan all low high is same standing =
-    let few = few_rules p number plan low high in
-    let at : slice_get p.tables (number - 1) ≡ Some t = got_at p.tables (number - 1) t (omega (arith, low, high)) (standing ∙ ap (λ ts. get_or ts (number - 1) t) same) in
-    record {
-      few = subst (λ found. option_map_or (λ x. length x.rules) found 0 ≤ 256) at few;
-      masks = table_kept p masks number kept all few is t at;
-      at = at;
-    }

@@ -1,5 +1,5 @@
 -- Any other text: what a search by halves in the named texts says, since they stand in rising order.
-use Rattle.std.proofs.Common.{◌≡◌, ℕ, zero, suc, ◌+◌, ◌<◌, ◌≤◌, ◌||◌, ◌⊎◌, inl, inr, Bool, true, false, List, [], ◌∷◌, ◌++◌, length, get_or, map, filter, Some, Contains, refl, ap, sym, ◌∙◌, subst, arith}
+use Rattle.std.proofs.Common.{◌≡◌, ℕ, zero, suc, ◌+◌, ◌<◌, ◌≤◌, ◌||◌, ◌⊎◌, inl, inr, Bool, true, false, List, [], ◌∷◌, ◌++◌, length, get_or, map, filter, Some, None, Contains, refl, ap, sym, ◌∙◌, subst, arith}
 use Rattle.std.specs.Prelude.{nat_lt, Result, Ok, Err}
 use Rattle.std.specs.List.{list_any, slice_get}
 use Rattle.std.specs.List.Sorted.{IsBinarySearchResult, IsSearchInRange}
@@ -7,25 +7,28 @@ use Rattle.std.specs.Ordering.{nat_cmp, is_lt, is_eq, ordering_reverse}
 use Rattle.std.specs.declared.cmp.Ordering.{Ordering}
 use Rattle.std.specs.declared.cmp.Ordering.TheVariants.{Less, Equal, Greater}
 use Rattle.std.specs.Cmp.Lexicographic.{slice_cmp, nat_list_cmp_total, texts_ties}
+use Rattle.std.proofs.lemmas.Bool.{both_ways, lt-ltb}
 use Rattle.std.proofs.lemmas.List.Sorted.{searchable_from_sorted}
 use Rattle.feel_tests.specs.Holds.{is_equal}
 use Rattle.feel_tests.specs.declared.kind.Kind.{Kind}
 use Rattle.feel_tests.specs.declared.kind.Kind.TheVariants as kinds
 use Rattle.feel_tests.specs.declared.value.Value.{Value}
 use Rattle.feel_tests.specs.declared.value.Value.TheVariants.{Text, Flag}
-use Rattle.dtable.specs.declared.table.Input.{Input}
 use Rattle.dtable.specs.declared.table.Table.{Table}
-use Rattle.dtable.specs.Plan.{PlanParts, has_kind}
+use Rattle.dtable.specs.Plan.{has_kind}
+use Rattle.cutplan.specs.declared.kept.KeptColumn.{KeptColumn}
 use Rattle.cutplan.specs.declared.region.Region.{Region}
 use Rattle.cutplan.specs.declared.region.Region.TheVariants.{At, Other}
 use Rattle.cutplan.specs.Values.{is_before, kind_read, rising}
-use Rattle.cutplan.specs.Regions.{column_of, column_literals, from_cut, ordered, named, stretches, is_listed, regions, table_regions}
+use Rattle.cutplan.specs.Regions.{column_literals, from_cut, ordered, named, stretches, is_listed}
 use Rattle.cutplan.specs.Found.{bytes_of, AreRisingTexts, OthersRise}
+use Rattle.cutplan.specs.Kept.{AreKept}
 use Rattle.cutplan.proofs.Alike.{Among}
-use Rattle.cutplan.proofs.ByMasks.{got_at, found_at, column_regions}
+use Rattle.cutplan.proofs.ByMasks.{found_at, input_at}
 use Rattle.cutplan.proofs.ColumnWise.{among_contained, among_unfilter}
 use Rattle.cutplan.proofs.CutLists.{rising_only}
 use Rattle.cutplan.proofs.CutOrder.{Rises, cuts_of_kind, rises_at, is_less_so}
+use Rattle.cutplan.proofs.FirstRules.{less_alike}
 use Rattle.cutplan.proofs.Holding.{among_passes}
 use Rattle.cutplan.proofs.Overlapping.{among_place, any_at, contained_among}
 use Rattle.cutplan.proofs.Regionwise.{text_is}
@@ -151,13 +154,20 @@ others_of kinds.Text lits names at =
 pub other_at : (regions : List Region) (place : ℕ) (r : Region) (names : List Value) → true ≡ nat_lt place (length regions) → r ≡ get_or regions place r → r ≡ Other names → Contains regions (Other names)
 other_at regions place r names below is other = contained_among regions (Other names) (subst (λ x. Among x regions) other (among_place regions place r (found_at regions place r below is)))
 
--- so in each column of a table
-pub column_others : (p : PlanParts) (t : Table) (items : List Input) (columns : List (List Region)) (column : ℕ) (input : Input) (rs listed : List Region)
-    → items ≡ t.inputs → column < length items → input ≡ get_or items column input → columns ≡ table_regions p t → true ≡ nat_lt column (length columns) → rs ≡ get_or columns column rs → listed ≡ rs → OthersRise listed
-column_others p t items columns column input rs listed same below standing are rs_below rs_is listed_is names has =
-    let at : slice_get t.inputs column ≡ Some input = ap (λ xs. slice_get xs column) (sym same) ∙ got_at items column input below standing in
-    let is : regions (column_of p t column input) ≡ listed = column_regions p t columns column input rs are at (found_at columns column rs rs_below rs_is) ∙ sym listed_is in
-    let there = subst (λ xs. Among (Other names) xs) (sym is) (among_contained listed (Other names) has) in
+-- beyond the last there is nothing
+pub nothing_at : {X : Type 0} (xs : List X) (place : ℕ) → false ≡ nat_lt place (length xs) → slice_get xs place ≡ None
+nothing_at [] place none = refl
+nothing_at (x ∷ xs) zero none = absurd (both_ways false refl (none ∙ lt-ltb 0 (length (x ∷ xs)) (omega arith)))
+nothing_at (x ∷ xs) (suc place) none =
+    nothing_at xs place (none ∙ less_alike (suc place) (suc (length xs)) place (length xs) (λ less. omega (arith, less)) (λ more. omega (arith, more)))
+
+-- so in each column that is kept
+pub column_others : (t : Table) (kept : List KeptColumn) (i : ℕ) (column : KeptColumn) → AreKept t kept → i < length kept → column ≡ get_or kept i column → OthersRise column.regions
+column_others t kept i column all below is names has =
+    let p = all.plan in
+    let found = input_at p t kept i column all.columns below is in
+    let input = found.0 in
+    let there = subst (λ xs. Among (Other names) xs) found.2.listed (among_contained column.regions (Other names) has) in
     let kind = kind_read p input.origin in
-    let lits = column_literals t column input.values in
+    let lits = column_literals t i input.values in
     others_of kind lits names (among_unfilter (is_listed input.values) (Other names) (stretches kind (rising (filter (has_kind kind) lits))) there)

@@ -1,5 +1,5 @@
 -- What is found of a table's rules by the masks of its columns. Tables, rules, columns and regions count from 0 here.
-use Rattle.std.specs.Prelude.{◌≡◌, ℕ, ◌-◌, ◌≤◌, ◌==◌, nat_lt, Bool, false, ◌&&◌, List, length, [], ◌∷◌, filter, map, Some, None, All, Contains, slice_get, IsTrue}
+use Rattle.std.specs.Prelude.{◌≡◌, ℕ, ◌-◌, ◌==◌, nat_lt, Bool, false, ◌&&◌, List, length, [], ◌∷◌, filter, None, Contains, slice_get, IsTrue}
 use Rattle.std.specs.List.{range_with_len}
 use Rattle.std.specs.Int.{bit_at}
 use Rattle.std.specs.List.Sorted.{IsSortedBy}
@@ -11,17 +11,15 @@ use Rattle.feel_tests.specs.declared.value.Value.{Value}
 use Rattle.feel_tests.specs.declared.value.Value.TheVariants.{Text}
 use Rattle.dtable.specs.declared.environment.Answer.{Answer}
 use Rattle.dtable.specs.declared.inputs.Slot.{Slot}
-use Rattle.dtable.specs.declared.table.Input.{Input}
 use Rattle.dtable.specs.declared.table.Table.{Table}
-use Rattle.dtable.specs.Matching.{value_read, rule_matches, first_outside}
-use Rattle.dtable.specs.Plan.{PlanParts, has_kind}
+use Rattle.dtable.specs.Matching.{rule_matches, first_outside}
+use Rattle.dtable.specs.Plan.{has_kind}
 use Rattle.cutplan.specs.declared.few.Few.{Few}
 use Rattle.cutplan.specs.declared.few.Few.TheVariants as few
 use Rattle.cutplan.specs.declared.region.Region.{Region}
 use Rattle.cutplan.specs.declared.region.Region.TheVariants.{Other}
-use Rattle.cutplan.specs.Values.{is_value, kind_read}
-use Rattle.cutplan.specs.Regions.{is_in, table_regions}
-use Rattle.cutplan.specs.Masks.{Marks, AreKept}
+use Rattle.cutplan.specs.Regions.{is_in}
+use Rattle.cutplan.specs.Masks.{Marks}
 
 -- there is a region at this place, and it has the value
 abbrev pub has_at : List Region → ℕ → Value → Bool
@@ -41,15 +39,6 @@ pub record AreRisingTexts (names : List Value) : Type 0 where
 abbrev pub OthersRise : List Region → Type 0
 OthersRise regions = (names : List Value) → Contains regions (Other names) → AreRisingTexts names
 
--- of these regions of a column, each with its mask, the one at the place has the value that the input reads, which is of the column's kind
-pub record IsMaskRead (p : PlanParts) (given : List Slot) (earlier : List (List Answer)) (input : Input) (regions : List Region) (masks : List (List ℕ)) (mask : List ℕ) : Type 0 where
-  pub value : Value
-  pub place : ℕ
-  pub read : value_read given earlier input.origin ≡ Some value
-  pub of_kind : IsTrue (is_value (kind_read p input.origin) value)
-  pub inside : IsTrue (has_at regions place value)
-  pub mask_at : slice_get masks place ≡ Some mask
-
 -- what a table reads is allowed, and these are the rules that match
 pub record IsMatchingMask (given : List Slot) (earlier : List (List Answer)) (t : Table) (mask : List ℕ) : Type 0 where
   pub inside : first_outside given earlier t ≡ None
@@ -64,9 +53,3 @@ abbrev pub IsFew : Few → List ℕ → Type 0
 IsFew few.None rules = rules ≡ []
 IsFew (few.One rule) rules = rules ≡ rule ∷ []
 IsFew few.More rules = Unit {0}
-
--- what a cut plan keeps: the regions of each column of each table, and their masks; no table has more rules than a mask has bits
-pub record IsCut (p : PlanParts) (regions_kept : List (List (List Region))) (masks_kept : List (List (List (List ℕ)))) : Type 0 where
-  pub regions : regions_kept ≡ map (table_regions p) p.tables
-  pub masks : AreKept p p.tables masks_kept
-  pub few : All (λ t. length t.rules ≤ 256) p.tables

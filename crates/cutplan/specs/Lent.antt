@@ -1,5 +1,5 @@
 -- What a cut plan keeps of the answers of its tables, to lend them.
-use Rattle.std.specs.Prelude.{◌≡◌, ℕ, nat_lt, Bool, ◌&&◌, List, [], ◌∷◌, length, map, Option, Some, None, Ok, Err}
+use Rattle.std.specs.Prelude.{◌≡◌, ℕ, ◌^◌, nat_lt, nat_le, if◌then◌else◌, Bool, ◌&&◌, List, [], ◌∷◌, length, map, Option, Some, None, Ok, Err}
 use Rattle.std.specs.List.{range_with_len}
 use Rattle.dtable.specs.declared.environment.Answer.{Answer}
 use Rattle.dtable.specs.declared.hit.Hit.{Hit}
@@ -8,10 +8,10 @@ use Rattle.dtable.specs.declared.table.Table.{Table}
 use Rattle.dtable.specs.HitPolicy.{TableValue, by_hit}
 use Rattle.dtable.specs.Plan.{PlanParts}
 use Rattle.dtable.specs.Priority.{all_ranked}
+use Rattle.cutplan.specs.declared.kept.KeptColumn.{KeptColumn}
 use Rattle.cutplan.specs.declared.lent.KeptAnswers.{KeptAnswers}
-use Rattle.cutplan.specs.declared.region.Region.{Region}
-use Rattle.cutplan.specs.Found.{IsCut}
-use Rattle.cutplan.specs.Masks.{has_rule}
+use Rattle.cutplan.specs.Kept.{IsCut}
+use Rattle.cutplan.specs.Masks.{has_rule, rules_in}
 
 -- the answers of an outcome that is no fault
 abbrev pub answers_in : TableValue → Option (List Answer)
@@ -31,15 +31,27 @@ ordered_by _ t = []
 abbrev pub ordered : Table → List ℕ
 ordered t = ordered_by t.hit t
 
--- what is kept of a table: the answers where no rule matches, those of each rule where it alone does, and how rules are ranked
+-- how many sets so many rules have, where they are few
+abbrev pub set_count : ℕ → ℕ
+set_count rules = if nat_le rules 6 then 2 ^ rules else 0
+
+-- the answers where the rules of a set match, whose number has their bits
+abbrev pub answers_of_set : Table → ℕ → Option (List Answer)
+answers_of_set t set = answered t (rules_in (length t.rules) (set ∷ 0 ∷ 0 ∷ 0 ∷ []))
+
+-- the answers of each set of a table's rules, where they are few
+abbrev pub sets_of : Table → List (Option (List Answer))
+sets_of t = map (answers_of_set t) (range_with_len 0 (set_count (length t.rules)))
+
+-- what is kept of a table: the answers where no rule matches, those of each rule where it alone does, how rules are ranked, and the answers of each set of few
 abbrev pub kept_answers : Table → KeptAnswers
-kept_answers t = record { unmatched = answered t []; alone = map (λ rule. answered t (rule ∷ [])) (range_with_len 0 (length t.rules)); order = ordered t }
+kept_answers t = record { unmatched = answered t []; alone = map (λ rule. answered t (rule ∷ [])) (range_with_len 0 (length t.rules)); order = ordered t; sets = sets_of t }
 
 -- the mask has the rule
 abbrev pub is_in_mask : List ℕ → ℕ → Bool
 is_in_mask mask rule = nat_lt rule 256 && has_rule mask rule
 
--- what a cut plan keeps: regions and masks, and the answers of each table
-pub record IsLending (p : PlanParts) (regions_kept : List (List (List Region))) (masks_kept : List (List (List (List ℕ)))) (answers_kept : List KeptAnswers) : Type 0 where
-  pub cut : IsCut p regions_kept masks_kept
+-- what a cut plan keeps: the columns of each table, and its answers
+pub record IsLending (p : PlanParts) (columns_kept : List (List KeptColumn)) (answers_kept : List KeptAnswers) : Type 0 where
+  pub cut : IsCut p columns_kept
   pub answers : answers_kept ≡ map kept_answers p.tables

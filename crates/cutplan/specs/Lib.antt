@@ -7,4 +7,5 @@ pub mod Places
 pub mod Laws
 pub mod Masks
 pub mod Found
+pub mod Kept
 pub mod Lent

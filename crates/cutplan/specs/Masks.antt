@@ -43,10 +43,6 @@ MasksListMatches = (mask : List ℕ) (given : List Slot) (earlier : List (List A
 abbrev pub AreTableMasks : Table → List (List Region) → List (List (List ℕ)) → Type 0
 AreTableMasks t columns masks = AllZip (λ (c : ℕ × List Region) (kept : List (List ℕ)). AreMasks t c.0 c.1 kept) (enumerate_from 0 columns) masks
 
--- the masks of tables of a plan, in order; a table with more rules than a mask has bits has none
-abbrev pub AreKept : PlanParts → List Table → List (List (List (List ℕ))) → Type 0
-AreKept p tables masks = AllZip (λ (t : Table) (kept : List (List (List ℕ))). length t.rules ≤ 256 → AreTableMasks t (table_regions p t) kept) tables masks
-
 -- the table of this number has an input column of this number, from 1
 abbrev pub IsColumnNumber : PlanParts → ℕ → ℕ → Type 0
 IsColumnNumber p table column = (1 ≤ column) × (column ≤ option_map_or (λ t. length t.inputs) (slice_get p.tables (table - 1)) 0)

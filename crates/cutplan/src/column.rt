@@ -28,8 +28,8 @@ pub fn table_regions(
     Ok(columns)
 }
 
-// The regions of the column at a place, whose input this is.
-fn column_regions(
+/// The regions of the column at a place, whose input this is.
+pub fn column_regions(
     alloc: Global,
     plan: &Plan,
     table: &Table,

@@ -13,12 +13,12 @@ ghost use Rattle.cutplan.specs.Numbered.{cell_limit as CELL_LIMIT, IsTableNumber
 use crate::fault::CheckFault;
 use crate::few::{Few, few_of};
 use crate::found::matching_mask;
-use crate::kept::regions_and_masks;
-use crate::keys::keys_of_tables;
+use crate::kept::{KeptColumn, columns_of_tables};
 use crate::lent::{KeptAnswers, answers_of_tables, lent, ranked_in};
 use crate::mask::{INLINE_RULES, list_rules};
 use crate::region::Region;
-use crate::{gap, overlap};
+use crate::sets::lent_by_set;
+use crate::table_check::{gaps_of, overlaps_of};
 use dtable::{
     Answer, Answers, AnswersByTable, Env, Fault, Hit, Inputs, Plan, Sequence, Table, Valuer,
     answers_by_hit, lists_of, table_value,
@@ -27,13 +27,11 @@ use smallvec::SmallVec;
 use std::alloc::{AllocError, Global};
 use std::marker::Model;
 
-/// A plan that can be checked, which contracts see as the plan. It borrows the plan, and keeps the regions of its columns,
-/// their masks and the keys of their texts, and answers of its tables, which it lends.
+/// A plan that can be checked, which contracts see as the plan. It borrows the plan, and keeps the regions of its columns
+/// with their masks, and answers of its tables, which it lends. A check of a table cuts its columns anew.
 pub struct CutPlan<'a> {
     plan: &'a Plan,
-    regions: Sequence<Sequence<Sequence<Region>>>,
-    masks: Sequence<Sequence<Sequence<[u64; 4]>>>,
-    keys: Sequence<Sequence<Sequence<u64>>>,
+    columns: Sequence<Sequence<KeptColumn>>,
     answers: Sequence<KeptAnswers>,
 }
 
@@ -41,9 +39,7 @@ impl Drop for CutPlan<'_> {
     fn drop(self) {
         let CutPlan {
             plan: _,
-            regions: _,
-            masks: _,
-            keys: _,
+            columns: _,
             answers: _,
         } = self;
     }
@@ -57,7 +53,7 @@ impl<'a> Model for CutPlan<'a> {
 
     ghost view = { λ c. c.plan.now };
 
-    ghost invariant = { λ c. IsLending c.plan.now c.regions c.masks c.answers };
+    ghost invariant = { λ c. IsLending c.plan.now c.columns c.answers };
 }
 
 /// Makes the plan ready for its check and for values by masks.
@@ -65,14 +61,11 @@ impl<'a> Model for CutPlan<'a> {
 pub fn compile(alloc: Global, plan: &Plan) -> Result<CutPlan<'_>, AllocError>
     ensures { IfOk result (λ made. made ≡ plan.now) }
 {
-    let (regions, masks) = regions_and_masks(alloc, plan, plan.tables())?;
-    let keys = keys_of_tables(alloc, regions.as_slice())?;
+    let columns = columns_of_tables(alloc, plan, plan.tables())?;
     let answers = answers_of_tables(alloc, plan.tables())?;
     Ok(CutPlan {
         plan,
-        regions,
-        masks,
-        keys,
+        columns,
         answers,
     })
 }
@@ -98,9 +91,7 @@ impl<'a> CutPlan<'a> {
         requires { IsTableNumber self.now table }
         ensures { IfOk result (λ found. found.items ≡ overlaps_of self.now table) }
     {
-        let masks = &self.masks.as_slice()[table - 1];
-        let table = &self.plan.tables()[table - 1];
-        overlap::overlaps(alloc, table.rules.len(), masks.as_slice())
+        overlaps_of(alloc, self.plan, &self.plan.tables()[table - 1])
     }
 
     /// The cells of a table's check that no rule covers, in order: column by column from the left, the last changing
@@ -111,13 +102,7 @@ impl<'a> CutPlan<'a> {
         ensures narrow { OnOk result (length (cells_of self.now table) ≤ CELL_LIMIT) }
         ensures wide { IfErr result (IsWide (length (cells_of self.now table))) }
     {
-        let columns = &self.regions.as_slice()[table - 1];
-        if gap::is_wide(columns.as_slice()) {
-            return Err(CheckFault::TooWide);
-        }
-        let masks = &self.masks.as_slice()[table - 1];
-        let table = &self.plan.tables()[table - 1];
-        Ok(gap::gaps(alloc, table, columns.as_slice(), masks.as_slice())?)
+        gaps_of(alloc, self.plan, &self.plan.tables()[table - 1])
     }
 
     /// The masks of an input column, one for each of its regions, in their order: the bit `(rule - 1) % 64` of the word
@@ -128,8 +113,8 @@ impl<'a> CutPlan<'a> {
         requires column { IsColumnNumber self.now table column }
         ensures { AreMasksOf self.now table column result.now }
     {
-        let columns = &self.masks.as_slice()[table - 1];
-        columns.as_slice()[column - 1].as_slice()
+        let columns = &self.columns.as_slice()[table - 1];
+        columns.as_slice()[column - 1].masks.as_slice()
     }
 
     // Puts the answers of the plan's tables in order where there are none yet, or tells the first fault.
@@ -194,18 +179,8 @@ impl<'a> CutPlan<'a> {
         ensures few { OnSome result (length table.now.rules ≤ MASK_RULES) }
         ensures mask { IfSome result (λ mask. IsMatchingMask given.now earlier.now table.now mask) }
     {
-        let regions = self.regions.as_slice().get(place)?;
-        let masks = self.masks.as_slice().get(place)?;
-        let keys = self.keys.as_slice().get(place)?;
-        matching_mask(
-            self.plan,
-            given,
-            earlier,
-            table,
-            regions.as_slice(),
-            masks.as_slice(),
-            keys.as_slice(),
-        )
+        let columns = self.columns.as_slice().get(place)?;
+        matching_mask(given, earlier, table, columns.as_slice())
     }
 }
 
@@ -223,6 +198,9 @@ fn value_of_mask<'k>(
     requires within { (place : ℕ) → length table.now.rules ≤ place → place < 256 → has_rule mask.now place ≡ false }
     ensures { Gives (by_hit table.now.hit number table.now (rules_in (length table.now.rules) mask.now)) result }
 {
+    if let Some(answers) = lent_by_set(table, kept, mask) {
+        return Ok(Answers::lent(answers));
+    }
     match few_of(mask, table.rules.len()) {
         Few::None => value_of_rules(alloc, number, table, kept, mask, &[]),
         Few::One(rule) => value_of_rules(alloc, number, table, kept, mask, &[rule]),

@@ -1,41 +1,94 @@
-//! The masks that a plan keeps: of each table, of each of its input columns, one for each region.
-ghost use Rattle.std.specs.Prelude.{◌≡◌, ◌≤◌, All, IfOk, length, map};
-ghost use Rattle.cutplan.specs.Masks.{AreKept, AreMasks, AreTableMasks};
+//! What a compiled plan keeps of its tables' input columns: regions, and a mask for each.
+ghost use Rattle.std.specs.Prelude.{◌≡◌, ◌≤◌, All, IfOk, length};
+ghost use Rattle.std.specs.List.{AllZip};
+ghost use Rattle.cutplan.specs.Kept.{AreKeptColumns, IsKeptColumn};
+ghost use Rattle.cutplan.specs.Masks.{AreMasks, AreTableMasks};
 ghost use Rattle.cutplan.specs.Parts.{AreMasksBy};
-ghost use Rattle.cutplan.specs.Regions.{table_regions};
 ghost use Rattle.cutplan.specs.declared.mask.TheConstants.{MASK_RULES};
 
 use crate::asked::{Asked, asked_rules, first_value};
-use crate::column::{kind_read, table_regions};
+use crate::column::{column_regions, kind_read};
+use crate::keys::keys_of_regions;
 use crate::mask::mask_of;
 use crate::region::Region;
-use dtable::{Plan, Sequence, Table};
+use dtable::{Input, Origin, Plan, Sequence, Table};
 use feel_tests::Kind;
 use std::alloc::{AllocError, Global};
 
-/// The regions of these tables of a plan, and their masks, in order.
-pub fn regions_and_masks(
+/// What is kept of an input column: what it reads, its regions, their masks, and the keys by which they are sought.
+pub struct KeptColumn {
+    pub origin: Origin,
+    pub kind: Kind,
+    pub regions: Sequence<Region>,
+    pub masks: Sequence<[u64; 4]>,
+    pub keys: Sequence<u64>,
+}
+
+impl Drop for KeptColumn {
+    fn drop(self) {
+        let KeptColumn {
+            origin: _,
+            kind: _,
+            regions: _,
+            masks: _,
+            keys: _,
+        } = self;
+    }
+}
+
+/// What is kept of the columns of these tables of a plan, in order.
+pub fn columns_of_tables(
     alloc: Global,
     plan: &Plan,
     tables: &[Table],
-) -> Result<
-    (
-        Sequence<Sequence<Sequence<Region>>>,
-        Sequence<Sequence<Sequence<[u64; 4]>>>,
-    ),
-    AllocError,
->
+) -> Result<Sequence<Sequence<KeptColumn>>, AllocError>
     requires { All (λ t. length t.rules ≤ MASK_RULES) tables.now }
-    ensures { IfOk result (λ kept. (kept.0 ≡ map (table_regions plan.now) tables.now) × AreKept plan.now tables.now kept.1) }
+    ensures { IfOk result (λ kept. AllZip (AreKeptColumns plan.now) tables.now kept) }
 {
-    let mut regions = Sequence::new(alloc);
-    let mut masks = Sequence::new(alloc);
+    let mut kept = Sequence::new(alloc);
     for table in tables {
-        let columns = table_regions(alloc, plan, table)?;
-        masks.push(masks_of_columns(alloc, plan, table, columns.as_slice())?)?;
-        regions.push(columns)?;
+        kept.push(kept_columns(alloc, plan, table)?)?;
     }
-    Ok((regions, masks))
+    Ok(kept)
+}
+
+fn kept_columns(
+    alloc: Global,
+    plan: &Plan,
+    table: &Table,
+) -> Result<Sequence<KeptColumn>, AllocError>
+    requires { length table.now.rules ≤ MASK_RULES }
+    ensures { IfOk result (λ kept. AreKeptColumns plan.now table.now kept) }
+{
+    let mut kept = Sequence::new(alloc);
+    for (place, input) in table.inputs.as_slice().iter().enumerate() {
+        kept.push(kept_column(alloc, plan, table, place, input)?)?;
+    }
+    Ok(kept)
+}
+
+// What is kept of the column at a place, whose input this is.
+fn kept_column(
+    alloc: Global,
+    plan: &Plan,
+    table: &Table,
+    place: usize,
+    input: &Input,
+) -> Result<KeptColumn, AllocError>
+    requires { length table.now.rules ≤ MASK_RULES }
+    ensures { IfOk result (λ kept. IsKeptColumn plan.now table.now place input.now kept) }
+{
+    let kind = kind_read(plan, input.origin);
+    let regions = column_regions(alloc, plan, table, place, input)?;
+    let masks = masks_of_column(alloc, kind, table, place, regions.as_slice())?;
+    let keys = keys_of_regions(alloc, regions.as_slice())?;
+    Ok(KeptColumn {
+        origin: input.origin,
+        kind,
+        regions,
+        masks,
+        keys,
+    })
 }
 
 /// The masks of a table's columns.

@@ -7,30 +7,8 @@ use dtable::Sequence;
 use feel_tests::{Text, Value};
 use std::alloc::{AllocError, Global};
 
-/// The keys of a plan's tables, of each column of a table: one for each region that has a first value, in front of any other text.
-pub fn keys_of_tables(
-    alloc: Global,
-    tables: &[Sequence<Sequence<Region>>],
-) -> Result<Sequence<Sequence<Sequence<u64>>>, AllocError> {
-    let mut keys = Sequence::new(alloc);
-    for columns in tables {
-        keys.push(keys_of_columns(alloc, columns.as_slice())?)?;
-    }
-    Ok(keys)
-}
-
-fn keys_of_columns(
-    alloc: Global,
-    columns: &[Sequence<Region>],
-) -> Result<Sequence<Sequence<u64>>, AllocError> {
-    let mut keys = Sequence::new(alloc);
-    for regions in columns {
-        keys.push(keys_of_regions(alloc, regions.as_slice())?)?;
-    }
-    Ok(keys)
-}
-
-fn keys_of_regions(alloc: Global, regions: &[Region]) -> Result<Sequence<u64>, AllocError> {
+/// The keys of a column: one for each of its regions that has a first value, in front of any other text.
+pub fn keys_of_regions(alloc: Global, regions: &[Region]) -> Result<Sequence<u64>, AllocError> {
     let mut keys = Sequence::new(alloc);
     for region in regions {
         if let Some(key) = first_key(region) {

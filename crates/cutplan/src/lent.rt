@@ -7,6 +7,7 @@ ghost use Rattle.cutplan.specs.Masks.{has_rule, rules_in};
 ghost use Rattle.cutplan.specs.declared.mask.TheConstants.{MASK_RULES};
 
 use crate::mask::MASK_RULES;
+use crate::sets::answers_of_sets;
 use crate::sharing::has_rule;
 use dtable::{
     Answer, Fault, Hit, Sequence, Table, answers_by_hit, in_priority_order, rules_agree,
@@ -21,6 +22,8 @@ pub struct KeptAnswers {
     pub alone: Sequence<Option<Sequence<Answer>>>,
     /// All rules in falling priority, where the policy ranks them.
     pub order: Sequence<usize>,
+    /// What each set of the rules answers, where they are few.
+    pub sets: Sequence<Option<Sequence<Answer>>>,
 }
 
 impl Drop for KeptAnswers {
@@ -29,6 +32,7 @@ impl Drop for KeptAnswers {
             unmatched: _,
             alone: _,
             order: _,
+            sets: _,
         } = self;
     }
 }
@@ -58,11 +62,12 @@ fn kept_answers(alloc: Global, table: &Table) -> Result<KeptAnswers, AllocError>
         unmatched: answered(alloc, table, &[])?,
         alone,
         order: ordered(alloc, table)?,
+        sets: answers_of_sets(alloc, table)?,
     })
 }
 
-// The answers where these rules match. A table's number is told in faults alone, so that any will do.
-fn answered(
+/// The answers where these rules match. A table's number is told in faults alone, so that any will do.
+pub fn answered(
     alloc: Global,
     table: &Table,
     rules: &[usize],

@@ -30,6 +30,7 @@ mod mask;
 mod overlap;
 mod region;
 mod rising;
+mod sets;
 mod sharing;
 mod stretch;
 mod table_check;

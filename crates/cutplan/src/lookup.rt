@@ -9,41 +9,149 @@ ghost use Rattle.feel_tests.specs.declared.value.Value.TheVariants as values;
 ghost use Rattle.cutplan.specs.declared.region.Region.TheVariants.{Other};
 ghost use Rattle.cutplan.specs.Regions.{is_in};
 ghost use Rattle.cutplan.specs.Found.{bytes_of, has_at, AreRisingTexts, OthersRise};
+ghost use Rattle.cutplan.specs.Kept.{IsMaskOf};
 
+use crate::kept::KeptColumn;
 use crate::keys::{key_of_integer, key_of_text};
-use crate::region::{Region, is_among, is_in, is_less};
+use crate::region::{Region, is_among, is_in, is_less, is_value};
 use feel_tests::{Text, Value};
 use std::cmp::Ordering;
 
-/// The place of a region that has the value, if one has it. The keys of the regions tell it mostly. The regions of a column stand
-/// in rising order, so that it is sought by halves else; what is found is asked, and so nothing rests on keys and search. Any
-/// other text is in the last.
-pub fn place_of(regions: &[Region], keys: &[u64], value: &Value) -> Option<usize>
+/// The mask of the region of a column in which the value lies, where it is of the column's kind and lies in one. The keys of
+/// the regions tell it mostly. The regions stand in rising order, so that it is sought by halves else; what is found is asked,
+/// and so nothing rests on keys and search. Any other text is in the last.
+pub fn mask_of<'c>(column: &'c KeptColumn, value: &Value) -> Option<&'c [u64; 4]>
+    requires { OthersRise column.now.regions }
+    ensures { IfSome result (λ mask. IsMaskOf column.now value.now mask.now) }
+{
+    if !is_value(column.kind, value) {
+        return None;
+    }
+    let place = place_of(column.regions.as_slice(), column.keys.as_slice(), value)?;
+    let mask = column.masks.as_slice().get(place)?;
+    Some(mask)
+}
+
+// The place of a region that has the value, if one has it.
+fn place_of(regions: &[Region], keys: &[u64], value: &Value) -> Option<usize>
     requires { OthersRise regions.now }
     ensures { IfSome result (λ place. IsTrue (has_at regions.now place value.now)) }
 {
-    let place = likely(regions, keys, value);
-    if has_at(regions, place, value) {
-        return Some(place);
+    match likely_place(regions, keys, value) {
+        Some(place) => Some(place),
+        None => place_sought(regions, value),
     }
-    let place = sought(regions, value);
-    if has_at(regions, place, value) {
+}
+
+// The same where its key tells it, or a flag stands behind the other one.
+fn likely_place(regions: &[Region], keys: &[u64], value: &Value) -> Option<usize>
+    requires { OthersRise regions.now }
+    ensures { IfSome result (λ place. IsTrue (has_at regions.now place value.now)) }
+{
+    match value {
+        Value::Flag(flag) => place_of_flag(regions, *flag),
+        Value::Text(text) => place_of_text(regions, keys, text),
+        Value::Number(number) => place_up_to(regions, keys, key_of_integer(number.units()), value),
+        Value::Day(day) => {
+            let key = key_of_integer(i64::from(day.epoch_day()));
+            place_up_to(regions, keys, key, value)
+        }
+    }
+}
+
+fn place_of_flag(regions: &[Region], flag: bool) -> Option<usize>
+    ensures { IfSome result (λ place. IsTrue (has_at regions.now place (values.Flag flag))) }
+{
+    let place = usize::from(flag);
+    if is_flag_at(regions, place, flag) {
         Some(place)
     } else {
         None
     }
 }
 
-// Where the value is to be asked for first: by its key, and a flag behind the other one.
-fn likely(regions: &[Region], keys: &[u64], value: &Value) -> usize {
+fn is_flag_at(regions: &[Region], place: usize, flag: bool) -> bool
+    ensures { IsTrue result → IsTrue (has_at regions.now place (values.Flag flag)) }
+{
+    match regions.get(place) {
+        Some(Region::At(cut)) => is_flag(cut, flag),
+        _ => false,
+    }
+}
+
+fn is_flag(value: &Value, flag: bool) -> bool
+    ensures { result ≡ is_equal (values.Flag flag) value.now }
+{
     match value {
-        Value::Flag(flag) => usize::from(*flag),
-        Value::Text(text) => match keys.binary_search(&key_of_text(text)) {
-            Ok(place) => place,
-            Err(_) => regions.len().saturating_sub(1),
-        },
-        Value::Number(number) => last_up_to(keys, key_of_integer(number.units())),
-        Value::Day(day) => last_up_to(keys, key_of_integer(i64::from(day.epoch_day()))),
+        Value::Flag(other) => *other == flag,
+        _ => false,
+    }
+}
+
+fn place_of_text(regions: &[Region], keys: &[u64], text: &Text) -> Option<usize>
+    requires { OthersRise regions.now }
+    ensures { IfSome result (λ place. IsTrue (has_at regions.now place (values.Text text.now))) }
+{
+    let place = likely(keys, key_of_text(text), regions.len());
+    if has_text_at(regions, place, text) {
+        Some(place)
+    } else {
+        None
+    }
+}
+
+// The place of the key; the last of so many where there is none.
+fn likely(keys: &[u64], key: u64, count: usize) -> usize {
+    match keys.binary_search(&key) {
+        Ok(place) => place,
+        Err(_) => count.saturating_sub(1),
+    }
+}
+
+fn has_text_at(regions: &[Region], place: usize, text: &Text) -> bool
+    requires { OthersRise regions.now }
+    ensures { result ≡ has_at regions.now place (values.Text text.now) }
+{
+    match regions.get(place) {
+        Some(region) => has_text(region, text),
+        None => false,
+    }
+}
+
+// Whether the text lies in the region: of other texts, by a search, since a walk over all that are named would cost most.
+fn has_text(region: &Region, text: &Text) -> bool
+    requires { (names : List Value) → region.now ≡ Other names → AreRisingTexts names }
+    ensures { result ≡ is_in region.now (values.Text text.now) }
+{
+    match region {
+        Region::At(cut) => is_text(cut, text),
+        Region::Other(names) => !is_named(names.as_slice(), text),
+        Region::Every => true,
+        Region::Below(_) => false,
+        Region::Between(_, _) => false,
+        Region::Above(_) => false,
+    }
+}
+
+fn is_text(value: &Value, text: &Text) -> bool
+    ensures { result ≡ is_equal (values.Text text.now) value.now }
+{
+    match value {
+        Value::Text(other) => text == other,
+        _ => false,
+    }
+}
+
+// The place of a number or a day, which lies in the last region whose key is not above its own, or in the only one.
+fn place_up_to(regions: &[Region], keys: &[u64], key: u64, value: &Value) -> Option<usize>
+    requires { OthersRise regions.now }
+    ensures { IfSome result (λ place. IsTrue (has_at regions.now place value.now)) }
+{
+    let place = last_up_to(keys, key);
+    if has_at(regions, place, value) {
+        Some(place)
+    } else {
+        None
     }
 }
 
@@ -52,6 +160,19 @@ fn last_up_to(keys: &[u64], key: u64) -> usize {
     match keys.binary_search(&key) {
         Ok(place) => place,
         Err(place) => place.saturating_sub(1),
+    }
+}
+
+// The place of a region that has the value, where its key does not tell it.
+fn place_sought(regions: &[Region], value: &Value) -> Option<usize>
+    requires { OthersRise regions.now }
+    ensures { IfSome result (λ place. IsTrue (has_at regions.now place value.now)) }
+{
+    let place = sought(regions, value);
+    if has_at(regions, place, value) {
+        Some(place)
+    } else {
+        None
     }
 }
 
@@ -112,8 +233,18 @@ fn order_to(name: &Value, text: &Text) -> Ordering
     ensures { result ≡ slice_cmp nat_cmp (bytes_of name.now) text.now }
 {
     match name {
-        Value::Text(name) => name.as_str().cmp(text.as_str()),
-        _ => "".cmp(text.as_str()),
+        Value::Text(name) => order_of_bytes(name.as_bytes(), text.as_bytes()),
+        _ => order_of_bytes(&[], text.as_bytes()),
+    }
+}
+
+// How bytes stand to others: mostly the first ones tell.
+fn order_of_bytes(one: &[u8], other: &[u8]) -> Ordering
+    ensures { result ≡ slice_cmp nat_cmp one.now other.now }
+{
+    match (one, other) {
+        ([first, ..], [second, ..]) if first != second => first.cmp(second),
+        _ => one.cmp(other),
     }
 }
 

@@ -1,13 +1,14 @@
 //! What the check of one table finds, with no more in memory than that table's regions and masks.
-ghost use Rattle.std.specs.Prelude.{◌≡◌, ◌≤◌, IfOk, length};
-ghost use Rattle.cutplan.specs.Check.{cells, overlaps};
-ghost use Rattle.cutplan.specs.Numbered.{IsTableNumber, cells_of, overlaps_of};
+ghost use Rattle.std.specs.Prelude.{◌≡◌, ◌≤◌, IfOk, IfErr, OnOk, length};
+ghost use Rattle.cutplan.specs.Check.{cells, gaps, overlaps};
+ghost use Rattle.cutplan.specs.Numbered.{cell_limit as CELL_LIMIT, IsTableNumber, cells_of, overlaps_of, IsWide};
 ghost use Rattle.cutplan.specs.Places.{ArePlaces, is_gap, is_gap_of, regions_of};
 ghost use Rattle.cutplan.specs.Regions.{table_regions};
 ghost use Rattle.cutplan.specs.declared.mask.TheConstants.{MASK_RULES};
 
 use crate::column::table_regions;
-use crate::gap::gap_places;
+use crate::fault::CheckFault;
+use crate::gap::{gap_places, gaps, is_wide};
 use crate::kept::masks_of_columns;
 use crate::overlap::overlaps;
 use crate::region::Region;
@@ -53,4 +54,37 @@ fn check_of(alloc: Global, plan: &Plan, table: &Table) -> Result<TableCheck, All
         columns,
         gaps,
     })
+}
+
+/// The pairs of rules of a table that share an allowed input.
+pub fn overlaps_of(
+    alloc: Global,
+    plan: &Plan,
+    table: &Table,
+) -> Result<Vec<(usize, usize)>, AllocError>
+    requires { length table.now.rules ≤ MASK_RULES }
+    ensures { IfOk result (λ found. found.items ≡ overlaps plan.now table.now) }
+{
+    let columns = table_regions(alloc, plan, table)?;
+    let masks = masks_of_columns(alloc, plan, table, columns.as_slice())?;
+    overlaps(alloc, table.rules.len(), masks.as_slice())
+}
+
+/// The cells of a table's check that no rule covers.
+pub fn gaps_of(
+    alloc: Global,
+    plan: &Plan,
+    table: &Table,
+) -> Result<Vec<Sequence<Region>>, CheckFault>
+    requires { length table.now.rules ≤ MASK_RULES }
+    ensures listed { IfOk result (λ found. found.items ≡ gaps plan.now table.now) }
+    ensures narrow { OnOk result (length (cells (table_regions plan.now table.now)) ≤ CELL_LIMIT) }
+    ensures wide { IfErr result (IsWide (length (cells (table_regions plan.now table.now)))) }
+{
+    let columns = table_regions(alloc, plan, table)?;
+    if is_wide(columns.as_slice()) {
+        return Err(CheckFault::TooWide);
+    }
+    let masks = masks_of_columns(alloc, plan, table, columns.as_slice())?;
+    Ok(gaps(alloc, table, columns.as_slice(), masks.as_slice())?)
 }

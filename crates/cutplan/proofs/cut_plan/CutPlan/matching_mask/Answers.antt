@@ -1,26 +1,21 @@
 use Rattle.std.proofs.Common.{◌≡◌, ◌≤◌, length, ap, sym, ◌∙◌, subst}
 use Rattle.std.specs.Prelude.{Some, slice_get}
-use Rattle.cutplan.specs.Masks.{AreTableMasks}
-use Rattle.cutplan.proofs.ByMasks.{found_at, masks_kept}
+use Rattle.cutplan.specs.Kept.{AreKeptColumns}
+use Rattle.cutplan.proofs.ByMasks.{found_at, kept_at}
 use Rattle.cutplan.proofs.Keeping.{few_of, on_some}
 use Rattle.cutplan.proofs.cut_plan.CutPlan.matching_mask.Goals as goal
 
-pub matching_mask-requires-clause-masks : goal.matching_mask-requires-clause-masks
-matching_mask-requires-clause-masks c =
+pub matching_mask-requires-clause-kept : goal.matching_mask-requires-clause-kept
+matching_mask-requires-clause-kept c =
     let p = c.self.inside.plan.now in
     let t = c.args.table.now in
     let place = c.args.place in
-    let rs = c.in_ok-regions.regions.now in
-    let kept = c.in_ok-masks.masks.now in
-    let regions = c.in_ok-regions.ensures.lookup in
-    let masks = c.in_ok-masks.ensures.lookup in
+    let columns = c.in_ok-columns.columns.now in
+    let found = c.in_ok-columns.ensures.lookup in
     let view : p ≡ c.args.self.now = c.self.view_is in
     let at : slice_get p.tables place ≡ Some t = ap (λ q. slice_get q.tables place) view ∙ c.requires in
-    let rs_at : slice_get c.self.inside.regions place ≡ Some rs = ap (λ xs. slice_get xs place) (sym c.as_slice.ensures) ∙ found_at c.as_slice.result.now place rs regions.0 regions.1 in
-    let kept_at : slice_get c.self.inside.masks place ≡ Some kept = ap (λ xs. slice_get xs place) (sym c.as_slice-2.ensures) ∙ found_at c.as_slice-2.result.now place kept masks.0 masks.1 in
-    let few = few_of p.tables place t c.self.invariant.cut.few at in
-    let are = masks_kept p c.self.inside.regions c.self.inside.masks place t rs kept c.self.invariant.cut at rs_at kept_at few in
-    subst (λ x. AreTableMasks t x c.as_slice-5.result.now) (sym c.as_slice-4.ensures) (subst (λ y. AreTableMasks t rs y) (sym c.as_slice-5.ensures) are)
+    let there : slice_get c.self.inside.columns place ≡ Some columns = ap (λ xs. slice_get xs place) (sym c.as_slice.ensures) ∙ found_at c.as_slice.result.now place columns found.0 found.1 in
+    record { plan = p; columns = subst (λ xs. AreKeptColumns p t xs) (sym c.as_slice-2.ensures) (kept_at p c.self.inside.columns place t columns c.self.invariant.cut at there) }
 
 pub matching_mask-requires-clause-few : goal.matching_mask-requires-clause-few
 matching_mask-requires-clause-few c =

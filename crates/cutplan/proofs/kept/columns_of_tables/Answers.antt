@@ -1,0 +1,11 @@
+use Rattle.std.proofs.Common.{◌≤◌, length, subst, sym}
+use Rattle.cutplan.proofs.Keeping.{more_tables}
+use Rattle.cutplan.proofs.kept.columns_of_tables.Goals as goal
+
+pub loop-table-preserved : goal.loop-table-preserved
+loop-table-preserved c =
+    more_tables c.args.plan.now c.args.tables.now c.loop-table.kept _ c.loop-table.table-index c.table-item.result c.in_ok-kept_columns.field-0 c.loop-table-test.true c.table-item.is c.loop-table.invariant
+    c.in_ok-kept_columns.ensures c.in_ok-push.ensures.ok
+
+pub kept_columns-requires : goal.kept_columns-requires
+kept_columns-requires c = subst (λ t. length t.rules ≤ 256) (sym c.table-item.is) (c.requires c.loop-table.table-index c.table-item.result c.loop-table-test.true)

@@ -1,0 +1,83 @@
+//! The answers of each set of a table's rules, where they are few: then a mask finds what its rules answer together.
+ghost use Rattle.std.specs.Prelude.{◌≡◌, ◌≤◌, ℕ, Ok, IfOk, IfSome, length};
+ghost use Rattle.dtable.specs.HitPolicy.{by_hit};
+ghost use Rattle.cutplan.specs.Lent.{answered, kept_answers, set_count, sets_of};
+ghost use Rattle.cutplan.specs.Masks.{rules_in};
+ghost use Rattle.cutplan.specs.declared.mask.TheConstants.{MASK_RULES};
+
+use crate::lent::{KeptAnswers, answered};
+use crate::mask::MASK_RULES;
+use crate::sharing::has_rule;
+use dtable::{Answer, Sequence, Table};
+use std::alloc::{AllocError, Global};
+
+/// How many rules are few.
+const FEW_RULES: usize = 6;
+
+/// The answers of each set of a table's rules, where they are few; none elsewhere. The set of a number has the rules of its bits.
+pub fn answers_of_sets(
+    alloc: Global,
+    table: &Table,
+) -> Result<Sequence<Option<Sequence<Answer>>>, AllocError>
+    ensures { IfOk result (λ sets. sets ≡ sets_of table.now) }
+{
+    let mut sets = Sequence::new(alloc);
+    for set in 0..set_count(table.rules.len()) {
+        sets.push(answers_of_mask(alloc, table, &[set as u64, 0, 0, 0])?)?;
+    }
+    Ok(sets)
+}
+
+// How many sets so many rules have, where they are few.
+fn set_count(rules: usize) -> usize
+    ensures { result ≡ set_count rules }
+{
+    if rules <= FEW_RULES { 1 << rules } else { 0 }
+}
+
+// The answers where the rules match that the mask has.
+fn answers_of_mask(
+    alloc: Global,
+    table: &Table,
+    mask: &[u64; 4],
+) -> Result<Option<Sequence<Answer>>, AllocError>
+    requires few { length table.now.rules ≤ MASK_RULES }
+    requires words { length mask.now ≡ 4 }
+    ensures { IfOk result (λ found. found ≡ answered table.now (rules_in (length table.now.rules) mask.now)) }
+{
+    let rules = rules_of(alloc, mask, table.rules.len())?;
+    answered(alloc, table, rules.as_slice())
+}
+
+// Those of the first so many rules that the mask has.
+fn rules_of(alloc: Global, mask: &[u64; 4], count: usize) -> Result<Sequence<usize>, AllocError>
+    requires few { count ≤ MASK_RULES }
+    requires words { length mask.now ≡ 4 }
+    ensures { IfOk result (λ rules. rules ≡ rules_in count mask.now) }
+{
+    let mut rules = Sequence::new(alloc);
+    for rule in 0..count {
+        if has_rule(mask, rule) {
+            rules.push(rule)?;
+        }
+    }
+    Ok(rules)
+}
+
+/// The answers of a table where the rules match that the mask has, where they are few: a table's number is told in faults alone.
+pub fn lent_by_set<'k>(
+    table: &Table,
+    kept: &'k KeptAnswers,
+    mask: &[u64; 4],
+) -> Option<&'k [Answer]>
+    requires kept { kept.now ≡ kept_answers table.now }
+    requires words { length mask.now ≡ 4 }
+    ensures { IfSome result (λ answers. (number : ℕ) → by_hit table.now.hit number table.now (rules_in (length table.now.rules) mask.now) ≡ Ok answers.now) }
+{
+    let set = mask[0] as usize;
+    let found = kept.sets.as_slice().get(set)?;
+    match found {
+        Some(answers) => Some(answers.as_slice()),
+        None => None,
+    }
+}
