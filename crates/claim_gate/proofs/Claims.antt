@@ -1,5 +1,5 @@
 -- The places stay those of the claims at their positions.
-use Rattle.std.proofs.Common.{◌≡◌, ℕ, zero, suc, ◌<◌, ◌≤◌, ◌+◌, ℤ, pos, ◌+ℤ◌, ◌==◌, Bool, true, false, not, ◌||◌, ◌&&◌, List, [], ◌∷◌, ◌++◌, take, length, get_or, Option, Some, None, ◌⊎◌, fold, refl, sym, ap, ◌∙◌, subst, inl, inr, arith, add-one, append-nil, eqb-true}
+use Rattle.std.proofs.Common.{◌≡◌, ℕ, zero, suc, ◌<◌, ◌≤◌, ℤ, pos, ◌+ℤ◌, ◌==◌, Bool, true, false, not, ◌||◌, ◌&&◌, List, [], ◌∷◌, ◌++◌, take, length, get_or, Option, Some, None, ◌⊎◌, fold, refl, sym, ap, ◌∙◌, subst, inl, inr, arith, add-one, append-nil, eqb-true}
 use Rattle.std.specs.List.{slice_get}
 use Rattle.std.specs.Str.{bytes_eq}
 use Rattle.std.proofs.Math.Seq.{get_or-append_seam}

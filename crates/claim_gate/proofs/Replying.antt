@@ -319,14 +319,13 @@ module _ (s : Inside) (g : GateParts) (is : seen s ≡ g) (kept : Keeps s) where
         }
 
   -- a decision that is recorded
-  pub records : (job : Job) (outcome told : Outcome) (left : Acc) (J2 : List Event) (lanes : List Place) → FinishGoes
+  pub records : (job : Job) (outcome : Outcome) (left : Acc) (J2 : List Event) (lanes : List Place) → FinishGoes
       → g.stopped ≡ false → decided g.journal job.position ≡ false → taken g.journal job.position ≡ true
       → ForTerms g.terms (λ T. IsJob T g.journal job.position job.claim job.acc) → outcome ≡ outcome_of g.terms.plan job.claim job.acc
       → left ≡ accumulated true true job.acc outcome → lanes ≡ with_decision s.lanes job.position left
-      → told ≡ outcome → J2 ≡ s.journal.items ++ Decide job.position told ∷ []
+      → J2 ≡ s.journal.items ++ Decide job.position outcome ∷ []
       → IsKept s.terms.now J2 lanes s.intakes s.closed (s.decisions + 1)
-  records job outcome told left J2 lanes goes runs once in_work its settled leaves lanes_are tells journal_is =
-      let journal' : J2 ≡ s.journal.items ++ Decide job.position outcome ∷ [] = journal_is ∙ ap (λ o. s.journal.items ++ Decide job.position o ∷ []) tells in
+  records job outcome left J2 lanes goes runs once in_work its settled leaves lanes_are journal_is =
       let keeps = kept_decision s.terms.now s.journal.items s.stopped s.lanes s.intakes s.closed s.decisions kept goes
       job.position job.claim job.acc left outcome (runs_so runs)
       (subst (λ w. decided w.journal job.position ≡ false) (sym is) once)
@@ -334,7 +333,7 @@ module _ (s : Inside) (g : GateParts) (is : seen s ≡ g) (kept : Keeps s) where
       (subst (λ w. ForTerms w.terms (λ T. IsJob T w.journal job.position job.claim job.acc)) (sym is) its)
       (subst (λ w. outcome ≡ outcome_of w.terms.plan job.claim job.acc) (sym is) settled)
       leaves in
-      subst (λ j. IsKept s.terms.now j lanes s.intakes s.closed (s.decisions + 1)) (sym journal')
+      subst (λ j. IsKept s.terms.now j lanes s.intakes s.closed (s.decisions + 1)) (sym journal_is)
       (subst (λ l. IsKept s.terms.now (s.journal.items ++ Decide job.position outcome ∷ []) l s.intakes s.closed (s.decisions + 1)) (sym lanes_are) keeps)
 
 -- a settlement's outcome leaves accumulators

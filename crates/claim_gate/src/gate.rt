@@ -5,7 +5,8 @@ use crate::fault::{EndFault, FinishFault, OfferFault, TakeFault};
 use crate::job::Job;
 use crate::offer::Offer;
 use crate::reply::{Accepted, Ended, Recorded, Taken};
-use settlement::{Claim, Outcome};
+use journal::Decision;
+use lanes::StoredClaim;
 use std::sync::Wait;
 use turn_lock::Worn;
 
@@ -63,7 +64,7 @@ pub trait Gate {
         &self,
         rt: &R,
         pass: Self::Pass,
-        claims: &[Claim],
+        claims: &[StoredClaim],
     ) -> Result<Self::Pass, (Worn, Self::Pass)>
         requires { has_pass self.now pass }
         ensures served { IfOk result (IsServed (has_pass self.now) known (known pass)) }
@@ -99,16 +100,16 @@ pub trait Gate {
         ensures worn { IfErr result (λ e. IsWornOut (has_pass self.now) is_worn known (known pass) e.1) }
         ensures late { is_worn pass → IsErr result };
 
-    /// Records the outcome of a job. Both come back where it is refused.
+    /// Records the outcome of a job, whose claim comes back; both come back where it is refused.
     fn finish<R: Wait>(
         &self,
         rt: &R,
         pass: Self::Pass,
         job: Job,
-        outcome: Outcome,
+        outcome: Decision,
     ) -> Result<
-        (Result<Recorded, (FinishFault, Job, Outcome)>, Self::Pass),
-        (Worn, Self::Pass, Job, Outcome),
+        (Result<Recorded, (FinishFault, Job, Decision)>, Self::Pass),
+        (Worn, Self::Pass, Job, Decision),
     >
         requires own { has_pass self.now pass }
         requires in_work { taken (known pass).seen.journal job.position ≡ true }
@@ -116,6 +117,7 @@ pub trait Gate {
         requires settled { outcome ≡ outcome_of (known pass).seen.terms.plan job.claim job.acc }
         ensures served { IfOk result (λ r. IsServed (has_pass self.now) known (known pass) r.1) }
         ensures reply { IfOk result (λ r. Went (λ old new. Finishes old job.position outcome (finish_reply r.0) new) (known r.1)) }
+        ensures claim { IfOk result (λ r. IfOk r.0 (λ recorded. recorded.claim ≡ job.claim)) }
         ensures back { IfOk result (λ r. IfErr r.0 (λ refused. (refused.1 ≡ job) × (refused.2 ≡ outcome))) }
         ensures worn { IfErr result (λ e. IsWornOut (has_pass self.now) is_worn known (known pass) e.1) }
         ensures worn_back { IfErr result (λ e. (e.2 ≡ job) × (e.3 ≡ outcome)) }

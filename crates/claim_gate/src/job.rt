@@ -1,7 +1,8 @@
 //! Work on claims.
 ghost use Rattle.std.specs.Prelude.{◌≡◌, IfOk};
 
-use settlement::{Acc, Claim};
+use lanes::StoredClaim;
+use settlement::Acc;
 use std::alloc::{AllocError, Global};
 
 /// A claim to be decided.
@@ -10,7 +11,7 @@ pub struct Job {
     /// The claim's position: how many claims were accepted before it.
     pub position: usize,
     /// The claim.
-    pub claim: Claim,
+    pub claim: StoredClaim,
     /// Its account's accumulators, as the earlier claims of its family left them.
     pub acc: Acc,
 }
@@ -22,7 +23,7 @@ impl Job {
     {
         Ok(Job {
             position: self.position,
-            claim: self.claim.duplicate(alloc)?,
+            claim: StoredClaim::new(alloc, self.claim.as_claim().duplicate(alloc)?)?,
             acc: self.acc,
         })
     }

@@ -30,6 +30,7 @@ pub use fault::{EndFault, FinishFault, OfferFault, TakeFault};
 pub use gate::Gate;
 pub use job::Job;
 pub use journal::{Decision, Event};
+pub use lanes::StoredClaim;
 pub use locked::LockedGate;
 pub use offer::Offer;
 pub use reply::{Accepted, Ended, Recorded, Taken};

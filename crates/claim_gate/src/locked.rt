@@ -11,8 +11,8 @@ use crate::job::Job;
 use crate::offer::Offer;
 use crate::reply::{Accepted, Ended, Recorded, Taken};
 use crate::serial::SerialGate;
-use journal::jobs_stay;
-use settlement::{Claim, Outcome};
+use journal::{Decision, jobs_stay};
+use lanes::StoredClaim;
 use std::sync::Wait;
 use turn_lock::{Pass, Section, TicketLock, Worn};
 
@@ -113,7 +113,7 @@ where
         &self,
         rt: &R,
         pass: S::Pass,
-        claims: &[Claim],
+        claims: &[StoredClaim],
     ) -> Result<S::Pass, (Worn, S::Pass)> {
         match self.lock.lock(rt, pass) {
             Ok((mut state, holder)) => {
@@ -165,10 +165,10 @@ where
         rt: &R,
         pass: S::Pass,
         job: Job,
-        outcome: Outcome,
+        outcome: Decision,
     ) -> Result<
-        (Result<Recorded, (FinishFault, Job, Outcome)>, S::Pass),
-        (Worn, S::Pass, Job, Outcome),
+        (Result<Recorded, (FinishFault, Job, Decision)>, S::Pass),
+        (Worn, S::Pass, Job, Decision),
     > {
         // Known from here: a job stays one in each later state of the gate.
         jobs_stay();

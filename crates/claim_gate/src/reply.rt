@@ -1,6 +1,7 @@
 //! What the calls of a gate answer where they aren't refused.
 
 use crate::job::Job;
+use lanes::StoredClaim;
 
 /// The claim is accepted.
 #[derive(Clone, Copy, PartialEq, Eq, Hash, Drop)]
@@ -27,5 +28,8 @@ pub enum Taken {
 }
 
 /// The decision is recorded.
-#[derive(Clone, Copy, PartialEq, Eq, Hash, Drop)]
-pub struct Recorded;
+#[derive(Drop)]
+pub struct Recorded {
+    /// The claim that is decided: who had it lets it go, out of the section.
+    pub claim: StoredClaim,
+}

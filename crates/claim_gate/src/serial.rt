@@ -6,8 +6,8 @@ use crate::job::Job;
 use crate::offer::Offer;
 use crate::reply::{Accepted, Ended, Recorded, Taken};
 use crate::state::GateState;
-use journal::Event;
-use settlement::{Claim, Outcome};
+use journal::{Decision, Event};
+use lanes::StoredClaim;
 use turn_lock::Growing;
 
 impl<'t> Growing for GateState<'t> {
@@ -54,7 +54,7 @@ pub trait SerialGate: Growing {
         ensures back { IfErr result (λ refused. refused.1 ≡ offer) };
 
     /// `GateState::foresee`.
-    fn foresee(&mut self, claims: &[Claim])
+    fn foresee(&mut self, claims: &[StoredClaim])
         ensures grown { Self.leads self.old self.new }
         ensures same { shown self.new ≡ shown self.old }
         ensures lawful { IsLawful (shown self.new) };
@@ -77,14 +77,15 @@ pub trait SerialGate: Growing {
     fn finish(
         &mut self,
         job: Job,
-        outcome: Outcome,
-    ) -> Result<Recorded, (FinishFault, Job, Outcome)>
+        outcome: Decision,
+    ) -> Result<Recorded, (FinishFault, Job, Decision)>
         requires in_work { taken (shown self.old).journal job.position ≡ true }
         requires job { ForTerms (shown self.old).terms (λ T. IsJob T (shown self.old).journal job.position job.claim job.acc) }
         requires settled { outcome ≡ outcome_of (shown self.old).terms.plan job.claim job.acc }
         ensures grown { Self.leads self.old self.new }
         ensures reply { ForTerms (shown self.old).terms (λ T. Finishes (at T (shown self.old)) job.position outcome (finish_reply result) (at T (shown self.new))) }
         ensures lawful { IsLawful (shown self.new) }
+        ensures claim { IfOk result (λ recorded. recorded.claim ≡ job.claim) }
         ensures back { IfErr result (λ refused. (refused.1 ≡ job) × (refused.2 ≡ outcome)) };
 
     /// `GateState::stop`.
@@ -114,7 +115,7 @@ impl<'t> SerialGate for GateState<'t> {
         self.offer(offer)
     }
 
-    fn foresee(&mut self, claims: &[Claim]) {
+    fn foresee(&mut self, claims: &[StoredClaim]) {
         self.foresee(claims);
     }
 
@@ -129,8 +130,8 @@ impl<'t> SerialGate for GateState<'t> {
     fn finish(
         &mut self,
         job: Job,
-        outcome: Outcome,
-    ) -> Result<Recorded, (FinishFault, Job, Outcome)> {
+        outcome: Decision,
+    ) -> Result<Recorded, (FinishFault, Job, Decision)> {
         self.finish(job, outcome)
     }
 
@@ -157,7 +158,7 @@ impl<V: SerialGate> SerialGate for Box<V> {
         (**self).offer(offer)
     }
 
-    fn foresee(&mut self, claims: &[Claim]) {
+    fn foresee(&mut self, claims: &[StoredClaim]) {
         (**self).foresee(claims);
     }
 
@@ -172,8 +173,8 @@ impl<V: SerialGate> SerialGate for Box<V> {
     fn finish(
         &mut self,
         job: Job,
-        outcome: Outcome,
-    ) -> Result<Recorded, (FinishFault, Job, Outcome)> {
+        outcome: Decision,
+    ) -> Result<Recorded, (FinishFault, Job, Decision)> {
         (**self).finish(job, outcome)
     }
 

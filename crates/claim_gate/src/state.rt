@@ -23,8 +23,8 @@ use crate::offer::Offer;
 use crate::reply::{Accepted, Ended, Recorded, Taken};
 use claim_terms::Terms;
 use journal::{Decision, Event, gate_stays_lawful, starts_lawful};
-use lanes::{Lanes, Picked};
-use settlement::{Acc, Claim, Outcome, account_year, after};
+use lanes::{Lanes, Picked, StoredClaim};
+use settlement::{Acc, account_year, after};
 use std::alloc::{AllocError, Global};
 use std::marker::Model;
 
@@ -33,7 +33,6 @@ use std::marker::Model;
 /// Each call makes all its growths before its first change, so that a refused one has changed nothing; none walks the
 /// journal, the claims or the families.
 pub struct GateState<'t> {
-    alloc: Global,
     terms: &'t Terms<'t>,
     journal: Vec<Event>,
     stopped: bool,
@@ -46,7 +45,6 @@ pub struct GateState<'t> {
 impl Drop for GateState<'_> {
     fn drop(self) {
         let GateState {
-            alloc: _,
             terms: _,
             journal: _,
             stopped: _,
@@ -81,7 +79,6 @@ impl<'t> GateState<'t> {
         let intakes = Intakes::new(alloc, terms.files().len())?;
         let closed = close_if_due(&mut journal, terms, 0, &intakes);
         Ok(GateState {
-            alloc,
             terms,
             journal,
             stopped: false,
@@ -106,7 +103,6 @@ impl<'t> GateState<'t> {
         ensures lawful { IsLawful self.entry }
     {
         let GateState {
-            alloc: _,
             terms: _,
             journal,
             stopped: _,
@@ -163,7 +159,7 @@ impl<'t> GateState<'t> {
             claim,
         } = offer;
         let position = self.lanes.len();
-        let year = account_year(self.terms.plan(), &claim);
+        let year = account_year(self.terms.plan(), claim.as_claim());
         if let Err(failed) = self.lanes.add(claim, year) {
             let claim = failed.value;
             let offer = Offer {
@@ -181,7 +177,7 @@ impl<'t> GateState<'t> {
     }
 
     /// Reads what these claims will need when they are offered, many at once, so that each offer finds it at hand. Nothing changes.
-    pub fn foresee(&mut self, claims: &[Claim])
+    pub fn foresee(&mut self, claims: &[StoredClaim])
         ensures same { self.new ≡ self.old }
         ensures lawful { IsLawful self.new }
     {
@@ -253,12 +249,12 @@ impl<'t> GateState<'t> {
         }))
     }
 
-    /// Records the outcome of a job. Both come back where it is refused.
+    /// Records the outcome of a job, whose claim comes back; both come back where it is refused.
     pub fn finish(
         &mut self,
         job: Job,
-        outcome: Outcome,
-    ) -> Result<Recorded, (FinishFault, Job, Outcome)>
+        outcome: Decision,
+    ) -> Result<Recorded, (FinishFault, Job, Decision)>
         requires in_work { taken self.old.journal job.position ≡ true }
         requires job { ForTerms self.old.terms (λ T. IsJob T self.old.journal job.position job.claim job.acc) }
         requires settled { outcome ≡ outcome_of self.old.terms.plan job.claim job.acc }
@@ -266,6 +262,7 @@ impl<'t> GateState<'t> {
         ensures lawful { IsLawful self.new }
         ensures leads { LeadsTo self.old self.new }
         ensures recorded { OnOk result (self.new ≡ record self.old { journal = self.old.journal ++ events.Decide job.position outcome ∷ [] }) }
+        ensures claim { IfOk result (λ recorded. recorded.claim ≡ job.claim) }
         ensures back { IfErr result (λ refused. (refused.1 ≡ job) × (refused.2 ≡ outcome)) }
         ensures refused { OnErr result (self.new ≡ self.old) }
     {
@@ -282,8 +279,8 @@ impl<'t> GateState<'t> {
     fn record(
         &mut self,
         job: Job,
-        outcome: Outcome,
-    ) -> Result<Recorded, (FinishFault, Job, Outcome)>
+        outcome: Decision,
+    ) -> Result<Recorded, (FinishFault, Job, Decision)>
         requires runs { self.old.stopped ≡ false }
         requires once { decided self.old.journal job.position ≡ false }
         requires in_work { taken self.old.journal job.position ≡ true }
@@ -293,27 +290,23 @@ impl<'t> GateState<'t> {
         ensures lawful { IsLawful self.new }
         ensures leads { LeadsTo self.old self.new }
         ensures recorded { OnOk result (self.new ≡ record self.old { journal = self.old.journal ++ events.Decide job.position outcome ∷ [] }) }
+        ensures claim { IfOk result (λ recorded. recorded.claim ≡ job.claim) }
         ensures back { IfErr result (λ refused. (refused.1 ≡ job) × (refused.2 ≡ outcome)) }
         ensures refused { OnErr result (self.new ≡ self.old) }
     {
         // Known from here: from a lawful journal each call goes to a lawful one.
         gate_stays_lawful();
-        let left = after(job.acc, &outcome).unwrap();
+        let left = after(job.acc, outcome.outcome()).unwrap();
         if self.journal.reserve(1).is_err() {
             return Err((FinishFault::OutOfMemory, job, outcome));
         }
-        let decision = match Decision::new(self.alloc, outcome) {
-            Ok(decision) => decision,
-            Err(failed) => return Err((FinishFault::OutOfMemory, job, failed.value)),
-        };
         let position = job.position;
         if self.lanes.decide(position, left).is_err() {
-            return Err((FinishFault::OutOfMemory, job, decision.into_outcome()));
+            return Err((FinishFault::OutOfMemory, job, outcome));
         }
         self.decisions += 1;
-        let outcome = decision;
         append(&mut self.journal, Event::Decide { position, outcome });
-        Ok(Recorded)
+        Ok(Recorded { claim: job.claim })
     }
 
     /// Stops the gate: from now on each call answers so. The journal stays as it is.
@@ -352,7 +345,7 @@ fn start_of(terms: &Terms, picked: &Picked) -> Acc
     if picked.has_begun() {
         return picked.start(Acc::zero());
     }
-    let opening = terms.opening(&picked.claim);
+    let opening = terms.opening(picked.claim.as_claim());
     picked.start(opening)
 }
 

@@ -10,19 +10,18 @@ ghost use Rattle.crew.specs.declared.fault.RunFault.TheVariants.{OutOfMemory};
 
 use crate::fault::RunFault;
 use crate::stopping::TRIES;
-use claim_gate::{EndFault, Gate, Offer, OfferFault};
+use claim_gate::{EndFault, Gate, Offer, OfferFault, StoredClaim};
 use claim_terms::{Terms, terms_are_seen};
 use intake_csv::{
     Row, Rows, given_row_has_the_claim, no_records_give_no_rows, reader_begins_with_all_rows,
 };
-use settlement::Claim;
 use std::alloc::{AllocError, Global};
 use std::sync::Wait;
 use turns::{OFFERS_LIMIT, Turn, Turns};
 
 /// The claims of records that an intake has read and not offered yet, and whether they are the last of its file.
 struct Ahead {
-    claims: Vec<Claim>,
+    claims: Vec<StoredClaim>,
     is_last: bool,
 }
 
@@ -94,7 +93,7 @@ fn read_ahead(alloc: Global, rows: &mut Rows<'_>) -> Result<Ahead, AllocError>
         let Row::Good { claim, .. } = row else {
             continue;
         };
-        claims.push(claim)?;
+        claims.push(StoredClaim::new(alloc, claim)?)?;
     }
     Ok(Ahead {
         claims,
@@ -112,7 +111,7 @@ fn offer_all<R: Wait, G: Gate>(
     provider: usize,
     first: usize,
     expected: usize,
-    claims: Vec<Claim>,
+    claims: Vec<StoredClaim>,
     turns: &Turns,
 ) -> Result<(Option<usize>, G::Pass), (RunFault, G::Pass)>
     requires own { G.has_pass gate.now pass }
@@ -140,7 +139,7 @@ fn foresee<R: Wait, G: Gate>(
     rt: &R,
     gate: &G,
     pass: G::Pass,
-    claims: &[Claim],
+    claims: &[StoredClaim],
 ) -> Result<G::Pass, (RunFault, G::Pass)>
     requires own { G.has_pass gate.now pass }
     ensures goes_on { IfOk result (GoesOn (G.has_pass gate.now) G.known pass) }
@@ -161,7 +160,7 @@ fn offer_each<R: Wait, G: Gate>(
     provider: usize,
     first: usize,
     mut expected: usize,
-    claims: Vec<Claim>,
+    claims: Vec<StoredClaim>,
     turn: &Turn,
 ) -> Result<(Option<usize>, G::Pass), (RunFault, G::Pass)>
     requires own { G.has_pass gate.now pass }

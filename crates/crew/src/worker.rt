@@ -10,12 +10,12 @@ ghost use Rattle.crew.specs.Sharing.{IsGathered, IsInWork, IsSettledIn, IsTask, 
 
 use crate::fault::RunFault;
 use crate::stopping::TRIES;
-use claim_gate::{FinishFault, Gate, Job, Taken};
+use claim_gate::{Decision, FinishFault, Gate, Job, StoredClaim, Taken};
 use claim_terms::{Terms, terms_are_seen};
 use cutplan::CutPlan;
 use intake_csv::claims_have_the_plan_s_fields;
 use journal::jobs_stay;
-use settlement::{Adjudicator, Outcome};
+use settlement::Adjudicator;
 use std::alloc::{AllocError, Global};
 use std::sync::Wait;
 use turns::{TAKES_LIMIT, Turn, Turns};
@@ -42,7 +42,7 @@ enum Gathered {
 #[derive(Drop)]
 struct Settled {
     job: Job,
-    outcome: Outcome,
+    outcome: Decision,
 }
 
 /// Takes claims and decides them until the journal is finished. The claims of a turn are decided while another thread has its own.
@@ -93,7 +93,7 @@ pub(crate) fn work<R: Wait, G: Gate>(
 }
 
 // A row of calls: records what is settled, and takes as many claims as there are to be had. Their room is made before the turn
-// begins, for as many as the last time.
+// begins, for as many as the last time, and the claims that are decided are let go behind it.
 #[tactic(auto, using(crate::proofs::Passes::further, crate::proofs::Passes::leaves_later))]
 fn take_turn<R: Wait, G: Gate>(
     rt: &R,
@@ -114,8 +114,11 @@ fn take_turn<R: Wait, G: Gate>(
     let Ok(jobs) = Vec::with_capacity(alloc, settled.len()) else {
         return Err((RunFault::OutOfMemory, pass));
     };
+    let Ok(mut released) = Vec::with_capacity(alloc, settled.len()) else {
+        return Err((RunFault::OutOfMemory, pass));
+    };
     let turn = turns.begin(rt);
-    let pass = match record_all(rt, terms, gate, pass, settled) {
+    let pass = match record_all(rt, terms, gate, pass, settled, &mut released) {
         Ok(pass) => pass,
         Err(left) => return Err(left),
     };
@@ -207,19 +210,36 @@ fn decide_all<'v, 'p>(
 {
     let mut settled = Vec::with_capacity(alloc, jobs.len())?;
     for job in jobs {
-        let outcome = adjudicator.decide(alloc, &job.claim, job.acc)?;
-        settled.push(Settled { job, outcome })?;
+        let one = settle(alloc, adjudicator, job)?;
+        settled.push(one)?;
     }
     Ok(settled)
 }
 
-// Records outcomes, one call after another.
+// Decides a claim in work. What it comes to has its place on the heap from here on.
+fn settle<'v, 'p>(
+    alloc: Global,
+    adjudicator: &mut Adjudicator<'v, CutPlan<'p>>,
+    job: Job,
+) -> Result<Settled, AllocError>
+    requires roles { IsSome adjudicator.old.roles }
+    requires fields { IsClaimOf adjudicator.old job.claim }
+    ensures plan { adjudicator.new ≡ adjudicator.old }
+    ensures settled { IfOk result (λ settled. settled ≡ settled_by adjudicator.old job) }
+{
+    let outcome = adjudicator.decide(alloc, job.claim.as_claim(), job.acc)?;
+    let outcome = Decision::new(alloc, outcome)?;
+    Ok(Settled { job, outcome })
+}
+
+// Records outcomes, one call after another, and puts their claims to those that are let go later.
 fn record_all<R: Wait, G: Gate>(
     rt: &R,
     terms: &Terms,
     gate: &G,
     mut pass: G::Pass,
     settled: Vec<Settled>,
+    released: &mut Vec<StoredClaim>,
 ) -> Result<G::Pass, (RunFault, G::Pass)>
     requires own { G.has_pass gate.now pass }
     requires terms { (G.known pass).seen.terms ≡ terms.now }
@@ -230,7 +250,7 @@ fn record_all<R: Wait, G: Gate>(
     // Known from here: a job stays one in each later state of the gate.
     jobs_stay();
     for one in settled {
-        pass = match record(rt, terms, gate, pass, one) {
+        pass = match record(rt, terms, gate, pass, one, released) {
             Ok(pass) => pass,
             Err(left) => return Err(left),
         };
@@ -245,6 +265,7 @@ fn record<R: Wait, G: Gate>(
     gate: &G,
     mut pass: G::Pass,
     settled: Settled,
+    released: &mut Vec<StoredClaim>,
 ) -> Result<G::Pass, (RunFault, G::Pass)>
     requires own { G.has_pass gate.now pass }
     requires terms { (G.known pass).seen.terms ≡ terms.now }
@@ -267,7 +288,11 @@ fn record<R: Wait, G: Gate>(
             Err((_, pass, _, _)) => return Err((RunFault::Worn, pass)),
         };
         match recorded {
-            Ok(_) => return Ok(after),
+            Ok(recorded) => {
+                // Where there is no room, the claim is let go here.
+                let _ = released.push(recorded.claim);
+                return Ok(after);
+            }
             Err((FinishFault::AlreadyDecided, _, _)) => return Ok(after),
             Err((FinishFault::Stopped, _, _)) => return Err((RunFault::Stopped, after)),
             Err((FinishFault::OutOfMemory, again, same)) => {

@@ -1,4 +1,3 @@
-pub mod Stored
 pub mod Places
 pub mod Calls
 pub mod Names

@@ -1,15 +1,15 @@
 //! What the next calls need of memory, read for several claims at once.
 //!
-//! A claim that is taken needs three places that nobody has looked at for a while: its slot, that of the last claim of its account, and where
-//! the claim stands; one that is added needs its family's name, the last claims that it stands behind, and their slots. One after another the
-//! processor waits for each; those of several claims, which don't depend on each other, it fetches side by side. Nothing is promised of what
-//! is read here, and nothing rests on it.
+//! A claim that is taken needs two places that nobody has looked at for a while: its slot, and that of the last claim of its account; one that
+//! is added needs its family's name, the last claims that it stands behind, and their slots. One after another the processor waits for each;
+//! those of several claims, which don't depend on each other, it fetches side by side. Nothing is promised of what is read here, and nothing
+//! rests on it.
 
 use crate::chains::Chains;
 use crate::ends::Ends;
 use crate::names::Names;
 use crate::slot::Slot;
-use settlement::Claim;
+use crate::stored::StoredClaim;
 use std::alloc::Global;
 
 /// For so many claims at once: a processor has about so many reads under way.
@@ -48,18 +48,18 @@ impl Ahead {
             read = read.wrapping_add(before(slot_of(chains, place)));
         }
         for place in 0..CLAIMS_AT_ONCE {
-            read = read.wrapping_add(contents(chains, slot_of(chains, place)));
+            read = read.wrapping_add(left_before(chains, slot_of(chains, place)));
         }
         self.read = read;
     }
 
     /// Looks up which numbers the families of these claims may have, before they are added.
-    pub fn foresee(&mut self, names: &Names, claims: &[Claim]) {
+    pub fn foresee(&mut self, names: &Names, claims: &[StoredClaim]) {
         self.coming.clear();
         self.added = 0;
         for claim in claims {
             // Where there is no memory, those behind it are looked up one by one.
-            let Ok(()) = self.coming.push(names.place_of(claim.family())) else {
+            let Ok(()) = self.coming.push(names.place_of(claim.as_claim().family())) else {
                 break;
             };
         }
@@ -73,7 +73,7 @@ impl Ahead {
     pub fn fetch_added(&mut self, names: &Names, chains: &Chains) -> Option<u32> {
         let number = self.coming.get(self.added).copied()?;
         if self.added % CLAIMS_AT_ONCE == 0 {
-            let read = read_of_places(chains).wrapping_add(self.read_of_coming(names, chains));
+            let read = self.read_of_coming(names, chains);
             self.read = self.read.wrapping_add(read);
         }
         self.added = self.added.saturating_add(1);
@@ -99,18 +99,6 @@ impl Ahead {
     }
 }
 
-// A number made of the places on the heap that the next claims will stand in.
-fn read_of_places(chains: &Chains) -> usize {
-    let spares = chains.spares.len();
-    let mut read = 0usize;
-    for place in 1..=CLAIMS_AT_ONCE {
-        if let Some(spare) = chains.spares.get(spares.wrapping_sub(place)) {
-            read = read.wrapping_add(usize::from(spare.is_empty()));
-        }
-    }
-    read
-}
-
 // The slot of the claim that stands at a place of the queue.
 fn slot_of(chains: &Chains, place: usize) -> Option<&Slot> {
     let position = chains.ready.get(place)?;
@@ -125,10 +113,10 @@ fn before(slot: Option<&Slot>) -> usize {
     }
 }
 
-// A number made of the slot of the last claim of its account, and of the claim itself.
-fn contents(chains: &Chains, slot: Option<&Slot>) -> usize {
+// A number made of the slot of the last claim of its account.
+fn left_before(chains: &Chains, slot: Option<&Slot>) -> usize {
     match slot {
-        Some(slot) => left_by(chains, slot.own).wrapping_add(slot.phase.claim_bytes()),
+        Some(slot) => left_by(chains, slot.own),
         None => 0,
     }
 }

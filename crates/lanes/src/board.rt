@@ -11,13 +11,13 @@ use crate::chains::Chains;
 use crate::lasts::Key;
 use crate::names::Names;
 use crate::picked::Picked;
+use crate::stored::StoredClaim;
 use settlement::{Acc, Claim};
 use std::alloc::{AllocError, AllocFailed, Global};
 use std::marker::Model;
 
 /// The places of claims, by position. Contracts see the list of places.
 pub struct Lanes {
-    alloc: Global,
     names: Names,
     chains: Chains,
     ahead: Ahead,
@@ -26,7 +26,6 @@ pub struct Lanes {
 impl Drop for Lanes {
     fn drop(self) {
         let Lanes {
-            alloc: _,
             names: _,
             chains: _,
             ahead: _,
@@ -52,7 +51,6 @@ impl Lanes {
         ensures { result ≡ [] }
     {
         Lanes {
-            alloc,
             names: Names::new(alloc),
             chains: Chains::new(alloc),
             ahead: Ahead::new(alloc),
@@ -69,25 +67,25 @@ impl Lanes {
 
     /// Adds a claim, of its member's account in this year, behind all others. The claim comes back where there is no memory, as
     /// for more than 2^32 claims.
-    pub fn add(&mut self, claim: Claim, year: u16) -> Result<(), AllocFailed<Claim>>
+    pub fn add(&mut self, claim: StoredClaim, year: u16) -> Result<(), AllocFailed<StoredClaim>>
         ensures added { IfOk result (λ _. self.new ≡ self.old ++ place_behind self.old claim year ∷ []) }
         ensures back { IfErr result (λ failed. failed.value ≡ claim) }
         ensures refused { IfErr result (λ _. self.new ≡ self.old) }
         ensures in_turn { InTurn self.new }
     {
         let likely = self.ahead.fetch_added(&self.names, &self.chains);
-        let Ok(key) = key_of(&mut self.names, &claim, year, likely) else {
+        let Ok(key) = key_of(&mut self.names, claim.as_claim(), year, likely) else {
             return Err(AllocFailed { value: claim });
         };
-        let Ok(place) = self.chains.prepare(self.alloc, key) else {
+        let Ok(()) = self.chains.prepare(key) else {
             return Err(AllocFailed { value: claim });
         };
-        self.chains.add(key, place.fill(claim));
+        self.chains.add(key, claim);
         Ok(())
     }
 
     /// Reads what these claims will need when they are added. Contracts see no change.
-    pub fn foresee(&mut self, claims: &[Claim])
+    pub fn foresee(&mut self, claims: &[StoredClaim])
         ensures same { self.new ≡ self.old }
         ensures in_turn { InTurn self.new }
     {

@@ -13,7 +13,7 @@ use crate::phase::Phase;
 use crate::picked::Picked;
 use crate::short::short;
 use crate::slot::{Slot, left_at};
-use crate::stored::{EmptyPlace, StoredClaim};
+use crate::stored::StoredClaim;
 use settlement::Acc;
 use std::alloc::{AllocError, Global};
 use std::collections::VecDeque;
@@ -29,8 +29,6 @@ pub struct Chains {
     pub households: Lasts,
     /// The positions of the claims that are ready, first come first.
     pub ready: VecDeque<usize>,
-    /// Places of claims that were taken, for those to come.
-    pub spares: Vec<EmptyPlace>,
 }
 
 impl Drop for Chains {
@@ -41,7 +39,6 @@ impl Drop for Chains {
             accounts: _,
             households: _,
             ready: _,
-            spares: _,
         } = self;
     }
 }
@@ -61,12 +58,11 @@ impl Chains {
             accounts: Lasts::new(alloc),
             households: Lasts::new(alloc),
             ready: VecDeque::new(alloc),
-            spares: Vec::new(alloc),
         }
     }
 
-    /// Makes room for one claim more, of this account, and gives a place for it: one that was left, if there is one.
-    pub fn prepare(&mut self, alloc: Global, key: Key) -> Result<EmptyPlace, AllocError>
+    /// Makes room for one claim more, of this account.
+    pub fn prepare(&mut self, key: Key) -> Result<(), AllocError>
         ensures same { AreAs self.old self.new }
         ensures room { OnOk result (HasRoom self.new key) }
     {
@@ -75,11 +71,7 @@ impl Chains {
         self.ready.reserve(1)?;
         self.ends.prepare(key.0)?;
         self.accounts.prepare(key)?;
-        self.households.prepare((key.0, key.0, key.2))?;
-        match self.spares.pop() {
-            Some(place) => Ok(place),
-            None => EmptyPlace::new(alloc),
-        }
+        self.households.prepare((key.0, key.0, key.2))
     }
 
     /// Adds a claim of an account behind the others.
@@ -123,9 +115,7 @@ impl Chains {
         let position = self.ready.pop_front()?;
         let own = left_at(&self.slots, self.slots[position].own);
         let household = left_at(&self.slots, self.slots[position].household);
-        let (claim, place) = self.slots[position].pick().into_parts();
-        // Where there is no memory to keep it, the place is given back.
-        let _ = self.spares.push(place);
+        let claim = self.slots[position].pick();
         Some(Picked {
             position,
             claim,

@@ -21,3 +21,4 @@ mod stored;
 
 pub use board::Lanes;
 pub use picked::Picked;
+pub use stored::StoredClaim;

@@ -53,7 +53,10 @@ impl Names {
         if let Some(number) = self.tried(name, likely) {
             return Ok(number);
         }
-        if let Some(number) = self.tried(name, self.hints.of(name)) {
+        if let Some(number) = self.tried(name, self.hints.first_of(name)) {
+            return Ok(number);
+        }
+        if let Some(number) = self.tried(name, self.hints.second_of(name)) {
             return Ok(number);
         }
         match self.find(name) {

@@ -47,14 +47,6 @@ impl Phase {
         }
     }
 
-    /// How many bytes the claim's number has; none where the claim is in nobody's place any more.
-    pub fn claim_bytes(&self) -> usize {
-        match self {
-            Phase::Ready(claim) | Phase::Waiting(claim) => claim.id_bytes(),
-            _ => 0,
-        }
-    }
-
     /// Whether the claim is decided.
     pub fn is_decided(&self) -> bool
         ensures { result ≡ is_decided self.now }

@@ -2,7 +2,8 @@
 ghost use Rattle.std.specs.Prelude.{◌≡◌, ◌&&◌, is_some};
 ghost use Rattle.lanes.specs.Places.{started};
 
-use settlement::{Acc, Claim};
+use crate::stored::StoredClaim;
+use settlement::Acc;
 
 /// A claim, with what the earlier ones left of what it is to be decided at.
 #[derive(Drop)]
@@ -10,7 +11,7 @@ pub struct Picked {
     /// How many claims were added before it.
     pub position: usize,
     /// The claim.
-    pub claim: Claim,
+    pub claim: StoredClaim,
     /// What the last claim before it of its account left.
     pub own: Option<Acc>,
     /// What the last claim before it of its family and year left.

@@ -6,7 +6,7 @@ ghost use Rattle.lanes.specs.Calls.{IsInWork};
 use dtable::Sequence;
 use feel_tests::{Day, TEXT_LIMIT_BYTES, Text};
 use fixpoint::Fixed;
-use lanes::{Lanes, Picked};
+use lanes::{Lanes, Picked, StoredClaim};
 use settlement::{Acc, Claim, Money};
 use std::alloc::Global;
 use std::process::Abort;
@@ -33,18 +33,22 @@ fn text(rt: &impl Abort, alloc: Global, text: &str) -> Text {
 }
 
 // A claim of a member of a family, or who is a family of its own.
-fn claim(rt: &impl Abort, alloc: Global, id: &str, of: Option<&str>, member: &str) -> Claim {
+fn claim(rt: &impl Abort, alloc: Global, id: &str, of: Option<&str>, member: &str) -> StoredClaim {
     let family = match of {
         Some(family) => Some(text(rt, alloc, family)),
         None => None,
     };
-    Claim {
+    let claim = Claim {
         id: text(rt, alloc, id),
         family,
         member: text(rt, alloc, member),
         service: Day::from_epoch_day(19_727).expect(rt, "a day"),
         billed: money(rt, 12_000),
         fields: Sequence::new(alloc),
+    };
+    match StoredClaim::new(alloc, claim) {
+        Ok(stored) => stored,
+        Err(refused) => StoredClaim::new(alloc, refused.value).expect(rt, "memory for a claim"),
     }
 }
 
@@ -70,7 +74,7 @@ fn add_of(
     let claim = claim(rt, alloc, id, family, member);
     let before = lanes.len();
     if let Err(refused) = lanes.add(claim, year) {
-        assert!(rt; refused.value.id.as_str() == id && lanes.len() == before);
+        assert!(rt; refused.value.as_claim().id.as_str() == id && lanes.len() == before);
         let Ok(()) = lanes.add(refused.value, year) else {
             panic!(rt; "memory for a claim");
         };
@@ -90,7 +94,7 @@ fn take(lanes: &mut Lanes) -> Option<Picked>
 // met. It takes the claim, since each function in which one ends costs the proof seconds.
 fn check_claim(rt: &impl Abort, picked: Picked, position: usize, id: &str, met: (i64, i64)) {
     assert!(rt; picked.position == position);
-    assert!(rt; picked.claim.id.as_str() == id);
+    assert!(rt; picked.claim.as_claim().id.as_str() == id);
     let before = picked.start(acc(rt, 100));
     assert!(rt; before.met == money(rt, met.0));
     assert!(rt; before.fmet == money(rt, met.1));

@@ -11,10 +11,9 @@ ghost use Rattle.claim_gate.specs.Replies.{take_reply, HasClaims, IsFiled, IsWor
 
 use super::events::{Word, last_word};
 use claim_gate::{
-    Accepted, Counts, EndFault, Ended, FinishFault, GateState, Job, Offer, OfferFault, Recorded,
-    TakeFault, Taken,
+    Accepted, Counts, Decision, EndFault, Ended, FinishFault, GateState, Job, Offer, OfferFault,
+    Recorded, TakeFault, Taken,
 };
-use settlement::Outcome;
 use std::alloc::Global;
 use std::process::Abort;
 
@@ -95,8 +94,8 @@ pub fn finish<'t>(
     rt: &impl Abort,
     gate: &mut GateState<'t>,
     job: Job,
-    outcome: Outcome,
-) -> Result<Recorded, (FinishFault, Job, Outcome)>
+    outcome: Decision,
+) -> Result<Recorded, (FinishFault, Job, Decision)>
     requires in_work { taken gate.old.journal job.position ≡ true }
     requires job { ForTerms gate.old.terms (λ T. IsJob T gate.old.journal job.position job.claim job.acc) }
     requires settled { outcome ≡ outcome_of gate.old.terms.plan job.claim job.acc }
@@ -104,11 +103,11 @@ pub fn finish<'t>(
     ensures recorded { OnOk result (gate.new ≡ record gate.old { journal = gate.old.journal ++ events.Decide job.position outcome ∷ [] }) }
 {
     let before = mark(gate);
-    let given = (job.position, outcome.paid);
+    let given = (job.position, outcome.outcome().paid);
     match gate.finish(job, outcome) {
         Ok(recorded) => Ok(recorded),
         Err((FinishFault::OutOfMemory, job, outcome)) => {
-            assert!(rt; mark(gate) == before && (job.position, outcome.paid) == given);
+            assert!(rt; mark(gate) == before && (job.position, outcome.outcome().paid) == given);
             let answer = gate.finish(job, outcome);
             assert!(rt; !matches!(answer, Err((FinishFault::OutOfMemory, _, _))));
             answer

@@ -7,9 +7,8 @@ ghost use Rattle.journal.specs.Settled.{outcome_of};
 ghost use Rattle.claim_gate.specs.Replies.{HasClaims, IsFiled};
 ghost use Rattle.claim_gate_tests.specs.Words.{IsAtWork, IsCaller};
 
-use claim_gate::{Counts, EndFault, Gate, Job, Offer, Taken, Terms};
+use claim_gate::{Counts, Decision, EndFault, Gate, Job, Offer, Taken, Terms};
 use journal::jobs_stay;
-use settlement::Outcome;
 use std::process::Abort;
 use std::sync::Wait;
 
@@ -119,7 +118,7 @@ pub fn record<G: Gate>(
     gate: &G,
     pass: G::Pass,
     job: Job,
-    outcome: Outcome,
+    outcome: Decision,
     before: Counts,
 ) -> G::Pass
     requires caller { IsCaller (G.has_pass gate.now) G.known terms.now pass }
@@ -140,7 +139,7 @@ fn record_once<G: Gate>(
     gate: &G,
     pass: G::Pass,
     job: Job,
-    outcome: Outcome,
+    outcome: Decision,
 ) -> G::Pass
     requires caller { IsCaller (G.has_pass gate.now) G.known terms.now pass }
     requires at_work { IsAtWork (G.known pass).seen job }

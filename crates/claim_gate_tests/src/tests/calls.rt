@@ -7,9 +7,11 @@ ghost use Rattle.claim_gate_tests.specs.Words.{IsAtWork, WorkStays};
 
 use super::again;
 use super::filing::offer_at;
-use claim_gate::{EndFault, FinishFault, GateState, Job, Offer, OfferFault, Taken, Terms};
+use claim_gate::{
+    Decision, EndFault, FinishFault, GateState, Job, Offer, OfferFault, Taken, Terms,
+};
 use journal::jobs_stay;
-use settlement::{Outcome, decide};
+use settlement::{Acc, Claim, Outcome, decide};
 use std::alloc::{AllocError, Global};
 use std::process::Abort;
 
@@ -136,23 +138,36 @@ fn decide_once(
     rt: &impl Abort,
     alloc: Global,
     terms: &Terms,
-    job: &Job,
+    claim: &Claim,
+    acc: Acc,
 ) -> Result<Outcome, AllocError>
-    ensures { IfOk result (λ outcome. outcome ≡ outcome_of terms.now.plan job.now.claim job.now.acc) }
+    ensures { IfOk result (λ outcome. outcome ≡ outcome_of terms.now.plan claim.now acc) }
 {
     let plan = terms.plan();
     assert!(rt; plan.roles().is_some());
-    assert!(rt; job.claim.is_of(plan));
-    decide(alloc, plan, &job.claim, job.acc)
+    assert!(rt; claim.is_of(plan));
+    decide(alloc, plan, claim, acc)
+}
+
+fn settled_once(
+    rt: &impl Abort,
+    alloc: Global,
+    terms: &Terms,
+    job: &Job,
+) -> Result<Decision, AllocError>
+    ensures { IfOk result (λ outcome. outcome ≡ outcome_of terms.now.plan job.now.claim job.now.acc) }
+{
+    let outcome = decide_once(rt, alloc, terms, job.claim.as_claim(), job.acc)?;
+    Ok(Decision::new(alloc, outcome)?)
 }
 
 // The outcome of a job.
-pub fn settled(rt: &impl Abort, alloc: Global, terms: &Terms, job: &Job) -> Outcome
+pub fn settled(rt: &impl Abort, alloc: Global, terms: &Terms, job: &Job) -> Decision
     ensures { result ≡ outcome_of terms.now.plan job.now.claim job.now.acc }
 {
-    match decide_once(rt, alloc, terms, job) {
+    match settled_once(rt, alloc, terms, job) {
         Ok(outcome) => outcome,
-        Err(_) => decide_once(rt, alloc, terms, job).expect(rt, "memory for an outcome"),
+        Err(_) => settled_once(rt, alloc, terms, job).expect(rt, "memory for an outcome"),
     }
 }
 
@@ -185,7 +200,7 @@ pub fn refuse_outcome<'t>(
     gate: &mut GateState<'t>,
     job: Job,
     fault: FinishFault,
-) -> (Job, Outcome)
+) -> (Job, Decision)
     requires terms { gate.old.terms ≡ terms.now }
     requires at_work { IsAtWork gate.old job }
     ensures terms { gate.new.terms ≡ terms.now }

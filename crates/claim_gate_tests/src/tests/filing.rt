@@ -5,7 +5,7 @@ ghost use Rattle.claim_terms.specs.Terms.{ForTerms};
 ghost use Rattle.claim_gate.specs.Replies.{HasClaims, IsFiled};
 ghost use Rattle.claim_gate_tests.specs.Words.{IsReader};
 
-use claim_gate::{GateState, Offer, Terms};
+use claim_gate::{GateState, Offer, StoredClaim, Terms};
 use dtable::{Plan, read_plan};
 use intake_csv::{
     Row, Rows, given_row_is_the_first, no_records_give_no_rows, reader_begins_with_all_rows,
@@ -81,6 +81,7 @@ pub fn open<'t>(
 // The next record of a provider's file, a claim, as an offer.
 pub fn next_offer(
     rt: &impl Abort,
+    alloc: Global,
     terms: &Terms,
     provider: usize,
     rows: &mut Rows,
@@ -96,7 +97,7 @@ pub fn next_offer(
         Some(Row::Good { place, claim, .. }) => Ok(Offer {
             provider,
             place,
-            claim,
+            claim: StoredClaim::new(alloc, claim)?,
         }),
         _ => panic!(rt; "a claim"),
     }
@@ -105,6 +106,7 @@ pub fn next_offer(
 // Goes by so many records at the start of a provider's file, which are claims.
 fn go_by(
     rt: &impl Abort,
+    alloc: Global,
     terms: &Terms,
     provider: usize,
     rows: &mut Rows,
@@ -116,7 +118,7 @@ fn go_by(
     ensures place { OnOk result (rows.new.place ≡ count) }
 {
     for _ in 0..count {
-        next_offer(rt, terms, provider, rows)?;
+        next_offer(rt, alloc, terms, provider, rows)?;
     }
     Ok(())
 }
@@ -124,6 +126,7 @@ fn go_by(
 // The claim behind so many others at the start of a provider's file, as an offer.
 fn offer_behind(
     rt: &impl Abort,
+    alloc: Global,
     terms: &Terms,
     provider: usize,
     rows: &mut Rows,
@@ -133,8 +136,8 @@ fn offer_behind(
     requires place { rows.old.place ≡ 0 }
     ensures filed { IfOk result (λ offer. ForTerms terms.now (λ T. IsFiled T offer)) }
 {
-    go_by(rt, terms, provider, rows, place)?;
-    next_offer(rt, terms, provider, rows)
+    go_by(rt, alloc, terms, provider, rows, place)?;
+    next_offer(rt, alloc, terms, provider, rows)
 }
 
 fn read_offer(
@@ -147,7 +150,7 @@ fn read_offer(
     ensures { IfOk result (λ offer. ForTerms terms.now (λ T. IsFiled T offer)) }
 {
     let mut rows = open(rt, alloc, terms, provider)?;
-    offer_behind(rt, terms, provider, &mut rows, place)
+    offer_behind(rt, alloc, terms, provider, &mut rows, place)
 }
 
 // The claim at a place of a provider's file, whose records up to it are claims, as an offer.
@@ -169,6 +172,7 @@ pub fn offer_at(
 // Goes to the end of a file, behind so many claims, and nothing else.
 fn go_to_end(
     rt: &impl Abort,
+    alloc: Global,
     terms: &Terms,
     provider: usize,
     rows: &mut Rows,
@@ -179,7 +183,7 @@ fn go_to_end(
     ensures { OnOk result (ForTerms terms.now (λ T. HasClaims T provider count)) }
 {
     no_records_give_no_rows();
-    go_by(rt, terms, provider, rows, count)?;
+    go_by(rt, alloc, terms, provider, rows, count)?;
     match rows.next()? {
         None => Ok(()),
         Some(_) => panic!(rt; "the end of the file"),
@@ -196,7 +200,7 @@ fn read_through(
     ensures { OnOk result (ForTerms terms.now (λ T. HasClaims T provider count)) }
 {
     let mut rows = open(rt, alloc, terms, provider)?;
-    go_to_end(rt, terms, provider, &mut rows, count)
+    go_to_end(rt, alloc, terms, provider, &mut rows, count)
 }
 
 // Reads a provider's file to its end: so many claims, and nothing else.
@@ -211,5 +215,5 @@ pub fn read_all(rt: &impl Abort, alloc: Global, terms: &Terms, provider: usize, 
 
 // Whether an offer is the claim of this number, of a provider and place.
 pub fn is_offer(offer: &Offer, provider: usize, place: usize, id: &str) -> bool {
-    offer.provider == provider && offer.place == place && offer.claim.id.as_str() == id
+    offer.provider == provider && offer.place == place && offer.claim.as_claim().id.as_str() == id
 }

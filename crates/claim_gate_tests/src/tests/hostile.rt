@@ -36,7 +36,7 @@ fn decide_copy<G: Gate>(
     let pass = record(rt, alloc, terms, gate, pass, job, before);
     let decided = FinishFault::AlreadyDecided;
     let (pass, back, outcome) = refuse_outcome(rt, alloc, terms, gate, pass, copy, decided);
-    assert!(rt; is_job(&back, 0, "c1") && is_paid_40(&outcome));
+    assert!(rt; is_job(&back, 0, "c1") && is_paid_40(outcome.outcome()));
     drop(back);
     drop(outcome);
     pass

@@ -196,7 +196,7 @@ fn finish_stopped<G: Gate>(
     let pass = stopped_calls(rt, alloc, terms, gate, pass);
     let stopped = FinishFault::Stopped;
     let (pass, job, outcome) = refuse_outcome(rt, alloc, terms, gate, pass, job, stopped);
-    assert!(rt; is_job(&job, 1, "c2") && is_paid_40(&outcome));
+    assert!(rt; is_job(&job, 1, "c2") && is_paid_40(outcome.outcome()));
     drop(job);
     drop(outcome);
     pass

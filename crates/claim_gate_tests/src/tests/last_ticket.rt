@@ -114,7 +114,7 @@ fn worn_finish<G: Gate>(
     let Err((_, _pass, job, outcome)) = gate.finish(rt, pass, job, outcome) else {
         panic!(rt; "no ticket for a finish");
     };
-    assert!(rt; is_job(&job, 0, "c1") && is_paid_40(&outcome));
+    assert!(rt; is_job(&job, 0, "c1") && is_paid_40(outcome.outcome()));
     drop(job);
     drop(outcome);
 }

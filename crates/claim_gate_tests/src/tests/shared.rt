@@ -10,10 +10,9 @@ use super::again_shared;
 use super::calls::settled;
 use super::filing::offer_at;
 use claim_gate::{
-    Counts, EndFault, FinishFault, Gate, Job, Offer, OfferFault, TakeFault, Taken, Terms,
+    Counts, Decision, EndFault, FinishFault, Gate, Job, Offer, OfferFault, TakeFault, Taken, Terms,
 };
 use journal::jobs_stay;
-use settlement::Outcome;
 use std::alloc::Global;
 use std::process::Abort;
 use std::sync::Wait;
@@ -189,14 +188,14 @@ pub fn record<G: Gate>(
 {
     jobs_stay();
     let outcome = settled(rt, alloc, terms, &job);
-    let given = (job.position, outcome.paid);
+    let given = (job.position, outcome.outcome().paid);
     let Ok((reply, pass)) = gate.finish(rt, pass, job, outcome) else {
         panic!(rt; "a reply");
     };
     match reply {
         Ok(_) => pass,
         Err((FinishFault::OutOfMemory, job, outcome)) => {
-            assert!(rt; (job.position, outcome.paid) == given);
+            assert!(rt; (job.position, outcome.outcome().paid) == given);
             again_shared::record(rt, terms, gate, pass, job, outcome, before)
         }
         Err(_) => panic!(rt; "a recorded outcome"),
@@ -212,7 +211,7 @@ pub fn refuse_outcome<G: Gate>(
     pass: G::Pass,
     job: Job,
     fault: FinishFault,
-) -> (G::Pass, Job, Outcome)
+) -> (G::Pass, Job, Decision)
     requires caller { IsCaller (G.has_pass gate.now) G.known terms.now pass }
     requires at_work { IsAtWork (G.known pass).seen job }
     ensures caller { IsCaller (G.has_pass gate.now) G.known terms.now result.0 }

@@ -37,7 +37,7 @@ pub fn is_paid_40(outcome: &Outcome) -> bool {
 }
 
 pub fn is_job(job: &Job, position: usize, id: &str) -> bool {
-    job.position == position && job.claim.id.as_str() == id
+    job.position == position && job.claim.as_claim().id.as_str() == id
 }
 
 // A gate that has accepted the first provider's first claim.
@@ -189,7 +189,7 @@ fn decide_copy<'t>(
     let decided = FinishFault::AlreadyDecided;
     let (back, outcome) = refuse_outcome(rt, alloc, terms, gate, copy, decided);
     assert!(rt; is_job(&back, 0, "c1"));
-    assert!(rt; is_paid_40(&outcome));
+    assert!(rt; is_paid_40(outcome.outcome()));
     drop(back);
     drop(outcome);
     assert!(rt; gate.counts() == counts(1, 0, 1, false));
@@ -254,7 +254,7 @@ fn call_stopped<'t>(
     find_stopped(rt, terms, gate);
     let stopped = FinishFault::Stopped;
     let (back, outcome) = refuse_outcome(rt, alloc, terms, gate, job, stopped);
-    assert!(rt; is_job(&back, 1, "c2") && is_paid_40(&outcome));
+    assert!(rt; is_job(&back, 1, "c2") && is_paid_40(outcome.outcome()));
     drop(back);
     drop(outcome);
 }

@@ -8,7 +8,7 @@ ghost use Rattle.crew.specs.Sharing.{HasAccepted};
 use super::journals::comes_to;
 use super::outcomes_of_both;
 use super::watched::{WatchedGate, nothing};
-use claim_gate::{Gate, GateState, LockedGate, Offer, SerialGate};
+use claim_gate::{Gate, GateState, LockedGate, Offer, SerialGate, StoredClaim};
 use claim_terms::{Terms, terms_are_seen};
 use crew::run_with;
 use intake_csv::{Row, given_row_has_the_claim, reader_begins_with_all_rows};
@@ -26,7 +26,7 @@ fn accept<R: Wait + Abort, G: Gate>(
     gate: &G,
     pass: G::Pass,
     place: usize,
-    claim: Claim,
+    claim: StoredClaim,
 ) -> G::Pass
     requires own { G.has_pass gate.now pass }
     requires terms { (G.known pass).seen.terms ≡ terms.now }
@@ -56,7 +56,7 @@ fn accept<R: Wait + Abort, G: Gate>(
 }
 
 // The first two claims of the first provider.
-fn first_two(rt: &impl Abort, alloc: Global, terms: &Terms) -> (Claim, Claim)
+fn first_two(rt: &impl Abort, alloc: Global, terms: &Terms) -> (StoredClaim, StoredClaim)
     requires { 1 ≤ length terms.now.files }
     ensures first { ForTerms terms.now (λ T. slice_get (claims_of T 1) 0 ≡ Some result.0) }
     ensures second { ForTerms terms.now (λ T. slice_get (claims_of T 1) 1 ≡ Some result.1) }
@@ -68,14 +68,23 @@ fn first_two(rt: &impl Abort, alloc: Global, terms: &Terms) -> (Claim, Claim)
         Err(_) => panic!(rt; "rows"),
     };
     let first = match rows.next() {
-        Ok(Some(Row::Good { claim, .. })) => claim,
+        Ok(Some(Row::Good { claim, .. })) => stored(rt, alloc, claim),
         _ => panic!(rt; "a claim"),
     };
     let second = match rows.next() {
-        Ok(Some(Row::Good { claim, .. })) => claim,
+        Ok(Some(Row::Good { claim, .. })) => stored(rt, alloc, claim),
         _ => panic!(rt; "a claim"),
     };
     (first, second)
+}
+
+fn stored(rt: &impl Abort, alloc: Global, claim: Claim) -> StoredClaim
+    ensures { result ≡ claim }
+{
+    match StoredClaim::new(alloc, claim) {
+        Ok(stored) => stored,
+        Err(_) => panic!(rt; "memory for a claim"),
+    }
 }
 
 // Runs on a gate where another pass has had the first two claims of the first provider accepted.

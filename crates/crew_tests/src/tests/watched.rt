@@ -3,10 +3,10 @@
 ghost use Rattle.std.specs.Prelude.{◌≡◌};
 
 use claim_gate::{
-    Accepted, Counts, EndFault, Ended, FinishFault, Gate, Job, Offer, OfferFault, Recorded,
-    TakeFault, Taken,
+    Accepted, Counts, Decision, EndFault, Ended, FinishFault, Gate, Job, Offer, OfferFault,
+    Recorded, StoredClaim, TakeFault, Taken,
 };
-use settlement::{Claim, Money, Outcome};
+use settlement::Money;
 use std::sync::Wait;
 use std::sync::atomic::{AtomicU64, Ordering};
 use std::thread;
@@ -186,13 +186,13 @@ impl<G> WatchedGate<G> {
 
     fn note_recorded(
         &self,
-        answer: &Result<Recorded, (FinishFault, Job, Outcome)>,
+        answer: &Result<Recorded, (FinishFault, Job, Decision)>,
         position: usize,
         paid: Money,
     ) {
         if let Err((FinishFault::Stopped, job, outcome)) = answer
             && job.position == position
-            && outcome.paid == paid
+            && outcome.outcome().paid == paid
         {
             self.handed_back.fetch_add(1, Ordering::SeqCst);
         }
@@ -236,7 +236,7 @@ impl<G: Gate> Gate for WatchedGate<G> {
         &self,
         rt: &R,
         pass: G::Pass,
-        claims: &[Claim],
+        claims: &[StoredClaim],
     ) -> Result<G::Pass, (Worn, G::Pass)> {
         self.gate.foresee(rt, pass, claims)
     }
@@ -294,10 +294,10 @@ impl<G: Gate> Gate for WatchedGate<G> {
         rt: &R,
         pass: G::Pass,
         job: Job,
-        outcome: Outcome,
+        outcome: Decision,
     ) -> Result<
-        (Result<Recorded, (FinishFault, Job, Outcome)>, G::Pass),
-        (Worn, G::Pass, Job, Outcome),
+        (Result<Recorded, (FinishFault, Job, Decision)>, G::Pass),
+        (Worn, G::Pass, Job, Decision),
     > {
         if next_number(&self.finished) <= self.watch.refused_outcomes {
             return match self.gate.counts(rt, pass) {
@@ -305,7 +305,7 @@ impl<G: Gate> Gate for WatchedGate<G> {
                 Err((worn, pass)) => Err((worn, pass, job, outcome)),
             };
         }
-        let (position, paid) = (job.position, outcome.paid);
+        let (position, paid) = (job.position, outcome.outcome().paid);
         let (pass, other) = self.gate.split(pass);
         if self.watch.stops_outcomes {
             let _ = self.gate.stop(rt, other);

@@ -19,9 +19,9 @@ records-preserved c =
     let some = rw c.in-Good.is at given in
     let shorter = ap length some.next in
     let number : c.in-Good.number < 2 ^ 64 = search rules in
-    rw c.in_ok-push.ensures.items (
+    rw c.in_ok-push.ensures.items (rw c.in_ok-new.ensures.value (
       claim_read c.given_row_has_the_claim.ensures c.args.rows.now c.records.rows c.next.new.self c.records.claims.items c.in-Good.number c.in-Good.place c.in-Good.claim
           c.records.invariant.0 some,
       omega (arith, c.records.invariant.1, shorter),
       room_more c.args.rows.now c.records.rows c.next.new.self c.records.claims.items c.in-Good.number c.in-Good.place c.in-Good.claim c.records.invariant.0 some number,
-    )
+    ))

@@ -1,10 +1,9 @@
-use Rattle.std.proofs.Common.{◌++◌, map, ap, ◌∙◌, refl}
+use Rattle.std.proofs.Common.{◌++◌, map, ap, ◌∙◌}
 use Rattle.std.proofs.lemmas.List.Elements.{All-rest}
 use Rattle.std.specs.Vec.Iter.{into_iter_items}
 use Rattle.settlement.specs.Claim.{IsClaimOf}
 use Rattle.crew.specs.Sharing.{settled_by}
-use Rattle.crew.proofs.Held.{one_more, settled_is}
-use Rattle.crew.specs.declared.worker.Settled.{Settled}
+use Rattle.crew.proofs.Held.{one_more}
 use Rattle.crew.proofs.worker.decide_all.Goals as goal
 
 pub loop-job-preserved : goal.loop-job-preserved
@@ -13,10 +12,10 @@ loop-job-preserved c =
     let rest = into_iter_items c.next.new.self in
     let job = c.in-Some.job in
     let items = into_iter_items c.loop-job.job-iterator in
-    let one : Settled = record { job = job; outcome = c.in_ok-outcome.outcome } in (
-      c.in_ok-outcome.ensures.plan ∙ c.loop-job.invariant.0,
+    let one = c.in_ok-one.one in (
+      c.in_ok-one.ensures.plan ∙ c.loop-job.invariant.0,
       ap (λ xs. xs ++ map (settled_by plan) rest) c.in_ok-push.ensures.items
           ∙ one_more (settled_by plan) c.loop-job.settled.items items rest job one (map (settled_by plan) c.args.jobs.items) c.in-Some.ensures.steps.0
-          (settled_is c.loop-job.adjudicator plan job c.in_ok-outcome.outcome one refl c.in_ok-outcome.ensures.decided c.loop-job.invariant.0) c.loop-job.invariant.1,
+          (c.in_ok-one.ensures.settled ∙ ap (λ p. settled_by p job) c.loop-job.invariant.0) c.loop-job.invariant.1,
       All-rest (λ j. IsClaimOf plan j.claim) job rest items c.in-Some.ensures.steps.0 c.loop-job.invariant.2,
     )

@@ -37,8 +37,8 @@ add-requires-clause-within c = λ last is.
 done : (c : goal.After-add) → Adds c.key_of.new.names c.prepare.new.self c.add.new.self c.in-Ok.key c.args.claim c.args.year
 done c = record {
   kept = prepared-kept c.self.inside.names c.key_of.new.names c.self.inside.chains c.prepare.new.self c.self.invariant c.in-Ok.ensures.grows c.in-Ok.ensures.distinct c.prepare.ensures.same;
-  key_is = c.in-Ok.ensures.key;
-  slots = rw (← c.fill.ensures) c.add.ensures.slots;
+  key_is = rw c.as_claim.ensures at c.in-Ok.ensures.key;
+  slots = c.add.ensures.slots;
   back = c.add.ensures.back;
 }
 
