@@ -118,7 +118,7 @@ among_index [] x at = absurd at
 among_index (y ∷ ys) x (inl e) = (0, ap Some e)
 among_index (y ∷ ys) x (inr at) = let more = among_index ys x at in (suc more.0, more.1)
 
-index_within : {X : Type 0} (xs : List X) (k : ℕ) (x : X) → slice_get xs k ≡ Some x → suc k ≤ length xs
+pub index_within : {X : Type 0} (xs : List X) (k : ℕ) (x : X) → slice_get xs k ≡ Some x → suc k ≤ length xs
 index_within [] k x at = absurd (none-some x at)
 index_within (y ∷ ys) zero x at = omega arith
 index_within (y ∷ ys) (suc k) x at = let more = index_within ys k x at in omega (arith, more)

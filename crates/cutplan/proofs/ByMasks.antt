@@ -89,7 +89,7 @@ pub record LiesAt (regions : List Region) (place : ℕ) (v : Value) : Type 0 whe
   pub at : slice_get regions place ≡ Some region
   pub inside : is_in region v ≡ true
 
-lies_at : (regions : List Region) (place : ℕ) (v : Value) → has_at regions place v ≡ true → LiesAt regions place v
+pub lies_at : (regions : List Region) (place : ℕ) (v : Value) → has_at regions place v ≡ true → LiesAt regions place v
 lies_at [] place v has = absurd (both_ways false refl has)
 lies_at (r ∷ rs) zero v has = record { region = r; at = refl; inside = has }
 lies_at (r ∷ rs) (suc place) v has = let more = lies_at rs place v has in record { region = more.region; at = more.at; inside = more.inside }

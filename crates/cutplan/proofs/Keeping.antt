@@ -43,7 +43,7 @@ abbrev pub at_number : {X : Type 0} → ℕ → X → ℕ × X
 at_number n x = (n, x)
 
 -- a column with its place
-placed_column : {X : Type 0} (xs : List X) (i : ℕ) (x : X) → i < length xs → x ≡ get_or xs i x → at_number i x ≡ get_or (enumerate_from 0 xs) i (at_number i x)
+pub placed_column : {X : Type 0} (xs : List X) (i : ℕ) (x : X) → i < length xs → x ≡ get_or xs i x → at_number i x ≡ get_or (enumerate_from 0 xs) i (at_number i x)
 placed_column xs i x below is =
     let zero_more : 0 + i ≡ i = omega arith in
     sym (get_or-enumerate_from 0 xs i (at_number i x) below ∙ ap (λ n. at_number n (get_or xs i x)) zero_more ∙ ap (at_number i) (sym is))

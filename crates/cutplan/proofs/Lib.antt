@@ -36,3 +36,6 @@ pub mod Meeting
 pub mod Places
 pub mod Sorting
 pub mod FewSets
+pub mod Zoned
+pub mod Literals
+pub mod Zoning

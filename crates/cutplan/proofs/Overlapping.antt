@@ -117,7 +117,7 @@ among_map f [] x at = absurd at
 among_map f (y ∷ ys) x (inl e) = inl (ap f e)
 among_map f (y ∷ ys) x (inr at) = inr (among_map f ys x at)
 
-among_flat : {X A : Type 0} (f : X → List A) (xs : List X) (x : X) (y : A) → Among x xs → Among y (f x) → Among y (flat_map f xs)
+pub among_flat : {X A : Type 0} (f : X → List A) (xs : List X) (x : X) (y : A) → Among x xs → Among y (f x) → Among y (flat_map f xs)
 among_flat f [] x y at inside = absurd at
 among_flat f (z ∷ zs) x y (inl e) inside = among_left y (f z) (flat_map f zs) (subst (λ w. Among y (f w)) (sym e) inside)
 among_flat f (z ∷ zs) x y (inr at) inside = among_right y (f z) (flat_map f zs) (among_flat f zs x y at inside)

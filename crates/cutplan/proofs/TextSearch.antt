@@ -139,7 +139,7 @@ other_in_named [] names (inr none) = absurd none
 other_in_named (c ∷ cs) names at = other_named (c ∷ cs) (c ∷ cs) names at
 
 -- wherever a column has any other text, its cuts rise
-others_of : (kind : Kind) (lits names : List Value) → Among (Other names) (stretches kind (rising (filter (has_kind kind) lits))) → AreRisingTexts names
+pub others_of : (kind : Kind) (lits names : List Value) → Among (Other names) (stretches kind (rising (filter (has_kind kind) lits))) → AreRisingTexts names
 others_of kinds.Number lits names at = absurd (no_other_ordered (rising (filter (has_kind kinds.Number) lits)) names at)
 others_of kinds.Day lits names at = absurd (no_other_ordered (rising (filter (has_kind kinds.Day) lits)) names at)
 others_of kinds.Flag lits names (inl e) = absurd cc

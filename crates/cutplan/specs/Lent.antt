@@ -10,8 +10,10 @@ use Rattle.dtable.specs.Plan.{PlanParts}
 use Rattle.dtable.specs.Priority.{all_ranked}
 use Rattle.cutplan.specs.declared.kept.KeptColumn.{KeptColumn}
 use Rattle.cutplan.specs.declared.lent.KeptAnswers.{KeptAnswers}
+use Rattle.cutplan.specs.declared.zone.KeptName.{KeptName}
 use Rattle.cutplan.specs.Kept.{IsCut}
 use Rattle.cutplan.specs.Masks.{has_rule, rules_in}
+use Rattle.cutplan.specs.Zones.{AreKeptNames, ReadsItsNames}
 
 -- the answers of an outcome that is no fault
 abbrev pub answers_in : TableValue → Option (List Answer)
@@ -51,7 +53,9 @@ kept_answers t = record { unmatched = answered t []; alone = map (λ rule. answe
 abbrev pub is_in_mask : List ℕ → ℕ → Bool
 is_in_mask mask rule = nat_lt rule 256 && has_rule mask rule
 
--- what a cut plan keeps: the columns of each table, and its answers
-pub record IsLending (p : PlanParts) (columns_kept : List (List KeptColumn)) (answers_kept : List KeptAnswers) : Type 0 where
+-- what a cut plan keeps: the columns of each table, its answers, and the names that tables read, of which each is one of the plan's
+pub record IsLending (p : PlanParts) (columns_kept : List (List KeptColumn)) (answers_kept : List KeptAnswers) (names_kept : List KeptName) : Type 0 where
   pub cut : IsCut p columns_kept
   pub answers : answers_kept ≡ map kept_answers p.tables
+  pub names : AreKeptNames p names_kept
+  pub within : ReadsItsNames p

@@ -9,3 +9,4 @@ pub mod Masks
 pub mod Found
 pub mod Kept
 pub mod Lent
+pub mod Zones

@@ -9,16 +9,19 @@ ghost use Rattle.cutplan.specs.Lent.{kept_answers};
 ghost use Rattle.cutplan.specs.Masks.{has_rule, rules_in, AreMasksOf, IsColumnNumber};
 ghost use Rattle.cutplan.specs.declared.mask.TheConstants.{MASK_RULES};
 ghost use Rattle.cutplan.specs.Numbered.{cell_limit as CELL_LIMIT, IsTableNumber, cells_of, gaps_of, overlaps_of, IsWide};
+ghost use Rattle.cutplan.specs.Zones.{IsZone};
 
 use crate::fault::CheckFault;
 use crate::few::{Few, few_of};
 use crate::found::matching_mask;
 use crate::kept::{KeptColumn, columns_of_tables};
+use crate::law::zones_answer_alike;
 use crate::lent::{KeptAnswers, answers_of_tables, lent, ranked_in};
 use crate::mask::{INLINE_RULES, list_rules};
 use crate::region::Region;
 use crate::sets::lent_by_set;
 use crate::table_check::{gaps_of, overlaps_of};
+use crate::zone::{KeptName, kept_names, zone_of};
 use dtable::{
     Answer, Answers, AnswersByTable, Env, Fault, Hit, Inputs, Plan, Sequence, Table, Valuer,
     answers_by_hit, lists_of, table_value,
@@ -28,11 +31,13 @@ use std::alloc::{AllocError, Global};
 use std::marker::Model;
 
 /// A plan that can be checked, which contracts see as the plan. It borrows the plan, and keeps the regions of its columns
-/// with their masks, and answers of its tables, which it lends. A check of a table cuts its columns anew.
+/// with their masks, answers of its tables, which it lends, and the regions of the names that tables read, by which it tells
+/// zones. A check of a table cuts its columns anew.
 pub struct CutPlan<'a> {
     plan: &'a Plan,
     columns: Sequence<Sequence<KeptColumn>>,
     answers: Sequence<KeptAnswers>,
+    names: Sequence<KeptName>,
 }
 
 impl Drop for CutPlan<'_> {
@@ -41,6 +46,7 @@ impl Drop for CutPlan<'_> {
             plan: _,
             columns: _,
             answers: _,
+            names: _,
         } = self;
     }
 }
@@ -53,25 +59,29 @@ impl<'a> Model for CutPlan<'a> {
 
     ghost view = { λ c. c.plan.now };
 
-    ghost invariant = { λ c. IsLending c.plan.now c.columns c.answers };
+    ghost invariant = { λ c. IsLending c.plan.now c.columns c.answers c.names };
 }
 
 /// Makes the plan ready for its check and for values by masks.
-#[tactic(auto, using(crate::proofs::Keeping::cut_of, crate::proofs::Keeping::few_rules))]
+#[tactic(auto, using(crate::proofs::Keeping::few_rules))]
 pub fn compile(alloc: Global, plan: &Plan) -> Result<CutPlan<'_>, AllocError>
     ensures { IfOk result (λ made. made ≡ plan.now) }
 {
     let columns = columns_of_tables(alloc, plan, plan.tables())?;
     let answers = answers_of_tables(alloc, plan.tables())?;
+    let names = kept_names(alloc, plan)?;
     Ok(CutPlan {
         plan,
         columns,
         answers,
+        names,
     })
 }
 
 impl<'a> Valuer for CutPlan<'a> {
     ghost plan_of = { λ plan. plan };
+
+    ghost in_zone = { λ plan given zone. IsZone plan given zone };
 
     fn plan(&self) -> &Plan {
         self.plan
@@ -81,6 +91,12 @@ impl<'a> Valuer for CutPlan<'a> {
         let mut answers = AnswersByTable::new(alloc);
         self.push_answers(alloc, inputs, self.plan.tables(), &mut answers)?;
         Ok(Env::new(self.plan.tables(), answers))
+    }
+
+    fn zone(&self, inputs: &Inputs) -> Option<u64> {
+        // Known from here: what lies in one zone has one value.
+        zones_answer_alike();
+        zone_of(self.plan, self.names.as_slice(), inputs)
     }
 }
 

@@ -1,6 +1,7 @@
 //! Laws that tie the regions of a column to values, and the check to what matches. Each call does nothing.
 ghost use Rattle.cutplan.specs.Laws.{AllowedAreInside, CellsHoldAlike, CutsAreLiterals, CutsRise, FitsAreMatches, GapsAreTold, GapsMatchNothing, OverlapsAreTold, OverlapsMatchTogether, RegionsHoldValues, RegionsPartValues};
 ghost use Rattle.cutplan.specs.Masks.{MasksListMatches};
+ghost use Rattle.cutplan.specs.Zones.{ZonesAnswerAlike};
 
 /// A rule's cell holds of all values of a region of its column, or of none.
 pub fn cells_hold_alike()
@@ -69,4 +70,10 @@ pub fn cuts_are_literals()
 /// the word 0 of the mask is 5, and what it lists is 0 and 2, as `matching` is.
 pub fn masks_list_matches()
     ensures { MasksListMatches }
+{}
+
+/// What lies in one zone has one value. The tables read one name, and its cells are `<18`, `[18..65]` and `>65`: 20 and 64 lie in one
+/// zone, so that the tables answer the same at both; 18 and 20 don't, whatever the tables answer there.
+pub fn zones_answer_alike()
+    ensures { ZonesAnswerAlike }
 {}

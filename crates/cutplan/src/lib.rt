@@ -7,10 +7,12 @@
 //! plan: the gaps by their places among all cells, in little memory. A region's mask has the rules whose cell holds in it:
 //! the rules of a table that match are those that the masks of the regions of what it reads have all. Tables, and their
 //! answers once the rules are known, come from `dtable`, cells and values from `feel_tests`, the list of rules from `smallvec`.
+//! The columns that read a name cut its values, too: a plan's zones are the tuples of regions of its names, and inputs that lie in
+//! one zone have one value.
 //!
 //! Begin with `specs/Regions.antt`, which says what the regions of a column are, and `specs/Check.antt`, which says what
-//! gaps and overlaps are; `specs/Masks.antt` and `specs/Found.antt` say what masks are, and what they tell. Then read
-//! `cut_plan.rt`, whose calls carry the promises, and `law.rt`.
+//! gaps and overlaps are; `specs/Masks.antt` and `specs/Found.antt` say what masks are, and what they tell, and
+//! `specs/Zones.antt` what zones are. Then read `cut_plan.rt`, whose calls carry the promises, and `law.rt`.
 #![tactic(auto)]
 
 mod asked;
@@ -34,6 +36,7 @@ mod sets;
 mod sharing;
 mod stretch;
 mod table_check;
+mod zone;
 
 pub use cut_plan::{CutPlan, compile};
 pub use fault::CheckFault;
@@ -41,7 +44,7 @@ pub use gap::{CELL_LIMIT, cell_count};
 pub use law::{
     allowed_are_inside, cells_hold_alike, cuts_are_literals, cuts_rise, fits_are_matches,
     gaps_are_told, gaps_match_nothing, masks_list_matches, overlaps_are_told,
-    overlaps_match_together, regions_hold_values, regions_part_values,
+    overlaps_match_together, regions_hold_values, regions_part_values, zones_answer_alike,
 };
 pub use region::Region;
 pub use table_check::{TableCheck, check_table};

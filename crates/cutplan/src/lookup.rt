@@ -32,8 +32,8 @@ pub fn mask_of<'c>(column: &'c KeptColumn, value: &Value) -> Option<&'c [u64; 4]
     Some(mask)
 }
 
-// The place of a region that has the value, if one has it.
-fn place_of(regions: &[Region], keys: &[u64], value: &Value) -> Option<usize>
+/// The place of a region that has the value, if one has it.
+pub fn place_of(regions: &[Region], keys: &[u64], value: &Value) -> Option<usize>
     requires { OthersRise regions.now }
     ensures { IfSome result (λ place. IsTrue (has_at regions.now place value.now)) }
 {

@@ -26,6 +26,9 @@ use table_faults::Fault;
 impl Valuer for Plan {
     ghost plan_of = { λ plan. plan };
 
+    // A plan that isn't compiled tells no zones.
+    ghost in_zone = { λ plan given zone. ⊥ };
+
     fn plan(&self) -> &Plan {
         self
     }
@@ -33,6 +36,10 @@ impl Valuer for Plan {
     fn value<'a>(&'a self, alloc: Global, inputs: &Inputs) -> Result<Env<'a>, Fault> {
         let answers = answers_of(alloc, inputs, self.tables())?;
         Ok(Env::new(self.tables(), answers))
+    }
+
+    fn zone(&self, _inputs: &Inputs) -> Option<u64> {
+        None
     }
 }
 

@@ -133,7 +133,8 @@ impl Table {
 }
 
 impl Origin {
-    fn reads(self, place: usize) -> bool
+    /// Whether it is the name at the place.
+    pub fn reads(self, place: usize) -> bool
         ensures { result ≡ reads place self }
     {
         match self {

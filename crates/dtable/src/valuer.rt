@@ -1,8 +1,9 @@
 //! What every evaluator of a plan promises.
-ghost use Rattle.std.specs.Prelude.{◌≡◌, Ok, IfOk, IfErr};
+ghost use Rattle.std.specs.Prelude.{◌≡◌, ℕ, List, Ok, IfOk, IfErr, IfSome};
 ghost use Rattle.dtable.specs.Environment.{env};
 ghost use Rattle.dtable.specs.HitPolicy.{IsFaultOf};
 ghost use Rattle.dtable.specs.Inputs.{IsReady};
+ghost use Rattle.dtable.specs.declared.inputs.Slot.{Slot};
 ghost use Rattle.dtable.specs.Plan.{PlanParts};
 
 use crate::environment::Env;
@@ -16,6 +17,9 @@ pub trait Valuer {
     /// The plan.
     ghost plan_of: { Self → PlanParts };
 
+    /// The inputs lie in the zone of this number.
+    ghost in_zone: { Self → List Slot → ℕ → Type 0 };
+
     /// The plan.
     fn plan(&self) -> &Plan
         ensures { result.now ≡ plan_of self.now };
@@ -25,4 +29,9 @@ pub trait Valuer {
         requires { IsReady (plan_of self.now).tables inputs.now }
         ensures value { IfOk result (λ environment. env (plan_of self.now) inputs.now ≡ Ok environment) }
         ensures fault { IfErr result (IsFaultOf (env (plan_of self.now) inputs.now)) };
+
+    /// The zone in which the inputs lie, by its number, if one is known: the tables have one value wherever inputs lie in it.
+    fn zone(&self, inputs: &Inputs) -> Option<u64>
+        ensures inside { IfSome result (in_zone self.now inputs.now) }
+        ensures alike { IfSome result (λ zone. (other : List Slot) → in_zone self.now other zone → env (plan_of self.now) other ≡ env (plan_of self.now) inputs.now) };
 }

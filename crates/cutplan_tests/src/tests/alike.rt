@@ -49,13 +49,19 @@ fn remark_amounts() -> &'static [(&'static str, &'static str)] {
 
 /// What the plan's outputs answer at these values, each with its place, or the fault, as text.
 fn told<V: Valuer>(rt: &impl Abort, alloc: Global, valuer: &V, given: &[(usize, &str)]) -> Vec<u8> {
-    let mut inputs = Inputs::new(alloc, valuer.plan()).expect(rt, "memory for inputs");
+    let inputs = inputs_of(rt, alloc, valuer.plan(), given);
+    told_at(rt, alloc, valuer, &inputs)
+}
+
+// The inputs of the plan with these values, each with its place; an empty literal gives none.
+fn inputs_of(rt: &impl Abort, alloc: Global, plan: &Plan, given: &[(usize, &str)]) -> Inputs {
+    let mut inputs = Inputs::new(alloc, plan).expect(rt, "memory for inputs");
     for (place, literal) in given {
         if !literal.is_empty() {
             give(rt, alloc, &mut inputs, *place, literal);
         }
     }
-    told_at(rt, alloc, valuer, &inputs)
+    inputs
 }
 
 fn told_at<V: Valuer>(rt: &impl Abort, alloc: Global, valuer: &V, inputs: &Inputs) -> Vec<u8> {
@@ -143,6 +149,8 @@ enum Tried<'a> {
     Remarks,
     /// The masks of the one column of two rules begin with these words.
     Masks(&'a [u64]),
+    /// These literals of the first field and of the second lie in these zones.
+    Zones(&'a [(&'a str, &'a str, Option<u64>)]),
 }
 
 fn try_cut(rt: &impl Abort, alloc: Global, plan: &Plan, tried: Tried<'_>) {
@@ -153,6 +161,7 @@ fn try_cut(rt: &impl Abort, alloc: Global, plan: &Plan, tried: Tried<'_>) {
         Tried::Answer(literal, answer) => check_answer(rt, alloc, &cut, literal, answer),
         Tried::Remarks => check_remarks(rt, alloc, plan, &cut),
         Tried::Masks(words) => check_masks(rt, plan, &cut, words),
+        Tried::Zones(wanted) => check_zones(rt, alloc, &cut, wanted),
     }
 }
 
@@ -371,4 +380,48 @@ fn check_masks(rt: &impl Abort, plan: &Plan, cut: &CutPlan, words: &[u64])
 #[test]
 fn masks_of_two_stretches(rt: HostRuntime) {
     try_plan(&rt, rt.alloc(), apart(), Tried::Masks(&[1, 0, 2, 2, 2, 0]));
+}
+
+fn check_zones(
+    rt: &impl Abort,
+    alloc: Global,
+    cut: &CutPlan,
+    wanted: &[(&str, &str, Option<u64>)],
+) {
+    for (first, second, zone) in wanted {
+        let given = [(FIRST, *first), (FIRST + 1, *second)];
+        let inputs = inputs_of(rt, alloc, cut.plan(), &given);
+        assert!(rt; cut.zone(&inputs) == *zone, "{first} {second}");
+    }
+}
+
+// The flag has two regions. The code has three, of which any other text is the last.
+fn zones_of_flag_and_code() -> &'static [(&'static str, &'static str, Option<u64>)] {
+    &[
+        ("false", "\"A\"", Some(0)),
+        ("false", "\"C\"", Some(2)),
+        ("false", "\"D\"", Some(2)),
+        ("true", "\"A\"", Some(3)),
+        ("true", "\"D\"", Some(5)),
+        ("true", "", None),
+    ]
+}
+
+// Both tables cut the one field, at 1, 2, 2.5 and 3.
+fn zones_of_chain() -> &'static [(&'static str, &'static str, Option<u64>)] {
+    &[
+        ("-7", "", Some(0)),
+        ("0.9999", "", Some(0)),
+        ("1", "", Some(1)),
+        ("2.4999", "", Some(4)),
+        ("2.5001", "", Some(6)),
+        ("100", "", Some(8)),
+    ]
+}
+
+#[test]
+fn values_of_one_zone_and_of_others(rt: HostRuntime) {
+    let of_both = Tried::Zones(zones_of_flag_and_code());
+    try_plan(&rt, rt.alloc(), flag_and_code(), of_both);
+    try_plan(&rt, rt.alloc(), chain(), Tried::Zones(zones_of_chain()));
 }

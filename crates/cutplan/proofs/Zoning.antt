@@ -1,0 +1,169 @@
+-- What is kept of the names that tables read, name by name, and the zone of what is given, place by place.
+use Rattle.std.proofs.Common.{◌≡◌, ℕ, zero, suc, ◌+◌, ◌*◌, ◌<◌, ◌≤◌, ◌++◌, Bool, true, false, cond, List, [], ◌∷◌, length, get_or, take, filter, fold, map, Option, Some, ⊎_elim, refl, ap, sym, ◌∙◌, subst, arith}
+use Rattle.std.specs.List.{list_all, list_any, range_with_len, zip, AllZip}
+use Rattle.std.specs.Option.{IfSome}
+use Rattle.std.proofs.lemmas.Bool.{false≢true, ltb-true, eqb-true, and_parts, or_cases}
+use Rattle.std.proofs.lemmas.List.{append-nil, get_or_default, length-map, map-append, take_all, take_more}
+use Rattle.std.proofs.lemmas.List.Elements.{filter-append}
+use Rattle.std.proofs.lemmas.Option.{IfSome_then}
+use Rattle.dtable.specs.declared.inputs.Slot.{Slot}
+use Rattle.dtable.specs.declared.table.Input.{Input}
+use Rattle.dtable.specs.declared.table.InputData.{InputData}
+use Rattle.dtable.specs.declared.table.Origin.{Origin}
+use Rattle.dtable.specs.declared.table.Origin.TheVariants.{Given, Earlier}
+use Rattle.dtable.specs.declared.table.Table.{Table}
+use Rattle.dtable.specs.Environment.{env}
+use Rattle.dtable.specs.Inputs.{needs, reads, value_at}
+use Rattle.dtable.specs.Plan.{PlanParts, IsPlan, is_known, are_known}
+use Rattle.cutplan.specs.declared.region.Region.TheVariants.{Other}
+use Rattle.cutplan.specs.declared.zone.KeptName.{KeptName}
+use Rattle.cutplan.specs.Found.{has_at, OthersRise}
+use Rattle.cutplan.specs.Values.{is_value}
+use Rattle.cutplan.specs.Zones.{AreKeptNames, IsKeptName, IsPlaceIn, IsZone, LiesIn, ReadsItsNames, ZonesAnswerAlike, name_kind, name_literals, name_regions, names_read, number_of, with_place}
+use Rattle.cutplan.proofs.Alike.{Among}
+use Rattle.cutplan.proofs.ColumnWise.{among_contained}
+use Rattle.cutplan.proofs.Keeping.{all_long, one_more}
+use Rattle.cutplan.proofs.Steps.{range_more}
+use Rattle.cutplan.proofs.TextSearch.{others_of}
+
+-- what passes a test, of a range one longer
+filter_more : (q : ℕ → Bool) (n : ℕ) → filter q (range_with_len 0 (n + 1)) ≡ filter q (range_with_len 0 n) ++ cond (q n) (n ∷ []) []
+filter_more q n =
+    let next : n + 1 ≡ suc n = omega arith in
+    let zero_more : 0 + n ≡ n = omega arith in
+    ap (λ k. filter q (range_with_len 0 k)) next ∙ ap (filter q) (range_more 0 n) ∙ ap (λ k. filter q (range_with_len 0 n ++ k ∷ [])) zero_more
+    ∙ filter-append q (range_with_len 0 n) (n ∷ [])
+
+pub one_kept : (q : ℕ → Bool) (n : ℕ) (ns new : List ℕ) → ns ≡ filter q (range_with_len 0 n) → q n ≡ true → new ≡ ns ++ n ∷ [] → new ≡ filter q (range_with_len 0 (n + 1))
+one_kept q n ns new are kept pushed =
+    pushed ∙ ap (λ xs. xs ++ n ∷ []) are ∙ sym (filter_more q n ∙ ap (λ b. filter q (range_with_len 0 n) ++ cond b (n ∷ []) []) kept)
+
+pub none_kept : (q : ℕ → Bool) (n : ℕ) (ns : List ℕ) → ns ≡ filter q (range_with_len 0 n) → q n ≡ false → ns ≡ filter q (range_with_len 0 (n + 1))
+none_kept q n ns are left =
+    are ∙ sym (filter_more q n ∙ ap (λ b. filter q (range_with_len 0 n) ++ cond b (n ∷ []) []) left ∙ append-nil (filter q (range_with_len 0 n)))
+
+-- what stands over there at a place has its other here at that place
+record Partner {X Y : Type 0} (R : X → Y → Type 0) (xs : List X) (i : ℕ) (y : Y) : Type 0 where
+  one : X
+  at : (d : X) → get_or xs i d ≡ one
+  so : R one y
+
+partner_at : {X Y : Type 0} (R : X → Y → Type 0) (xs : List X) (ys : List Y) (i : ℕ) (y : Y) → AllZip R xs ys → i < length ys → y ≡ get_or ys i y → Partner R xs i y
+partner_at R [] [] i y all below is = absurd (omega (arith, below))
+partner_at R [] (w ∷ ws) i y all below is = absurd all
+partner_at R (z ∷ zs) [] i y all below is = absurd all
+partner_at R (z ∷ zs) (w ∷ ws) zero y all below is = record { one = z; at = λ d. refl; so = subst (R z) (sym is) all.0 }
+partner_at R (z ∷ zs) (w ∷ ws) (suc i) y all below is =
+    let more = partner_at R zs ws i y all.1 (omega (arith, below)) is in
+    record { one = more.one; at = more.at; so = more.so }
+
+-- what is kept of one name more
+pub one_name : (p : PlanParts) (places : List ℕ) (kept new : List KeptName) (i : ℕ) (name : KeptName) → i < length places → AllZip (IsKeptName p) (take i places) kept → IsKeptName p (get_or places i 0) name
+    → new ≡ kept ++ name ∷ [] → AllZip (IsKeptName p) (take (i + 1) places) new
+one_name p places kept new i name below all here pushed =
+    let place = get_or places i 0 in
+    one_more (IsKeptName p) places kept new i place name below (get_or_default places i 0 place below) all here pushed
+
+-- the texts of any other region of a name rise
+pub name_others : (p : PlanParts) (place : ℕ) (name : KeptName) → IsKeptName p place name → OthersRise name.regions.items
+name_others p place name is names has =
+    let there = subst (λ rs. Among (Other names) rs) is.regions (among_contained name.regions.items (Other names) has) in
+    others_of (name_kind p place) (name_literals p.tables place) names there
+
+pub names_others : (p : PlanParts) (kept : List KeptName) (i : ℕ) (name : KeptName) → AreKeptNames p kept → i < length kept → name ≡ get_or kept i name → OthersRise name.regions.items
+names_others p kept i name all below is =
+    let partner = partner_at (IsKeptName p) (names_read p) kept i name all below is in
+    name_others p partner.one name partner.so
+
+-- one place more
+zip_more : (counts places : List ℕ) (count place : ℕ) → length counts ≡ length places → fold with_place 0 (zip (counts ++ count ∷ []) (places ++ place ∷ [])) ≡ with_place (fold with_place 0 (zip counts places)) (count, place)
+zip_more counts places count place long = from counts places 0 long where
+  from : (counts places : List ℕ) (a : ℕ) → length counts ≡ length places → fold with_place a (zip (counts ++ count ∷ []) (places ++ place ∷ [])) ≡ with_place (fold with_place a (zip counts places)) (count, place)
+  from [] [] a long = refl
+  from [] (p ∷ ps) a long = absurd (omega (arith, long))
+  from (c ∷ cs) [] a long = absurd (omega (arith, long))
+  from (c ∷ cs) (p ∷ ps) a long = from cs ps (with_place a (c, p)) (omega (arith, long))
+
+-- how many regions these names have
+abbrev counts_of : PlanParts → List ℕ → List ℕ
+counts_of p names = map (λ place. length (name_regions p place)) names
+
+-- the zone as far as the first names tell it
+pub record IsZoneOf (p : PlanParts) (given : List Slot) (i zone : ℕ) : Type 0 where
+  pub places : List ℕ
+  pub lie : AllZip (LiesIn p given) (take i (names_read p)) places
+  pub number : number_of (counts_of p (take i (names_read p))) places ≡ zone
+
+pub no_names : (p : PlanParts) (given : List Slot) → IsZoneOf p given 0 0
+no_names p given = record { places = []; lie = tt; number = refl }
+
+lies_in : (p : PlanParts) (given : List Slot) (n : ℕ) (name : KeptName) (place : ℕ) → IsKeptName p n name → IsPlaceIn name given place → LiesIn p given n place
+lies_in p given n name place is at = record {
+  value = at.value;
+  is = subst (λ k. value_at given k ≡ Some at.value) is.at at.is;
+  of_kind = subst (λ kind. is_value kind at.value ≡ true) is.kind at.of_kind;
+  inside = subst (λ rs. has_at rs place at.value ≡ true) is.regions at.inside;
+}
+
+-- one name more
+pub more_names : (p : PlanParts) (given : List Slot) (kept : List KeptName) (i zone place next : ℕ) (name : KeptName) → AreKeptNames p kept → i < length kept → name ≡ get_or kept i name
+    → IsZoneOf p given i zone → IsPlaceIn name given place → next ≡ with_place zone (length name.regions.items, place) → IsZoneOf p given (i + 1) next
+more_names p given kept i zone place next name all below is so_far at stepped =
+    let names = names_read p in
+    let partner = partner_at (IsKeptName p) names kept i name all below is in
+    let n = partner.one in
+    let within : i < length names = subst (λ l. i < l) (sym (all_long (IsKeptName p) names kept all)) below in
+    let places = so_far.places in
+    let lie = one_more (LiesIn p given) names places (places ++ place ∷ []) i n place within (sym (partner.at n)) so_far.lie (lies_in p given n name place partner.so at) refl in
+    let front : take (i + 1) names ≡ take i names ++ n ∷ [] = take_more names i n within ∙ ap (λ x. take i names ++ x ∷ []) (partner.at n) in
+    let counts = counts_of p (take i names) in
+    let long : length counts ≡ length places = length-map (take i names) (λ place. length (name_regions p place)) ∙ all_long (LiesIn p given) (take i names) places so_far.lie in
+    let count : length name.regions.items ≡ length (name_regions p n) = ap length partner.so.regions in
+    let split : counts_of p (take (i + 1) names) ≡ counts ++ length (name_regions p n) ∷ [] = ap (counts_of p) front ∙ map-append (λ place. length (name_regions p place)) (take i names) (n ∷ []) in
+    record {
+      places = places ++ place ∷ [];
+      lie = lie;
+      number = ap (λ cs. number_of cs (places ++ place ∷ [])) split ∙ zip_more counts places (length (name_regions p n)) place long
+          ∙ ap (λ number. number * length (name_regions p n) + place) so_far.number ∙ ap (λ c. zone * c + place) (sym count) ∙ sym stepped;
+    }
+
+-- all names
+pub all_names : (p : PlanParts) (given : List Slot) (kept : List KeptName) (i zone : ℕ) → AreKeptNames p kept → length kept ≤ i → IsZoneOf p given i zone → IsZone p given zone
+all_names p given kept i zone all last so_far =
+    let names = names_read p in
+    let long = all_long (IsKeptName p) names kept all in
+    let whole : take i names ≡ names = take_all i names (omega (arith, long, last)) in
+    record {
+      places = so_far.places;
+      lie = subst (λ ns. AllZip (LiesIn p given) ns so_far.places) whole so_far.lie;
+      number = ap (λ ns. number_of (counts_of p ns) so_far.places) (sym whole) ∙ so_far.number;
+    }
+
+-- tables of a plan read no name that there isn't
+origin_within : (names : List InputData) (earlier : List Table) (place : ℕ) (o : Origin) → is_known names earlier o ≡ true → reads place o ≡ true → place < length names
+origin_within names earlier place (Given p) known read = subst (λ n. n < length names) (eqb-true p place read) (ltb-true p (length names) known)
+origin_within names earlier place (Earlier table column) known read = absurd (false≢true read)
+
+inputs_within : (names : List InputData) (earlier : List Table) (place : ℕ) (inputs : List Input) → list_all (λ i. is_known names earlier i.origin) inputs ≡ true
+    → list_any (λ i. reads place i.origin) inputs ≡ true → place < length names
+inputs_within names earlier place [] known read = absurd (false≢true read)
+inputs_within names earlier place (i ∷ is) known read =
+    let both = and_parts (is_known names earlier i.origin) (list_all (λ i. is_known names earlier i.origin) is) known in
+    ⊎_elim (λ here. origin_within names earlier place i.origin both.0 here) (λ behind. inputs_within names earlier place is both.1 behind)
+    (or_cases (reads place i.origin) (list_any (λ i. reads place i.origin) is) read)
+
+tables_within : (names : List InputData) (earlier tables : List Table) (place : ℕ) → are_known names earlier tables ≡ true → needs tables place ≡ true → place < length names
+tables_within names earlier [] place known read = absurd (false≢true read)
+tables_within names earlier (t ∷ ts) place known read =
+    let both = and_parts (list_all (λ i. is_known names earlier i.origin) t.inputs) (are_known names (earlier ++ t ∷ []) ts) known in
+    ⊎_elim (λ here. inputs_within names earlier place t.inputs both.0 here) (λ behind. tables_within names (earlier ++ t ∷ []) ts place both.1 behind)
+    (or_cases (list_any (λ i. reads place i.origin) t.inputs) (needs ts place) read)
+
+pub reads_its_names : (p : PlanParts) → IsPlan p → ReadsItsNames p
+reads_its_names p plan place needed = tables_within p.names [] p.tables place plan.origins needed
+
+-- wherever else the inputs of a zone may lie in it, the tables have one value
+pub alike_in : (p q : PlanParts) (given : List Slot) (zone : Option ℕ) → ZonesAnswerAlike → p ≡ q → ReadsItsNames p → IfSome zone (IsZone p given) → IfSome zone (λ z. (other : List Slot) → IsZone q other z → env q other ≡ env q given)
+alike_in p q given zone law same within found =
+    subst (λ r. IfSome zone (λ z. (other : List Slot) → IsZone r other z → env r other ≡ env r given)) same
+    (IfSome_then zone found (λ z here other there. law p other given z within there here))

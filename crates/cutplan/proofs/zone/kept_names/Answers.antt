@@ -1,0 +1,7 @@
+use Rattle.cutplan.proofs.Zoning.{one_name}
+use Rattle.cutplan.proofs.zone.kept_names.Goals as goal
+
+pub loop-place-preserved : goal.loop-place-preserved
+loop-place-preserved c =
+    one_name c.args.plan.now c.as_slice-place-items.result.now c.loop-place.kept _ c.loop-place.place-index c.in_ok-kept_name.field-0 c.loop-place-test.true c.loop-place.invariant
+    c.in_ok-kept_name.ensures c.in_ok-push.ensures.ok
