@@ -7,3 +7,5 @@ pub mod Outcomes
 pub mod Texts
 pub mod Remarked
 pub mod PlacedRoles
+pub mod Benefits
+pub mod Rooms

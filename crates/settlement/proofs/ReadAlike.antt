@@ -143,14 +143,14 @@ limits_alike given other answers (Some roles) alike =
     rw (deductible, oop_max) refl
 
 -- each role has the same value
-record SameRoles (given other : List Slot) (answers : Environment) (roles : Roles) : Type 0 where
-  cover : value_of given answers roles.cover ≡ value_of other answers roles.cover
-  fee : value_of given answers roles.fee ≡ value_of other answers roles.fee
-  deductible : value_of given answers roles.deductible ≡ value_of other answers roles.deductible
-  copay : value_of given answers roles.copay ≡ value_of other answers roles.copay
-  rate : value_of given answers roles.rate ≡ value_of other answers roles.rate
-  oop_max : value_of given answers roles.oop_max ≡ value_of other answers roles.oop_max
-  family : limits given answers roles.family ≡ limits other answers roles.family
+pub record SameRoles (given other : List Slot) (answers : Environment) (roles : Roles) : Type 0 where
+  pub cover : value_of given answers roles.cover ≡ value_of other answers roles.cover
+  pub fee : value_of given answers roles.fee ≡ value_of other answers roles.fee
+  pub deductible : value_of given answers roles.deductible ≡ value_of other answers roles.deductible
+  pub copay : value_of given answers roles.copay ≡ value_of other answers roles.copay
+  pub rate : value_of given answers roles.rate ≡ value_of other answers roles.rate
+  pub oop_max : value_of given answers roles.oop_max ≡ value_of other answers roles.oop_max
+  pub family : limits given answers roles.family ≡ limits other answers roles.family
 
 -- where the last of the tests is passed one of them is
 last_passes : (a b c d e f g : Bool) → g ≡ true → (a || (b || (c || (d || (e || (f || g)))))) ≡ true
@@ -174,7 +174,7 @@ same_roles given other answers roles alike = record {
       ));
 }
 
-terms_alike :
+pub terms_alike :
     (given other : List Slot) (answers : Environment) (roles : Roles) → SameRoles given other answers roles
     → terms given answers roles ≡ terms other answers roles
 terms_alike given other answers roles same = rw (same.fee, same.deductible, same.copay, same.rate, same.oop_max, same.family) refl

@@ -10,3 +10,4 @@ pub mod Accumulators
 pub mod Accounts
 pub mod Settlement
 pub mod Opening
+pub mod Benefits

@@ -1,19 +1,22 @@
 //! The outcome of a claim, and what it leaves of its member's accumulators.
-ghost use Rattle.std.specs.Prelude.{◌≡◌, IfOk, IsSome};
+ghost use Rattle.std.specs.Prelude.{◌≡◌, ℕ, IfOk, IfSome, IsSome};
 ghost use Rattle.std.specs.Option.{SomeIff};
 ghost use Rattle.dtable.specs.Environment.{env};
 ghost use Rattle.dtable.specs.Inputs.{IsReady};
 ghost use Rattle.dtable.specs.Plan.{PlanParts};
 ghost use Rattle.settlement.specs.declared.claim.Claim.{Claim};
+ghost use Rattle.settlement.specs.declared.benefit.Benefit.{Benefit as BenefitOf};
 ghost use Rattle.settlement.specs.Accumulators.{after, AreInRange};
+ghost use Rattle.settlement.specs.Benefits.{IsShared, IsTrueOf, Remembers, benefit_of, by_answers};
 ghost use Rattle.settlement.specs.Claim.{IsClaimOf};
 ghost use Rattle.settlement.specs.Placed.{ArePlaced, ArePlacedFor};
-ghost use Rattle.settlement.specs.Settlement.{outcome, by_roles, by_tables};
+ghost use Rattle.settlement.specs.Settlement.{outcome, by_tables};
 
 use crate::acc::Acc;
-use crate::amounts::amounts_of;
+use crate::benefit::{Benefit, are_answered};
 use crate::claim::Claim;
 use crate::given::{give, places_read};
+use crate::memory::Memory;
 use crate::money::Money;
 use crate::outcome::Outcome;
 use crate::placed::{RolePlaces, role_places};
@@ -32,10 +35,12 @@ pub struct Adjudicator<'v, V: Valuer> {
     inputs: Inputs,
     roles: RolePlaces,
     vocabulary: Vocabulary,
+    memory: Memory,
 }
 
 impl<'v, V: Valuer> Model for Adjudicator<'v, V> {
     ghost use Rattle.dtable.specs.Plan.{PlanParts};
+    ghost use Rattle.settlement.specs.Benefits.{IsTrueOf};
     ghost use Rattle.settlement.specs.Placed.{ArePlacedFor};
     ghost use Rattle.settlement.specs.Reads.{IsLaidOut};
 
@@ -43,12 +48,26 @@ impl<'v, V: Valuer> Model for Adjudicator<'v, V> {
 
     ghost view = { λ a. V.plan_of a.valuer.now };
 
-    ghost invariant = { λ a. IsLaidOut (V.plan_of a.valuer.now) a.places a.inputs × ArePlacedFor (V.plan_of a.valuer.now) a.roles };
+    ghost invariant = { λ a. IsLaidOut (V.plan_of a.valuer.now) a.places a.inputs × ArePlacedFor (V.plan_of a.valuer.now) a.roles × IsTrueOf (V.in_zone a.valuer.now) (V.plan_of a.valuer.now) a.memory };
 }
 
 impl<'v, V: Valuer> Adjudicator<'v, V> {
     /// An adjudicator of claims by the valuer's plan. Contracts see it as that plan.
     pub fn new(alloc: Global, valuer: &'v V) -> Result<Adjudicator<'v, V>, AllocError>
+        ensures { IfOk result (λ adjudicator. adjudicator ≡ V.plan_of valuer.now) }
+    {
+        let memory = Memory::new(alloc)?;
+        let made = Adjudicator::with_memory(alloc, valuer, memory)?;
+        Ok(made)
+    }
+
+    // An adjudicator that remembers nothing yet.
+    fn with_memory(
+        alloc: Global,
+        valuer: &'v V,
+        memory: Memory,
+    ) -> Result<Adjudicator<'v, V>, AllocError>
+        requires { (zone : ℕ) (benefit : BenefitOf) → Remembers memory zone benefit → ⊥ }
         ensures { IfOk result (λ adjudicator. adjudicator ≡ V.plan_of valuer.now) }
     {
         let plan = valuer.plan();
@@ -62,6 +81,7 @@ impl<'v, V: Valuer> Adjudicator<'v, V> {
             inputs,
             roles,
             vocabulary,
+            memory,
         })
     }
 
@@ -79,6 +99,7 @@ impl<'v, V: Valuer> Adjudicator<'v, V> {
             &self.inputs,
             &self.roles,
             &self.vocabulary,
+            &mut self.memory,
             claim.billed,
             acc,
         )?;
@@ -97,67 +118,104 @@ pub fn decide<V: Valuer>(
     requires fields { IsClaimOf (V.plan_of valuer.now) claim.now }
     ensures { IfOk result (λ decided. decided ≡ outcome (V.plan_of valuer.now) claim.now acc) }
 {
-    let mut adjudicator = Adjudicator::new(alloc, valuer)?;
+    let mut adjudicator = Adjudicator::with_memory(alloc, valuer, Memory::none(alloc))?;
     let decided = adjudicator.decide(alloc, claim, acc)?;
     Ok(decided)
 }
 
-// The outcome of a claim that is billed at so much, by what the valuer's tables answer at these inputs.
+// The outcome of a claim that is billed at so much, by what the valuer's tables answer at these inputs. What the plan gives in their zone
+// is remembered.
 fn settled<V: Valuer>(
     alloc: Global,
     valuer: &V,
     inputs: &Inputs,
     places: &RolePlaces,
     vocabulary: &Vocabulary,
+    memory: &mut Memory,
     billed: Money,
     acc: Acc,
 ) -> Result<Outcome, AllocError>
     requires roles { IsSome (V.plan_of valuer.now).roles }
     requires placed { ArePlacedFor (V.plan_of valuer.now) places.now }
     requires ready { IsReady (V.plan_of valuer.now).tables inputs.now }
-    ensures { let plan = V.plan_of valuer.now in IfOk result (λ decided. decided ≡ by_tables plan.roles billed acc inputs.now (env plan inputs.now)) }
+    requires true_yet { IsTrueOf (V.in_zone valuer.now) (V.plan_of valuer.now) memory.old }
+    ensures decided { let plan = V.plan_of valuer.now in IfOk result (λ decided. decided ≡ by_tables plan.roles billed acc inputs.now (env plan inputs.now)) }
+    ensures true_still { IsTrueOf (V.in_zone valuer.now) (V.plan_of valuer.now) memory.new }
+{
+    let Some(zone) = zone_of(valuer, inputs, memory) else {
+        let benefit = benefit_of(alloc, valuer, inputs, places, vocabulary)?;
+        let decided = benefit.outcome(billed, &acc)?;
+        return Ok(decided);
+    };
+    if let Some(benefit) = memory.get(zone) {
+        let decided = benefit.outcome(billed, &acc)?;
+        memory.count_found();
+        return Ok(decided);
+    }
+    let benefit = benefit_of(alloc, valuer, inputs, places, vocabulary)?;
+    let decided = benefit.outcome(billed, &acc)?;
+    memory.keep(zone, benefit);
+    Ok(decided)
+}
+
+// The zone of the inputs, where the plan gives the same in all of it: no role's value is what is given for a name. None where zones are
+// not worth while.
+fn zone_of<V: Valuer>(valuer: &V, inputs: &Inputs, memory: &Memory) -> Option<u64>
+    ensures { IfSome result (λ zone. V.in_zone valuer.now inputs.now zone × IsShared (V.in_zone valuer.now) (V.plan_of valuer.now) inputs.now zone) }
+{
+    if !memory.is_of_use() || !are_answered(valuer.plan()) {
+        return None;
+    }
+    valuer.zone(inputs)
+}
+
+// What the valuer's plan gives for a claim with these inputs.
+fn benefit_of<V: Valuer>(
+    alloc: Global,
+    valuer: &V,
+    inputs: &Inputs,
+    places: &RolePlaces,
+    vocabulary: &Vocabulary,
+) -> Result<Benefit, AllocError>
+    requires roles { IsSome (V.plan_of valuer.now).roles }
+    requires placed { ArePlacedFor (V.plan_of valuer.now) places.now }
+    requires ready { IsReady (V.plan_of valuer.now).tables inputs.now }
+    ensures { let plan = V.plan_of valuer.now in IfOk result (λ benefit. benefit ≡ benefit_of plan.roles inputs.now (env plan inputs.now)) }
 {
     let roles = valuer.plan().roles().unwrap();
     match valuer.value(alloc, inputs) {
         Ok(env) => {
-            let decided = by_roles(inputs, &env, roles, places, vocabulary, billed, &acc)?;
-            Ok(decided)
+            let benefit = by_roles(inputs, &env, roles, places, vocabulary)?;
+            Ok(benefit)
         }
         Err(fault) => {
             let reason = Reason::of(fault).ok_or(AllocError)?;
-            Ok(Outcome::pended(reason))
+            Ok(Benefit::Pended(reason))
         }
     }
 }
 
-// The outcome of a claim, over what the tables answer.
+// The same, over what the tables answer.
 fn by_roles(
     inputs: &Inputs,
     env: &Env,
     roles: &Roles,
     places: &RolePlaces,
     vocabulary: &Vocabulary,
-    billed: Money,
-    acc: &Acc,
-) -> Result<Outcome, AllocError>
+) -> Result<Benefit, AllocError>
     requires { ArePlaced env.now.tables roles.now places.now }
-    ensures { IfOk result (λ decided. decided ≡ by_roles roles.now billed acc.now inputs.now env.now) }
+    ensures { IfOk result (λ benefit. benefit ≡ by_answers roles.now inputs.now env.now) }
 {
     if !is_covered(inputs, env, roles, places) {
         let remarks = remarks(env, &roles.remarks, places.remarks, vocabulary)?;
-        return Ok(Outcome::denied(remarks));
+        return Ok(Benefit::Denied(remarks));
     }
     let terms = match terms_of(inputs, env, roles, places) {
         Ok(terms) => terms,
-        Err(role) => return Ok(Outcome::pended(Reason::Term(role))),
+        Err(role) => return Ok(Benefit::Pended(Reason::Term(role))),
     };
-    let amounts = amounts_of(billed, terms, *acc);
-    let acc = *acc;
-    if acc.plus(amounts.ded, amounts.share, amounts.paid).is_none() {
-        return Ok(Outcome::pended(Reason::Range { table: 0 }));
-    }
     let remarks = remarks(env, &roles.remarks, places.remarks, vocabulary)?;
-    Ok(Outcome::paid(amounts, remarks))
+    Ok(Benefit::Covered(terms, remarks))
 }
 
 /// The accumulators after an outcome, where each is in the number range. After a settlement's outcome each is.

@@ -12,9 +12,11 @@
 mod acc;
 mod account;
 mod amounts;
+mod benefit;
 mod claim;
 mod deciding;
 mod given;
+mod memory;
 mod money;
 mod outcome;
 mod placed;

@@ -1,9 +1,38 @@
-use Rattle.std.proofs.Common.{◌≡◌, Some, rules}
-use Rattle.settlement.proofs.PlacedRoles.{placed_in}
+use Rattle.std.proofs.Common.{List, Option, ap, sym, subst, ◌∙◌}
+use Rattle.dtable.specs.Environment.{env}
+use Rattle.settlement.specs.declared.memory.Remembered.{Remembered}
+use Rattle.settlement.specs.Benefits.{IsTrueOf, benefit_of, outcome_by}
+use Rattle.settlement.proofs.Benefits.{kept_true, outcome_by_benefit}
 use Rattle.settlement.proofs.deciding.settled.Goals as goal
 
-pub by_roles-requires : goal.by_roles-requires
-by_roles-requires g c =
+pub returns-in_default-clause-decided : goal.returns-in_default-clause-decided
+returns-in_default-clause-decided g c =
     let plan = g.V.Valuer.plan_of c.args.valuer.now in
-    let has : plan.roles ≡ Some c.unwrap-roles.result.now = search rules in
-    placed_in plan c.args.inputs.now c.in-Ok.env c.unwrap-roles.result.now c.args.places.now c.in-Ok.ensures.value has c.requires.placed
+    let given = c.args.inputs.now in
+    c.in_ok-decided.ensures ∙ ap (outcome_by c.args.billed c.args.acc) {y = benefit_of plan.roles given (env plan given)} c.in_ok-benefit.ensures
+    ∙ outcome_by_benefit plan.roles c.args.billed c.args.acc given (env plan given)
+
+pub returns-in-Some-get-clause-decided : goal.returns-in-Some-get-clause-decided
+returns-in-Some-get-clause-decided g c =
+    let plan = g.V.Valuer.plan_of c.args.valuer.now in
+    let given = c.args.inputs.now in
+    let remembered = c.requires.true_yet c.in-Some.zone c.in-Some-get.benefit.now c.in-Some-get.ensures given c.in-Some.ensures.0 in
+    c.in_ok-decided-2.ensures ∙ ap (outcome_by c.args.billed c.args.acc) {y = benefit_of plan.roles given (env plan given)} remembered
+    ∙ outcome_by_benefit plan.roles c.args.billed c.args.acc given (env plan given)
+
+pub returns-in-Some-get-clause-true_still : goal.returns-in-Some-get-clause-true_still
+returns-in-Some-get-clause-true_still g c =
+    subst (λ (rooms : List (Option Remembered)). IsTrueOf (g.V.Valuer.in_zone c.args.valuer.now) (g.V.Valuer.plan_of c.args.valuer.now) rooms) (sym c.count_found.ensures)
+    c.requires.true_yet
+
+pub returns-clause-decided : goal.returns-clause-decided
+returns-clause-decided g c =
+    let plan = g.V.Valuer.plan_of c.args.valuer.now in
+    let given = c.args.inputs.now in
+    c.in_ok-decided-3.ensures ∙ ap (outcome_by c.args.billed c.args.acc) {y = benefit_of plan.roles given (env plan given)} c.in_ok-benefit-2.ensures
+    ∙ outcome_by_benefit plan.roles c.args.billed c.args.acc given (env plan given)
+
+pub returns-clause-true_still : goal.returns-clause-true_still
+returns-clause-true_still g c =
+    kept_true (g.V.Valuer.in_zone c.args.valuer.now) (g.V.Valuer.plan_of c.args.valuer.now) c.args.memory.now c.keep.new.self c.args.inputs.now c.in-Some.zone c.in_ok-benefit-2.benefit
+    c.requires.true_yet c.in_ok-benefit-2.ensures c.in-Some.ensures.1 c.keep.ensures

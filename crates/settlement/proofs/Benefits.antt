@@ -1,0 +1,120 @@
+-- What a plan gives for a claim, and its outcome by that; where it is shared.
+use Rattle.std.proofs.Common.{◌≡◌, ◌⊎◌, inl, inr, ℕ, ℤ, Bool, true, false, if◌then◌else◌, List, Option, Some, None, Result, Ok, Err, refl, ap, sym, ◌∙◌, subst}
+use Rattle.std.specs.Prelude.{IfSome}
+use Rattle.std.proofs.lemmas.Bool.{both_ways, or_parts}
+use Rattle.table_faults.specs.declared.fault.Fault.{Fault}
+use Rattle.dtable.specs.declared.inputs.Slot.{Slot}
+use Rattle.dtable.specs.declared.roles.FamilyRoles.{FamilyRoles}
+use Rattle.dtable.specs.declared.roles.Roles.{Roles}
+use Rattle.dtable.specs.declared.roles.Source.{Source}
+use Rattle.dtable.specs.declared.roles.Source.TheVariants.{Literal, Input as Place, Output}
+use Rattle.dtable.specs.Environment.{Environment, env}
+use Rattle.dtable.specs.Plan.{PlanParts}
+use Rattle.reasons.specs.declared.reason.Reason.{Reason}
+use Rattle.reasons.specs.declared.role.Role.{Role}
+use Rattle.reasons.specs.Reason.{reason_of}
+use Rattle.settlement.specs.declared.acc.Acc.{Acc}
+use Rattle.settlement.specs.declared.benefit.Benefit.{Benefit}
+use Rattle.settlement.specs.declared.benefit.Benefit.TheVariants.{Denied}
+use Rattle.settlement.specs.declared.memory.Remembered.{Remembered}
+use Rattle.settlement.specs.declared.terms.RoleTerms.{RoleTerms}
+use Rattle.settlement.specs.Benefits.{IsShared, IsTrueOf, Remembers, are_answered, benefit_of, by_answers, by_found, by_reason, is_given, limits_given, outcome_by, roles_given}
+use Rattle.settlement.specs.Roles.{value_of, is_true_flag, limits, terms, remarks_of}
+use Rattle.settlement.specs.Settlement.{by_fault, by_tables, by_terms, denied}
+use Rattle.settlement.proofs.ReadAlike.{SameRoles, terms_alike}
+
+found_outcome : (billed : ℤ) (acc : Acc) (remarks : List (List ℕ)) (found : Result RoleTerms Role) → outcome_by billed acc (by_found remarks found) ≡ by_terms billed acc remarks found
+found_outcome billed acc remarks (Ok found) = refl
+found_outcome billed acc remarks (Err role) = refl
+
+cover_outcome : (billed : ℤ) (acc : Acc) (remarks : List (List ℕ)) (found : Result RoleTerms Role) (covered : Bool)
+    → outcome_by billed acc (if covered then by_found remarks found else Denied remarks) ≡ (if covered then by_terms billed acc remarks found else denied remarks)
+cover_outcome billed acc remarks found true = found_outcome billed acc remarks found
+cover_outcome billed acc remarks found false = refl
+
+reason_outcome : (billed : ℤ) (acc : Acc) (reason : Option Reason) → outcome_by billed acc (by_reason reason) ≡ by_fault reason
+reason_outcome billed acc None = refl
+reason_outcome billed acc (Some reason) = refl
+
+-- the outcome by what the plan gives is the outcome by its tables
+pub outcome_by_benefit : (roles : Option Roles) (billed : ℤ) (acc : Acc) (given : List Slot) (answers : Result Environment Fault)
+    → outcome_by billed acc (benefit_of roles given answers) ≡ by_tables roles billed acc given answers
+outcome_by_benefit None billed acc given answers = refl
+outcome_by_benefit (Some roles) billed acc given (Err fault) = reason_outcome billed acc (reason_of fault)
+outcome_by_benefit (Some roles) billed acc given (Ok answers) =
+    cover_outcome billed acc (remarks_of answers roles.remarks) (terms given answers roles) (is_true_flag (value_of given answers roles.cover))
+
+source_same : (given other : List Slot) (answers : Environment) (source : Source) → is_given source ≡ false → value_of given answers source ≡ value_of other answers source
+source_same given other answers (Literal value) none = refl
+source_same given other answers (Place p) none = absurd (both_ways true none refl)
+source_same given other answers (Output name) none = refl
+
+limits_same : (given other : List Slot) (answers : Environment) (family : Option FamilyRoles) → limits_given family ≡ false → limits given answers family ≡ limits other answers family
+limits_same given other answers None none = refl
+limits_same given other answers (Some roles) none =
+    let parts = or_parts (is_given roles.deductible) (is_given roles.oop_max) none in
+    let deductible = source_same given other answers roles.deductible parts.0 in
+    let oop_max = source_same given other answers roles.oop_max parts.1 in
+    rw (deductible, oop_max) refl
+
+-- roles that are no names' values are the same whatever is given
+roles_same : (given other : List Slot) (answers : Environment) (roles : Roles) → roles_given roles ≡ false → SameRoles given other answers roles
+roles_same given other answers roles none =
+    let cover = or_parts (is_given roles.cover) _ none in
+    let fee = or_parts (is_given roles.fee) _ cover.1 in
+    let deductible = or_parts (is_given roles.deductible) _ fee.1 in
+    let copay = or_parts (is_given roles.copay) _ deductible.1 in
+    let rate = or_parts (is_given roles.rate) _ copay.1 in
+    let last = or_parts (is_given roles.oop_max) (limits_given roles.family) rate.1 in
+    record {
+      cover = source_same given other answers roles.cover cover.0;
+      fee = source_same given other answers roles.fee fee.0;
+      deductible = source_same given other answers roles.deductible deductible.0;
+      copay = source_same given other answers roles.copay copay.0;
+      rate = source_same given other answers roles.rate rate.0;
+      oop_max = source_same given other answers roles.oop_max last.0;
+      family = limits_same given other answers roles.family last.1;
+    }
+
+answers_same : (given other : List Slot) (answers : Environment) (roles : Roles) → SameRoles given other answers roles → by_answers roles given answers ≡ by_answers roles other answers
+answers_same given other answers roles same =
+    let remarks = remarks_of answers roles.remarks in
+    ap (λ (cover : Option _). if is_true_flag cover then by_found remarks (terms given answers roles) else Denied remarks) same.cover
+    ∙ ap (λ (found : Result RoleTerms Role). if is_true_flag (value_of other answers roles.cover) then by_found remarks found else Denied remarks)
+    (terms_alike given other answers roles same)
+
+none_given : (b : Bool) → (if b then false else true) ≡ true → b ≡ false
+none_given true e = sym e
+none_given false e = refl
+
+benefit_same : (roles : Option Roles) (given other : List Slot) (answers : Result Environment Fault) → are_answered roles ≡ true → benefit_of roles given answers ≡ benefit_of roles other answers
+benefit_same None given other answers answered = refl
+benefit_same (Some roles) given other (Err fault) answered = refl
+benefit_same (Some roles) given other (Ok answers) answered = answers_same given other answers roles (roles_same given other answers roles (none_given (roles_given roles) answered))
+
+-- where the tables answer the same and no role is what is given, the plan gives the same
+pub shared_where_alike : (in_zone : List Slot → ℕ → Type 0) (plan : PlanParts) (given : List Slot) (zone : ℕ) → are_answered plan.roles ≡ true
+    → ((other : List Slot) → in_zone other zone → env plan other ≡ env plan given) → IsShared in_zone plan given zone
+shared_where_alike in_zone plan given zone answered alike other inside =
+    benefit_same plan.roles given other (env plan given) answered ∙ ap (benefit_of plan.roles other) (sym (alike other inside))
+
+-- so in a zone that is told
+pub zone_shared : (in_zone : List Slot → ℕ → Type 0) (plan : PlanParts) (given : List Slot) (told : Option ℕ) → are_answered plan.roles ≡ true
+    → IfSome told (in_zone given) → IfSome told (λ zone. (other : List Slot) → in_zone other zone → env plan other ≡ env plan given)
+    → IfSome told (λ zone. in_zone given zone × IsShared in_zone plan given zone)
+zone_shared in_zone plan given None answered inside alike = tt
+zone_shared in_zone plan given (Some zone) answered inside alike = (inside, shared_where_alike in_zone plan given zone answered alike)
+
+-- what is remembered stays true with what is true of one zone more
+pub kept_true : (in_zone : List Slot → ℕ → Type 0) (plan : PlanParts) (old new : List (Option Remembered)) (given : List Slot) (zone : ℕ) (benefit : Benefit) → IsTrueOf in_zone plan old
+    → benefit ≡ benefit_of plan.roles given (env plan given) → IsShared in_zone plan given zone
+    → ((other : ℕ) (found : Benefit) → Remembers new other found → Remembers old other found ⊎ ((other ≡ zone) × (found ≡ benefit))) → IsTrueOf in_zone plan new
+kept_true in_zone plan old new given zone benefit is_true made shared kept other found remembered here inside =
+    elim (kept other found remembered) [
+      | inl before ↦ is_true other found before here inside
+      | inr now ↦ now.1 ∙ made ∙ shared here (subst (λ z. in_zone here z) now.0 inside)
+    ]
+
+-- nothing remembered is true
+pub none_true : (in_zone : List Slot → ℕ → Type 0) (plan : PlanParts) (rooms : List (Option Remembered)) → ((zone : ℕ) (benefit : Benefit) → Remembers rooms zone benefit → ⊥) → IsTrueOf in_zone plan rooms
+none_true in_zone plan rooms none zone benefit remembered given inside = absurd (none zone benefit remembered)

@@ -1,0 +1,84 @@
+-- What a plan gives for a claim before its amounts. It is the same wherever its tables answer the same, unless a role is what is given for a name.
+use Rattle.std.specs.Prelude.{◌≡◌, ℕ, ℤ, Bool, true, false, ◌||◌, List, [], Option, Some, None, Result, Ok, Err, if◌then◌else◌, slice_get}
+use Rattle.std.specs.Option.{option_map_or}
+use Rattle.table_faults.specs.declared.fault.Fault.{Fault}
+use Rattle.dtable.specs.declared.inputs.Slot.{Slot}
+use Rattle.dtable.specs.declared.roles.FamilyRoles.{FamilyRoles}
+use Rattle.dtable.specs.declared.roles.Roles.{Roles}
+use Rattle.dtable.specs.declared.roles.Source.{Source}
+use Rattle.dtable.specs.declared.roles.Source.TheVariants.{Literal, Input, Output}
+use Rattle.dtable.specs.Environment.{Environment, env}
+use Rattle.dtable.specs.Plan.{PlanParts}
+use Rattle.reasons.specs.declared.reason.Reason.{Reason}
+use Rattle.reasons.specs.declared.reason.Reason.TheVariants.{Term}
+use Rattle.reasons.specs.declared.role.Role.{Role}
+use Rattle.reasons.specs.Reason.{reason_of}
+use Rattle.settlement.specs.declared.acc.Acc.{Acc}
+use Rattle.settlement.specs.declared.benefit.Benefit.{Benefit}
+use Rattle.settlement.specs.declared.benefit.Benefit.TheVariants.{Pended, Denied, Covered}
+use Rattle.settlement.specs.declared.memory.Remembered.{Remembered}
+use Rattle.settlement.specs.declared.outcome.Outcome.{Outcome}
+use Rattle.settlement.specs.declared.terms.RoleTerms.{RoleTerms}
+use Rattle.settlement.specs.Roles.{value_of, is_true_flag, terms, remarks_of}
+use Rattle.settlement.specs.Settlement.{amounts, denied, paid, pended, within_range}
+
+-- a covered claim: a role that isn't what it must be pends it
+abbrev pub by_found : List (List ℕ) → Result RoleTerms Role → Benefit
+by_found remarks (Err role) = Pended (Term role)
+by_found remarks (Ok found) = Covered found remarks
+
+-- over what the tables answer
+abbrev pub by_answers : Roles → List Slot → Environment → Benefit
+by_answers roles given env =
+    let remarks = remarks_of env roles.remarks in
+    if is_true_flag (value_of given env roles.cover) then by_found remarks (terms given env roles) else Denied remarks
+
+-- a fault of the tables; `env` never is want of memory
+abbrev pub by_reason : Option Reason → Benefit
+by_reason None = Denied []
+by_reason (Some reason) = Pended reason
+
+-- what a plan's roles and tables say of a claim; a plan without roles covers nothing
+abbrev pub benefit_of : Option Roles → List Slot → Result Environment Fault → Benefit
+benefit_of None given answers = Denied []
+benefit_of (Some roles) given (Err fault) = by_reason (reason_of fault)
+benefit_of (Some roles) given (Ok env) = by_answers roles given env
+
+-- the outcome of a claim that is billed at so much, by what the plan gives for it
+abbrev pub outcome_by : ℤ → Acc → Benefit → Outcome
+outcome_by billed acc (Pended reason) = pended reason
+outcome_by billed acc (Denied remarks) = denied remarks
+outcome_by billed acc (Covered found remarks) = within_range acc (paid (amounts billed found acc) remarks)
+
+-- the role's value is what is given for some name
+abbrev pub is_given : Source → Bool
+is_given (Literal value) = false
+is_given (Input place) = true
+is_given (Output name) = false
+
+-- one of the family's limits is
+abbrev pub limits_given : Option FamilyRoles → Bool
+limits_given None = false
+limits_given (Some limits) = is_given limits.deductible || is_given limits.oop_max
+
+-- some role's value is
+abbrev pub roles_given : Roles → Bool
+roles_given roles =
+    is_given roles.cover || (is_given roles.fee || (is_given roles.deductible || (is_given roles.copay
+    || (is_given roles.rate || (is_given roles.oop_max || limits_given roles.family)))))
+
+-- no role's value is what is given for a name
+abbrev pub are_answered : Option Roles → Bool
+are_answered roles = option_map_or (λ r. if roles_given r then false else true) roles true
+
+-- this is remembered of the zone
+abbrev pub Remembers : List (Option Remembered) → ℕ → Benefit → Type 0
+Remembers rooms zone benefit = (room : ℕ) × (slice_get rooms room ≡ Some (Some (record { zone = zone; benefit = benefit })))
+
+-- what is remembered of a zone is what the plan gives wherever in it a claim lies
+abbrev pub IsTrueOf : (List Slot → ℕ → Type 0) → PlanParts → List (Option Remembered) → Type 0
+IsTrueOf in_zone plan rooms = (zone : ℕ) (benefit : Benefit) → Remembers rooms zone benefit → (given : List Slot) → in_zone given zone → benefit ≡ benefit_of plan.roles given (env plan given)
+
+-- wherever in the zone a claim lies, the plan gives the same as for what is given here
+abbrev pub IsShared : (List Slot → ℕ → Type 0) → PlanParts → List Slot → ℕ → Type 0
+IsShared in_zone plan given zone = (other : List Slot) → in_zone other zone → benefit_of plan.roles given (env plan given) ≡ benefit_of plan.roles other (env plan other)

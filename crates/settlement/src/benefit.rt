@@ -1,0 +1,106 @@
+//! What a plan gives for a claim, before it is known what is billed and what its member and its family have used up.
+ghost use Rattle.std.specs.Prelude.{◌≡◌, IfOk};
+ghost use Rattle.settlement.specs.Benefits.{are_answered, is_given, limits_given, outcome_by, roles_given};
+ghost use Rattle.settlement.specs.Settlement.{amounts, paid, within_range};
+
+use crate::acc::Acc;
+use crate::amounts::amounts_of;
+use crate::money::Money;
+use crate::outcome::Outcome;
+use crate::remarks::Remarks;
+use crate::terms::RoleTerms;
+use dtable::{FamilyRoles, Plan, Roles, Source};
+use reasons::Reason;
+use std::alloc::AllocError;
+
+/// What a plan's tables and roles say of a claim.
+pub enum Benefit {
+    /// It waits for a person.
+    Pended(Reason),
+    /// It isn't covered, and this is remarked.
+    Denied(Remarks),
+    /// It is covered on these terms, and this is remarked.
+    Covered(RoleTerms, Remarks),
+}
+
+impl Drop for Benefit {
+    #[inline]
+    fn drop(self) {
+        match self {
+            Benefit::Pended(_) => {}
+            Benefit::Denied(_) => {}
+            Benefit::Covered(_, _) => {}
+        }
+    }
+}
+
+impl Benefit {
+    /// The outcome of a claim that is billed at so much, at these accumulators.
+    pub fn outcome(&self, billed: Money, acc: &Acc) -> Result<Outcome, AllocError>
+        ensures { IfOk result (λ decided. decided ≡ outcome_by billed acc.now self.now) }
+    {
+        match self {
+            Benefit::Pended(reason) => Ok(Outcome::pended(*reason)),
+            Benefit::Denied(remarks) => Ok(Outcome::denied(remarks.share()?)),
+            Benefit::Covered(terms, remarks) => covered(billed, acc, terms, remarks),
+        }
+    }
+}
+
+// The outcome of a covered claim.
+fn covered(
+    billed: Money,
+    acc: &Acc,
+    terms: &RoleTerms,
+    remarks: &Remarks,
+) -> Result<Outcome, AllocError>
+    ensures { IfOk result (λ decided. decided ≡ within_range acc.now (paid (amounts billed terms.now acc.now) remarks.now)) }
+{
+    let amounts = amounts_of(billed, *terms, *acc);
+    let acc = *acc;
+    if acc.plus(amounts.ded, amounts.share, amounts.paid).is_none() {
+        return Ok(Outcome::pended(Reason::Range { table: 0 }));
+    }
+    Ok(Outcome::paid(amounts, remarks.share()?))
+}
+
+/// Whether no role of the plan is what is given for a name.
+pub fn are_answered(plan: &Plan) -> bool
+    ensures { result ≡ are_answered plan.now.roles }
+{
+    match plan.roles() {
+        Some(roles) => !roles_given(roles),
+        None => true,
+    }
+}
+
+fn roles_given(roles: &Roles) -> bool
+    ensures { result ≡ roles_given roles.now }
+{
+    is_given(&roles.cover)
+        || is_given(&roles.fee)
+        || is_given(&roles.deductible)
+        || is_given(&roles.copay)
+        || is_given(&roles.rate)
+        || is_given(&roles.oop_max)
+        || limits_given(&roles.family)
+}
+
+fn limits_given(limits: &Option<FamilyRoles>) -> bool
+    ensures { result ≡ limits_given limits.now }
+{
+    match limits {
+        Some(limits) => is_given(&limits.deductible) || is_given(&limits.oop_max),
+        None => false,
+    }
+}
+
+fn is_given(source: &Source) -> bool
+    ensures { result ≡ is_given source.now }
+{
+    match source {
+        Source::Literal(_) => false,
+        Source::Input(_) => true,
+        Source::Output(_) => false,
+    }
+}
