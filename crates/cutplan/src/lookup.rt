@@ -17,6 +17,9 @@ use crate::region::{Region, is_among, is_in, is_less, is_value};
 use feel_tests::{Text, Value};
 use std::cmp::Ordering;
 
+/// So many keys are looked at one by one, for which a search by halves takes longer.
+const FEW_KEYS: usize = 16;
+
 /// The mask of the region of a column in which the value lies, where it is of the column's kind and lies in one. The keys of
 /// the regions tell it mostly. The regions stand in rising order, so that it is sought by halves else; what is found is asked,
 /// and so nothing rests on keys and search. Any other text is in the last.
@@ -33,6 +36,7 @@ pub fn mask_of<'c>(column: &'c KeptColumn, value: &Value) -> Option<&'c [u64; 4]
 }
 
 /// The place of a region that has the value, if one has it.
+#[inline(always)]
 pub fn place_of(regions: &[Region], keys: &[u64], value: &Value) -> Option<usize>
     requires { OthersRise regions.now }
     ensures { IfSome result (λ place. IsTrue (has_at regions.now place value.now)) }
@@ -102,10 +106,12 @@ fn place_of_text(regions: &[Region], keys: &[u64], text: &Text) -> Option<usize>
 
 // The place of the key; the last of so many where there is none.
 fn likely(keys: &[u64], key: u64, count: usize) -> usize {
-    match keys.binary_search(&key) {
-        Ok(place) => place,
-        Err(_) => count.saturating_sub(1),
-    }
+    let place = if keys.len() > FEW_KEYS {
+        keys.binary_search(&key).ok()
+    } else {
+        keys.iter().position(|other| *other == key)
+    };
+    place.unwrap_or(count.saturating_sub(1))
 }
 
 fn has_text_at(regions: &[Region], place: usize, text: &Text) -> bool
@@ -143,6 +149,7 @@ fn is_text(value: &Value, text: &Text) -> bool
 }
 
 // The place of a number or a day, which lies in the last region whose key is not above its own, or in the only one.
+#[inline(always)]
 fn place_up_to(regions: &[Region], keys: &[u64], key: u64, value: &Value) -> Option<usize>
     requires { OthersRise regions.now }
     ensures { IfSome result (λ place. IsTrue (has_at regions.now place value.now)) }
@@ -157,10 +164,12 @@ fn place_up_to(regions: &[Region], keys: &[u64], key: u64, value: &Value) -> Opt
 
 // The place of the last of rising keys that is not above this one.
 fn last_up_to(keys: &[u64], key: u64) -> usize {
-    match keys.binary_search(&key) {
-        Ok(place) => place,
-        Err(place) => place.saturating_sub(1),
-    }
+    let count = if keys.len() > FEW_KEYS {
+        keys.partition_point(|other| *other <= key)
+    } else {
+        keys.iter().filter(|other| **other <= key).count()
+    };
+    count.saturating_sub(1)
 }
 
 // The place of a region that has the value, where its key does not tell it.

@@ -169,6 +169,7 @@ fn next_day(day: Day) -> Option<Value>
 }
 
 /// Whether the value is of the kind.
+#[inline(always)]
 pub fn is_value(kind: Kind, value: &Value) -> bool
     ensures { result ≡ is_value kind value.now }
 {

@@ -1,6 +1,5 @@
 -- What a plan gives for a claim, and its outcome by that; where it is shared.
 use Rattle.std.proofs.Common.{◌≡◌, ◌⊎◌, inl, inr, ℕ, ℤ, Bool, true, false, if◌then◌else◌, List, Option, Some, None, Result, Ok, Err, refl, ap, sym, ◌∙◌, subst}
-use Rattle.std.specs.Prelude.{IfSome}
 use Rattle.std.proofs.lemmas.Bool.{both_ways, or_parts}
 use Rattle.table_faults.specs.declared.fault.Fault.{Fault}
 use Rattle.dtable.specs.declared.inputs.Slot.{Slot}
@@ -18,7 +17,7 @@ use Rattle.settlement.specs.declared.benefit.Benefit.{Benefit}
 use Rattle.settlement.specs.declared.benefit.Benefit.TheVariants.{Denied}
 use Rattle.settlement.specs.declared.memory.Remembered.{Remembered}
 use Rattle.settlement.specs.declared.terms.RoleTerms.{RoleTerms}
-use Rattle.settlement.specs.Benefits.{IsShared, IsTrueOf, Remembers, are_answered, benefit_of, by_answers, by_found, by_reason, is_given, limits_given, outcome_by, roles_given}
+use Rattle.settlement.specs.Benefits.{IsAlike, IsShared, IsTrueOf, Remembers, are_answered, benefit_of, by_answers, by_found, by_reason, is_given, limits_given, outcome_by, roles_given}
 use Rattle.settlement.specs.Roles.{value_of, is_true_flag, limits, terms, remarks_of}
 use Rattle.settlement.specs.Settlement.{by_fault, by_tables, by_terms, denied}
 use Rattle.settlement.proofs.ReadAlike.{SameRoles, terms_alike}
@@ -93,23 +92,16 @@ benefit_same (Some roles) given other (Err fault) answered = refl
 benefit_same (Some roles) given other (Ok answers) answered = answers_same given other answers roles (roles_same given other answers roles (none_given (roles_given roles) answered))
 
 -- where the tables answer the same and no role is what is given, the plan gives the same
-pub shared_where_alike : (in_zone : List Slot → ℕ → Type 0) (plan : PlanParts) (given : List Slot) (zone : ℕ) → are_answered plan.roles ≡ true
-    → ((other : List Slot) → in_zone other zone → env plan other ≡ env plan given) → IsShared in_zone plan given zone
+shared_where_alike : (in_zone : List Slot → ℕ → Type 0) (plan : PlanParts) (given : List Slot) (zone : ℕ) → are_answered plan.roles ≡ true → IsAlike in_zone plan given zone → IsShared in_zone plan given zone
 shared_where_alike in_zone plan given zone answered alike other inside =
     benefit_same plan.roles given other (env plan given) answered ∙ ap (benefit_of plan.roles other) (sym (alike other inside))
 
--- so in a zone that is told
-pub zone_shared : (in_zone : List Slot → ℕ → Type 0) (plan : PlanParts) (given : List Slot) (told : Option ℕ) → are_answered plan.roles ≡ true
-    → IfSome told (in_zone given) → IfSome told (λ zone. (other : List Slot) → in_zone other zone → env plan other ≡ env plan given)
-    → IfSome told (λ zone. in_zone given zone × IsShared in_zone plan given zone)
-zone_shared in_zone plan given None answered inside alike = tt
-zone_shared in_zone plan given (Some zone) answered inside alike = (inside, shared_where_alike in_zone plan given zone answered alike)
-
 -- what is remembered stays true with what is true of one zone more
 pub kept_true : (in_zone : List Slot → ℕ → Type 0) (plan : PlanParts) (old new : List (Option Remembered)) (given : List Slot) (zone : ℕ) (benefit : Benefit) → IsTrueOf in_zone plan old
-    → benefit ≡ benefit_of plan.roles given (env plan given) → IsShared in_zone plan given zone
+    → benefit ≡ benefit_of plan.roles given (env plan given) → are_answered plan.roles ≡ true → IsAlike in_zone plan given zone
     → ((other : ℕ) (found : Benefit) → Remembers new other found → Remembers old other found ⊎ ((other ≡ zone) × (found ≡ benefit))) → IsTrueOf in_zone plan new
-kept_true in_zone plan old new given zone benefit is_true made shared kept other found remembered here inside =
+kept_true in_zone plan old new given zone benefit is_true made answered alike kept other found remembered here inside =
+    let shared = shared_where_alike in_zone plan given zone answered alike in
     elim (kept other found remembered) [
       | inl before ↦ is_true other found before here inside
       | inr now ↦ now.1 ∙ made ∙ shared here (subst (λ z. in_zone here z) now.0 inside)

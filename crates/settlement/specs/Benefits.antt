@@ -79,6 +79,10 @@ Remembers rooms zone benefit = (room : ℕ) × (slice_get rooms room ≡ Some (S
 abbrev pub IsTrueOf : (List Slot → ℕ → Type 0) → PlanParts → List (Option Remembered) → Type 0
 IsTrueOf in_zone plan rooms = (zone : ℕ) (benefit : Benefit) → Remembers rooms zone benefit → (given : List Slot) → in_zone given zone → benefit ≡ benefit_of plan.roles given (env plan given)
 
--- wherever in the zone a claim lies, the plan gives the same as for what is given here
+-- wherever in the zone a claim lies, the tables answer the same as for what is given here
+abbrev pub IsAlike : (List Slot → ℕ → Type 0) → PlanParts → List Slot → ℕ → Type 0
+IsAlike in_zone plan given zone = (other : List Slot) → in_zone other zone → env plan other ≡ env plan given
+
+-- and the plan gives the same
 abbrev pub IsShared : (List Slot → ℕ → Type 0) → PlanParts → List Slot → ℕ → Type 0
 IsShared in_zone plan given zone = (other : List Slot) → in_zone other zone → benefit_of plan.roles given (env plan given) ≡ benefit_of plan.roles other (env plan other)

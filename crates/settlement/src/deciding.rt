@@ -7,7 +7,7 @@ ghost use Rattle.dtable.specs.Plan.{PlanParts};
 ghost use Rattle.settlement.specs.declared.claim.Claim.{Claim};
 ghost use Rattle.settlement.specs.declared.benefit.Benefit.{Benefit as BenefitOf};
 ghost use Rattle.settlement.specs.Accumulators.{after, AreInRange};
-ghost use Rattle.settlement.specs.Benefits.{IsShared, IsTrueOf, Remembers, benefit_of, by_answers};
+ghost use Rattle.settlement.specs.Benefits.{IsAlike, IsTrueOf, Remembers, benefit_of, by_answers};
 ghost use Rattle.settlement.specs.Claim.{IsClaimOf};
 ghost use Rattle.settlement.specs.Placed.{ArePlaced, ArePlacedFor};
 ghost use Rattle.settlement.specs.Settlement.{outcome, by_tables};
@@ -154,19 +154,25 @@ fn settled<V: Valuer>(
     }
     let benefit = benefit_of(alloc, valuer, inputs, places, vocabulary)?;
     let decided = benefit.outcome(billed, &acc)?;
+    // Where a role's value is what is given for a name, the plan needn't give the same in all of the zone.
+    if !are_answered(valuer.plan()) {
+        memory.give_up();
+        return Ok(decided);
+    }
     memory.keep(zone, benefit);
     Ok(decided)
 }
 
-// The zone of the inputs, where the plan gives the same in all of it: no role's value is what is given for a name. None where zones are
-// not worth while.
+// The zone of the inputs, where zones are worth while.
 fn zone_of<V: Valuer>(valuer: &V, inputs: &Inputs, memory: &Memory) -> Option<u64>
-    ensures { IfSome result (λ zone. V.in_zone valuer.now inputs.now zone × IsShared (V.in_zone valuer.now) (V.plan_of valuer.now) inputs.now zone) }
+    ensures inside { IfSome result (V.in_zone valuer.now inputs.now) }
+    ensures alike { IfSome result (IsAlike (V.in_zone valuer.now) (V.plan_of valuer.now) inputs.now) }
 {
-    if !memory.is_of_use() || !are_answered(valuer.plan()) {
-        return None;
+    if memory.is_of_use() {
+        valuer.zone(inputs)
+    } else {
+        None
     }
-    valuer.zone(inputs)
 }
 
 // What the valuer's plan gives for a claim with these inputs.

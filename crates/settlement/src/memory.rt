@@ -94,6 +94,13 @@ impl Memory {
         self.patience = self.patience.saturating_add(WORTH).min(PATIENCE);
     }
 
+    /// No zone is worth while from now on.
+    pub fn give_up(&mut self)
+        ensures { self.new ≡ self.old }
+    {
+        self.patience = 0;
+    }
+
     /// What is remembered of the zone, if anything is.
     pub fn get(&self, zone: u64) -> Option<&Benefit>
         ensures { IfSome result (λ benefit. Remembers self.now zone benefit.now) }
