@@ -14,13 +14,44 @@ use claim_gate::{
     Accepted, Counts, Decision, EndFault, Ended, FinishFault, GateState, Job, Offer, OfferFault,
     Recorded, TakeFault, Taken,
 };
+use settlement::Money;
 use std::alloc::Global;
 use std::process::Abort;
 
 // How far a gate is, how long its journal, and its last event.
-fn mark(gate: &GateState) -> (Counts, usize, Option<Word>) {
-    let journal = gate.journal();
-    (gate.counts(), journal.len(), last_word(journal))
+#[derive(Clone, Copy, Drop)]
+struct Mark {
+    counts: Counts,
+    length: usize,
+    last: Word,
+}
+
+impl Mark {
+    fn of(gate: &GateState) -> Mark {
+        let journal = gate.journal();
+        Mark {
+            counts: gate.counts(),
+            length: journal.len(),
+            last: last_word(journal),
+        }
+    }
+
+    // Ends the test where the gate has gone on since.
+    fn still_stands(&self, rt: &impl Abort, gate: &GateState) {
+        let journal = gate.journal();
+        assert!(rt; gate.counts() == self.counts);
+        assert!(rt; journal.len() == self.length && last_word(journal) == self.last);
+    }
+}
+
+/// Whether an offer is of this provider and place.
+pub fn is_at(offer: &Offer, provider: usize, place: usize) -> bool {
+    offer.provider == provider && offer.place == place
+}
+
+/// Whether a job and its outcome are of this position, and pay so much.
+pub fn is_paid(job: &Job, outcome: &Decision, position: usize, paid: Money) -> bool {
+    job.position == position && outcome.outcome().paid == paid
 }
 
 /// `GateState::offer`.
@@ -33,12 +64,13 @@ pub fn offer<'t>(
     ensures terms { gate.new.terms ≡ gate.old.terms }
     ensures goes_on { OnOk result (Continues gate.old.journal gate.new.journal) }
 {
-    let before = mark(gate);
-    let filed = (offer.provider, offer.place);
+    let before = Mark::of(gate);
+    let (provider, place) = (offer.provider, offer.place);
     match gate.offer(offer) {
         Ok(accepted) => Ok(accepted),
         Err((OfferFault::OutOfMemory, back)) => {
-            assert!(rt; mark(gate) == before && (back.provider, back.place) == filed);
+            before.still_stands(rt, gate);
+            assert!(rt; is_at(&back, provider, place));
             let answer = gate.offer(back);
             assert!(rt; !matches!(answer, Err((OfferFault::OutOfMemory, _))));
             answer
@@ -57,10 +89,10 @@ pub fn end<'t>(
     requires { ForTerms gate.old.terms (λ T. HasClaims T provider count) }
     ensures terms { gate.new.terms ≡ gate.old.terms }
 {
-    let before = mark(gate);
+    let before = Mark::of(gate);
     match gate.end(provider, count) {
         Err(EndFault::OutOfMemory) => {
-            assert!(rt; mark(gate) == before);
+            before.still_stands(rt, gate);
             let answer = gate.end(provider, count);
             assert!(rt; !matches!(answer, Err(EndFault::OutOfMemory)));
             answer
@@ -77,10 +109,10 @@ pub fn take<'t>(rt: &impl Abort, gate: &mut GateState<'t>) -> Result<Taken, Take
     ensures terms { gate.new.terms ≡ gate.old.terms }
     ensures goes_on { OnOk result (Continues gate.old.journal gate.new.journal) }
 {
-    let before = mark(gate);
+    let before = Mark::of(gate);
     match gate.take() {
         Err(_) => {
-            assert!(rt; mark(gate) == before);
+            before.still_stands(rt, gate);
             let answer = gate.take();
             assert!(rt; answer.is_ok());
             answer
@@ -102,12 +134,13 @@ pub fn finish<'t>(
     ensures terms { gate.new.terms ≡ gate.old.terms }
     ensures recorded { OnOk result (gate.new ≡ record gate.old { journal = gate.old.journal ++ events.Decide job.position outcome ∷ [] }) }
 {
-    let before = mark(gate);
-    let given = (job.position, outcome.outcome().paid);
+    let before = Mark::of(gate);
+    let (position, paid) = (job.position, outcome.outcome().paid);
     match gate.finish(job, outcome) {
         Ok(recorded) => Ok(recorded),
         Err((FinishFault::OutOfMemory, job, outcome)) => {
-            assert!(rt; mark(gate) == before && (job.position, outcome.outcome().paid) == given);
+            before.still_stands(rt, gate);
+            assert!(rt; is_paid(&job, &outcome, position, paid));
             let answer = gate.finish(job, outcome);
             assert!(rt; !matches!(answer, Err((FinishFault::OutOfMemory, _, _))));
             answer

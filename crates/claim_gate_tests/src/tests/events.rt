@@ -25,11 +25,11 @@ fn digit(number: usize) -> u8 {
     }
 }
 
-// What the last event of a journal is, if there is one.
-pub fn last_word(journal: &[Event]) -> Option<Word> {
+// What the last event of a journal is; blanks where there is none.
+pub fn last_word(journal: &[Event]) -> Word {
     match journal.last() {
-        Some(event) => Some(word_of(event)),
-        None => None,
+        Some(event) => word_of(event),
+        None => *b"   ",
     }
 }
 

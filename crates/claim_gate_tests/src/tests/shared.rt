@@ -6,9 +6,9 @@ ghost use Rattle.claim_gate.specs.Replies.{HasClaims, IsFiled};
 ghost use Rattle.journal.specs.Gate.{LeadsTo};
 ghost use Rattle.claim_gate_tests.specs.Words.{IsAtWork, IsCaller};
 
-use super::again_shared;
 use super::calls::settled;
 use super::filing::offer_at;
+use super::{again, again_shared};
 use claim_gate::{
     Counts, Decision, EndFault, FinishFault, Gate, Job, Offer, OfferFault, TakeFault, Taken, Terms,
 };
@@ -33,7 +33,7 @@ fn accept<G: Gate>(
     ensures leads { LeadsTo (G.known pass).seen (G.known result).seen }
 {
     let _plan = terms.plan();
-    let filed = (offer.provider, offer.place);
+    let (provider, place) = (offer.provider, offer.place);
     let Ok((reply, pass)) = gate.offer(rt, pass, offer) else {
         panic!(rt; "a reply");
     };
@@ -43,7 +43,7 @@ fn accept<G: Gate>(
             pass
         }
         Err((OfferFault::OutOfMemory, back)) => {
-            assert!(rt; (back.provider, back.place) == filed);
+            assert!(rt; again::is_at(&back, provider, place));
             again_shared::accept(rt, terms, gate, pass, back, position, before)
         }
         Err(_) => panic!(rt; "an accepted claim"),
@@ -188,14 +188,14 @@ pub fn record<G: Gate>(
 {
     jobs_stay();
     let outcome = settled(rt, alloc, terms, &job);
-    let given = (job.position, outcome.outcome().paid);
+    let (position, paid) = (job.position, outcome.outcome().paid);
     let Ok((reply, pass)) = gate.finish(rt, pass, job, outcome) else {
         panic!(rt; "a reply");
     };
     match reply {
         Ok(_) => pass,
         Err((FinishFault::OutOfMemory, job, outcome)) => {
-            assert!(rt; (job.position, outcome.outcome().paid) == given);
+            assert!(rt; again::is_paid(&job, &outcome, position, paid));
             again_shared::record(rt, terms, gate, pass, job, outcome, before)
         }
         Err(_) => panic!(rt; "a recorded outcome"),
