@@ -10,8 +10,6 @@
 
 mod harm;
 mod law;
-#[cfg(test)]
-mod tests;
 
 pub use harm::{is_gap_harmful, is_overlap_harmful};
 pub use law::harm_is_fault;

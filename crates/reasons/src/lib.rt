@@ -3,8 +3,6 @@
 
 mod reason;
 mod role;
-#[cfg(test)]
-mod tests;
 
 pub use reason::Reason;
 pub use role::Role;

@@ -1,5 +1,10 @@
-//! Tests of `settlement` by worked examples. They stand apart from it, since the tests of a crate are proved together with all of its code.
+//! Tests by worked examples of `reasons`, `settlement` and `lanes`. They stand apart from these, since the tests of a crate are proved together
+//! with all of its code.
 #![tactic(auto)]
 
 #[cfg(test)]
-mod tests;
+mod settling;
+#[cfg(test)]
+mod turns;
+#[cfg(test)]
+mod words;

@@ -8,8 +8,6 @@ mod counts;
 mod record;
 mod tallied;
 mod tally;
-#[cfg(test)]
-mod tests;
 
 pub use counts::{Counts, Told};
 pub use tallied::{Stream, Tallied, TalliedText};

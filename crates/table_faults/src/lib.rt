@@ -4,8 +4,6 @@
 mod cell_fault;
 mod fault;
 mod plan_fault;
-#[cfg(test)]
-mod tests;
 
 pub use cell_fault::{CellCause, CellFault};
 pub use fault::Fault;

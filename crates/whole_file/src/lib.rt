@@ -5,8 +5,6 @@
 
 mod file_place;
 mod place;
-#[cfg(test)]
-mod tests;
 
 pub use file_place::FilePlace;
 pub use place::{Place, finish};

@@ -1,0 +1,16 @@
+//! Tests by worked examples of what stands around the commands: `plan_places`, `shown`, `explain`, `explain_files`, `console`, `whole_file` and
+//! `summary`. They stand apart from these, since the tests of a crate are proved together with all of its code.
+#![tactic(auto)]
+
+#[cfg(test)]
+mod command_line;
+#[cfg(test)]
+mod explanations;
+#[cfg(test)]
+mod places;
+#[cfg(test)]
+mod shown_text;
+#[cfg(test)]
+mod summaries;
+#[cfg(test)]
+mod whole_text;

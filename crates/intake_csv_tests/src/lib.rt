@@ -1,9 +1,0 @@
-//! Tests of `intake_csv` by worked examples. They stand apart from it, since the tests of a crate are proved together with all of its code.
-#![tactic(auto)]
-
-#[cfg(test)]
-mod balances;
-#[cfg(test)]
-mod briefs;
-#[cfg(test)]
-mod tests;

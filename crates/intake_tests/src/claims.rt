@@ -1,0 +1,517 @@
+//! Files of claims by worked examples.
+use dtable::{Plan, read_plan};
+use feel_tests::Value;
+use intake_csv::{
+    ClaimFile, FILE_LIMIT_BYTES, FileFault, Row, RowCause, Rows, claims_have_the_plan_s_fields,
+    given_row_is_the_first, no_records_give_no_rows, reader_begins_with_all_rows,
+};
+use settlement::Claim;
+use std::alloc::{AllocError, Global};
+use std::fmt::Write;
+use std::process::Abort;
+
+/// A plan with one field, of text.
+pub(crate) const PLAN: &[u8] = b"version = 1\nfields = [{name = \"code\", kind = \"text\"}]\n";
+
+/// The same, whose accumulators are kept by the year.
+pub(crate) const BY_YEAR: &[u8] = b"version = 2\nfields = [{name = \"code\", kind = \"text\"}]\n";
+
+/// The same, whose accumulators are kept for families, too.
+pub(crate) const BY_FAMILY: &[u8] = b"version = 3\nfields = [{name = \"code\", kind = \"text\"}]\n";
+
+/// A plan with a field of each kind.
+const KINDS: &[u8] =
+    b"version = 1\nfields = [{name = \"days\", kind = \"number\"}, {name = \"urgent\", kind = \"flag\"}, {name = \"admitted\", kind = \"day\"}]\n";
+
+const HEADER: &[u8] = b"claim,member,service,billed,code\n";
+
+/// The first claim file of the formats page.
+const CLAIMS: &[u8] = b"claim,member,service,billed,code
+c1,M1,2024-01-05,120.00,A
+c2,M1,2024-02-01,40.00,B
+c3,M1,2024-02-02,40.00,Z
+c4,M1,2024-03-01,100.00,A
+";
+
+/// The plan of a text. What is refused memory is asked for once more.
+pub(crate) fn plan(rt: &impl Abort, alloc: Global, text: &[u8]) -> Plan {
+    if let Ok(plan) = read_plan(alloc, text) {
+        return plan;
+    }
+    let Ok(plan) = read_plan(alloc, text) else {
+        panic!(rt; "a plan");
+    };
+    plan
+}
+
+// Each row in short: `number.place id member day units values;`, or `number!column.cause;`.
+fn told(rt: &impl Abort, alloc: Global, plan: &Plan, text: &[u8]) -> Result<String, AllocError> {
+    let file = ClaimFile::new(alloc, plan, text).expect(rt, "a file of claims");
+    told_of(rt, alloc, &file)
+}
+
+fn told_of(rt: &impl Abort, alloc: Global, file: &ClaimFile) -> Result<String, AllocError> {
+    let mut rows = file.rows(alloc)?;
+    told_behind(rt, alloc, &mut rows)
+}
+
+fn told_behind(rt: &impl Abort, alloc: Global, rows: &mut Rows) -> Result<String, AllocError> {
+    let mut told = String::new(alloc);
+    tell_all(&mut told, rows)?;
+    assert!(rt; tell_next(&mut told, rows) == Ok(false));
+    Ok(told)
+}
+
+fn tell_all(told: &mut String, rows: &mut Rows) -> Result<(), AllocError> {
+    for _ in 0..u64::MAX {
+        if !tell_next(told, rows)? {
+            break;
+        }
+    }
+    Ok(())
+}
+
+// Tells the next row, if there is one.
+fn tell_next(told: &mut String, rows: &mut Rows) -> Result<bool, AllocError> {
+    match rows.next()? {
+        Some(row) => {
+            tell(told, &row)?;
+            Ok(true)
+        }
+        None => Ok(false),
+    }
+}
+
+fn tells(
+    rt: &impl Abort,
+    alloc: Global,
+    plan: &Plan,
+    text: &[u8],
+    wanted: &str,
+) -> Result<(), AllocError> {
+    let told = told(rt, alloc, plan, text)?;
+    assert_eq!(rt; told.as_str(), wanted);
+    Ok(())
+}
+
+fn tell(told: &mut String, row: &Row) -> Result<(), AllocError> {
+    match row {
+        Row::Good {
+            number,
+            place,
+            claim,
+        } => {
+            write!(told, "{number}.{place} ")?;
+            tell_claim(told, claim)?;
+        }
+        Row::Bad { number, fault } => {
+            let cause = fault.cause.number();
+            write!(told, "{number}!{}.{cause};", fault.column)?;
+        }
+    }
+    Ok(())
+}
+
+fn tell_claim(told: &mut String, claim: &Claim) -> Result<(), AllocError> {
+    let day = claim.service.epoch_day();
+    let units = claim.billed.amount().units();
+    write!(told, "{}", claim.id.as_str())?;
+    if let Some(family) = &claim.family {
+        write!(told, " {}", family.as_str())?;
+    }
+    write!(told, " {} {day} {units}", claim.member.as_str())?;
+    for value in &claim.fields {
+        match value {
+            Value::Number(number) => write!(told, " {}", number.units())?,
+            Value::Text(text) => write!(told, " {}", text.as_str())?,
+            Value::Flag(flag) => write!(told, " {flag}")?,
+            Value::Day(day) => write!(told, " {}", day.epoch_day())?,
+        }
+    }
+    told.push(';')?;
+    Ok(())
+}
+
+// Reads a file of these parts.
+fn reads(
+    rt: &impl Abort,
+    alloc: Global,
+    plan: &Plan,
+    front: &[u8],
+    parts: &[&[u8]],
+    wanted: &str,
+) -> Result<(), AllocError> {
+    let mut text = Vec::new(alloc);
+    text.extend_from_slice(front)?;
+    for part in parts {
+        text.extend_from_slice(part)?;
+    }
+    tells(rt, alloc, plan, &text, wanted)
+}
+
+/// Sixty-four bytes of a member's name.
+const LONG: &[u8] = b"xxxxxxxxxxxxxxxxxxxxxxxxxxxxxxxxxxxxxxxxxxxxxxxxxxxxxxxxxxxxxxxx";
+
+/// A claim file of all faults of a record, between two claims. One member's name has 257 bytes.
+const FAULTY: [&[u8]; 16] = [
+    HEADER,
+    b"a,\"M\"\"1\",2024-02-29,1.00,A\n",
+    b"b,M2,2024-01-01\n",
+    b"c,,2024-01-01,1.00,A\n",
+    b"d,M,2024-02-30,1.00,A\n",
+    b"e,M,2024-01-01,-1.005,A\n",
+    b"f,M,2024-01-01,-1.00,A\n",
+    b"g,",
+    LONG,
+    LONG,
+    LONG,
+    LONG,
+    b"x",
+    b",2024-01-01,1.00,A\n",
+    b"h,\xFF,2024-01-01,1.00,A\n",
+    b"i,M1,2024-01-01,-0,B\n",
+];
+
+const FAULTY_TOLD: &str =
+    "1.0 a M\"1 19782 10000 A;2!0.1;3!2.4;4!3.5;5!4.6;6!4.7;7!2.3;8!2.2;9.1 i M1 19723 0 B;";
+
+#[test]
+fn each_fault_of_a_record(rt: HostRuntime) {
+    let plan = plan(&rt, rt.alloc(), PLAN);
+    reads_faulty(&rt, rt.alloc(), &plan);
+}
+
+fn reads_faulty(rt: &impl Abort, alloc: Global, plan: &Plan) {
+    assert!(rt; reads(rt, alloc, plan, b"", faulty(), FAULTY_TOLD).is_ok());
+    assert!(rt; reads(rt, alloc, plan, b"\xEF\xBB\xBF", faulty(), FAULTY_TOLD).is_ok());
+}
+
+fn faulty() -> &'static [&'static [u8]] {
+    &FAULTY
+}
+
+/// Records with faults under several columns, in another order than the plan's.
+const SHUFFLED: &[u8] = b"note,urgent,billed,service,member,claim,days,admitted
+\xFF,true,1.00,2024-01-01,M,a,1.5,0001-01-01
+,yes,1,01.01.2024,,,x,
+,true,0.001,,,,x,
+,true,-1,,,,,
+,true,1,2024-01-01,,,x,
+,true,1,2024-01-01,M,,x,
+,true,1,2024-01-01,M,c,,2024-1-1
+,true,1,2024-01-01,M,c,1,2024-1-1
+";
+
+const SHUFFLED_TOLD: &str =
+    "1.0 a M 19723 10000 15000 true -719162;2!2.5;3!3.6;4!3.7;5!5.4;6!6.4;7!7.5;8!8.5;";
+
+#[test]
+fn faults_of_a_record_come_in_the_header_s_order(rt: HostRuntime) {
+    let plan = plan(&rt, rt.alloc(), KINDS);
+    assert!(rt; tells(&rt, rt.alloc(), &plan, SHUFFLED, SHUFFLED_TOLD).is_ok());
+}
+
+/// Files of claims that are refused as a whole.
+const REFUSED_FILES: [(&[u8], FileFault); 6] = [
+    (b"", FileFault::NoHeader),
+    (b"\xEF\xBB\xBF\r\n\n", FileFault::NoHeader),
+    (b"claim,member,service,code\n", FileFault::MissingColumn),
+    (
+        b"claim,claim,member,service,code\n",
+        FileFault::MissingColumn,
+    ),
+    (
+        b"claim,member,service,billed,code,claim\n",
+        FileFault::DuplicateColumn,
+    ),
+    (
+        b"claim,member,service, billed,code\n",
+        FileFault::MissingColumn,
+    ),
+];
+
+fn refused(alloc: Global, plan: &Plan, text: &[u8]) -> Option<FileFault> {
+    ClaimFile::new(alloc, plan, text).err()
+}
+
+#[test]
+fn each_fault_of_a_file(rt: HostRuntime) {
+    let plan = plan(&rt, rt.alloc(), PLAN);
+    refuses_files(&rt, rt.alloc(), &plan, refused_files());
+}
+
+fn refused_files() -> &'static [(&'static [u8], FileFault)] {
+    &REFUSED_FILES
+}
+
+fn refuses_files(rt: &impl Abort, alloc: Global, plan: &Plan, files: &[(&[u8], FileFault)]) {
+    for (text, fault) in files {
+        assert!(rt; refused(alloc, plan, text) == Some(*fault));
+    }
+}
+
+// The text and empty lines, of so many bytes in all.
+fn filled(alloc: Global, text: &[u8], size: usize) -> Result<Vec<u8>, AllocError> {
+    let mut filled = Vec::with_capacity(alloc, size)?;
+    filled.extend_from_slice(text)?;
+    for _ in 0..size.saturating_sub(text.len()) {
+        filled.push(b'\n')?;
+    }
+    Ok(filled)
+}
+
+fn check_the_greatest_size(rt: &impl Abort, alloc: Global, plan: &Plan) -> Result<(), AllocError> {
+    let mut text = filled(alloc, HEADER, FILE_LIMIT_BYTES)?;
+    assert!(rt; refused(alloc, plan, &text).is_none());
+    text.push(b'\n')?;
+    assert!(rt; refused(alloc, plan, &text) == Some(FileFault::TooLarge));
+    Ok(())
+}
+
+#[test]
+fn a_file_of_the_greatest_size(rt: HostRuntime) {
+    let plan = plan(&rt, rt.alloc(), PLAN);
+    assert!(rt; check_the_greatest_size(&rt, rt.alloc(), &plan).is_ok());
+}
+
+/// What stands behind the header, and the rows that it gives: the cases that readers of CSV get wrong.
+const QUOTING: [(&[u8], &str); 14] = [
+    // Quotes inside a field that isn't quoted.
+    (
+        b"a,M,2024-01-01,1,x\"y\"z\n",
+        "1.0 a M 19723 10000 x\"y\"z;",
+    ),
+    // Text behind a closing quote.
+    (b"a,M,2024-01-01,1,\"x\"yz\n", "1.0 a M 19723 10000 xyz;"),
+    (
+        b"a,M,2024-01-01,1,\"x\"y\"z\"\n",
+        "1.0 a M 19723 10000 xy\"z\";",
+    ),
+    // Doubled quotes.
+    (
+        b"a,M,2024-01-01,1,\"x\"\"y\"\"\"\n",
+        "1.0 a M 19723 10000 x\"y\";",
+    ),
+    // Line ends and commas in quotes.
+    (
+        b"a,M,2024-01-01,1,\"x,\r\ny\nz\"\r\n",
+        "1.0 a M 19723 10000 x,\r\ny\nz;",
+    ),
+    // CR alone ends a record, and CRLF ends one.
+    (
+        b"a,M,2024-01-01,1,x\rb,M,2024-01-01,1,y\r\nc,M,2024-01-01,1,z\n",
+        "1.0 a M 19723 10000 x;2.1 b M 19723 10000 y;3.2 c M 19723 10000 z;",
+    ),
+    // Blank lines are no records, an empty quoted field alone is one.
+    (
+        b"\n\r\na,M,2024-01-01,1,x\n\n\n\"\"\n\nb,M,2024-01-01,1,y\n\n",
+        "1.0 a M 19723 10000 x;2!0.1;3.1 b M 19723 10000 y;",
+    ),
+    // White space is a field's own.
+    (b"a, M,2024-01-01,1, x \n", "1.0 a  M 19723 10000  x ;"),
+    (b"a,M,2024-01-01, 1,x\n \n", "1!4.5;2!0.1;"),
+    // The last record without its line end.
+    (b"a,M,2024-01-01,1,x", "1.0 a M 19723 10000 x;"),
+    (b"a,M,2024-01-01,1,", "1.0 a M 19723 10000 ;"),
+    // An unfinished quote.
+    (
+        b"a,M,2024-01-01,1,\"x,y\nb,M,2024-01-01,1,z\n",
+        "1.0 a M 19723 10000 x,y\nb,M,2024-01-01,1,z\n;",
+    ),
+    (b"a,M,2024-01-01,1,\"", "1.0 a M 19723 10000 ;"),
+    // A second byte order mark is a field's own.
+    (
+        b"\xEF\xBB\xBFa,M,2024-01-01,1,x\n",
+        "1.0 \u{FEFF}a M 19723 10000 x;",
+    ),
+];
+
+/// Headers that say the same.
+const HEADERS: [&[u8]; 4] = [
+    b"claim,member,service,billed,code\n",
+    b"\xEF\xBB\xBFclaim,member,service,billed,code\r\n",
+    b"\n\n\"claim\",member,\"service\",billed,\"code\"\n",
+    b"\xEF\xBB\xBF\"claim\",\"member\",\"service\",\"billed\",\"code\"\r",
+];
+
+#[test]
+fn quoting(rt: HostRuntime) {
+    let plan = plan(&rt, rt.alloc(), PLAN);
+    reads_by_headers(&rt, rt.alloc(), &plan);
+}
+
+fn headers() -> &'static [&'static [u8]] {
+    &HEADERS
+}
+
+fn quotings() -> &'static [(&'static [u8], &'static str)] {
+    &QUOTING
+}
+
+fn reads_by_headers(rt: &impl Abort, alloc: Global, plan: &Plan) {
+    for header in headers() {
+        reads_quotings(rt, alloc, plan, header);
+    }
+}
+
+fn reads_quotings(rt: &impl Abort, alloc: Global, plan: &Plan, header: &[u8]) {
+    for (records, wanted) in quotings() {
+        assert!(rt; reads(rt, alloc, plan, header, &[*records], wanted).is_ok());
+    }
+}
+
+const CLAIMS_TOLD: &str =
+    "1.0 c1 M1 19727 1200000 A;2.1 c2 M1 19754 400000 B;3.2 c3 M1 19755 400000 Z;4.3 c4 M1 19783 1000000 A;";
+
+#[test]
+fn every_prefix_of_a_claim_file_is_answered(rt: HostRuntime) {
+    let plan = plan(&rt, rt.alloc(), PLAN);
+    assert!(rt; check_prefixes(&rt, rt.alloc(), &plan, CLAIMS).is_ok());
+    assert!(rt; tells(&rt, rt.alloc(), &plan, CLAIMS, CLAIMS_TOLD).is_ok());
+}
+
+fn check_prefixes(
+    rt: &impl Abort,
+    alloc: Global,
+    plan: &Plan,
+    text: &[u8],
+) -> Result<(), AllocError> {
+    for length in 0..text.len() {
+        check_prefix(rt, alloc, plan, &text[..length])?;
+    }
+    Ok(())
+}
+
+// A prefix is a file of claims where it has the header's 32 bytes.
+fn check_prefix(
+    rt: &impl Abort,
+    alloc: Global,
+    plan: &Plan,
+    text: &[u8],
+) -> Result<(), AllocError> {
+    match ClaimFile::new(alloc, plan, text) {
+        Ok(file) => check_file(rt, alloc, &file, text.len()),
+        Err(fault) => {
+            check_header(rt, fault, text.len());
+            Ok(())
+        }
+    }
+}
+
+fn check_file(
+    rt: &impl Abort,
+    alloc: Global,
+    file: &ClaimFile,
+    length: usize,
+) -> Result<(), AllocError> {
+    assert!(rt; length >= 32);
+    assert!(rt; file.text().len() == length);
+    let mut rows = file.rows(alloc)?;
+    check_numbers(rt, &mut rows)
+}
+
+fn check_header(rt: &impl Abort, fault: FileFault, length: usize) {
+    assert!(rt; length < 32);
+    assert!(rt; fault == fault_of_front(length));
+}
+
+// The fault of so many bytes of a header, which are not all of it.
+pub(crate) fn fault_of_front(length: usize) -> FileFault {
+    if length == 0 {
+        FileFault::NoHeader
+    } else {
+        FileFault::MissingColumn
+    }
+}
+
+// The next row without its claim: its number, and its place among the claims or what refuses it.
+fn next(rows: &mut Rows) -> Result<Option<(usize, Result<usize, RowCause>)>, AllocError> {
+    match rows.next()? {
+        None => Ok(None),
+        Some(Row::Good { number, place, .. }) => Ok(Some((number, Ok(place)))),
+        Some(Row::Bad { number, fault }) => Ok(Some((number, Err(fault.cause)))),
+    }
+}
+
+// Records count from 1, and the only one that may be refused is cut off: its fields are too few, or empty.
+fn check_numbers(rt: &impl Abort, rows: &mut Rows) -> Result<(), AllocError> {
+    for expected in 1..6_usize {
+        match next(rows)? {
+            None => return Ok(()),
+            Some((number, Ok(place))) => {
+                assert!(rt; number == expected && place.saturating_add(1) == number);
+            }
+            Some((number, Err(cause))) => {
+                assert!(rt; number == expected && cause == RowCause::FieldCount);
+                assert!(rt; next(rows)?.is_none());
+            }
+        }
+    }
+    assert!(rt; false);
+    Ok(())
+}
+
+/// Claims of families, and what is told of them: the column of the family may stand anywhere.
+const FAMILY_CLAIMS: &[u8] = b"claim,code,member,service,billed,family
+e1,A,M1,2024-01-05,120.00,F1
+e2,A,M2,2024-02-01,100.00,
+e3,A,,2024-02-01,100.00,F1
+e4,B,M1,2024-02-01,30.00,F2
+";
+
+#[test]
+fn claims_of_families(rt: HostRuntime) {
+    let plan = plan(&rt, rt.alloc(), BY_FAMILY);
+    tells_of_families(&rt, rt.alloc(), &plan);
+}
+
+const FAMILIES_TOLD: &str = "1.0 e1 F1 M1 19727 1200000 A;2!6.4;3!3.4;4.1 e4 F2 M1 19754 300000 B;";
+
+fn tells_of_families(rt: &impl Abort, alloc: Global, plan: &Plan) {
+    assert!(rt; tells(rt, alloc, plan, FAMILY_CLAIMS, FAMILIES_TOLD).is_ok());
+    assert!(rt; refused(alloc, plan, CLAIMS) == Some(FileFault::MissingColumn));
+}
+
+#[test]
+fn calls_the_laws() {
+    claims_have_the_plan_s_fields();
+    reader_begins_with_all_rows();
+    given_row_is_the_first();
+    no_records_give_no_rows();
+}
+
+#[test]
+fn claims_or_no_memory(rt: HostRuntime) {
+    if let Ok(plan) = read_plan(rt.alloc(), PLAN) {
+        check_claims_or_no_memory(&rt, rt.alloc(), &plan, CLAIMS);
+    }
+}
+
+fn check_claims_or_no_memory(rt: &impl Abort, alloc: Global, plan: &Plan, text: &[u8]) {
+    match ClaimFile::new(alloc, plan, text) {
+        Ok(file) => check_file_or_no_memory(rt, alloc, &file),
+        Err(fault) => assert!(rt; fault == FileFault::OutOfMemory),
+    }
+}
+
+fn check_file_or_no_memory(rt: &impl Abort, alloc: Global, file: &ClaimFile) {
+    if let Ok(mut rows) = file.rows(alloc) {
+        check_rows_or_no_memory(rt, &mut rows);
+    }
+}
+
+// With an allocation refused, what was given before it stands, and from then on each call answers want of memory.
+fn check_rows_or_no_memory(rt: &impl Abort, rows: &mut Rows) {
+    for wanted in 1..5_usize {
+        match next(rows) {
+            Ok(Some((number, Ok(_)))) => assert!(rt; number == wanted),
+            Ok(_) => assert!(rt; false),
+            Err(AllocError) => {
+                assert!(rt; next(rows).is_err());
+                assert!(rt; next(rows).is_err());
+                return;
+            }
+        }
+    }
+    assert!(rt; matches!(next(rows), Ok(None)));
+}

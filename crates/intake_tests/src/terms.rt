@@ -1,0 +1,324 @@
+//! Terms by worked examples. What is refused memory is asked for once more.
+use crate::balances::same;
+use crate::claims::plan;
+use claim_terms::{FILES_LIMIT, Terms, TermsFault};
+use dtable::{Plan, Sequence};
+use feel_tests::{Day, TEXT_LIMIT_BYTES, Text};
+use intake_csv::{BalanceFault, FILE_LIMIT_BYTES, FileFault, Row, RowCause, RowFault, Rows};
+use settlement::{Acc, Claim};
+use std::alloc::Global;
+use std::process::Abort;
+
+mod families;
+
+/// A plan that pays what is billed, up to 5.00.
+const PLAN: &[u8] = br#"
+version = 1
+fields = [{name = "code", kind = "text"}]
+[roles]
+cover = "true"
+fee = "5"
+deductible = "0"
+copay = "0"
+rate = "0"
+oop_max = "1000"
+"#;
+
+const NO_ROLES: &[u8] = b"version = 1\n";
+
+const CLAIMS: &[u8] = b"claim,member,service,billed,code\nc1,M1,2024-01-05,120.00,A\n";
+
+const OTHER_CLAIMS: &[u8] = b"claim,member,service,billed,code\n";
+
+/// A file that lacks a column.
+const NO_CODE: &[u8] = b"claim,member,service,billed\n";
+
+/// A file that has a column twice.
+const TWO_CODES: &[u8] = b"claim,member,service,billed,code,code\n";
+
+const BALANCES: &[u8] = b"member,met,oop,paid\nM1,50.00,10.00,5.00\n";
+
+const TWICE: &[u8] = b"member,met,oop,paid\nM1,50.00,10.00,5.00\nM1,50.00,10.00,5.00\n";
+
+/// One file more than a run may have.
+const TOO_MANY: [&[u8]; 65] = [CLAIMS; 65];
+
+/// What is tried of a plan. One function holds the plan for all, since each that does costs the proof long.
+#[derive(Clone, Copy)]
+enum Tried {
+    Terms,
+    NumbersOfFiles,
+    Faults,
+    NoRoles,
+    LargeFile,
+    Rows,
+    Openings,
+    Sums,
+}
+
+fn check(rt: &impl Abort, alloc: Global, text: &[u8], tried: Tried) {
+    let plan = plan(rt, alloc, text);
+    check_plan(rt, alloc, &plan, tried);
+}
+
+fn check_plan(rt: &impl Abort, alloc: Global, plan: &Plan, tried: Tried) {
+    match tried {
+        Tried::Terms => check_terms(rt, alloc, plan),
+        Tried::NumbersOfFiles => check_numbers_of_files(rt, alloc, plan, &TOO_MANY),
+        Tried::Faults => check_faults(rt, alloc, plan),
+        Tried::NoRoles => check_no_roles(rt, alloc, plan),
+        Tried::LargeFile => check_large_file(rt, alloc, plan),
+        Tried::Rows => check_rows_of_files(rt, alloc, plan),
+        Tried::Openings => families::check_openings(rt, alloc, plan),
+        Tried::Sums => families::check_sums(rt, alloc, plan),
+    }
+}
+
+// The fault of these texts, if they have one.
+fn fault_of(
+    alloc: Global,
+    plan: &Plan,
+    files: &[&[u8]],
+    balances: Option<&[u8]>,
+) -> Option<TermsFault> {
+    Terms::new(alloc, plan, files, balances, None).err()
+}
+
+fn terms<'a>(
+    rt: &impl Abort,
+    alloc: Global,
+    plan: &'a Plan,
+    files: &'a [&'a [u8]],
+    balances: Option<&[u8]>,
+    cutoff: Option<u64>,
+) -> Terms<'a> {
+    match Terms::new(alloc, plan, files, balances, cutoff) {
+        Ok(terms) => return terms,
+        Err(fault) => assert!(rt; fault == TermsFault::OutOfMemory),
+    }
+    let Ok(terms) = Terms::new(alloc, plan, files, balances, cutoff) else {
+        panic!(rt; "terms");
+    };
+    terms
+}
+
+fn text(rt: &impl Abort, alloc: Global, text: &str) -> Text {
+    assert!(rt; text.len() <= TEXT_LIMIT_BYTES);
+    Text::new(alloc, text).expect(rt, "a text in its place")
+}
+
+// A claim of a member, of a family or none, by its day of service.
+fn claim(rt: &impl Abort, alloc: Global, day: i32, of: Option<&str>, member: &str) -> Claim {
+    let family = match of {
+        Some(family) => Some(text(rt, alloc, family)),
+        None => None,
+    };
+    Claim {
+        id: text(rt, alloc, "c1"),
+        family,
+        member: text(rt, alloc, member),
+        service: Day::from_epoch_day(day).expect(rt, "a day"),
+        billed: Acc::zero().met,
+        fields: Sequence::new(alloc),
+    }
+}
+
+// Compares what a member begins with.
+fn opens(rt: &impl Abort, alloc: Global, terms: &Terms, wanted: (&str, i64, i64, i64)) {
+    let (member, met, oop, paid) = wanted;
+    let claim = claim(rt, alloc, 19_727, None, member);
+    assert!(rt; same(terms.opening(&claim), met, oop, paid), "{member}");
+}
+
+fn has_files(rt: &impl Abort, terms: &Terms, wanted: &[&[u8]]) {
+    assert!(rt; terms.files().len() == wanted.len());
+    for (text, other) in terms.files().iter().zip(wanted) {
+        assert!(rt; *text == *other);
+    }
+}
+
+fn check_terms(rt: &impl Abort, alloc: Global, plan: &Plan) {
+    let files = [CLAIMS, OTHER_CLAIMS];
+    let full = terms(rt, alloc, plan, &files, Some(BALANCES), Some(7));
+    check_full(rt, alloc, &full, &files);
+    check_without_balances(rt, alloc, plan);
+}
+
+fn check_full(rt: &impl Abort, alloc: Global, terms: &Terms, files: &[&[u8]]) {
+    assert!(rt; terms.plan().names().len() == 8 && terms.plan().roles().is_some());
+    assert!(rt; terms.cutoff() == Some(7));
+    has_files(rt, terms, files);
+    opens(rt, alloc, terms, ("M1", 500_000, 100_000, 50_000));
+    opens(rt, alloc, terms, ("M2", 0, 0, 0));
+}
+
+fn check_without_balances(rt: &impl Abort, alloc: Global, plan: &Plan) {
+    let terms = terms(rt, alloc, plan, &[CLAIMS], None, None);
+    check_plain(rt, alloc, &terms);
+}
+
+fn check_plain(rt: &impl Abort, alloc: Global, terms: &Terms) {
+    assert!(rt; terms.cutoff().is_none());
+    opens(rt, alloc, terms, ("M1", 0, 0, 0));
+}
+
+// The gate runs it once for each of its allocations, with that one refused.
+#[test]
+fn terms_of_texts_though_memory_is_refused(rt: HostRuntime) {
+    check(&rt, rt.alloc(), PLAN, Tried::Terms);
+}
+
+#[test]
+fn as_many_files_as_a_run_may_have(rt: HostRuntime) {
+    check(&rt, rt.alloc(), PLAN, Tried::NumbersOfFiles);
+}
+
+fn check_numbers_of_files(rt: &impl Abort, alloc: Global, plan: &Plan, files: &[&[u8]]) {
+    assert!(rt; files.len() == 65);
+    assert!(rt; fault_of(alloc, plan, files, None) == Some(TermsFault::Files));
+    assert!(rt; fault_of(alloc, plan, &[], None) == Some(TermsFault::Files));
+    let [_, most @ ..] = files else {
+        panic!(rt; "files");
+    };
+    assert!(rt; most.len() == FILES_LIMIT);
+    assert!(rt; fault_of(alloc, plan, most, None).is_none());
+}
+
+/// The second record of balances names a member again.
+const REPEATED: TermsFault = TermsFault::Balances(BalanceFault::Row {
+    number: 2,
+    fault: RowFault {
+        column: 1,
+        cause: RowCause::Repeated,
+    },
+});
+
+/// Files and balances that make no terms, and the first of their faults.
+const REFUSED: [(&[&[u8]], &[u8], TermsFault); 4] = [
+    (&[], TWICE, TermsFault::Files),
+    (
+        &[CLAIMS, TWO_CODES, NO_CODE],
+        TWICE,
+        TermsFault::File {
+            provider: 2,
+            fault: FileFault::DuplicateColumn,
+        },
+    ),
+    (&[CLAIMS], TWICE, REPEATED),
+    (
+        &[CLAIMS],
+        b"",
+        TermsFault::Balances(BalanceFault::File(FileFault::NoHeader)),
+    ),
+];
+
+fn check_faults(rt: &impl Abort, alloc: Global, plan: &Plan) {
+    for (files, balances, fault) in &REFUSED {
+        let refused = fault_of(alloc, plan, files, Some(balances));
+        assert!(rt; refused == Some(*fault));
+    }
+}
+
+fn check_no_roles(rt: &impl Abort, alloc: Global, plan: &Plan) {
+    let refused = fault_of(alloc, plan, &[], Some(TWICE));
+    assert!(rt; refused == Some(TermsFault::NoRoles));
+}
+
+#[test]
+fn faults_come_in_order(rt: HostRuntime) {
+    check(&rt, rt.alloc(), NO_ROLES, Tried::NoRoles);
+    check(&rt, rt.alloc(), PLAN, Tried::Faults);
+}
+
+fn check_large_file(rt: &impl Abort, alloc: Global, plan: &Plan) {
+    let text = too_large(rt, alloc, CLAIMS);
+    assert!(rt; text.len() == 16_777_217);
+    let refused = fault_of(alloc, plan, &[&text, NO_CODE], None);
+    let fault = FileFault::TooLarge;
+    assert!(rt; refused == Some(TermsFault::File { provider: 1, fault }));
+}
+
+#[test]
+fn a_file_that_is_too_large(rt: HostRuntime) {
+    check(&rt, rt.alloc(), PLAN, Tried::LargeFile);
+}
+
+// The text with as many empty lines that it has one byte more than a file may have.
+fn too_large(rt: &impl Abort, alloc: Global, text: &[u8]) -> Vec<u8> {
+    let size = FILE_LIMIT_BYTES.saturating_add(1);
+    let mut large = Vec::with_capacity(alloc, size).expect(rt, "memory for a file");
+    large.extend_from_slice(text).expect(rt, "room");
+    for _ in 0..size.saturating_sub(text.len()) {
+        large.push(b'\n').expect(rt, "room");
+    }
+    large
+}
+
+/// Faults, with their numbers and texts.
+const FAULTS: [(TermsFault, u8, &str); 5] = [
+    (TermsFault::NoRoles, 1, "the plan has no roles"),
+    (TermsFault::Files, 2, "no file, or too many files"),
+    (
+        TermsFault::File {
+            provider: 2,
+            fault: FileFault::NoHeader,
+        },
+        3,
+        "file 2: the file has no header",
+    ),
+    (
+        REPEATED,
+        4,
+        "balances: record 2: column 1: a member stands twice",
+    ),
+    (TermsFault::OutOfMemory, 5, "out of memory"),
+];
+
+#[test]
+fn faults_have_numbers_and_texts(rt: HostRuntime) {
+    for (fault, number, wanted) in &FAULTS {
+        assert!(rt; fault.number() == *number);
+        let told = format!(in rt.alloc(); "{fault}").expect(&rt, "memory for a text");
+        assert!(rt; told.as_str() == *wanted);
+    }
+}
+
+// Whether a claim comes next, and not the end of the file.
+fn has_claim(rt: &impl Abort, rows: &mut Rows) -> bool {
+    match rows.next().expect(rt, "memory for a row") {
+        Some(Row::Good { .. }) => true,
+        Some(Row::Bad { .. }) => panic!(rt; "a claim"),
+        None => false,
+    }
+}
+
+// A provider's file has so many claims, and nothing else.
+fn check_rows(rt: &impl Abort, alloc: Global, terms: &Terms, provider: usize, count: usize) {
+    let files = terms.files();
+    assert!(rt; 1 <= provider && provider <= files.len());
+    let mut rows = terms
+        .rows(alloc, provider)
+        .expect(rt, "memory for a reader");
+    for _ in 0..count {
+        assert!(rt; has_claim(rt, &mut rows));
+    }
+    assert!(rt; !has_claim(rt, &mut rows));
+}
+
+fn check_rows_of_files(rt: &impl Abort, alloc: Global, plan: &Plan) {
+    let terms = terms(rt, alloc, plan, &[CLAIMS, OTHER_CLAIMS], None, None);
+    check_each(rt, alloc, &terms);
+}
+
+fn check_each(rt: &impl Abort, alloc: Global, terms: &Terms) {
+    assert!(rt; terms.files().len() == 2);
+    for _ in 0..2 {
+        check_rows(rt, alloc, terms, 1, 1);
+        check_rows(rt, alloc, terms, 2, 0);
+    }
+}
+
+#[test]
+fn rows_of_each_file_begin_anew(rt: HostRuntime) {
+    check(&rt, rt.alloc(), PLAN, Tried::Rows);
+}

@@ -1,0 +1,161 @@
+//! Worked values of the command, and what no clause says: that it succeeds where memory and the writer allow.
+use crate::testing::{
+    Narrow, WhenFull, is_cut, is_printed, is_refused, is_whole, is_whole_or_none, says,
+};
+use adjudicate::{do_check, do_harmful_check};
+use fixpoint::Out;
+use std::alloc::Global;
+use std::process::Abort;
+
+mod regions;
+
+use regions::{
+    NO_RULES, SOME_HARMFUL, TOLD_AS_HARMFUL, TOLD_OF_TWO_TABLES, TOLD_OF_WIDE_AND_OVERLAPPING,
+    TWO_TABLES, WIDE_AND_OVERLAPPING,
+};
+
+/// One number column, with a gap between two rules that a number has, and one above them.
+const TWO_GAPS: &str = "version = 1
+fields = [{name = \"x\", kind = \"number\"}]
+[[tables]]
+inputs = [{name = \"x\"}]
+outputs = [{name = \"y\", kind = \"number\"}]
+rules = [{when = ['<1'], then = ['1']}, {when = ['[1.0001..5]'], then = ['2']}]
+";
+
+const TOLD_GAPS: &str = "gap table 1: 1\ngap table 1: >5\ngaps 2 overlaps 0\n";
+
+/// One number column, of which both rules have the 5.
+const ONE_OVERLAP: &str = "version = 1
+fields = [{name = \"x\", kind = \"number\"}]
+[[tables]]
+inputs = [{name = \"x\"}]
+outputs = [{name = \"y\", kind = \"number\"}]
+rules = [{when = ['<=5'], then = ['1']}, {when = ['>=5'], then = ['2']}]
+";
+
+/// One text column, of which each rule has one text.
+const TWO_TEXTS: &str = "version = 1
+fields = [{name = \"code\", kind = \"text\"}]
+[[tables]]
+inputs = [{name = \"code\"}]
+outputs = [{name = \"y\", kind = \"number\"}]
+rules = [{when = ['\"A\"'], then = ['1']}, {when = ['\"B\"'], then = ['2']}]
+";
+
+/// The same where no other texts are allowed.
+const ALLOWED_TEXTS: &str = "version = 1
+fields = [{name = \"code\", kind = \"text\"}]
+[[tables]]
+inputs = [{name = \"code\", values = '\"A\",\"B\"'}]
+outputs = [{name = \"y\", kind = \"number\"}]
+rules = [{when = ['\"A\"'], then = ['1']}, {when = ['\"B\"'], then = ['2']}]
+";
+
+/// Four number columns of 17 regions each: more cells than a check has.
+const WIDE: &str = "version = 1
+fields = [{name = \"x\", kind = \"number\"}]
+[[tables]]
+inputs = [{name = \"x\"}, {name = \"x\"}, {name = \"x\"}, {name = \"x\"}]
+outputs = [{name = \"y\", kind = \"number\"}]
+rules = [{when = ['1,2,3,4,5,6,7,8', '1,2,3,4,5,6,7,8', '1,2,3,4,5,6,7,8', '1,2,3,4,5,6,7,8'], then = ['1']}]
+";
+
+/// A plan, and what is printed.
+const PRINTED: &[(&str, &str)] = &[
+    (TWO_GAPS, TOLD_GAPS),
+    (
+        ONE_OVERLAP,
+        "overlap table 1: rules 1 2\ngaps 0 overlaps 1\n",
+    ),
+    (
+        TWO_TEXTS,
+        "gap table 1: not(\"A\",\"B\")\ngaps 1 overlaps 0\n",
+    ),
+    (ALLOWED_TEXTS, "gaps 0 overlaps 0\n"),
+    (WIDE, "wide table 1\ngaps 0 overlaps 0\n"),
+    (TWO_TABLES, TOLD_OF_TWO_TABLES),
+    (WIDE_AND_OVERLAPPING, TOLD_OF_WIDE_AND_OVERLAPPING),
+    (NO_RULES, "gap table 1: - ; -\ngaps 1 overlaps 0\n"),
+    ("version = 1\n", "gaps 0 overlaps 0\n"),
+];
+
+/// Writers that take so many bytes a write.
+const WRITERS: &[(usize, WhenFull)] = &[
+    (1, WhenFull::Fails),
+    (3, WhenFull::Fails),
+    (64, WhenFull::Fails),
+    (1, WhenFull::TakesNothing),
+    (3, WhenFull::TakesNothing),
+    (64, WhenFull::TakesNothing),
+];
+
+// The command prints this text for a plan.
+fn gives(alloc: Global, plan: &str, text: &str) -> bool {
+    let mut out = Out::new(Vec::new(alloc));
+    let result = do_check(alloc, plan.as_bytes(), &mut out);
+    is_printed(result, out, text)
+}
+
+#[test]
+fn gaps_overlaps_and_wide_tables(rt: HostRuntime) {
+    for row in PRINTED {
+        let (plan, text) = *row;
+        assert!(rt; gives(rt.alloc(), plan, text), "{text}");
+    }
+}
+
+#[test]
+fn harmful_gaps_and_overlaps(rt: HostRuntime) {
+    let alloc = rt.alloc();
+    let mut out = Out::new(Vec::new(alloc));
+    let result = do_harmful_check(alloc, SOME_HARMFUL.as_bytes(), &mut out);
+    assert!(rt; is_printed(result, out, TOLD_AS_HARMFUL));
+}
+
+#[test]
+fn a_text_that_is_no_plan_is_refused(rt: HostRuntime) {
+    let alloc = rt.alloc();
+    let mut out = Out::new(Vec::new(alloc));
+    let result = do_check(alloc, b"version = 4\n", &mut out);
+    assert!(rt; is_refused(result, out, "plan fault 3 table 0 rule 0 column 0\n"));
+}
+
+// A writer that has room for so many bytes of the text gets these.
+fn fills(rt: &impl Abort, alloc: Global, limit: usize, width: usize, when_full: WhenFull) -> bool {
+    let mut out = Out::new(Narrow::new(rt, alloc, limit, width, when_full));
+    let result = do_check(alloc, TWO_GAPS.as_bytes(), &mut out);
+    if limit < TOLD_GAPS.len() {
+        is_cut(result, out, TOLD_GAPS, limit)
+    } else {
+        is_whole(result, out, TOLD_GAPS)
+    }
+}
+
+#[test]
+fn a_full_writer_has_the_first_bytes(rt: HostRuntime) {
+    for writer in WRITERS {
+        let (width, when_full) = *writer;
+        for limit in 0..50 {
+            assert!(rt; fills(&rt, rt.alloc(), limit, width, when_full), "{limit}");
+        }
+    }
+}
+
+#[test]
+fn a_write_fault_has_its_line(rt: HostRuntime) {
+    let alloc = rt.alloc();
+    let mut out = Out::new(Narrow::new(&rt, alloc, 5, 64, WhenFull::Fails));
+    let stop = do_check(alloc, TWO_GAPS.as_bytes(), &mut out).expect_err(&rt, "a refusal");
+    assert!(rt; says(&stop, "write fault at 5\n", 3));
+    assert!(rt; out.into_inner().has_first(b"gap t", 5));
+}
+
+/// Run it with each allocation refused in turn: all of them but the writer's are the command's.
+#[test]
+fn a_check_or_no_memory(rt: HostRuntime) {
+    let alloc = rt.alloc();
+    let mut out = Out::new(Narrow::new(&rt, alloc, 64, 64, WhenFull::Fails));
+    let result = do_check(alloc, TWO_GAPS.as_bytes(), &mut out);
+    assert!(rt; is_whole_or_none(result, out, TOLD_GAPS));
+}

@@ -1,0 +1,18 @@
+//! Tests by worked examples of `crew`, `remit` and `adjudicate`. They stand apart from these, since the tests of a crate are proved together with
+//! all of its code.
+#![tactic(auto)]
+
+#[cfg(test)]
+mod check;
+#[cfg(test)]
+mod reports;
+#[cfg(test)]
+mod run;
+#[cfg(test)]
+mod stop;
+#[cfg(test)]
+mod testing;
+#[cfg(test)]
+mod threads;
+#[cfg(test)]
+mod value;

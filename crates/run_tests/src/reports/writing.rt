@@ -1,0 +1,108 @@
+//! How the tests write reports: what is refused memory before that is asked for once more.
+ghost use Rattle.std.specs.Prelude.{◌≡◌};
+
+use crate::testing::{Narrow, WhenFull, plan_of, terms_of};
+use claim_gate::{Batch, GateState};
+use claim_terms::Terms;
+use fixpoint::Out;
+use journal::Event;
+use remit::{WriteCause, WriteFault, write_journal, write_report};
+use std::alloc::Global;
+use std::io::Write;
+use std::process::Abort;
+
+/// Writes the report of a journal over these files and this cutoff.
+pub fn write_over<W: Write>(
+    rt: &impl Abort,
+    alloc: Global,
+    files: &[&[u8]],
+    cutoff: Option<u64>,
+    journal: &[Event],
+    out: &mut Out<W>,
+) -> Result<(), WriteFault> {
+    let plan = plan_of(rt, alloc);
+    let terms = terms_of(rt, alloc, &plan, files, cutoff);
+    write_journal(alloc, &terms, journal, out)
+}
+
+fn gate_of<'t>(rt: &impl Abort, alloc: Global, terms: &'t Terms<'t>) -> GateState<'t>
+    ensures { result.terms ≡ terms.now }
+{
+    if let Ok(gate) = GateState::new(alloc, terms) {
+        return gate;
+    }
+    GateState::new(alloc, terms).expect(rt, "memory for a gate")
+}
+
+/// The run that admits no claim.
+pub fn late_batch<'t>(rt: &impl Abort, alloc: Global, terms: &'t Terms<'t>) -> Batch<'t>
+    ensures { result.terms ≡ terms.now }
+{
+    let gate = gate_of(rt, alloc, terms);
+    let Ok(batch) = Batch::from_state(gate, terms) else {
+        panic!(rt; "a run that is over");
+    };
+    batch
+}
+
+fn write_late_over<W: Write>(
+    rt: &impl Abort,
+    alloc: Global,
+    terms: &Terms,
+    out: &mut Out<W>,
+) -> Result<(), WriteFault> {
+    let batch = late_batch(rt, alloc, terms);
+    write_report(alloc, terms, &batch, out)
+}
+
+/// Writes the report of a run that admits no claim of these files.
+pub fn write_late<W: Write>(
+    rt: &impl Abort,
+    alloc: Global,
+    files: &[&[u8]],
+    out: &mut Out<W>,
+) -> Result<(), WriteFault> {
+    let plan = plan_of(rt, alloc);
+    let terms = terms_of(rt, alloc, &plan, files, Some(0));
+    write_late_over(rt, alloc, &terms, out)
+}
+
+/// Whether the whole report was written. Otherwise the writer has got its first bytes, as many as the fault tells: a `Vec` that can't grow is a
+/// writer that fails.
+pub fn is_whole(
+    rt: &impl Abort,
+    answer: Result<(), WriteFault>,
+    out: Out<Vec<u8>>,
+    report: &[u8],
+) -> bool {
+    let has_failed = out.failed();
+    let taken = out.into_inner();
+    match answer {
+        Ok(()) => {
+            assert!(rt; !has_failed && taken.as_slice() == report);
+            true
+        }
+        Err(fault) => {
+            assert!(rt; taken.len() == fault.written && report.starts_with(taken.as_slice()));
+            false
+        }
+    }
+}
+
+/// A writer with room for so many bytes, which takes at most 1,000 at a time, and then fails or takes nothing.
+pub fn with_room(rt: &impl Abort, alloc: Global, limit: usize, when_full: WhenFull) -> Out<Narrow> {
+    Out::new(Narrow::new(rt, alloc, limit, 1_000, when_full))
+}
+
+// The fault tells that so many bytes were written.
+fn is_cut_at(answer: Result<(), WriteFault>, written: usize) -> bool {
+    let cause = WriteCause::Device;
+    answer == Err(WriteFault { written, cause })
+}
+
+/// The writer has got as many first bytes of the report as it has room for, and the answer tells how many.
+pub fn is_filled(answer: Result<(), WriteFault>, out: Out<Narrow>, report: &[u8]) -> bool {
+    let has_failed = out.failed();
+    let narrow = out.into_inner();
+    is_cut_at(answer, narrow.limit()) && has_failed && narrow.has_first(report, narrow.limit())
+}

@@ -1,0 +1,219 @@
+//! The check of tables by worked examples, on its calls. Regions of each kind stand as text in cases of the built program's
+//! `check`. What is refused memory is asked for once more.
+ghost use Rattle.std.specs.Prelude.{◌≡◌};
+ghost use Rattle.cutplan.specs.Numbered.{IsTableNumber};
+
+mod alike;
+mod places;
+mod plans;
+
+use crate::answers::plan_of;
+use cutplan::{CELL_LIMIT, CheckFault, CutPlan, Region, compile};
+use dtable::{Plan, Sequence};
+use feel_tests::{Literals, Value, append_joined};
+use plans::{
+    allowed_codes, apart, at_five, codes, flag_and_code, seventeen_regions, sixteen_regions,
+};
+use std::alloc::{AllocError, Global};
+use std::process::Abort;
+
+// The plan, made ready for its check and for values by masks.
+fn cut_of<'p>(rt: &impl Abort, alloc: Global, plan: &'p Plan) -> CutPlan<'p>
+    ensures { result ≡ plan.now }
+{
+    if let Ok(cut) = compile(alloc, plan) {
+        return cut;
+    }
+    let Ok(cut) = compile(alloc, plan) else {
+        panic!(rt; "memory for a cut plan");
+    };
+    cut
+}
+
+// The gaps of a plan's first table.
+fn gaps_of(alloc: Global, cut: &CutPlan) -> Result<Vec<Sequence<Region>>, CheckFault>
+    requires { IsTableNumber cut.now 1 }
+{
+    match cut.gaps(alloc, 1) {
+        Err(CheckFault::OutOfMemory) => cut.gaps(alloc, 1),
+        answer => answer,
+    }
+}
+
+// Whether this is the one pair of these rules.
+fn is_pair(pairs: &[(usize, usize)], first: usize, second: usize) -> bool {
+    match pairs {
+        [pair] => pair.0 == first && pair.1 == second,
+        _ => false,
+    }
+}
+
+// The regions of cells, a line for each cell.
+fn shown(alloc: Global, cells: &[Sequence<Region>]) -> Result<Vec<u8>, AllocError> {
+    let mut text = Vec::new(alloc);
+    for cell in cells {
+        write_cell(&mut text, cell.as_slice())?;
+        text.push(b'\n')?;
+    }
+    Ok(text)
+}
+
+fn write_cell(text: &mut Vec<u8>, cell: &[Region]) -> Result<(), AllocError> {
+    for region in cell {
+        write_region(text, region)?;
+        text.push(b';')?;
+    }
+    Ok(())
+}
+
+fn write_region(text: &mut Vec<u8>, region: &Region) -> Result<(), AllocError> {
+    match region {
+        Region::Below(cut) => write_behind(text, b"<", cut),
+        Region::At(value) => value.write_text(text),
+        Region::Between(low, high) => {
+            write_behind(text, b">", low)?;
+            write_behind(text, b"<", high)
+        }
+        Region::Above(cut) => write_behind(text, b">", cut),
+        Region::Other(names) => {
+            text.extend_from_slice(b"none of ")?;
+            append_joined::<Value, Literals>(text, ",", names.as_slice())
+        }
+        Region::Every => text.extend_from_slice(b"-"),
+    }
+}
+
+fn write_behind(text: &mut Vec<u8>, mark: &[u8], cut: &Value) -> Result<(), AllocError> {
+    text.extend_from_slice(mark)?;
+    cut.write_text(text)
+}
+
+/// The gaps that are wanted of a table.
+#[derive(Clone, Copy)]
+enum Gaps<'a> {
+    /// These, as text.
+    Shown(&'a str),
+    /// So many.
+    Count(usize),
+    /// None, since the table has too many cells.
+    TooWide,
+}
+
+fn check_cells(rt: &impl Abort, alloc: Global, cells: &[Sequence<Region>], wanted: Gaps<'_>) {
+    match wanted {
+        Gaps::Shown(wanted) => check_shown(rt, alloc, cells, wanted),
+        Gaps::Count(count) => assert!(rt; cells.len() == count),
+        Gaps::TooWide => panic!(rt; "too many cells"),
+    }
+}
+
+fn check_shown(rt: &impl Abort, alloc: Global, cells: &[Sequence<Region>], wanted: &str) {
+    let text = match shown(alloc, cells) {
+        Ok(text) => text,
+        Err(_) => shown(alloc, cells).expect(rt, "memory for a text"),
+    };
+    assert!(rt; text.as_slice() == wanted.as_bytes());
+}
+
+// These are the gaps of a plan's first table.
+fn check_gaps(rt: &impl Abort, alloc: Global, cut: &CutPlan, wanted: Gaps<'_>)
+    requires { IsTableNumber cut.now 1 }
+{
+    match gaps_of(alloc, cut) {
+        Ok(cells) => check_cells(rt, alloc, cells.as_slice(), wanted),
+        Err(fault) => {
+            assert!(rt; fault == CheckFault::TooWide && matches!(wanted, Gaps::TooWide));
+        }
+    }
+}
+
+// This is the one overlap of a plan's first table, or there is none.
+fn check_overlaps(rt: &impl Abort, alloc: Global, cut: &CutPlan, wanted: Option<(usize, usize)>)
+    requires { IsTableNumber cut.now 1 }
+{
+    let pairs = match cut.overlaps(alloc, 1) {
+        Ok(pairs) => pairs,
+        Err(_) => cut.overlaps(alloc, 1).expect(rt, "memory for pairs"),
+    };
+    match wanted {
+        Some((first, second)) => assert!(rt; is_pair(pairs.as_slice(), first, second)),
+        None => assert!(rt; pairs.is_empty()),
+    }
+}
+
+fn check_first(
+    rt: &impl Abort,
+    alloc: Global,
+    plan: &Plan,
+    gaps: Gaps<'_>,
+    overlap: Option<(usize, usize)>,
+) {
+    assert!(rt; plan.tables().len() > 0);
+    let cut = cut_of(rt, alloc, plan);
+    check_gaps(rt, alloc, &cut, gaps);
+    check_overlaps(rt, alloc, &cut, overlap);
+}
+
+// Compares the gaps of the first table of the plan that the text spells, and its one overlap.
+fn check(
+    rt: &impl Abort,
+    alloc: Global,
+    text: &[u8],
+    gaps: Gaps<'_>,
+    overlap: Option<(usize, usize)>,
+) {
+    let plan = plan_of(rt, alloc, text);
+    check_first(rt, alloc, &plan, gaps, overlap);
+}
+
+#[test]
+fn numbers_that_no_rule_covers_are_gaps(rt: HostRuntime) {
+    check(&rt, rt.alloc(), apart(), Gaps::Shown("1;\n>5;\n"), None);
+}
+
+#[test]
+fn rules_that_share_a_number_overlap(rt: HostRuntime) {
+    check(&rt, rt.alloc(), at_five(), Gaps::Shown(""), Some((1, 2)));
+}
+
+#[test]
+fn any_other_text_is_a_gap(rt: HostRuntime) {
+    check(
+        &rt,
+        rt.alloc(),
+        codes(),
+        Gaps::Shown("none of \"A\",\"B\";\n"),
+        None,
+    );
+}
+
+#[test]
+fn named_texts_leave_no_gap(rt: HostRuntime) {
+    check(&rt, rt.alloc(), allowed_codes(), Gaps::Shown(""), None);
+}
+
+// The gate runs it once for each of its allocations, with that one refused.
+#[test]
+fn gaps_and_overlaps_are_listed_though_memory_is_refused(rt: HostRuntime) {
+    let gaps = "false;\"A\";\ntrue;none of \"A\",\"B\";\n";
+    check(
+        &rt,
+        rt.alloc(),
+        flag_and_code(),
+        Gaps::Shown(gaps),
+        Some((2, 3)),
+    );
+}
+
+#[test]
+fn sixteen_and_seventeen_regions_in_each_of_four_columns(rt: HostRuntime) {
+    check(
+        &rt,
+        rt.alloc(),
+        sixteen_regions(),
+        Gaps::Count(61_440),
+        None,
+    );
+    check(&rt, rt.alloc(), seventeen_regions(), Gaps::TooWide, None);
+    assert!(rt; CELL_LIMIT == 65_536);
+}

@@ -1,0 +1,18 @@
+//! Tests by worked examples of `dtable`, `cutplan` and `harm`. They stand apart from these, since the tests of a crate are proved together with
+//! all of its code.
+#![tactic(auto)]
+
+#[cfg(test)]
+mod answers;
+#[cfg(test)]
+mod chains;
+#[cfg(test)]
+mod cuts;
+#[cfg(test)]
+mod harms;
+#[cfg(test)]
+mod plans;
+#[cfg(test)]
+mod reading;
+#[cfg(test)]
+mod tables;
