@@ -1,20 +1,15 @@
 -- What is kept of the names that tables read, name by name, and the zone of what is given, place by place.
-use Rattle.std.proofs.Common.{◌≡◌, ℕ, zero, suc, ◌+◌, ◌*◌, ◌<◌, ◌≤◌, ◌++◌, Bool, true, false, cond, List, [], ◌∷◌, length, get_or, take, filter, fold, map, Option, Some, ⊎_elim, refl, ap, sym, ◌∙◌, subst, arith}
-use Rattle.std.specs.List.{list_all, list_any, range_with_len, zip, AllZip}
+use Rattle.std.proofs.Common.{◌≡◌, ℕ, zero, suc, ◌+◌, ◌*◌, ◌<◌, ◌≤◌, ◌++◌, Bool, true, false, cond, List, [], ◌∷◌, length, get_or, take, filter, fold, map, Option, Some, refl, ap, sym, ◌∙◌, subst, arith}
+use Rattle.std.specs.List.{range_with_len, zip, AllZip}
 use Rattle.std.specs.Option.{IfSome}
-use Rattle.std.proofs.lemmas.Bool.{false≢true, ltb-true, eqb-true, and_parts, or_cases}
 use Rattle.std.proofs.lemmas.List.{append-nil, get_or_default, length-map, map-append, take_all, take_more}
 use Rattle.std.proofs.lemmas.List.Elements.{filter-append}
 use Rattle.std.proofs.lemmas.Option.{IfSome_then}
 use Rattle.dtable.specs.declared.inputs.Slot.{Slot}
-use Rattle.dtable.specs.declared.table.Input.{Input}
-use Rattle.dtable.specs.declared.table.InputData.{InputData}
-use Rattle.dtable.specs.declared.table.Origin.{Origin}
-use Rattle.dtable.specs.declared.table.Origin.TheVariants.{Given, Earlier}
-use Rattle.dtable.specs.declared.table.Table.{Table}
 use Rattle.dtable.specs.Environment.{env}
-use Rattle.dtable.specs.Inputs.{needs, reads, value_at}
-use Rattle.dtable.specs.Plan.{PlanParts, IsPlan, is_known, are_known}
+use Rattle.dtable.specs.Inputs.{value_at}
+use Rattle.dtable.specs.Plan.{PlanParts, IsPlan}
+use Rattle.dtable.proofs.NeededNames.{within_names}
 use Rattle.cutplan.specs.declared.region.Region.TheVariants.{Other}
 use Rattle.cutplan.specs.declared.zone.KeptName.{KeptName}
 use Rattle.cutplan.specs.Found.{has_at, OthersRise}
@@ -140,27 +135,8 @@ all_names p given kept i zone all last so_far =
     }
 
 -- tables of a plan read no name that there isn't
-origin_within : (names : List InputData) (earlier : List Table) (place : ℕ) (o : Origin) → is_known names earlier o ≡ true → reads place o ≡ true → place < length names
-origin_within names earlier place (Given p) known read = subst (λ n. n < length names) (eqb-true p place read) (ltb-true p (length names) known)
-origin_within names earlier place (Earlier table column) known read = absurd (false≢true read)
-
-inputs_within : (names : List InputData) (earlier : List Table) (place : ℕ) (inputs : List Input) → list_all (λ i. is_known names earlier i.origin) inputs ≡ true
-    → list_any (λ i. reads place i.origin) inputs ≡ true → place < length names
-inputs_within names earlier place [] known read = absurd (false≢true read)
-inputs_within names earlier place (i ∷ is) known read =
-    let both = and_parts (is_known names earlier i.origin) (list_all (λ i. is_known names earlier i.origin) is) known in
-    ⊎_elim (λ here. origin_within names earlier place i.origin both.0 here) (λ behind. inputs_within names earlier place is both.1 behind)
-    (or_cases (reads place i.origin) (list_any (λ i. reads place i.origin) is) read)
-
-tables_within : (names : List InputData) (earlier tables : List Table) (place : ℕ) → are_known names earlier tables ≡ true → needs tables place ≡ true → place < length names
-tables_within names earlier [] place known read = absurd (false≢true read)
-tables_within names earlier (t ∷ ts) place known read =
-    let both = and_parts (list_all (λ i. is_known names earlier i.origin) t.inputs) (are_known names (earlier ++ t ∷ []) ts) known in
-    ⊎_elim (λ here. inputs_within names earlier place t.inputs both.0 here) (λ behind. tables_within names (earlier ++ t ∷ []) ts place both.1 behind)
-    (or_cases (list_any (λ i. reads place i.origin) t.inputs) (needs ts place) read)
-
 pub reads_its_names : (p : PlanParts) → IsPlan p → ReadsItsNames p
-reads_its_names p plan place needed = tables_within p.names [] p.tables place plan.origins needed
+reads_its_names p plan place needed = within_names p place plan needed
 
 -- wherever else the inputs of a zone may lie in it, the tables have one value
 pub alike_in : (p q : PlanParts) (given : List Slot) (zone : Option ℕ) → ZonesAnswerAlike → p ≡ q → ReadsItsNames p → IfSome zone (IsZone p given) → IfSome zone (λ z. (other : List Slot) → IsZone q other z → env q other ≡ env q given)

@@ -3,6 +3,7 @@ pub mod Entries
 pub mod FoundOutput
 pub mod Matches
 pub mod Named
+pub mod NeededNames
 pub mod OnlyOrder
 pub mod OutputPlaces
 pub mod PlanLimits

@@ -1,8 +1,8 @@
 -- A claim of a plan gives each name that the plan's tables read a value.
-use Rattle.std.proofs.Common.{◌≡◌, ℕ, ◌<◌, ◌≤◌, zero, suc, Bool, true, false, nat_lt, inl, inr, List, [], ◌∷◌, ◌++◌, map, length, slice_get, Option, Some, None, is_some, ◌⊎◌, refl, sym, ap, subst, ◌∙◌, arith}
-use Rattle.std.specs.List.{list_all, list_any, range_with_len, All}
+use Rattle.std.proofs.Common.{◌≡◌, ℕ, ◌<◌, ◌≤◌, zero, suc, Bool, true, false, inl, inr, List, [], ◌∷◌, ◌++◌, map, length, slice_get, Option, Some, None, is_some, ◌⊎◌, refl, sym, ap, subst, ◌∙◌, arith}
+use Rattle.std.specs.List.{range_with_len, All}
 use Rattle.std.specs.Option.{option_and_then, option_map_or}
-use Rattle.std.proofs.lemmas.Bool.{ltb-true, false≢true, eqb-true, and_parts, or_cases, or_left}
+use Rattle.std.proofs.lemmas.Bool.{or_left}
 use Rattle.std.proofs.lemmas.List.{length-map, map-append}
 use Rattle.std.proofs.lemmas.List.Elements.{All-same, All-filter}
 use Rattle.std.proofs.lemmas.List.FromFn.{length-range_with_len, get_or-range_with_len}
@@ -12,15 +12,12 @@ use Rattle.feel_tests.specs.declared.kind.Kind.TheVariants.{Number, Text, Day}
 use Rattle.feel_tests.specs.declared.value.Value.{Value}
 use Rattle.feel_tests.specs.declared.value.Value.TheVariants as values
 use Rattle.feel_tests.specs.Value.{kind_of}
-use Rattle.dtable.specs.declared.table.Input.{Input}
 use Rattle.dtable.specs.declared.table.InputData.{InputData}
-use Rattle.dtable.specs.declared.table.Origin.{Origin}
-use Rattle.dtable.specs.declared.table.Origin.TheVariants.{Given, Earlier}
-use Rattle.dtable.specs.declared.table.Table.{Table}
 use Rattle.dtable.specs.declared.inputs.Slot.{Slot}
-use Rattle.dtable.specs.Inputs.{value_at, reads, needs, IsReady}
+use Rattle.dtable.specs.Inputs.{value_at, needs, IsReady}
 use Rattle.dtable.specs.Names.{accumulator_names, names_of}
-use Rattle.dtable.specs.Plan.{PlanParts, IsPlan, is_known, are_known, keeps_families}
+use Rattle.dtable.specs.Plan.{PlanParts, IsPlan, keeps_families}
+use Rattle.dtable.proofs.NeededNames.{within_names}
 use Rattle.settlement.specs.declared.acc.Acc.{Acc}
 use Rattle.settlement.specs.declared.claim.Claim.{Claim}
 use Rattle.settlement.specs.Claim.{IsClaimOf}
@@ -62,28 +59,6 @@ kinds_given plan claim acc is =
     let behind = kinds_behind (keeps_families plan) claim is.fields acc is.family is.kinds in
     ap (map (λ (d : InputData). d.kind)) is.names ∙ kinds_in_front (keeps_families plan) claim.family is.fields claim acc is.family behind
 
-read_below : (names : List InputData) (earlier : List Table) (place : ℕ) (o : Origin) → is_known names earlier o ≡ true → reads place o ≡ true → nat_lt place (length names) ≡ true
-read_below names earlier place (Given p) known e = subst (λ n. nat_lt n (length names) ≡ true) (eqb-true p place e) known
-read_below names earlier place (Earlier table column) known e = absurd (false≢true e)
-
-input_below : (names : List InputData) (earlier : List Table) (place : ℕ) (is : List Input) → list_all (λ i. is_known names earlier i.origin) is ≡ true → list_any (λ i. reads place i.origin) is ≡ true → nat_lt place (length names) ≡ true
-input_below names earlier place [] known e = absurd (false≢true e)
-input_below names earlier place (i ∷ is) known e =
-    let both = and_parts (is_known names earlier i.origin) (list_all (λ i. is_known names earlier i.origin) is) known in
-    elim (or_cases (reads place i.origin) (list_any (λ i. reads place i.origin) is) e) [
-      | inl here ↦ read_below names earlier place i.origin both.0 here
-      | inr there ↦ input_below names earlier place is both.1 there
-    ]
-
-needed_below : (names : List InputData) (earlier tables : List Table) (place : ℕ) → are_known names earlier tables ≡ true → needs tables place ≡ true → nat_lt place (length names) ≡ true
-needed_below names earlier [] place known e = absurd (false≢true e)
-needed_below names earlier (t ∷ ts) place known e =
-    let both = and_parts (list_all (λ i. is_known names earlier i.origin) t.inputs) (are_known names (earlier ++ t ∷ []) ts) known in
-    elim (or_cases (list_any (λ i. reads place i.origin) t.inputs) (needs ts place) e) [
-      | inl here ↦ input_below names earlier place t.inputs both.0 here
-      | inr there ↦ needed_below names (earlier ++ t ∷ []) ts place both.1 there
-    ]
-
 given_below : (values : List Value) (place : ℕ) → place < length values → is_some (value_at (map slot_of values) place) ≡ true
 given_below [] place below = absurd (omega arith)
 given_below (v ∷ vs) zero below = refl
@@ -96,7 +71,7 @@ same_length plan claim acc is =
 -- a plan is ready for what its claim gives
 ready_for_claim : (plan : PlanParts) (claim : Claim) (acc : Acc) → IsPlan plan → IsClaimOf plan claim → IsReady plan.tables (given_by claim acc)
 ready_for_claim plan claim acc sound is place needed =
-    let below : place < length plan.names = ltb-true place (length plan.names) (needed_below plan.names [] plan.tables place sound.origins needed) in
+    let below = within_names plan place sound needed in
     given_below (values_given claim acc) place (subst (λ (n : ℕ). place < n) (same_length plan claim acc is) below)
 
 -- a value stands in the place of each that is given

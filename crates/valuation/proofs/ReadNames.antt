@@ -1,38 +1,13 @@
 -- What the tables of a plan read.
-use Rattle.std.proofs.Common.{◌≡◌, ℕ, ◌<◌, ◌≤◌, true, List, [], ◌∷◌, ◌++◌, length, ⊎_elim, subst, arith}
-use Rattle.std.specs.List.{list_any, list_all}
-use Rattle.std.proofs.lemmas.Bool.{false≢true, ltb-true, eqb-true, and_parts, or_cases}
+use Rattle.std.proofs.Common.{ℕ, ◌≤◌, List, length, arith}
 use Rattle.dtable.specs.declared.inputs.Slot.{Slot}
-use Rattle.dtable.specs.declared.table.Input.{Input}
-use Rattle.dtable.specs.declared.table.InputData.{InputData}
-use Rattle.dtable.specs.declared.table.Origin.{Origin}
-use Rattle.dtable.specs.declared.table.Origin.TheVariants.{Given, Earlier}
-use Rattle.dtable.specs.declared.table.Table.{Table}
-use Rattle.dtable.specs.Inputs.{reads, needs, IsReady}
-use Rattle.dtable.specs.Plan.{PlanParts, IsPlan, is_known, are_known}
+use Rattle.dtable.specs.Inputs.{IsReady}
+use Rattle.dtable.specs.Plan.{PlanParts, IsPlan}
+use Rattle.dtable.proofs.NeededNames.{within_names}
 use Rattle.valuation.specs.Arguments.{IsReadyBelow}
-
-origin_within : (names : List InputData) (earlier : List Table) (place : ℕ) (o : Origin) → is_known names earlier o ≡ true → reads place o ≡ true → place < length names
-origin_within names earlier place (Given p) known read = subst (λ n. n < length names) (eqb-true p place read) (ltb-true p (length names) known)
-origin_within names earlier place (Earlier table column) known read = absurd (false≢true read)
-
-inputs_within : (names : List InputData) (earlier : List Table) (place : ℕ) (inputs : List Input) → list_all (λ i. is_known names earlier i.origin) inputs ≡ true
-    → list_any (λ i. reads place i.origin) inputs ≡ true → place < length names
-inputs_within names earlier place [] known read = absurd (false≢true read)
-inputs_within names earlier place (i ∷ is) known read =
-    let both = and_parts (is_known names earlier i.origin) (list_all (λ i. is_known names earlier i.origin) is) known in
-    ⊎_elim (λ here. origin_within names earlier place i.origin both.0 here) (λ behind. inputs_within names earlier place is both.1 behind)
-    (or_cases (reads place i.origin) (list_any (λ i. reads place i.origin) is) read)
-
-tables_within : (names : List InputData) (earlier tables : List Table) (place : ℕ) → are_known names earlier tables ≡ true → needs tables place ≡ true → place < length names
-tables_within names earlier [] place known read = absurd (false≢true read)
-tables_within names earlier (t ∷ ts) place known read =
-    let both = and_parts (list_all (λ i. is_known names earlier i.origin) t.inputs) (are_known names (earlier ++ t ∷ []) ts) known in
-    ⊎_elim (λ here. inputs_within names earlier place t.inputs both.0 here) (λ behind. tables_within names (earlier ++ t ∷ []) ts place both.1 behind)
-    (or_cases (list_any (λ i. reads place i.origin) t.inputs) (needs ts place) read)
 
 -- the tables of a plan read no more than its names
 pub IsReady-from_below : (plan : PlanParts) (given : List Slot) (end : ℕ) → IsPlan plan → length plan.names ≤ end → IsReadyBelow end plan.tables given → IsReady plan.tables given
 IsReady-from_below plan given end sound all below place read =
-    let within : place < length plan.names = tables_within plan.names [] plan.tables place sound.origins read in
+    let within = within_names plan place sound read in
     below place (omega (arith, within, all)) read
