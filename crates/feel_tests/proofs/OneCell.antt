@@ -1,12 +1,11 @@
 -- Lists and whole cells: a text spells one at most, and where a part can't be read, none.
-use Rattle.std.proofs.Common.{◌≡◌, ℕ, suc, ◌+◌, ◌<◌, ◌≤◌, List, [], ◌∷◌, ◌++◌, length, refl, sym, ap, subst, ◌∙◌, ◌⊎◌, inl, inr, arith}
+use Rattle.std.proofs.Common.{◌≡◌, ℕ, ◌+◌, ◌<◌, List, [], ◌∷◌, ◌++◌, length, refl, sym, ap, subst, ◌∙◌, ◌⊎◌, inl, inr, arith}
 use Rattle.fixpoint.specs.NumberText.{DenotesAtMostOne}
-use Rattle.feel_tests.specs.Words.{Word, Sign, Digits, Quoted, Name, Begins, IsBlank}
-use Rattle.feel_tests.specs.Grammar.{not_word, op_symbol, IsLiteral, IsTest, IsList}
+use Rattle.feel_tests.specs.Words.{Word, Sign, Name, Begins, IsBlank}
+use Rattle.feel_tests.specs.Grammar.{not_word, op_symbol, IsTest, IsList}
 use Rattle.feel_tests.specs.Parts.{Denies, DeniesPart, IsWholeList}
 use Rattle.feel_tests.specs.Cell.{IsNegation, SpellsCell}
 use Rattle.feel_tests.specs.Limits.{test_limit}
-use Rattle.feel_tests.specs.declared.symbol.Symbol.{Symbol}
 use Rattle.feel_tests.specs.declared.symbol.Symbol.TheVariants as symbols
 use Rattle.feel_tests.specs.declared.refusal.Refusal.{Refusal}
 use Rattle.feel_tests.specs.declared.kind.Kind.{Kind}

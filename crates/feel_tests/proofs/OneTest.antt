@@ -4,7 +4,7 @@ use Rattle.std.specs.Prelude.{codes}
 use Rattle.std.specs.Str.{bytes_eq}
 use Rattle.fixpoint.specs.NumberText.{DenotesAtMostOne, Denotes}
 use Rattle.feel_tests.specs.Words.{Word, Sign, Digits, Quoted, Name, Begins}
-use Rattle.feel_tests.specs.Value.{kind_of, flag_text}
+use Rattle.feel_tests.specs.Value.{flag_text}
 use Rattle.feel_tests.specs.Calendar.{IsDateText}
 use Rattle.feel_tests.specs.Grammar.{date_word, op_symbol, start_in, end_in, IsDate, IsLiteral, IsSpan, IsTest}
 use Rattle.feel_tests.specs.Symbols.{op_of}

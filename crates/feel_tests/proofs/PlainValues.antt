@@ -1,5 +1,5 @@
 -- Where a field is no plain value of its kind.
-use Rattle.std.proofs.Common.{◌≡◌, ℕ, ◌<◌, ℤ, Bool, true, false, List, length, refl, arith}
+use Rattle.std.proofs.Common.{◌≡◌, ℕ, ◌<◌, ℤ, true, false, List, length, arith}
 use Rattle.std.specs.Prelude.{codes}
 use Rattle.fixpoint.specs.NumberText.{Denotes}
 use Rattle.feel_tests.specs.Calendar.{IsDateText}

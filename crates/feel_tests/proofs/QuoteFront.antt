@@ -1,8 +1,8 @@
 -- Strings: the bytes between quotes stand for one text, and what follows the string is one.
-use Rattle.std.proofs.Common.{◌≡◌, ℕ, Bool, true, false, cond, ◌||◌, eqb, List, [], ◌∷◌, ◌++◌, refl, sym, ap, subst, ◌∙◌, append_assoc, ◌⊎◌, inl, inr, arith, suc, ◌<◌, ◌≢◌, length, drop, get_or}
+use Rattle.std.proofs.Common.{◌≡◌, ℕ, true, false, ◌||◌, eqb, List, [], ◌∷◌, ◌++◌, refl, sym, ap, subst, ◌∙◌, append_assoc, ◌⊎◌, inl, inr, arith, suc, ◌<◌, ◌≢◌, length, drop, get_or}
 use Rattle.std.proofs.lemmas.Bool.{or_cases, or_from, or_left, or_right, eqb-true, eq-eqb, ne_eqb, cases_Bool, false≢true}
 use Rattle.std.proofs.lemmas.List.{append-nil}
-use Rattle.feel_tests.specs.Words.{escaped_byte, escaped, quoted}
+use Rattle.feel_tests.specs.Words.{escaped_byte, escaped}
 
 heads : (a b : ℕ) (xs ys : List ℕ) → a ∷ xs ≡ b ∷ ys → (a ≡ b) × (xs ≡ ys)
 heads a b xs ys e = (cc, cc)

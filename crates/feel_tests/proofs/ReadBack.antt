@@ -1,6 +1,6 @@
 -- The literal of a value spells it.
-use Rattle.std.proofs.Common.{◌≡◌, ℕ, ◌+◌, ◌/◌, ◌%◌, ◌<◌, ◌≤◌, Bool, true, false, ◌||◌, eqb, ℤ, pos, List, [], ◌∷◌, ◌++◌, length, refl, sym, ap, subst, ◌∙◌, arith}
-use Rattle.std.specs.Prelude.{codes, IsUtf8}
+use Rattle.std.proofs.Common.{◌≡◌, ℕ, ◌+◌, ◌<◌, ◌≤◌, Bool, true, false, eqb, ℤ, pos, List, [], ◌∷◌, ◌++◌, length, refl, sym, ap, subst, ◌∙◌, arith}
+use Rattle.std.specs.Prelude.{codes}
 use Rattle.std.specs.Char.{digit_value}
 use Rattle.std.specs.Fmt.{sign_text}
 use Rattle.std.specs.Str.Parse.{AllDigits}
@@ -8,18 +8,17 @@ use Rattle.std.proofs.lemmas.Str.Parse.{digit_from_value}
 use Rattle.std.proofs.lemmas.Bool.{or_from, ne_eqb}
 use Rattle.std.proofs.lemmas.Bool.Decides.{nat_tests}
 use Rattle.std.proofs.lemmas.List.{append-nil, length-append}
-use Rattle.fixpoint.specs.Number.{IsInRange}
 use Rattle.fixpoint.specs.NumberText.{IsNumberText, Denotes, dot_text, shortest_text}
 use Rattle.jiff_core.specs.declared.civil.date.Date.{Date}
 use Rattle.jiff_core.specs.Date.{epoch_day}
-use Rattle.jiff_core.specs.Calendar.{days_from_civil, IsCivilDate}
+use Rattle.jiff_core.specs.Calendar.{days_from_civil}
 use Rattle.jiff_core.proofs.DateLemmas.{civil}
 use Rattle.jiff_core.proofs.CalendarLemmas.{days_in_month_bounds}
 use Rattle.feel_tests.specs.TextBytes.{IsText}
 use Rattle.feel_tests.specs.DayNumber.{IsDayNumber}
 use Rattle.feel_tests.specs.Calendar.{ymd_text, day_text, IsDateText}
 use Rattle.feel_tests.specs.Value.{flag_text, date_literal}
-use Rattle.feel_tests.specs.Words.{Word, Sign, Digits, Quoted, Name, Spells, Begins, is_white, skip_white, escaped_byte, escaped, quoted}
+use Rattle.feel_tests.specs.Words.{Word, Digits, Quoted, Name, Spells, Begins, is_white, skip_white, escaped_byte, escaped, quoted}
 use Rattle.feel_tests.specs.Grammar.{IsDate}
 use Rattle.feel_tests.specs.Cell.{SpellsValue}
 use Rattle.feel_tests.specs.declared.symbol.Symbol.TheVariants as symbols

@@ -1,5 +1,5 @@
 -- Values: their kinds, and the literals that write them (DMN 1.4, S-FEEL).
-use Rattle.std.specs.Prelude.{ℕ, ℤ, Bool, true, false, List, [], ◌∷◌, ◌++◌, codes, if◌then◌else◌, ◌==◌, ◌||◌, flat_map}
+use Rattle.std.specs.Prelude.{ℕ, ℤ, Bool, true, false, List, ◌++◌, codes}
 use Rattle.fixpoint.specs.NumberText.{shortest_text}
 use Rattle.feel_tests.specs.Words.{quoted}
 use Rattle.feel_tests.specs.Calendar.{day_text}

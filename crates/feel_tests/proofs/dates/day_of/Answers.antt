@@ -1,4 +1,4 @@
-use Rattle.std.proofs.Common.{◌≡◌, ap, arith, pos, ◌∙◌, sym, w8, w16, w32, FitsSigned}
+use Rattle.std.proofs.Common.{◌≡◌, ap, arith, pos, ◌∙◌, w8, w16, w32, FitsSigned}
 use Rattle.std.proofs.lemmas.Int.{ints, to_z_pos, to_z-of_z}
 use Rattle.std.proofs.lemmas.Bool.{false≢true}
 use mir.Val.{to_z}

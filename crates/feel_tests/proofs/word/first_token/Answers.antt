@@ -1,6 +1,5 @@
-use Rattle.std.proofs.Common.{◌≡◌, length, drop, ◌∙◌, sym, arith}
+use Rattle.std.proofs.Common.{length, ◌∙◌, sym, arith}
 use Rattle.std.proofs.lemmas.List.{take_rest}
-use Rattle.feel_tests.specs.Words.{Begins, Sign, Digits, Name}
 use Rattle.feel_tests.proofs.FirstWord.{begins_name, begins_number, begins_sign, begins_none}
 use Rattle.feel_tests.proofs.word.first_token.Goals as goal
 
