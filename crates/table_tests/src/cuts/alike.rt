@@ -188,7 +188,12 @@ fn check_answer(rt: &impl Abort, alloc: Global, cut: &CutPlan, literal: &str, an
 
 #[test]
 fn two_of_three_rules_answer_by_masks(rt: HostRuntime) {
-    try_plan(&rt, rt.alloc(), three_rules(), Tried::Answer("2", "1 1 \n"));
+    try_plan(
+        &rt,
+        rt.alloc(),
+        three_rules(),
+        Tried::Answer("2", "list 1 1\n"),
+    );
 }
 
 fn around_sixteen_regions() -> Literals {
