@@ -1,7 +1,7 @@
 //! How far a gate is.
 
 /// How many claims a gate has accepted and decided, how many providers have ended, and whether it is closed or stopped.
-#[derive(Clone, Copy, PartialEq, Eq, Hash, Drop)]
+#[derive(Clone, Copy, PartialEq, Eq, Drop)]
 pub struct Counts {
     /// The claims accepted.
     pub accepted: usize,

@@ -10,7 +10,7 @@ ghost use Rattle.claim_gate.specs.FaultNumber.{
 use thiserror::Error;
 
 /// Why a claim isn't accepted. The faults are tried in this order.
-#[derive(Clone, Copy, Debug, PartialEq, Eq, Hash, Drop, Error)]
+#[derive(Clone, Copy, Debug, PartialEq, Eq, Drop, Error)]
 pub enum OfferFault {
     /// The gate is stopped.
     #[error("the gate is stopped")]
@@ -30,7 +30,7 @@ pub enum OfferFault {
 }
 
 /// Why a provider doesn't end. The faults are tried in this order.
-#[derive(Clone, Copy, Debug, PartialEq, Eq, Hash, Drop, Error)]
+#[derive(Clone, Copy, Debug, PartialEq, Eq, Drop, Error)]
 pub enum EndFault {
     /// The gate is stopped.
     #[error("the gate is stopped")]
@@ -53,7 +53,7 @@ pub enum EndFault {
 }
 
 /// Why no claim can be taken.
-#[derive(Clone, Copy, Debug, PartialEq, Eq, Hash, Drop, Error)]
+#[derive(Clone, Copy, Debug, PartialEq, Eq, Drop, Error)]
 pub enum TakeFault {
     /// No memory.
     #[error("out of memory")]
@@ -61,7 +61,7 @@ pub enum TakeFault {
 }
 
 /// Why a decision isn't recorded. The faults are tried in this order.
-#[derive(Clone, Copy, Debug, PartialEq, Eq, Hash, Drop, Error)]
+#[derive(Clone, Copy, Debug, PartialEq, Eq, Drop, Error)]
 pub enum FinishFault {
     /// The gate is stopped.
     #[error("the gate is stopped")]

@@ -4,14 +4,14 @@ use crate::job::Job;
 use lanes::StoredClaim;
 
 /// The claim is accepted.
-#[derive(Clone, Copy, PartialEq, Eq, Hash, Drop)]
+#[derive(Clone, Copy, PartialEq, Eq, Drop)]
 pub struct Accepted {
     /// Its position: how many claims were accepted before it.
     pub position: usize,
 }
 
 /// The provider has ended.
-#[derive(Clone, Copy, PartialEq, Eq, Hash, Drop)]
+#[derive(Clone, Copy, PartialEq, Eq, Drop)]
 pub struct Ended;
 
 /// What there is to do.

@@ -7,7 +7,7 @@ use std::alloc::AllocError;
 use thiserror::Error;
 
 /// Why a plan, the providers' files and the balances make no terms. The faults are tried in this order.
-#[derive(Clone, Copy, Debug, PartialEq, Eq, Hash, Drop, Error)]
+#[derive(Clone, Copy, Debug, PartialEq, Eq, Drop, Error)]
 pub enum TermsFault {
     /// The plan has no roles, so that it settles no claims.
     #[error("the plan has no roles")]

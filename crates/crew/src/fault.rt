@@ -6,7 +6,7 @@ use std::alloc::AllocError;
 use thiserror::Error;
 
 /// Why a run ends without a finished journal. Where its threads met several faults, it is the first of them in this order.
-#[derive(Clone, Copy, Debug, PartialEq, Eq, Hash, Drop, Error)]
+#[derive(Clone, Copy, Debug, PartialEq, Eq, Drop, Error)]
 pub enum RunFault {
     /// There is to be no worker, or more than a run may have.
     #[error("no worker, or too many workers")]

@@ -5,7 +5,7 @@ ghost use Rattle.dtable.specs.Plan.{gives_one, seen_kind};
 use feel_tests::Kind;
 
 /// A hit policy: what a table's value is where several rules match (DMN 1.4, hit policies).
-#[derive(Clone, Copy, PartialEq, Eq, Hash)]
+#[derive(Clone, Copy, PartialEq, Eq)]
 pub enum Hit {
     /// Unique: one rule matches.
     U,

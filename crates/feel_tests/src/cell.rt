@@ -11,7 +11,7 @@ use std::marker::Model;
 pub const TEST_LIMIT: usize = 64;
 
 /// How a value is compared with a literal.
-#[derive(Clone, Copy, PartialEq, Eq, Hash)]
+#[derive(Clone, Copy, PartialEq, Eq)]
 pub enum Op {
     /// `<`
     Less,

@@ -6,7 +6,7 @@ ghost use Rattle.feel_tests.specs.DayNumber.{IsDayNumber};
 use std::marker::Model;
 
 /// A Gregorian civil date of the years 0001 to 9999, as the days since 1 January 1970.
-#[derive(Clone, Copy, PartialEq, Eq, PartialOrd, Ord, Hash)]
+#[derive(Clone, Copy, PartialEq, Eq, PartialOrd, Ord)]
 pub struct Day {
     epoch_day: i32,
 }

@@ -18,7 +18,7 @@ pub const UNITS_PER_ONE: i64 = 10_000;
 pub const MAX_UNITS: i64 = 999_999_999_999_999;
 
 /// A decimal with four places, from -99,999,999,999.9999 to 99,999,999,999.9999.
-#[derive(Clone, Copy, PartialEq, Eq, PartialOrd, Ord, Hash)]
+#[derive(Clone, Copy, PartialEq, Eq, PartialOrd, Ord)]
 pub struct Fixed {
     units: i64,
 }

@@ -6,7 +6,7 @@ use std::alloc::AllocError;
 use thiserror::Error;
 
 /// Why a whole file is refused.
-#[derive(Clone, Copy, Debug, PartialEq, Eq, Hash, Drop, Error)]
+#[derive(Clone, Copy, Debug, PartialEq, Eq, Drop, Error)]
 pub enum FileFault {
     /// The text has more bytes than a file may have.
     #[error("the file is too large")]
@@ -52,7 +52,7 @@ impl From<AllocError> for FileFault {
 }
 
 /// What is wrong with a record.
-#[derive(Clone, Copy, Debug, PartialEq, Eq, Hash, Drop, Error)]
+#[derive(Clone, Copy, Debug, PartialEq, Eq, Drop, Error)]
 pub enum RowCause {
     /// It has more or fewer fields than the header.
     #[error("another number of fields than the header has")]
@@ -103,7 +103,7 @@ impl RowCause {
 }
 
 /// The first fault of a record.
-#[derive(Clone, Copy, Debug, PartialEq, Eq, Hash, Drop, Error)]
+#[derive(Clone, Copy, Debug, PartialEq, Eq, Drop, Error)]
 #[error("column {column}: {cause}")]
 pub struct RowFault {
     /// The number of the column in the header, from 1, or 0 where the fault is in none.
@@ -113,7 +113,7 @@ pub struct RowFault {
 }
 
 /// Why a text is no file of balances.
-#[derive(Clone, Copy, Debug, PartialEq, Eq, Hash, Drop, Error)]
+#[derive(Clone, Copy, Debug, PartialEq, Eq, Drop, Error)]
 pub enum BalanceFault {
     /// The file as a whole is refused, and not for memory.
     #[error("{0}")]

@@ -5,7 +5,7 @@ ghost use Rattle.remit.specs.FaultNumber.{number_of};
 use thiserror::Error;
 
 /// What ends the writing of a report.
-#[derive(Clone, Copy, Debug, PartialEq, Eq, Hash, Drop, Error)]
+#[derive(Clone, Copy, Debug, PartialEq, Eq, Drop, Error)]
 pub enum WriteCause {
     /// The writer took no more bytes.
     #[error("the writer takes no more bytes")]
@@ -28,7 +28,7 @@ impl WriteCause {
 }
 
 /// The writing of a report has ended early.
-#[derive(Clone, Copy, Debug, PartialEq, Eq, Hash, Drop, Error)]
+#[derive(Clone, Copy, Debug, PartialEq, Eq, Drop, Error)]
 #[error("after {written} bytes: {cause}")]
 pub struct WriteFault {
     /// How many bytes of the report the writer got.

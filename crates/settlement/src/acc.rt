@@ -3,7 +3,7 @@
 use crate::money::Money;
 
 /// What a member's claims came to so far, and those of all members of its family.
-#[derive(Clone, Copy, PartialEq, Eq, Hash)]
+#[derive(Clone, Copy, PartialEq, Eq)]
 pub struct Acc {
     /// What was met of the deductible.
     pub met: Money,

@@ -11,7 +11,7 @@ use fixpoint::Fixed;
 use std::marker::Model;
 
 /// An amount of money: whole cents, and not below zero. Contracts see its units, of which a cent has a hundred.
-#[derive(Clone, Copy, PartialEq, Eq, PartialOrd, Ord, Hash)]
+#[derive(Clone, Copy, PartialEq, Eq, PartialOrd, Ord)]
 pub struct Money {
     amount: Fixed,
 }

@@ -5,7 +5,7 @@ ghost use Rattle.table_faults.specs.CellCauseNumber.{number_of};
 use thiserror::Error;
 
 /// What is wrong with the text of a cell or a literal.
-#[derive(Clone, Copy, Debug, PartialEq, Eq, Hash, Drop, Error)]
+#[derive(Clone, Copy, Debug, PartialEq, Eq, Drop, Error)]
 pub enum CellCause {
     /// No token, one that can't stand here, or the end too early: also a string without its end.
     #[error("unexpected token")]
@@ -52,7 +52,7 @@ impl CellCause {
 }
 
 /// The first fault of a text, with the offset in bytes of where it is.
-#[derive(Clone, Copy, Debug, PartialEq, Eq, Hash, Drop, Error)]
+#[derive(Clone, Copy, Debug, PartialEq, Eq, Drop, Error)]
 #[error("{cause} at byte {at}")]
 pub struct CellFault {
     /// The offset of the byte, from 0; for want of memory it tells nothing.
