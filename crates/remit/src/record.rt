@@ -1,11 +1,13 @@
 //! The fields of the report's records.
-ghost use Rattle.std.specs.Prelude.{◌≡◌, ◌≤◌, ℕ, ℤ, Some, IfOk, pos, List, [], ◌∷◌, decimal, map, replicate, OnOk};
+ghost use Rattle.std.specs.Prelude.{◌≡◌, ◌≤◌, ℕ, ℤ, Some, IfOk, pos, List, [], ◌∷◌, codes, decimal, map, replicate, OnOk};
 ghost use Rattle.csv.specs.Records.{fields_of};
+ghost use Rattle.reasons.specs.ReasonText.{reason_text};
 ghost use Rattle.feel_tests.specs.Calendar.{year_of, year_text};
 ghost use Rattle.fixpoint.specs.Money.{money_text};
 ghost use Rattle.dtable.specs.Plan.{has_families, has_years};
 ghost use Rattle.journal.specs.Events.{accepted as accepted_in};
 ghost use Rattle.journal.specs.declared.event.Event.{Event as AnyEvent};
+ghost use Rattle.settlement.specs.Accounts.{family_of};
 ghost use Rattle.settlement.specs.declared.claim.Claim.{Claim as AnyClaim};
 ghost use Rattle.intake_csv.specs.Brief.{DayStandsAt, IsBriefOf, IsClaimantOf, StandsAt};
 ghost use Rattle.intake_csv.specs.declared.rows.Row.{Row as AnyRow};
@@ -25,7 +27,7 @@ use dtable::{has_families, has_years};
 use feel_tests::{day_year, year_text};
 use intake_csv::{Brief, Claimant, Line, RowFault};
 use itoa::Buffer;
-use settlement::{Money, Outcome, Verdict};
+use settlement::{Money, Outcome, Reason, Verdict};
 use std::alloc::{AllocError, Global};
 
 /// The names of the fields in front of those that tell whose a record is. The record with the totals fills them.
@@ -113,7 +115,7 @@ fn push_total_front(line: &mut ByteRecord, version: u8, accepted: usize) -> Resu
     push_repeated(line, b"", FIELDS_BETWEEN.len())
 }
 
-// Whose the claim is, and the year of its service, where there is a field for it. A claim without a family is its member's.
+// Whose the claim is, and the year of its service, where there is a field for it.
 fn push_claimant(
     alloc: Global,
     line: &mut ByteRecord,
@@ -124,17 +126,24 @@ fn push_claimant(
     ensures { OnOk result ((claim : AnyClaim) → IsClaimantOf source.now claimant claim → Pushes line.old line.new (claimant_fields version claim)) }
 {
     let id = field_at(source, claimant.id);
+    let family = family_at(source, claimant);
     let member = field_at(source, claimant.member);
-    let family = match claimant.family {
-        Some(place) => field_at(source, place),
-        None => member,
-    };
     if !has_years(version) {
         return push_whose(line, version, id, family, member, b"");
     }
     match year_at(alloc, source, claimant.service)? {
         Some(year) => push_whose(line, version, id, family, member, year.as_slice()),
         None => push_whose(line, version, id, family, member, b""),
+    }
+}
+
+// The field of the family. A claim without a family is its member's.
+fn family_at(source: &Line, claimant: Claimant) -> &[u8]
+    ensures { (claim : AnyClaim) → IsClaimantOf source.now claimant claim → result.now ≡ family_of claim }
+{
+    match claimant.family {
+        Some(place) => field_at(source, place),
+        None => field_at(source, claimant.member),
     }
 }
 
@@ -225,32 +234,43 @@ fn push_decision(
 {
     match decision.verdict {
         Verdict::Paid => {
-            line.push_field(b"paid")?;
-            line.push_field(b"")?;
+            push_status(line, b"paid", b"")?;
             push_amounts(line, decision, &AMOUNTS)?;
             push_remarks(line, joined, decision)
         }
         Verdict::Denied => {
-            line.push_field(b"denied")?;
-            line.push_field(b"")?;
+            push_status(line, b"denied", b"")?;
             push_repeated(line, b"0.00", AMOUNTS.len())?;
             push_remarks(line, joined, decision)
         }
         Verdict::Pended(reason) => {
-            line.push_field(b"pended")?;
-            line.push_field(reason_text(alloc, reason)?.as_bytes())?;
+            push_pended(alloc, line, reason)?;
             push_repeated(line, b"0.00", AMOUNTS.len())?;
             line.push_field(b"")
         }
     }
 }
 
+// The status of a claim that is pended, and why.
+fn push_pended(alloc: Global, line: &mut ByteRecord, reason: Reason) -> Result<(), AllocError>
+    ensures { OnOk result (Pushes line.old line.new (codes "pended" ∷ reason_text reason ∷ [])) }
+{
+    push_status(line, b"pended", reason_text(alloc, reason)?.as_bytes())
+}
+
+// The status of a record, and its reason.
+fn push_status(line: &mut ByteRecord, status: &[u8], reason: &[u8]) -> Result<(), AllocError>
+    ensures { OnOk result (Pushes line.old line.new (status.now ∷ reason.now ∷ [])) }
+{
+    line.push_field(status)?;
+    line.push_field(reason)
+}
+
 // What is told of a record that is no claim.
 fn push_refused(alloc: Global, line: &mut ByteRecord, fault: RowFault) -> Result<(), AllocError>
     ensures { OnOk result (Pushes line.old line.new (told_fields (told_refused fault))) }
 {
-    line.push_field(b"refused")?;
-    line.push_field(fault_text(alloc, fault)?.as_bytes())?;
+    push_status(line, b"refused", fault_text(alloc, fault)?.as_bytes())?;
     push_repeated(line, b"", AMOUNTS.len() + 1)
 }
 

@@ -105,7 +105,7 @@ pub fn write_journal<W: Write>(
     report.write_header(terms, out)?;
     report.write_files(terms, files.len(), out)?;
     report.write_total(terms, journal, out)?;
-    report.writer.hand_over(out)
+    report.finish(out)
 }
 
 /// The same by threads: the records of each file behind the first become text by a thread of their own.
@@ -197,7 +197,6 @@ fn write_files_in_front<R: Threads + Sync, W: Write>(
 }
 
 /// A report that is being written.
-#[derive(Drop)]
 pub struct Report<'d, 'j> {
     alloc: Global,
     decisions: &'d Decisions<'j>,
@@ -206,6 +205,18 @@ pub struct Report<'d, 'j> {
     // Remarks that were joined, in memory that each record uses again.
     joined: Vec<u8>,
     writer: RecordWriter,
+}
+
+impl Drop for Report<'_, '_> {
+    fn drop(self) {
+        let Report {
+            alloc: _,
+            decisions: _,
+            line: _,
+            joined: _,
+            writer: _,
+        } = self;
+    }
 }
 
 impl<'d, 'j> Report<'d, 'j> {

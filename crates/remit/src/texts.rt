@@ -1,8 +1,8 @@
 //! The texts of the report's fields.
-ghost use Rattle.std.specs.Prelude.{◌≡◌, pos, string_bytes, IfOk, OnOk};
+ghost use Rattle.std.specs.Prelude.{◌≡◌, ℕ, codes, pos, string_bytes, IfNone, IfOk, IfSome, OnOk};
 ghost use Rattle.fixpoint.specs.Money.{money_text};
-ghost use Rattle.reasons.specs.ReasonText.{reason_text};
-ghost use Rattle.remit.specs.Texts.{fault_text, remarks_text};
+ghost use Rattle.reasons.specs.ReasonText.{numbered, reason_text};
+ghost use Rattle.remit.specs.Texts.{cause_text, fault_text, remarks_text};
 
 use intake_csv::{RowCause, RowFault};
 use settlement::{Reason, Remarks};
@@ -20,21 +20,32 @@ pub fn reason_text(alloc: Global, reason: Reason) -> Result<String, AllocError>
     }
 }
 
-/// Why a record is refused.
+/// Why a record is refused. A fault of the number of fields is in no column.
 pub fn fault_text(alloc: Global, fault: RowFault) -> Result<String, AllocError>
     ensures { IfOk result (λ text. string_bytes text ≡ fault_text fault) }
 {
     let column = fault.column;
-    match fault.cause {
-        RowCause::FieldCount => String::from_str(alloc, "fieldcount"),
-        RowCause::Utf8 => format!(in alloc; "utf8:{column}"),
-        RowCause::TooLong => format!(in alloc; "toolong:{column}"),
-        RowCause::EmptyId => format!(in alloc; "emptyid:{column}"),
-        RowCause::Value => format!(in alloc; "value:{column}"),
-        RowCause::NotCents => format!(in alloc; "notcents:{column}"),
-        RowCause::Negative => format!(in alloc; "negative:{column}"),
-        RowCause::Repeated => format!(in alloc; "repeated:{column}"),
-        RowCause::Sum => format!(in alloc; "sum:{column}"),
+    match word_of(fault.cause) {
+        Some(word) => format!(in alloc; "{word}:{column}"),
+        None => String::from_str(alloc, "fieldcount"),
+    }
+}
+
+// The word of a cause that is in a column.
+fn word_of(cause: RowCause) -> Option<&'static str>
+    ensures word { IfSome result (λ word. (column : ℕ) → cause_text cause column ≡ numbered word.now column) }
+    ensures none { IfNone result ((column : ℕ) → cause_text cause column ≡ codes "fieldcount") }
+{
+    match cause {
+        RowCause::FieldCount => None,
+        RowCause::Utf8 => Some("utf8"),
+        RowCause::TooLong => Some("toolong"),
+        RowCause::EmptyId => Some("emptyid"),
+        RowCause::Value => Some("value"),
+        RowCause::NotCents => Some("notcents"),
+        RowCause::Negative => Some("negative"),
+        RowCause::Repeated => Some("repeated"),
+        RowCause::Sum => Some("sum"),
     }
 }
 

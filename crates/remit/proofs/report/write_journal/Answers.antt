@@ -66,11 +66,11 @@ returns-clause-written g c =
     let long = ap length files in
     let as_many : length c.files-files.result.now ≡ length c.args.terms.now.files = omega (arith, size, long) in
     ends-written c.args.terms.now c.args.journal.now (length c.files-files.result.now) c.in-Ok.decisions (at _ _ c.new-report.result.writer) (at _ _ c.write_header.new.self.writer)
-    (at _ _ c.write_files.new.self.writer) (at _ _ c.write_total.new.self.writer) (at _ _ c.hand_over.new.self) c.hand_over.result c.in-Ok.ensures as_many
+    (at _ _ c.write_files.new.self.writer) (at _ _ c.write_total.new.self.writer) (at _ _ c.finish.new.self.writer) c.finish.result c.in-Ok.ensures as_many
     (record { gathered = made.gathered; written = made.written; ready = made.ready }) c.in_ok-write_header.ensures.writes
     (files-same c.in-Ok.decisions c.write_header.new.self.decisions.now c.args.terms.now.plan.names c.args.terms.now.files
-    (at _ _ c.write_header.new.self.writer) (at _ _ c.write_files.new.self.writer) (Ok tt) kept c.in_ok-write_files.ensures.writes) c.in_ok-write_total.ensures c.hand_over.ensures.writes
-    c.hand_over.ensures.all
+    (at _ _ c.write_header.new.self.writer) (at _ _ c.write_files.new.self.writer) (Ok tt) kept c.in_ok-write_files.ensures.writes) c.in_ok-write_total.ensures c.finish.ensures.writes
+    c.finish.ensures.all
 
 pub returns-clause-refused : goal.returns-clause-refused
 returns-clause-refused g c =
@@ -81,7 +81,7 @@ returns-clause-refused g c =
     let long = ap length files in
     let as_many : length c.files-files.result.now ≡ length c.args.terms.now.files = omega (arith, size, long) in
     ends-refused c.args.terms.now c.args.journal.now (length c.files-files.result.now) c.in-Ok.decisions (at _ _ c.new-report.result.writer) (at _ _ c.write_header.new.self.writer)
-    (at _ _ c.write_files.new.self.writer) (at _ _ c.write_total.new.self.writer) (at _ _ c.hand_over.new.self) c.hand_over.result c.in-Ok.ensures as_many
+    (at _ _ c.write_files.new.self.writer) (at _ _ c.write_total.new.self.writer) (at _ _ c.finish.new.self.writer) c.finish.result c.in-Ok.ensures as_many
     (record { gathered = made.gathered; written = made.written; ready = made.ready }) c.in_ok-write_header.ensures.writes
     (files-same c.in-Ok.decisions c.write_header.new.self.decisions.now c.args.terms.now.plan.names c.args.terms.now.files
-    (at _ _ c.write_header.new.self.writer) (at _ _ c.write_files.new.self.writer) (Ok tt) kept c.in_ok-write_files.ensures.writes) c.in_ok-write_total.ensures c.hand_over.ensures.writes
+    (at _ _ c.write_header.new.self.writer) (at _ _ c.write_files.new.self.writer) (Ok tt) kept c.in_ok-write_files.ensures.writes) c.in_ok-write_total.ensures c.finish.ensures.writes

@@ -7,6 +7,10 @@ pub returns-in_default-clause-writes : goal.returns-in_default-clause-writes
 returns-in_default-clause-writes g c =
     no-memory _ _ c.args.self.now c.args.self.now [] c.no_memory.result (record { written = c.no_memory.ensures.written; cause = c.no_memory.ensures.cause })
 
+pub returns-then-len-self-clause-writes : goal.returns-then-len-self-clause-writes
+returns-then-len-self-clause-writes g c =
+    no-memory _ _ c.args.self.now c.args.self.now [] c.no_memory-then-len-self.result (record { written = c.no_memory-then-len-self.ensures.written; cause = c.no_memory-then-len-self.ensures.cause })
+
 pub returns-in-Err-clause-writes : goal.returns-in-Err-clause-writes
 returns-in-Err-clause-writes g c =
     let kept : c.as_slice.result.now ≡ gathered_of c.args.self.now = rw (← c.replace-full.ensures.value) (c.as_slice.ensures.value ∙ c.in-Ok.ensures.ok) in

@@ -1,7 +1,13 @@
 use Rattle.std.proofs.Common.{◌≡◌, false, is_err, refl}
 use Rattle.csv.specs.Records.{fields_of}
-use Rattle.remit.proofs.Holding.{gathers-and-hands, gathers-record, on-ok}
+use Rattle.remit.specs.Report.{record_text}
+use Rattle.remit.proofs.Holding.{gathers-and-hands, gathers-record, no-memory, on-ok}
 use Rattle.remit.proofs.record_writer.RecordWriter.write.Goals as goal
+
+pub returns-then-is_err : goal.returns-then-is_err
+returns-then-is_err g c =
+    no-memory _ _ c.args.self.now (record c.args.self.now { gathered = c.write_byte_record.new.self }) (record_text (fields_of c.args.line.now)) c.no_memory.result
+    (record { written = c.no_memory.ensures.written; cause = c.no_memory.ensures.cause })
 
 pub returns-then-len-lt-PIECE_BYTES : goal.returns-then-len-lt-PIECE_BYTES
 returns-then-len-lt-PIECE_BYTES g c =

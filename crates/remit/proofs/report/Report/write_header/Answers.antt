@@ -1,7 +1,14 @@
 use Rattle.std.proofs.Common.{◌≡◌, ◌∙◌, ap, false, is_err}
 use Rattle.dtable.specs.Plan.{PlanParts}
-use Rattle.remit.proofs.Holding.{on-ok}
+use Rattle.remit.specs.Records.{header_fields}
+use Rattle.remit.specs.Report.{record_text}
+use Rattle.remit.proofs.Holding.{no-memory, on-ok}
 use Rattle.remit.proofs.report.Report.write_header.Goals as goal
+
+pub returns-then-is_err-clause-writes : goal.returns-then-is_err-clause-writes
+returns-then-is_err-clause-writes g c =
+    no-memory _ _ c.args.self.now.writer c.args.self.now.writer (record_text (header_fields c.args.terms.now.plan.version)) c.no_memory.result
+    (record { written = c.no_memory.ensures.written; cause = c.no_memory.ensures.cause })
 
 pub returns-clause-writes : goal.returns-clause-writes
 returns-clause-writes g c =

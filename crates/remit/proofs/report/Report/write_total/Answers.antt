@@ -1,7 +1,14 @@
 use Rattle.std.proofs.Common.{◌≡◌, ap, false, is_err, length, ◌∙◌}
 use Rattle.dtable.specs.Plan.{PlanParts}
-use Rattle.remit.proofs.Holding.{on-ok}
+use Rattle.remit.specs.Records.{total_fields}
+use Rattle.remit.specs.Report.{record_text}
+use Rattle.remit.proofs.Holding.{no-memory, on-ok}
 use Rattle.remit.proofs.report.Report.write_total.Goals as goal
+
+pub returns-then-is_err : goal.returns-then-is_err
+returns-then-is_err g c =
+    no-memory _ _ c.args.self.now.writer c.args.self.now.writer (record_text (total_fields c.args.terms.now.plan.version c.args.journal.now)) c.no_memory.result
+    (record { written = c.no_memory.ensures.written; cause = c.no_memory.ensures.cause })
 
 pub returns : goal.returns
 returns g c =
