@@ -369,7 +369,8 @@ impl<'d, 'j> Report<'d, 'j> {
         {
             return Err(self.writer.no_memory());
         }
-        self.writer.write(&self.line, out)
+        let row = &self.line;
+        self.writer.write(row, out)
     }
 
     /// Hands over what is gathered.

@@ -1,4 +1,4 @@
-use Rattle.std.proofs.Common.{◌≡◌, false, is_err}
+use Rattle.std.proofs.Common.{◌≡◌, false, is_err, rules}
 use Rattle.remit.specs.Looked.{looked_up}
 use Rattle.remit.specs.Records.{record_of}
 use Rattle.remit.specs.Report.{record_text}
@@ -13,4 +13,4 @@ returns-then-is_err-clause-writes g c = λ row is_brief.
 pub returns-clause-writes : goal.returns-clause-writes
 returns-clause-writes g c = λ row is_brief.
     let ok : is_err c.fill_row.result ≡ false = cc (c.is_err.ensures.value, c.if-is_err.false) in
-    rw (on-ok c.fill_row.result _ ok c.fill_row.ensures row is_brief) at c.write.ensures
+    rw (← on-ok c.fill_row.result _ ok c.fill_row.ensures row is_brief) (search rules)
