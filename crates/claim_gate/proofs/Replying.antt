@@ -55,6 +55,11 @@ seen s = record { terms = s.terms.now; journal = s.journal.items; stopped = s.st
 abbrev pub Keeps : Inside → Type 0
 Keeps s = IsKept s.terms.now s.journal.items s.lanes s.intakes s.closed s.decisions
 
+-- a journal and places that stayed as they were
+pub kept_alike : (s : Inside) (J : List Event) (lanes : List Place) → J ≡ s.journal.items → lanes ≡ s.lanes → Keeps s
+    → IsKept s.terms.now J lanes s.intakes s.closed s.decisions
+kept_alike s J lanes journal_is lanes_are kept = rw (journal_is, lanes_are) kept
+
 known_by : (T : Terms) (provider place : ℕ) (claim : Claim) → slice_get (claims_of T provider) place ≡ Some claim → IsProvider T provider
 known_by T zero place claim h = absurd (none-some claim h)
 known_by T (suc q) place claim h =

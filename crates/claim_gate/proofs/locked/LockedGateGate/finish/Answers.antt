@@ -23,3 +23,6 @@ returns-in-Ok-clause-served g c =
           (shows c.in-Ok.state c.finish-reply.new.self c.finish-reply.ensures.grown) c.finish-reply.ensures.lawful
           (c.leave.ensures.tally ∙ ap (λ n. n + 1) c.in-Ok.ensures.tally);
     }
+
+pub returns-in-Ok-clause-reply : goal.returns-in-Ok-clause-reply
+returns-in-Ok-clause-reply g c = search rules

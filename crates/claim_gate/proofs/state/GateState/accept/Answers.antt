@@ -1,7 +1,7 @@
-use Rattle.std.proofs.Common.{rules, ◌≤◌, length, arith}
+use Rattle.std.proofs.Common.{refl, rules, ◌≤◌, length, arith}
 use Rattle.claim_gate.specs.Intakes.{intake_of}
 use Rattle.journal.specs.Leading.{running_leads}
-use Rattle.claim_gate.proofs.Replying.{IsAccepted, accepts, accepted_within}
+use Rattle.claim_gate.proofs.Replying.{IsAccepted, accepts, accepted_within, kept_alike}
 use Rattle.claim_gate.proofs.state.GateState.accept.Goals as goal
 
 pub accept-requires : goal.accept-requires
@@ -27,3 +27,9 @@ returns-clause-lawful c = (done c).keeps.lawful
 
 pub returns-clause-leads : goal.returns-clause-leads
 returns-clause-leads c = running_leads c.args.self.now _ c.requires.runs (search rules) (done c).goes_on
+
+pub invariant_of-self : goal.invariant_of-self
+invariant_of-self c = kept_alike c.self.inside c.reserve.new.self.items c.self.inside.lanes (search rules) refl c.self.invariant
+
+pub invariant_of-self-in-Err : goal.invariant_of-self-in-Err
+invariant_of-self-in-Err c = kept_alike c.self.inside c.reserve.new.self.items c.add.new.self (search rules) c.in-Err.ensures.refused c.self.invariant

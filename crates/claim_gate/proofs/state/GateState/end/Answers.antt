@@ -1,6 +1,6 @@
-use Rattle.std.proofs.Common.{rules}
+use Rattle.std.proofs.Common.{refl, rules}
 use Rattle.journal.specs.Leading.{running_leads}
-use Rattle.claim_gate.proofs.Replying.{IsEnded, ends, ended_before, too_few}
+use Rattle.claim_gate.proofs.Replying.{IsEnded, ends, ended_before, kept_alike, too_few}
 use Rattle.claim_gate.proofs.state.GateState.end.Goals as goal
 
 pub returns-then-expected-count-clause-reply : goal.returns-then-expected-count-clause-reply
@@ -28,3 +28,6 @@ returns-clause-lawful c = (done c).keeps.lawful
 
 pub returns-clause-leads : goal.returns-clause-leads
 returns-clause-leads c = running_leads c.args.self.now _ (search rules) (search rules) (done c).goes_on
+
+pub invariant_of-self : goal.invariant_of-self
+invariant_of-self c = kept_alike c.self.inside c.reserve.new.self.items c.self.inside.lanes (search rules) refl c.self.invariant

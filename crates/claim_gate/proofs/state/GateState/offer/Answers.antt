@@ -18,3 +18,6 @@ returns-then-self-2-clause-lawful c = search rules
 
 pub returns-then-self-2-clause-refused : goal.returns-then-self-2-clause-refused
 returns-then-self-2-clause-refused c = search rules
+
+pub accept-requires-clause-open_yet : goal.accept-requires-clause-open_yet
+accept-requires-clause-open_yet c = search rules

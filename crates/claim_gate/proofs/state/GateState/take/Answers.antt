@@ -1,5 +1,5 @@
-use Rattle.std.proofs.Common.{rules}
-use Rattle.claim_gate.proofs.Replying.{is_over, nothing_ready, IsTaken, takes}
+use Rattle.std.proofs.Common.{refl, rules}
+use Rattle.claim_gate.proofs.Replying.{is_over, kept_alike, nothing_ready, IsTaken, takes}
 use Rattle.claim_gate.proofs.state.GateState.take.Goals as goal
 
 pub returns-then-is_over-clause-reply : goal.returns-then-is_over-clause-reply
@@ -23,3 +23,10 @@ returns-clause-reply c = (done c).reply
 
 pub returns-clause-lawful : goal.returns-clause-lawful
 returns-clause-lawful c = (done c).keeps.lawful
+
+pub invariant_of-self : goal.invariant_of-self
+invariant_of-self c = kept_alike c.self.inside c.reserve.new.self.items c.self.inside.lanes (search rules) refl c.self.invariant
+
+pub invariant_of-self-in_default : goal.invariant_of-self-in_default
+invariant_of-self-in_default c =
+    kept_alike c.self.inside c.reserve.new.self.items c.take.new.self (search rules) c.in_default.ensures.unchanged c.self.invariant
