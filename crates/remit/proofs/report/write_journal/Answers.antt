@@ -1,8 +1,8 @@
-use Rattle.std.proofs.Common.{◌≡◌, Err, Ok, ap, arith, length, ◌∙◌}
+use Rattle.std.proofs.Common.{◌≡◌, Err, None, Ok, ap, arith, length, ◌∙◌}
 use Rattle.std.proofs.lemmas.List.{length-map}
 use Rattle.std.proofs.lemmas.Result.{err_from_is_err_and}
 use Rattle.remit.specs.Held.{at}
-use Rattle.remit.proofs.Reporting.{ends-refused, ends-written, files-refused, files-same, header-refused, none-written, total-refused}
+use Rattle.remit.proofs.Reporting.{ends-device, ends-memory, ends-ok, ends-refused, ends-written, files-refused, files-same, header-refused, none-written, total-refused}
 use Rattle.remit.proofs.report.write_journal.Goals as goal
 
 pub returns-in_default-clause-refused : goal.returns-in_default-clause-refused
@@ -85,3 +85,18 @@ returns-clause-refused g c =
     (record { gathered = made.gathered; written = made.written; ready = made.ready }) c.in_ok-write_header.ensures.writes
     (files-same c.in-Ok.decisions c.write_header.new.self.decisions.now c.args.terms.now.plan.names c.args.terms.now.files
     (at _ _ c.write_header.new.self.writer) (at _ _ c.write_files.new.self.writer) (Ok tt) kept c.in_ok-write_files.ensures.writes) c.in_ok-write_total.ensures c.finish.ensures.writes
+
+pub returns-clause-device : goal.returns-clause-device
+returns-clause-device g c = ends-device (at _ _ c.write_total.new.self.writer) (at _ _ c.finish.new.self.writer) c.finish.result c.finish.ensures.writes
+
+pub returns-clause-memory : goal.returns-clause-memory
+returns-clause-memory g c =
+    let before = c.in_ok-write_total.ensures.1 ∙ c.in_ok-write_files.ensures.writes.2.1 ∙ c.in_ok-write_header.ensures.writes.1 in
+    ends-memory (at None _ c.new-report.result.writer) (at _ _ c.write_total.new.self.writer) (at _ _ c.finish.new.self.writer) c.finish.result before
+    c.finish.ensures.writes
+
+pub returns-clause-ok_failed : goal.returns-clause-ok_failed
+returns-clause-ok_failed g c =
+    let before = c.in_ok-write_total.ensures.1 ∙ c.in_ok-write_files.ensures.writes.2.1 ∙ c.in_ok-write_header.ensures.writes.1 in
+    ends-ok (at None _ c.new-report.result.writer) (at _ _ c.write_total.new.self.writer) (at _ _ c.finish.new.self.writer) c.finish.result before
+    c.finish.ensures.writes

@@ -1,8 +1,8 @@
-use Rattle.std.proofs.Common.{◌≡◌, Err, Ok, ap, arith, length, ◌∙◌}
+use Rattle.std.proofs.Common.{◌≡◌, Err, None, Ok, ap, arith, length, ◌∙◌}
 use Rattle.std.proofs.lemmas.List.{length-map}
 use Rattle.std.proofs.lemmas.Result.{err_from_is_err_and}
 use Rattle.remit.specs.Held.{at}
-use Rattle.remit.proofs.Reporting.{ends-refused, ends-written, files-counted, files-refused, header-refused, none-written, total-refused}
+use Rattle.remit.proofs.Reporting.{ends-device, ends-memory, ends-ok, ends-refused, ends-written, files-counted, files-refused, header-refused, none-written, total-refused}
 use Rattle.remit.proofs.report.write_journal_by_threads.Goals as goal
 
 pub returns-in_default-clause-refused : goal.returns-in_default-clause-refused
@@ -16,6 +16,12 @@ returns-in_err-write_header-clause-refused g c =
     (λ finished.
     header-refused c.args.terms.now c.args.journal.now (at _ _ c.new-report.result.writer) (at _ _ c.write_header.new.self.writer) c.in_err-write_header.field-0.0
     (record { gathered = made.gathered; written = made.written; ready = made.ready }) c.in_err-write_header.ensures.writes)
+
+pub write_files_by_threads-requires-clause-most : goal.write_files_by_threads-requires-clause-most
+write_files_by_threads-requires-clause-most g c =
+    let size = length-map c.files-files.result.now (λ f. f.now) in
+    let long = ap length c.files-files.ensures.files in
+    omega (arith, size, long)
 
 pub returns-in_err-write_files_by_threads-clause-refused : goal.returns-in_err-write_files_by_threads-clause-refused
 returns-in_err-write_files_by_threads-clause-refused g c =
@@ -86,4 +92,19 @@ returns-clause-refused g c =
     (at _ _ c.write_header.new.self.writer) (at _ _ c.write_files_by_threads.new.report.writer)
     (at _ _ c.write_total.new.self.writer) (at _ _ c.finish.new.self.writer) c.finish.result c.in-Ok.ensures as_many
     (record { gathered = made.gathered; written = made.written; ready = made.ready }) c.in_ok-write_header.ensures.writes written c.in_ok-write_total.ensures
+    c.finish.ensures.writes
+
+pub returns-clause-device : goal.returns-clause-device
+returns-clause-device g c = ends-device (at _ _ c.write_total.new.self.writer) (at _ _ c.finish.new.self.writer) c.finish.result c.finish.ensures.writes
+
+pub returns-clause-memory : goal.returns-clause-memory
+returns-clause-memory g c =
+    let before = c.in_ok-write_total.ensures.1 ∙ c.in_ok-write_files_by_threads.ensures.writes.2.1 ∙ c.in_ok-write_header.ensures.writes.1 in
+    ends-memory (at None _ c.new-report.result.writer) (at _ _ c.write_total.new.self.writer) (at _ _ c.finish.new.self.writer) c.finish.result before
+    c.finish.ensures.writes
+
+pub returns-clause-ok_failed : goal.returns-clause-ok_failed
+returns-clause-ok_failed g c =
+    let before = c.in_ok-write_total.ensures.1 ∙ c.in_ok-write_files_by_threads.ensures.writes.2.1 ∙ c.in_ok-write_header.ensures.writes.1 in
+    ends-ok (at None _ c.new-report.result.writer) (at _ _ c.write_total.new.self.writer) (at _ _ c.finish.new.self.writer) c.finish.result before
     c.finish.ensures.writes
