@@ -24,7 +24,8 @@ use Rattle.intake_csv.specs.Balances.{accounts_of}
 use Rattle.journal.specs.Terms.{Terms, IsProvider, claims_of}
 use Rattle.journal.specs.Settled.{outcome_of, accumulated}
 use Rattle.journal.specs.Events.{accepted, place_in, places, closed, taken, decided, IsJob}
-use Rattle.journal.specs.Gate.{OfferReply, EndReply, TakeReply, Continues, GateAt, Offers, Ends, Takes, is_any_decision}
+use Rattle.journal.specs.Leading.{leads_itself}
+use Rattle.journal.specs.Gate.{OfferReply, EndReply, TakeReply, Continues, GateAt, LeadsTo, Offers, Ends, Takes, is_any_decision}
 use Rattle.journal.specs.Lawful.{Finished, Lawful}
 use Rattle.journal.specs.Laws.{StartsLawful, OfferGoes, EndGoes, TakeGoes, FinishGoes}
 use Rattle.journal.specs.declared.event.Event.{Event}
@@ -59,6 +60,10 @@ Keeps s = IsKept s.terms.now s.journal.items s.lanes s.intakes s.closed s.decisi
 pub kept_alike : (s : Inside) (J : List Event) (lanes : List Place) → J ≡ s.journal.items → lanes ≡ s.lanes → Keeps s
     → IsKept s.terms.now J lanes s.intakes s.closed s.decisions
 kept_alike s J lanes journal_is lanes_are kept = rw (journal_is, lanes_are) kept
+
+-- a gate that stayed as it was
+pub leads_alike : (old new : GateParts) → new ≡ old → LeadsTo old new
+leads_alike old new same = subst (λ g. LeadsTo old g) (sym same) (leads_itself old)
 
 known_by : (T : Terms) (provider place : ℕ) (claim : Claim) → slice_get (claims_of T provider) place ≡ Some claim → IsProvider T provider
 known_by T zero place claim h = absurd (none-some claim h)

@@ -1,7 +1,7 @@
 use Rattle.std.proofs.Common.{refl, rules, ◌≤◌, length, arith}
 use Rattle.claim_gate.specs.Intakes.{intake_of}
 use Rattle.journal.specs.Leading.{running_leads}
-use Rattle.claim_gate.proofs.Replying.{IsAccepted, accepts, accepted_within, kept_alike}
+use Rattle.claim_gate.proofs.Replying.{IsAccepted, accepts, accepted_within, kept_alike, leads_alike}
 use Rattle.claim_gate.proofs.state.GateState.accept.Goals as goal
 
 pub accept-requires : goal.accept-requires
@@ -33,3 +33,9 @@ invariant_of-self c = kept_alike c.self.inside c.reserve.new.self.items c.self.i
 
 pub invariant_of-self-in-Err : goal.invariant_of-self-in-Err
 invariant_of-self-in-Err c = kept_alike c.self.inside c.reserve.new.self.items c.add.new.self (search rules) c.in-Err.ensures.refused c.self.invariant
+
+pub returns-then-is_err-clause-leads : goal.returns-then-is_err-clause-leads
+returns-then-is_err-clause-leads c = leads_alike c.args.self.now _ (search rules)
+
+pub returns-in-Err-clause-leads : goal.returns-in-Err-clause-leads
+returns-in-Err-clause-leads c = leads_alike c.args.self.now _ (search rules)

@@ -1,6 +1,6 @@
 use Rattle.std.proofs.Common.{refl, rules}
 use Rattle.journal.specs.Leading.{running_leads}
-use Rattle.claim_gate.proofs.Replying.{IsEnded, ends, ended_before, kept_alike, too_few}
+use Rattle.claim_gate.proofs.Replying.{IsEnded, ends, ended_before, kept_alike, leads_alike, too_few}
 use Rattle.claim_gate.proofs.state.GateState.end.Goals as goal
 
 pub returns-then-expected-count-clause-reply : goal.returns-then-expected-count-clause-reply
@@ -31,3 +31,6 @@ returns-clause-leads c = running_leads c.args.self.now _ (search rules) (search 
 
 pub invariant_of-self : goal.invariant_of-self
 invariant_of-self c = kept_alike c.self.inside c.reserve.new.self.items c.self.inside.lanes (search rules) refl c.self.invariant
+
+pub returns-then-is_err-clause-leads : goal.returns-then-is_err-clause-leads
+returns-then-is_err-clause-leads c = leads_alike c.args.self.now _ (search rules)

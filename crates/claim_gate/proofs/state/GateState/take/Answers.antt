@@ -1,5 +1,7 @@
-use Rattle.std.proofs.Common.{refl, rules}
-use Rattle.claim_gate.proofs.Replying.{is_over, kept_alike, nothing_ready, IsTaken, takes}
+use Rattle.std.proofs.Common.{[], ◌∷◌, refl, rules}
+use Rattle.journal.specs.Leading.{running_leads}
+use Rattle.journal.specs.declared.event.Event.TheVariants.{Take}
+use Rattle.claim_gate.proofs.Replying.{is_over, kept_alike, leads_alike, nothing_ready, IsTaken, takes}
 use Rattle.claim_gate.proofs.state.GateState.take.Goals as goal
 
 pub returns-then-is_over-clause-reply : goal.returns-then-is_over-clause-reply
@@ -30,3 +32,13 @@ invariant_of-self c = kept_alike c.self.inside c.reserve.new.self.items c.self.i
 pub invariant_of-self-in_default : goal.invariant_of-self-in_default
 invariant_of-self-in_default c =
     kept_alike c.self.inside c.reserve.new.self.items c.take.new.self (search rules) c.in_default.ensures.unchanged c.self.invariant
+
+pub returns-then-is_err-clause-leads : goal.returns-then-is_err-clause-leads
+returns-then-is_err-clause-leads c = leads_alike c.args.self.now _ (search rules)
+
+pub returns-in_default-clause-leads : goal.returns-in_default-clause-leads
+returns-in_default-clause-leads c = leads_alike c.args.self.now _ (search rules)
+
+pub returns-clause-leads : goal.returns-clause-leads
+returns-clause-leads c =
+    running_leads c.args.self.now _ (search rules) (search rules) (record { rest = Take c.in-Some.picked.position ∷ []; whole = search rules })
