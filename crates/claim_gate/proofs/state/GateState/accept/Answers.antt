@@ -39,3 +39,7 @@ returns-then-is_err-clause-leads c = leads_alike c.args.self.now _ (search rules
 
 pub returns-in-Err-clause-leads : goal.returns-in-Err-clause-leads
 returns-in-Err-clause-leads c = leads_alike c.args.self.now _ (search rules)
+
+pub returns-in-Err-clause-lawful : goal.returns-in-Err-clause-lawful
+returns-in-Err-clause-lawful c =
+    (kept_alike c.self.inside c.reserve.new.self.items c.add.new.self (search rules) c.in-Err.ensures.refused c.self.invariant).lawful

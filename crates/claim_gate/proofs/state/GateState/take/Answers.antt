@@ -42,3 +42,7 @@ returns-in_default-clause-leads c = leads_alike c.args.self.now _ (search rules)
 pub returns-clause-leads : goal.returns-clause-leads
 returns-clause-leads c =
     running_leads c.args.self.now _ (search rules) (search rules) (record { rest = Take c.in-Some.picked.position ∷ []; whole = search rules })
+
+pub returns-in_default-clause-lawful : goal.returns-in_default-clause-lawful
+returns-in_default-clause-lawful c =
+    (kept_alike c.self.inside c.reserve.new.self.items c.take.new.self (search rules) c.in_default.ensures.unchanged c.self.invariant).lawful
