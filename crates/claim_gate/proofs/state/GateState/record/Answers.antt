@@ -1,6 +1,9 @@
-use Rattle.std.proofs.Common.{◌+◌, rules}
+use Rattle.std.proofs.Common.{◌≡◌, ◌+◌, [], ◌∷◌, Result, Ok, Err, IfErr, is_err, true, refl, rules}
+use Rattle.std.proofs.lemmas.Bool.{false≢true}
+use Rattle.journal.specs.Leading.{running_leads}
+use Rattle.journal.specs.declared.event.Event.TheVariants.{Decide}
 use Rattle.claim_gate.specs.Kept.{IsKept}
-use Rattle.claim_gate.proofs.Replying.{left_is, records, settles}
+use Rattle.claim_gate.proofs.Replying.{kept_alike, leads_alike, left_is, records, settles}
 use Rattle.claim_gate.proofs.state.GateState.record.Goals as goal
 
 pub unwrap-left-requires : goal.unwrap-left-requires
@@ -20,3 +23,26 @@ invariant_of-self-2 c = done c
 
 pub returns-clause-lawful : goal.returns-clause-lawful
 returns-clause-lawful c = (done c).lawful
+
+pub invariant_of-self : goal.invariant_of-self
+invariant_of-self c = kept_alike c.self.inside c.reserve.new.self.items c.self.inside.lanes (search rules) refl c.self.invariant
+
+-- what holds of a call that is refused
+if-refused : {X Y : Type 0} (r : Result X Y) (P : Type 0) → is_err r ≡ true → IfErr r (λ _. P) → P
+if-refused (Ok x) P refused holds = absurd (false≢true refused)
+if-refused (Err e) P refused holds = holds
+
+pub invariant_of-self-then-is_err-2 : goal.invariant_of-self-then-is_err-2
+invariant_of-self-then-is_err-2 c =
+    let refused : is_err c.decide.result ≡ true = cc (c.is_err-2.ensures.value, c.if-is_err-2.true) in
+    kept_alike c.self.inside c.reserve.new.self.items c.decide.new.self (search rules) (if-refused c.decide.result _ refused c.decide.ensures.refused) c.self.invariant
+
+pub returns-then-is_err-clause-leads : goal.returns-then-is_err-clause-leads
+returns-then-is_err-clause-leads c = leads_alike c.args.self.now _ (search rules)
+
+pub returns-then-is_err-2-clause-leads : goal.returns-then-is_err-2-clause-leads
+returns-then-is_err-2-clause-leads c = leads_alike c.args.self.now _ (search rules)
+
+pub returns-clause-leads : goal.returns-clause-leads
+returns-clause-leads c =
+    running_leads c.args.self.now _ c.requires.runs (search rules) (record { rest = Decide c.args.job.position c.args.outcome ∷ []; whole = search rules })
