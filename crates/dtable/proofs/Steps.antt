@@ -12,6 +12,11 @@ use Rattle.feel_tests.specs.declared.value.Value.{Value}
 use Rattle.dtable.specs.declared.environment.Answer.TheVariants.{One}
 use Rattle.dtable.specs.HitPolicy.{joined, ones}
 
+-- a list that one item was put behind is what is wanted of one more
+pub pushed_more : {A : Type 0} (before after wanted next : List A) (item made : A) → after ≡ before ++ item ∷ [] → before ≡ wanted → item ≡ made
+    → next ≡ wanted ++ made ∷ [] → after ≡ next
+pushed_more before after wanted next item made pushed so_far is step = cc
+
 -- what `filter_map` keeps of one item
 filter_map-one : {X Y : Type 0} (h : X → Option Y) (x : X) → filter_map h (x ∷ []) ≡ option_to_list (h x)
 filter_map-one h x = elim (h x) as (λ o. cons_option o [] ≡ option_to_list o) [ None ↦ refl | Some y ↦ refl ]
@@ -33,19 +38,16 @@ pub numbers_more : (join : ℤ → ℤ → ℤ) (h : ℕ → Option ℤ) (xs : L
 numbers_more join h xs i d below =
     ap (reduce join) (filter_map_more h xs i d below) ∙ reduce-more join (filter_map h (take i xs)) (h (get_or xs i d))
 
-pub filter_map_some : {X Y : Type 0} (h : X → Option Y) (xs : List X) (i : ℕ) (d : X) (y : Y) → i < length xs → h (get_or xs i d) ≡ Some y
-    → filter_map h (take (i + 1) xs) ≡ filter_map h (take i xs) ++ y ∷ []
-filter_map_some h xs i d y below here = filter_map_more h xs i d below ∙ ap (λ o. filter_map h (take i xs) ++ option_to_list o) here
-
-pub filter_map_none : {X Y : Type 0} (h : X → Option Y) (xs : List X) (i : ℕ) (d : X) → i < length xs → h (get_or xs i d) ≡ None
-    → filter_map h (take (i + 1) xs) ≡ filter_map h (take i xs)
-filter_map_none h xs i d below here =
-    filter_map_more h xs i d below ∙ ap (λ o. filter_map h (take i xs) ++ option_to_list o) here ∙ append-nil (filter_map h (take i xs))
+-- a number is what is wanted of one more
+pub joined_more : (join : ℤ → ℤ → ℤ) (before after wanted next one made : Option ℤ) → after ≡ joined join before one → before ≡ wanted → one ≡ made
+    → next ≡ joined join wanted made → after ≡ next
+joined_more join before after wanted next one made with_one so_far is step = cc
 
 -- one value more for the outputs
-pub ones_some : {X : Type 0} (h : X → Option Value) (xs : List X) (i : ℕ) (d : X) (y : Value) → i < length xs → h (get_or xs i d) ≡ Some y
-    → ones (filter_map h (take (i + 1) xs)) ≡ ones (filter_map h (take i xs)) ++ One y ∷ []
-ones_some h xs i d y below here = ap ones (filter_map_some h xs i d y below here) ∙ map-append (λ v. One v) (filter_map h (take i xs)) (y ∷ [])
+pub ones_more : {X : Type 0} (h : X → Option Value) (xs : List X) (i : ℕ) (d : X) → i < length xs
+    → ones (filter_map h (take (i + 1) xs)) ≡ ones (filter_map h (take i xs)) ++ ones (option_to_list (h (get_or xs i d)))
+ones_more h xs i d below =
+    ap ones (filter_map_more h xs i d below) ∙ map-append (λ v. One v) (filter_map h (take i xs)) (option_to_list (h (get_or xs i d)))
 
 -- a number's units lie between the bounds of the number range
 above_least : (m : ℕ) (units : ℤ) → unsigned_abs units ≤ m → neg_ℤ (pos m) ≤ℤ units

@@ -11,9 +11,15 @@ use std::marker::Model;
 const INLINE_TABLES: usize = 5;
 
 /// The answers of a table, one for each output, which contracts see as their list.
-#[derive(Drop)]
 pub struct Answers<'a> {
     held: Held<'a>,
+}
+
+impl Drop for Answers<'_> {
+    #[inline]
+    fn drop(self) {
+        let Answers { held: _ } = self;
+    }
 }
 
 /// Where a table's answers are.

@@ -9,9 +9,15 @@ use std::marker::Model;
 pub const NAME_LIMIT_BYTES: usize = 64;
 
 /// The name of input data or of an output, of at most `NAME_LIMIT_BYTES`, which contracts see as its bytes.
-#[derive(Debug, Drop)]
+#[derive(Debug)]
 pub struct Name {
     text: String,
+}
+
+impl Drop for Name {
+    fn drop(self) {
+        let Name { text: _ } = self;
+    }
 }
 
 impl Model for Name {

@@ -9,7 +9,7 @@ use crate::environment::place_of;
 use crate::table::Table;
 
 /// The place of an output: its table's in the plan, and its own among the table's outputs, both from 0.
-#[derive(Clone, Copy, PartialEq, Eq)]
+#[derive(Clone, Copy)]
 pub struct OutputPlace {
     pub table: usize,
     pub column: usize,

@@ -1,7 +1,8 @@
 //! Plans: names, decision tables in order of evaluation, and roles.
-ghost use Rattle.std.specs.Prelude.{◌≡◌, ◌≤◌, ◌++◌, ◌↔◌, List, length, IsTrue, IfOk, OnOk};
+ghost use Rattle.std.specs.Prelude.{◌≡◌, ◌≤◌, ◌++◌, ◌∷◌, ◌↔◌, [], List, length, IsTrue, IfOk, OnOk};
 ghost use Rattle.std.specs.List.{list_all};
 ghost use Rattle.std.specs.Option.{option_copied, option_and_then};
+ghost use Rattle.feel_tests.specs.declared.kind.Kind.TheVariants as kinds;
 ghost use Rattle.dtable.specs.declared.environment.Answer.{Answer};
 ghost use Rattle.dtable.specs.Environment.{answer_of, answer_at};
 ghost use Rattle.dtable.specs.Limits.{name_limit_bytes};
@@ -173,12 +174,12 @@ fn for_member(
 ) -> Result<(), AllocError>
     ensures { OnOk result (names.new ≡ names.old ++ accumulator_names families) }
 {
-    names.push(named(alloc, "met", Kind::Number)?)?;
-    names.push(named(alloc, "oop", Kind::Number)?)?;
-    names.push(named(alloc, "paid", Kind::Number)?)?;
+    push_number(alloc, "met", names)?;
+    push_number(alloc, "oop", names)?;
+    push_number(alloc, "paid", names)?;
     if families {
-        names.push(named(alloc, "fmet", Kind::Number)?)?;
-        names.push(named(alloc, "foop", Kind::Number)?)?;
+        push_number(alloc, "fmet", names)?;
+        push_number(alloc, "foop", names)?;
     }
     Ok(())
 }
@@ -190,14 +191,34 @@ fn for_claim(
 ) -> Result<(), AllocError>
     ensures { OnOk result (names.new ≡ claim_names families ++ names.old) }
 {
-    names.insert(0, named(alloc, "billed", Kind::Number)?)?;
-    names.insert(0, named(alloc, "service", Kind::Day)?)?;
-    names.insert(0, named(alloc, "member", Kind::Text)?)?;
+    put_first(alloc, "billed", Kind::Number, names)?;
+    put_first(alloc, "service", Kind::Day, names)?;
+    put_first(alloc, "member", Kind::Text, names)?;
     if families {
-        names.insert(0, named(alloc, "family", Kind::Text)?)?;
+        put_first(alloc, "family", Kind::Text, names)?;
     }
-    names.insert(0, named(alloc, "claim", Kind::Text)?)?;
-    Ok(())
+    put_first(alloc, "claim", Kind::Text, names)
+}
+
+// Puts the name of a number behind the others.
+fn push_number(alloc: Global, name: &str, names: &mut Sequence<InputData>) -> Result<(), AllocError>
+    requires { length name.now ≤ name_limit_bytes }
+    ensures { OnOk result (names.new ≡ names.old ++ named name.now kinds.Number ∷ []) }
+{
+    names.push(named(alloc, name, Kind::Number)?)
+}
+
+// Puts a name in front of the others.
+fn put_first(
+    alloc: Global,
+    name: &str,
+    kind: Kind,
+    names: &mut Sequence<InputData>,
+) -> Result<(), AllocError>
+    requires { length name.now ≤ name_limit_bytes }
+    ensures { OnOk result (names.new ≡ named name.now kind ∷ names.old) }
+{
+    names.insert(0, named(alloc, name, kind)?)
 }
 
 fn named(alloc: Global, name: &str, kind: Kind) -> Result<InputData, AllocError>

@@ -12,14 +12,19 @@ use crate::name::Name;
 use feel_tests::{Cell, Kind, Sequence, Value};
 
 /// Input data (DMN 1.4): a name that tables may read from outside, and the kind of its value.
-#[derive(Drop)]
 pub struct InputData {
     pub name: Name,
     pub kind: Kind,
 }
 
+impl Drop for InputData {
+    fn drop(self) {
+        let InputData { name: _, kind: _ } = self;
+    }
+}
+
 /// Where an input's value comes from. Places count from 0.
-#[derive(Clone, Copy, PartialEq, Eq)]
+#[derive(Clone, Copy)]
 pub enum Origin {
     /// The input data at this place in the plan's names.
     Given(usize),

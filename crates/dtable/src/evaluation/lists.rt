@@ -1,7 +1,8 @@
 //! Policies that list all matches (DMN 1.4, hit policies Rule order, Output order and Collect).
-ghost use Rattle.std.specs.Prelude.{◌≡◌, Ok, IfOk};
+ghost use Rattle.std.specs.Prelude.{◌≡◌, ◌++◌, Ok, IfOk, OnOk, slice_get};
+ghost use Rattle.std.specs.Option.{option_to_list};
 ghost use Rattle.dtable.specs.HitPolicy.{Gives, lists, column_of};
-ghost use Rattle.dtable.specs.Priority.{in_priority_order};
+ghost use Rattle.dtable.specs.Priority.{entries_of, in_priority_order};
 
 use super::priority;
 use crate::environment::Answer;
@@ -59,9 +60,23 @@ fn column_of(
 {
     let mut values = Sequence::with_capacity(alloc, rules.len())?;
     for rule in rules {
-        if let Some(value) = table.entry(*rule, column) {
-            values.push(value.duplicate(alloc)?)?;
-        }
+        push_entry(alloc, table, *rule, column, &mut values)?;
     }
     Ok(values)
+}
+
+// Puts the rule's entry in the column behind other values, if there is one.
+fn push_entry(
+    alloc: Global,
+    table: &Table,
+    rule: usize,
+    column: usize,
+    values: &mut Sequence<Value>,
+) -> Result<(), AllocError>
+    ensures { OnOk result (values.new ≡ values.old ++ option_to_list (slice_get (entries_of table.now rule) column)) }
+{
+    match table.entry(rule, column) {
+        Some(value) => values.push(value.duplicate(alloc)?),
+        None => Ok(()),
+    }
 }

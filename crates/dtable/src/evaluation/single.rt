@@ -1,6 +1,7 @@
 //! Policies that give each output one value (DMN 1.4, hit policies Unique, Any, Priority and First).
-ghost use Rattle.std.specs.Prelude.{◌≡◌, IfOk, is_some};
+ghost use Rattle.std.specs.Prelude.{◌≡◌, ◌++◌, IfOk, OnOk, is_some};
 ghost use Rattle.std.specs.List.{list_all};
+ghost use Rattle.std.specs.Option.{option_to_list};
 ghost use Rattle.dtable.specs.HitPolicy.{Gives, ones, unmatched, unique, agree, any, of_rule};
 
 use crate::environment::Answer;
@@ -19,11 +20,23 @@ pub fn unmatched(alloc: Global, number: usize, table: &Table) -> Result<Sequence
     }
     let mut answers = Sequence::new(alloc);
     for output in outputs {
-        if let Some(value) = &output.fallback {
-            answers.push(Answer::One(value.duplicate(alloc)?))?;
-        }
+        push_default(alloc, output, &mut answers)?;
     }
     Ok(answers)
+}
+
+// Puts the output's default behind other answers, if it has one.
+fn push_default(
+    alloc: Global,
+    output: &Output,
+    answers: &mut Sequence<Answer>,
+) -> Result<(), AllocError>
+    ensures { OnOk result (answers.new ≡ answers.old ++ ones (option_to_list output.now.fallback)) }
+{
+    match &output.fallback {
+        Some(value) => answers.push(Answer::One(value.duplicate(alloc)?)),
+        None => Ok(()),
+    }
 }
 
 // Whether every output has a default.

@@ -6,7 +6,7 @@ use std::alloc::AllocError;
 use table_faults::{PlanCause, PlanFault};
 
 /// Where a fault stands: tables, rules and columns count from 1, and 0 says none.
-#[derive(Clone, Copy, PartialEq, Eq)]
+#[derive(Clone, Copy)]
 pub struct Place {
     pub table: usize,
     pub rule: usize,

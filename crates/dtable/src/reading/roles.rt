@@ -24,7 +24,7 @@ use table_faults::{PlanCause, PlanFault};
 use toml::Value;
 
 /// What is asked of a role's value.
-#[derive(Clone, Copy, PartialEq, Eq)]
+#[derive(Clone, Copy)]
 pub enum Asked {
     /// A flag.
     Flag,

@@ -68,7 +68,6 @@ fn column_kind(table: &Table, column: usize) -> Option<Kind>
 }
 
 /// Whether a name is taken behind these names and the outputs of these tables.
-#[tactic(auto, using(crate::proofs::ReadNames::is_among_taken))]
 fn is_taken(names: &[InputData], tables: &[Table], name: &str) -> bool
     ensures { result ≡ is_among name.now (taken_names names.now (map seen_of tables.now)) }
 {
@@ -76,7 +75,6 @@ fn is_taken(names: &[InputData], tables: &[Table], name: &str) -> bool
 }
 
 /// Whether a name is taken behind these names, these tables and these outputs.
-#[tactic(auto, using(crate::proofs::ReadNames::is_among_outputs))]
 pub fn is_taken_output(names: &[InputData], tables: &[Table], front: &[Output], name: &str) -> bool
     ensures { result ≡ is_among name.now (taken_names names.now (map seen_of tables.now) ++ output_names front.now) }
 {
@@ -84,7 +82,6 @@ pub fn is_taken_output(names: &[InputData], tables: &[Table], front: &[Output], 
 }
 
 /// Whether a name is taken behind these fields, where families are kept or not.
-#[tactic(auto, using(crate::proofs::ReadNames::is_among_fields))]
 pub fn is_taken_field(families: bool, front: &[InputData], name: &str) -> bool
     ensures { result ≡ is_among name.now (names_taken families ++ data_names front.now) }
 {

@@ -1,10 +1,9 @@
 use Rattle.std.specs.Int.{int_max}
 use Rattle.dtable.specs.HitPolicy.{number_in}
-use Rattle.dtable.proofs.Steps.{numbers_more}
+use Rattle.dtable.proofs.Steps.{numbers_more, joined_more}
 use Rattle.dtable.proofs.evaluation.numbers.greatest_of.Goals as goal
 
 pub loop-rule-preserved : goal.loop-rule-preserved
 loop-rule-preserved c =
     let step = numbers_more int_max (number_in c.args.table.now) c.args.rules.now c.loop-rule.rule-index 0 c.loop-rule-test.true in
-    let value = c.number_in.ensures.value in
-    cc
+    joined_more int_max _ _ _ _ _ _ c.greater-greatest.ensures c.loop-rule.invariant c.number_in.ensures.value step

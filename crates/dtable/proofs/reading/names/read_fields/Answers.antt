@@ -1,3 +1,5 @@
+use Rattle.std.proofs.Common.{arith}
+use Rattle.std.proofs.lemmas.Grind.{common_steps}
 use Rattle.std.proofs.lemmas.Result.{err_from_is_err_and}
 use Rattle.dtable.specs.NameForm.{names_taken}
 use Rattle.dtable.specs.PlanFile.{IsField}
@@ -15,3 +17,6 @@ returns-in_err-field c =
     let p = err_from_is_err_and c.from_residual-in_err-field.result c.from_residual-in_err-field.ensures.1 in
     let none = rw c.as_slice.ensures at c.in_err-field.ensures in
     rw (p.1, p.2) (λ memory fields h. EachBehind-none (λ f. f.name) IsField IsField-name (names_taken c.args.families) c.args.entries.now c.loop-index.index c.index-entries-index.result c.loop-index.fields fields c.loop-index-test.true c.index-entries-index.is c.loop-index.invariant (none memory) h.each)
+
+pub returns : goal.returns
+returns c = grind (arith, common_steps)

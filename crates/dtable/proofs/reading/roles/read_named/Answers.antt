@@ -1,4 +1,5 @@
-use Rattle.std.proofs.Common.{◌≡◌, map, Some, get_or, subst, sym, ap, ◌∙◌, rules}
+use Rattle.std.proofs.lemmas.Grind.{elements}
+use Rattle.std.proofs.Common.{◌≡◌, map, Some, get_or, subst, sym, ap, ◌∙◌, rules, arith}
 use Rattle.dtable.specs.declared.table.Origin.TheVariants.{Earlier}
 use Rattle.dtable.specs.Scope.{seen_of, origin_of, kind_at}
 use Rattle.dtable.proofs.FoundOutput.{stands_at}
@@ -24,3 +25,15 @@ returns-in_ok-new-in-Earlier c =
       known = known;
       of_kind = subst (λ origin. kind_at names (map seen_of tables) origin ≡ Some c.args.kind) c.in-Earlier.is (sym c.kind_at.ensures ∙ kind);
     }
+
+pub offset_bounds-tables-table : goal.offset_bounds-tables-table
+offset_bounds-tables-table c = grind (arith, elements)
+
+pub offset_bounds-as_slice-column : goal.offset_bounds-as_slice-column
+offset_bounds-as_slice-column c = grind (arith, elements)
+
+pub bounds-as_slice-column : goal.bounds-as_slice-column
+bounds-as_slice-column c = grind (arith, elements)
+
+pub bounds-tables-table : goal.bounds-tables-table
+bounds-tables-table c = grind (arith, elements)

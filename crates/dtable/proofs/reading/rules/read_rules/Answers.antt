@@ -1,4 +1,5 @@
-use Rattle.std.proofs.Common.{map}
+use Rattle.std.proofs.lemmas.Grind.{common_steps}
+use Rattle.std.proofs.Common.{map, arith}
 use Rattle.std.proofs.lemmas.Result.{err_from_is_err_and}
 use Rattle.toml.specs.View.{view}
 use Rattle.dtable.specs.PlanFile.{IsRule}
@@ -15,3 +16,9 @@ pub returns-in_err-rule : goal.returns-in_err-rule
 returns-in_err-rule c =
     let p = err_from_is_err_and c.from_residual-in_err-rule.result c.from_residual-in_err-rule.ensures.1 in
     rw (p.1, p.2) (λ memory rules h. AreRules-none c.args.names.now (map seen_of c.args.tables.now) c.args.inputs.now c.args.outputs.now (view c.args.table.now) c.in_ok-entries.entries.now c.loop-index.index c.index-entries-index.result c.in_ok-entries.ensures.ok c.loop-index-test.true c.index-entries-index.is (c.in_err-rule.ensures memory) rules h)
+
+pub returns : goal.returns
+returns c = grind (arith, common_steps)
+
+pub returns-in_err-push : goal.returns-in_err-push
+returns-in_err-push c = grind (arith, common_steps)

@@ -1,3 +1,4 @@
+use Rattle.std.proofs.lemmas.Grind.{common_steps}
 use Rattle.std.proofs.Common.{codes, refl, arith}
 use Rattle.std.proofs.lemmas.Result.{err_from_is_err_and}
 use Rattle.toml.specs.View.{view}
@@ -22,3 +23,6 @@ returns-in_err-literal c =
     let p = err_from_is_err_and c.from_residual-in_err-literal.result c.from_residual-in_err-literal.ensures.1 in
     rw (p.1, p.2) (λ memory. IsRow-none IsEntry c.args.outputs.now c.index-outputs-index.result (codes "then") (view c.args.rule.now) c.in_ok-entries.entries.now c.index-entries-index.result c.loop-index.index
     c.in_ok-entries.ensures.ok c.in_ok-entries.ensures.columns c.index-outputs-index.is c.loop-index-test.true c.index-entries-index.is (c.in_err-literal.ensures memory))
+
+pub returns : goal.returns
+returns c = grind (arith, common_steps)

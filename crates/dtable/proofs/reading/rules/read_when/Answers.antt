@@ -1,3 +1,4 @@
+use Rattle.std.proofs.lemmas.Grind.{common_steps}
 use Rattle.std.proofs.Common.{codes, refl, arith, map}
 use Rattle.std.proofs.lemmas.Result.{err_from_is_err_and}
 use Rattle.toml.specs.View.{view}
@@ -23,3 +24,6 @@ returns-in_err-cell c =
     let p = err_from_is_err_and c.from_residual-in_err-cell.result c.from_residual-in_err-cell.ensures.1 in
     rw (p.1, p.2) (λ memory. IsRow-none (IsCellUnder c.args.names.now (map seen_of c.args.tables.now)) c.args.inputs.now c.index-inputs-index.result (codes "when") (view c.args.rule.now) c.in_ok-entries.entries.now c.index-entries-index.result c.loop-index.index
     c.in_ok-entries.ensures.ok c.in_ok-entries.ensures.columns c.index-inputs-index.is c.loop-index-test.true c.index-entries-index.is (c.in_err-cell.ensures memory))
+
+pub returns : goal.returns
+returns c = grind (arith, common_steps)

@@ -1,4 +1,5 @@
-use Rattle.std.proofs.Common.{[]}
+use Rattle.std.proofs.lemmas.Grind.{common_steps}
+use Rattle.std.proofs.Common.{[], arith}
 use Rattle.std.proofs.lemmas.Result.{err_from_is_err_and}
 use Rattle.dtable.specs.PlanFile.{IsTable}
 use Rattle.dtable.specs.Scope.{seen_of}
@@ -16,3 +17,9 @@ returns-in_err-table c =
     let p = err_from_is_err_and c.from_residual-in_err-table.result c.from_residual-in_err-table.ensures.1 in
     let none = rw c.as_slice.ensures at c.in_err-table.ensures in
     rw (p.1, p.2) (λ memory tables h. AreTables-none c.text_spells_at_most_one_value.ensures c.args.names.now c.args.entries.now c.loop-index.index c.index-entries-index.result c.loop-index.tables tables c.loop-index-test.true c.index-entries-index.is c.loop-index.invariant (none memory) h)
+
+pub returns-in_err-push : goal.returns-in_err-push
+returns-in_err-push c = grind (arith, common_steps)
+
+pub returns : goal.returns
+returns c = grind (arith, common_steps)
