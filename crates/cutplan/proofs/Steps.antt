@@ -5,6 +5,11 @@ use Rattle.std.proofs.lemmas.List.{take_more}
 use Rattle.std.proofs.lemmas.List.Concat.{flat_map-append}
 use Rattle.std.proofs.lemmas.List.Sums.{fold-append}
 
+-- a list that one item was put behind is what is wanted of one more
+pub pushed_more : {A : Type 0} (before after wanted next : List A) (item made : A) → after ≡ before ++ item ∷ [] → before ≡ wanted → item ≡ made
+    → next ≡ wanted ++ made ∷ [] → after ≡ next
+pushed_more before after wanted next item made pushed so_far is step = cc
+
 -- a flat map over one item more
 pub flat_more : {X A : Type 0} (f : X → List A) (xs : List X) (i : ℕ) (d : X) → i < length xs → flat_map f (take (i + 1) xs) ≡ flat_map f (take i xs) ++ f (get_or xs i d)
 flat_more f xs i d below =

@@ -1,5 +1,6 @@
 //! The answers of tables that a plan keeps, so that a value lends them and makes none.
 ghost use Rattle.std.specs.Prelude.{◌≡◌, ◌≤◌, ◌∷◌, [], ℕ, Ok, IfOk, IfSome, find, length, map};
+ghost use Rattle.std.specs.List.{range_with_len};
 ghost use Rattle.dtable.specs.HitPolicy.{by_hit};
 ghost use Rattle.dtable.specs.Priority.{all_ranked, in_priority_order};
 ghost use Rattle.cutplan.specs.Lent.{answered, is_in_mask, kept_answers, ordered};
@@ -54,16 +55,26 @@ pub fn answers_of_tables(
 fn kept_answers(alloc: Global, table: &Table) -> Result<KeptAnswers, AllocError>
     ensures { IfOk result (λ kept. kept ≡ kept_answers table.now) }
 {
+    Ok(KeptAnswers {
+        unmatched: answered(alloc, table, &[])?,
+        alone: answers_alone(alloc, table)?,
+        order: ordered(alloc, table)?,
+        sets: answers_of_sets(alloc, table)?,
+    })
+}
+
+// The answers where one rule alone matches, for each rule.
+fn answers_alone(
+    alloc: Global,
+    table: &Table,
+) -> Result<Sequence<Option<Sequence<Answer>>>, AllocError>
+    ensures { IfOk result (λ alone. alone ≡ map (λ rule. answered table.now (rule ∷ [])) (range_with_len 0 (length table.now.rules))) }
+{
     let mut alone = Sequence::new(alloc);
     for rule in 0..table.rules.len() {
         alone.push(answered(alloc, table, &[rule])?)?;
     }
-    Ok(KeptAnswers {
-        unmatched: answered(alloc, table, &[])?,
-        alone,
-        order: ordered(alloc, table)?,
-        sets: answers_of_sets(alloc, table)?,
-    })
+    Ok(alone)
 }
 
 /// The answers where these rules match. A table's number is told in faults alone, so that any will do.

@@ -1,4 +1,5 @@
-use Rattle.std.proofs.Common.{◌<◌, ◌++◌, ◌∷◌, [], length, get_or, take, map, subst, ap, sym, ◌∙◌}
+use Rattle.std.proofs.lemmas.Grind.{common_steps}
+use Rattle.std.proofs.Common.{◌<◌, ◌++◌, ◌∷◌, [], length, get_or, take, map, subst, ap, sym, ◌∙◌, arith}
 use Rattle.cutplan.specs.Regions.{columns_from, regions}
 use Rattle.cutplan.proofs.Columnar.{columns_more}
 use Rattle.cutplan.proofs.column.table_regions.Goals as goal
@@ -15,3 +16,6 @@ loop-place-preserved c =
     let step = columns_more p t t.inputs i item below standing in
     c.in_ok-push.ensures.ok ∙ ap (λ front. front ++ c.in_ok-column_regions.field-0 ∷ []) c.loop-place.invariant
     ∙ ap (λ last. map regions (columns_from p t 0 (take i t.inputs)) ++ last ∷ []) c.in_ok-column_regions.ensures ∙ sym step
+
+pub returns : goal.returns
+returns c = grind (arith, common_steps)

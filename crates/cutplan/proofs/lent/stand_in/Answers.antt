@@ -1,5 +1,15 @@
-use Rattle.std.proofs.Common.{rules}
+use Rattle.std.proofs.lemmas.Grind.{common_steps}
+use Rattle.std.proofs.Common.{rules, arith}
 use Rattle.cutplan.proofs.lent.stand_in.Goals as goal
 
 pub returns-in-F : goal.returns-in-F
 returns-in-F c = search rules
+
+pub returns-in-P : goal.returns-in-P
+returns-in-P c = grind (arith, common_steps)
+
+pub returns-in-len1 : goal.returns-in-len1
+returns-in-len1 c = grind (arith, common_steps)
+
+pub returns-then-rules_agree : goal.returns-then-rules_agree
+returns-then-rules_agree c = grind (arith, common_steps)

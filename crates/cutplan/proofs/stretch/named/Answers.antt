@@ -4,3 +4,6 @@ use Rattle.cutplan.proofs.stretch.named.Goals as goal
 
 pub returns : goal.returns
 returns c = grind (arith, common_steps)
+
+pub loop-name-preserved : goal.loop-name-preserved
+loop-name-preserved c = grind (arith, common_steps)
