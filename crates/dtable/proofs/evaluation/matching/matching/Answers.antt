@@ -1,4 +1,4 @@
-use Rattle.std.proofs.Common.{◌≡◌, ◌<◌, true, false, length, get_or, subst, ap, ◌∙◌}
+use Rattle.std.proofs.Common.{◌≡◌, ◌<◌, ◌++◌, [], ◌∷◌, true, false, length, get_or, subst, ap, sym, ◌∙◌}
 use Rattle.dtable.specs.Matching.{cells_hold}
 use Rattle.dtable.proofs.Matches.{match_more, no_match_more}
 use Rattle.dtable.proofs.evaluation.matching.matching.Goals.{then-cells_hold+in_ok-push, else-cells_hold}
@@ -17,11 +17,8 @@ loop-place-preserved c =
     elim c.if-cells_hold.branch [
       | then-cells_hold+in_ok-push w ↦
           let held : cells_hold given earlier t.inputs rule.cells ≡ true = cc in
-          let step = match_more given earlier t n rule below standing held in
-          let pushed = w.in_ok-push.ensures.ok in
-          cc
+          w.found-is ∙ w.in_ok-push.ensures.ok ∙ ap (λ found. found ++ n ∷ []) c.loop-place.invariant ∙ sym (match_more given earlier t n rule below standing held)
       | else-cells_hold w ↦
           let held : cells_hold given earlier t.inputs rule.cells ≡ false = cc in
-          let step = no_match_more given earlier t n rule below standing held in
-          cc
+          w.found-is ∙ c.loop-place.invariant ∙ sym (no_match_more given earlier t n rule below standing held)
     ]

@@ -1,4 +1,4 @@
-use Rattle.std.proofs.Common.{◌≡◌, Some, map}
+use Rattle.std.proofs.Common.{◌≡◌, Some, map, sym, ◌∙◌}
 use Rattle.std.proofs.lemmas.Result.{err_from_is_err_and}
 use Rattle.toml.specs.View.{view}
 use Rattle.dtable.specs.Scope.{seen_of, origin_of}
@@ -16,5 +16,5 @@ returns-in_err-values c =
     let names = c.args.names.now in
     let earlier = map seen_of c.args.tables.now in
     let found = rw c.as_str.ensures.text at c.origin_of.ensures in
-    let known : origin_of names earlier c.in_ok-name.name ≡ Some c.in-Some.origin = cc in
+    let known : origin_of names earlier c.in_ok-name.name ≡ Some c.in-Some.origin = sym found ∙ c.in-Some.is in
     rw (p.1, p.2) (λ memory. IsInput-no_values names earlier (view c.args.entry.now) c.in_ok-name.name c.in-Some.origin c.in_ok-name.ensures known (c.in_err-values.ensures memory))

@@ -1,4 +1,5 @@
-use Rattle.std.proofs.Common.{◌≡◌, ap, sym, ◌∙◌}
+use Rattle.std.proofs.Common.{ap, sym, ◌∙◌}
+use Rattle.std.proofs.lemmas.Option.{same_Some}
 use Rattle.toml.specs.View.{items_view}
 use Rattle.dtable.specs.Document.{item_count}
 use Rattle.dtable.proofs.Entries.{item_count-view}
@@ -8,5 +9,5 @@ pub returns-then-items-columns-clause-refused : goal.returns-then-items-columns-
 returns-then-items-columns-clause-refused c items read same =
     let found = c.in_ok-items.items.now in
     let known = c.in_ok-items.ensures.ok in
-    let here : items ≡ items_view found = cc in
+    let here = same_Some items (items_view found) (sym read ∙ known) in
     c.if-items-columns.true (sym (item_count-view found) ∙ ap item_count (sym here) ∙ same)
