@@ -47,7 +47,6 @@ fn insert_if(mask: &mut [u64; 4], place: usize, is_wanted: bool)
 }
 
 // Puts a rule into a mask.
-#[tactic(auto, using(crate::proofs::MaskBits::inserted))]
 fn insert(mask: &mut [u64; 4], place: usize)
     requires words { length mask.old ≡ 4 }
     requires within { place < MASK_RULES }

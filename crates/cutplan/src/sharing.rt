@@ -64,7 +64,6 @@ fn join(one: &[u64; 4], other: &[u64; 4]) -> [u64; 4]
 }
 
 /// Whether the mask has the rule at the place.
-#[tactic(auto, using(crate::proofs::MaskBits::tested))]
 pub fn has_rule(mask: &[u64; 4], place: usize) -> bool
     requires words { length mask.now ≡ 4 }
     requires within { place < MASK_RULES }

@@ -1,4 +1,5 @@
 use Rattle.std.proofs.Common.{◌≡◌, cond, eqb, ◌+◌, ◌++◌, ◌∷◌, [], IfOk, filter, map, take, length, ap, get_or, sym, subst, ◌∙◌, arith, rules}
+use Rattle.std.proofs.lemmas.Grind.{common_steps}
 use Rattle.std.specs.List.{flat_map}
 use Rattle.cutplan.specs.Check.{cells}
 use Rattle.cutplan.specs.Masks.{rules_in, AreMasks}
@@ -95,3 +96,6 @@ returns-in-None m c =
     let none : length c.args.columns.now ≡ 0 = omega (arith, c.in-None.ensures.cases) in
     subst (λ xs. IfOk c.uncovered_end.result (λ found. found.items ≡ xs))
     (ap (λ n. cond (eqb (length (rules_in n c.args.rules.now)) 0) ([] ∷ []) []) c.len.ensures ∙ sym (end_is t c.args.place (rules_in (length t.rules) c.args.rules.now) c.args.columns.now none)) c.uncovered_end.ensures
+
+pub returns-after-loop-at : goal.returns-after-loop-at
+returns-after-loop-at m c = grind (arith, common_steps)

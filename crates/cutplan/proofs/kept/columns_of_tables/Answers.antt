@@ -1,4 +1,5 @@
-use Rattle.std.proofs.Common.{◌≤◌, length, subst, sym}
+use Rattle.std.proofs.lemmas.Grind.{common_steps}
+use Rattle.std.proofs.Common.{◌≤◌, length, subst, sym, arith}
 use Rattle.cutplan.proofs.Keeping.{more_tables}
 use Rattle.cutplan.proofs.kept.columns_of_tables.Goals as goal
 
@@ -9,3 +10,6 @@ loop-table-preserved c =
 
 pub kept_columns-requires : goal.kept_columns-requires
 kept_columns-requires c = subst (λ t. length t.rules ≤ 256) (sym c.table-item.is) (c.requires c.loop-table.table-index c.table-item.result c.loop-table-test.true)
+
+pub returns : goal.returns
+returns c = grind (arith, common_steps)

@@ -1,5 +1,4 @@
-use Rattle.std.proofs.Common.{◌≡◌, true, false}
-use Rattle.cutplan.specs.Masks.{has_rule}
+use Rattle.std.proofs.Common.{sym, ◌∙◌}
 use Rattle.cutplan.proofs.FewSets.{with_rule, without_rule}
 use Rattle.cutplan.proofs.sets.rules_of.Goals.{then-has_rule+in_ok-push, else-has_rule}
 use Rattle.cutplan.proofs.sets.rules_of.Goals as goal
@@ -10,12 +9,6 @@ loop-rule-preserved c =
     let rule = c.loop-rule.rule in
     let rules = c.loop-rule.rules in
     elim c.if-has_rule.branch [
-      | then-has_rule+in_ok-push w ↦
-          let has : has_rule mask rule ≡ true = cc in
-          let step = with_rule mask rule rules _ c.loop-rule.invariant has w.in_ok-push.ensures.ok in
-          cc
-      | else-has_rule w ↦
-          let has : has_rule mask rule ≡ false = cc in
-          let step = without_rule mask rule rules c.loop-rule.invariant has in
-          cc
+      | then-has_rule+in_ok-push w ↦ w.rules-is ∙ with_rule mask rule rules _ c.loop-rule.invariant (sym c.has_rule.ensures ∙ w.if-has_rule.true) w.in_ok-push.ensures.ok
+      | else-has_rule w ↦ w.rules-is ∙ without_rule mask rule rules c.loop-rule.invariant (sym c.has_rule.ensures ∙ w.if-has_rule.false)
     ]
