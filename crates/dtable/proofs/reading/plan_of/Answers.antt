@@ -37,3 +37,10 @@ new-requires c =
     let roles = rw (c.has_families-families.ensures, c.as_slice-2.ensures, c.as_slice-3.ensures) at c.in_ok-roles.ensures in
     IsPlan-of (view c.args.document.now) (record { version = c.in_ok-version.version; names = c.in_ok-names.names; tables = c.in_ok-tables.tables; roles = c.in_ok-roles.roles })
     (plan_made (view c.args.document.now) c.in_ok-version.version c.in_ok-names.names c.in_ok-tables.tables c.in_ok-roles.roles c.in_ok-version.ensures names tables roles)
+
+pub returns : goal.returns
+returns c =
+    let tables = rw c.as_slice.ensures at c.in_ok-tables.ensures in
+    let names = rw c.has_families-families.ensures at c.in_ok-names.ensures in
+    let roles = rw (c.has_families-families.ensures, c.as_slice-2.ensures, c.as_slice-3.ensures) at c.in_ok-roles.ensures in
+    rw c.new.ensures (plan_made (view c.args.document.now) c.in_ok-version.version c.in_ok-names.names c.in_ok-tables.tables c.in_ok-roles.roles c.in_ok-version.ensures names tables roles)

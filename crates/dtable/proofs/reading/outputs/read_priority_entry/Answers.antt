@@ -12,3 +12,6 @@ returns-in_err-value c =
 pub returns-then-is_listed : goal.returns-then-is_listed
 returns-then-is_listed c _ =
     IsPriority-listed c.text_spells_at_most_one_value.ensures c.args.kind c.args.front.now (view c.args.entry.now) c.in_ok-value.value c.in_ok-value.ensures (sym c.is_listed.ensures ∙ c.if-is_listed.true)
+
+pub returns : goal.returns
+returns c = record { literal = c.in_ok-value.ensures; new = sym c.is_listed.ensures ∙ c.if-is_listed.false }

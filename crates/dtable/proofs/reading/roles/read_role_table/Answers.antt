@@ -20,3 +20,15 @@ pub returns-in_err-family : goal.returns-in_err-family
 returns-in_err-family c =
     let p = err_from_is_err_and c.from_residual-in_err-family.result c.from_residual-in_err-family.ensures.1 in
     rw (p.1, p.2) (λ memory r h. c.in_err-family.ensures memory r.family h.family)
+
+pub returns : goal.returns
+returns c = record {
+  cover = c.in_ok-benefits.ensures.cover;
+  fee = c.in_ok-benefits.ensures.fee;
+  deductible = c.in_ok-benefits.ensures.deductible;
+  copay = c.in_ok-shares.ensures.copay;
+  rate = c.in_ok-shares.ensures.rate;
+  oop_max = c.in_ok-shares.ensures.oop_max;
+  remarks = c.in_ok-remarks.ensures;
+  family = c.in_ok-family.ensures;
+}

@@ -1,4 +1,4 @@
-use Rattle.std.proofs.Common.{◌≡◌, false}
+use Rattle.std.proofs.Common.{◌≡◌, false, rules}
 use Rattle.std.proofs.lemmas.Result.{err_from_is_err_and}
 use Rattle.toml.specs.View.{view}
 use Rattle.dtable.specs.Plan.{is_ranked}
@@ -14,3 +14,6 @@ pub returns-then-not-is_ranked : goal.returns-then-not-is_ranked
 returns-then-not-is_ranked c _ =
     let unlisted : is_ranked c.args.output.now.priority c.in_ok-value.value ≡ false = cc in
     IsEntry-unlisted c.text_spells_at_most_one_value.ensures c.args.output.now (view c.args.entry.now) c.in_ok-value.value c.in_ok-value.ensures unlisted
+
+pub returns : goal.returns
+returns c = record { literal = c.in_ok-value.ensures; listed = search rules }

@@ -1,4 +1,4 @@
-use Rattle.std.proofs.Common.{◌≡◌, false, map}
+use Rattle.std.proofs.Common.{◌≡◌, false, map, rules}
 use Rattle.std.proofs.lemmas.Result.{err_from_is_err_and}
 use Rattle.toml.specs.View.{view}
 use Rattle.dtable.specs.Plan.{meets_demands}
@@ -36,3 +36,14 @@ returns-in_err-rules c =
     let columns : HasColumns c.args.names.now (map seen_of c.args.front.now) (view c.args.entry.now) c.in_ok-hit.hit c.in_ok-inputs.inputs c.in_ok-outputs.outputs =
     record { word = c.in_ok-hit.ensures; inputs = c.in_ok-inputs.ensures; outputs = c.in_ok-outputs.ensures } in
     rw (p.1, p.2) (λ memory. IsTable-no_rules c.text_spells_at_most_one_value.ensures c.text_spells_at_most_one_cell.ensures c.args.names.now (map seen_of c.args.front.now) (view c.args.entry.now) c.in_ok-hit.hit c.in_ok-inputs.inputs c.in_ok-outputs.outputs columns (none memory))
+
+pub returns : goal.returns
+returns c =
+    let met = rw c.as_slice-2.ensures at c.meets_demands.ensures in
+    record {
+      hit = c.in_ok-hit.ensures;
+      inputs = c.in_ok-inputs.ensures;
+      outputs = c.in_ok-outputs.ensures;
+      demands = search rules;
+      rules = rw (c.as_slice-3.ensures, c.as_slice-4.ensures) at c.in_ok-rules.ensures;
+    }
