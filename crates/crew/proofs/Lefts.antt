@@ -187,3 +187,8 @@ room_more old mid new claims number place claim h gives fits within small =
     let before = h.fewer within in
     let told = gives.is_row.0 in
     omega (arith, size, before, told, fits, h.place)
+
+-- the first of the claims that come next stands at its place, and the others come behind it
+pub next_first : (T : Terms) (provider place : ℕ) (claims rest : List Claim) (claim : Claim) → claims ≡ claim ∷ rest → AreNext T provider place claims
+    → (slice_get (claims_of T provider) place ≡ Some claim) × AreNext T provider (place + 1) rest
+next_first T provider place claims rest claim is next = subst (AreNext T provider place) is next

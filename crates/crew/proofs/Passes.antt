@@ -61,3 +61,9 @@ module _ {P : Type 0} (has_pass : P → Type 0) (known : P → Known) where
       → IfErr answer (LeavesWith has_pass known b) → IfErr answer (LeavesWith has_pass known a)
   leaves_later_where_err a b (Ok value) first later = tt
   leaves_later_where_err a b (Err left) first later = leaves_later a b left first later
+
+  -- of an answer that has something beside the pass
+  pub further_beside : {A E : Type 0} (a b : P) (answer : Result (A × P) E) → GoesOn has_pass known a b → IfOk answer (λ r. GoesOn has_pass known b r.1)
+      → IfOk answer (λ r. GoesOn has_pass known a r.1)
+  further_beside a b (Ok r) first later = further a b r.1 first later
+  further_beside a b (Err left) first later = tt

@@ -9,7 +9,7 @@ use Rattle.settlement.specs.declared.outcome.Outcome.{Outcome}
 use Rattle.intake_csv.specs.Laws.{ClaimsHaveFields}
 use Rattle.journal.specs.Terms.{Terms}
 use Rattle.journal.specs.Events.{closed, decided, ended, is_decide, place_in, places, taken}
-use Rattle.journal.specs.Gate.{GateAt, Continues, OfferReply, Offers, EndReply, Ends, TakeReply, Takes, FinishReply, Finishes, LeadsTo}
+use Rattle.journal.specs.Gate.{GateAt, Continues, OfferReply, Offers, EndReply, Ends, TakeReply, Takes, FinishReply, Finishes, Stops, LeadsTo}
 use Rattle.journal.specs.Lawful.{Finished, closing}
 use Rattle.journal.specs.declared.event.Event.{Event}
 use Rattle.journal.specs.declared.event.Event.TheVariants.{Accept, End, Take, Decide}
@@ -88,6 +88,10 @@ module _ (parts : TermsParts) (there : ¬ ForTerms parts (λ T. ⊥)) where
     stopped_seen w = holds after.seen.stopped (λ T is.
         let r = went (λ old new. (old.stopped ≡ true) × (new ≡ old)) w T is in
         ap (λ (g : GateAt). g.stopped) r.1 ∙ r.0)
+
+    -- the section stops it
+    pub stops_seen : Went Stops after → after.seen.stopped ≡ true
+    stops_seen w = holds after.seen.stopped (λ T is. ap (λ (g : GateAt). g.stopped) (went Stops w T is))
 
     pub stopped_shut : Went (λ old new. (old.stopped ≡ true) × (new ≡ old)) after → is_shut after.seen ≡ true
     stopped_shut w = or_left after.seen.stopped (closed after.seen.journal) (stopped_seen w)

@@ -10,7 +10,6 @@ use std::sync::Wait;
 pub(crate) const TRIES: u32 = 2;
 
 /// Stops the gate, so that all threads leave. Where its lock is worn, no thread can call it any more.
-#[tactic(auto, using(crate::proofs::Sections::led))]
 pub(crate) fn stop<R: Wait, G: Gate>(rt: &R, terms: &Terms, gate: &G, pass: G::Pass) -> G::Pass
     requires own { G.has_pass gate.now pass }
     requires terms { (G.known pass).seen.terms ≡ terms.now }

@@ -1,0 +1,30 @@
+use Rattle.std.proofs.Common.{inl, inr}
+use Rattle.crew.proofs.Passes.{unchanged}
+use Rattle.crew.proofs.Sections.{led, stops_seen}
+use Rattle.crew.proofs.stopping.stop.Goals as goal
+
+pub returns-in-Ok-clause-own : goal.returns-in-Ok-clause-own
+returns-in-Ok-clause-own g c = c.in-Ok.ensures.served.own
+
+pub returns-in-Ok-clause-seen : goal.returns-in-Ok-clause-seen
+returns-in-Ok-clause-seen g c = led (g.G.Gate.known c.args.pass) (g.G.Gate.known c.in-Ok.pass) c.in-Ok.ensures.served.section
+
+pub returns-in-Ok-clause-stopped : goal.returns-in-Ok-clause-stopped
+returns-in-Ok-clause-stopped g c =
+    inl (stops_seen c.args.terms.now c.terms_are_seen.ensures (g.G.Gate.known c.args.pass) (g.G.Gate.known c.in-Ok.pass) c.requires.terms
+    c.in-Ok.ensures.served.section c.in-Ok.ensures.stopped)
+
+pub returns-in-Err-clause-own : goal.returns-in-Err-clause-own
+returns-in-Err-clause-own g c =
+    let worn = rw c.in-Err.is at c.stop.ensures.worn in
+    worn.own
+
+pub returns-in-Err-clause-seen : goal.returns-in-Err-clause-seen
+returns-in-Err-clause-seen g c =
+    let worn = rw c.in-Err.is at c.stop.ensures.worn in
+    (unchanged (g.G.Gate.has_pass c.args.gate.now) g.G.Gate.known c.args.pass c.in-Err.pass worn.own worn.same).seen
+
+pub returns-in-Err-clause-stopped : goal.returns-in-Err-clause-stopped
+returns-in-Err-clause-stopped g c =
+    let worn = rw c.in-Err.is at c.stop.ensures.worn in
+    inr worn.worn
