@@ -94,7 +94,6 @@ pub(crate) fn work<R: Wait, G: Gate>(
 
 // A row of calls: records what is settled, and takes as many claims as there are to be had. Their room is made before the turn
 // begins, for as many as the last time, and the claims that are decided are let go behind it.
-#[tactic(auto, using(crate::proofs::Passes::further, crate::proofs::Passes::leaves_later))]
 fn take_turn<R: Wait, G: Gate>(
     rt: &R,
     alloc: Global,

@@ -2,7 +2,7 @@ use Rattle.std.proofs.Common.{◌∙◌, ◌++◌, ◌∷◌, [], rules}
 use Rattle.std.proofs.lemmas.List.Elements.{All-push, All-same}
 use Rattle.crew.specs.Sharing.{IsInWork}
 use Rattle.crew.proofs.Held.{all_in_work_stay}
-use Rattle.crew.proofs.Passes.{further}
+use Rattle.crew.proofs.Passes.{further, leaves_for_memory, leaves_later}
 use Rattle.crew.proofs.worker.gather.Goals as goal
 
 pub returns-in-NothingReady-clause-gathered : goal.returns-in-NothingReady-clause-gathered
@@ -21,3 +21,30 @@ calls-preserved g c =
       All-same P c.push.new.self.items (c.calls.jobs.items ++ c.in-Work.job ∷ []) (search rules)
           (All-push P c.calls.jobs.items c.in-Work.job (all_in_work_stay c.jobs_stay.ensures before after c.calls.jobs.items on.goes_on.seen c.calls.invariant.2) here),
     )
+
+pub returns-in-Err-clause-leaves : goal.returns-in-Err-clause-leaves
+returns-in-Err-clause-leaves g c =
+    leaves_later (g.G.Gate.has_pass c.args.gate.now) g.G.Gate.known c.args.pass c.calls.pass c.in-Err.left c.calls.invariant.0 c.in-Err.ensures.leaves
+
+pub returns-in-Over-clause-goes_on : goal.returns-in-Over-clause-goes_on
+returns-in-Over-clause-goes_on g c =
+    further (g.G.Gate.has_pass c.args.gate.now) g.G.Gate.known c.args.pass c.calls.pass c.in-Ok.taken.1 c.calls.invariant.0 c.in-Ok.ensures.goes_on
+
+pub returns-in-Over-clause-gathered : goal.returns-in-Over-clause-gathered
+returns-in-Over-clause-gathered g c = rw c.in-Over.is at c.in-Ok.ensures.task
+
+pub returns-in-NothingReady-clause-goes_on : goal.returns-in-NothingReady-clause-goes_on
+returns-in-NothingReady-clause-goes_on g c =
+    further (g.G.Gate.has_pass c.args.gate.now) g.G.Gate.known c.args.pass c.calls.pass c.in-Ok.taken.1 c.calls.invariant.0 c.in-Ok.ensures.goes_on
+
+pub returns-in_default-clause-leaves : goal.returns-in_default-clause-leaves
+returns-in_default-clause-leaves g c =
+    let own = g.G.Gate.has_pass c.args.gate.now in
+    let known = g.G.Gate.known in
+    leaves_for_memory own known c.args.pass c.in-Ok.taken.1 (further own known c.args.pass c.calls.pass c.in-Ok.taken.1 c.calls.invariant.0 c.in-Ok.ensures.goes_on)
+
+pub returns-clause-goes_on : goal.returns-clause-goes_on
+returns-clause-goes_on g c = c.calls.invariant.0
+
+pub returns-clause-gathered : goal.returns-clause-gathered
+returns-clause-gathered g c = c.calls.invariant.2

@@ -3,7 +3,7 @@ use Rattle.std.proofs.lemmas.List.Elements.{All-head, All-same, All-tail}
 use Rattle.std.specs.Vec.Iter.{into_iter_items}
 use Rattle.crew.specs.Sharing.{IsSettledIn}
 use Rattle.crew.proofs.Held.{all_settled_stay}
-use Rattle.crew.proofs.Passes.{further}
+use Rattle.crew.proofs.Passes.{further, leaves_later}
 use Rattle.crew.proofs.worker.record_all.Goals as goal
 
 pub record-requires-clause-settled : goal.record-requires-clause-settled
@@ -24,3 +24,16 @@ loop-one-preserved g c =
       all_settled_stay c.jobs_stay.ensures before after rest on.goes_on.seen
           (All-tail P c.in-Some.one rest (All-same P (c.in-Some.one ∷ rest) (into_iter_items c.loop-one.one-iterator) (sym c.in-Some.ensures.steps.0) c.loop-one.invariant.2)),
     )
+
+pub record-requires-clause-own : goal.record-requires-clause-own
+record-requires-clause-own g c κs within = c.loop-one.invariant.0.own
+
+pub record-requires-clause-terms : goal.record-requires-clause-terms
+record-requires-clause-terms g c κs within = c.loop-one.invariant.1
+
+pub returns-in-Err-clause-leaves : goal.returns-in-Err-clause-leaves
+returns-in-Err-clause-leaves g c =
+    leaves_later (g.G.Gate.has_pass c.args.gate.now) g.G.Gate.known c.args.pass c.loop-one.pass c.in-Err.left c.loop-one.invariant.0 c.in-Err.ensures.leaves
+
+pub returns-clause-goes_on : goal.returns-clause-goes_on
+returns-clause-goes_on g c = c.loop-one.invariant.0

@@ -1,0 +1,40 @@
+use Rattle.std.proofs.Common.{refl, ◌∙◌}
+use Rattle.crew.proofs.Passes.{further_beside, leaves_for_memory, leaves_later_where_err, unchanged}
+use Rattle.crew.proofs.worker.take_turn.Goals as goal
+
+pub returns-in_default-clause-leaves : goal.returns-in_default-clause-leaves
+returns-in_default-clause-leaves g c =
+    let own = g.G.Gate.has_pass c.args.gate.now in
+    let known = g.G.Gate.known in
+    leaves_for_memory own known c.args.pass c.args.pass (unchanged own known c.args.pass c.args.pass c.requires.own refl)
+
+pub returns-in_default-with_capacity-clause-leaves : goal.returns-in_default-with_capacity-clause-leaves
+returns-in_default-with_capacity-clause-leaves g c =
+    let own = g.G.Gate.has_pass c.args.gate.now in
+    let known = g.G.Gate.known in
+    leaves_for_memory own known c.args.pass c.args.pass (unchanged own known c.args.pass c.args.pass c.requires.own refl)
+
+pub record_all-requires-clause-settled : goal.record_all-requires-clause-settled
+record_all-requires-clause-settled g c κs within = c.requires.settled
+
+pub returns-in-Err-clause-leaves : goal.returns-in-Err-clause-leaves
+returns-in-Err-clause-leaves g c = c.in-Err.ensures.leaves
+
+pub gather-requires-clause-own : goal.gather-requires-clause-own
+gather-requires-clause-own g c κs within = c.in-Ok-record_all.ensures.goes_on.own
+
+pub gather-requires-clause-terms : goal.gather-requires-clause-terms
+gather-requires-clause-terms g c κs within = c.in-Ok-record_all.ensures.goes_on.seen.terms ∙ c.requires.terms
+
+pub returns-clause-goes_on : goal.returns-clause-goes_on
+returns-clause-goes_on g c =
+    further_beside (g.G.Gate.has_pass c.args.gate.now) g.G.Gate.known c.args.pass c.in-Ok-record_all.pass c.gather.result c.in-Ok-record_all.ensures.goes_on
+    c.gather.ensures.goes_on
+
+pub returns-clause-gathered : goal.returns-clause-gathered
+returns-clause-gathered g c = c.gather.ensures.gathered
+
+pub returns-clause-leaves : goal.returns-clause-leaves
+returns-clause-leaves g c =
+    leaves_later_where_err (g.G.Gate.has_pass c.args.gate.now) g.G.Gate.known c.args.pass c.in-Ok-record_all.pass c.gather.result
+    c.in-Ok-record_all.ensures.goes_on c.gather.ensures.leaves
