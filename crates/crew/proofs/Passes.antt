@@ -1,12 +1,22 @@
 -- How passes go on, one after another, up to where a thread leaves a run.
-use Rattle.std.proofs.Common.{◌≡◌, ◌≢◌, true, Result, Ok, Err, subst, sym}
-use Rattle.std.specs.Prelude.{IfOk, IfErr}
+use Rattle.std.proofs.Common.{◌≡◌, ◌≢◌, ℕ, true, Result, Ok, Err, subst, sym}
+use Rattle.std.specs.Prelude.{◌↔◌, IfOk, IfErr}
 use Rattle.journal.specs.Gate.{LeadsTo}
 use Rattle.journal.specs.Leading.{leads_further, leads_itself}
 use Rattle.claim_gate.specs.Shared.{IsServed, IsWornOut, Known}
 use Rattle.crew.specs.Passes.{GoesOn, LeavesWith}
+use Rattle.crew.specs.Workers.{IsWorkerCount}
 use Rattle.crew.specs.declared.fault.RunFault.{RunFault}
 use Rattle.crew.specs.declared.fault.RunFault.TheVariants.{Workers, OutOfMemory, Worn, Stopped}
+
+-- what an answer has under a premise, where that is known
+pub under_known : {A E : Type 0} (X : Type 0) (Y : A → Type 0) (answer : Result A E) → X → IfOk answer (λ value. X → Y value) → IfOk answer Y
+under_known X Y (Ok value) known has = has known
+under_known X Y (Err left) known has = tt
+
+-- a fault of a run that has as many workers as it may have
+pub not_for_workers : (workers : ℕ) (fault : RunFault) → IsWorkerCount workers → fault ≢ Workers → (fault ≡ Workers) ↔ (¬ IsWorkerCount workers)
+not_for_workers workers fault is other = (λ same. absurd (other same), λ isnt. absurd (isnt is))
 
 module _ {P : Type 0} (has_pass : P → Type 0) (known : P → Known) where
   -- a pass that has had a section

@@ -44,11 +44,19 @@ pub fn run<'t, R: Threads + Wait + Sync>(
     // Known from here: the texts have lists of claims, so that what holds for each list says something.
     terms_are_seen(terms);
     // Behind a pointer the gate goes in and out of the lock as one word.
-    let Ok(state) = Box::new(alloc, GateState::new(alloc, terms)?) else {
+    let Ok(state) = GateState::new(alloc, terms) else {
         return Err(RunFault::OutOfMemory);
     };
-    let (lock, pass) = TicketLock::new(alloc, state)?;
-    let state = run_behind(rt, alloc, terms, workers, lock, pass)?;
+    let Ok(state) = Box::new(alloc, state) else {
+        return Err(RunFault::OutOfMemory);
+    };
+    let Ok((lock, pass)) = TicketLock::new(alloc, state) else {
+        return Err(RunFault::OutOfMemory);
+    };
+    let state = match run_behind(rt, alloc, terms, workers, lock, pass) {
+        Ok(state) => state,
+        Err(fault) => return Err(fault),
+    };
     match Batch::from_state(Box::into_inner(state), terms) {
         Ok(batch) => Ok(batch),
         Err(_) => unreachable!(),

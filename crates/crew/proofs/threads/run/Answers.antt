@@ -1,5 +1,4 @@
 use Rattle.std.proofs.Common.{rules, List}
-use Rattle.std.proofs.lemmas.Result.{err_from_is_err_and}
 use Rattle.claim_terms.specs.Terms.{ForTerms, TermsParts}
 use Rattle.journal.specs.Lawful.{Finished}
 use Rattle.journal.specs.declared.event.Event.{Event}
@@ -11,9 +10,5 @@ not_both parts J seen finished unfinished = seen (λ T is. unfinished T is (fini
 
 pub unreachable-requires : goal.unreachable-requires
 unreachable-requires g c =
-    not_both c.args.terms.now c.into_inner.result.journal c.terms_are_seen.ensures (search rules) c.in-Err.ensures.unfinished
-
-pub returns-in_err-state-clause-refused : goal.returns-in_err-state-clause-refused
-returns-in_err-state-clause-refused g c =
-    let stopped = err_from_is_err_and c.from_residual-in_err-state.result c.from_residual-in_err-state.ensures.1 in
-    rw stopped.1 (search rules)
+    not_both c.args.terms.now c.into_inner.result.journal c.terms_are_seen.ensures (rw c.into_inner.ensures c.in-Ok-run_behind.ensures.finished)
+    c.in-Err-from_state.ensures.unfinished
