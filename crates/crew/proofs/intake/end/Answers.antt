@@ -1,5 +1,5 @@
-use Rattle.std.proofs.Common.{◌∙◌, arith}
-use Rattle.crew.proofs.Passes.{after_section, section_later, worn_later}
+use Rattle.std.proofs.Common.{refl, ◌∙◌, arith}
+use Rattle.crew.proofs.Passes.{after_section, leaves_for_memory, section_later, unchanged, worn_later}
 use Rattle.crew.proofs.Sections.{already_past, ends_past, no_fewer, none_lacks}
 use Rattle.crew.proofs.intake.end.Goals as goal
 
@@ -53,3 +53,16 @@ returns-in-Err-Closed-clause-goes_on g c =
 pub returns-in-Err-Stopped-clause-goes_on : goal.returns-in-Err-Stopped-clause-goes_on
 returns-in-Err-Stopped-clause-goes_on g c =
     section_later (g.G.Gate.has_pass c.args.gate.now) g.G.Gate.known c.args.pass c.tries.pass c.in-Ok.answer.1 c.tries.invariant.0 c.in-Ok.ensures.served
+
+pub tries-init : goal.tries-init
+tries-init g c = (
+  unchanged (g.G.Gate.has_pass c.args.gate.now) g.G.Gate.known c.args.pass c.args.pass c.requires.own refl,
+  c.requires.terms,
+  c.requires.taken,
+)
+
+pub end-requires-clause-claims : goal.end-requires-clause-claims
+end-requires-clause-claims g c = rw c.tries.invariant.1 c.requires.claims
+
+pub returns-clause-leaves : goal.returns-clause-leaves
+returns-clause-leaves g c = leaves_for_memory (g.G.Gate.has_pass c.args.gate.now) g.G.Gate.known c.args.pass c.tries.pass c.tries.invariant.0

@@ -1,5 +1,5 @@
-use Rattle.std.proofs.Common.{◌∙◌, arith}
-use Rattle.crew.proofs.Passes.{after_section, section_later, worn_later}
+use Rattle.std.proofs.Common.{refl, ◌∙◌, arith}
+use Rattle.crew.proofs.Passes.{after_section, leaves_for_memory, section_later, unchanged, worn_later}
 use Rattle.crew.proofs.Sections.{accepts_on, closed_to, goes_on, no_fewer, stopped_to}
 use Rattle.crew.proofs.intake.offer.Goals as goal
 
@@ -60,3 +60,17 @@ returns-in-Err-Stopped-default-clause-next g c =
     stopped_to c.args.terms.now c.terms_are_seen.ensures (g.G.Gate.known c.tries.pass) (g.G.Gate.known c.in-Ok.answer.1) c.tries.invariant.1 c.in-Ok.ensures.served.section
     c.args.offer.provider c.args.offer.place c.in-Ok.answer.0 c.in-Err-Stopped-default.field-0-0 c.in-Err-Stopped-default.field-0-1
     c.in-Err-Stopped-default.is c.in-Err-Stopped-default.field-0-0-is (rw c.tries.invariant.2 at c.in-Ok.ensures.reply)
+
+pub tries-init : goal.tries-init
+tries-init g c = (
+  unchanged (g.G.Gate.has_pass c.args.gate.now) g.G.Gate.known c.args.pass c.args.pass c.requires.own refl,
+  c.requires.terms,
+  refl,
+  c.requires.taken,
+)
+
+pub offer-requires-clause-filed : goal.offer-requires-clause-filed
+offer-requires-clause-filed g c = rw (c.tries.invariant.1, c.tries.invariant.2) c.requires.filed
+
+pub returns-clause-leaves : goal.returns-clause-leaves
+returns-clause-leaves g c = leaves_for_memory (g.G.Gate.has_pass c.args.gate.now) g.G.Gate.known c.args.pass c.tries.pass c.tries.invariant.0

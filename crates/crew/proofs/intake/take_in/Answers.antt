@@ -1,6 +1,6 @@
 use Rattle.std.proofs.Common.{◌≡◌, ◌<◌, ◌+◌, ◌^◌, length, refl, arith, rules, ◌∙◌}
 use Rattle.crew.proofs.Lefts.{behind_offers, first_offer, left_none}
-use Rattle.crew.proofs.Passes.{further, further_where_ok, leaves_later, leaves_later_where_err, unchanged}
+use Rattle.crew.proofs.Passes.{further, further_where_ok, leaves_by, leaves_for_memory, leaves_later, leaves_later_where_err, unchanged}
 use Rattle.crew.proofs.intake.take_in.Goals as goal
 
 pub loop-ahead-init : goal.loop-ahead-init
@@ -59,3 +59,35 @@ end-requires-clause-claims g c κs within T is =
     let behind = (c.in-Ok-read_ahead.ensures.ahead.next T c.args.provider c.loop-ahead.count (c.loop-ahead.invariant.1.claims T is)).1 in
     rw size (left_none c.no_records_give_no_rows.ensures c.args.terms.now T c.args.provider (c.loop-ahead.count + length c.in-Ok-read_ahead.ahead.claims.items) c.read_ahead.new.rows
     is c.requires.least c.requires.most (c.in-Ok-read_ahead.ensures.last c.if-is_last.true) behind)
+
+pub returns-in-Err-clause-leaves : goal.returns-in-Err-clause-leaves
+returns-in-Err-clause-leaves g c =
+    let own = g.G.Gate.has_pass c.args.gate.now in
+    let known = g.G.Gate.known in
+    leaves_by own known c.args.pass c.args.pass c.in-Err.fault (unchanged own known c.args.pass c.args.pass c.requires.own refl) (λ is. cc c.in-Err.ensures.fault)
+    (λ is. cc c.in-Err.ensures.fault)
+
+pub returns-in_default-clause-leaves : goal.returns-in_default-clause-leaves
+returns-in_default-clause-leaves g c =
+    leaves_for_memory (g.G.Gate.has_pass c.args.gate.now) g.G.Gate.known c.args.pass c.loop-ahead.pass c.loop-ahead.invariant.0
+
+pub offer_all-requires-clause-own : goal.offer_all-requires-clause-own
+offer_all-requires-clause-own g c κs within = c.loop-ahead.invariant.0.own
+
+pub offer_all-requires-clause-terms : goal.offer_all-requires-clause-terms
+offer_all-requires-clause-terms g c κs within = c.loop-ahead.invariant.1.of_terms
+
+pub offer_all-requires-clause-filed : goal.offer_all-requires-clause-filed
+offer_all-requires-clause-filed g c κs within T is = (c.in-Ok-read_ahead.ensures.ahead.next T c.args.provider c.loop-ahead.count (c.loop-ahead.invariant.1.claims T is)).0
+
+pub offer_all-requires-clause-taken : goal.offer_all-requires-clause-taken
+offer_all-requires-clause-taken g c κs within = c.loop-ahead.invariant.1.has_taken
+
+pub offer_all-requires-clause-reached : goal.offer_all-requires-clause-reached
+offer_all-requires-clause-reached g c κs within = c.loop-ahead.invariant.1.reached
+
+pub end-requires-clause-own : goal.end-requires-clause-own
+end-requires-clause-own g c κs within = c.in-Ok-Some-default.ensures.goes_on.own
+
+pub end-requires-clause-terms : goal.end-requires-clause-terms
+end-requires-clause-terms g c κs within = c.in-Ok-Some-default.ensures.goes_on.seen.terms ∙ c.loop-ahead.invariant.1.of_terms

@@ -1,7 +1,7 @@
-use Rattle.std.proofs.Common.{◌∙◌}
+use Rattle.std.proofs.Common.{refl, ◌∙◌}
 use Rattle.crew.specs.declared.worker.Settled.{Settled}
 use Rattle.crew.proofs.Held.{settled_stays}
-use Rattle.crew.proofs.Passes.{after_section, leaves_stopped, section_later, worn_later}
+use Rattle.crew.proofs.Passes.{after_section, leaves_for_memory, leaves_stopped, section_later, unchanged, worn_later}
 use Rattle.crew.proofs.Sections.{already_seen, recorded_seen, refused_seen}
 use Rattle.crew.proofs.worker.record.Goals as goal
 
@@ -54,3 +54,24 @@ returns-in-Err-AlreadyDecided-default-default-clause-decided g c =
     c.args.settled.job.position c.tries.outcome c.in-Ok.answer.0 c.in-Err-AlreadyDecided-default-default.field-0-0 c.in-Err-AlreadyDecided-default-default.field-0-1
     c.in-Err-AlreadyDecided-default-default.field-0-2 c.in-Err-AlreadyDecided-default-default.is c.in-Err-AlreadyDecided-default-default.field-0-0-is
     (rw c.tries.invariant.2 at c.in-Ok.ensures.reply)
+
+pub tries-init : goal.tries-init
+tries-init g c = (
+  unchanged (g.G.Gate.has_pass c.args.gate.now) g.G.Gate.known c.args.pass c.args.pass c.requires.own refl,
+  c.requires.terms,
+  refl,
+  refl,
+  c.requires.settled,
+)
+
+pub finish-requires-clause-in_work : goal.finish-requires-clause-in_work
+finish-requires-clause-in_work g c = c.tries.invariant.4.in_work.in_work
+
+pub finish-requires-clause-job : goal.finish-requires-clause-job
+finish-requires-clause-job g c = c.tries.invariant.4.in_work.is_job
+
+pub finish-requires-clause-settled : goal.finish-requires-clause-settled
+finish-requires-clause-settled g c = c.tries.invariant.4.value
+
+pub returns-clause-leaves : goal.returns-clause-leaves
+returns-clause-leaves g c = leaves_for_memory (g.G.Gate.has_pass c.args.gate.now) g.G.Gate.known c.args.pass c.tries.pass c.tries.invariant.0

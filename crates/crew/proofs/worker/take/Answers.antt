@@ -1,5 +1,5 @@
-use Rattle.std.proofs.Common.{rules, ◌∙◌}
-use Rattle.crew.proofs.Passes.{after_section, leaves_stopped, section_later, worn_later}
+use Rattle.std.proofs.Common.{refl, rules, ◌∙◌}
+use Rattle.crew.proofs.Passes.{after_section, leaves_for_memory, leaves_stopped, section_later, unchanged, worn_later}
 use Rattle.crew.proofs.Sections.{over_seen, stopped_seen, work_seen}
 use Rattle.crew.proofs.worker.take.Goals as goal
 
@@ -51,3 +51,12 @@ returns-in-Ok-Stopped-clause-leaves g c =
 
 pub returns-in-Ok-NothingReady-clause-task : goal.returns-in-Ok-NothingReady-clause-task
 returns-in-Ok-NothingReady-clause-task g c = search rules
+
+pub tries-init : goal.tries-init
+tries-init g c = (
+  unchanged (g.G.Gate.has_pass c.args.gate.now) g.G.Gate.known c.args.pass c.args.pass c.requires.own refl,
+  c.requires.terms,
+)
+
+pub returns-clause-leaves : goal.returns-clause-leaves
+returns-clause-leaves g c = leaves_for_memory (g.G.Gate.has_pass c.args.gate.now) g.G.Gate.known c.args.pass c.tries.pass c.tries.invariant.0
