@@ -1,7 +1,7 @@
-use Rattle.std.proofs.Common.{◌≡◌, ◌+◌, length, ap, refl, ◌∙◌, arith, rules}
+use Rattle.std.proofs.Common.{length, ap, ◌∙◌, arith}
 use Rattle.std.specs.Vec.Iter.{into_iter_items}
 use Rattle.crew.proofs.Lefts.{next_first}
-use Rattle.crew.proofs.Passes.{further, leaves_later, unchanged}
+use Rattle.crew.proofs.Passes.{further, leaves_later}
 use Rattle.crew.proofs.intake.offer_each.Goals as goal
 
 pub overflow_add-place : goal.overflow_add-place

@@ -1,4 +1,4 @@
-use Rattle.std.proofs.Common.{rules, List}
+use Rattle.std.proofs.Common.{List}
 use Rattle.claim_terms.specs.Terms.{ForTerms, TermsParts}
 use Rattle.journal.specs.Lawful.{Finished}
 use Rattle.journal.specs.declared.event.Event.{Event}

@@ -27,7 +27,7 @@ returns-then-is_err g c =
     let known = g.G.Gate.known in
     let mine = c.split-mine.result.0 in
     let split = further own known c.captures.pass c.threads.own mine c.threads.invariant.0
-        (unchanged own known c.threads.own mine c.split-mine.ensures.own.0 c.split-mine.ensures.known.0) in
+    (unchanged own known c.threads.own mine c.split-mine.ensures.own.0 c.split-mine.ensures.known.0) in
     let here = further own known c.captures.pass mine c.stop-stopped.result split (record { own = c.stop-stopped.ensures.own; seen = c.stop-stopped.ensures.seen }) in record {
       goes_on = further_where_ok own known c.captures.pass c.stop-stopped.result c.take_part.result here c.take_part.ensures.goes_on;
       finished = under_known (length c.captures.terms.now.files ≤ c.captures.threads) (λ p. ForTerms c.captures.terms.now (λ T. Finished T (known p).seen.journal)) c.take_part.result
