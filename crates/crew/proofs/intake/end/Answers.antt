@@ -1,6 +1,6 @@
 use Rattle.std.proofs.Common.{refl, ◌∙◌, arith}
 use Rattle.crew.proofs.Passes.{after_section, leaves_for_memory, section_later, unchanged, worn_later}
-use Rattle.crew.proofs.Sections.{already_past, ends_past, no_fewer, none_lacks}
+use Rattle.crew.proofs.Sections.{already_past, closed_shut, ends_past, no_fewer, none_lacks, shut_past, stopped_shut}
 use Rattle.crew.proofs.intake.end.Goals as goal
 
 pub unreachable-requires : goal.unreachable-requires
@@ -66,3 +66,21 @@ end-requires-clause-claims g c = rw c.tries.invariant.1 c.requires.claims
 
 pub returns-clause-leaves : goal.returns-clause-leaves
 returns-clause-leaves g c = leaves_for_memory (g.G.Gate.has_pass c.args.gate.now) g.G.Gate.known c.args.pass c.tries.pass c.tries.invariant.0
+
+pub returns-in-Err-Closed-clause-past : goal.returns-in-Err-Closed-clause-past
+returns-in-Err-Closed-clause-past g c =
+    let before = g.G.Gate.known c.tries.pass in
+    let after = g.G.Gate.known c.in-Ok.answer.1 in
+    let told = rw c.in-Err-Closed.is at c.in-Err-Closed.field-0-is in
+    let reply = rw (c.in-Err-Closed.is, told) at c.in-Ok.ensures.reply in
+    shut_past c.args.terms.now c.terms_are_seen.ensures before after c.tries.invariant.1 c.in-Ok.ensures.served.section c.args.provider
+    (closed_shut c.args.terms.now c.terms_are_seen.ensures before after c.tries.invariant.1 c.in-Ok.ensures.served.section reply)
+
+pub returns-in-Err-Stopped-clause-past : goal.returns-in-Err-Stopped-clause-past
+returns-in-Err-Stopped-clause-past g c =
+    let before = g.G.Gate.known c.tries.pass in
+    let after = g.G.Gate.known c.in-Ok.answer.1 in
+    let told = rw c.in-Err-Stopped.is at c.in-Err-Stopped.field-0-is in
+    let reply = rw (c.in-Err-Stopped.is, told) at c.in-Ok.ensures.reply in
+    shut_past c.args.terms.now c.terms_are_seen.ensures before after c.tries.invariant.1 c.in-Ok.ensures.served.section c.args.provider
+    (stopped_shut c.args.terms.now c.terms_are_seen.ensures before after c.tries.invariant.1 c.in-Ok.ensures.served.section reply)
