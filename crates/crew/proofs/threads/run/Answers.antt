@@ -1,7 +1,9 @@
-use Rattle.std.proofs.Common.{List}
+use Rattle.std.proofs.Common.{List, refl}
 use Rattle.claim_terms.specs.Terms.{ForTerms, TermsParts}
 use Rattle.journal.specs.Lawful.{Finished}
 use Rattle.journal.specs.declared.event.Event.{Event}
+use Rattle.crew.specs.declared.fault.RunFault.TheVariants.{OutOfMemory}
+use Rattle.crew.proofs.Passes.{not_for_workers}
 use Rattle.crew.proofs.threads.run.Goals as goal
 
 -- a journal that is finished is not unfinished, since there are terms to say so of
@@ -12,3 +14,15 @@ pub unreachable-requires : goal.unreachable-requires
 unreachable-requires g c =
     not_both c.args.terms.now c.into_inner.result.journal c.terms_are_seen.ensures (rw c.into_inner.ensures c.in-Ok-run_behind.ensures.finished)
     c.in-Err-from_state.ensures.unfinished
+
+pub returns-in_default-clause-refused : goal.returns-in_default-clause-refused
+returns-in_default-clause-refused g c = not_for_workers c.args.workers OutOfMemory (c.if-not-may_have.ensures.0 refl) (λ other. cc)
+
+pub returns-in_default-new-clause-refused : goal.returns-in_default-new-clause-refused
+returns-in_default-new-clause-refused g c = not_for_workers c.args.workers OutOfMemory (c.if-not-may_have.ensures.0 refl) (λ other. cc)
+
+pub returns-in_default-new-2-clause-refused : goal.returns-in_default-new-2-clause-refused
+returns-in_default-new-2-clause-refused g c = not_for_workers c.args.workers OutOfMemory (c.if-not-may_have.ensures.0 refl) (λ other. cc)
+
+pub returns-in-Err-clause-refused : goal.returns-in-Err-clause-refused
+returns-in-Err-clause-refused g c = not_for_workers c.args.workers c.in-Err.fault (c.if-not-may_have.ensures.0 refl) c.in-Err.ensures.fault
