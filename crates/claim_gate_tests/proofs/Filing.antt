@@ -1,5 +1,5 @@
 -- The claims of a file, one after another, and jobs in work.
-use Rattle.std.proofs.Common.{◌≡◌, ℕ, zero, suc, ◌<◌, ◌≤◌, ◌+◌, ◌-◌, true, false, List, [], ◌∷◌, ◌++◌, length, get_or, Some, refl, sym, ap, ◌∙◌, subst, arith, append_assoc, append-nil, eq-eqb}
+use Rattle.std.proofs.Common.{◌≡◌, ℕ, zero, suc, ◌<◌, ◌≤◌, ◌+◌, ◌-◌, true, false, List, [], ◌∷◌, ◌++◌, length, get_or, Some, Result, Ok, Err, refl, sym, ap, ◌∙◌, subst, IfOk, arith, append_assoc, append-nil, eq-eqb}
 use Rattle.std.specs.Borrow.{Bor}
 use Rattle.std.specs.List.{AllZip, slice_get}
 use Rattle.std.proofs.lemmas.Bool.{both_ways, or_left}
@@ -14,15 +14,15 @@ use Rattle.journal.specs.Terms.{Terms, claims_of}
 use Rattle.journal.specs.Events.{is_take, taken, IsJob}
 use Rattle.journal.specs.Gate.{GateAt, Continues, TakeReply, Takes, LeadsTo}
 use Rattle.journal.specs.Laws.{JobsStay}
-use Rattle.journal.specs.Leading.{leads_further}
 use Rattle.journal.specs.declared.event.Event.{Event}
 use Rattle.journal.specs.declared.event.Event.TheVariants.{Take}
 use Rattle.claim_gate.specs.Parts.{GateParts, at}
-use Rattle.claim_gate.specs.Replies.{HasClaims, IsWorkOf}
-use Rattle.claim_gate.specs.Shared.{HadSection, Known, Went}
-use Rattle.claim_gate_tests.specs.Words.{IsReader, IsAtWork, WorkStays}
+use Rattle.claim_gate.specs.Replies.{HasClaims, IsWorkOf, take_reply}
+use Rattle.claim_gate_tests.specs.Words.{IsReader, IsAtWork, IsTaken, WorkStays}
 use Rattle.claim_gate.specs.declared.job.Job.{Job}
-use Rattle.claim_gate.specs.declared.reply.Taken.TheVariants.{Work}
+use Rattle.claim_gate.specs.declared.fault.TakeFault.{TakeFault}
+use Rattle.claim_gate.specs.declared.reply.Taken.{Taken}
+use Rattle.claim_gate.specs.declared.reply.Taken.TheVariants.{Stopped, Over, NothingReady, Work}
 use Rattle.claim_gate.proofs.Journals.{any_now}
 use Rattle.claim_gate.proofs.Providers.{as_many_files}
 
@@ -145,23 +145,27 @@ at_work law old new job its is =
           (its T terms);
     })
 
--- a job that a section has taken is in work
-pub work_found : JobsStay → (known : Known) (job : Job) → Went (λ old new. Takes old (TakeReply.Work job.position job.claim job.acc) new) known
-    → IsWorkOf known.found known.seen (Work job) → IsAtWork known.seen job
-work_found law known job went work = at_work law known.found known.seen job (λ T is. (went T is).2.job) work
-
--- what is in work stays so where the state that was seen leads to another one
+-- what is in work stays so where the state leads to another one
 pub stays_at_work : JobsStay → (earlier later : GateParts) (job : Job) → LeadsTo earlier later → IsAtWork earlier job → IsAtWork later job
 stays_at_work law earlier later job leads work = goes_on law earlier later leads.terms leads.journal job work
 
--- so is one that a call of the gate of one thread has taken
-pub work_taken : JobsStay → (old new : GateParts) (job : Job) → ForTerms old.terms (λ T. Takes (at T old) (TakeReply.Work job.position job.claim job.acc) (at T new))
-    → IsWorkOf old new (Work job) → IsAtWork new job
-work_taken law old new job went work = at_work law old new job (λ T is. (went T is).2.job) work
+pub work_stays : JobsStay → (earlier later : GateParts) → LeadsTo earlier later → WorkStays earlier later
+work_stays law earlier later leads = goes_on law earlier later leads.terms leads.journal
 
--- a job that a section has handed back is in work still
-pub back_at_work : JobsStay → (before after : Known) (given back : Job) → HadSection before after → back ≡ given → IsAtWork before.seen given
-    → IsAtWork after.seen back
-back_at_work law before after given back section same work =
-    subst (IsAtWork after.seen) (sym same)
-    (stays_at_work law before.seen after.seen given (leads_further before.seen after.found after.seen section.fresh section.grown) work)
+-- so does a job that was handed back
+pub back_at_work : JobsStay → (earlier later : GateParts) (given back : Job) → LeadsTo earlier later → back ≡ given → IsAtWork earlier given → IsAtWork later back
+back_at_work law earlier later given back leads same work =
+    subst (IsAtWork later) (sym same) (stays_at_work law earlier later given leads work)
+
+-- a job that a call of the gate of one thread has taken is in work
+pub work_taken : JobsStay → (old new : GateParts) (reply : Result Taken TakeFault) → ForTerms old.terms (λ T. Takes (at T old) (take_reply reply) (at T new))
+    → IfOk reply (IsWorkOf old new) → IfOk reply (IsTaken new)
+work_taken law old new (Ok Stopped) went work = tt
+work_taken law old new (Ok Over) went work = tt
+work_taken law old new (Ok NothingReady) went work = tt
+work_taken law old new (Ok (Work job)) went work = at_work law old new job (λ T is. (went T is).2.job) work
+work_taken law old new (Err fault) went work = tt
+
+-- the job of an answer
+pub its_job : (gate : GateParts) (reply : Result Taken TakeFault) (job : Job) → reply ≡ Ok (Work job) → IfOk reply (IsTaken gate) → IsAtWork gate job
+its_job gate reply job is work = subst (λ r. IfOk r (IsTaken gate)) is work

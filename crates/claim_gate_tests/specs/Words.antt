@@ -10,6 +10,8 @@ use Rattle.journal.specs.Events.{taken, IsJob}
 use Rattle.claim_gate.specs.Parts.{GateParts}
 use Rattle.claim_gate.specs.Shared.{Known}
 use Rattle.claim_gate.specs.declared.job.Job.{Job}
+use Rattle.claim_gate.specs.declared.reply.Taken.{Taken}
+use Rattle.claim_gate.specs.declared.reply.Taken.TheVariants.{Work}
 
 -- the reader has left so many of the provider's claims behind
 pub record IsReader (T : Terms) (provider : ℕ) (left : RowsLeft) : Type 0 where
@@ -39,3 +41,8 @@ pub record IsCaller {P : Type 0} (has_pass : P → Type 0) (known : P → Known)
 pub record AreCallers {P : Type 0} (has_pass : P → Type 0) (known : P → Known) (terms : TermsParts) (passes : P × P) : Type 0 where
   pub one : IsCaller has_pass known terms passes.0
   pub other : IsCaller has_pass known terms passes.1
+
+-- a job that is handed out is in work
+abbrev pub IsTaken : GateParts → Taken → Type 0
+IsTaken gate (Work job) = IsAtWork gate job
+IsTaken gate _ = Unit {0}

@@ -1,4 +1,5 @@
 //! The gate by worked examples.
+ghost use Rattle.std.specs.Prelude.{◌≡◌};
 
 mod again;
 mod again_shared;
@@ -9,6 +10,7 @@ mod filing;
 mod hostile;
 mod in_turn;
 mod last_ticket;
+mod locks;
 mod meeting;
 mod no_room;
 mod rivals;
@@ -16,7 +18,9 @@ mod runs;
 mod shared;
 mod worked;
 
-use claim_gate::{Batch, Counts, EndFault, FinishFault, OfferFault, TakeFault, Taken, Terms};
+use claim_gate::{
+    Batch, Counts, EndFault, FinishFault, GateState, OfferFault, TakeFault, Taken, Terms,
+};
 use events::is_journal;
 use filing::gate_of;
 use runs::{Calls, run};
@@ -24,16 +28,26 @@ use std::alloc::Global;
 use std::process::Abort;
 use worked_examples::{first_file, health_plan, second_file};
 
+// Ends the test. A call of it takes its caller's proof less than a `panic!` there, which puts a message together in the caller.
+fn fail(rt: &impl Abort, wanted: &str) -> ! {
+    panic!(rt; "not there: {wanted}")
+}
+
+// Ends the test where this doesn't hold: an `assert!` that has no branch in the caller.
+fn expects(rt: &impl Abort, holds: bool, wanted: &str) {
+    assert!(rt; holds, "not there: {wanted}");
+}
+
 // Whether the answer of `take` is that nothing is left to do.
-fn is_over(reply: &Result<Taken, TakeFault>) -> bool {
+fn is_over(reply: Result<Taken, TakeFault>) -> bool {
     matches!(reply, Ok(Taken::Over))
 }
 
-fn is_nothing_ready(reply: &Result<Taken, TakeFault>) -> bool {
+fn is_nothing_ready(reply: Result<Taken, TakeFault>) -> bool {
     matches!(reply, Ok(Taken::NothingReady))
 }
 
-fn is_stopped(reply: &Result<Taken, TakeFault>) -> bool {
+fn is_stopped(reply: Result<Taken, TakeFault>) -> bool {
     matches!(reply, Ok(Taken::Stopped))
 }
 
@@ -48,14 +62,31 @@ fn counts(accepted: usize, ended: usize, decided: usize, closed: bool) -> Counts
     }
 }
 
+// Whether a gate's run isn't finished.
+fn is_unfinished<'t>(gate: GateState<'t>, terms: &'t Terms<'t>) -> bool
+    requires { gate.terms ≡ terms.now }
+{
+    Batch::from_state(gate, terms).is_err()
+}
+
+// Whether a gate's run is finished, with this journal.
+fn is_finished<'t>(gate: GateState<'t>, terms: &'t Terms<'t>, words: &[u8]) -> bool
+    requires { gate.terms ≡ terms.now }
+{
+    match Batch::from_state(gate, terms) {
+        Ok(batch) => is_journal(batch.journal(), words),
+        Err(_) => false,
+    }
+}
+
 // A gate to which nothing was offered.
 fn begin_calls(rt: &impl Abort, alloc: Global, terms: &Terms) {
     let mut gate = gate_of(rt, alloc, terms);
     gate.foresee(&[]);
-    assert!(rt; gate.journal().is_empty());
-    assert!(rt; gate.counts() == counts(0, 0, 0, false));
-    assert!(rt; is_nothing_ready(&gate.take()));
-    assert!(rt; Batch::from_state(gate, terms).is_err());
+    expects(rt, gate.journal().is_empty(), "an empty journal");
+    expects(rt, gate.counts() == counts(0, 0, 0, false), "no counts");
+    expects(rt, is_nothing_ready(gate.take()), "nothing ready");
+    expects(rt, is_unfinished(gate, terms), "a run that isn't finished");
 }
 
 #[test]
@@ -67,22 +98,20 @@ fn nothing_is_offered_yet(rt: HostRuntime) {
 // A gate that admits no claim is over at once.
 fn admit_none(rt: &impl Abort, alloc: Global, terms: &Terms) {
     let mut gate = gate_of(rt, alloc, terms);
-    assert!(rt; is_journal(gate.journal(), b"C  "));
-    assert!(rt; gate.counts() == counts(0, 0, 0, true));
-    assert!(rt; is_over(&gate.take()));
-    match Batch::from_state(gate, terms) {
-        Ok(batch) => assert!(rt; is_journal(batch.journal(), b"C  ")),
-        Err(_) => panic!(rt; "a finished journal"),
-    }
+    expects(rt, is_journal(gate.journal(), b"C  "), "the close");
+    expects(rt, gate.counts() == counts(0, 0, 0, true), "a closed gate");
+    expects(rt, is_over(gate.take()), "the end");
+    expects(rt, is_finished(gate, terms, b"C  "), "a finished journal");
 }
 
 // The same, stopped.
 fn stop_none(rt: &impl Abort, alloc: Global, terms: &Terms) {
     let mut gate = gate_of(rt, alloc, terms);
     gate.stop();
-    assert!(rt; gate.counts().stopped && gate.counts().closed);
-    assert!(rt; is_stopped(&gate.take()));
-    assert!(rt; gate.into_journal().len() == 1);
+    expects(rt, gate.counts().stopped, "a stopped gate");
+    expects(rt, gate.counts().closed, "a closed gate");
+    expects(rt, is_stopped(gate.take()), "no work");
+    expects(rt, gate.into_journal().len() == 1, "one event");
 }
 
 #[test]
@@ -111,19 +140,31 @@ fn a_stopped_gate_hands_nothing_out(rt: HostRuntime) {
     );
 }
 
+fn is_offer_fault(rt: &impl Abort, fault: OfferFault, number: u8) {
+    expects(rt, fault.number() == number, "the number of a fault");
+}
+
+fn is_end_fault(rt: &impl Abort, fault: EndFault, number: u8) {
+    expects(rt, fault.number() == number, "the number of a fault");
+}
+
 #[test]
 fn faults_have_numbers(rt: HostRuntime) {
-    assert!(rt; OfferFault::Stopped.number() == 2);
-    assert!(rt; OfferFault::Closed.number() == 3);
-    assert!(rt; OfferFault::OutOfTurn { expected: 1 }.number() == 4);
-    assert!(rt; OfferFault::OutOfMemory.number() == 5);
-    assert!(rt; EndFault::Stopped.number() == 2);
-    assert!(rt; EndFault::Closed.number() == 3);
-    assert!(rt; EndFault::OutOfTurn { expected: 1 }.number() == 4);
-    assert!(rt; EndFault::AlreadyEnded.number() == 5);
-    assert!(rt; EndFault::OutOfMemory.number() == 6);
-    assert!(rt; TakeFault::OutOfMemory.number() == 6);
-    assert!(rt; FinishFault::Stopped.number() == 2);
-    assert!(rt; FinishFault::AlreadyDecided.number() == 3);
-    assert!(rt; FinishFault::OutOfMemory.number() == 4);
+    is_offer_fault(&rt, OfferFault::Stopped, 2);
+    is_offer_fault(&rt, OfferFault::Closed, 3);
+    is_offer_fault(&rt, OfferFault::OutOfTurn { expected: 1 }, 4);
+    is_offer_fault(&rt, OfferFault::OutOfMemory, 5);
+    is_end_fault(&rt, EndFault::Stopped, 2);
+    is_end_fault(&rt, EndFault::Closed, 3);
+    is_end_fault(&rt, EndFault::OutOfTurn { expected: 1 }, 4);
+    is_end_fault(&rt, EndFault::AlreadyEnded, 5);
+    is_end_fault(&rt, EndFault::OutOfMemory, 6);
+    expects(&rt, TakeFault::OutOfMemory.number() == 6, "6 for memory");
+    expects(&rt, FinishFault::Stopped.number() == 2, "2 for a stop");
+    expects(
+        &rt,
+        FinishFault::AlreadyDecided.number() == 3,
+        "3 for twice",
+    );
+    expects(&rt, FinishFault::OutOfMemory.number() == 4, "4 for memory");
 }

@@ -1,19 +1,20 @@
 //! Calls that are made once more where memory is refused: what was given has come back, and nothing has changed. A second refusal ends
 //! the test, which is run once for each of its allocations, with that one refused.
-ghost use Rattle.std.specs.Prelude.{◌≡◌, ◌++◌, ◌∷◌, [], true, IfOk, IfErr, OnOk, OnErr};
+ghost use Rattle.std.specs.Prelude.{◌≡◌, true, IfOk, IfErr, OnErr};
 ghost use Rattle.claim_terms.specs.Terms.{ForTerms};
 ghost use Rattle.journal.specs.Events.{taken, IsJob};
-ghost use Rattle.journal.specs.Gate.{Continues, Takes};
+ghost use Rattle.journal.specs.Gate.{LeadsTo};
 ghost use Rattle.journal.specs.Settled.{outcome_of};
-ghost use Rattle.journal.specs.declared.event.Event.TheVariants as events;
-ghost use Rattle.claim_gate.specs.Parts.{at};
-ghost use Rattle.claim_gate.specs.Replies.{take_reply, HasClaims, IsFiled, IsWorkOf};
+ghost use Rattle.claim_gate.specs.Replies.{HasClaims, IsFiled};
+ghost use Rattle.claim_gate_tests.specs.Words.{IsTaken};
 
 use super::events::{Word, last_word};
+use super::expects;
 use claim_gate::{
     Accepted, Counts, Decision, EndFault, Ended, FinishFault, GateState, Job, Offer, OfferFault,
     Recorded, TakeFault, Taken,
 };
+use journal::jobs_stay;
 use settlement::Money;
 use std::alloc::Global;
 use std::process::Abort;
@@ -39,8 +40,9 @@ impl Mark {
     // Ends the test where the gate has gone on since.
     fn still_stands(&self, rt: &impl Abort, gate: &GateState) {
         let journal = gate.journal();
-        assert!(rt; gate.counts() == self.counts);
-        assert!(rt; journal.len() == self.length && last_word(journal) == self.last);
+        expects(rt, gate.counts() == self.counts, "the counts of before");
+        expects(rt, journal.len() == self.length, "the journal of before");
+        expects(rt, last_word(journal) == self.last, "its last event");
     }
 }
 
@@ -54,32 +56,54 @@ pub fn is_paid(job: &Job, outcome: &Decision, position: usize, paid: Money) -> b
     job.position == position && outcome.outcome().paid == paid
 }
 
-/// `GateState::offer`.
+/// `GateState::offer`, as far as the tests know of it.
+pub fn offer_once<'t>(
+    gate: &mut GateState<'t>,
+    offer: Offer,
+) -> Result<Accepted, (OfferFault, Offer)>
+    requires filed { ForTerms gate.old.terms (λ T. IsFiled T offer) }
+    ensures leads { LeadsTo gate.old gate.new }
+    ensures back { IfErr result (λ refused. refused.1 ≡ offer) }
+    ensures refused { OnErr result (gate.new ≡ gate.old) }
+{
+    gate.offer(offer)
+}
+
+/// The same; where memory is refused, once more.
 pub fn offer<'t>(
     rt: &impl Abort,
     gate: &mut GateState<'t>,
     offer: Offer,
 ) -> Result<Accepted, (OfferFault, Offer)>
     requires filed { ForTerms gate.old.terms (λ T. IsFiled T offer) }
-    ensures terms { gate.new.terms ≡ gate.old.terms }
-    ensures goes_on { OnOk result (Continues gate.old.journal gate.new.journal) }
+    ensures leads { LeadsTo gate.old gate.new }
 {
     let before = Mark::of(gate);
     let (provider, place) = (offer.provider, offer.place);
-    match gate.offer(offer) {
+    match offer_once(gate, offer) {
         Ok(accepted) => Ok(accepted),
         Err((OfferFault::OutOfMemory, back)) => {
             before.still_stands(rt, gate);
-            assert!(rt; is_at(&back, provider, place));
-            let answer = gate.offer(back);
-            assert!(rt; !matches!(answer, Err((OfferFault::OutOfMemory, _))));
-            answer
+            expects(rt, is_at(&back, provider, place), "the offer");
+            offer_once(gate, back)
         }
         Err(refused) => Err(refused),
     }
 }
 
-/// `GateState::end`.
+/// `GateState::end`, as far as the tests know of it.
+pub fn end_once<'t>(
+    gate: &mut GateState<'t>,
+    provider: usize,
+    count: usize,
+) -> Result<Ended, EndFault>
+    requires { ForTerms gate.old.terms (λ T. HasClaims T provider count) }
+    ensures leads { LeadsTo gate.old gate.new }
+{
+    gate.end(provider, count)
+}
+
+/// The same; where memory is refused, once more.
 pub fn end<'t>(
     rt: &impl Abort,
     gate: &mut GateState<'t>,
@@ -87,41 +111,60 @@ pub fn end<'t>(
     count: usize,
 ) -> Result<Ended, EndFault>
     requires { ForTerms gate.old.terms (λ T. HasClaims T provider count) }
-    ensures terms { gate.new.terms ≡ gate.old.terms }
+    ensures leads { LeadsTo gate.old gate.new }
 {
     let before = Mark::of(gate);
-    match gate.end(provider, count) {
+    match end_once(gate, provider, count) {
         Err(EndFault::OutOfMemory) => {
             before.still_stands(rt, gate);
-            let answer = gate.end(provider, count);
-            assert!(rt; !matches!(answer, Err(EndFault::OutOfMemory)));
-            answer
+            end_once(gate, provider, count)
         }
         Ok(ended) => Ok(ended),
         Err(refused) => Err(refused),
     }
 }
 
-/// `GateState::take`.
+/// `GateState::take`, as far as the tests know of it.
+pub fn take_once<'t>(gate: &mut GateState<'t>) -> Result<Taken, TakeFault>
+    ensures leads { LeadsTo gate.old gate.new }
+    ensures work { IfOk result (IsTaken gate.new) }
+{
+    jobs_stay();
+    gate.take()
+}
+
+/// The same; where memory is refused, once more.
 pub fn take<'t>(rt: &impl Abort, gate: &mut GateState<'t>) -> Result<Taken, TakeFault>
-    ensures reply { ForTerms gate.old.terms (λ T. Takes (at T gate.old) (take_reply result) (at T gate.new)) }
-    ensures work { IfOk result (IsWorkOf gate.old gate.new) }
-    ensures terms { gate.new.terms ≡ gate.old.terms }
-    ensures goes_on { OnOk result (Continues gate.old.journal gate.new.journal) }
+    ensures leads { LeadsTo gate.old gate.new }
+    ensures work { IfOk result (IsTaken gate.new) }
 {
     let before = Mark::of(gate);
-    match gate.take() {
+    match take_once(gate) {
         Err(_) => {
             before.still_stands(rt, gate);
-            let answer = gate.take();
-            assert!(rt; answer.is_ok());
-            answer
+            take_once(gate)
         }
         Ok(taken) => Ok(taken),
     }
 }
 
-/// `GateState::finish`.
+/// `GateState::finish`, as far as the tests know of it.
+pub fn finish_once<'t>(
+    gate: &mut GateState<'t>,
+    job: Job,
+    outcome: Decision,
+) -> Result<Recorded, (FinishFault, Job, Decision)>
+    requires in_work { taken gate.old.journal job.position ≡ true }
+    requires job { ForTerms gate.old.terms (λ T. IsJob T gate.old.journal job.position job.claim job.acc) }
+    requires settled { outcome ≡ outcome_of gate.old.terms.plan job.claim job.acc }
+    ensures leads { LeadsTo gate.old gate.new }
+    ensures back { IfErr result (λ refused. (refused.1 ≡ job) × (refused.2 ≡ outcome)) }
+    ensures refused { OnErr result (gate.new ≡ gate.old) }
+{
+    gate.finish(job, outcome)
+}
+
+/// The same; where memory is refused, once more.
 pub fn finish<'t>(
     rt: &impl Abort,
     gate: &mut GateState<'t>,
@@ -131,19 +174,17 @@ pub fn finish<'t>(
     requires in_work { taken gate.old.journal job.position ≡ true }
     requires job { ForTerms gate.old.terms (λ T. IsJob T gate.old.journal job.position job.claim job.acc) }
     requires settled { outcome ≡ outcome_of gate.old.terms.plan job.claim job.acc }
-    ensures terms { gate.new.terms ≡ gate.old.terms }
-    ensures recorded { OnOk result (gate.new ≡ record gate.old { journal = gate.old.journal ++ events.Decide job.position outcome ∷ [] }) }
+    ensures leads { LeadsTo gate.old gate.new }
 {
     let before = Mark::of(gate);
     let (position, paid) = (job.position, outcome.outcome().paid);
-    match gate.finish(job, outcome) {
+    match finish_once(gate, job, outcome) {
         Ok(recorded) => Ok(recorded),
         Err((FinishFault::OutOfMemory, job, outcome)) => {
             before.still_stands(rt, gate);
-            assert!(rt; is_paid(&job, &outcome, position, paid));
-            let answer = gate.finish(job, outcome);
-            assert!(rt; !matches!(answer, Err((FinishFault::OutOfMemory, _, _))));
-            answer
+            let same = is_paid(&job, &outcome, position, paid);
+            expects(rt, same, "the job and its outcome");
+            finish_once(gate, job, outcome)
         }
         Err(refused) => Err(refused),
     }

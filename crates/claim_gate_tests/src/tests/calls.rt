@@ -1,39 +1,43 @@
 //! The calls of a gate, with the answers that are wanted: another answer ends the test. A call that is refused memory is made once more.
-ghost use Rattle.std.specs.Prelude.{◌≡◌, IfOk};
+ghost use Rattle.std.specs.Prelude.{◌≡◌, Ok, IfOk};
 ghost use Rattle.journal.specs.Settled.{outcome_of};
 ghost use Rattle.claim_terms.specs.Terms.{ForTerms};
 ghost use Rattle.claim_gate.specs.Replies.{HasClaims, IsFiled};
+ghost use Rattle.claim_gate.specs.declared.reply.Taken.TheVariants.{Work};
 ghost use Rattle.claim_gate_tests.specs.Words.{IsAtWork, WorkStays};
 
-use super::again;
 use super::filing::offer_at;
+use super::{again, expects, fail, is_nothing_ready, is_stopped};
 use claim_gate::{
-    Decision, EndFault, FinishFault, GateState, Job, Offer, OfferFault, Taken, Terms,
+    Accepted, Decision, EndFault, FinishFault, GateState, Job, Offer, OfferFault, Recorded,
+    TakeFault, Taken, Terms,
 };
 use journal::jobs_stay;
 use settlement::{Acc, Claim, Outcome, decide};
 use std::alloc::{AllocError, Global};
 use std::process::Abort;
 
-// Offers a claim, which is accepted at a position.
-fn accept<'t>(
-    rt: &impl Abort,
-    terms: &'t Terms<'t>,
-    gate: &mut GateState<'t>,
-    offer: Offer,
-    position: usize,
-)
-    requires terms { gate.old.terms ≡ terms.now }
-    requires filed { ForTerms terms.now (λ T. IsFiled T offer) }
-    ensures terms { gate.new.terms ≡ terms.now }
-    ensures stays { WorkStays gate.old gate.new }
-{
-    jobs_stay();
-    let _plan = terms.plan();
-    match again::offer(rt, gate, offer) {
-        Ok(accepted) => assert!(rt; accepted.position == position),
-        Err(_) => panic!(rt; "an accepted claim"),
+/// Whether a claim is accepted at this position.
+pub fn is_accepted(reply: Result<Accepted, (OfferFault, Offer)>, position: usize) -> bool {
+    match reply {
+        Ok(accepted) => accepted.position == position,
+        Err(_) => false,
     }
+}
+
+/// The job that is to be done.
+pub fn work_of(rt: &impl Abort, reply: Result<Taken, TakeFault>) -> Job
+    ensures { reply ≡ Ok (Work result) }
+{
+    match reply {
+        Ok(Taken::Work(job)) => job,
+        _ => fail(rt, "work"),
+    }
+}
+
+/// Whether an outcome is recorded.
+pub fn is_recorded(reply: Result<Recorded, (FinishFault, Job, Decision)>) -> bool {
+    reply.is_ok()
 }
 
 // Offers the claim at a place of a provider's file, which is accepted at a position.
@@ -50,8 +54,11 @@ pub fn accept_at<'t>(
     ensures terms { gate.new.terms ≡ terms.now }
     ensures stays { WorkStays gate.old gate.new }
 {
+    jobs_stay();
+    let _plan = terms.plan();
     let offer = offer_at(rt, alloc, terms, provider, place);
-    accept(rt, terms, gate, offer, position);
+    let accepted = is_accepted(again::offer(rt, gate, offer), position);
+    expects(rt, accepted, "an accepted claim");
 }
 
 // Offers a claim, which is refused: it comes back, and the journal is as before.
@@ -66,14 +73,14 @@ fn refuse<'t>(
     requires filed { ForTerms terms.now (λ T. IsFiled T offer) }
     ensures terms { gate.new.terms ≡ terms.now }
     ensures stays { WorkStays gate.old gate.new }
-    ensures back { result ≡ offer }
 {
     let _plan = terms.plan();
     let length = gate.journal().len();
     match gate.offer(offer) {
-        Ok(_) => panic!(rt; "a refusal"),
+        Ok(_) => fail(rt, "a refusal"),
         Err((given, back)) => {
-            assert!(rt; given == fault && gate.journal().len() == length);
+            expects(rt, given == fault, "this fault");
+            expects(rt, gate.journal().len() == length, "no event more");
             back
         }
     }
@@ -111,13 +118,9 @@ pub fn take_job<'t>(
 {
     jobs_stay();
     let _plan = terms.plan();
-    match again::take(rt, gate) {
-        Ok(Taken::Work(job)) => {
-            assert!(rt; job.position == position);
-            job
-        }
-        _ => panic!(rt; "work"),
-    }
+    let job = work_of(rt, again::take(rt, gate));
+    expects(rt, job.position == position, "the job's position");
+    job
 }
 
 // Takes nothing, since nothing is ready.
@@ -126,12 +129,11 @@ pub fn find_nothing<'t>(rt: &impl Abort, terms: &'t Terms<'t>, gate: &mut GateSt
     ensures terms { gate.new.terms ≡ terms.now }
     ensures stays { WorkStays gate.old gate.new }
 {
-    let _plan = terms.plan();
+    jobs_stay();
     let length = gate.journal().len();
-    match again::take(rt, gate) {
-        Ok(Taken::NothingReady) => assert!(rt; gate.journal().len() == length),
-        _ => panic!(rt; "nothing ready"),
-    }
+    let reply = again::take(rt, gate);
+    expects(rt, is_nothing_ready(reply), "nothing ready");
+    expects(rt, gate.journal().len() == length, "no event more");
 }
 
 fn decide_once(
@@ -186,10 +188,8 @@ pub fn record<'t>(
 {
     jobs_stay();
     let outcome = settled(rt, alloc, terms, &job);
-    match again::finish(rt, gate, job, outcome) {
-        Ok(_) => {}
-        Err(_) => panic!(rt; "a recorded outcome"),
-    }
+    let reply = again::finish(rt, gate, job, outcome);
+    expects(rt, is_recorded(reply), "a recorded outcome");
 }
 
 // Finishes a job, which is refused: the job and the outcome come back, and the journal is as before.
@@ -209,9 +209,10 @@ pub fn refuse_outcome<'t>(
     let outcome = settled(rt, alloc, terms, &job);
     let length = gate.journal().len();
     match gate.finish(job, outcome) {
-        Ok(_) => panic!(rt; "a refusal"),
+        Ok(_) => fail(rt, "a refusal"),
         Err((given, job, outcome)) => {
-            assert!(rt; given == fault && gate.journal().len() == length);
+            expects(rt, given == fault, "this fault");
+            expects(rt, gate.journal().len() == length, "no event more");
             (job, outcome)
         }
     }
@@ -230,10 +231,8 @@ pub fn end<'t>(
     ensures terms { gate.new.terms ≡ terms.now }
 {
     let _plan = terms.plan();
-    match again::end(rt, gate, provider, count) {
-        Ok(_) => {}
-        Err(_) => panic!(rt; "an end"),
-    }
+    let reply = again::end(rt, gate, provider, count);
+    expects(rt, reply.is_ok(), "an end");
 }
 
 // Ends a provider, which is refused: the journal is as before.
@@ -253,8 +252,11 @@ pub fn refuse_end<'t>(
     let _plan = terms.plan();
     let length = gate.journal().len();
     match gate.end(provider, count) {
-        Ok(_) => panic!(rt; "a refusal"),
-        Err(given) => assert!(rt; given == fault && gate.journal().len() == length),
+        Ok(_) => fail(rt, "a refusal"),
+        Err(given) => {
+            expects(rt, given == fault, "this fault");
+            expects(rt, gate.journal().len() == length, "no event more");
+        }
     }
 }
 
@@ -274,9 +276,7 @@ pub fn find_stopped<'t>(rt: &impl Abort, terms: &'t Terms<'t>, gate: &mut GateSt
     ensures terms { gate.new.terms ≡ terms.now }
     ensures stays { WorkStays gate.old gate.new }
 {
-    let _plan = terms.plan();
-    match gate.take() {
-        Ok(Taken::Stopped) => {}
-        _ => panic!(rt; "a stopped gate"),
-    }
+    jobs_stay();
+    let reply = again::take_once(gate);
+    expects(rt, is_stopped(reply), "a stopped gate");
 }

@@ -3,6 +3,7 @@ ghost use Rattle.std.specs.Prelude.{◌≡◌};
 ghost use Rattle.claim_gate_tests.specs.Words.{IsAtWork, WorkStays};
 
 use super::calls::{accept_at, find_nothing, record, take_job};
+use super::expects;
 use super::filing::gate_of;
 use super::runs::{Calls, run};
 use super::worked::is_job;
@@ -39,8 +40,9 @@ fn take_firsts<'t>(rt: &impl Abort, terms: &'t Terms<'t>, gate: &mut GateState<'
 {
     let first = take_job(rt, terms, gate, 0);
     let other = take_job(rt, terms, gate, 3);
-    assert!(rt; is_job(&first, 0, "e1") && is_job(&other, 3, "e4"));
-    assert!(rt; stands_at(other.acc, 0, 0, 0, 0));
+    expects(rt, is_job(&first, 0, "e1"), "the first job");
+    expects(rt, is_job(&other, 3, "e4"), "the other job");
+    expects(rt, stands_at(other.acc, 0, 0, 0, 0), "its accumulators");
     drop(other);
     alone(rt, terms, gate, first)
 }
@@ -63,7 +65,11 @@ fn go_on<'t>(
     let position = job.position.saturating_add(1);
     record(rt, alloc, terms, gate, job);
     let next = take_job(rt, terms, gate, position);
-    assert!(rt; stands_at(next.acc, 0, fmet, 0, foop));
+    expects(
+        rt,
+        stands_at(next.acc, 0, fmet, 0, foop),
+        "its accumulators",
+    );
     alone(rt, terms, gate, next)
 }
 

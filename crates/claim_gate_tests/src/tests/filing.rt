@@ -5,6 +5,7 @@ ghost use Rattle.claim_terms.specs.Terms.{ForTerms};
 ghost use Rattle.claim_gate.specs.Replies.{HasClaims, IsFiled};
 ghost use Rattle.claim_gate_tests.specs.Words.{IsReader};
 
+use super::fail;
 use claim_gate::{GateState, Offer, StoredClaim, Terms};
 use dtable::{Plan, read_plan};
 use intake_csv::{
@@ -40,7 +41,7 @@ pub fn terms_of<'a>(
         return terms;
     }
     let Ok(terms) = Terms::new(alloc, plan, files, None, cutoff) else {
-        panic!(rt; "terms");
+        fail(rt, "terms")
     };
     terms
 }
@@ -99,7 +100,7 @@ pub fn next_offer(
             place,
             claim: StoredClaim::new(alloc, claim)?,
         }),
-        _ => panic!(rt; "a claim"),
+        _ => fail(rt, "a claim"),
     }
 }
 
@@ -186,7 +187,7 @@ fn go_to_end(
     go_by(rt, alloc, terms, provider, rows, count)?;
     match rows.next()? {
         None => Ok(()),
-        Some(_) => panic!(rt; "the end of the file"),
+        Some(_) => fail(rt, "the end of the file"),
     }
 }
 

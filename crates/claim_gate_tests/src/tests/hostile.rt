@@ -2,18 +2,18 @@
 ghost use Rattle.std.specs.Prelude.{◌≡◌};
 ghost use Rattle.claim_gate_tests.specs.Words.{IsAtWork, IsCaller};
 
-use super::events::is_journal;
-use super::filing::{gate_of, read_all};
+use super::filing::read_all;
+use super::locks::{by_tickets, ends_with, spinning};
 use super::runs::{Calls, run};
 use super::shared::{accept_at, record, refuse_outcome, take_job};
 use super::worked::{is_at, is_job, is_paid_40, one_claim};
-use super::{again, again_shared, counts};
+use super::{again, again_shared, counts, expects};
 use claim_gate::{FinishFault, Gate, Job, LockedGate, SerialGate, Terms};
 use journal::jobs_stay;
 use std::alloc::Global;
 use std::process::Abort;
 use std::sync::Wait;
-use turn_lock::{Section, SpinLock, TicketLock};
+use turn_lock::Section;
 use worked_examples::health_plan;
 
 // A job and its copy: the outcome is recorded once, and then job and outcome come back.
@@ -31,12 +31,13 @@ fn decide_copy<G: Gate>(
 {
     jobs_stay();
     let copy = again::copy(rt, alloc, &job);
-    assert!(rt; is_first_job(&copy));
+    expects(rt, is_first_job(&copy), "the first job");
     let before = counts(1, 1, 0, true);
     let pass = record(rt, alloc, terms, gate, pass, job, before);
     let decided = FinishFault::AlreadyDecided;
     let (pass, back, outcome) = refuse_outcome(rt, alloc, terms, gate, pass, copy, decided);
-    assert!(rt; is_job(&back, 0, "c1") && is_paid_40(outcome.outcome()));
+    expects(rt, is_job(&back, 0, "c1"), "the job");
+    expects(rt, is_paid_40(outcome.outcome()), "its outcome");
     drop(back);
     drop(outcome);
     pass
@@ -83,26 +84,17 @@ where
 {
     let gate = LockedGate::over(lock);
     let pass = decide_only(rt, alloc, terms, &gate, pass);
-    match gate.retire(rt, pass) {
-        Ok(state) => assert!(rt; is_journal(state.journal(), b"A10E1 C  T0 D0 ")),
-        Err(_) => panic!(rt; "the gate of one thread"),
-    }
+    ends_with(rt, &gate, pass, b"A10E1 C  T0 D0 ");
     drop(gate);
 }
 
 fn by_a_spin_lock(rt: &(impl Abort + Wait), alloc: Global, terms: &Terms) {
-    let (lock, pass) = match SpinLock::new(alloc, gate_of(rt, alloc, terms)) {
-        Ok(made) => made,
-        Err(_) => SpinLock::new(alloc, gate_of(rt, alloc, terms)).expect(rt, "memory for a lock"),
-    };
+    let (lock, pass) = spinning(rt, alloc, terms);
     run_of_one(rt, alloc, terms, lock, pass)
 }
 
 fn by_a_ticket_lock(rt: &(impl Abort + Wait), alloc: Global, terms: &Terms) {
-    let (lock, pass) = match TicketLock::new(alloc, gate_of(rt, alloc, terms)) {
-        Ok(made) => made,
-        Err(_) => TicketLock::new(alloc, gate_of(rt, alloc, terms)).expect(rt, "memory for a lock"),
-    };
+    let (lock, pass) = by_tickets(rt, alloc, terms);
     run_of_one(rt, alloc, terms, lock, pass)
 }
 

@@ -3,19 +3,22 @@ ghost use Rattle.std.specs.Prelude.{◌≡◌};
 ghost use Rattle.journal.specs.Gate.{LeadsTo};
 ghost use Rattle.claim_gate_tests.specs.Words.{AreCallers, IsAtWork, IsCaller};
 
-use super::counts;
-use super::filing::{gate_of, is_offer, read_all};
+use super::filing::{is_offer, read_all};
+use super::locks::{by_tickets, ends_with, spinning};
 use super::runs::{Calls, run};
 use super::shared::{
     accept_at, find_nothing, find_stopped, record, refuse_at, refuse_end, refuse_outcome, take_job,
 };
-use super::worked::{is_at, is_job, is_paid_40, is_worked};
-use claim_gate::{EndFault, FinishFault, Gate, Job, LockedGate, OfferFault, SerialGate, Terms};
+use super::worked::{is_at, is_job, is_paid_40, worked_journal};
+use super::{counts, expects, fail};
+use claim_gate::{
+    Counts, EndFault, FinishFault, Gate, Job, LockedGate, OfferFault, SerialGate, Terms,
+};
 use journal::jobs_stay;
 use std::alloc::Global;
 use std::process::Abort;
 use std::sync::Wait;
-use turn_lock::{Section, SpinLock, TicketLock};
+use turn_lock::Section;
 use worked_examples::{first_file, health_plan, second_file};
 
 // One pass has the first provider's first claim accepted; to the other it is refused.
@@ -34,7 +37,7 @@ fn accept_first<G: Gate>(
     let one = accept_at(rt, alloc, terms, gate, one, (1, 0), 0, before);
     let out_of_turn = OfferFault::OutOfTurn { expected: 1 };
     let (other, back) = refuse_at(rt, alloc, terms, gate, other, (1, 0), out_of_turn);
-    assert!(rt; is_offer(&back, 1, 0, "c1"));
+    expects(rt, is_offer(&back, 1, 0, "c1"), "the offer");
     drop(back);
     (one, other)
 }
@@ -53,8 +56,8 @@ fn take_first<G: Gate>(
 {
     let (one, other) = accept_first(rt, alloc, terms, gate, passes);
     let (one, job) = take_job(rt, terms, gate, one, 0, counts(1, 0, 0, false));
-    assert!(rt; is_job(&job, 0, "c1"));
-    assert!(rt; is_at(job.acc, 0, 0, 0));
+    expects(rt, is_job(&job, 0, "c1"), "the job");
+    expects(rt, is_at(job.acc, 0, 0, 0), "its accumulators");
     (one, other, job)
 }
 
@@ -94,8 +97,8 @@ fn take_other<G: Gate>(
     let before = counts(2, 0, 0, false);
     let one = accept_at(rt, alloc, terms, gate, one, (2, 0), 2, before);
     let (other, job) = take_job(rt, terms, gate, other, 2, counts(3, 0, 0, false));
-    assert!(rt; is_job(&job, 2, "d1"));
-    assert!(rt; is_at(job.acc, 0, 0, 0));
+    expects(rt, is_job(&job, 2, "d1"), "the job");
+    expects(rt, is_at(job.acc, 0, 0, 0), "its accumulators");
     drop(job);
     (one, other)
 }
@@ -118,8 +121,12 @@ fn take_second<G: Gate>(
     let before = counts(3, 0, 0, false);
     let one = record(rt, alloc, terms, gate, one, job, before);
     let (other, next) = take_job(rt, terms, gate, other, 1, counts(3, 0, 1, false));
-    assert!(rt; is_job(&next, 1, "c2"));
-    assert!(rt; is_at(next.acc, 500_000, 600_000, 400_000));
+    expects(rt, is_job(&next, 1, "c2"), "the job");
+    expects(
+        rt,
+        is_at(next.acc, 500_000, 600_000, 400_000),
+        "its accumulators",
+    );
     (one, other, next)
 }
 
@@ -173,7 +180,7 @@ fn stopped_calls<G: Gate>(
 {
     let stopped = OfferFault::Stopped;
     let (pass, offer) = refuse_at(rt, alloc, terms, gate, pass, (2, 0), stopped);
-    assert!(rt; is_offer(&offer, 2, 0, "d1"));
+    expects(rt, is_offer(&offer, 2, 0, "d1"), "the offer");
     drop(offer);
     let pass = refuse_first_end(rt, alloc, terms, gate, pass, EndFault::Stopped);
     find_stopped(rt, terms, gate, pass)
@@ -196,7 +203,8 @@ fn finish_stopped<G: Gate>(
     let pass = stopped_calls(rt, alloc, terms, gate, pass);
     let stopped = FinishFault::Stopped;
     let (pass, job, outcome) = refuse_outcome(rt, alloc, terms, gate, pass, job, stopped);
-    assert!(rt; is_job(&job, 1, "c2") && is_paid_40(outcome.outcome()));
+    expects(rt, is_job(&job, 1, "c2"), "the job");
+    expects(rt, is_paid_40(outcome.outcome()), "its outcome");
     drop(job);
     drop(outcome);
     pass
@@ -216,8 +224,13 @@ fn all_calls<G: Gate>(
     let (one, other, job) = turn_calls(rt, alloc, terms, gate, passes);
     let out_of_turn = EndFault::OutOfTurn { expected: 2 };
     let one = refuse_first_end(rt, alloc, terms, gate, one, out_of_turn);
-    assert!(rt; gate.stop(rt, one).is_ok());
+    expects(rt, gate.stop(rt, one).is_ok(), "a stop");
     finish_stopped(rt, alloc, terms, gate, other, job)
+}
+
+// Whether three claims are accepted, one of them is decided, and the gate is stopped.
+fn is_stopped_at_three(reached: Counts) -> bool {
+    reached.accepted == 3 && reached.decided == 1 && reached.stopped
 }
 
 // The calls over a lock, then a stop; the journal is the one of the gate of one thread.
@@ -237,30 +250,21 @@ where
     let gate = LockedGate::over(lock);
     let passes = gate.split(pass);
     let pass = all_calls(rt, alloc, terms, &gate, passes);
-    let Ok((counts, pass)) = gate.counts(rt, pass) else {
-        panic!(rt; "counts");
+    let Ok((reached, pass)) = gate.counts(rt, pass) else {
+        fail(rt, "counts")
     };
-    assert!(rt; counts.accepted == 3 && counts.decided == 1 && counts.stopped);
-    match gate.retire(rt, pass) {
-        Ok(state) => assert!(rt; is_worked(state.journal())),
-        Err(_) => panic!(rt; "the gate of one thread"),
-    }
+    expects(rt, is_stopped_at_three(reached), "these counts");
+    ends_with(rt, &gate, pass, worked_journal());
     drop(gate);
 }
 
 pub fn by_a_spin_lock(rt: &(impl Abort + Wait), alloc: Global, terms: &Terms) {
-    let (lock, pass) = match SpinLock::new(alloc, gate_of(rt, alloc, terms)) {
-        Ok(made) => made,
-        Err(_) => SpinLock::new(alloc, gate_of(rt, alloc, terms)).expect(rt, "memory for a lock"),
-    };
+    let (lock, pass) = spinning(rt, alloc, terms);
     calls_over(rt, alloc, terms, lock, pass)
 }
 
 pub fn by_a_ticket_lock(rt: &(impl Abort + Wait), alloc: Global, terms: &Terms) {
-    let (lock, pass) = match TicketLock::new(alloc, gate_of(rt, alloc, terms)) {
-        Ok(made) => made,
-        Err(_) => TicketLock::new(alloc, gate_of(rt, alloc, terms)).expect(rt, "memory for a lock"),
-    };
+    let (lock, pass) = by_tickets(rt, alloc, terms);
     calls_over(rt, alloc, terms, lock, pass)
 }
 

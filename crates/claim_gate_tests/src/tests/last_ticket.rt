@@ -4,11 +4,11 @@ ghost use Rattle.std.specs.Prelude.{◌≡◌};
 ghost use Rattle.claim_gate_tests.specs.Words.{IsAtWork, IsCaller};
 
 use super::calls::settled;
-use super::counts;
 use super::filing::{gate_of, is_offer, offer_at, read_all};
 use super::runs::{Calls, run};
 use super::shared::{accept_at, take_job};
 use super::worked::{is_job, is_paid_40};
+use super::{counts, expects, fail};
 use claim_gate::{Gate, Job, LockedGate, SerialGate, Terms};
 use std::alloc::Global;
 use std::process::Abort;
@@ -30,12 +30,12 @@ fn worn_intake<G: Gate>(
     let offer = offer_at(rt, alloc, terms, 1, 0);
     read_all(rt, alloc, terms, 1, 4);
     let Err((_, pass, back)) = gate.offer(rt, pass, offer) else {
-        panic!(rt; "no ticket for an offer");
+        fail(rt, "no ticket for an offer")
     };
-    assert!(rt; is_offer(&back, 1, 0, "c1"));
+    expects(rt, is_offer(&back, 1, 0, "c1"), "the offer");
     drop(back);
     let Err((_, pass)) = gate.end(rt, pass, 1, 4) else {
-        panic!(rt; "no ticket for an end");
+        fail(rt, "no ticket for an end")
     };
     pass
 }
@@ -46,13 +46,13 @@ fn worn_calls<G: Gate>(rt: &(impl Abort + Wait), gate: &G, pass: G::Pass) -> G::
     ensures { G.has_pass gate.now result }
 {
     let Err((_, pass)) = gate.take(rt, pass) else {
-        panic!(rt; "no ticket for a take");
+        fail(rt, "no ticket for a take")
     };
     let Err((_, pass)) = gate.stop(rt, pass) else {
-        panic!(rt; "no ticket for a stop");
+        fail(rt, "no ticket for a stop")
     };
     let Err((_, pass)) = gate.counts(rt, pass) else {
-        panic!(rt; "no ticket for the counts");
+        fail(rt, "no ticket for the counts")
     };
     pass
 }
@@ -76,7 +76,7 @@ where
     let pass = accept_at(rt, alloc, terms, &gate, pass, (1, 0), 0, before);
     let pass = worn_intake(rt, alloc, terms, &gate, pass);
     let pass = worn_calls(rt, &gate, pass);
-    assert!(rt; gate.retire(rt, pass).is_err());
+    expects(rt, gate.retire(rt, pass).is_err(), "no gate");
 }
 
 // No claim is accepted at all.
@@ -112,9 +112,10 @@ fn worn_finish<G: Gate>(
 {
     let outcome = settled(rt, alloc, terms, &job);
     let Err((_, _pass, job, outcome)) = gate.finish(rt, pass, job, outcome) else {
-        panic!(rt; "no ticket for a finish");
+        fail(rt, "no ticket for a finish")
     };
-    assert!(rt; is_job(&job, 0, "c1") && is_paid_40(outcome.outcome()));
+    expects(rt, is_job(&job, 0, "c1"), "the job");
+    expects(rt, is_paid_40(outcome.outcome()), "its outcome");
     drop(job);
     drop(outcome);
 }

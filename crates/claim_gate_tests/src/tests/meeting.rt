@@ -3,10 +3,11 @@
 ghost use Rattle.std.specs.Prelude.{◌≡◌};
 ghost use Rattle.turn_lock.specs.TicketShown.{IsPassOf, pass_knows};
 
-use super::counts;
 use super::filing::{gate_of, is_offer};
+use super::locks::by_tickets;
 use super::runs::{Calls, run};
 use super::shared::{accept_at, find_stopped, refuse_at};
+use super::{counts, expects, fail};
 use claim_gate::{Gate, LockedGate, OfferFault, SerialGate, Terms};
 use std::alloc::Global;
 use std::process::Abort;
@@ -32,25 +33,22 @@ fn met_calls<V: SerialGate + Send + Drop>(
     let one = accept_at(rt, alloc, terms, &gate, one, (1, 0), 0, before);
     let (one, other) = gate.meet(one, other);
     let Ok((counts, other)) = gate.counts(rt, other) else {
-        panic!(rt; "counts");
+        fail(rt, "counts")
     };
-    assert!(rt; counts.accepted == 1);
+    expects(rt, counts.accepted == 1, "these counts");
     let out_of_turn = OfferFault::OutOfTurn { expected: 1 };
     let (other, back) = refuse_at(rt, alloc, terms, &gate, other, (1, 0), out_of_turn);
-    assert!(rt; is_offer(&back, 1, 0, "c1"));
+    expects(rt, is_offer(&back, 1, 0, "c1"), "the offer");
     drop(back);
     let Ok(other) = gate.stop(rt, other) else {
-        panic!(rt; "a stop");
+        fail(rt, "a stop")
     };
     let (one, _other) = gate.meet(one, other);
     let _one = find_stopped(rt, terms, &gate, one);
 }
 
 pub fn meet_once(rt: &(impl Abort + Wait), alloc: Global, terms: &Terms) {
-    let (lock, pass) = match TicketLock::new(alloc, gate_of(rt, alloc, terms)) {
-        Ok(made) => made,
-        Err(_) => TicketLock::new(alloc, gate_of(rt, alloc, terms)).expect(rt, "memory for a lock"),
-    };
+    let (lock, pass) = by_tickets(rt, alloc, terms);
     met_calls(rt, alloc, terms, lock, pass)
 }
 
@@ -71,8 +69,8 @@ fn meet_worn<V: SerialGate + Send + Drop>(
     let gate = LockedGate::over(lock);
     let (one, other) = gate.split(pass);
     let (one, other) = gate.meet(one, other);
-    assert!(rt; gate.counts(rt, one).is_err());
-    assert!(rt; gate.counts(rt, other).is_err());
+    expects(rt, gate.counts(rt, one).is_err(), "no counts");
+    expects(rt, gate.counts(rt, other).is_err(), "no counts");
 }
 
 pub fn meet_without(rt: &(impl Abort + Wait), alloc: Global, terms: &Terms) {

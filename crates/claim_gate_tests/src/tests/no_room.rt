@@ -4,9 +4,10 @@ ghost use Rattle.claim_gate_tests.specs.Words.{IsCaller};
 
 use super::events::is_journal;
 use super::filing::{gate_of, read_all};
+use super::locks::ends_with;
 use super::runs::{Calls, run};
 use super::shared::{find_nothing, take_job};
-use super::{again_shared, calls, counts};
+use super::{again_shared, calls, counts, expects};
 use claim_gate::{Gate, GateState, LockedGate, SerialGate, Terms};
 use std::alloc::Global;
 use std::process::Abort;
@@ -69,7 +70,8 @@ fn call_alone(rt: &impl Abort, alloc: Global, terms: &Terms, call: Call) {
         Call::Take => drop(calls::take_job(rt, terms, &mut gate, 2)),
         Call::FindNothing => calls::find_nothing(rt, terms, &mut gate),
     }
-    assert!(rt; is_journal(gate.journal(), call.journal()));
+    let same = is_journal(gate.journal(), call.journal());
+    expects(rt, same, "this journal");
     drop(gate);
 }
 
@@ -110,10 +112,7 @@ where
 {
     let gate = LockedGate::over(lock);
     let pass = call_shared(rt, alloc, terms, &gate, pass, call);
-    match gate.retire(rt, pass) {
-        Ok(state) => assert!(rt; is_journal(state.journal(), call.journal())),
-        Err(_) => panic!(rt; "the gate of one thread"),
-    }
+    ends_with(rt, &gate, pass, call.journal());
     drop(gate);
 }
 

@@ -4,7 +4,9 @@ ghost use Rattle.claim_terms.specs.Terms.{ForTerms};
 ghost use Rattle.claim_gate.specs.Replies.{IsFiled};
 ghost use Rattle.claim_gate_tests.specs.Words.{IsCaller};
 
-use super::filing::{gate_of, offer_at, plan_of, terms_of};
+use super::filing::{offer_at, plan_of, terms_of};
+use super::locks::by_tickets;
+use super::{expects, fail};
 use claim_gate::{Event, Gate, LockedGate, Offer, OfferFault, SerialGate, Terms};
 use std::alloc::Global;
 use std::process::Abort;
@@ -12,7 +14,7 @@ use std::sync::Wait;
 use std::sync::atomic::{AtomicU64, Ordering};
 use std::thread;
 use std::thread::Threads;
-use turn_lock::{Section, TicketLock};
+use turn_lock::Section;
 use worked_examples::{first_file, health_plan, second_file};
 
 /// What was accepted at each of the first four positions: the sum, over all callers that were told so, of the place and 1.
@@ -81,7 +83,7 @@ fn offer_next<R: Wait + Abort, G: Gate>(
     let _plan = terms.plan();
     let place = offer.place;
     let Ok((reply, pass)) = gate.offer(rt, pass, offer) else {
-        panic!(rt; "a reply");
+        fail(rt, "a reply")
     };
     match reply {
         Ok(accepted) => {
@@ -89,7 +91,7 @@ fn offer_next<R: Wait + Abort, G: Gate>(
             (place.saturating_add(1), pass)
         }
         Err((OfferFault::OutOfTurn { expected }, _)) => (expected, pass),
-        Err(_) => panic!(rt; "an accepted claim, or a later place"),
+        Err(_) => fail(rt, "an accepted claim, or a later place"),
     }
 }
 
@@ -128,7 +130,7 @@ fn offer_all<R: Wait + Abort, G: Gate>(
     let next = offer_from(rt, alloc, terms, gate, next.0, next.1, told);
     let next = offer_from(rt, alloc, terms, gate, next.0, next.1, told);
     let next = offer_from(rt, alloc, terms, gate, next.0, next.1, told);
-    assert!(rt; next.0 == 4);
+    expects(rt, next.0 == 4, "all four");
 }
 
 // Both threads; the caller is one of them.
@@ -154,7 +156,7 @@ fn offer_by_two<R: Threads + Wait + Abort + Sync, G: Gate + Sync>(
             { offer_all(rt, alloc, terms, gate, theirs, told) };
             let started = scope.spawn(job).is_ok();
             offer_all(rt, alloc, terms, gate, mine, told);
-            assert!(rt; started);
+            expects(rt, started, "a thread");
         },
     )
 }
@@ -177,17 +179,14 @@ where
     let (pass, mine) = gate.split(pass);
     offer_by_two(rt, alloc, terms, &gate, mine, &told);
     match gate.retire(rt, pass) {
-        Ok(state) => assert!(rt; told.is_journal(state.journal())),
-        Err(_) => panic!(rt; "the gate of one thread"),
+        Ok(state) => expects(rt, told.is_journal(state.journal()), "this journal"),
+        Err(_) => fail(rt, "the gate of one thread"),
     }
     drop(gate);
 }
 
 fn rivals<R: Threads + Wait + Abort + Sync>(rt: &R, alloc: Global, terms: &Terms) {
-    let (lock, pass) = match TicketLock::new(alloc, gate_of(rt, alloc, terms)) {
-        Ok(made) => made,
-        Err(_) => TicketLock::new(alloc, gate_of(rt, alloc, terms)).expect(rt, "memory for a lock"),
-    };
+    let (lock, pass) = by_tickets(rt, alloc, terms);
     rivals_over(rt, alloc, terms, lock, pass);
 }
 

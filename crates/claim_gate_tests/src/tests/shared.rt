@@ -2,81 +2,18 @@
 //! once more, once the gate is seen to be as far as before: `before` is how far it is when the call is made first.
 ghost use Rattle.std.specs.Prelude.{◌≡◌};
 ghost use Rattle.claim_terms.specs.Terms.{ForTerms};
-ghost use Rattle.claim_gate.specs.Replies.{HasClaims, IsFiled};
+ghost use Rattle.claim_gate.specs.Replies.{HasClaims};
 ghost use Rattle.journal.specs.Gate.{LeadsTo};
 ghost use Rattle.claim_gate_tests.specs.Words.{IsAtWork, IsCaller};
 
-use super::calls::settled;
+use super::again_shared::{end_once, finish, finish_once, offer, offer_once, take, take_once};
+use super::calls::{is_accepted, is_recorded, settled, work_of};
 use super::filing::offer_at;
-use super::{again, again_shared};
-use claim_gate::{
-    Counts, Decision, EndFault, FinishFault, Gate, Job, Offer, OfferFault, TakeFault, Taken, Terms,
-};
-use journal::jobs_stay;
+use super::{expects, fail, is_nothing_ready, is_stopped};
+use claim_gate::{Counts, Decision, EndFault, FinishFault, Gate, Job, Offer, OfferFault, Terms};
 use std::alloc::Global;
 use std::process::Abort;
 use std::sync::Wait;
-
-// Offers a claim, which is accepted at a position.
-fn accept<G: Gate>(
-    rt: &(impl Abort + Wait),
-    terms: &Terms,
-    gate: &G,
-    pass: G::Pass,
-    offer: Offer,
-    position: usize,
-    before: Counts,
-) -> G::Pass
-    requires caller { IsCaller (G.has_pass gate.now) G.known terms.now pass }
-    requires filed { ForTerms terms.now (λ T. IsFiled T offer) }
-    ensures caller { IsCaller (G.has_pass gate.now) G.known terms.now result }
-    ensures leads { LeadsTo (G.known pass).seen (G.known result).seen }
-{
-    let _plan = terms.plan();
-    let (provider, place) = (offer.provider, offer.place);
-    let Ok((reply, pass)) = gate.offer(rt, pass, offer) else {
-        panic!(rt; "a reply");
-    };
-    match reply {
-        Ok(accepted) => {
-            assert!(rt; accepted.position == position);
-            pass
-        }
-        Err((OfferFault::OutOfMemory, back)) => {
-            assert!(rt; again::is_at(&back, provider, place));
-            again_shared::accept(rt, terms, gate, pass, back, position, before)
-        }
-        Err(_) => panic!(rt; "an accepted claim"),
-    }
-}
-
-// Offers a claim, which is refused: it comes back.
-fn refuse<G: Gate>(
-    rt: &(impl Abort + Wait),
-    terms: &Terms,
-    gate: &G,
-    pass: G::Pass,
-    offer: Offer,
-    fault: OfferFault,
-) -> (G::Pass, Offer)
-    requires caller { IsCaller (G.has_pass gate.now) G.known terms.now pass }
-    requires filed { ForTerms terms.now (λ T. IsFiled T offer) }
-    ensures caller { IsCaller (G.has_pass gate.now) G.known terms.now result.0 }
-    ensures leads { LeadsTo (G.known pass).seen (G.known result.0).seen }
-    ensures back { result.1 ≡ offer }
-{
-    let _plan = terms.plan();
-    let Ok((reply, pass)) = gate.offer(rt, pass, offer) else {
-        panic!(rt; "a reply");
-    };
-    match reply {
-        Ok(_) => panic!(rt; "a refusal"),
-        Err((given, back)) => {
-            assert!(rt; given == fault);
-            (pass, back)
-        }
-    }
-}
 
 // Offers the claim at a place of a provider's file, which is accepted at a position.
 pub fn accept_at<G: Gate>(
@@ -94,11 +31,13 @@ pub fn accept_at<G: Gate>(
     ensures leads { LeadsTo (G.known pass).seen (G.known result).seen }
 {
     let (provider, place) = filed;
-    let offer = offer_at(rt, alloc, terms, provider, place);
-    accept(rt, terms, gate, pass, offer, position, before)
+    let claim = offer_at(rt, alloc, terms, provider, place);
+    let (reply, pass) = offer(rt, terms, gate, pass, claim, before);
+    expects(rt, is_accepted(reply, position), "an accepted claim");
+    pass
 }
 
-// Offers the claim at a place of a provider's file, which is refused.
+// Offers the claim at a place of a provider's file, which is refused: it comes back.
 pub fn refuse_at<G: Gate>(
     rt: &(impl Abort + Wait),
     alloc: Global,
@@ -106,15 +45,22 @@ pub fn refuse_at<G: Gate>(
     gate: &G,
     pass: G::Pass,
     filed: (usize, usize),
-    fault: OfferFault,
+    wanted: OfferFault,
 ) -> (G::Pass, Offer)
     requires caller { IsCaller (G.has_pass gate.now) G.known terms.now pass }
     ensures caller { IsCaller (G.has_pass gate.now) G.known terms.now result.0 }
     ensures leads { LeadsTo (G.known pass).seen (G.known result.0).seen }
 {
     let (provider, place) = filed;
-    let offer = offer_at(rt, alloc, terms, provider, place);
-    refuse(rt, terms, gate, pass, offer, fault)
+    let claim = offer_at(rt, alloc, terms, provider, place);
+    let (reply, pass) = offer_once(rt, terms, gate, pass, claim);
+    match reply {
+        Ok(_) => fail(rt, "a refusal"),
+        Err((fault, back)) => {
+            expects(rt, fault == wanted, "this fault");
+            (pass, back)
+        }
+    }
 }
 
 // Takes a claim, which is that at a position.
@@ -131,21 +77,10 @@ pub fn take_job<G: Gate>(
     ensures leads { LeadsTo (G.known pass).seen (G.known result.0).seen }
     ensures at_work { IsAtWork (G.known result.0).seen result.1 }
 {
-    jobs_stay();
-    let _plan = terms.plan();
-    let Ok((reply, pass)) = gate.take(rt, pass) else {
-        panic!(rt; "a reply");
-    };
-    match reply {
-        Ok(Taken::Work(job)) => {
-            assert!(rt; job.position == position);
-            (pass, job)
-        }
-        Err(TakeFault::OutOfMemory) => {
-            again_shared::take_job(rt, terms, gate, pass, position, before)
-        }
-        Ok(_) => panic!(rt; "work"),
-    }
+    let (reply, pass) = take(rt, terms, gate, pass, before);
+    let job = work_of(rt, reply);
+    expects(rt, job.position == position, "the job's position");
+    (pass, job)
 }
 
 // Takes nothing, since nothing is ready.
@@ -160,14 +95,8 @@ pub fn find_nothing<G: Gate>(
     ensures caller { IsCaller (G.has_pass gate.now) G.known terms.now result }
     ensures leads { LeadsTo (G.known pass).seen (G.known result).seen }
 {
-    let _plan = terms.plan();
-    let Ok((reply, pass)) = gate.take(rt, pass) else {
-        panic!(rt; "a reply");
-    };
-    if reply.is_err() {
-        return again_shared::find_nothing(rt, terms, gate, pass, before);
-    }
-    assert!(rt; matches!(reply, Ok(Taken::NothingReady)));
+    let (reply, pass) = take(rt, terms, gate, pass, before);
+    expects(rt, is_nothing_ready(reply), "nothing ready");
     pass
 }
 
@@ -186,20 +115,10 @@ pub fn record<G: Gate>(
     ensures caller { IsCaller (G.has_pass gate.now) G.known terms.now result }
     ensures leads { LeadsTo (G.known pass).seen (G.known result).seen }
 {
-    jobs_stay();
     let outcome = settled(rt, alloc, terms, &job);
-    let (position, paid) = (job.position, outcome.outcome().paid);
-    let Ok((reply, pass)) = gate.finish(rt, pass, job, outcome) else {
-        panic!(rt; "a reply");
-    };
-    match reply {
-        Ok(_) => pass,
-        Err((FinishFault::OutOfMemory, job, outcome)) => {
-            assert!(rt; again::is_paid(&job, &outcome, position, paid));
-            again_shared::record(rt, terms, gate, pass, job, outcome, before)
-        }
-        Err(_) => panic!(rt; "a recorded outcome"),
-    }
+    let (reply, pass) = finish(rt, terms, gate, pass, job, outcome, before);
+    expects(rt, is_recorded(reply), "a recorded outcome");
+    pass
 }
 
 // Finishes a job, which is refused: the job and the outcome come back.
@@ -210,7 +129,7 @@ pub fn refuse_outcome<G: Gate>(
     gate: &G,
     pass: G::Pass,
     job: Job,
-    fault: FinishFault,
+    wanted: FinishFault,
 ) -> (G::Pass, Job, Decision)
     requires caller { IsCaller (G.has_pass gate.now) G.known terms.now pass }
     requires at_work { IsAtWork (G.known pass).seen job }
@@ -218,13 +137,11 @@ pub fn refuse_outcome<G: Gate>(
     ensures leads { LeadsTo (G.known pass).seen (G.known result.0).seen }
 {
     let outcome = settled(rt, alloc, terms, &job);
-    let Ok((reply, pass)) = gate.finish(rt, pass, job, outcome) else {
-        panic!(rt; "a reply");
-    };
+    let (reply, pass) = finish_once(rt, terms, gate, pass, job, outcome);
     match reply {
-        Ok(_) => panic!(rt; "a refusal"),
-        Err((given, job, outcome)) => {
-            assert!(rt; given == fault);
+        Ok(_) => fail(rt, "a refusal"),
+        Err((fault, job, outcome)) => {
+            expects(rt, fault == wanted, "this fault");
             (pass, job, outcome)
         }
     }
@@ -238,24 +155,16 @@ pub fn refuse_end<G: Gate>(
     pass: G::Pass,
     provider: usize,
     count: usize,
-    fault: EndFault,
+    wanted: EndFault,
 ) -> G::Pass
     requires caller { IsCaller (G.has_pass gate.now) G.known terms.now pass }
     requires claims { ForTerms terms.now (λ T. HasClaims T provider count) }
     ensures caller { IsCaller (G.has_pass gate.now) G.known terms.now result }
     ensures leads { LeadsTo (G.known pass).seen (G.known result).seen }
 {
-    let _plan = terms.plan();
-    let Ok((reply, pass)) = gate.end(rt, pass, provider, count) else {
-        panic!(rt; "a reply");
-    };
-    match reply {
-        Ok(_) => panic!(rt; "a refusal"),
-        Err(given) => {
-            assert!(rt; given == fault);
-            pass
-        }
-    }
+    let (reply, pass) = end_once(rt, terms, gate, pass, provider, count);
+    expects(rt, reply.err() == Some(wanted), "this fault");
+    pass
 }
 
 // Takes nothing, since the gate is stopped.
@@ -269,12 +178,7 @@ pub fn find_stopped<G: Gate>(
     ensures caller { IsCaller (G.has_pass gate.now) G.known terms.now result }
     ensures leads { LeadsTo (G.known pass).seen (G.known result).seen }
 {
-    let _plan = terms.plan();
-    let Ok((reply, pass)) = gate.take(rt, pass) else {
-        panic!(rt; "a reply");
-    };
-    match reply {
-        Ok(Taken::Stopped) => pass,
-        _ => panic!(rt; "a stopped gate"),
-    }
+    let (reply, pass) = take_once(rt, terms, gate, pass);
+    expects(rt, is_stopped(reply), "a stopped gate");
+    pass
 }

@@ -9,7 +9,7 @@ use super::calls::{
 use super::events::is_journal;
 use super::filing::{gate_of, is_offer, read_all};
 use super::runs::{Calls, run};
-use super::{again, counts, is_over};
+use super::{again, counts, expects, is_finished, is_over};
 use claim_gate::{Batch, EndFault, Event, FinishFault, GateState, Job, Offer, OfferFault, Terms};
 use settlement::{Acc, Outcome, Verdict};
 use std::alloc::Global;
@@ -62,11 +62,11 @@ fn take_first<'t>(
 {
     let out_of_turn = OfferFault::OutOfTurn { expected: 1 };
     let back = refuse_at(rt, alloc, terms, gate, 1, 0, out_of_turn);
-    assert!(rt; is_offer(&back, 1, 0, "c1"));
+    expects(rt, is_offer(&back, 1, 0, "c1"), "the offer");
     drop(back);
     let job = take_job(rt, terms, gate, 0);
-    assert!(rt; is_job(&job, 0, "c1"));
-    assert!(rt; is_at(job.acc, 0, 0, 0));
+    expects(rt, is_job(&job, 0, "c1"), "the job");
+    expects(rt, is_at(job.acc, 0, 0, 0), "its accumulators");
     job
 }
 
@@ -89,8 +89,8 @@ fn take_other<'t>(rt: &impl Abort, alloc: Global, terms: &'t Terms<'t>, gate: &m
 {
     accept_at(rt, alloc, terms, gate, 2, 0, 2);
     let job = take_job(rt, terms, gate, 2);
-    assert!(rt; is_job(&job, 2, "d1"));
-    assert!(rt; is_at(job.acc, 0, 0, 0));
+    expects(rt, is_job(&job, 2, "d1"), "the job");
+    expects(rt, is_at(job.acc, 0, 0, 0), "its accumulators");
     drop(job);
 }
 
@@ -109,8 +109,12 @@ fn take_second<'t>(
 {
     record(rt, alloc, terms, gate, job);
     let next = take_job(rt, terms, gate, 1);
-    assert!(rt; is_job(&next, 1, "c2"));
-    assert!(rt; is_at(next.acc, 500_000, 600_000, 400_000));
+    expects(rt, is_job(&next, 1, "c2"), "the job");
+    expects(
+        rt,
+        is_at(next.acc, 500_000, 600_000, 400_000),
+        "its accumulators",
+    );
     next
 }
 
@@ -138,12 +142,27 @@ fn end_early<'t>(rt: &impl Abort, alloc: Global, terms: &'t Terms<'t>, gate: &mu
 {
     read_all(rt, alloc, terms, 1, 4);
     refuse_end(rt, terms, gate, 1, 4, EndFault::OutOfTurn { expected: 2 });
-    assert!(rt; gate.counts() == counts(3, 0, 1, false));
+    expects(rt, gate.counts() == counts(3, 0, 1, false), "these counts");
 }
 
-// Whether a journal is that of the worked calls.
-pub fn is_worked(journal: &[Event]) -> bool {
-    is_journal(journal, b"A10T0 A11A20T2 D0 T1 ")
+// The journal of the worked calls.
+pub fn worked_journal() -> &'static [u8] {
+    b"A10T0 A11A20T2 D0 T1 "
+}
+
+// Whether a journal is that one.
+fn is_worked(journal: &[Event]) -> bool {
+    is_journal(journal, worked_journal())
+}
+
+// Whether a gate of the worked calls comes back where its run is to be a finished one.
+fn is_given_back<'t>(gate: GateState<'t>, terms: &'t Terms<'t>) -> bool
+    requires { gate.terms ≡ terms.now }
+{
+    match Batch::from_state(gate, terms) {
+        Ok(_) => false,
+        Err(back) => is_worked(&back.into_journal()),
+    }
 }
 
 // The calls in turn, and a run that isn't finished: the gate comes back.
@@ -151,11 +170,8 @@ pub fn turn_calls(rt: &impl Abort, alloc: Global, terms: &Terms) {
     let mut gate = begin(rt, alloc, terms);
     drop(calls_in_turn(rt, alloc, terms, &mut gate));
     end_early(rt, alloc, terms, &mut gate);
-    assert!(rt; is_worked(gate.journal()));
-    match Batch::from_state(gate, terms) {
-        Ok(_) => panic!(rt; "a journal that isn't finished"),
-        Err(back) => assert!(rt; is_worked(&back.into_journal())),
-    }
+    expects(rt, is_worked(gate.journal()), "this journal");
+    expects(rt, is_given_back(gate, terms), "a run that isn't finished");
 }
 
 #[test]
@@ -183,16 +199,16 @@ fn decide_copy<'t>(
     requires at_work { IsAtWork gate.old job }
 {
     let copy = again::copy(rt, alloc, &job);
-    assert!(rt; is_job(&copy, 0, "c1"));
-    assert!(rt; is_at(copy.acc, 0, 0, 0));
+    expects(rt, is_job(&copy, 0, "c1"), "the job");
+    expects(rt, is_at(copy.acc, 0, 0, 0), "its accumulators");
     record(rt, alloc, terms, gate, job);
     let decided = FinishFault::AlreadyDecided;
     let (back, outcome) = refuse_outcome(rt, alloc, terms, gate, copy, decided);
-    assert!(rt; is_job(&back, 0, "c1"));
-    assert!(rt; is_paid_40(outcome.outcome()));
+    expects(rt, is_job(&back, 0, "c1"), "the job");
+    expects(rt, is_paid_40(outcome.outcome()), "its outcome");
     drop(back);
     drop(outcome);
-    assert!(rt; gate.counts() == counts(1, 0, 1, false));
+    expects(rt, gate.counts() == counts(1, 0, 1, false), "these counts");
 }
 
 pub fn copy_calls(rt: &impl Abort, alloc: Global, terms: &Terms) {
@@ -249,12 +265,13 @@ fn call_stopped<'t>(
 {
     let faults = (OfferFault::Stopped, EndFault::Stopped);
     let offer = refuse_intake(rt, alloc, terms, gate, 2, faults);
-    assert!(rt; is_offer(&offer, 1, 2, "c3"));
+    expects(rt, is_offer(&offer, 1, 2, "c3"), "the offer");
     drop(offer);
     find_stopped(rt, terms, gate);
     let stopped = FinishFault::Stopped;
     let (back, outcome) = refuse_outcome(rt, alloc, terms, gate, job, stopped);
-    assert!(rt; is_job(&back, 1, "c2") && is_paid_40(outcome.outcome()));
+    expects(rt, is_job(&back, 1, "c2"), "the job");
+    expects(rt, is_paid_40(outcome.outcome()), "its outcome");
     drop(back);
     drop(outcome);
 }
@@ -265,7 +282,8 @@ pub fn stop_calls(rt: &impl Abort, alloc: Global, terms: &Terms) {
     let job = calls_in_turn(rt, alloc, terms, &mut gate);
     halt(terms, &mut gate);
     call_stopped(rt, alloc, terms, &mut gate, job);
-    assert!(rt; gate.counts().stopped && is_worked(gate.journal()));
+    expects(rt, gate.counts().stopped, "a stopped gate");
+    expects(rt, is_worked(gate.journal()), "this journal");
     drop(gate);
 }
 
@@ -297,14 +315,12 @@ fn decide_only<'t>(rt: &impl Abort, alloc: Global, terms: &'t Terms<'t>, gate: &
 // A run of one claim, to its end.
 pub fn end_calls(rt: &impl Abort, alloc: Global, terms: &Terms) {
     let mut gate = end_first(rt, alloc, terms);
-    assert!(rt; is_journal(gate.journal(), b"A10E1 C  "));
-    assert!(rt; gate.counts() == counts(1, 1, 0, true));
+    expects(rt, is_journal(gate.journal(), b"A10E1 C  "), "this journal");
+    expects(rt, gate.counts() == counts(1, 1, 0, true), "these counts");
     decide_only(rt, alloc, terms, &mut gate);
-    assert!(rt; is_over(&gate.take()));
-    match Batch::from_state(gate, terms) {
-        Ok(batch) => assert!(rt; batch.journal().len() == 5),
-        Err(_) => panic!(rt; "a finished journal"),
-    }
+    expects(rt, is_over(gate.take()), "the end");
+    let finished = is_finished(gate, terms, b"A10E1 C  T0 D0 ");
+    expects(rt, finished, "a finished journal");
 }
 
 #[test]
@@ -325,8 +341,8 @@ pub fn end_again(rt: &impl Abort, alloc: Global, terms: &Terms) {
     let mut gate = end_first(rt, alloc, terms);
     read_all(rt, alloc, terms, 1, 1);
     refuse_end(rt, terms, &mut gate, 1, 1, EndFault::AlreadyEnded);
-    assert!(rt; is_journal(gate.journal(), b"A10E1 "));
-    assert!(rt; gate.counts() == counts(1, 1, 0, false));
+    expects(rt, is_journal(gate.journal(), b"A10E1 "), "this journal");
+    expects(rt, gate.counts() == counts(1, 1, 0, false), "these counts");
     drop(gate);
 }
 
@@ -348,10 +364,10 @@ pub fn closed_calls(rt: &impl Abort, alloc: Global, terms: &Terms) {
     let mut gate = gate_of(rt, alloc, terms);
     let faults = (OfferFault::Closed, EndFault::Closed);
     let back = refuse_intake(rt, alloc, terms, &mut gate, 0, faults);
-    assert!(rt; is_offer(&back, 1, 0, "c1"));
+    expects(rt, is_offer(&back, 1, 0, "c1"), "the offer");
     drop(back);
-    assert!(rt; is_over(&gate.take()));
-    assert!(rt; gate.into_journal().len() == 1);
+    expects(rt, is_over(gate.take()), "the end");
+    expects(rt, gate.into_journal().len() == 1, "so many events");
 }
 
 #[test]

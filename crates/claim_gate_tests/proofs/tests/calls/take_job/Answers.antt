@@ -1,11 +1,8 @@
-use Rattle.claim_gate_tests.proofs.Filing.{goes_on, work_taken}
-use Rattle.std.proofs.Common.{rules}
+use Rattle.claim_gate_tests.proofs.Filing.{its_job, work_stays}
 use Rattle.claim_gate_tests.proofs.tests.calls.take_job.Goals as goal
 
 pub returns-clause-stays : goal.returns-clause-stays
-returns-clause-stays g c =
-    goes_on c.jobs_stay.ensures c.args.gate.now c.take.new.gate c.take.ensures.terms (search rules)
+returns-clause-stays g c = work_stays c.jobs_stay.ensures c.args.gate.now c.take.new.gate c.take.ensures.leads
 
 pub returns-clause-at_work : goal.returns-clause-at_work
-returns-clause-at_work g c =
-    work_taken c.jobs_stay.ensures c.args.gate.now c.take.new.gate c.in-Ok-Work.job (search rules) (search rules)
+returns-clause-at_work g c = its_job c.take.new.gate c.take.result c.work_of-job.result c.work_of-job.ensures c.take.ensures.work

@@ -1,8 +1,6 @@
-use Rattle.claim_gate_tests.proofs.Filing.{work_found}
-use Rattle.std.proofs.Common.{rules}
+use Rattle.claim_gate_tests.proofs.Filing.{its_job}
 use Rattle.claim_gate_tests.proofs.tests.shared.take_job.Goals as goal
 
-pub returns-in-Ok-Work-clause-at_work : goal.returns-in-Ok-Work-clause-at_work
-returns-in-Ok-Work-clause-at_work g c =
-    rw c.in-Ok-Work.field-0-is
-    (work_found c.jobs_stay.ensures (g.G.Gate.known c.in-Ok.pass) c.in-Ok-Work.job (search rules) (search rules))
+pub returns-clause-at_work : goal.returns-clause-at_work
+returns-clause-at_work g c =
+    its_job (g.G.Gate.known c.take-reply.result.1).seen c.take-reply.result.0 c.work_of-job.result c.work_of-job.ensures c.take-reply.ensures.work

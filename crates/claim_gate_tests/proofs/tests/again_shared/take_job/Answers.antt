@@ -1,6 +1,0 @@
-use Rattle.claim_gate_tests.proofs.Filing.{work_found}
-use Rattle.std.proofs.Common.{rules}
-use Rattle.claim_gate_tests.proofs.tests.again_shared.take_job.Goals as goal
-
-pub returns-clause-at_work : goal.returns-clause-at_work
-returns-clause-at_work g c = work_found c.jobs_stay.ensures (g.G.Gate.known c.in-Ok.pass) c.in-Ok-Work.job (search rules) (search rules)

@@ -1,0 +1,62 @@
+//! Gates behind locks: how they begin, and what their journals are once they are taken out. What is refused memory is asked for once more.
+ghost use Rattle.std.specs.Prelude.{◌≡◌};
+ghost use Rattle.turn_lock.specs.SpinShown.{IsPassOf as IsSpinPassOf, pass_seen};
+ghost use Rattle.turn_lock.specs.TicketShown.{IsPassOf, pass_knows};
+ghost use Rattle.claim_gate.specs.Locked.{lock_of};
+
+use super::events::is_journal;
+use super::filing::gate_of;
+use super::{expects, fail};
+use claim_gate::{GateState, LockedGate, SerialGate, Terms};
+use std::alloc::Global;
+use std::process::Abort;
+use std::sync::Wait;
+use turn_lock::{Pass, Section, SpinLock, SpinPass, TicketLock};
+
+/// A gate to which nothing was offered, behind a spin lock.
+pub fn spinning<'t>(
+    rt: &impl Abort,
+    alloc: Global,
+    terms: &'t Terms<'t>,
+) -> (SpinLock<GateState<'t>>, SpinPass<GateState<'t>>)
+    ensures own { IsSpinPassOf result.0 result.1 }
+    ensures terms { (pass_seen result.1).terms ≡ terms.now }
+{
+    match SpinLock::new(alloc, gate_of(rt, alloc, terms)) {
+        Ok(made) => made,
+        Err(_) => SpinLock::new(alloc, gate_of(rt, alloc, terms)).expect(rt, "memory for a lock"),
+    }
+}
+
+/// The same behind a ticket lock.
+pub fn by_tickets<'t>(
+    rt: &impl Abort,
+    alloc: Global,
+    terms: &'t Terms<'t>,
+) -> (TicketLock<GateState<'t>>, Pass<GateState<'t>>)
+    ensures own { IsPassOf result.0 result.1 }
+    ensures terms { (pass_knows result.1).seen.terms ≡ terms.now }
+{
+    match TicketLock::new(alloc, gate_of(rt, alloc, terms)) {
+        Ok(made) => made,
+        Err(_) => TicketLock::new(alloc, gate_of(rt, alloc, terms)).expect(rt, "memory for a lock"),
+    }
+}
+
+/// Takes the gate of one thread out of its lock: its journal has these events, and no other.
+pub fn ends_with<S: Section + Drop>(
+    rt: &(impl Abort + Wait),
+    gate: &LockedGate<S>,
+    pass: S::Pass,
+    words: &[u8],
+)
+where
+    S::Value: SerialGate + Drop,
+    S::Pass: Send + Drop,
+    requires { S.has_pass (lock_of gate.now) pass }
+{
+    match gate.retire(rt, pass) {
+        Ok(state) => expects(rt, is_journal(state.journal(), words), "this journal"),
+        Err(_) => fail(rt, "the gate of one thread"),
+    }
+}
