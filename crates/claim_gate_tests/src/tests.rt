@@ -18,15 +18,16 @@ mod runs;
 mod shared;
 mod worked;
 
+use again::take_once;
 use claim_gate::{
     Batch, Counts, EndFault, FinishFault, GateState, OfferFault, TakeFault, Taken, Terms,
 };
-use events::is_journal;
+use events::{has_journal, is_journal};
 use filing::gate_of;
 use runs::{Calls, run};
 use std::alloc::Global;
 use std::process::Abort;
-use worked_examples::{first_file, health_plan, second_file};
+use worked_examples::{both_files, health_plan};
 
 // Ends the test. A call of it takes its caller's proof less than a `panic!` there, which puts a message together in the caller.
 fn fail(rt: &impl Abort, wanted: &str) -> ! {
@@ -62,6 +63,11 @@ fn counts(accepted: usize, ended: usize, decided: usize, closed: bool) -> Counts
     }
 }
 
+// Whether a gate is so far.
+fn is_as_far(gate: &GateState, wanted: Counts) -> bool {
+    gate.counts() == wanted
+}
+
 // Whether a gate's run isn't finished.
 fn is_unfinished<'t>(gate: GateState<'t>, terms: &'t Terms<'t>) -> bool
     requires { gate.terms ≡ terms.now }
@@ -83,24 +89,32 @@ fn is_finished<'t>(gate: GateState<'t>, terms: &'t Terms<'t>, words: &[u8]) -> b
 fn begin_calls(rt: &impl Abort, alloc: Global, terms: &Terms) {
     let mut gate = gate_of(rt, alloc, terms);
     gate.foresee(&[]);
-    expects(rt, gate.journal().is_empty(), "an empty journal");
-    expects(rt, gate.counts() == counts(0, 0, 0, false), "no counts");
-    expects(rt, is_nothing_ready(gate.take()), "nothing ready");
+    expects(rt, has_journal(&gate, b""), "an empty journal");
+    expects(rt, is_as_far(&gate, counts(0, 0, 0, false)), "no counts");
+    let reply = take_once(&mut gate);
+    expects(rt, is_nothing_ready(reply), "nothing ready");
     expects(rt, is_unfinished(gate, terms), "a run that isn't finished");
 }
 
 #[test]
 fn nothing_is_offered_yet(rt: HostRuntime) {
-    let files = [first_file(), second_file()];
-    run(&rt, rt.alloc(), health_plan(), &files, None, Calls::Begin);
+    run(
+        &rt,
+        rt.alloc(),
+        health_plan(),
+        both_files(),
+        None,
+        Calls::Begin,
+    );
 }
 
 // A gate that admits no claim is over at once.
 fn admit_none(rt: &impl Abort, alloc: Global, terms: &Terms) {
     let mut gate = gate_of(rt, alloc, terms);
-    expects(rt, is_journal(gate.journal(), b"C  "), "the close");
-    expects(rt, gate.counts() == counts(0, 0, 0, true), "a closed gate");
-    expects(rt, is_over(gate.take()), "the end");
+    expects(rt, has_journal(&gate, b"C  "), "the close");
+    expects(rt, is_as_far(&gate, counts(0, 0, 0, true)), "a closed gate");
+    let reply = take_once(&mut gate);
+    expects(rt, is_over(reply), "the end");
     expects(rt, is_finished(gate, terms, b"C  "), "a finished journal");
 }
 
@@ -110,18 +124,18 @@ fn stop_none(rt: &impl Abort, alloc: Global, terms: &Terms) {
     gate.stop();
     expects(rt, gate.counts().stopped, "a stopped gate");
     expects(rt, gate.counts().closed, "a closed gate");
-    expects(rt, is_stopped(gate.take()), "no work");
+    let reply = take_once(&mut gate);
+    expects(rt, is_stopped(reply), "no work");
     expects(rt, gate.into_journal().len() == 1, "one event");
 }
 
 #[test]
 fn no_claim_is_admitted_though_memory_is_refused(rt: HostRuntime) {
-    let files = [first_file(), second_file()];
     run(
         &rt,
         rt.alloc(),
         health_plan(),
-        &files,
+        both_files(),
         Some(0),
         Calls::AdmitNone,
     );
@@ -129,12 +143,11 @@ fn no_claim_is_admitted_though_memory_is_refused(rt: HostRuntime) {
 
 #[test]
 fn a_stopped_gate_hands_nothing_out(rt: HostRuntime) {
-    let files = [first_file(), second_file()];
     run(
         &rt,
         rt.alloc(),
         health_plan(),
-        &files,
+        both_files(),
         Some(0),
         Calls::StopNone,
     );

@@ -1,6 +1,6 @@
 //! A journal as bytes, so that a test has the wanted one in a line.
 
-use claim_gate::Event;
+use claim_gate::{Event, GateState};
 
 // How many bytes stand for an event.
 const WORD_BYTES: usize = 3;
@@ -43,4 +43,9 @@ pub fn is_journal(journal: &[Event], words: &[u8]) -> bool {
         rest = rest.get(WORD_BYTES..).unwrap_or(&[]);
     }
     rest.is_empty()
+}
+
+// Whether a gate's journal is that one.
+pub fn has_journal(gate: &GateState, words: &[u8]) -> bool {
+    is_journal(gate.journal(), words)
 }

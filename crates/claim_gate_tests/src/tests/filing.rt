@@ -215,6 +215,6 @@ pub fn read_all(rt: &impl Abort, alloc: Global, terms: &Terms, provider: usize, 
 }
 
 // Whether an offer is the claim of this number, of a provider and place.
-pub fn is_offer(offer: &Offer, provider: usize, place: usize, id: &str) -> bool {
+pub fn is_offer(offer: Offer, provider: usize, place: usize, id: &str) -> bool {
     offer.provider == provider && offer.place == place && offer.claim.as_claim().id.as_str() == id
 }

@@ -6,7 +6,7 @@ use super::filing::read_all;
 use super::locks::{by_tickets, ends_with, spinning};
 use super::runs::{Calls, run};
 use super::shared::{accept_at, record, refuse_outcome, take_job};
-use super::worked::{is_at, is_job, is_paid_40, one_claim};
+use super::worked::{is_back, is_job_at, one_file};
 use super::{again, again_shared, counts, expects};
 use claim_gate::{FinishFault, Gate, Job, LockedGate, SerialGate, Terms};
 use journal::jobs_stay;
@@ -31,21 +31,14 @@ fn decide_copy<G: Gate>(
 {
     jobs_stay();
     let copy = again::copy(rt, alloc, &job);
-    expects(rt, is_first_job(&copy), "the first job");
+    expects(rt, is_job_at(&copy, 0, "c1", 0, 0, 0), "the first job");
     let before = counts(1, 1, 0, true);
     let pass = record(rt, alloc, terms, gate, pass, job, before);
     let decided = FinishFault::AlreadyDecided;
     let (pass, back, outcome) = refuse_outcome(rt, alloc, terms, gate, pass, copy, decided);
-    expects(rt, is_job(&back, 0, "c1"), "the job");
-    expects(rt, is_paid_40(outcome.outcome()), "its outcome");
-    drop(back);
-    drop(outcome);
+    let same = is_back(back, outcome, 0, "c1");
+    expects(rt, same, "the job and its outcome");
     pass
-}
-
-// Whether a job is that of the first claim, of a member that has met nothing.
-fn is_first_job(job: &Job) -> bool {
-    is_job(job, 0, "c1") && is_at(job.acc, 0, 0, 0)
 }
 
 // The first claim is accepted, its provider ends, and it is taken and decided.
@@ -105,12 +98,11 @@ pub fn by_both_locks(rt: &(impl Abort + Wait), alloc: Global, terms: &Terms) {
 
 #[test]
 fn an_outcome_is_recorded_once_behind_a_lock_though_memory_is_refused(rt: HostRuntime) {
-    let files = [one_claim()];
     run(
         &rt,
         rt.alloc(),
         health_plan(),
-        &files,
+        one_file(),
         None,
         Calls::DecideTwiceByLocks,
     );

@@ -9,7 +9,7 @@ use super::runs::{Calls, run};
 use super::shared::{
     accept_at, find_nothing, find_stopped, record, refuse_at, refuse_end, refuse_outcome, take_job,
 };
-use super::worked::{is_at, is_job, is_paid_40, worked_journal};
+use super::worked::{is_back, is_job_at, worked_journal};
 use super::{counts, expects, fail};
 use claim_gate::{
     Counts, EndFault, FinishFault, Gate, Job, LockedGate, OfferFault, SerialGate, Terms,
@@ -19,7 +19,7 @@ use std::alloc::Global;
 use std::process::Abort;
 use std::sync::Wait;
 use turn_lock::Section;
-use worked_examples::{first_file, health_plan, second_file};
+use worked_examples::{both_files, health_plan};
 
 // One pass has the first provider's first claim accepted; to the other it is refused.
 fn accept_first<G: Gate>(
@@ -37,8 +37,7 @@ fn accept_first<G: Gate>(
     let one = accept_at(rt, alloc, terms, gate, one, (1, 0), 0, before);
     let out_of_turn = OfferFault::OutOfTurn { expected: 1 };
     let (other, back) = refuse_at(rt, alloc, terms, gate, other, (1, 0), out_of_turn);
-    expects(rt, is_offer(&back, 1, 0, "c1"), "the offer");
-    drop(back);
+    expects(rt, is_offer(back, 1, 0, "c1"), "the offer");
     (one, other)
 }
 
@@ -56,8 +55,7 @@ fn take_first<G: Gate>(
 {
     let (one, other) = accept_first(rt, alloc, terms, gate, passes);
     let (one, job) = take_job(rt, terms, gate, one, 0, counts(1, 0, 0, false));
-    expects(rt, is_job(&job, 0, "c1"), "the job");
-    expects(rt, is_at(job.acc, 0, 0, 0), "its accumulators");
+    expects(rt, is_job_at(&job, 0, "c1", 0, 0, 0), "the job");
     (one, other, job)
 }
 
@@ -97,8 +95,7 @@ fn take_other<G: Gate>(
     let before = counts(2, 0, 0, false);
     let one = accept_at(rt, alloc, terms, gate, one, (2, 0), 2, before);
     let (other, job) = take_job(rt, terms, gate, other, 2, counts(3, 0, 0, false));
-    expects(rt, is_job(&job, 2, "d1"), "the job");
-    expects(rt, is_at(job.acc, 0, 0, 0), "its accumulators");
+    expects(rt, is_job_at(&job, 2, "d1", 0, 0, 0), "the job");
     drop(job);
     (one, other)
 }
@@ -121,11 +118,10 @@ fn take_second<G: Gate>(
     let before = counts(3, 0, 0, false);
     let one = record(rt, alloc, terms, gate, one, job, before);
     let (other, next) = take_job(rt, terms, gate, other, 1, counts(3, 0, 1, false));
-    expects(rt, is_job(&next, 1, "c2"), "the job");
     expects(
         rt,
-        is_at(next.acc, 500_000, 600_000, 400_000),
-        "its accumulators",
+        is_job_at(&next, 1, "c2", 500_000, 600_000, 400_000),
+        "the job",
     );
     (one, other, next)
 }
@@ -180,8 +176,7 @@ fn stopped_calls<G: Gate>(
 {
     let stopped = OfferFault::Stopped;
     let (pass, offer) = refuse_at(rt, alloc, terms, gate, pass, (2, 0), stopped);
-    expects(rt, is_offer(&offer, 2, 0, "d1"), "the offer");
-    drop(offer);
+    expects(rt, is_offer(offer, 2, 0, "d1"), "the offer");
     let pass = refuse_first_end(rt, alloc, terms, gate, pass, EndFault::Stopped);
     find_stopped(rt, terms, gate, pass)
 }
@@ -203,10 +198,8 @@ fn finish_stopped<G: Gate>(
     let pass = stopped_calls(rt, alloc, terms, gate, pass);
     let stopped = FinishFault::Stopped;
     let (pass, job, outcome) = refuse_outcome(rt, alloc, terms, gate, pass, job, stopped);
-    expects(rt, is_job(&job, 1, "c2"), "the job");
-    expects(rt, is_paid_40(outcome.outcome()), "its outcome");
-    drop(job);
-    drop(outcome);
+    let same = is_back(job, outcome, 1, "c2");
+    expects(rt, same, "the job and its outcome");
     pass
 }
 
@@ -270,12 +263,11 @@ pub fn by_a_ticket_lock(rt: &(impl Abort + Wait), alloc: Global, terms: &Terms) 
 
 #[test]
 fn two_passes_take_turns_over_a_spin_lock_though_memory_is_refused(rt: HostRuntime) {
-    let files = [first_file(), second_file()];
     run(
         &rt,
         rt.alloc(),
         health_plan(),
-        &files,
+        both_files(),
         None,
         Calls::TakeTurnsBySpinLock,
     );
@@ -283,12 +275,11 @@ fn two_passes_take_turns_over_a_spin_lock_though_memory_is_refused(rt: HostRunti
 
 #[test]
 fn two_passes_take_turns_over_a_ticket_lock_though_memory_is_refused(rt: HostRuntime) {
-    let files = [first_file(), second_file()];
     run(
         &rt,
         rt.alloc(),
         health_plan(),
-        &files,
+        both_files(),
         None,
         Calls::TakeTurnsByTicketLock,
     );

@@ -4,17 +4,18 @@ ghost use Rattle.std.specs.Prelude.{◌≡◌};
 ghost use Rattle.claim_gate_tests.specs.Words.{IsAtWork, IsCaller};
 
 use super::calls::settled;
-use super::filing::{gate_of, is_offer, offer_at, read_all};
+use super::filing::{is_offer, offer_at, read_all};
+use super::locks::with_used;
 use super::runs::{Calls, run};
 use super::shared::{accept_at, take_job};
-use super::worked::{is_job, is_paid_40};
+use super::worked::is_back;
 use super::{counts, expects, fail};
 use claim_gate::{Gate, Job, LockedGate, SerialGate, Terms};
 use std::alloc::Global;
 use std::process::Abort;
 use std::sync::Wait;
-use turn_lock::{Section, TicketLock};
-use worked_examples::{first_file, health_plan, second_file};
+use turn_lock::Section;
+use worked_examples::{both_files, health_plan};
 
 // The calls of an intake.
 fn worn_intake<G: Gate>(
@@ -32,8 +33,7 @@ fn worn_intake<G: Gate>(
     let Err((_, pass, back)) = gate.offer(rt, pass, offer) else {
         fail(rt, "no ticket for an offer")
     };
-    expects(rt, is_offer(&back, 1, 0, "c1"), "the offer");
-    drop(back);
+    expects(rt, is_offer(back, 1, 0, "c1"), "the offer");
     let Err((_, pass)) = gate.end(rt, pass, 1, 4) else {
         fail(rt, "no ticket for an end")
     };
@@ -114,10 +114,8 @@ fn worn_finish<G: Gate>(
     let Err((_, _pass, job, outcome)) = gate.finish(rt, pass, job, outcome) else {
         fail(rt, "no ticket for a finish")
     };
-    expects(rt, is_job(&job, 0, "c1"), "the job");
-    expects(rt, is_paid_40(outcome.outcome()), "its outcome");
-    drop(job);
-    drop(outcome);
+    let same = is_back(job, outcome, 0, "c1");
+    expects(rt, same, "the job and its outcome");
 }
 
 // The first claim is taken by the last ticket.
@@ -142,26 +140,17 @@ where
 }
 
 fn one_ticket(rt: &(impl Abort + Wait), alloc: Global, terms: &Terms) {
-    let state = gate_of(rt, alloc, terms);
-    let (lock, pass) = TicketLock::new_at(alloc, state, u64::MAX - 1).expect(
-        rt,
-        "memory for a lock",
-    );
+    let (lock, pass) = with_used(rt, alloc, terms, u64::MAX - 1);
     calls_over(rt, alloc, terms, lock, pass)
 }
 
 fn no_ticket(rt: &(impl Abort + Wait), alloc: Global, terms: &Terms) {
-    let state = gate_of(rt, alloc, terms);
-    let (lock, pass) = TicketLock::new_at(alloc, state, u64::MAX).expect(rt, "memory for a lock");
+    let (lock, pass) = with_used(rt, alloc, terms, u64::MAX);
     calls_without(rt, alloc, terms, lock, pass)
 }
 
 pub fn two_tickets(rt: &(impl Abort + Wait), alloc: Global, terms: &Terms) {
-    let state = gate_of(rt, alloc, terms);
-    let (lock, pass) = TicketLock::new_at(alloc, state, u64::MAX - 2).expect(
-        rt,
-        "memory for a lock",
-    );
+    let (lock, pass) = with_used(rt, alloc, terms, u64::MAX - 2);
     finish_over(rt, alloc, terms, lock, pass)
 }
 
@@ -172,12 +161,11 @@ pub fn few_tickets(rt: &(impl Abort + Wait), alloc: Global, terms: &Terms) {
 
 #[test]
 fn no_call_without_a_ticket(rt: HostRuntime) {
-    let files = [first_file(), second_file()];
     run(
         &rt,
         rt.alloc(),
         health_plan(),
-        &files,
+        both_files(),
         None,
         Calls::LastTickets,
     );
@@ -185,12 +173,11 @@ fn no_call_without_a_ticket(rt: HostRuntime) {
 
 #[test]
 fn no_outcome_without_a_ticket(rt: HostRuntime) {
-    let files = [first_file(), second_file()];
     run(
         &rt,
         rt.alloc(),
         health_plan(),
-        &files,
+        both_files(),
         None,
         Calls::OutcomeWithoutTicket,
     );

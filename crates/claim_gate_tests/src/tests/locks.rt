@@ -43,6 +43,20 @@ pub fn by_tickets<'t>(
     }
 }
 
+/// The same behind a ticket lock of which so many tickets are used.
+pub fn with_used<'t>(
+    rt: &impl Abort,
+    alloc: Global,
+    terms: &'t Terms<'t>,
+    used: u64,
+) -> (TicketLock<GateState<'t>>, Pass<GateState<'t>>)
+    ensures own { IsPassOf result.0 result.1 }
+    ensures terms { (pass_knows result.1).seen.terms ≡ terms.now }
+{
+    let gate = gate_of(rt, alloc, terms);
+    TicketLock::new_at(alloc, gate, used).expect(rt, "memory for a lock")
+}
+
 /// Takes the gate of one thread out of its lock: its journal has these events, and no other.
 pub fn ends_with<S: Section + Drop>(
     rt: &(impl Abort + Wait),

@@ -2,9 +2,10 @@
 
 ghost use Rattle.std.specs.Prelude.{◌≡◌};
 ghost use Rattle.turn_lock.specs.TicketShown.{IsPassOf, pass_knows};
+ghost use Rattle.claim_gate_tests.specs.Words.{IsCaller};
 
-use super::filing::{gate_of, is_offer};
-use super::locks::by_tickets;
+use super::filing::is_offer;
+use super::locks::{by_tickets, with_used};
 use super::runs::{Calls, run};
 use super::shared::{accept_at, find_stopped, refuse_at};
 use super::{counts, expects, fail};
@@ -13,7 +14,28 @@ use std::alloc::Global;
 use std::process::Abort;
 use std::sync::Wait;
 use turn_lock::{Pass, TicketLock};
-use worked_examples::{first_file, health_plan, second_file};
+use worked_examples::{both_files, first_file, health_plan};
+
+// The pass finds one claim accepted, which is refused when it is offered again.
+fn finds_one<G: Gate>(
+    rt: &(impl Abort + Wait),
+    alloc: Global,
+    terms: &Terms,
+    gate: &G,
+    pass: G::Pass,
+) -> G::Pass
+    requires caller { IsCaller (G.has_pass gate.now) G.known terms.now pass }
+    ensures caller { IsCaller (G.has_pass gate.now) G.known terms.now result }
+{
+    let Ok((counts, pass)) = gate.counts(rt, pass) else {
+        fail(rt, "counts")
+    };
+    expects(rt, counts.accepted == 1, "these counts");
+    let out_of_turn = OfferFault::OutOfTurn { expected: 1 };
+    let (pass, back) = refuse_at(rt, alloc, terms, gate, pass, (1, 0), out_of_turn);
+    expects(rt, is_offer(back, 1, 0, "c1"), "the offer");
+    pass
+}
 
 // The calls of the two passes.
 #[tactic(auto, using(crate::proofs::Meeting::met_terms))]
@@ -32,14 +54,7 @@ fn met_calls<V: SerialGate + Send + Drop>(
     let before = counts(0, 0, 0, false);
     let one = accept_at(rt, alloc, terms, &gate, one, (1, 0), 0, before);
     let (one, other) = gate.meet(one, other);
-    let Ok((counts, other)) = gate.counts(rt, other) else {
-        fail(rt, "counts")
-    };
-    expects(rt, counts.accepted == 1, "these counts");
-    let out_of_turn = OfferFault::OutOfTurn { expected: 1 };
-    let (other, back) = refuse_at(rt, alloc, terms, &gate, other, (1, 0), out_of_turn);
-    expects(rt, is_offer(&back, 1, 0, "c1"), "the offer");
-    drop(back);
+    let other = finds_one(rt, alloc, terms, &gate, other);
     let Ok(other) = gate.stop(rt, other) else {
         fail(rt, "a stop")
     };
@@ -54,8 +69,14 @@ pub fn meet_once(rt: &(impl Abort + Wait), alloc: Global, terms: &Terms) {
 
 #[test]
 fn two_passes_meet_at_a_gate(rt: HostRuntime) {
-    let files = [first_file(), second_file()];
-    run(&rt, rt.alloc(), health_plan(), &files, None, Calls::Meet);
+    run(
+        &rt,
+        rt.alloc(),
+        health_plan(),
+        both_files(),
+        None,
+        Calls::Meet,
+    );
 }
 
 // Two passes that have seen that no ticket is left: they meet, and have seen so still.
@@ -74,8 +95,7 @@ fn meet_worn<V: SerialGate + Send + Drop>(
 }
 
 pub fn meet_without(rt: &(impl Abort + Wait), alloc: Global, terms: &Terms) {
-    let state = gate_of(rt, alloc, terms);
-    let (lock, pass) = TicketLock::new_at(alloc, state, u64::MAX).expect(rt, "memory for a lock");
+    let (lock, pass) = with_used(rt, alloc, terms, u64::MAX);
     meet_worn(rt, lock, pass);
 }
 

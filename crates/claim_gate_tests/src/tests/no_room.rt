@@ -2,7 +2,7 @@
 ghost use Rattle.std.specs.Prelude.{◌≡◌};
 ghost use Rattle.claim_gate_tests.specs.Words.{IsCaller};
 
-use super::events::is_journal;
+use super::events::has_journal;
 use super::filing::{gate_of, read_all};
 use super::locks::ends_with;
 use super::runs::{Calls, run};
@@ -70,7 +70,7 @@ fn call_alone(rt: &impl Abort, alloc: Global, terms: &Terms, call: Call) {
         Call::Take => drop(calls::take_job(rt, terms, &mut gate, 2)),
         Call::FindNothing => calls::find_nothing(rt, terms, &mut gate),
     }
-    let same = is_journal(gate.journal(), call.journal());
+    let same = has_journal(&gate, call.journal());
     expects(rt, same, "this journal");
     drop(gate);
 }

@@ -15,7 +15,7 @@ use std::sync::atomic::{AtomicU64, Ordering};
 use std::thread;
 use std::thread::Threads;
 use turn_lock::Section;
-use worked_examples::{first_file, health_plan, second_file};
+use worked_examples::{both_files, health_plan};
 
 /// What was accepted at each of the first four positions: the sum, over all callers that were told so, of the place and 1.
 #[derive(Drop)]
@@ -192,8 +192,7 @@ fn rivals<R: Threads + Wait + Abort + Sync>(rt: &R, alloc: Global, terms: &Terms
 
 fn rivals_of_files<R: Threads + Wait + Abort + Sync>(rt: &R, alloc: Global) {
     let plan = plan_of(rt, alloc, health_plan().as_bytes());
-    let files = [first_file(), second_file()];
-    let terms = terms_of(rt, alloc, &plan, &files, None);
+    let terms = terms_of(rt, alloc, &plan, both_files(), None);
     rivals(rt, alloc, &terms);
 }
 

@@ -6,25 +6,35 @@ use super::calls::{
     accept_at, end, find_nothing, find_stopped, halt, record, refuse_at, refuse_end,
     refuse_outcome, take_job,
 };
-use super::events::is_journal;
+use super::events::{has_journal, is_journal};
 use super::filing::{gate_of, is_offer, read_all};
 use super::runs::{Calls, run};
-use super::{again, counts, expects, is_finished, is_over};
-use claim_gate::{Batch, EndFault, Event, FinishFault, GateState, Job, Offer, OfferFault, Terms};
+use super::{again, counts, expects, is_as_far, is_finished, is_over};
+use claim_gate::{
+    Batch, Decision, EndFault, Event, FinishFault, GateState, Job, Offer, OfferFault, Terms,
+};
 use settlement::{Acc, Outcome, Verdict};
 use std::alloc::Global;
 use std::process::Abort;
-use worked_examples::{first_file, header, health_plan, second_file};
+use worked_examples::{both_files, first_file, header, health_plan};
 
 const ONE_CLAIM: &[u8] = b"claim,member,service,billed,code
 c1,M1,2024-01-05,120.00,A
 ";
 
-pub fn one_claim() -> &'static [u8] {
+fn one_claim() -> &'static [u8] {
     ONE_CLAIM
 }
 
-pub fn is_at(acc: Acc, met: i64, oop: i64, paid: i64) -> bool {
+const ONE_FILE: &[&[u8]] = &[ONE_CLAIM];
+
+/// The file of one claim, alone.
+pub fn one_file() -> &'static [&'static [u8]] {
+    ONE_FILE
+}
+
+// Whether a member has met so much of the deductible, and what was paid out of pocket and by the plan; so of a family where there is none.
+fn is_at(acc: Acc, met: i64, oop: i64, paid: i64) -> bool {
     acc.met.amount().units() == met
         && acc.oop.amount().units() == oop
         && acc.paid.amount().units() == paid
@@ -32,12 +42,22 @@ pub fn is_at(acc: Acc, met: i64, oop: i64, paid: i64) -> bool {
         && acc.foop == acc.oop
 }
 
-pub fn is_paid_40(outcome: &Outcome) -> bool {
+fn is_paid_40(outcome: &Outcome) -> bool {
     matches!(outcome.verdict, Verdict::Paid) && outcome.paid.amount().units() == 400_000
 }
 
 pub fn is_job(job: &Job, position: usize, id: &str) -> bool {
     job.position == position && job.claim.as_claim().id.as_str() == id
+}
+
+/// Whether a job is that of a claim, at what its member's earlier ones left.
+pub fn is_job_at(job: &Job, position: usize, id: &str, met: i64, oop: i64, paid: i64) -> bool {
+    is_job(job, position, id) && is_at(job.acc, met, oop, paid)
+}
+
+/// Whether a job and its outcome, which came back, are those of a claim that is paid 40.
+pub fn is_back(job: Job, outcome: Decision, position: usize, id: &str) -> bool {
+    is_job(&job, position, id) && is_paid_40(outcome.outcome())
 }
 
 // A gate that has accepted the first provider's first claim.
@@ -62,11 +82,9 @@ fn take_first<'t>(
 {
     let out_of_turn = OfferFault::OutOfTurn { expected: 1 };
     let back = refuse_at(rt, alloc, terms, gate, 1, 0, out_of_turn);
-    expects(rt, is_offer(&back, 1, 0, "c1"), "the offer");
-    drop(back);
+    expects(rt, is_offer(back, 1, 0, "c1"), "the offer");
     let job = take_job(rt, terms, gate, 0);
-    expects(rt, is_job(&job, 0, "c1"), "the job");
-    expects(rt, is_at(job.acc, 0, 0, 0), "its accumulators");
+    expects(rt, is_job_at(&job, 0, "c1", 0, 0, 0), "the job");
     job
 }
 
@@ -89,8 +107,7 @@ fn take_other<'t>(rt: &impl Abort, alloc: Global, terms: &'t Terms<'t>, gate: &m
 {
     accept_at(rt, alloc, terms, gate, 2, 0, 2);
     let job = take_job(rt, terms, gate, 2);
-    expects(rt, is_job(&job, 2, "d1"), "the job");
-    expects(rt, is_at(job.acc, 0, 0, 0), "its accumulators");
+    expects(rt, is_job_at(&job, 2, "d1", 0, 0, 0), "the job");
     drop(job);
 }
 
@@ -109,11 +126,10 @@ fn take_second<'t>(
 {
     record(rt, alloc, terms, gate, job);
     let next = take_job(rt, terms, gate, 1);
-    expects(rt, is_job(&next, 1, "c2"), "the job");
     expects(
         rt,
-        is_at(next.acc, 500_000, 600_000, 400_000),
-        "its accumulators",
+        is_job_at(&next, 1, "c2", 500_000, 600_000, 400_000),
+        "the job",
     );
     next
 }
@@ -142,7 +158,7 @@ fn end_early<'t>(rt: &impl Abort, alloc: Global, terms: &'t Terms<'t>, gate: &mu
 {
     read_all(rt, alloc, terms, 1, 4);
     refuse_end(rt, terms, gate, 1, 4, EndFault::OutOfTurn { expected: 2 });
-    expects(rt, gate.counts() == counts(3, 0, 1, false), "these counts");
+    expects(rt, is_as_far(gate, counts(3, 0, 1, false)), "these counts");
 }
 
 // The journal of the worked calls.
@@ -170,18 +186,17 @@ pub fn turn_calls(rt: &impl Abort, alloc: Global, terms: &Terms) {
     let mut gate = begin(rt, alloc, terms);
     drop(calls_in_turn(rt, alloc, terms, &mut gate));
     end_early(rt, alloc, terms, &mut gate);
-    expects(rt, is_worked(gate.journal()), "this journal");
+    expects(rt, has_journal(&gate, worked_journal()), "this journal");
     expects(rt, is_given_back(gate, terms), "a run that isn't finished");
 }
 
 #[test]
 fn a_member_s_claims_take_turns_though_memory_is_refused(rt: HostRuntime) {
-    let files = [first_file(), second_file()];
     run(
         &rt,
         rt.alloc(),
         health_plan(),
-        &files,
+        both_files(),
         None,
         Calls::TakeTurns,
     );
@@ -199,16 +214,13 @@ fn decide_copy<'t>(
     requires at_work { IsAtWork gate.old job }
 {
     let copy = again::copy(rt, alloc, &job);
-    expects(rt, is_job(&copy, 0, "c1"), "the job");
-    expects(rt, is_at(copy.acc, 0, 0, 0), "its accumulators");
+    expects(rt, is_job_at(&copy, 0, "c1", 0, 0, 0), "the job");
     record(rt, alloc, terms, gate, job);
     let decided = FinishFault::AlreadyDecided;
     let (back, outcome) = refuse_outcome(rt, alloc, terms, gate, copy, decided);
-    expects(rt, is_job(&back, 0, "c1"), "the job");
-    expects(rt, is_paid_40(outcome.outcome()), "its outcome");
-    drop(back);
-    drop(outcome);
-    expects(rt, gate.counts() == counts(1, 0, 1, false), "these counts");
+    let same = is_back(back, outcome, 0, "c1");
+    expects(rt, same, "the job and its outcome");
+    expects(rt, is_as_far(gate, counts(1, 0, 1, false)), "these counts");
 }
 
 pub fn copy_calls(rt: &impl Abort, alloc: Global, terms: &Terms) {
@@ -220,12 +232,11 @@ pub fn copy_calls(rt: &impl Abort, alloc: Global, terms: &Terms) {
 
 #[test]
 fn an_outcome_is_recorded_once_though_memory_is_refused(rt: HostRuntime) {
-    let files = [first_file(), second_file()];
     run(
         &rt,
         rt.alloc(),
         health_plan(),
-        &files,
+        both_files(),
         None,
         Calls::DecideTwice,
     );
@@ -265,15 +276,12 @@ fn call_stopped<'t>(
 {
     let faults = (OfferFault::Stopped, EndFault::Stopped);
     let offer = refuse_intake(rt, alloc, terms, gate, 2, faults);
-    expects(rt, is_offer(&offer, 1, 2, "c3"), "the offer");
-    drop(offer);
+    expects(rt, is_offer(offer, 1, 2, "c3"), "the offer");
     find_stopped(rt, terms, gate);
     let stopped = FinishFault::Stopped;
     let (back, outcome) = refuse_outcome(rt, alloc, terms, gate, job, stopped);
-    expects(rt, is_job(&back, 1, "c2"), "the job");
-    expects(rt, is_paid_40(outcome.outcome()), "its outcome");
-    drop(back);
-    drop(outcome);
+    let same = is_back(back, outcome, 1, "c2");
+    expects(rt, same, "the job and its outcome");
 }
 
 // The calls in turn, a stop, and each call again.
@@ -283,14 +291,20 @@ pub fn stop_calls(rt: &impl Abort, alloc: Global, terms: &Terms) {
     halt(terms, &mut gate);
     call_stopped(rt, alloc, terms, &mut gate, job);
     expects(rt, gate.counts().stopped, "a stopped gate");
-    expects(rt, is_worked(gate.journal()), "this journal");
+    expects(rt, has_journal(&gate, worked_journal()), "this journal");
     drop(gate);
 }
 
 #[test]
 fn a_stopped_gate_refuses_each_call_though_memory_is_refused(rt: HostRuntime) {
-    let files = [first_file(), second_file()];
-    run(&rt, rt.alloc(), health_plan(), &files, None, Calls::Stop);
+    run(
+        &rt,
+        rt.alloc(),
+        health_plan(),
+        both_files(),
+        None,
+        Calls::Stop,
+    );
 }
 
 // The first provider's only claim is accepted, and the provider ends.
@@ -315,22 +329,21 @@ fn decide_only<'t>(rt: &impl Abort, alloc: Global, terms: &'t Terms<'t>, gate: &
 // A run of one claim, to its end.
 pub fn end_calls(rt: &impl Abort, alloc: Global, terms: &Terms) {
     let mut gate = end_first(rt, alloc, terms);
-    expects(rt, is_journal(gate.journal(), b"A10E1 C  "), "this journal");
-    expects(rt, gate.counts() == counts(1, 1, 0, true), "these counts");
+    expects(rt, has_journal(&gate, b"A10E1 C  "), "this journal");
+    expects(rt, is_as_far(&gate, counts(1, 1, 0, true)), "these counts");
     decide_only(rt, alloc, terms, &mut gate);
-    expects(rt, is_over(gate.take()), "the end");
+    expects(rt, is_over(again::take_once(&mut gate)), "the end");
     let finished = is_finished(gate, terms, b"A10E1 C  T0 D0 ");
     expects(rt, finished, "a finished journal");
 }
 
 #[test]
 fn the_last_end_closes_though_memory_is_refused(rt: HostRuntime) {
-    let files = [one_claim()];
     run(
         &rt,
         rt.alloc(),
         health_plan(),
-        &files,
+        one_file(),
         None,
         Calls::RunToTheEnd,
     );
@@ -341,8 +354,8 @@ pub fn end_again(rt: &impl Abort, alloc: Global, terms: &Terms) {
     let mut gate = end_first(rt, alloc, terms);
     read_all(rt, alloc, terms, 1, 1);
     refuse_end(rt, terms, &mut gate, 1, 1, EndFault::AlreadyEnded);
-    expects(rt, is_journal(gate.journal(), b"A10E1 "), "this journal");
-    expects(rt, gate.counts() == counts(1, 1, 0, false), "these counts");
+    expects(rt, has_journal(&gate, b"A10E1 "), "this journal");
+    expects(rt, is_as_far(&gate, counts(1, 1, 0, false)), "these counts");
     drop(gate);
 }
 
@@ -364,9 +377,8 @@ pub fn closed_calls(rt: &impl Abort, alloc: Global, terms: &Terms) {
     let mut gate = gate_of(rt, alloc, terms);
     let faults = (OfferFault::Closed, EndFault::Closed);
     let back = refuse_intake(rt, alloc, terms, &mut gate, 0, faults);
-    expects(rt, is_offer(&back, 1, 0, "c1"), "the offer");
-    drop(back);
-    expects(rt, is_over(gate.take()), "the end");
+    expects(rt, is_offer(back, 1, 0, "c1"), "the offer");
+    expects(rt, is_over(again::take_once(&mut gate)), "the end");
     expects(rt, gate.into_journal().len() == 1, "so many events");
 }
 
