@@ -1,5 +1,5 @@
 //! The lines of refusals, as the formats give them, where no end-to-end case of the program shows them.
-use crate::testing::says;
+use crate::testing::{expects, says};
 use adjudicate::{ArgumentFault, LINE_LIMIT_BYTES, Stop, ValueStop};
 use claim_terms::TermsFault;
 use crew::RunFault;
@@ -26,21 +26,37 @@ fn the_longest_line_has_room(rt: HostRuntime) {
         cause: CellCause::Trailing,
     });
     let mut buffer = [0; LINE_LIMIT_BYTES];
-    assert!(rt; plan_fault(usize::MAX, cell).write_line(&mut buffer) == 126);
+    expects(
+        &rt,
+        plan_fault(usize::MAX, cell).write_line(&mut buffer) == 126,
+        "126 bytes",
+    );
 }
 
 #[test]
 fn refusals_of_a_plan_and_its_values(rt: HostRuntime) {
     let kind = plan_fault(0, PlanCause::Kind);
-    assert!(rt; says(&kind, "plan fault 5 table 0 rule 0 column 0\n", 1));
+    expects(
+        &rt,
+        says(&kind, "plan fault 5 table 0 rule 0 column 0\n", 1),
+        "the line and the status",
+    );
     let argument = Stop::Value(ValueStop::Argument {
         number: 2,
         fault: ArgumentFault::RepeatedName,
     });
-    assert!(rt; says(&argument, "argument 2 fault 3\n", 1));
+    expects(
+        &rt,
+        says(&argument, "argument 2 fault 3\n", 1),
+        "the line and the status",
+    );
     let name = Name::new(rt.alloc(), "x").expect(&rt, "memory for a name");
     let missing = Stop::Value(ValueStop::Missing(name));
-    assert!(rt; says(&missing, "missing x\n", 1));
+    expects(
+        &rt,
+        says(&missing, "missing x\n", 1),
+        "the line and the status",
+    );
 }
 
 #[test]
@@ -49,10 +65,22 @@ fn refusals_of_the_tables(rt: HostRuntime) {
         table: 32,
         column: 16,
     }));
-    assert!(rt; says(&outside, "fault outside:32:16\n", 1));
+    expects(
+        &rt,
+        says(&outside, "fault outside:32:16\n", 1),
+        "the line and the status",
+    );
     let memory = Stop::Value(ValueStop::from(Fault::OutOfMemory));
-    assert!(rt; says(&memory, "no memory\n", 3));
-    assert!(rt; says(&Stop::from(AllocError), "no memory\n", 3));
+    expects(
+        &rt,
+        says(&memory, "no memory\n", 3),
+        "the line and the status",
+    );
+    expects(
+        &rt,
+        says(&Stop::from(AllocError), "no memory\n", 3),
+        "the line and the status",
+    );
 }
 
 #[test]
@@ -61,7 +89,11 @@ fn refusals_of_the_terms(rt: HostRuntime) {
         provider: 64,
         fault: FileFault::NoHeader,
     });
-    assert!(rt; says(&file, "terms fault 3 file 64 cause 2\n", 1));
+    expects(
+        &rt,
+        says(&file, "terms fault 3 file 64 cause 2\n", 1),
+        "the line and the status",
+    );
     let fault = RowFault {
         column: 0,
         cause: RowCause::FieldCount,
@@ -70,8 +102,16 @@ fn refusals_of_the_terms(rt: HostRuntime) {
         number: 513_479,
         fault,
     }));
-    assert!(rt; says(&record, "terms fault 4 record 513479 cause 1 column 0\n", 1));
-    assert!(rt; says(&Stop::from(TermsFault::OutOfMemory), "no memory\n", 3));
+    expects(
+        &rt,
+        says(&record, "terms fault 4 record 513479 cause 1 column 0\n", 1),
+        "the line and the status",
+    );
+    expects(
+        &rt,
+        says(&Stop::from(TermsFault::OutOfMemory), "no memory\n", 3),
+        "the line and the status",
+    );
 }
 
 /// Faults of a run, their lines and their statuses.
@@ -87,9 +127,13 @@ const RUN_FAULTS: &[(RunFault, &str, u8)] = &[
 fn refusals_of_a_run(rt: HostRuntime) {
     for row in RUN_FAULTS {
         let (fault, line, status) = *row;
-        assert!(rt; says(&Stop::Run(fault), line, status), "{line}");
+        expects(&rt, says(&Stop::Run(fault), line, status), line);
     }
-    assert!(rt; says(&Stop::from(RunFault::OutOfMemory), "no memory\n", 3));
+    expects(
+        &rt,
+        says(&Stop::from(RunFault::OutOfMemory), "no memory\n", 3),
+        "the line and the status",
+    );
 }
 
 /// Why a report ends early, the line and the status.
@@ -103,6 +147,6 @@ fn refusals_of_a_report(rt: HostRuntime) {
     for row in WRITE_CAUSES {
         let (cause, line) = *row;
         let fault = WriteFault { written: 37, cause };
-        assert!(rt; says(&Stop::from(fault), line, 3), "{line}");
+        expects(&rt, says(&Stop::from(fault), line, 3), line);
     }
 }

@@ -15,7 +15,7 @@ pub fn plan_of(rt: &impl Abort, alloc: Global) -> Plan {
         return plan;
     }
     let Ok(plan) = read_plan(alloc, health_plan().as_bytes()) else {
-        panic!(rt; "a plan");
+        fail(rt, "a plan")
     };
     plan
 }
@@ -32,9 +32,24 @@ pub fn terms_of<'a>(
         return terms;
     }
     let Ok(terms) = Terms::new(alloc, plan, files, None, cutoff) else {
-        panic!(rt; "terms");
+        fail(rt, "terms")
     };
     terms
+}
+
+/// Ends the test. A call of it takes its caller's proof less than a `panic!` there, which puts a message together in the caller.
+pub fn fail(rt: &impl Abort, wanted: &str) -> ! {
+    panic!(rt; "not there: {wanted}")
+}
+
+/// Ends the test where this doesn't hold: an `assert!` that has no branch in the caller.
+pub fn expects(rt: &impl Abort, holds: bool, wanted: &str) {
+    assert!(rt; holds, "not there: {wanted}");
+}
+
+/// The same; a number tells which.
+pub fn expects_at(rt: &impl Abort, holds: bool, number: usize) {
+    assert!(rt; holds, "not at {number}");
 }
 
 /// The refusal has this line and this status.

@@ -1,5 +1,5 @@
 //! Runs by worked examples: what each claim comes to is written by hand, whatever the schedule.
-use crate::testing::{plan_of, terms_of};
+use crate::testing::{expects, expects_at, fail, plan_of, terms_of};
 use claim_gate::Batch;
 use claim_terms::Terms;
 use crew::{RunFault, WORKERS_LIMIT, run};
@@ -93,7 +93,7 @@ fn batch_of<'t, R: Threads + Wait + Abort + Sync>(
 ) -> Batch<'t> {
     match run(rt, alloc, terms, workers) {
         Ok(batch) => batch,
-        Err(_) => panic!(rt; "a run"),
+        Err(_) => fail(rt, "a run"),
     }
 }
 
@@ -133,7 +133,7 @@ fn runs_over<R: Threads + Wait + Abort + Sync>(
     wanted: &str,
 ) {
     let Ok(terms) = Terms::new(alloc, plan, files, balances, None) else {
-        panic!(rt; "terms");
+        fail(rt, "terms")
     };
     runs_by_several(rt, alloc, &terms, wanted);
     drop(terms);
@@ -158,10 +158,10 @@ fn check_cutoff<R: Threads + Wait + Abort + Sync>(
     let files = [file_three(), file_three()];
     let terms = terms_of(rt, alloc, plan, &files, Some(cutoff));
     let batch = batch_of(rt, alloc, &terms, 2);
-    assert!(rt; count_of(batch.journal(), "accepts") == accepts, "{cutoff}");
-    assert!(rt; count_of(batch.journal(), "takes") == accepts, "{cutoff}");
-    assert!(rt; count_of(batch.journal(), "decides") == accepts, "{cutoff}");
-    assert!(rt; count_of(batch.journal(), "closes") == 1, "{cutoff}");
+    expects_at(rt, count_of(batch.journal(), "accepts") == accepts, accepts);
+    expects_at(rt, count_of(batch.journal(), "takes") == accepts, accepts);
+    expects_at(rt, count_of(batch.journal(), "decides") == accepts, accepts);
+    expects_at(rt, count_of(batch.journal(), "closes") == 1, accepts);
     drop(batch);
     drop(terms);
 }
@@ -194,8 +194,8 @@ fn check_workers<R: Threads + Wait + Abort + Sync>(
     workers: usize,
 ) {
     match run(rt, alloc, terms, workers) {
-        Ok(_) => panic!(rt; "a refusal"),
-        Err(fault) => assert!(rt; is(fault, RunFault::Workers), "{workers}"),
+        Ok(_) => fail(rt, "a refusal"),
+        Err(fault) => expects_at(rt, is(fault, RunFault::Workers), workers),
     }
 }
 
@@ -219,7 +219,11 @@ fn ends_all<R: Threads + Wait + Abort + Sync>(
 ) {
     let terms = terms_of(rt, alloc, plan, files, None);
     let batch = batch_of(rt, alloc, &terms, workers);
-    assert!(rt; is_ends_and_close(batch.journal(), files.len()));
+    expects(
+        rt,
+        is_ends_and_close(batch.journal(), files.len()),
+        "the ends and the close",
+    );
     drop(batch);
     drop(terms);
 }
@@ -381,7 +385,7 @@ fn faults_have_numbers_and_texts(rt: HostRuntime) {
     write_fault(&rt, &mut text, RunFault::Thread);
     write_fault(&rt, &mut text, RunFault::Worn);
     write_fault(&rt, &mut text, RunFault::Stopped);
-    assert!(rt; text.as_str() == fault_lines());
+    expects(&rt, text.as_str() == fault_lines(), "these lines");
 }
 
 fn is_wanting(fault: RunFault) -> bool {
@@ -397,7 +401,7 @@ fn batch_though_refused<'t, R: Threads + Wait + Abort + Sync>(
     match run(rt, alloc, terms, 2) {
         Ok(batch) => batch,
         Err(fault) => {
-            assert!(rt; is_wanting(fault));
+            expects(rt, is_wanting(fault), "a want of memory");
             batch_of(rt, alloc, terms, 2)
         }
     }
@@ -406,7 +410,7 @@ fn batch_though_refused<'t, R: Threads + Wait + Abort + Sync>(
 fn check_refused<R: Threads + Wait + Abort + Sync>(rt: &R, alloc: Global, plan: &Plan) {
     let terms = terms_of(rt, alloc, plan, both_files(), None);
     let batch = batch_though_refused(rt, alloc, &terms);
-    assert!(rt; batch.journal().len() == 21);
+    expects(rt, batch.journal().len() == 21, "21 events");
     drop(batch);
     drop(terms);
 }

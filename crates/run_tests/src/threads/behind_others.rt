@@ -8,6 +8,7 @@ ghost use Rattle.crew.specs.Sharing.{HasAccepted};
 use super::journals::comes_to;
 use super::outcomes_of_both;
 use super::watched::{WatchedGate, nothing};
+use crate::testing::{expects, fail};
 use claim_gate::{Gate, GateState, LockedGate, Offer, SerialGate, StoredClaim};
 use claim_terms::{Terms, terms_are_seen};
 use crew::run_with;
@@ -44,14 +45,14 @@ fn accept<R: Wait + Abort, G: Gate>(
         claim,
     };
     let Ok((reply, pass)) = gate.offer(rt, pass, offered) else {
-        panic!(rt; "a reply");
+        fail(rt, "a reply")
     };
     match reply {
         Ok(accepted) => {
-            assert!(rt; accepted.position == place);
+            expects(rt, accepted.position == place, "its position");
             pass
         }
-        Err(_) => panic!(rt; "an accepted claim"),
+        Err(_) => fail(rt, "an accepted claim"),
     }
 }
 
@@ -65,15 +66,15 @@ fn first_two(rt: &impl Abort, alloc: Global, terms: &Terms) -> (StoredClaim, Sto
     given_row_has_the_claim();
     let mut rows = match terms.rows(alloc, 1) {
         Ok(rows) => rows,
-        Err(_) => panic!(rt; "rows"),
+        Err(_) => fail(rt, "rows"),
     };
     let first = match rows.next() {
         Ok(Some(Row::Good { claim, .. })) => stored(rt, alloc, claim),
-        _ => panic!(rt; "a claim"),
+        _ => fail(rt, "a claim"),
     };
     let second = match rows.next() {
         Ok(Some(Row::Good { claim, .. })) => stored(rt, alloc, claim),
-        _ => panic!(rt; "a claim"),
+        _ => fail(rt, "a claim"),
     };
     (first, second)
 }
@@ -83,7 +84,7 @@ fn stored(rt: &impl Abort, alloc: Global, claim: Claim) -> StoredClaim
 {
     match StoredClaim::new(alloc, claim) {
         Ok(stored) => stored,
-        Err(_) => panic!(rt; "memory for a claim"),
+        Err(_) => fail(rt, "memory for a claim"),
     }
 }
 
@@ -112,11 +113,11 @@ where
     let theirs = accept(rt, terms, &gate, theirs, 0, first);
     let _ = accept(rt, terms, &gate, theirs, 1, second);
     let Ok(mine) = run_with(rt, alloc, terms, 2, &gate, mine) else {
-        panic!(rt; "a run behind others");
+        fail(rt, "a run behind others")
     };
     match gate.inner().retire(rt, mine) {
         Ok(state) => comes_to(rt, alloc, state.journal(), files, outcomes_of_both()),
-        Err(_) => panic!(rt; "the gate of the run"),
+        Err(_) => fail(rt, "the gate of the run"),
     }
 }
 

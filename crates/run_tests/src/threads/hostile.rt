@@ -5,6 +5,7 @@ ghost use Rattle.std.specs.Prelude.{◌≡◌};
 use super::had;
 use super::met::{watched, watched_from};
 use super::watched::nothing;
+use crate::testing::{expects, expects_at};
 use claim_gate::{Gate, GateState, LockedGate, SerialGate};
 use claim_terms::Terms;
 use crew::{RunFault, run_with};
@@ -27,8 +28,8 @@ fn check_threads<R: Threads + Wait + Abort + Sync>(
     watch.takes = callers;
     watch.offers = 2;
     let met = watched(rt, alloc, terms, workers, watch);
-    assert!(rt; met.fault.is_none(), "{workers}");
-    assert!(rt; met.takes == callers && met.offers == 2, "{workers}");
+    expects_at(rt, met.fault.is_none(), workers);
+    expects_at(rt, met.takes == callers && met.offers == 2, workers);
 }
 
 pub fn check_all_threads<R: Threads + Wait + Abort + Sync>(rt: &R, alloc: Global, terms: &Terms) {
@@ -41,13 +42,21 @@ pub fn check_all_threads<R: Threads + Wait + Abort + Sync>(rt: &R, alloc: Global
 fn check_finished<R: Threads + Wait + Abort + Sync>(rt: &R, alloc: Global, terms: &Terms) {
     let mut watch = nothing();
     watch.overs = 3;
-    assert!(rt; watched(rt, alloc, terms, 2, watch).fault.is_none());
+    expects(
+        rt,
+        watched(rt, alloc, terms, 2, watch).fault.is_none(),
+        "no fault",
+    );
 }
 
 // With two tickets left the lock wears out.
 fn check_worn<R: Threads + Wait + Abort + Sync>(rt: &R, alloc: Global, terms: &Terms) {
     let met = watched_from(rt, alloc, terms, 4, nothing(), u64::MAX - 2);
-    assert!(rt; had(met.fault, RunFault::Worn) && met.is_worn);
+    expects(
+        rt,
+        had(met.fault, RunFault::Worn) && met.is_worn,
+        "this fault",
+    );
 }
 
 // The fault of a run beside a third caller that stops the gate, if there is one.
@@ -108,7 +117,11 @@ fn check_third_caller<R: Threads + Wait + Abort + Sync>(rt: &R, alloc: Global, t
     let state = GateState::new(alloc, terms).expect(rt, "a gate");
     let (lock, pass) = TicketLock::new(alloc, state).expect(rt, "a lock");
     let fault = run_stopped_over(rt, alloc, terms, lock, pass);
-    assert!(rt; fault.is_none() || had(fault, RunFault::Stopped));
+    expects(
+        rt,
+        fault.is_none() || had(fault, RunFault::Stopped),
+        "this fault",
+    );
 }
 
 /// Runs that others call off.

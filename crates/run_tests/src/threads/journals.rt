@@ -1,5 +1,6 @@
 //! What a journal comes to, as text, whatever the schedule was.
 
+use crate::testing::expects;
 use journal::Event;
 use settlement::{Money, Outcome};
 use std::alloc::Global;
@@ -106,7 +107,7 @@ fn write_journal(rt: &impl Abort, text: &mut String, journal: &[Event], provider
 pub fn comes_to(rt: &impl Abort, alloc: Global, journal: &[Event], providers: usize, wanted: &str) {
     let mut text = String::new(alloc);
     write_journal(rt, &mut text, journal, providers);
-    assert!(rt; text.as_str() == wanted);
+    expects(rt, text.as_str() == wanted, "the wanted text");
 }
 
 // How often a journal has the end of a provider.

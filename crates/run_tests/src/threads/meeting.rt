@@ -2,6 +2,7 @@
 
 use super::met::watched_spinning;
 use super::watched::nothing;
+use crate::testing::expects;
 use claim_terms::Terms;
 use std::alloc::Global;
 use std::process::Abort;
@@ -13,7 +14,7 @@ pub fn check_workers<R: Threads + Wait + Abort + Sync>(rt: &R, alloc: Global, te
     let mut watch = nothing();
     watch.takes = 2;
     let met = watched_spinning(rt, alloc, terms, 1, watch);
-    assert!(rt; met.fault.is_none() && met.takes == 2);
+    expects(rt, met.fault.is_none() && met.takes == 2, "no fault");
 }
 
 /// An `offer` of the first provider's intake and one of the second's.
@@ -21,5 +22,9 @@ pub fn check_intakes<R: Threads + Wait + Abort + Sync>(rt: &R, alloc: Global, te
     let mut watch = nothing();
     watch.offers = 2;
     let met = watched_spinning(rt, alloc, terms, 1, watch);
-    assert!(rt; met.fault.is_none() && met.offers == 2 && met.providers == 1 + 2);
+    expects(
+        rt,
+        met.fault.is_none() && met.offers == 2 && met.providers == 1 + 2,
+        "no fault",
+    );
 }

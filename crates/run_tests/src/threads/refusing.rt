@@ -3,7 +3,7 @@
 use super::had;
 use super::met::watched;
 use super::watched::{Watch, nothing};
-use crate::testing::terms_of;
+use crate::testing::{expects, expects_at, terms_of};
 use claim_terms::Terms;
 use crew::RunFault;
 use dtable::Plan;
@@ -26,7 +26,7 @@ fn one_of_each() -> Watch {
 /// A call that is refused is made once more.
 pub fn check_refused_once<R: Threads + Wait + Abort + Sync>(rt: &R, alloc: Global, terms: &Terms) {
     let met = watched(rt, alloc, terms, 2, one_of_each());
-    assert!(rt; met.fault.is_none());
+    expects(rt, met.fault.is_none(), "no fault");
 }
 
 // One file has one intake, so that both of its first calls are the same thread's; of the workers' calls all are refused.
@@ -44,7 +44,7 @@ fn refused_twice(kind: usize) -> Watch {
 fn check_each_kind<R: Threads + Wait + Abort + Sync>(rt: &R, alloc: Global, terms: &Terms) {
     for kind in 0..4 {
         let met = watched(rt, alloc, terms, 2, refused_twice(kind));
-        assert!(rt; had(met.fault, RunFault::OutOfMemory), "{kind}");
+        expects_at(rt, had(met.fault, RunFault::OutOfMemory), kind);
     }
 }
 

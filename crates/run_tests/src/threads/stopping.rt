@@ -3,6 +3,7 @@
 use super::had;
 use super::met::{watched, watched_spinning};
 use super::watched::nothing;
+use crate::testing::expects;
 use claim_terms::Terms;
 use crew::RunFault;
 use std::alloc::Global;
@@ -15,7 +16,7 @@ pub fn check_stopped_gate<R: Threads + Wait + Abort + Sync>(rt: &R, alloc: Globa
     let mut watch = nothing();
     watch.is_stopped = true;
     let met = watched_spinning(rt, alloc, terms, 2, watch);
-    assert!(rt; had(met.fault, RunFault::Stopped));
+    expects(rt, had(met.fault, RunFault::Stopped), "this fault");
 }
 
 /// Each outcome that is handed in behind the stop comes back with its job.
@@ -27,5 +28,9 @@ pub fn check_stopped_outcomes<R: Threads + Wait + Abort + Sync>(
     let mut watch = nothing();
     watch.stops_outcomes = true;
     let met = watched(rt, alloc, terms, 2, watch);
-    assert!(rt; had(met.fault, RunFault::Stopped) && met.handed_back > 0);
+    expects(
+        rt,
+        had(met.fault, RunFault::Stopped) && met.handed_back > 0,
+        "this fault",
+    );
 }
