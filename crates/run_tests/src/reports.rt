@@ -1,5 +1,5 @@
 //! Reports by worked examples: the journals and the reports are written by hand.
-use crate::testing::WhenFull;
+use crate::testing::{WhenFull, expects};
 use fixpoint::Out;
 use journal::Event;
 use remit::WriteCause;
@@ -45,7 +45,7 @@ fn reports_both(rt: &impl Abort, alloc: Global, journal: &[Event]) -> bool {
 fn the_report_of_two_files_though_memory_is_refused(rt: HostRuntime) {
     let journal = of_both_files(&rt, rt.alloc());
     if !reports_both(&rt, rt.alloc(), &journal) {
-        assert!(rt; reports_both(&rt, rt.alloc(), &journal));
+        expects(&rt, reports_both(&rt, rt.alloc(), &journal), "this report");
     }
 }
 
@@ -53,22 +53,28 @@ fn the_report_of_two_files_though_memory_is_refused(rt: HostRuntime) {
 fn the_report_of_no_claims(rt: HostRuntime) {
     let journal = of_no_claims(&rt, rt.alloc());
     let report = empty_remittance().as_bytes();
-    assert!(rt; reports(&rt, rt.alloc(), &[header()], None, &journal, report));
+    expects(
+        &rt,
+        reports(&rt, rt.alloc(), &[header()], None, &journal, report),
+        "this report",
+    );
 }
 
 #[test]
 fn quotes_and_a_late_claim(rt: HostRuntime) {
     let journal = of_one_denied(&rt, rt.alloc());
     let files = [texts::quoted()];
-    assert!(rt;
+    expects(
+        &rt,
         reports(
             &rt,
             rt.alloc(),
             &files,
             Some(1),
             &journal,
-            texts::quoted_report()
-        )
+            texts::quoted_report(),
+        ),
+        "this report",
     );
 }
 
@@ -76,15 +82,17 @@ fn quotes_and_a_late_claim(rt: HostRuntime) {
 fn each_reason_has_its_text(rt: HostRuntime) {
     let journal = of_all_reasons(&rt, rt.alloc());
     let files = [texts::five()];
-    assert!(rt;
+    expects(
+        &rt,
         reports(
             &rt,
             rt.alloc(),
             &files,
             Some(5),
             &journal,
-            texts::reasons_report()
-        )
+            texts::reasons_report(),
+        ),
+        "this report",
     );
 }
 
@@ -92,15 +100,17 @@ fn each_reason_has_its_text(rt: HostRuntime) {
 fn totals_leave_the_range_of_numbers(rt: HostRuntime) {
     let journal = of_great_amounts(&rt, rt.alloc());
     let files = [texts::five()];
-    assert!(rt;
+    expects(
+        &rt,
         reports(
             &rt,
             rt.alloc(),
             &files,
             Some(4),
             &journal,
-            texts::great_report()
-        )
+            texts::great_report(),
+        ),
+        "this report",
     );
 }
 
@@ -115,7 +125,11 @@ fn reports_late(rt: &impl Abort, alloc: Global, files: &[&[u8]], report: &[u8]) 
 fn a_run_that_admits_nothing_though_memory_is_refused(rt: HostRuntime) {
     let report = late_remittance().as_bytes();
     if !reports_late(&rt, rt.alloc(), both_files(), report) {
-        assert!(rt; reports_late(&rt, rt.alloc(), both_files(), report));
+        expects(
+            &rt,
+            reports_late(&rt, rt.alloc(), both_files(), report),
+            "this report",
+        );
     }
 }
 
@@ -148,7 +162,11 @@ fn too_long(rt: &impl Abort, alloc: Global) -> Vec<u8> {
 fn each_fault_of_a_record_has_its_text(rt: HostRuntime) {
     let long = too_long(&rt, rt.alloc());
     let files = [texts::faults(), texts::no_text(), long.as_slice()];
-    assert!(rt; reports_late(&rt, rt.alloc(), &files, texts::faults_report()));
+    expects(
+        &rt,
+        reports_late(&rt, rt.alloc(), &files, texts::faults_report()),
+        "this report",
+    );
 }
 
 #[test]
@@ -156,7 +174,7 @@ fn a_writer_that_takes_nothing(rt: HostRuntime) {
     let journal = of_no_claims(&rt, rt.alloc());
     let mut out = with_room(&rt, rt.alloc(), 0, WhenFull::TakesNothing);
     let answer = write_over(&rt, rt.alloc(), &[header()], None, &journal, &mut out);
-    assert!(rt; is_filled(answer, out, b""));
+    expects(&rt, is_filled(answer, out, b""), "the first bytes");
 }
 
 // Puts behind a text the report's records over a provider's file of records that have one field each.
@@ -193,11 +211,15 @@ fn bytes_are_counted_over_pieces(rt: HostRuntime) {
     let files = [file.as_slice()];
     let mut out = with_room(&rt, rt.alloc(), 66_000, WhenFull::Fails);
     let answer = write_over(&rt, rt.alloc(), &files, Some(0), &[Event::Close], &mut out);
-    assert!(rt; is_filled(answer, out, wanted.as_bytes()));
+    expects(
+        &rt,
+        is_filled(answer, out, wanted.as_bytes()),
+        "the first bytes",
+    );
 }
 
 #[test]
 fn causes_have_numbers(rt: HostRuntime) {
-    assert!(rt; WriteCause::Device.number() == 1);
-    assert!(rt; WriteCause::OutOfMemory.number() == 2);
+    expects(&rt, WriteCause::Device.number() == 1, "1 for the device");
+    expects(&rt, WriteCause::OutOfMemory.number() == 2, "2 for memory");
 }

@@ -1,5 +1,7 @@
 //! Worked runs, by hand: texts, and the remittance of each.
-use crate::testing::{Narrow, WhenFull, is_cut, is_printed, is_refused, is_whole, says};
+use crate::testing::{
+    Narrow, WhenFull, expects, expects_at, is_cut, is_printed, is_refused, is_whole, says,
+};
 use adjudicate::{RunInput, Stop, WORKERS_LIMIT, do_run};
 use fixpoint::Out;
 use std::process::Abort;
@@ -157,7 +159,7 @@ fn gives_at<R: Threads + Wait + Abort + Sync + AllocGlobal>(
     let mut input = run_of(both_files());
     input.workers = workers;
     input.cutoff = cutoff;
-    assert!(rt; gives(rt, input, report), "{workers} {report}");
+    expects(rt, gives(rt, input, report), report);
 }
 
 #[test]
@@ -181,7 +183,7 @@ fn gives_of_file<R: Threads + Wait + Abort + Sync + AllocGlobal>(
 ) {
     let files = [file];
     let input = input_of(health_plan().as_bytes(), balances, &files, 2);
-    assert!(rt; gives(rt, input, report), "{report}");
+    expects(rt, gives(rt, input, report), report);
 }
 
 #[test]
@@ -210,10 +212,10 @@ fn gives_a_split<R: Threads + Wait + Sync + AllocGlobal>(rt: &R, workers: usize)
 
 #[test]
 fn a_cutoff_leaves_claims_over(rt: HostRuntime) {
-    assert!(rt; gives_a_split(&rt, 1));
-    assert!(rt; gives_a_split(&rt, 2));
-    assert!(rt; gives_a_split(&rt, 4));
-    assert!(rt; gives_a_split(&rt, WORKERS_LIMIT));
+    expects(&rt, gives_a_split(&rt, 1), "a split");
+    expects(&rt, gives_a_split(&rt, 2), "a split");
+    expects(&rt, gives_a_split(&rt, 4), "a split");
+    expects(&rt, gives_a_split(&rt, WORKERS_LIMIT), "a split");
 }
 
 // A writer that has room for so many bytes of the report gets these.
@@ -237,17 +239,17 @@ fn a_full_writer_has_the_first_bytes(rt: HostRuntime) {
     for writer in WRITERS {
         let (width, when_full) = *writer;
         for limit in LIMITS {
-            assert!(rt; fills(&rt, *limit, width, when_full), "{limit}");
+            expects_at(&rt, fills(&rt, *limit, width, when_full), *limit);
         }
-        assert!(rt; fills(&rt, remittance().len(), width, when_full), "{width}");
+        expects_at(&rt, fills(&rt, remittance().len(), width, when_full), width);
     }
 }
 
 #[test]
 fn a_writer_is_full_at_each_length(rt: HostRuntime) {
     for limit in 0..remittance().len() {
-        assert!(rt; fills(&rt, limit, 1_024, WhenFull::Fails), "{limit}");
-        assert!(rt; fills(&rt, limit, 1_024, WhenFull::TakesNothing), "{limit}");
+        expects_at(&rt, fills(&rt, limit, 1_024, WhenFull::Fails), limit);
+        expects_at(&rt, fills(&rt, limit, 1_024, WhenFull::TakesNothing), limit);
     }
 }
 
@@ -255,10 +257,16 @@ fn a_writer_is_full_at_each_length(rt: HostRuntime) {
 fn a_write_fault_has_its_line(rt: HostRuntime) {
     let mut out = Out::new(Narrow::new(&rt, rt.alloc(), 37, 1_024, WhenFull::Fails));
     let stop = do_run(&rt, run_of(both_files()), &mut out).expect_err(&rt, "a refusal");
-    assert!(rt; says(&stop, "write fault at 37\n", 3));
-    assert!(rt;
+    expects(
+        &rt,
+        says(&stop, "write fault at 37\n", 3),
+        "the line and the status",
+    );
+    expects(
+        &rt,
         out.into_inner()
-            .has_first(b"provider,record,claim,member,status,r", 37)
+            .has_first(b"provider,record,claim,member,status,r", 37),
+        "the first bytes",
     );
 }
 
@@ -270,19 +278,26 @@ fn lacks_memory(stop: &Stop, taken: &[u8]) -> bool {
     says(stop, "no memory\n", 3) && remittance().as_bytes().starts_with(taken)
 }
 
+// The writer has got the whole remittance.
+fn has_remittance(out: Out<Narrow>) -> bool {
+    out.into_inner()
+        .has_first(remittance().as_bytes(), remittance().len())
+}
+
 /// Run it with each allocation refused in turn: all of them but the writer's are the command's. Which of them is a
 /// thread's differs from run to run; where a thread can't be started the answer says so, and nothing is written.
 #[test]
 fn a_run_or_no_memory(rt: HostRuntime) {
     let mut out = Out::new(Narrow::new(&rt, rt.alloc(), 1_024, 1_024, WhenFull::Fails));
     match do_run(&rt, run_of(both_files()), &mut out) {
-        Ok(()) => assert!(rt;
-            out.into_inner()
-                .has_first(remittance().as_bytes(), remittance().len())
-        ),
+        Ok(()) => expects(&rt, has_remittance(out), "the whole report"),
         Err(stop) => {
-            assert!(rt; !out.failed());
-            assert!(rt; lacks_memory(&stop, out.into_inner().taken()));
+            expects(&rt, !out.failed(), "no failure");
+            expects(
+                &rt,
+                lacks_memory(&stop, out.into_inner().taken()),
+                "a want of memory",
+            );
         }
     }
 }

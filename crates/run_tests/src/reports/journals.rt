@@ -1,4 +1,5 @@
 //! Journals by hand. What is refused memory is asked for once more.
+use crate::testing::fail;
 use dtable::Sequence;
 use feel_tests::{TEXT_LIMIT_BYTES, Text};
 use fixpoint::Fixed;
@@ -81,7 +82,7 @@ fn decision_of(rt: &impl Abort, alloc: Global, outcome: Outcome) -> Decision {
         Ok(decision) => decision,
         Err(back) => match Decision::new(alloc, back.value) {
             Ok(decision) => decision,
-            Err(_) => panic!(rt; "memory for a decision"),
+            Err(_) => fail(rt, "memory for a decision"),
         },
     }
 }

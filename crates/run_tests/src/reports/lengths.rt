@@ -1,7 +1,7 @@
 //! Reports into writers that are full at each length below the report's, once by an error and once by taking nothing.
 use super::journals::of_both_files;
 use super::writing::{is_filled, with_room, write_late, write_over};
-use crate::testing::WhenFull;
+use crate::testing::{WhenFull, expects_at};
 use journal::Event;
 use std::alloc::Global;
 use std::process::Abort;
@@ -11,7 +11,7 @@ use worked_examples::{both_files, late_remittance, remittance};
 fn fills(rt: &impl Abort, alloc: Global, journal: &[Event], limit: usize, when_full: WhenFull) {
     let mut out = with_room(rt, alloc, limit, when_full);
     let answer = write_over(rt, alloc, both_files(), None, journal, &mut out);
-    assert!(rt; is_filled(answer, out, remittance().as_bytes()), "{limit}");
+    expects_at(rt, is_filled(answer, out, remittance().as_bytes()), limit);
 }
 
 #[test]
@@ -27,9 +27,10 @@ fn a_report_is_cut_at_each_length(rt: HostRuntime) {
 fn fills_late(rt: &impl Abort, alloc: Global, limit: usize, when_full: WhenFull) {
     let mut out = with_room(rt, alloc, limit, when_full);
     let answer = write_late(rt, alloc, both_files(), &mut out);
-    assert!(rt;
+    expects_at(
+        rt,
         is_filled(answer, out, late_remittance().as_bytes()),
-        "{limit}"
+        limit,
     );
 }
 

@@ -2,7 +2,7 @@
 use super::journals::{of_both_files, of_no_claims};
 use super::writing::{is_filled, is_whole, late_batch, with_room};
 use super::{push_one_field_records, repeated, texts};
-use crate::testing::{WhenFull, plan_of, terms_of};
+use crate::testing::{WhenFull, expects, expects_at, plan_of, terms_of};
 use claim_terms::Terms;
 use fixpoint::Out;
 use journal::Event;
@@ -81,7 +81,11 @@ fn reports_both_by_threads<R: Threads + Abort + Sync>(
 fn two_files_by_threads_though_memory_is_refused(rt: HostRuntime) {
     let journal = of_both_files(&rt, rt.alloc());
     if !reports_both_by_threads(&rt, rt.alloc(), &journal) {
-        assert!(rt; reports_both_by_threads(&rt, rt.alloc(), &journal));
+        expects(
+            &rt,
+            reports_both_by_threads(&rt, rt.alloc(), &journal),
+            "this report",
+        );
     }
 }
 
@@ -89,7 +93,11 @@ fn two_files_by_threads_though_memory_is_refused(rt: HostRuntime) {
 fn one_file_by_threads(rt: HostRuntime) {
     let journal = of_no_claims(&rt, rt.alloc());
     let report = empty_remittance().as_bytes();
-    assert!(rt; reports_by_threads(&rt, rt.alloc(), &[header()], None, &journal, report));
+    expects(
+        &rt,
+        reports_by_threads(&rt, rt.alloc(), &[header()], None, &journal, report),
+        "this report",
+    );
 }
 
 // A file of so many records that have one field each.
@@ -121,15 +129,17 @@ fn a_text_that_is_not_held_is_written_in_its_turn(rt: HostRuntime) {
     let files = [few.as_slice(), many.as_slice(), few.as_slice()];
     let report = one_field_report(&rt, rt.alloc(), &[3, TOO_MANY, 3]);
     let journal = [Event::Close];
-    assert!(rt;
+    expects(
+        &rt,
         reports_by_threads(
             &rt,
             rt.alloc(),
             &files,
             Some(0),
             &journal,
-            report.as_bytes()
-        )
+            report.as_bytes(),
+        ),
+        "this report",
     );
 }
 
@@ -137,7 +147,11 @@ fn a_text_that_is_not_held_is_written_in_its_turn(rt: HostRuntime) {
 fn the_report_of_a_run_that_admits_nothing_by_threads(rt: HostRuntime) {
     let mut out = Out::new(Vec::new(rt.alloc()));
     let answer = write_late_by_threads(&rt, rt.alloc(), &mut out);
-    assert!(rt; is_whole(&rt, answer, out, late_remittance().as_bytes()));
+    expects(
+        &rt,
+        is_whole(&rt, answer, out, late_remittance().as_bytes()),
+        "the whole report",
+    );
 }
 
 fn fills_by_threads<R: Threads + Abort + Sync>(
@@ -148,7 +162,7 @@ fn fills_by_threads<R: Threads + Abort + Sync>(
 ) {
     let mut out = with_room(rt, alloc, limit, WhenFull::Fails);
     let answer = write_by_threads(rt, alloc, both_files(), None, journal, &mut out);
-    assert!(rt; is_filled(answer, out, remittance().as_bytes()), "{limit}");
+    expects_at(rt, is_filled(answer, out, remittance().as_bytes()), limit);
 }
 
 // A writer is full at once, in the header, behind it, in the first file's records, and in the last file's.
@@ -170,5 +184,9 @@ fn a_report_is_cut_in_a_text_that_is_not_held(rt: HostRuntime) {
     let report = one_field_report(&rt, rt.alloc(), &[3, TOO_MANY]);
     let mut out = with_room(&rt, rt.alloc(), 1_400_000, WhenFull::Fails);
     let answer = write_by_threads(&rt, rt.alloc(), &files, Some(0), &[Event::Close], &mut out);
-    assert!(rt; is_filled(answer, out, report.as_bytes()));
+    expects(
+        &rt,
+        is_filled(answer, out, report.as_bytes()),
+        "the first bytes",
+    );
 }

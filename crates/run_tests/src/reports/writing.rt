@@ -1,7 +1,7 @@
 //! How the tests write reports: what is refused memory before that is asked for once more.
 ghost use Rattle.std.specs.Prelude.{◌≡◌};
 
-use crate::testing::{Narrow, WhenFull, plan_of, terms_of};
+use crate::testing::{Narrow, WhenFull, expects, fail, plan_of, terms_of};
 use claim_gate::{Batch, GateState};
 use claim_terms::Terms;
 use fixpoint::Out;
@@ -40,7 +40,7 @@ pub fn late_batch<'t>(rt: &impl Abort, alloc: Global, terms: &'t Terms<'t>) -> B
 {
     let gate = gate_of(rt, alloc, terms);
     let Ok(batch) = Batch::from_state(gate, terms) else {
-        panic!(rt; "a run that is over");
+        fail(rt, "a run that is over")
     };
     batch
 }
@@ -79,11 +79,15 @@ pub fn is_whole(
     let taken = out.into_inner();
     match answer {
         Ok(()) => {
-            assert!(rt; !has_failed && taken.as_slice() == report);
+            expects(rt, !has_failed && taken.as_slice() == report, "the report");
             true
         }
         Err(fault) => {
-            assert!(rt; taken.len() == fault.written && report.starts_with(taken.as_slice()));
+            expects(
+                rt,
+                taken.len() == fault.written && report.starts_with(taken.as_slice()),
+                "its first bytes",
+            );
             false
         }
     }

@@ -1,5 +1,6 @@
 //! Runs by a plan that keeps accumulators for families.
 use super::*;
+use crate::testing::{expects, expects_at};
 use worked_examples::{family_file, family_plan, family_remittance};
 
 /// What is met by the family leaves the number range with the second member.
@@ -31,7 +32,7 @@ fn families<'a>(files: &'a [&'a [u8]], balances: Option<&'a [u8]>, workers: usiz
 fn gives_of_families<R: Threads + Wait + Abort + Sync + AllocGlobal>(rt: &R, workers: usize) {
     let files = [family_file()];
     let input = families(&files, None, workers);
-    assert!(rt; gives(rt, input, family_remittance()), "{workers}");
+    expects_at(rt, gives(rt, input, family_remittance()), workers);
 }
 
 #[test]
@@ -45,7 +46,11 @@ fn families_in_one_remittance(rt: HostRuntime) {
 #[test]
 fn families_that_begin_with_balances(rt: HostRuntime) {
     let files = [family_file()];
-    assert!(rt; gives(&rt, families(&files, Some(BALANCES), 4), REPORT_BY_BALANCES));
+    expects(
+        &rt,
+        gives(&rt, families(&files, Some(BALANCES), 4), REPORT_BY_BALANCES),
+        "this report",
+    );
 }
 
 #[test]
@@ -53,5 +58,9 @@ fn a_family_whose_sum_is_out_of_range(rt: HostRuntime) {
     let files = [family_file()];
     let mut out = Out::new(Vec::new(rt.alloc()));
     let answer = do_run(&rt, families(&files, Some(BEYOND_THE_RANGE), 4), &mut out);
-    assert!(rt; is_refused(answer, out, "terms fault 4 record 2 cause 9 column 4\n"));
+    expects(
+        &rt,
+        is_refused(answer, out, "terms fault 4 record 2 cause 9 column 4\n"),
+        "this line",
+    );
 }

@@ -1,5 +1,6 @@
 //! Runs that are refused, and in which order.
 use super::*;
+use crate::testing::expects;
 use worked_examples::first_file;
 
 /// A plan that settles no claims.
@@ -37,7 +38,7 @@ const REPEATED: &str = "terms fault 4 record 2 cause 8 column 1\n";
 fn refuses<R: Threads + Wait + Abort + Sync + AllocGlobal>(rt: &R, input: RunInput, line: &str) {
     let mut out = Out::new(Vec::new(rt.alloc()));
     let answer = do_run(rt, input, &mut out);
-    assert!(rt; is_refused(answer, out, line), "{line}");
+    expects(rt, is_refused(answer, out, line), line);
 }
 
 // So it is of both files by this plan, with so many workers.
