@@ -1,6 +1,7 @@
 //! Worked values of the command, and what no clause says: that it succeeds where memory and the writer allow.
 use crate::testing::{
-    Narrow, WhenFull, is_cut, is_printed, is_refused, is_whole, is_whole_or_none, says,
+    Narrow, WhenFull, expects, expects_at, is_cut, is_printed, is_refused, is_whole,
+    is_whole_or_none, says,
 };
 use adjudicate::{do_check, do_harmful_check};
 use fixpoint::Out;
@@ -101,7 +102,7 @@ fn gives(alloc: Global, plan: &str, text: &str) -> bool {
 fn gaps_overlaps_and_wide_tables(rt: HostRuntime) {
     for row in PRINTED {
         let (plan, text) = *row;
-        assert!(rt; gives(rt.alloc(), plan, text), "{text}");
+        expects(&rt, gives(rt.alloc(), plan, text), text);
     }
 }
 
@@ -110,7 +111,7 @@ fn harmful_gaps_and_overlaps(rt: HostRuntime) {
     let alloc = rt.alloc();
     let mut out = Out::new(Vec::new(alloc));
     let result = do_harmful_check(alloc, SOME_HARMFUL.as_bytes(), &mut out);
-    assert!(rt; is_printed(result, out, TOLD_AS_HARMFUL));
+    expects(&rt, is_printed(result, out, TOLD_AS_HARMFUL), "this text");
 }
 
 #[test]
@@ -118,7 +119,11 @@ fn a_text_that_is_no_plan_is_refused(rt: HostRuntime) {
     let alloc = rt.alloc();
     let mut out = Out::new(Vec::new(alloc));
     let result = do_check(alloc, b"version = 4\n", &mut out);
-    assert!(rt; is_refused(result, out, "plan fault 3 table 0 rule 0 column 0\n"));
+    expects(
+        &rt,
+        is_refused(result, out, "plan fault 3 table 0 rule 0 column 0\n"),
+        "this line",
+    );
 }
 
 // A writer that has room for so many bytes of the text gets these.
@@ -137,7 +142,7 @@ fn a_full_writer_has_the_first_bytes(rt: HostRuntime) {
     for writer in WRITERS {
         let (width, when_full) = *writer;
         for limit in 0..50 {
-            assert!(rt; fills(&rt, rt.alloc(), limit, width, when_full), "{limit}");
+            expects_at(&rt, fills(&rt, rt.alloc(), limit, width, when_full), limit);
         }
     }
 }
@@ -147,8 +152,16 @@ fn a_write_fault_has_its_line(rt: HostRuntime) {
     let alloc = rt.alloc();
     let mut out = Out::new(Narrow::new(&rt, alloc, 5, 64, WhenFull::Fails));
     let stop = do_check(alloc, TWO_GAPS.as_bytes(), &mut out).expect_err(&rt, "a refusal");
-    assert!(rt; says(&stop, "write fault at 5\n", 3));
-    assert!(rt; out.into_inner().has_first(b"gap t", 5));
+    expects(
+        &rt,
+        says(&stop, "write fault at 5\n", 3),
+        "the line and the status",
+    );
+    expects(
+        &rt,
+        out.into_inner().has_first(b"gap t", 5),
+        "the first bytes",
+    );
 }
 
 /// Run it with each allocation refused in turn: all of them but the writer's are the command's.
@@ -157,5 +170,9 @@ fn a_check_or_no_memory(rt: HostRuntime) {
     let alloc = rt.alloc();
     let mut out = Out::new(Narrow::new(&rt, alloc, 64, 64, WhenFull::Fails));
     let result = do_check(alloc, TWO_GAPS.as_bytes(), &mut out);
-    assert!(rt; is_whole_or_none(result, out, TOLD_GAPS));
+    expects(
+        &rt,
+        is_whole_or_none(result, out, TOLD_GAPS),
+        "the text or none of it",
+    );
 }

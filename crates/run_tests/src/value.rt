@@ -1,6 +1,7 @@
 //! Worked values of the command, and what no clause says: that it succeeds where memory and the writer allow.
 use crate::testing::{
-    Narrow, WhenFull, is_cut, is_printed, is_refused, is_whole, is_whole_or_none,
+    Narrow, WhenFull, expects, expects_at, is_cut, is_printed, is_refused, is_whole,
+    is_whole_or_none,
 };
 use adjudicate::do_value;
 use fixpoint::Out;
@@ -91,14 +92,14 @@ fn refuses(alloc: Global, plan: &str, arguments: &[&str], line: &str) -> bool {
 fn all_give(rt: &impl Abort, alloc: Global, rows: &[(&str, &[&str], &str)]) {
     for row in rows {
         let (plan, arguments, text) = *row;
-        assert!(rt; gives(alloc, plan, arguments, text), "{text}");
+        expects(rt, gives(alloc, plan, arguments, text), text);
     }
 }
 
 fn all_refuse(rt: &impl Abort, alloc: Global, rows: &[(&str, &[&str], &str)]) {
     for row in rows {
         let (plan, arguments, line) = *row;
-        assert!(rt; refuses(alloc, plan, arguments, line), "{line}");
+        expects(rt, refuses(alloc, plan, arguments, line), line);
     }
 }
 
@@ -128,7 +129,7 @@ fn a_full_writer_has_the_first_bytes(rt: HostRuntime) {
     for writer in WRITERS {
         let (width, when_full) = *writer;
         for limit in 0..15 {
-            assert!(rt; fills(&rt, rt.alloc(), limit, width, when_full), "{limit}");
+            expects_at(&rt, fills(&rt, rt.alloc(), limit, width, when_full), limit);
         }
     }
 }
@@ -139,5 +140,9 @@ fn a_value_or_no_memory(rt: HostRuntime) {
     let alloc = rt.alloc();
     let mut out = Out::new(Narrow::new(&rt, alloc, 32, 32, WhenFull::Fails));
     let result = do_value(alloc, PLAN.as_bytes(), &["x=10"], &mut out);
-    assert!(rt; is_whole_or_none(result, out, "y = 2.5\n"));
+    expects(
+        &rt,
+        is_whole_or_none(result, out, "y = 2.5\n"),
+        "the text or none of it",
+    );
 }

@@ -1,5 +1,6 @@
 //! Tables by their hit policies (DMN 1.4, hit policies), at worked values.
 use super::{gives, refuses};
+use crate::testing::expects;
 use std::alloc::Global;
 use std::process::Abort;
 
@@ -108,7 +109,7 @@ fn hit_policies_give(rt: HostRuntime) {
     for row in PRINTED {
         let (hit, outputs, rules, text) = *row;
         let plan = plan_over_x(&rt, rt.alloc(), hit, outputs, rules);
-        assert!(rt; gives(rt.alloc(), plan.as_str(), &["x=2"], text), "{hit}");
+        expects(&rt, gives(rt.alloc(), plan.as_str(), &["x=2"], text), hit);
     }
 }
 
@@ -117,6 +118,6 @@ fn hit_policies_refuse(rt: HostRuntime) {
     for row in REFUSED {
         let (hit, outputs, rules, line) = *row;
         let plan = plan_over_x(&rt, rt.alloc(), hit, outputs, rules);
-        assert!(rt; refuses(rt.alloc(), plan.as_str(), &["x=2"], line), "{hit}");
+        expects(&rt, refuses(rt.alloc(), plan.as_str(), &["x=2"], line), hit);
     }
 }

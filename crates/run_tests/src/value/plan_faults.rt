@@ -1,6 +1,7 @@
 //! Plans that are refused, each at its place.
 use super::hit_policies::joined;
 use super::{PLAN, refuses};
+use crate::testing::expects;
 
 const FIELD: &str = "{name = \"x\", kind = \"number\"}";
 
@@ -60,7 +61,7 @@ fn a_part_of_the_plan_changed(rt: HostRuntime) {
         let (old, new, line) = *row;
         let (front, back) = PLAN.split_once(old).expect(&rt, "a part of the plan");
         let plan = joined(&rt, alloc, &[front, new, back]);
-        assert!(rt; refuses(alloc, plan.as_str(), &["x=1"], line), "{line}");
+        expects(&rt, refuses(alloc, plan.as_str(), &["x=1"], line), line);
     }
 }
 
@@ -68,7 +69,7 @@ fn a_part_of_the_plan_changed(rt: HostRuntime) {
 fn roles(rt: HostRuntime) {
     let alloc = rt.alloc();
     let line = "plan fault 8 table 0 rule 0 column 2\n";
-    assert!(rt; refuses(alloc, WITHOUT_FEE, &[], line));
+    expects(&rt, refuses(alloc, WITHOUT_FEE, &[], line), line);
     let line = "plan fault 9 table 0 rule 0 column 5\n";
-    assert!(rt; refuses(alloc, RATE_OF_TWO, &[], line));
+    expects(&rt, refuses(alloc, RATE_OF_TWO, &[], line), line);
 }
