@@ -1,8 +1,8 @@
 //! Reads the tables of a plan.
-ghost use Rattle.std.specs.Prelude.{◌≡◌, codes, map};
+ghost use Rattle.std.specs.Prelude.{◌≡◌, ◌≢◌, codes, map, IfNone, IfSome};
 ghost use Rattle.toml.specs.Data.{get};
 ghost use Rattle.toml.specs.View.{view, items_view};
-ghost use Rattle.dtable.specs.PlanFile.{IsHit, IsHitWord, IsTable, AreTables, AreTablesOf};
+ghost use Rattle.dtable.specs.PlanFile.{IsHit, IsHitWord, IsTable, AreTables, AreTablesOf, hit_word};
 ghost use Rattle.dtable.specs.Reading.{Reads};
 ghost use Rattle.dtable.specs.Scope.{seen_of};
 
@@ -108,19 +108,30 @@ fn read_hit(table: &Value, place: Place) -> Result<Hit, PlanFault>
 fn read_hit_word(word: &Value, place: Place) -> Result<Hit, PlanFault>
     ensures { Reads (IsHitWord (view word.now)) result }
 {
-    match text_of(word, place)? {
-        "U" => Ok(Hit::U),
-        "A" => Ok(Hit::A),
-        "P" => Ok(Hit::P),
-        "F" => Ok(Hit::F),
-        "O" => Ok(Hit::O),
-        "R" => Ok(Hit::R),
-        "C" => Ok(Hit::C),
-        "C+" => Ok(Hit::Sum),
-        "C<" => Ok(Hit::Min),
-        "C>" => Ok(Hit::Max),
-        "C#" => Ok(Hit::Count),
-        _ => Err(place.fault(PlanCause::Hit)),
+    match hit_of(text_of(word, place)?) {
+        Some(hit) => Ok(hit),
+        None => Err(place.fault(PlanCause::Hit)),
+    }
+}
+
+/// The hit policy of a word.
+fn hit_of(word: &str) -> Option<Hit>
+    ensures named { IfSome result (λ hit. word.now ≡ hit_word hit) }
+    ensures none { IfNone result ((hit : Hit) → word.now ≢ hit_word hit) }
+{
+    match word {
+        "U" => Some(Hit::U),
+        "A" => Some(Hit::A),
+        "P" => Some(Hit::P),
+        "F" => Some(Hit::F),
+        "O" => Some(Hit::O),
+        "R" => Some(Hit::R),
+        "C" => Some(Hit::C),
+        "C+" => Some(Hit::Sum),
+        "C<" => Some(Hit::Min),
+        "C>" => Some(Hit::Max),
+        "C#" => Some(Hit::Count),
+        _ => None,
     }
 }
 
