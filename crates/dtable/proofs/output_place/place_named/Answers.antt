@@ -1,4 +1,5 @@
-use Rattle.std.proofs.Common.{◌≡◌, ap, sym, ◌∙◌, Some, None, slice_get}
+use Rattle.std.proofs.Common.{arith, ◌≡◌, ap, sym, ◌∙◌, Some, None, slice_get}
+use Rattle.std.proofs.lemmas.Grind.{common_steps}
 use Rattle.std.proofs.lemmas.Option.{slice_get-get_or}
 use Rattle.dtable.proofs.OutputPlaces.{column_named, named_at, passed_by}
 use Rattle.dtable.proofs.output_place.place_named.Goals as goal
@@ -22,3 +23,6 @@ loop-place-preserved c =
     let at : slice_get tables place ≡ Some t = slice_get-get_or tables place t c.loop-place-test.true ∙ ap (λ x. Some x) (sym c.index-tables-place.is) in
     let column : column_named t.outputs name ≡ None = cc in
     λ answers. passed_by tables answers name place t at column ∙ c.loop-place.invariant answers
+
+pub returns : goal.returns
+returns c = grind (arith, common_steps)

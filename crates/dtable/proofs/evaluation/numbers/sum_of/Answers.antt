@@ -1,4 +1,5 @@
-use Rattle.std.proofs.Common.{◌+ℤ◌, ◌+◌, ◌*◌, pos, neg_ℤ, ◌≤ℤ◌, subst, sym}
+use Rattle.std.proofs.Common.{arith, ◌+ℤ◌, ◌+◌, ◌*◌, pos, neg_ℤ, ◌≤ℤ◌, subst, sym}
+use Rattle.std.proofs.lemmas.Grind.{common_steps}
 use Rattle.std.specs.Option.{IfSome}
 use Rattle.fixpoint.specs.Number.{greatest_units}
 use Rattle.dtable.specs.HitPolicy.{number_in}
@@ -15,3 +16,6 @@ loop-rule-preserved c =
       low = subst (λ o. IfSome o (λ units. neg_ℤ (pos (greatest_units * (n + 1))) ≤ℤ units)) (sym c.plus-sum.ensures) (low_more n c.loop-rule.sum c.number_in.result c.loop-rule.invariant.low c.number_in.ensures.in_range);
       high = subst (λ o. IfSome o (λ units. units ≤ℤ pos (greatest_units * (n + 1)))) (sym c.plus-sum.ensures) (high_more n c.loop-rule.sum c.number_in.result c.loop-rule.invariant.high c.number_in.ensures.in_range);
     }
+
+pub returns : goal.returns
+returns c = grind (arith, common_steps)
