@@ -3,7 +3,9 @@ pub mod Giving
 pub mod ReadAlike
 pub mod AllGiven
 pub mod Fields
+pub mod InRange
 pub mod Outcomes
+pub mod Units
 pub mod Texts
 pub mod Remarked
 pub mod PlacedRoles

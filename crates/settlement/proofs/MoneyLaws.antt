@@ -18,6 +18,13 @@ difference_is_amount whole part a b within = record { money = (omega (arith, int
 pub smaller_within : (one other : ℤ) → int_min one other ≤ℤ one
 smaller_within one other = omega (arith, ints, clamps)
 
+pub within_both : (one other whole : ℤ) → one ≤ℤ other → other ≤ℤ whole → one ≤ℤ whole
+within_both one other whole a b = omega (arith, ints)
+
+-- what is within the smaller of two is within the first of them
+pub within_smaller : (amount smaller one other : ℤ) → amount ≤ℤ smaller → smaller ≡ int_min one other → amount ≤ℤ one
+within_smaller amount smaller one other within is = omega (arith, ints, clamps)
+
 -- rounding does not pass a whole number
 half_even_within : (n c : ℕ) → n ≤ 1000000 * c → half_even n ≤ c
 half_even_within n c below = grind (arith, nat_tests)

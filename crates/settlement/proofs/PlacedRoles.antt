@@ -1,5 +1,6 @@
 -- The places of a plan's roles among what its tables answer.
-use Rattle.std.proofs.Common.{◌≡◌, List, [], Some, Result, Ok, Err, refl, subst}
+use Rattle.std.proofs.Common.{◌≡◌, List, [], Some, None, Result, Ok, Err, refl, subst, ◌∙◌}
+use Rattle.std.proofs.lemmas.Option.{same_Some}
 use Rattle.dtable.specs.declared.environment.Answer.{Answer}
 use Rattle.table_faults.specs.declared.fault.Fault.{Fault}
 use Rattle.dtable.specs.declared.inputs.Slot.{Slot}
@@ -21,3 +22,11 @@ placed_in plan given e roles places made has placed =
 -- a plan that is seen so has its roles placed
 pub placed_as : (plan seen : PlanParts) (places : RolePlaces) → seen ≡ plan → ArePlacedFor seen places → ArePlacedFor plan places
 placed_as plan seen places same placed = subst (λ (p : PlanParts). ArePlacedFor p places) same placed
+
+-- roles that are placed are so for their plan
+pub placed_for : (plan : PlanParts) (roles : Roles) (places : RolePlaces) → Some roles ≡ plan.roles → ArePlaced plan.tables roles places → ArePlacedFor plan places
+placed_for plan roles places is placed = λ other has. subst (λ (r : Roles). ArePlaced plan.tables r places) (same_Some roles other (is ∙ has)) placed
+
+-- a plan without roles has no places for them
+pub none_placed : (plan : PlanParts) (places : RolePlaces) → None ≡ plan.roles → ArePlacedFor plan places
+none_placed plan places none = λ roles has. let never : None ≡ Some roles = none ∙ has in absurd cc

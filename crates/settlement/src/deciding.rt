@@ -28,7 +28,6 @@ use std::alloc::{AllocError, Global};
 use std::marker::Model;
 
 /// Decides claims by one valuer, one after another. What the plan reads of a claim is laid out once, and set anew for each.
-#[derive(Drop)]
 pub struct Adjudicator<'v, V: Valuer> {
     valuer: &'v V,
     places: Sequence<usize>,
@@ -36,6 +35,19 @@ pub struct Adjudicator<'v, V: Valuer> {
     roles: RolePlaces,
     vocabulary: Vocabulary,
     memory: Memory,
+}
+
+impl<'v, V: Valuer> Drop for Adjudicator<'v, V> {
+    fn drop(self) {
+        let Adjudicator {
+            valuer: _,
+            places: _,
+            inputs: _,
+            roles: _,
+            vocabulary: _,
+            memory: _,
+        } = self;
+    }
 }
 
 impl<'v, V: Valuer> Model for Adjudicator<'v, V> {
@@ -57,8 +69,7 @@ impl<'v, V: Valuer> Adjudicator<'v, V> {
         ensures { IfOk result (λ adjudicator. adjudicator ≡ V.plan_of valuer.now) }
     {
         let memory = Memory::new(alloc)?;
-        let made = Adjudicator::with_memory(alloc, valuer, memory)?;
-        Ok(made)
+        Adjudicator::with_memory(alloc, valuer, memory)
     }
 
     // An adjudicator that remembers nothing yet.
@@ -93,7 +104,7 @@ impl<'v, V: Valuer> Adjudicator<'v, V> {
         ensures plan { self.new ≡ self.old }
     {
         give(alloc, &mut self.inputs, self.places.as_slice(), claim, &acc)?;
-        let decided = settled(
+        settled(
             alloc,
             self.valuer,
             &self.inputs,
@@ -102,8 +113,7 @@ impl<'v, V: Valuer> Adjudicator<'v, V> {
             &mut self.memory,
             claim.billed,
             acc,
-        )?;
-        Ok(decided)
+        )
     }
 }
 
@@ -119,8 +129,7 @@ pub fn decide<V: Valuer>(
     ensures { IfOk result (λ decided. decided ≡ outcome (V.plan_of valuer.now) claim.now acc) }
 {
     let mut adjudicator = Adjudicator::with_memory(alloc, valuer, Memory::none(alloc))?;
-    let decided = adjudicator.decide(alloc, claim, acc)?;
-    Ok(decided)
+    adjudicator.decide(alloc, claim, acc)
 }
 
 // The outcome of a claim that is billed at so much, by what the valuer's tables answer at these inputs. What the plan gives in their zone
@@ -144,8 +153,7 @@ fn settled<V: Valuer>(
 {
     let Some(zone) = zone_of(valuer, inputs, memory) else {
         let benefit = benefit_of(alloc, valuer, inputs, places, vocabulary)?;
-        let decided = benefit.outcome(billed, &acc)?;
-        return Ok(decided);
+        return benefit.outcome(billed, &acc);
     };
     if let Some(benefit) = memory.get(zone) {
         let decided = benefit.outcome(billed, &acc)?;
@@ -190,10 +198,7 @@ fn benefit_of<V: Valuer>(
 {
     let roles = valuer.plan().roles().unwrap();
     match valuer.value(alloc, inputs) {
-        Ok(env) => {
-            let benefit = by_roles(inputs, &env, roles, places, vocabulary)?;
-            Ok(benefit)
-        }
+        Ok(env) => by_roles(inputs, &env, roles, places, vocabulary),
         Err(fault) => {
             let reason = Reason::of(fault).ok_or(AllocError)?;
             Ok(Benefit::Pended(reason))

@@ -1,7 +1,7 @@
 //! What a plan's roles say of a claim.
 ghost use Rattle.std.specs.Prelude.{◌≡◌, Some, slice_get, IfOk, IsTrue};
 ghost use Rattle.std.specs.List.{filter_map};
-ghost use Rattle.std.specs.Option.{option_and_then, option_copied};
+ghost use Rattle.std.specs.Option.{ok_or, option_and_then, option_copied};
 ghost use Rattle.fixpoint.specs.Money.{is_money, is_rate};
 ghost use Rattle.dtable.specs.Environment.{answer_at};
 ghost use Rattle.settlement.specs.Placed.{IsPlaced, AreFamilyPlaced, AreLimitsPlaced, AreRemarksPlaced, ArePlaced};
@@ -56,15 +56,17 @@ pub fn terms_of(
     requires { ArePlaced env.now.tables roles.now places.now }
     ensures { result ≡ terms inputs.now env.now roles.now }
 {
-    let fee = money_of(value_of(inputs, env, &roles.fee, places.fee)).ok_or(Role::Fee)?;
-    let deductible = money_of(value_of(inputs, env, &roles.deductible, places.deductible)).ok_or(
+    let fee = money_at(inputs, env, &roles.fee, places.fee, Role::Fee)?;
+    let deductible = money_at(
+        inputs,
+        env,
+        &roles.deductible,
+        places.deductible,
         Role::Deductible,
     )?;
-    let copay = money_of(value_of(inputs, env, &roles.copay, places.copay)).ok_or(Role::Copay)?;
+    let copay = money_at(inputs, env, &roles.copay, places.copay, Role::Copay)?;
     let rate = rate_of(value_of(inputs, env, &roles.rate, places.rate)).ok_or(Role::Rate)?;
-    let oop_max = money_of(value_of(inputs, env, &roles.oop_max, places.oop_max)).ok_or(
-        Role::OopMax,
-    )?;
+    let oop_max = money_at(inputs, env, &roles.oop_max, places.oop_max, Role::OopMax)?;
     let family = limits_of(inputs, env, &roles.family, &places.family)?;
     Ok(RoleTerms {
         fee,
@@ -104,10 +106,18 @@ fn family_terms_of(
     requires { AreLimitsPlaced env.now.tables roles.now places.now }
     ensures { result ≡ family_terms inputs.now env.now roles.now }
 {
-    let deductible = money_of(value_of(inputs, env, &roles.deductible, places.deductible)).ok_or(
+    let deductible = money_at(
+        inputs,
+        env,
+        &roles.deductible,
+        places.deductible,
         Role::FamilyDeductible,
     )?;
-    let oop_max = money_of(value_of(inputs, env, &roles.oop_max, places.oop_max)).ok_or(
+    let oop_max = money_at(
+        inputs,
+        env,
+        &roles.oop_max,
+        places.oop_max,
         Role::FamilyOopMax,
     )?;
     Ok(FamilyTerms {
@@ -234,6 +244,20 @@ fn answered<'a>(env: &'a Env, place: Option<OutputPlace>) -> Option<&'a Answer>
         Some(place) => env.at(place),
         None => None,
     }
+}
+
+// The amount of money that a role is; a role that is none is the answer. Its output stands at the place.
+fn money_at(
+    inputs: &Inputs,
+    env: &Env,
+    source: &Source,
+    place: Option<OutputPlace>,
+    role: Role,
+) -> Result<Money, Role>
+    requires { IsPlaced env.now.tables source.now place }
+    ensures { result ≡ ok_or (units_where is_money (value_of inputs.now env.now source.now)) role }
+{
+    money_of(value_of(inputs, env, source, place)).ok_or(role)
 }
 
 fn money_of(value: Option<&Value>) -> Option<Money>

@@ -1,4 +1,5 @@
 use Rattle.std.proofs.Common.{◌≡◌, true, List, Option, ap, sym, subst, ◌∙◌}
+use Rattle.std.proofs.lemmas.Result.{IfOk-weaker}
 use Rattle.dtable.specs.Environment.{env}
 use Rattle.dtable.specs.Plan.{PlanParts}
 use Rattle.settlement.specs.declared.memory.Remembered.{Remembered}
@@ -10,15 +11,16 @@ pub returns-in_default-clause-decided : goal.returns-in_default-clause-decided
 returns-in_default-clause-decided g c =
     let plan = g.V.Valuer.plan_of c.args.valuer.now in
     let given = c.args.inputs.now in
-    c.in_ok-decided.ensures ∙ ap (outcome_by c.args.billed c.args.acc) {y = benefit_of plan.roles given (env plan given)} c.in_ok-benefit.ensures
-    ∙ outcome_by_benefit plan.roles c.args.billed c.args.acc given (env plan given)
+    let given_here = ap (outcome_by c.args.billed c.args.acc) {y = benefit_of plan.roles given (env plan given)} c.in_ok-benefit.ensures
+    ∙ outcome_by_benefit plan.roles c.args.billed c.args.acc given (env plan given) in
+    IfOk-weaker c.outcome.result _ _ (λ decided is. is ∙ given_here) c.outcome.ensures
 
 pub returns-in-Some-get-clause-decided : goal.returns-in-Some-get-clause-decided
 returns-in-Some-get-clause-decided g c =
     let plan = g.V.Valuer.plan_of c.args.valuer.now in
     let given = c.args.inputs.now in
     let remembered = c.requires.true_yet c.in-Some.zone c.in-Some-get.benefit.now c.in-Some-get.ensures given c.in-Some.ensures.inside in
-    c.in_ok-decided-2.ensures ∙ ap (outcome_by c.args.billed c.args.acc) {y = benefit_of plan.roles given (env plan given)} remembered
+    c.in_ok-decided.ensures ∙ ap (outcome_by c.args.billed c.args.acc) {y = benefit_of plan.roles given (env plan given)} remembered
     ∙ outcome_by_benefit plan.roles c.args.billed c.args.acc given (env plan given)
 
 pub returns-in-Some-get-clause-true_still : goal.returns-in-Some-get-clause-true_still
@@ -30,7 +32,7 @@ pub returns-then-not-are_answered-clause-decided : goal.returns-then-not-are_ans
 returns-then-not-are_answered-clause-decided g c =
     let plan = g.V.Valuer.plan_of c.args.valuer.now in
     let given = c.args.inputs.now in
-    c.in_ok-decided-3.ensures ∙ ap (outcome_by c.args.billed c.args.acc) {y = benefit_of plan.roles given (env plan given)} c.in_ok-benefit-2.ensures
+    c.in_ok-decided-2.ensures ∙ ap (outcome_by c.args.billed c.args.acc) {y = benefit_of plan.roles given (env plan given)} c.in_ok-benefit-2.ensures
     ∙ outcome_by_benefit plan.roles c.args.billed c.args.acc given (env plan given)
 
 pub returns-then-not-are_answered-clause-true_still : goal.returns-then-not-are_answered-clause-true_still
@@ -42,7 +44,7 @@ pub returns-clause-decided : goal.returns-clause-decided
 returns-clause-decided g c =
     let plan = g.V.Valuer.plan_of c.args.valuer.now in
     let given = c.args.inputs.now in
-    c.in_ok-decided-3.ensures ∙ ap (outcome_by c.args.billed c.args.acc) {y = benefit_of plan.roles given (env plan given)} c.in_ok-benefit-2.ensures
+    c.in_ok-decided-2.ensures ∙ ap (outcome_by c.args.billed c.args.acc) {y = benefit_of plan.roles given (env plan given)} c.in_ok-benefit-2.ensures
     ∙ outcome_by_benefit plan.roles c.args.billed c.args.acc given (env plan given)
 
 pub returns-clause-true_still : goal.returns-clause-true_still

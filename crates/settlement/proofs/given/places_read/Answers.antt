@@ -1,4 +1,4 @@
-use Rattle.std.proofs.Common.{◌≡◌, ◌<◌, ◌≤◌, true, false, length, filter, ap, ◌∙◌, arith}
+use Rattle.std.proofs.Common.{◌≡◌, ◌<◌, ◌≤◌, true, false, length, filter, take, ◌++◌, [], ◌∷◌, ap, sym, ◌∙◌, arith}
 use Rattle.std.specs.List.{range_with_len}
 use Rattle.std.proofs.lemmas.List.{take_all, append-nil}
 use Rattle.std.proofs.lemmas.List.FromFn.{length-range_with_len}
@@ -16,14 +16,10 @@ loop-place-preserved c =
     elim c.if-is_read.branch [
       | then-is_read+in_ok-push w ↦
           let passes : is_read plan place ≡ true = cc in
-          let step = one_more (is_read plan) names place true below passes in
-          let pushed = w.in_ok-push.ensures.ok in
-          cc
+          w.places-is ∙ w.in_ok-push.ensures.ok ∙ ap (λ places. places ++ place ∷ []) c.loop-place.invariant ∙ sym (one_more (is_read plan) names place true below passes)
       | else-is_read w ↦
           let passes : is_read plan place ≡ false = cc in
-          let step = one_more (is_read plan) names place false below passes in
-          let none = append-nil c.loop-place.places in
-          cc
+          w.places-is ∙ c.loop-place.invariant ∙ sym (one_more (is_read plan) names place false below passes ∙ append-nil (filter (is_read plan) (take place (range_with_len 0 names))))
     ]
 
 pub returns-clause-places : goal.returns-clause-places

@@ -1,4 +1,5 @@
 use Rattle.std.proofs.Common.{◌≡◌, Some, slice_get, ap, sym, ◌∙◌, arith, rules}
+use Rattle.std.proofs.lemmas.Grind.{common_steps}
 use Rattle.std.proofs.lemmas.Option.{slice_get_within}
 use Rattle.settlement.specs.Roles.{text_of}
 use Rattle.settlement.proofs.Texts.{compared_more, other_more}
@@ -25,3 +26,11 @@ loop-value-preserved c =
           let step = other_more values i c.value-item.result c.loop-value-test.true (standing ∙ sym w.in_default.ensures) in
           (rw w.compared-is (before.0 ∙ sym step), rw w.compared-is before.1)
     ]
+
+pub overflow_add-compared : goal.overflow_add-compared
+overflow_add-compared c =
+    let found : slice_get c.args.remarks.now c.loop-value.compared ≡ Some c.in-Some.text.now = search rules in
+    omega (arith, slice_get_within c.args.remarks.now c.loop-value.compared c.in-Some.text.now found, c.len-count.ensures)
+
+pub returns : goal.returns
+returns c = grind (arith, common_steps)

@@ -1,4 +1,5 @@
-use Rattle.std.proofs.Common.{ap, sym, ◌∙◌}
+use Rattle.std.proofs.Common.{List, ℕ, [], ◌∷◌, ◌++◌, ap, sym, ◌∙◌, arith}
+use Rattle.std.proofs.lemmas.Grind.{common_steps}
 use Rattle.settlement.specs.Roles.{text_of}
 use Rattle.settlement.proofs.Texts.{text_more, other_more}
 use Rattle.settlement.proofs.terms.copies_of.Goals.{in-Some+in_ok-new+in_ok-push, in_default}
@@ -11,11 +12,12 @@ loop-value-preserved c =
     let standing = ap text_of (sym c.value-item.is) in
     elim c.match-text_of.branch [
       | in-Some+in_ok-new+in_ok-push w ↦
-          let step = text_more values i c.value-item.result w.in-Some.text.now c.loop-value-test.true (standing ∙ sym w.in-Some.ensures) in
-          let copied = w.in_ok-new.ensures in
-          let pushed = w.in_ok-push.ensures.ok in
-          cc
+          let more = text_more values i c.value-item.result w.in-Some.text.now c.loop-value-test.true (standing ∙ sym w.in-Some.ensures) in
+          w.texts-is ∙ w.in_ok-push.ensures.ok ∙ ap (λ (text : List ℕ). c.loop-value.texts ++ text ∷ []) (w.in_ok-new.ensures ∙ w.as_str.ensures.value)
+          ∙ ap (λ (texts : List (List ℕ)). texts ++ w.in-Some.text.now ∷ []) c.loop-value.invariant ∙ sym more
       | in_default w ↦
-          let step = other_more values i c.value-item.result c.loop-value-test.true (standing ∙ sym w.in_default.ensures) in
-          cc
+          w.texts-is ∙ c.loop-value.invariant ∙ sym (other_more values i c.value-item.result c.loop-value-test.true (standing ∙ sym w.in_default.ensures))
     ]
+
+pub returns : goal.returns
+returns c = grind (arith, common_steps)

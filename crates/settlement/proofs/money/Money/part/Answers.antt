@@ -1,4 +1,5 @@
-use Rattle.std.proofs.Common.{◌≡◌, ◌≤ℤ◌, ℤ, Option, sym, subst}
+use Rattle.std.proofs.Common.{◌≡◌, ◌≤ℤ◌, ℤ, Option, sym, subst, arith}
+use Rattle.std.proofs.lemmas.Grind.{common_steps}
 use Rattle.std.specs.Option.{SomeIff}
 use Rattle.fixpoint.specs.Money.{cents_of_product}
 use Rattle.fixpoint.specs.Number.{IsInRange}
@@ -12,3 +13,6 @@ returns-clause-within c =
     let exact = subst (λ (o : Option ℤ). SomeIff o (IsInRange product) product) c.unwrap.ensures c.mul_cents.ensures.exact in
     let is : c.unwrap.result ≡ product = exact.1 in
     subst (λ (amount : ℤ). c.unwrap.result ≤ℤ amount) c.self.view_is (subst (λ (part : ℤ). part ≤ℤ c.self.inside.amount) (sym is) part.within)
+
+pub unwrap-requires : goal.unwrap-requires
+unwrap-requires c = grind (arith, common_steps)

@@ -1,0 +1,12 @@
+-- Whether a role has its units.
+use Rattle.std.proofs.Common.{◌≡◌, ℤ, Option, Some, None, Ok, Err}
+use Rattle.std.specs.Option.{ok_or}
+use Rattle.reasons.specs.declared.role.Role.{Role}
+
+pub units_there : (found : Option ℤ) (role : Role) (units : ℤ) → Ok units ≡ ok_or found role → found ≡ Some units
+units_there None role units is = absurd cc
+units_there (Some other) role units is = cc
+
+pub units_lacking : (found : Option ℤ) (role told : Role) → Err told ≡ ok_or found role → (found ≡ None) × (told ≡ role)
+units_lacking None role told is = (cc, cc)
+units_lacking (Some other) role told is = absurd cc
