@@ -1,3 +1,5 @@
+use Rattle.std.proofs.Common.{arith}
+use Rattle.std.proofs.lemmas.Grind.{elements}
 use Rattle.lanes.proofs.Moves.{StaysFound, decide-kept, decide-places, work-next}
 use Rattle.lanes.proofs.board.Lanes.decide.Goals as goal
 
@@ -27,3 +29,6 @@ returns-clause-in_turn c =
     let e = c.decide.ensures in
     (decide-kept c.self.inside.names c.self.inside.chains c.decide.new.self c.args.position c.args.left c.decide.result c.self.invariant
     (rw (← c.self.view_is) at c.requires) e.decided (found c) e.refused).in_turn
+
+pub decide-requires-clause-within : goal.decide-requires-clause-within
+decide-requires-clause-within c = grind (arith, elements)

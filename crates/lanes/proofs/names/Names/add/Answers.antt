@@ -1,4 +1,4 @@
-use Rattle.std.proofs.Common.{◌≡◌, ◌++◌, ◌∷◌, [], ◌∙◌, ap, length}
+use Rattle.std.proofs.Common.{◌≡◌, ◌++◌, ◌∷◌, [], ◌∙◌, ap, length, List, ℕ}
 use Rattle.lanes.proofs.Numbers.{Enters, distinct-names, enters, name-new, numbered-more}
 use Rattle.lanes.proofs.names.Names.add.Goals as goal
 
@@ -29,3 +29,6 @@ returns-clause-distinct c =
     distinct-names (c.self.inside.names.items ++ c.args.name.now ∷ []) c.insert.new.self
     (numbered-more c.self.inside.names.items c.self.inside.numbers c.insert.new.self c.args.name.now (one c))
     )
+
+pub returns-clause-added : goal.returns-clause-added
+returns-clause-added c = behind c ∙ ap (λ (names : List (List ℕ)). names ++ c.args.name.now ∷ []) c.self.view_is
