@@ -23,7 +23,7 @@ use settlement::{
 use std::alloc::{AllocError, Global};
 use std::fmt::Write;
 use std::process::Abort;
-use worked_examples::health_plan;
+use worked_examples::{expects, fail, health_plan};
 
 /// So many cents.
 pub fn money(rt: &impl Abort, cents: i64) -> Money {
@@ -51,13 +51,18 @@ pub fn text(rt: &impl Abort, alloc: Global, text: &str) -> Text {
 }
 
 fn value(rt: &impl Abort, alloc: Global, kind: Kind, text: &str) -> Value {
-    match read_plain(alloc, kind, text) {
+    match plain(alloc, kind, text) {
         Ok(value) => value,
         Err(fault) => {
-            assert!(rt; matches!(fault, PlainFault::OutOfMemory));
-            read_plain(alloc, kind, text).expect(rt, "a value")
+            expects(rt, matches!(fault, PlainFault::OutOfMemory), "a value");
+            plain(alloc, kind, text).expect(rt, "a value")
         }
     }
+}
+
+// The call that is made twice; what it promises isn't needed.
+fn plain(alloc: Global, kind: Kind, text: &str) -> Result<Value, PlainFault> {
+    read_plain(alloc, kind, text)
 }
 
 // Room for so many values.
@@ -72,7 +77,7 @@ fn values(rt: &impl Abort, alloc: Global, plan: &Plan, texts: &[&str]) -> Sequen
     let mut values = room(rt, alloc, texts.len());
     for (data, text) in fields_of(plan).iter().zip(texts) {
         let pushed = values.push(value(rt, alloc, data.kind, text));
-        assert!(rt; pushed.is_ok());
+        expects(rt, pushed.is_ok(), "room for a value");
     }
     values
 }
@@ -99,12 +104,23 @@ fn claim(rt: &impl Abort, alloc: Global, plan: &Plan, billed: i64, texts: &[&str
 
 // The outcome of a claim by the plan.
 fn decided(rt: &impl Abort, alloc: Global, plan: &Plan, claim: &Claim, before: &Acc) -> Outcome {
+    match decided_once(rt, alloc, plan, claim, before) {
+        Ok(outcome) => outcome,
+        Err(_) => decided_once(rt, alloc, plan, claim, before).expect(rt, "memory for an outcome"),
+    }
+}
+
+// The call that is made twice.
+fn decided_once(
+    rt: &impl Abort,
+    alloc: Global,
+    plan: &Plan,
+    claim: &Claim,
+    before: &Acc,
+) -> Result<Outcome, AllocError> {
     assert!(rt; plan.roles().is_some());
     assert!(rt; claim.is_of(plan));
-    match decide(alloc, plan, claim, *before) {
-        Ok(outcome) => outcome,
-        Err(_) => decide(alloc, plan, claim, *before).expect(rt, "memory for an outcome"),
-    }
+    decide(alloc, plan, claim, *before)
 }
 
 // The outcome of one claim more.
@@ -133,7 +149,8 @@ fn told(rt: &impl Abort, alloc: Global, outcome: &Outcome, before: &Acc, family:
     let mut told = String::new(alloc);
     if tell(&mut told, outcome, before, family).is_err() {
         told.clear();
-        assert!(rt; tell(&mut told, outcome, before, family).is_ok());
+        let again = tell(&mut told, outcome, before, family);
+        expects(rt, again.is_ok(), "memory for what is told");
     }
     told
 }
@@ -155,16 +172,24 @@ fn tell(
 }
 
 fn tell_amounts(told: &mut String, outcome: &Outcome) -> Result<(), AllocError> {
-    tell_amount(told, outcome.allowed)?;
-    tell_amount(told, outcome.ded)?;
-    tell_amount(told, outcome.copay)?;
-    tell_amount(told, outcome.coins)?;
-    tell_amount(told, outcome.share)?;
-    tell_amount(told, outcome.paid)
+    tell_each(
+        told,
+        &[
+            outcome.allowed,
+            outcome.ded,
+            outcome.copay,
+            outcome.coins,
+            outcome.share,
+            outcome.paid,
+        ],
+    )
 }
 
-fn tell_amount(told: &mut String, amount: Money) -> Result<(), AllocError> {
-    write!(told, " {}", cents(amount))
+fn tell_each(told: &mut String, amounts: &[Money]) -> Result<(), AllocError> {
+    for amount in amounts {
+        write!(told, " {}", cents(*amount))?;
+    }
+    Ok(())
 }
 
 fn tell_left(told: &mut String, left: Option<Acc>, family: bool) -> Result<(), AllocError> {
@@ -176,20 +201,18 @@ fn tell_left(told: &mut String, left: Option<Acc>, family: bool) -> Result<(), A
 
 fn tell_acc(told: &mut String, acc: Acc, family: bool) -> Result<(), AllocError> {
     told.push(',')?;
-    tell_amount(told, acc.met)?;
-    tell_amount(told, acc.oop)?;
-    tell_amount(told, acc.paid)?;
+    tell_each(told, &[acc.met, acc.oop, acc.paid])?;
     if family {
-        tell_amount(told, acc.fmet)?;
-        tell_amount(told, acc.foop)?;
+        tell_each(told, &[acc.fmet, acc.foop])?;
     }
     Ok(())
 }
 
-fn is_told(rt: &impl Abort, alloc: Global, outcome: &Outcome, example: &Example) {
+fn is_told(rt: &impl Abort, alloc: Global, outcome: Outcome, example: &Example) {
     let (_, _, before, wanted) = example;
-    let told = told(rt, alloc, outcome, &acc(rt, *before), false);
-    assert_eq!(rt; told.as_str(), *wanted);
+    let told = told(rt, alloc, &outcome, &acc(rt, *before), false);
+    expects(rt, told.as_str() == *wanted, wanted);
+    drop(outcome);
 }
 
 // Decides a claim by the plan.
@@ -197,19 +220,23 @@ fn settles(rt: &impl Abort, alloc: Global, plan: &Plan, example: &Example) {
     let (fields, billed, before, _) = example;
     let claim = claim(rt, alloc, plan, *billed, fields);
     let outcome = decided(rt, alloc, plan, &claim, &acc(rt, *before));
-    is_told(rt, alloc, &outcome, example);
-    drop(outcome);
+    is_told(rt, alloc, outcome, example);
     drop(claim);
 }
 
 fn plan(rt: &impl Abort, alloc: Global, text: &str) -> Plan {
-    match read_plan(alloc, text.as_bytes()) {
+    match read(alloc, text) {
         Ok(plan) => plan,
         Err(fault) => {
-            assert_eq!(rt; fault, PlanFault::from(AllocError));
-            read_plan(alloc, text.as_bytes()).expect(rt, "a plan")
+            expects(rt, fault == PlanFault::from(AllocError), "a plan");
+            read(alloc, text).expect(rt, "a plan")
         }
     }
+}
+
+// The call that is made twice; what it promises isn't needed.
+fn read(alloc: Global, text: &str) -> Result<Plan, PlanFault> {
+    read_plan(alloc, text.as_bytes())
 }
 
 // Decides the claims by the plan, each by a call of its own.
@@ -228,7 +255,7 @@ fn amounts_written_in_the_plan(rt: HostRuntime) {
 
 #[test]
 fn a_rate_above_one(rt: HostRuntime) {
-    assert!(rt; Role::Rate.number() == 5);
+    expects(&rt, Role::Rate.number() == 5, "the rate's number");
     decides(&rt, rt.alloc(), rate_of_claim(), rates());
 }
 
@@ -285,16 +312,15 @@ fn settles_next(
             decided_next(rt, alloc, desk, plan, example).expect(rt, "memory for an outcome")
         }
     };
-    is_told(rt, alloc, &outcome, example);
-    drop(outcome);
+    is_told(rt, alloc, outcome, example);
 }
 
 // Decides two claims by one adjudicator.
 fn settles_both(rt: &impl Abort, alloc: Global, plan: &Plan, examples: &[Example]) {
-    let mut desk = desk(rt, alloc, plan);
     let [first, second] = examples else {
-        panic!(rt; "two claims");
+        fail(rt, "two claims")
     };
+    let mut desk = desk(rt, alloc, plan);
     settles_next(rt, alloc, &mut desk, plan, first);
     settles_next(rt, alloc, &mut desk, plan, second);
     drop(desk);
@@ -325,8 +351,7 @@ fn what_each_claim_and_each_member_has(rt: HostRuntime) {
 fn settles_after_a_refusal(rt: &impl Abort, alloc: Global, plan: &Plan) {
     let mut desk = desk(rt, alloc, plan);
     if let Ok(outcome) = decided_next(rt, alloc, &mut desk, plan, &before_capped()) {
-        is_told(rt, alloc, &outcome, &before_capped());
-        drop(outcome);
+        is_told(rt, alloc, outcome, &before_capped());
     }
     settles_next(rt, alloc, &mut desk, plan, &capped());
     drop(desk);
@@ -368,8 +393,8 @@ fn added() -> &'static [((i64, i64, i64), &'static str)] {
 
 fn leaves(rt: &impl Abort, alloc: Global, outcome: &Outcome, before: Acc, wanted: &str) {
     let mut told = String::new(alloc);
-    assert!(rt; tell_left(&mut told, after(before, outcome), false).is_ok());
-    assert_eq!(rt; told.as_str(), wanted);
+    let written = tell_left(&mut told, after(before, outcome), false);
+    expects(rt, written.is_ok() && told.as_str() == wanted, wanted);
 }
 
 #[test]
@@ -393,25 +418,26 @@ fn an_outcome_may_cross_threads(rt: HostRuntime) {
 // The claim has the fields of its plan, and not those of another, which has more.
 fn fits_one(rt: &impl Abort, alloc: Global, plan: &Plan) {
     let claim = claim(rt, alloc, plan, 100, &["A"]);
-    assert!(rt; claim.is_of(plan));
-    fits_not(rt, alloc, &claim);
+    expects(rt, claim.is_of(plan), "a claim of its plan");
+    fits_not(rt, alloc, claim);
+}
+
+fn fits_not(rt: &impl Abort, alloc: Global, claim: Claim) {
+    let more = has_more(plan(rt, alloc, open()), claim);
+    expects(rt, more, "fields that the claim hasn't");
+}
+
+fn has_more(open: Plan, claim: Claim) -> bool {
+    let more = fields_of(&open).len() == 6 && !claim.is_of(&open);
     drop(claim);
-}
-
-fn fits_not(rt: &impl Abort, alloc: Global, claim: &Claim) {
-    let open = plan(rt, alloc, open());
-    assert!(rt; has_more(&open, claim));
     drop(open);
-}
-
-fn has_more(open: &Plan, claim: &Claim) -> bool {
-    fields_of(open).len() == 6 && !claim.is_of(open)
+    more
 }
 
 #[test]
 fn claims_have_the_fields_of_their_plan(rt: HostRuntime) {
     let health = plan(&rt, rt.alloc(), health_plan());
-    assert!(rt; fields_of(&health).len() == 1);
+    expects(&rt, fields_of(&health).len() == 1, "one field");
     fits_one(&rt, rt.alloc(), &health);
     drop(health);
 }
@@ -428,8 +454,10 @@ fn year_under(rt: &impl Abort, alloc: Global, text: &str) -> u16 {
 
 #[test]
 fn accumulators_are_kept_by_the_year_under_version_2(rt: HostRuntime) {
-    assert!(rt; year_under(&rt, rt.alloc(), flat()) == 0);
-    assert!(rt; year_under(&rt, rt.alloc(), flat_by_year()) == 2024);
+    let year = year_under(&rt, rt.alloc(), flat());
+    expects(&rt, year == 0, "no year");
+    let year = year_under(&rt, rt.alloc(), flat_by_year());
+    expects(&rt, year == 2024, "the year of service");
 }
 
 // A copy of a claim.
@@ -445,16 +473,22 @@ fn copies(rt: &impl Abort, alloc: Global, text: &str) {
     let plan = plan(rt, alloc, text);
     let claim = claim(rt, alloc, &plan, 100, &["A"]);
     let copied = copy(rt, alloc, &claim);
-    is_that_claim(rt, &plan, &copied);
-    drop(copied);
+    expects(rt, is_that_claim(&plan, copied), "the same claim");
     drop(claim);
     drop(plan);
 }
 
-fn is_that_claim(rt: &impl Abort, plan: &Plan, claim: &Claim) {
-    assert!(rt; claim.is_of(plan));
-    assert!(rt; claim.id.as_str() == "c1" && claim.member.as_str() == "M1");
-    assert!(rt; claim.service.epoch_day() == 19_727 && cents(claim.billed) == 100);
+fn is_that_claim(plan: &Plan, claim: Claim) -> bool {
+    let same = claim.is_of(plan) && has_its_parts(&claim);
+    drop(claim);
+    same
+}
+
+fn has_its_parts(claim: &Claim) -> bool {
+    claim.id.as_str() == "c1"
+        && claim.member.as_str() == "M1"
+        && claim.service.epoch_day() == 19_727
+        && cents(claim.billed) == 100
 }
 
 #[test]
@@ -465,7 +499,7 @@ fn a_copy_of_a_claim_though_memory_is_refused(rt: HostRuntime) {
 #[test]
 fn amounts_that_are_no_money(rt: HostRuntime) {
     let below = Fixed::from_units(-100).expect(&rt, "a number");
-    assert!(rt; Money::new(below).is_none());
+    expects(&rt, Money::new(below).is_none(), "nothing below zero");
     let finer = Fixed::from_units(150).expect(&rt, "a number");
-    assert!(rt; Money::new(finer).is_none());
+    expects(&rt, Money::new(finer).is_none(), "whole cents");
 }

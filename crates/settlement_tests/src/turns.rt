@@ -8,8 +8,9 @@ use dtable::Sequence;
 use feel_tests::Day;
 use lanes::{Lanes, Picked, StoredClaim};
 use settlement::{Acc, Claim, Money};
-use std::alloc::Global;
+use std::alloc::{AllocFailed, Global};
 use std::process::Abort;
+use worked_examples::{expects, fail};
 
 // A claim of a member of a family, or who is a family of its own.
 fn claim(rt: &impl Abort, alloc: Global, id: &str, of: Option<&str>, member: &str) -> StoredClaim {
@@ -52,13 +53,27 @@ fn add_of(
     let (family, member, year) = account;
     let claim = claim(rt, alloc, id, family, member);
     let before = lanes.len();
-    if let Err(refused) = lanes.add(claim, year) {
-        assert!(rt; refused.value.as_claim().id.as_str() == id && lanes.len() == before);
-        let Ok(()) = lanes.add(refused.value, year) else {
-            panic!(rt; "memory for a claim");
-        };
+    if let Err(refused) = add_once(lanes, claim, year) {
+        expects(rt, lanes.len() == before, "no claim more");
+        add_again(rt, lanes, refused.value, year, id);
     }
-    assert!(rt; before < lanes.len());
+    expects(rt, before < lanes.len(), "one claim more");
+}
+
+// The call that is made twice; what it promises isn't needed.
+fn add_once(
+    lanes: &mut Lanes,
+    claim: StoredClaim,
+    year: u16,
+) -> Result<(), AllocFailed<StoredClaim>> {
+    lanes.add(claim, year)
+}
+
+fn add_again(rt: &impl Abort, lanes: &mut Lanes, refused: StoredClaim, year: u16, id: &str) {
+    expects(rt, refused.as_claim().id.as_str() == id, id);
+    let Ok(()) = add_once(lanes, refused, year) else {
+        fail(rt, "memory for a claim")
+    };
 }
 
 // Takes a claim: it is in work then, and so are those that were.
@@ -72,12 +87,17 @@ fn take(lanes: &mut Lanes) -> Option<Picked>
 // It is this claim, at this position, and so much was met before, of its own and of its family's, where its account began with 1.00
 // met. It takes the claim, since each function in which one ends costs the proof seconds.
 fn check_claim(rt: &impl Abort, picked: Picked, position: usize, id: &str, met: (i64, i64)) {
-    assert!(rt; picked.position == position);
-    assert!(rt; picked.claim.as_claim().id.as_str() == id);
+    expects(rt, is_claim(&picked, position, id), id);
     let before = picked.start(acc(rt, (100, 0, 0)));
-    assert!(rt; before.met == money(rt, met.0));
-    assert!(rt; before.fmet == money(rt, met.1));
-    assert!(rt; picked.has_begun() == (met.0 != 100));
+    let begun = picked.has_begun();
+    drop(picked);
+    expects(rt, before.met == money(rt, met.0), "what is met");
+    expects(rt, before.fmet == money(rt, met.1), "what its family met");
+    expects(rt, begun == (met.0 != 100), "a beginning");
+}
+
+fn is_claim(picked: &Picked, position: usize, id: &str) -> bool {
+    picked.position == position && picked.claim.as_claim().id.as_str() == id
 }
 
 // Whether no claim is ready.
@@ -96,7 +116,7 @@ fn decide_next(rt: &impl Abort, lanes: &mut Lanes, position: usize, id: &str, me
             .decide(place, acc(rt, (left, 0, 0)))
             .expect(rt, "memory for what is left"),
     }
-    assert!(rt; lanes.is_decided(position));
+    expects(rt, lanes.is_decided(position), id);
 }
 
 // Takes a claim that is ready, this one.
@@ -109,7 +129,7 @@ fn take_next(rt: &impl Abort, lanes: &mut Lanes, position: usize, id: &str, met:
 fn take_two(rt: &impl Abort, lanes: &mut Lanes, position: usize, id: &str) {
     take_next(rt, lanes, 0, "a", (100, 100));
     take_next(rt, lanes, position, id, (100, 100));
-    assert!(rt; is_none_ready(lanes));
+    expects(rt, is_none_ready(lanes), "no claim that is ready");
 }
 
 // Two members: the first has three claims, which are decided one after another, the second has one between them.
@@ -119,9 +139,10 @@ fn take_turns(rt: &impl Abort, alloc: Global) {
     add(rt, alloc, &mut lanes, "b", "M2");
     add(rt, alloc, &mut lanes, "c", "M1");
     add(rt, alloc, &mut lanes, "d", "M1");
-    assert!(rt; lanes.len() == 4);
+    expects(rt, lanes.len() == 4, "four claims");
     take_two(rt, &mut lanes, 1, "b");
-    assert!(rt; !lanes.is_decided(0) && !lanes.is_decided(4));
+    let decided = lanes.is_decided(0) || lanes.is_decided(4);
+    expects(rt, !decided, "no decision");
 }
 
 // A member's next claim begins with what the last one left, also where it comes behind it.
@@ -133,9 +154,17 @@ fn go_on(rt: &impl Abort, alloc: Global) {
     decide_next(rt, &mut lanes, 0, "a", 100, 700);
     decide_next(rt, &mut lanes, 2, "c", 100, 300);
     decide_next(rt, &mut lanes, 1, "b", 700, 900);
-    assert!(rt; is_none_ready(&mut lanes));
+    expects(rt, is_none_ready(&mut lanes), "no claim that is ready");
     add(rt, alloc, &mut lanes, "d", "M1");
     decide_next(rt, &mut lanes, 3, "d", 900, 950);
+}
+
+// Foresees a claim of a member who has one, and one of another.
+fn foresee(rt: &impl Abort, alloc: Global, lanes: &mut Lanes) {
+    lanes.foresee(&[
+        claim(rt, alloc, "x", None, "M1"),
+        claim(rt, alloc, "y", None, "M3"),
+    ]);
 }
 
 // What was foreseen changes nothing, and claims come as they are, also where those of others were foreseen.
@@ -143,11 +172,8 @@ fn foresee_others(rt: &impl Abort, alloc: Global) {
     let mut lanes = Lanes::new(alloc);
     add(rt, alloc, &mut lanes, "a", "M1");
     add(rt, alloc, &mut lanes, "b", "M2");
-    lanes.foresee(&[
-        claim(rt, alloc, "x", None, "M1"),
-        claim(rt, alloc, "y", None, "M3"),
-    ]);
-    assert!(rt; lanes.len() == 2);
+    foresee(rt, alloc, &mut lanes);
+    expects(rt, lanes.len() == 2, "two claims");
     add(rt, alloc, &mut lanes, "c", "M2");
     decide_next(rt, &mut lanes, 0, "a", 100, 700);
     decide_next(rt, &mut lanes, 1, "b", 100, 300);

@@ -1,43 +1,56 @@
 //! Reasons and their words by worked examples.
 use reasons::{Reason, Role};
-use std::test::Fail;
 use table_faults::Fault;
+use worked_examples::expects;
 
 #[test]
-fn a_fault_of_the_tables_is_the_reason(rt: HostRuntime) -> Result<(), Fail> {
-    assert!(rt;
-        Reason::of(Fault::Outside {
-            table: 2,
-            column: 1
-        }) == Some(Reason::Outside {
-            table: 2,
-            column: 1
-        })
-    );
-    assert!(rt; Reason::of(Fault::NoRule { table: 3 }) == Some(Reason::NoRule { table: 3 }));
-    assert!(rt; Reason::of(Fault::Clash { table: 4 }) == Some(Reason::Clash { table: 4 }));
-    assert!(rt; Reason::of(Fault::Range { table: 5 }) == Some(Reason::Range { table: 5 }));
-    assert!(rt; Reason::of(Fault::OutOfMemory) == None);
-    Ok(())
+fn a_fault_of_the_tables_is_the_reason(rt: HostRuntime) {
+    let outside = Fault::Outside {
+        table: 2,
+        column: 1,
+    };
+    let wanted = Reason::Outside {
+        table: 2,
+        column: 1,
+    };
+    expects(&rt, is_for(outside, wanted), "outside");
+    let found = is_for(Fault::NoRule { table: 3 }, Reason::NoRule { table: 3 });
+    expects(&rt, found, "no rule");
+    let found = is_for(Fault::Clash { table: 4 }, Reason::Clash { table: 4 });
+    expects(&rt, found, "a clash");
+    let found = is_for(Fault::Range { table: 5 }, Reason::Range { table: 5 });
+    expects(&rt, found, "a range");
+    let none = Reason::of(Fault::OutOfMemory);
+    expects(&rt, none == None, "no reason");
+}
+
+// Whether it is the reason that the fault is.
+fn is_for(fault: Fault, wanted: Reason) -> bool {
+    Reason::of(fault) == Some(wanted)
 }
 
 #[test]
-fn a_reason_has_a_word_and_a_place(rt: HostRuntime) -> Result<(), Fail> {
+fn a_reason_has_a_word_and_a_place(rt: HostRuntime) {
     let outside = Reason::Outside {
         table: 2,
         column: 1,
     };
-    assert!(rt; outside.word() == "outside" && outside.place() == 2 && outside.column() == Some(1));
+    expects(&rt, stands(outside, "outside", 2, Some(1)), "outside");
     let clash = Reason::Clash { table: 4 };
-    assert!(rt; clash.word() == "clash" && clash.place() == 4 && clash.column() == None);
+    expects(&rt, stands(clash, "clash", 4, None), "a clash");
     let term = Reason::Term(Role::Copay);
-    assert!(rt; term.word() == "term" && term.place() == 4 && term.column() == None);
-    Ok(())
+    expects(&rt, stands(term, "term", 4, None), "a term");
+}
+
+// Whether it is told by this word, at this place and column.
+fn stands(reason: Reason, word: &str, place: usize, column: Option<usize>) -> bool {
+    reason.word() == word && reason.place() == place && reason.column() == column
 }
 
 #[test]
-fn roles_are_numbered(rt: HostRuntime) -> Result<(), Fail> {
-    assert!(rt; Role::Fee.number() == 2 && Role::OopMax.number() == 6);
-    assert!(rt; Role::FamilyDeductible.number() == 8 && Role::FamilyOopMax.number() == 9);
-    Ok(())
+fn roles_are_numbered(rt: HostRuntime) {
+    let member = Role::Fee.number() == 2 && Role::OopMax.number() == 6;
+    expects(&rt, member, "the member's roles");
+    let family = Role::FamilyDeductible.number() == 8 && Role::FamilyOopMax.number() == 9;
+    expects(&rt, family, "the family's roles");
 }

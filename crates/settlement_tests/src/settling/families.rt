@@ -4,10 +4,10 @@ use super::examples::MOST;
 use super::plans::{families_named, families_open};
 use super::{claim, copies, decided, money, plan, some_paid, told};
 use dtable::Plan;
-use settlement::{Acc, Claim, Role, after, fields_of};
+use settlement::{Acc, Claim, Outcome, Role, after, fields_of};
 use std::alloc::Global;
 use std::process::Abort;
-use worked_examples::{family_plan, health_plan};
+use worked_examples::{expects, family_plan, health_plan};
 
 /// The accumulators: what the member met, paid and had paid, and what its family met and paid.
 type Sums = (i64, i64, i64, i64, i64);
@@ -119,10 +119,14 @@ fn settles(rt: &impl Abort, alloc: Global, plan: &Plan, example: &Example) {
     let claim = claim(rt, alloc, plan, *billed, fields);
     let before = acc(rt, *before);
     let outcome = decided(rt, alloc, plan, &claim, &before);
-    let told = told(rt, alloc, &outcome, &before, true);
-    assert_eq!(rt; told.as_str(), *wanted);
-    drop(outcome);
+    is_told(rt, alloc, outcome, &before, wanted);
     drop(claim);
+}
+
+fn is_told(rt: &impl Abort, alloc: Global, outcome: Outcome, before: &Acc, wanted: &str) {
+    let told = told(rt, alloc, &outcome, before, true);
+    expects(rt, told.as_str() == wanted, wanted);
+    drop(outcome);
 }
 
 fn decides(rt: &impl Abort, alloc: Global, text: &str, examples: &[Example]) {
@@ -140,8 +144,8 @@ fn the_familys_limits_hold_beside_the_members(rt: HostRuntime) {
 
 #[test]
 fn the_familys_roles_are_tried_last(rt: HostRuntime) {
-    assert!(rt; Role::FamilyDeductible.number() == 8);
-    assert!(rt; Role::FamilyOopMax.number() == 9);
+    let numbers = (Role::FamilyDeductible.number(), Role::FamilyOopMax.number());
+    expects(&rt, numbers.0 == 8 && numbers.1 == 9, "the last numbers");
     decides(&rt, rt.alloc(), families_open(), opened());
 }
 
@@ -159,23 +163,21 @@ fn a_copy_of_a_claim_of_a_family_though_memory_is_refused(rt: HostRuntime) {
 // The claim of the first plan is none of the other, which has the same field.
 fn fits_one_of(rt: &impl Abort, alloc: Global, plan: &Plan, other: &Plan, family: &str) {
     let claim = claim(rt, alloc, plan, 100, &["A"]);
-    assert!(rt; is_of_one(&claim, plan, other) && is_of_family(&claim, family));
+    expects(rt, claim.family().as_str() == family, family);
+    expects(rt, is_of_one(claim, plan, other), "a claim of one plan");
+}
+
+fn is_of_one(claim: Claim, plan: &Plan, other: &Plan) -> bool {
+    let one = claim.is_of(plan) && !claim.is_of(other);
     drop(claim);
-}
-
-fn is_of_one(claim: &Claim, plan: &Plan, other: &Plan) -> bool {
-    claim.is_of(plan) && !claim.is_of(other)
-}
-
-fn is_of_family(claim: &Claim, family: &str) -> bool {
-    claim.family().as_str() == family
+    one
 }
 
 #[test]
 fn claims_have_a_family_where_the_plan_keeps_families(rt: HostRuntime) {
     let alone = plan(&rt, rt.alloc(), health_plan());
     let families = plan(&rt, rt.alloc(), family_plan());
-    assert!(rt; fields_of(&families).len() == 1);
+    expects(&rt, fields_of(&families).len() == 1, "one field");
     fits_one_of(&rt, rt.alloc(), &alone, &families, "M1");
     fits_one_of(&rt, rt.alloc(), &families, &alone, "F1");
     drop(families);
@@ -186,8 +188,11 @@ fn claims_have_a_family_where_the_plan_keeps_families(rt: HostRuntime) {
 #[test]
 fn the_familys_sums_leave_the_range_one_by_one(rt: HostRuntime) {
     let outcome = some_paid(&rt);
-    assert!(rt; after(acc(&rt, (0, 0, 0, MOST, 0)), &outcome).is_none());
-    assert!(rt; after(acc(&rt, (0, 0, 0, 0, MOST)), &outcome).is_none());
-    assert!(rt; after(acc(&rt, (0, 0, 0, MOST - 100, MOST - 200)), &outcome).is_some());
+    let met = after(acc(&rt, (0, 0, 0, MOST, 0)), &outcome);
+    expects(&rt, met.is_none(), "too much met");
+    let paid = after(acc(&rt, (0, 0, 0, 0, MOST)), &outcome);
+    expects(&rt, paid.is_none(), "too much paid");
+    let most = after(acc(&rt, (0, 0, 0, MOST - 100, MOST - 200)), &outcome);
+    expects(&rt, most.is_some(), "the most that there is");
     drop(outcome);
 }
