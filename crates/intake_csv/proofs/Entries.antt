@@ -216,11 +216,11 @@ free-none None member balance free = refl
 free-none (Some members) member balance free = lacking members (balance_in members member) balance free
 
 -- what is there is some, and what isn't is none
-some-there : {A : Type 0} (o : Option A) → is_some o ≡ true → (x : A) × (o ≡ Some x)
+pub some-there : {A : Type 0} (o : Option A) → is_some o ≡ true → (x : A) × (o ≡ Some x)
 some-there None there = absurd (false≢true there)
 some-there (Some x) there = (x, refl)
 
-none-there : {A : Type 0} (o : Option A) → is_some o ≡ false → o ≡ None
+pub none-there : {A : Type 0} (o : Option A) → is_some o ≡ false → o ≡ None
 none-there None there = refl
 none-there (Some x) there = absurd (false≢true (sym there))
 

@@ -65,6 +65,12 @@ pub any-first : {A : Type 0} (P : A → Type 0) (xs : List A) (d : A) → 1 ≤ 
 any-first P [] d some has = absurd (omega (arith, some))
 any-first P (x ∷ xs) d some has = any-here P x xs has
 
+-- and what the item at a place has
+pub any-at : {A : Type 0} (P : A → Type 0) (k : ℕ) (xs : List A) (d : A) → k < length xs → P (get_or xs k d) → Any P xs
+any-at P k [] d within has = absurd (omega (arith, within))
+any-at P zero (x ∷ xs) d within has = any-here P x xs has
+any-at P (suc k) (x ∷ xs) d within has = any-behind P x xs (any-at P k xs d (omega (arith, within)) has)
+
 any-taken : {A : Type 0} (P : A → Type 0) (n : ℕ) (xs : List A) → Any P (take n xs) → Any P xs
 any-taken P zero xs (k, x, within, is, has) = absurd (omega (arith, within))
 any-taken P (suc n) [] some = some

@@ -16,6 +16,7 @@ use Rattle.intake_csv.specs.Columns.{AreColumnsOf, balance_columns, claim_column
 use Rattle.intake_csv.specs.Fields.{Holds}
 use Rattle.intake_csv.specs.Rows.{HoldsUnder}
 use Rattle.intake_csv.specs.Record.{IsClaimLayout, IsClaimShaped, family_contents, is_identifier}
+use Rattle.intake_csv.specs.Values.{BeginsWithMoney}
 use Rattle.intake_csv.specs.Balances.{AreAmounts, IsBalanceLayout, IsEntryShaped, IsKept, year_contents, year_values}
 use Rattle.intake_csv.specs.declared.column.Column.{Column}
 use Rattle.intake_csv.specs.declared.column.Layout.{Layout}
@@ -150,6 +151,19 @@ amounts fields (b ∷ c ∷ d ∷ []) (w ∷ x ∷ y ∷ []) e h =
       oop_money = oop_money;
       paid_money = paid_money;
     }
+
+-- behind the first of three amounts stands another one
+pub second-begins : (values rest : List Value) (met : ℤ) → AreAmounts values → values ≡ Number met ∷ rest → BeginsWithMoney rest
+second-begins values rest met h first =
+    let left : rest ≡ Number h.balance.oop ∷ Number h.balance.paid ∷ [] = cc (sym first ∙ h.values_are) in
+    (h.balance.oop, Number h.balance.paid ∷ [], left, h.oop_money)
+
+-- and behind that the last one
+pub third-begins : (values rest last : List Value) (met oop : ℤ) → AreAmounts values → values ≡ Number met ∷ rest → rest ≡ Number oop ∷ last → BeginsWithMoney last
+third-begins values rest last met oop h first second =
+    let behind : rest ≡ Number h.balance.oop ∷ Number h.balance.paid ∷ [] = cc (sym first ∙ h.values_are) in
+    let left : last ≡ Number h.balance.paid ∷ [] = cc (sym second ∙ behind) in
+    (h.balance.paid, [], left, h.paid_money)
 
 -- the values of an entry from its member on
 record IsEntryBehind (years : Bool) (values : List Value) : Type 0 where

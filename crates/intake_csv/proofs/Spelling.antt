@@ -1,10 +1,11 @@
 -- What a field spells under its column, where that is no amount.
 use Rattle.std.proofs.Common.{◌≡◌, ◌≢◌, ℕ, List, [], refl, arith}
 use Rattle.feel_tests.specs.Calendar.{IsYearText}
-use Rattle.feel_tests.specs.Plain.{SpellsPlain}
+use Rattle.feel_tests.specs.Plain.{RefusesPlain, SpellsPlain}
 use Rattle.feel_tests.specs.TextBytes.{IsText}
 use Rattle.feel_tests.specs.declared.kind.Kind.{Kind}
 use Rattle.feel_tests.specs.declared.kind.Kind.TheVariants as kinds
+use Rattle.feel_tests.specs.declared.plain.PlainFault.TheVariants.{Bad}
 use Rattle.feel_tests.specs.declared.value.Value.{Value}
 use Rattle.intake_csv.specs.Columns.{kind_under}
 use Rattle.intake_csv.specs.Fields.{Holds, IsFaultless, IsFaulty, Spells}
@@ -39,6 +40,10 @@ pub year_read : (bytes : List ℕ) (v : Value) (year : ℕ) → IsText bytes →
 year_read bytes v year text is plain =
     let spells : Spells Year bytes v = record { plain = plain; year = λ e. (year, is) } in
     (record { text = text; spells = spells; allowed = tt }, faultless Year bytes v text spells (λ empty. cc empty.0) (λ e. cc e))
+
+-- a field that is refused, and not for memory, spells no value of the kind
+pub no_plain : (kind : Kind) (bytes : List ℕ) → RefusesPlain (SpellsPlain kind bytes) Bad → (v : Value) → ¬ SpellsPlain kind bytes v
+no_plain kind bytes refused = refused (λ e. cc e)
 
 -- a field that is no value of the column's kind
 pub unread : (content : Content) (bytes : List ℕ) → IsText bytes → ((v : Value) → ¬ SpellsPlain (kind_under content) bytes v) → IsFaulty content bytes NoValue

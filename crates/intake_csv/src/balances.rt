@@ -11,11 +11,11 @@ ghost use Rattle.intake_csv.specs.Balances.{AreAmounts, AreBalances, AreOnce, Be
 ghost use Rattle.intake_csv.specs.Columns.{balance_columns, member_place, met_place, year_columns};
 ghost use Rattle.intake_csv.specs.Households.{AreOnceBy, balance_in, refused_behind};
 ghost use Rattle.intake_csv.specs.Rows.{HasFault};
-ghost use Rattle.intake_csv.specs.Sheet.{IsWithin};
+ghost use Rattle.intake_csv.specs.Sheet.{IsSheetOf, IsWithin};
 ghost use Rattle.intake_csv.specs.declared.column.Column.{Column as AnyColumn};
 
 use crate::claim::push_family;
-use crate::column::{Content, Layout, Needed, needed_column};
+use crate::column::{Content, Layout, Needed, push_column};
 use crate::fault::{BalanceFault, FileFault, RowCause, RowFault};
 use crate::household::{Household, Refusal};
 use crate::line::Line;
@@ -65,12 +65,7 @@ fn read_by(alloc: Global, version: u8, text: &[u8]) -> Result<Balances, BalanceF
     ensures ok { IfOk result (AreBalances version text.now) }
     ensures fault { IfErr result (HasBalanceFault version text.now) }
 {
-    let needed = balance_columns(alloc, version)?;
-    let sheet = match read_sheet(alloc, needed.as_slice(), text) {
-        Ok(sheet) => sheet,
-        Err(FileFault::OutOfMemory) => return Err(BalanceFault::OutOfMemory),
-        Err(fault) => return Err(BalanceFault::File(fault)),
-    };
+    let sheet = balance_sheet(alloc, version, text)?;
     let Sheet {
         layout,
         mut records,
@@ -90,13 +85,36 @@ fn read_by(alloc: Global, version: u8, text: &[u8]) -> Result<Balances, BalanceF
     Ok(balances)
 }
 
+// The file of a text that has the columns of balances.
+fn balance_sheet<'t>(alloc: Global, version: u8, text: &'t [u8]) -> Result<Sheet<'t>, BalanceFault>
+    ensures ok { IfOk result (IsSheetOf (balance_columns version) text.now) }
+    ensures fault { IfErr result (HasBalanceFault version text.now) }
+{
+    let needed = balance_columns(alloc, version)?;
+    match read_sheet(alloc, needed.as_slice(), text) {
+        Ok(sheet) => Ok(sheet),
+        Err(FileFault::OutOfMemory) => Err(BalanceFault::OutOfMemory),
+        Err(fault) => Err(BalanceFault::File(fault)),
+    }
+}
+
 /// Whose balance a record holds, and the balance.
-#[derive(Drop)]
 struct Entry {
     family: Option<Text>,
     member: Text,
     year: u16,
     balance: Balance,
+}
+
+impl Drop for Entry {
+    fn drop(self) {
+        let Entry {
+            family: _,
+            member: _,
+            year: _,
+            balance: _,
+        } = self;
+    }
 }
 
 impl Entry {
@@ -328,11 +346,11 @@ fn balance_columns(alloc: Global, version: u8) -> Result<Sequence<Needed>, Alloc
 {
     let mut needed = Sequence::new(alloc);
     push_family(alloc, &mut needed, has_families(version))?;
-    needed.push(needed_column(alloc, "member", Content::Identifier)?)?;
+    push_column(alloc, &mut needed, "member", Content::Identifier)?;
     push_year(alloc, &mut needed, has_years(version))?;
-    needed.push(needed_column(alloc, "met", Content::Money)?)?;
-    needed.push(needed_column(alloc, "oop", Content::Money)?)?;
-    needed.push(needed_column(alloc, "paid", Content::Money)?)?;
+    push_column(alloc, &mut needed, "met", Content::Money)?;
+    push_column(alloc, &mut needed, "oop", Content::Money)?;
+    push_column(alloc, &mut needed, "paid", Content::Money)?;
     Ok(needed)
 }
 
@@ -341,7 +359,7 @@ fn push_year(alloc: Global, needed: &mut Sequence<Needed>, years: bool) -> Resul
     ensures { OnOk result (needed.new ≡ needed.old ++ year_columns years) }
 {
     if years {
-        needed.push(needed_column(alloc, "year", Content::Year)?)
+        push_column(alloc, needed, "year", Content::Year)
     } else {
         Ok(())
     }

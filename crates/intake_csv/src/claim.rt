@@ -8,7 +8,7 @@ ghost use Rattle.intake_csv.specs.Record.{AreFromMember, GoesOnAs, IsClaimLayout
 ghost use Rattle.intake_csv.specs.Rows.{AreValues, HasFault, HasValues, claim_values};
 ghost use Rattle.intake_csv.specs.Sheet.{IsWithin};
 
-use crate::column::{Column, Content, Layout, Needed, needed_column};
+use crate::column::{Column, Content, Layout, Needed, push_column};
 use crate::fault::{RowCause, RowFault};
 use crate::judge::first_fault;
 use crate::line::Line;
@@ -31,11 +31,11 @@ fn own_columns(alloc: Global, families: bool) -> Result<Sequence<Needed>, AllocE
     ensures { IfOk result (λ needed. needed ≡ own_columns families) }
 {
     let mut needed = Sequence::new(alloc);
-    needed.push(needed_column(alloc, "claim", Content::Identifier)?)?;
+    push_column(alloc, &mut needed, "claim", Content::Identifier)?;
     push_family(alloc, &mut needed, families)?;
-    needed.push(needed_column(alloc, "member", Content::Identifier)?)?;
-    needed.push(needed_column(alloc, "service", Content::Plain(Kind::Day))?)?;
-    needed.push(needed_column(alloc, "billed", Content::Money)?)?;
+    push_column(alloc, &mut needed, "member", Content::Identifier)?;
+    push_column(alloc, &mut needed, "service", Content::Plain(Kind::Day))?;
+    push_column(alloc, &mut needed, "billed", Content::Money)?;
     Ok(needed)
 }
 
@@ -48,7 +48,7 @@ pub fn push_family(
     ensures { OnOk result (needed.new ≡ needed.old ++ family_columns families) }
 {
     if families {
-        needed.push(needed_column(alloc, "family", Content::Identifier)?)
+        push_column(alloc, needed, "family", Content::Identifier)
     } else {
         Ok(())
     }
@@ -62,8 +62,12 @@ fn push_fields(
     ensures { OnOk result (columns.new ≡ columns.old ++ map (λ d. needed d.name (contents.Plain d.kind)) fields.now) }
 {
     for field in fields {
-        let column = needed_column(alloc, field.name.as_str(), Content::Plain(field.kind))?;
-        columns.push(column)?;
+        push_column(
+            alloc,
+            columns,
+            field.name.as_str(),
+            Content::Plain(field.kind),
+        )?;
     }
     Ok(())
 }

@@ -1,5 +1,5 @@
 //! The columns that a file needs, and where its header has them.
-ghost use Rattle.std.specs.Prelude.{◌≡◌, IfOk};
+ghost use Rattle.std.specs.Prelude.{◌≡◌, ◌++◌, ◌∷◌, [], IfOk, OnOk};
 ghost use Rattle.intake_csv.specs.Columns.{kind_under, needed};
 
 use dtable::Sequence;
@@ -73,8 +73,19 @@ impl Title {
     }
 }
 
-/// The column of this name.
-pub fn needed_column(alloc: Global, name: &str, content: Content) -> Result<Needed, AllocError>
+/// Puts the column of this name behind the others.
+pub fn push_column(
+    alloc: Global,
+    columns: &mut Sequence<Needed>,
+    name: &str,
+    content: Content,
+) -> Result<(), AllocError>
+    ensures { OnOk result (columns.new ≡ columns.old ++ needed name.now content ∷ []) }
+{
+    columns.push(needed_column(alloc, name, content)?)
+}
+
+fn needed_column(alloc: Global, name: &str, content: Content) -> Result<Needed, AllocError>
     ensures { IfOk result (λ made. made ≡ needed name.now content) }
 {
     Ok(Needed {

@@ -4,9 +4,8 @@ use dtable::{Plan, read_plan};
 use intake_csv::{BalanceFault, Balances, FileFault, RowCause, RowFault, read_balances};
 use settlement::Acc;
 use std::alloc::Global;
-use std::fmt::Write;
 use std::process::Abort;
-use std::test::Fail;
+use worked_examples::{expects, expects_at, fail};
 
 const BALANCES: &[u8] = b"member,met,oop,paid\nM1,50.00,10.00,5.00\n";
 
@@ -23,19 +22,17 @@ pub(crate) fn same(acc: Acc, met: i64, oop: i64, paid: i64) -> bool {
 fn are_balances(rt: &impl Abort, alloc: Global, text: &[u8], members: &[(&str, i64, i64, i64)]) {
     let plan = plan(rt, alloc, PLAN);
     let balances = balances_under(rt, alloc, &plan, text);
-    have_members(rt, &balances, members);
+    have_members(rt, balances, members);
 }
 
 fn balances_under(rt: &impl Abort, alloc: Global, plan: &Plan, text: &[u8]) -> Balances {
     read_balances(alloc, plan, text).expect(rt, "balances")
 }
 
-fn have_members(rt: &impl Abort, balances: &Balances, members: &[(&str, i64, i64, i64)]) {
+fn have_members(rt: &impl Abort, balances: Balances, members: &[(&str, i64, i64, i64)]) {
     for (member, met, oop, paid) in members {
-        assert!(rt;
-            same(balances.of(member, member, 0), *met, *oop, *paid),
-            "{member}"
-        );
+        let found = same(balances.of(member, member, 0), *met, *oop, *paid);
+        expects(rt, found, member);
     }
 }
 
@@ -60,7 +57,7 @@ fn balances_of_years(rt: HostRuntime) {
 
 fn have_balances_of_years(rt: &impl Abort, alloc: Global, plan: &Plan) {
     let balances = balances_under(rt, alloc, plan, OF_YEARS);
-    have_members_by_year(rt, &balances, members_by_year());
+    have_members_by_year(rt, balances, members_by_year());
 }
 
 fn members_by_year() -> &'static [(&'static str, u16, i64, i64, i64)] {
@@ -69,12 +66,12 @@ fn members_by_year() -> &'static [(&'static str, u16, i64, i64, i64)] {
 
 fn have_members_by_year(
     rt: &impl Abort,
-    balances: &Balances,
+    balances: Balances,
     members: &[(&str, u16, i64, i64, i64)],
 ) {
     for (member, year, met, oop, paid) in members {
         let found = same(balances.of(member, member, *year), *met, *oop, *paid);
-        assert!(rt; found, "{member} {year}");
+        expects(rt, found, member);
     }
 }
 
@@ -124,17 +121,17 @@ fn balances_of_families(rt: HostRuntime) {
 
 fn have_balances_of_families(rt: &impl Abort, alloc: Global, plan: &Plan) {
     let balances = balances_under(rt, alloc, plan, OF_FAMILIES);
-    have_members_by_family(rt, &balances, members_by_family());
+    have_members_by_family(rt, balances, members_by_family());
 }
 
 fn members_by_family() -> &'static [OfFamily] {
     &MEMBERS_BY_FAMILY
 }
 
-fn have_members_by_family(rt: &impl Abort, balances: &Balances, members: &[OfFamily]) {
+fn have_members_by_family(rt: &impl Abort, balances: Balances, members: &[OfFamily]) {
     for (family, member, year, own, sums) in members {
         let found = has(balances.of(family, member, *year), *own, *sums);
-        assert!(rt; found, "{family} {member} {year}");
+        expects(rt, found, member);
     }
 }
 
@@ -193,15 +190,20 @@ fn refuses_balances(
     lacking: &[u8],
     rows: &[RefusedRow],
 ) {
-    let refused = refused_balances(alloc, plan, lacking);
-    assert!(rt; refused == Some(BalanceFault::File(FileFault::MissingColumn)));
+    let wanted = BalanceFault::File(FileFault::MissingColumn);
+    expects(
+        rt,
+        refused_balances(alloc, plan, lacking) == Some(wanted),
+        "a missing column",
+    );
     refuses_rows(rt, alloc, plan, rows);
 }
 
 fn refuses_rows(rt: &impl Abort, alloc: Global, plan: &Plan, rows: &[RefusedRow]) {
     for (text, number, column, cause) in rows {
         let wanted = row(*number, *column, *cause);
-        assert!(rt; refused_balances(alloc, plan, text) == Some(wanted));
+        let found = refused_balances(alloc, plan, text) == Some(wanted);
+        expects_at(rt, found, *number);
     }
 }
 
@@ -214,11 +216,13 @@ fn balances_of_families_or_no_memory(rt: HostRuntime) {
 
 fn families_or_no_memory(rt: &impl Abort, alloc: Global, plan: &Plan) {
     match read_balances(alloc, plan, OF_FAMILIES) {
-        Ok(balances) => {
-            assert!(rt; has(balances.of("F1", "M4", 2024), (0, 0, 0), (545_000, 130_000)));
-        }
-        Err(fault) => assert!(rt; fault == BalanceFault::OutOfMemory),
+        Ok(balances) => have_members_by_family(rt, balances, members_by_family()),
+        Err(fault) => lacks_memory(rt, fault),
     }
+}
+
+fn lacks_memory(rt: &impl Abort, fault: BalanceFault) {
+    expects(rt, fault == BalanceFault::OutOfMemory, "want of memory");
 }
 
 /// The members of the balances, and some of none.
@@ -269,7 +273,9 @@ fn refuses_files_of_balances(
     files: &[(&[u8], FileFault)],
 ) {
     for (text, fault) in files {
-        assert!(rt; refused_balances(alloc, plan, text) == Some(BalanceFault::File(*fault)));
+        let wanted = BalanceFault::File(*fault);
+        let found = refused_balances(alloc, plan, text) == Some(wanted);
+        expects(rt, found, "the file's fault");
     }
 }
 
@@ -366,7 +372,7 @@ fn check_prefixes_of_balances(rt: &impl Abort, alloc: Global, plan: &Plan, text:
     for length in 0..text.len() {
         match refused_balances(alloc, plan, &text[..length]) {
             Some(fault) => check_balances_refused(rt, fault, length),
-            None => assert!(rt; length >= 19),
+            None => expects(rt, length >= 19, "a whole header"),
         }
     }
 }
@@ -375,13 +381,15 @@ fn check_prefixes_of_balances(rt: &impl Abort, alloc: Global, plan: &Plan, text:
 fn check_balances_refused(rt: &impl Abort, fault: BalanceFault, length: usize) {
     match fault {
         BalanceFault::File(fault) => {
-            assert!(rt; length < 19 && fault == fault_of_front(length));
+            let same = length < 19 && fault == fault_of_front(length);
+            expects(rt, same, "the fault of a cut header");
         }
         BalanceFault::Row { number, fault } => {
-            assert!(rt; number == 1 && length > 20);
-            assert!(rt; fault.cause == RowCause::FieldCount || fault.cause == RowCause::Value);
+            expects(rt, number == 1 && length > 20, "a record that is cut");
+            let cut = fault.cause == RowCause::FieldCount || fault.cause == RowCause::Value;
+            expects(rt, cut, "the fault of a cut record");
         }
-        BalanceFault::OutOfMemory => assert!(rt; false),
+        BalanceFault::OutOfMemory => fail(rt, "memory"),
     }
 }
 
@@ -394,17 +402,18 @@ fn balances_or_no_memory(rt: HostRuntime) {
 
 fn years_or_no_memory(rt: &impl Abort, alloc: Global, plan: &Plan) {
     match read_balances(alloc, plan, OF_YEARS) {
-        Ok(balances) => assert!(rt; same(balances.of("M1", "M1", 2024), 500_000, 100_000, 50_000)),
-        Err(fault) => assert!(rt; fault == BalanceFault::OutOfMemory),
+        Ok(balances) => have_members_by_year(rt, balances, members_by_year()),
+        Err(fault) => lacks_memory(rt, fault),
     }
 }
 
 #[test]
-fn faults_have_numbers_and_texts(rt: HostRuntime) -> Result<(), Fail> {
-    assert!(rt; FileFault::DuplicateColumn.number() == 4);
-    assert!(rt; RowCause::Repeated.number() == 8 && RowCause::Sum.number() == 9);
-    let mut text = String::new(rt.alloc());
-    write!(text, "{}", row(2, 1, RowCause::Repeated))?;
-    assert!(rt; text.as_str() == "record 2: column 1: a member stands twice");
-    Ok(())
+fn faults_have_numbers_and_texts(rt: HostRuntime) {
+    expects_at(&rt, FileFault::DuplicateColumn.number() == 4, 4);
+    expects_at(&rt, RowCause::Repeated.number() == 8, 8);
+    expects_at(&rt, RowCause::Sum.number() == 9, 9);
+    let fault = row(2, 1, RowCause::Repeated);
+    let told = format!(in rt.alloc(); "{fault}").expect(&rt, "memory for a text");
+    let wanted = "record 2: column 1: a member stands twice";
+    expects(&rt, told.as_str() == wanted, wanted);
 }

@@ -5,7 +5,7 @@ use intake_csv::{Brief, ClaimFile, Line, Rows};
 use std::alloc::{AllocError, Global};
 use std::fmt::Write;
 use std::process::Abort;
-use std::test::Fail;
+use worked_examples::expects;
 
 /// Two claims, and between them a record without a member. The columns stand in an order of their own.
 const CLAIMS: &[u8] = b"code,member,claim,service,billed,family
@@ -16,16 +16,15 @@ Z,M2,c3,1970-01-11,40.00,F2
 
 // Each row in short: `number.place id family member day;`, or `number!column.cause;`.
 #[test]
-fn rows_in_brief(rt: HostRuntime) -> Result<(), Fail> {
+fn rows_in_brief(rt: HostRuntime) {
     let plan = plan(&rt, rt.alloc(), BY_FAMILY);
-    tells(&rt, rt.alloc(), &plan)?;
-    Ok(())
+    tells(&rt, rt.alloc(), &plan);
 }
 
-fn tells(rt: &impl Abort, alloc: Global, plan: &Plan) -> Result<(), AllocError> {
-    let told = told(rt, alloc, plan)?;
-    assert_eq!(rt; told.as_str(), "1.0 c1 F1 M1 1;2!2.4;3.1 c3 F2 M2 10;");
-    Ok(())
+fn tells(rt: &impl Abort, alloc: Global, plan: &Plan) {
+    let told = told(rt, alloc, plan).expect(rt, "memory for the rows");
+    let wanted = "1.0 c1 F1 M1 1;2!2.4;3.1 c3 F2 M2 10;";
+    expects(rt, told.as_str() == wanted, wanted);
 }
 
 fn told(rt: &impl Abort, alloc: Global, plan: &Plan) -> Result<String, AllocError> {

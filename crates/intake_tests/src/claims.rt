@@ -9,6 +9,7 @@ use settlement::Claim;
 use std::alloc::{AllocError, Global};
 use std::fmt::Write;
 use std::process::Abort;
+use worked_examples::{expects, expects_at, fail};
 
 /// A plan with one field, of text.
 pub(crate) const PLAN: &[u8] = b"version = 1\nfields = [{name = \"code\", kind = \"text\"}]\n";
@@ -39,7 +40,7 @@ pub(crate) fn plan(rt: &impl Abort, alloc: Global, text: &[u8]) -> Plan {
         return plan;
     }
     let Ok(plan) = read_plan(alloc, text) else {
-        panic!(rt; "a plan");
+        fail(rt, "a plan")
     };
     plan
 }
@@ -58,7 +59,8 @@ fn told_of(rt: &impl Abort, alloc: Global, file: &ClaimFile) -> Result<String, A
 fn told_behind(rt: &impl Abort, alloc: Global, rows: &mut Rows) -> Result<String, AllocError> {
     let mut told = String::new(alloc);
     tell_all(&mut told, rows)?;
-    assert!(rt; tell_next(&mut told, rows) == Ok(false));
+    let over = tell_next(&mut told, rows) == Ok(false);
+    expects(rt, over, "no row behind the last");
     Ok(told)
 }
 
@@ -82,16 +84,9 @@ fn tell_next(told: &mut String, rows: &mut Rows) -> Result<bool, AllocError> {
     }
 }
 
-fn tells(
-    rt: &impl Abort,
-    alloc: Global,
-    plan: &Plan,
-    text: &[u8],
-    wanted: &str,
-) -> Result<(), AllocError> {
-    let told = told(rt, alloc, plan, text)?;
-    assert_eq!(rt; told.as_str(), wanted);
-    Ok(())
+fn tells(rt: &impl Abort, alloc: Global, plan: &Plan, text: &[u8], wanted: &str) {
+    let told = told(rt, alloc, plan, text).expect(rt, "memory for the rows");
+    expects(rt, told.as_str() == wanted, wanted);
 }
 
 fn tell(told: &mut String, row: &Row) -> Result<(), AllocError> {
@@ -133,20 +128,18 @@ fn tell_claim(told: &mut String, claim: &Claim) -> Result<(), AllocError> {
 }
 
 // Reads a file of these parts.
-fn reads(
-    rt: &impl Abort,
-    alloc: Global,
-    plan: &Plan,
-    front: &[u8],
-    parts: &[&[u8]],
-    wanted: &str,
-) -> Result<(), AllocError> {
+fn reads(rt: &impl Abort, alloc: Global, plan: &Plan, front: &[u8], parts: &[&[u8]], wanted: &str) {
+    let text = joined(alloc, front, parts).expect(rt, "memory for a file");
+    tells(rt, alloc, plan, &text, wanted);
+}
+
+fn joined(alloc: Global, front: &[u8], parts: &[&[u8]]) -> Result<Vec<u8>, AllocError> {
     let mut text = Vec::new(alloc);
     text.extend_from_slice(front)?;
     for part in parts {
         text.extend_from_slice(part)?;
     }
-    tells(rt, alloc, plan, &text, wanted)
+    Ok(text)
 }
 
 /// Sixty-four bytes of a member's name.
@@ -182,8 +175,8 @@ fn each_fault_of_a_record(rt: HostRuntime) {
 }
 
 fn reads_faulty(rt: &impl Abort, alloc: Global, plan: &Plan) {
-    assert!(rt; reads(rt, alloc, plan, b"", faulty(), FAULTY_TOLD).is_ok());
-    assert!(rt; reads(rt, alloc, plan, b"\xEF\xBB\xBF", faulty(), FAULTY_TOLD).is_ok());
+    reads(rt, alloc, plan, b"", faulty(), FAULTY_TOLD);
+    reads(rt, alloc, plan, b"\xEF\xBB\xBF", faulty(), FAULTY_TOLD);
 }
 
 fn faulty() -> &'static [&'static [u8]] {
@@ -208,7 +201,7 @@ const SHUFFLED_TOLD: &str =
 #[test]
 fn faults_of_a_record_come_in_the_header_s_order(rt: HostRuntime) {
     let plan = plan(&rt, rt.alloc(), KINDS);
-    assert!(rt; tells(&rt, rt.alloc(), &plan, SHUFFLED, SHUFFLED_TOLD).is_ok());
+    tells(&rt, rt.alloc(), &plan, SHUFFLED, SHUFFLED_TOLD);
 }
 
 /// Files of claims that are refused as a whole.
@@ -246,7 +239,8 @@ fn refused_files() -> &'static [(&'static [u8], FileFault)] {
 
 fn refuses_files(rt: &impl Abort, alloc: Global, plan: &Plan, files: &[(&[u8], FileFault)]) {
     for (text, fault) in files {
-        assert!(rt; refused(alloc, plan, text) == Some(*fault));
+        let found = refused(alloc, plan, text) == Some(*fault);
+        expects(rt, found, "the file's fault");
     }
 }
 
@@ -260,18 +254,18 @@ fn filled(alloc: Global, text: &[u8], size: usize) -> Result<Vec<u8>, AllocError
     Ok(filled)
 }
 
-fn check_the_greatest_size(rt: &impl Abort, alloc: Global, plan: &Plan) -> Result<(), AllocError> {
-    let mut text = filled(alloc, HEADER, FILE_LIMIT_BYTES)?;
-    assert!(rt; refused(alloc, plan, &text).is_none());
-    text.push(b'\n')?;
-    assert!(rt; refused(alloc, plan, &text) == Some(FileFault::TooLarge));
-    Ok(())
+fn check_the_greatest_size(rt: &impl Abort, alloc: Global, plan: &Plan) {
+    let mut text = filled(alloc, HEADER, FILE_LIMIT_BYTES).expect(rt, "memory for a file");
+    expects(rt, refused(alloc, plan, &text).is_none(), "a file");
+    text.push(b'\n').expect(rt, "room");
+    let large = refused(alloc, plan, &text) == Some(FileFault::TooLarge);
+    expects(rt, large, "a file that is too large");
 }
 
 #[test]
 fn a_file_of_the_greatest_size(rt: HostRuntime) {
     let plan = plan(&rt, rt.alloc(), PLAN);
-    assert!(rt; check_the_greatest_size(&rt, rt.alloc(), &plan).is_ok());
+    check_the_greatest_size(&rt, rt.alloc(), &plan);
 }
 
 /// What stands behind the header, and the rows that it gives: the cases that readers of CSV get wrong.
@@ -356,7 +350,7 @@ fn reads_by_headers(rt: &impl Abort, alloc: Global, plan: &Plan) {
 
 fn reads_quotings(rt: &impl Abort, alloc: Global, plan: &Plan, header: &[u8]) {
     for (records, wanted) in quotings() {
-        assert!(rt; reads(rt, alloc, plan, header, &[*records], wanted).is_ok());
+        reads(rt, alloc, plan, header, &[*records], wanted);
     }
 }
 
@@ -366,53 +360,34 @@ const CLAIMS_TOLD: &str =
 #[test]
 fn every_prefix_of_a_claim_file_is_answered(rt: HostRuntime) {
     let plan = plan(&rt, rt.alloc(), PLAN);
-    assert!(rt; check_prefixes(&rt, rt.alloc(), &plan, CLAIMS).is_ok());
-    assert!(rt; tells(&rt, rt.alloc(), &plan, CLAIMS, CLAIMS_TOLD).is_ok());
+    check_prefixes(&rt, rt.alloc(), &plan, CLAIMS);
+    tells(&rt, rt.alloc(), &plan, CLAIMS, CLAIMS_TOLD);
 }
 
-fn check_prefixes(
-    rt: &impl Abort,
-    alloc: Global,
-    plan: &Plan,
-    text: &[u8],
-) -> Result<(), AllocError> {
+fn check_prefixes(rt: &impl Abort, alloc: Global, plan: &Plan, text: &[u8]) {
     for length in 0..text.len() {
-        check_prefix(rt, alloc, plan, &text[..length])?;
+        check_prefix(rt, alloc, plan, &text[..length]);
     }
-    Ok(())
 }
 
 // A prefix is a file of claims where it has the header's 32 bytes.
-fn check_prefix(
-    rt: &impl Abort,
-    alloc: Global,
-    plan: &Plan,
-    text: &[u8],
-) -> Result<(), AllocError> {
+fn check_prefix(rt: &impl Abort, alloc: Global, plan: &Plan, text: &[u8]) {
     match ClaimFile::new(alloc, plan, text) {
-        Ok(file) => check_file(rt, alloc, &file, text.len()),
-        Err(fault) => {
-            check_header(rt, fault, text.len());
-            Ok(())
-        }
+        Ok(file) => check_file(rt, alloc, file, text.len()),
+        Err(fault) => check_header(rt, fault, text.len()),
     }
 }
 
-fn check_file(
-    rt: &impl Abort,
-    alloc: Global,
-    file: &ClaimFile,
-    length: usize,
-) -> Result<(), AllocError> {
-    assert!(rt; length >= 32);
-    assert!(rt; file.text().len() == length);
-    let mut rows = file.rows(alloc)?;
-    check_numbers(rt, &mut rows)
+fn check_file(rt: &impl Abort, alloc: Global, file: ClaimFile, length: usize) {
+    expects(rt, length >= 32, "a whole header");
+    expects(rt, file.text().len() == length, "the file's text");
+    let mut rows = file.rows(alloc).expect(rt, "memory for a reader");
+    check_numbers(rt, &mut rows);
 }
 
 fn check_header(rt: &impl Abort, fault: FileFault, length: usize) {
-    assert!(rt; length < 32);
-    assert!(rt; fault == fault_of_front(length));
+    let same = length < 32 && fault == fault_of_front(length);
+    expects(rt, same, "the fault of a cut header");
 }
 
 // The fault of so many bytes of a header, which are not all of it.
@@ -434,21 +409,26 @@ fn next(rows: &mut Rows) -> Result<Option<(usize, Result<usize, RowCause>)>, All
 }
 
 // Records count from 1, and the only one that may be refused is cut off: its fields are too few, or empty.
-fn check_numbers(rt: &impl Abort, rows: &mut Rows) -> Result<(), AllocError> {
+fn check_numbers(rt: &impl Abort, rows: &mut Rows) {
     for expected in 1..6_usize {
-        match next(rows)? {
-            None => return Ok(()),
+        match next(rows).expect(rt, "memory for a row") {
+            None => return,
             Some((number, Ok(place))) => {
-                assert!(rt; number == expected && place.saturating_add(1) == number);
+                let same = number == expected && place.saturating_add(1) == number;
+                expects_at(rt, same, expected);
             }
             Some((number, Err(cause))) => {
-                assert!(rt; number == expected && cause == RowCause::FieldCount);
-                assert!(rt; next(rows)?.is_none());
+                let same = number == expected && cause == RowCause::FieldCount;
+                expects_at(rt, same, expected);
+                expects(
+                    rt,
+                    matches!(next(rows), Ok(None)),
+                    "the end behind a cut record",
+                );
             }
         }
     }
-    assert!(rt; false);
-    Ok(())
+    fail(rt, "an end")
 }
 
 /// Claims of families, and what is told of them: the column of the family may stand anywhere.
@@ -468,8 +448,9 @@ fn claims_of_families(rt: HostRuntime) {
 const FAMILIES_TOLD: &str = "1.0 e1 F1 M1 19727 1200000 A;2!6.4;3!3.4;4.1 e4 F2 M1 19754 300000 B;";
 
 fn tells_of_families(rt: &impl Abort, alloc: Global, plan: &Plan) {
-    assert!(rt; tells(rt, alloc, plan, FAMILY_CLAIMS, FAMILIES_TOLD).is_ok());
-    assert!(rt; refused(alloc, plan, CLAIMS) == Some(FileFault::MissingColumn));
+    tells(rt, alloc, plan, FAMILY_CLAIMS, FAMILIES_TOLD);
+    let lacking = refused(alloc, plan, CLAIMS) == Some(FileFault::MissingColumn);
+    expects(rt, lacking, "a missing column");
 }
 
 #[test]
@@ -489,12 +470,12 @@ fn claims_or_no_memory(rt: HostRuntime) {
 
 fn check_claims_or_no_memory(rt: &impl Abort, alloc: Global, plan: &Plan, text: &[u8]) {
     match ClaimFile::new(alloc, plan, text) {
-        Ok(file) => check_file_or_no_memory(rt, alloc, &file),
-        Err(fault) => assert!(rt; fault == FileFault::OutOfMemory),
+        Ok(file) => check_file_or_no_memory(rt, alloc, file),
+        Err(fault) => expects(rt, fault == FileFault::OutOfMemory, "want of memory"),
     }
 }
 
-fn check_file_or_no_memory(rt: &impl Abort, alloc: Global, file: &ClaimFile) {
+fn check_file_or_no_memory(rt: &impl Abort, alloc: Global, file: ClaimFile) {
     if let Ok(mut rows) = file.rows(alloc) {
         check_rows_or_no_memory(rt, &mut rows);
     }
@@ -504,14 +485,14 @@ fn check_file_or_no_memory(rt: &impl Abort, alloc: Global, file: &ClaimFile) {
 fn check_rows_or_no_memory(rt: &impl Abort, rows: &mut Rows) {
     for wanted in 1..5_usize {
         match next(rows) {
-            Ok(Some((number, Ok(_)))) => assert!(rt; number == wanted),
-            Ok(_) => assert!(rt; false),
+            Ok(Some((number, Ok(_)))) => expects_at(rt, number == wanted, wanted),
+            Ok(_) => fail(rt, "a claim"),
             Err(AllocError) => {
-                assert!(rt; next(rows).is_err());
-                assert!(rt; next(rows).is_err());
+                expects(rt, next(rows).is_err(), "want of memory");
+                expects(rt, next(rows).is_err(), "want of memory again");
                 return;
             }
         }
     }
-    assert!(rt; matches!(next(rows), Ok(None)));
+    expects(rt, matches!(next(rows), Ok(None)), "the end");
 }

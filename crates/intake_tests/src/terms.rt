@@ -8,6 +8,7 @@ use intake_csv::{BalanceFault, FILE_LIMIT_BYTES, FileFault, Row, RowCause, RowFa
 use settlement::{Acc, Claim};
 use std::alloc::Global;
 use std::process::Abort;
+use worked_examples::{expects, fail};
 
 mod families;
 
@@ -94,10 +95,10 @@ fn terms<'a>(
 ) -> Terms<'a> {
     match Terms::new(alloc, plan, files, balances, cutoff) {
         Ok(terms) => return terms,
-        Err(fault) => assert!(rt; fault == TermsFault::OutOfMemory),
+        Err(fault) => expects(rt, fault == TermsFault::OutOfMemory, "want of memory"),
     }
     let Ok(terms) = Terms::new(alloc, plan, files, balances, cutoff) else {
-        panic!(rt; "terms");
+        fail(rt, "terms")
     };
     terms
 }
@@ -127,39 +128,41 @@ fn claim(rt: &impl Abort, alloc: Global, day: i32, of: Option<&str>, member: &st
 fn opens(rt: &impl Abort, alloc: Global, terms: &Terms, wanted: (&str, i64, i64, i64)) {
     let (member, met, oop, paid) = wanted;
     let claim = claim(rt, alloc, 19_727, None, member);
-    assert!(rt; same(terms.opening(&claim), met, oop, paid), "{member}");
+    let found = same(terms.opening(&claim), met, oop, paid);
+    expects(rt, found, member);
 }
 
 fn has_files(rt: &impl Abort, terms: &Terms, wanted: &[&[u8]]) {
-    assert!(rt; terms.files().len() == wanted.len());
+    expects(rt, terms.files().len() == wanted.len(), "as many files");
     for (text, other) in terms.files().iter().zip(wanted) {
-        assert!(rt; *text == *other);
+        expects(rt, *text == *other, "the file");
     }
 }
 
 fn check_terms(rt: &impl Abort, alloc: Global, plan: &Plan) {
     let files = [CLAIMS, OTHER_CLAIMS];
     let full = terms(rt, alloc, plan, &files, Some(BALANCES), Some(7));
-    check_full(rt, alloc, &full, &files);
+    check_full(rt, alloc, full, &files);
     check_without_balances(rt, alloc, plan);
 }
 
-fn check_full(rt: &impl Abort, alloc: Global, terms: &Terms, files: &[&[u8]]) {
-    assert!(rt; terms.plan().names().len() == 8 && terms.plan().roles().is_some());
-    assert!(rt; terms.cutoff() == Some(7));
-    has_files(rt, terms, files);
-    opens(rt, alloc, terms, ("M1", 500_000, 100_000, 50_000));
-    opens(rt, alloc, terms, ("M2", 0, 0, 0));
+fn check_full(rt: &impl Abort, alloc: Global, terms: Terms, files: &[&[u8]]) {
+    expects(rt, terms.plan().names().len() == 8, "the plan's names");
+    expects(rt, terms.plan().roles().is_some(), "the plan's roles");
+    expects(rt, terms.cutoff() == Some(7), "the cutoff");
+    has_files(rt, &terms, files);
+    opens(rt, alloc, &terms, ("M1", 500_000, 100_000, 50_000));
+    opens(rt, alloc, &terms, ("M2", 0, 0, 0));
 }
 
 fn check_without_balances(rt: &impl Abort, alloc: Global, plan: &Plan) {
     let terms = terms(rt, alloc, plan, &[CLAIMS], None, None);
-    check_plain(rt, alloc, &terms);
+    check_plain(rt, alloc, terms);
 }
 
-fn check_plain(rt: &impl Abort, alloc: Global, terms: &Terms) {
-    assert!(rt; terms.cutoff().is_none());
-    opens(rt, alloc, terms, ("M1", 0, 0, 0));
+fn check_plain(rt: &impl Abort, alloc: Global, terms: Terms) {
+    expects(rt, terms.cutoff().is_none(), "no cutoff");
+    opens(rt, alloc, &terms, ("M1", 0, 0, 0));
 }
 
 // The gate runs it once for each of its allocations, with that one refused.
@@ -174,14 +177,18 @@ fn as_many_files_as_a_run_may_have(rt: HostRuntime) {
 }
 
 fn check_numbers_of_files(rt: &impl Abort, alloc: Global, plan: &Plan, files: &[&[u8]]) {
-    assert!(rt; files.len() == 65);
-    assert!(rt; fault_of(alloc, plan, files, None) == Some(TermsFault::Files));
-    assert!(rt; fault_of(alloc, plan, &[], None) == Some(TermsFault::Files));
+    expects(rt, files.len() == 65, "so many files");
+    let refused = Some(TermsFault::Files);
+    let many = fault_of(alloc, plan, files, None) == refused;
+    expects(rt, many, "too many files");
+    let none = fault_of(alloc, plan, &[], None) == refused;
+    expects(rt, none, "no file");
     let [_, most @ ..] = files else {
-        panic!(rt; "files");
+        fail(rt, "files")
     };
-    assert!(rt; most.len() == FILES_LIMIT);
-    assert!(rt; fault_of(alloc, plan, most, None).is_none());
+    expects(rt, most.len() == FILES_LIMIT, "as many as there may be");
+    let made = fault_of(alloc, plan, most, None).is_none();
+    expects(rt, made, "terms");
 }
 
 /// The second record of balances names a member again.
@@ -215,13 +222,13 @@ const REFUSED: [(&[&[u8]], &[u8], TermsFault); 4] = [
 fn check_faults(rt: &impl Abort, alloc: Global, plan: &Plan) {
     for (files, balances, fault) in &REFUSED {
         let refused = fault_of(alloc, plan, files, Some(balances));
-        assert!(rt; refused == Some(*fault));
+        expects(rt, refused == Some(*fault), "the first fault");
     }
 }
 
 fn check_no_roles(rt: &impl Abort, alloc: Global, plan: &Plan) {
     let refused = fault_of(alloc, plan, &[], Some(TWICE));
-    assert!(rt; refused == Some(TermsFault::NoRoles));
+    expects(rt, refused == Some(TermsFault::NoRoles), "no roles");
 }
 
 #[test]
@@ -232,10 +239,11 @@ fn faults_come_in_order(rt: HostRuntime) {
 
 fn check_large_file(rt: &impl Abort, alloc: Global, plan: &Plan) {
     let text = too_large(rt, alloc, CLAIMS);
-    assert!(rt; text.len() == 16_777_217);
+    expects(rt, text.len() == 16_777_217, "a byte too many");
     let refused = fault_of(alloc, plan, &[&text, NO_CODE], None);
     let fault = FileFault::TooLarge;
-    assert!(rt; refused == Some(TermsFault::File { provider: 1, fault }));
+    let wanted = TermsFault::File { provider: 1, fault };
+    expects(rt, refused == Some(wanted), "a file that is too large");
 }
 
 #[test]
@@ -277,9 +285,9 @@ const FAULTS: [(TermsFault, u8, &str); 5] = [
 #[test]
 fn faults_have_numbers_and_texts(rt: HostRuntime) {
     for (fault, number, wanted) in &FAULTS {
-        assert!(rt; fault.number() == *number);
+        expects(&rt, fault.number() == *number, wanted);
         let told = format!(in rt.alloc(); "{fault}").expect(&rt, "memory for a text");
-        assert!(rt; told.as_str() == *wanted);
+        expects(&rt, told.as_str() == *wanted, wanted);
     }
 }
 
@@ -287,7 +295,7 @@ fn faults_have_numbers_and_texts(rt: HostRuntime) {
 fn has_claim(rt: &impl Abort, rows: &mut Rows) -> bool {
     match rows.next().expect(rt, "memory for a row") {
         Some(Row::Good { .. }) => true,
-        Some(Row::Bad { .. }) => panic!(rt; "a claim"),
+        Some(Row::Bad { .. }) => fail(rt, "a claim"),
         None => false,
     }
 }
@@ -300,21 +308,21 @@ fn check_rows(rt: &impl Abort, alloc: Global, terms: &Terms, provider: usize, co
         .rows(alloc, provider)
         .expect(rt, "memory for a reader");
     for _ in 0..count {
-        assert!(rt; has_claim(rt, &mut rows));
+        expects(rt, has_claim(rt, &mut rows), "a claim");
     }
-    assert!(rt; !has_claim(rt, &mut rows));
+    expects(rt, !has_claim(rt, &mut rows), "the end");
 }
 
 fn check_rows_of_files(rt: &impl Abort, alloc: Global, plan: &Plan) {
     let terms = terms(rt, alloc, plan, &[CLAIMS, OTHER_CLAIMS], None, None);
-    check_each(rt, alloc, &terms);
+    check_each(rt, alloc, terms);
 }
 
-fn check_each(rt: &impl Abort, alloc: Global, terms: &Terms) {
-    assert!(rt; terms.files().len() == 2);
+fn check_each(rt: &impl Abort, alloc: Global, terms: Terms) {
+    expects(rt, terms.files().len() == 2, "two files");
     for _ in 0..2 {
-        check_rows(rt, alloc, terms, 1, 1);
-        check_rows(rt, alloc, terms, 2, 0);
+        check_rows(rt, alloc, &terms, 1, 1);
+        check_rows(rt, alloc, &terms, 2, 0);
     }
 }
 

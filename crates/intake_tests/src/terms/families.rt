@@ -6,6 +6,7 @@ use intake_csv::{BalanceFault, RowCause, RowFault};
 use settlement::Acc;
 use std::alloc::Global;
 use std::process::Abort;
+use worked_examples::{expects, expects_at};
 
 /// A plan that pays what is billed, up to 5.00.
 const PLAN: &[u8] = br#"
@@ -75,19 +76,17 @@ fn sums_of(acc: Acc) -> [i64; 4] {
     ]
 }
 
-fn check_each(rt: &impl Abort, alloc: Global, terms: &Terms) {
+fn check_each(rt: &impl Abort, alloc: Global, terms: Terms) {
     for (day, family, member, wanted) in &OPENINGS {
         let claim = claim(rt, alloc, *day, Some(family), member);
-        assert!(rt;
-            sums_of(terms.opening(&claim)) == *wanted,
-            "{family} {member}"
-        );
+        let found = sums_of(terms.opening(&claim)) == *wanted;
+        expects(rt, found, member);
     }
 }
 
 pub fn check_openings(rt: &impl Abort, alloc: Global, plan: &Plan) {
     let terms = terms(rt, alloc, plan, &[CLAIMS], Some(BALANCES), None);
-    check_each(rt, alloc, &terms);
+    check_each(rt, alloc, terms);
 }
 
 #[test]
@@ -108,8 +107,9 @@ pub fn check_sums(rt: &impl Abort, alloc: Global, plan: &Plan) {
             column: *column,
             cause: *cause,
         };
+        let wanted = TermsFault::Balances(BalanceFault::Row { number: 2, fault });
         let refused = fault_of(alloc, plan, &[CLAIMS], Some(balances));
-        assert!(rt; refused == Some(TermsFault::Balances(BalanceFault::Row { number: 2, fault })));
+        expects_at(rt, refused == Some(wanted), *column);
     }
 }
 

@@ -1,4 +1,6 @@
-use Rattle.std.proofs.Common.{◌≡◌, get_or, string_bytes, None, Some, sym, rules}
+use Rattle.std.proofs.lemmas.Grind.{common_steps}
+use Rattle.std.proofs.lemmas.Bool.{false≢true}
+use Rattle.std.proofs.Common.{◌≡◌, get_or, string_bytes, None, Some, sym, rules, arith}
 use Rattle.std.proofs.lemmas.Map.Text.{btree_map_updates_text}
 use Rattle.std.specs.Str.{bytes_eq}
 use Rattle.intake_csv.specs.Households.{AreOnceBy}
@@ -12,12 +14,6 @@ join-requires c =
     let found = found-there c.args.years.now.items c.args.year c.from.result c.index_mut.result.now c.args.family.now (Some c.in-Some.household.now) year c.index_mut.ensures.value c.requires.there
     c.in-Some.ensures.value in
     rw found at c.requires.free
-
-pub unreachable-requires : goal.unreachable-requires
-unreachable-requires c =
-    let year : c.from.result ≡ c.args.year = search rules in
-    let found = found-there c.args.years.now.items c.args.year c.from.result c.index_mut.result.now c.args.family.now None year c.index_mut.ensures.value c.requires.there c.in-None.ensures.value in
-    cc (rw found at c.requires.there)
 
 pub returns-clause-joined : goal.returns-clause-joined
 returns-clause-joined c =
@@ -41,3 +37,12 @@ returns-clause-once c =
     let within = there-within c.args.years.now.items c.args.year c.args.family.now c.requires.there in
     rw year (put_once c.args.years.now.items c.args.year old (c.get_mut.follows.lender c.join.new.self) within wrote.4 (rw (← year, standing, wrote.0)
     (all-set (AreOnceBy bytes_eq) _ c.join.new.self old.entries c.join.ensures.once)))
+
+pub unreachable-requires : goal.unreachable-requires
+unreachable-requires c =
+    let year : c.from.result ≡ c.args.year = search rules in
+    let found = found-there c.args.years.now.items c.args.year c.from.result c.index_mut.result.now c.args.family.now None year c.index_mut.ensures.value c.requires.there c.in-None.ensures.value in
+    false≢true (rw found at c.requires.there)
+
+pub index_mut-requires : goal.index_mut-requires
+index_mut-requires c = grind (arith, common_steps)

@@ -13,3 +13,6 @@ loop-preserved c =
       same = λ q. more.same q ∙ before.same q;
       once = λ h. more.once (before.once h);
     }
+
+pub returns-in_err-add_year-clause-same : goal.returns-in_err-add_year-clause-same
+returns-in_err-add_year-clause-same c = λ q. c.in_err-add_year.ensures.same q ∙ c.loop.invariant.same q

@@ -48,3 +48,40 @@ returns-clause-none c =
 
 pub returns-clause-claim : goal.returns-clause-claim
 returns-clause-claim c = grind (arith, common_steps)
+
+pub claim_behind-requires-2-clause-columns : goal.claim_behind-requires-2-clause-columns
+claim_behind-requires-2-clause-columns c = grind (arith, common_steps)
+
+pub unreachable-requires-in_default-behind : goal.unreachable-requires-in_default-behind
+unreachable-requires-in_default-behind c = grind (arith, common_steps)
+
+pub returns-then-not-has_family_column-clause-claim : goal.returns-then-not-has_family_column-clause-claim
+returns-then-not-has_family_column-clause-claim c = grind (arith, common_steps)
+
+pub claim_behind-requires-clause-columns : goal.claim_behind-requires-clause-columns
+claim_behind-requires-clause-columns c = grind (arith, common_steps)
+
+pub unreachable-requires : goal.unreachable-requires
+unreachable-requires c = grind (arith, common_steps)
+
+pub claim_behind-requires-clause-within : goal.claim_behind-requires-clause-within
+claim_behind-requires-clause-within c =
+    let is_within : Column → Type 0 = λ column. column.place < length c.args.row.now in
+    all-within is_within 1 _ c.as_slice.result.now (subst (All is_within) (sym c.as_slice.ensures) c.requires.within)
+
+pub claim_behind-requires-clause-small : goal.claim_behind-requires-clause-small
+claim_behind-requires-clause-small c = c.requires.small
+
+pub claim_behind-requires-2-clause-small : goal.claim_behind-requires-2-clause-small
+claim_behind-requires-2-clause-small c = c.requires.small
+
+pub text_under-requires-clause-within : goal.text_under-requires-clause-within
+text_under-requires-clause-within c =
+    let is_within : Column → Type 0 = λ column. column.place < length c.args.row.now in
+    subst (All is_within) (sym c.as_slice.ensures) c.requires.within 0 _ (omega (arith, c.in-len1-up.len_at_least))
+
+pub returns-in_default-2-clause-none : goal.returns-in_default-2-clause-none
+returns-in_default-2-clause-none c =
+    let refused = rw c.in_default-2.is at c.in_ok-id.ensures.none in
+    let is_refused = IsRefusedUnder c.args.row.now in
+    subst (Any is_refused) c.as_slice.ensures (any-first is_refused _ _ c.in-len1-up.len_at_least refused)

@@ -1,4 +1,5 @@
-use Rattle.std.proofs.Common.{◌≡◌, Bool, true, false, length, subst, sym, ◌∙◌}
+use Rattle.std.proofs.lemmas.Grind.{common_steps}
+use Rattle.std.proofs.Common.{◌≡◌, Bool, true, false, length, subst, sym, ◌∙◌, arith}
 use Rattle.intake_csv.specs.Record.{IsClaimShaped, has_family_column}
 use Rattle.intake_csv.proofs.Judging.{is-alone, is-joined}
 use Rattle.intake_csv.proofs.Shapes.{claim-shaped}
@@ -21,3 +22,15 @@ returns-clause-claim c =
           let claim = is-alone c.args.line.now layout.columns _ judged.0 (subst (λ (b : Bool). IsClaimShaped b judged.0) families shaped) judged.1.0 in
           rw (w.family-is, c.as_slice-columns.ensures) (claim.claim, (width, claim.values), claim.claimant)
     ]
+
+pub bounds-columns-1 : goal.bounds-columns-1
+bounds-columns-1 c = grind (arith, common_steps)
+
+pub bounds-columns-behind-2 : goal.bounds-columns-behind-2
+bounds-columns-behind-2 c = grind (arith, common_steps)
+
+pub bounds-columns-behind : goal.bounds-columns-behind
+bounds-columns-behind c = grind (arith, common_steps)
+
+pub bounds-columns-0 : goal.bounds-columns-0
+bounds-columns-0 c = grind (arith, common_steps)

@@ -2,7 +2,7 @@ use Rattle.std.proofs.Common.{◌≡◌, None, sym}
 use Rattle.std.proofs.lemmas.Bool.{eqb-true}
 use Rattle.csv.specs.Records.{field_at}
 use Rattle.intake_csv.proofs.Lists.{field_at-within}
-use Rattle.intake_csv.proofs.UnderColumns.{empty-under}
+use Rattle.intake_csv.proofs.UnderColumns.{empty-under, no_text_under}
 use Rattle.intake_csv.proofs.under.text_under.Goals as goal
 
 pub unreachable-requires : goal.unreachable-requires
@@ -15,3 +15,8 @@ pub returns-then-is_empty-clause-none : goal.returns-then-is_empty-clause-none
 returns-then-is_empty-clause-none c =
     let at = rw c.in-Ok.is at c.in-Some.ensures.text in
     empty-under c.args.row.now c.args.column c.in-Ok.text.now c.requires.content at (eqb-true _ _ (sym c.if-is_empty.ensures))
+
+pub returns-in_default-found-clause-none : goal.returns-in_default-found-clause-none
+returns-in_default-found-clause-none c =
+    let none = rw c.in_default-found.is at c.in-Some.ensures.none in
+    no_text_under c.args.row.now c.args.column none.0 none.1 none.2

@@ -1,7 +1,8 @@
+use Rattle.intake_csv.specs.Judged.{IsRefusedUnder}
 use Rattle.std.proofs.Common.{[], ◌∷◌, ◌++◌, subst, take}
 use Rattle.std.proofs.lemmas.List.{take_all}
 use Rattle.intake_csv.specs.Rows.{AreValues, HoldsUnder}
-use Rattle.intake_csv.proofs.Lists.{AllZip-grow, grown}
+use Rattle.intake_csv.proofs.Lists.{AllZip-grow, grown, any-at}
 use Rattle.intake_csv.proofs.under.values_under.Goals as goal
 
 pub loop-column-preserved : goal.loop-column-preserved
@@ -19,3 +20,11 @@ loop-column-preserved c =
 pub returns-clause-values : goal.returns-clause-values
 returns-clause-values c =
     subst (λ columns. AreValues c.args.row.now columns c.loop-column.values) (take_all c.loop-column.column-index c.args.columns.now c.loop-column-test.false) c.loop-column.invariant
+
+pub read_under-requires-clause-within : goal.read_under-requires-clause-within
+read_under-requires-clause-within c = c.requires.within c.loop-column.column-index _ c.loop-column-test.true
+
+pub returns-in_default-clause-none : goal.returns-in_default-clause-none
+returns-in_default-clause-none c =
+    let faulty = rw c.in_default.is at c.in_ok-value.ensures.faulty in
+    any-at (IsRefusedUnder c.args.row.now) c.loop-column.column-index c.args.columns.now _ c.loop-column-test.true (c.in_default.field-0.cause, faulty)

@@ -28,3 +28,6 @@ returns-clause-entry c =
     let entry : Entry = (record { family = named_or e.family e.member; member = e.member; year = e.year }, e.balance) in
     let read : IsEntry c.args.version c.args.layout.now c.args.row.now entry = record { kept = c.entry_of-entry.ensures.kept; values = rw c.entry_of-entry.ensures.values at values } in
     λ front h. (entry, read, c.in_ok-put.ensures front h)
+
+pub fault_of-requires-clause-within : goal.fault_of-requires-clause-within
+fault_of-requires-clause-within c = c.requires.within

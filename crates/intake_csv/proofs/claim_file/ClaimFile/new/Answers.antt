@@ -1,3 +1,4 @@
+use Rattle.std.proofs.Common.{refl}
 use Rattle.intake_csv.proofs.PlanColumns.{columns-apart-under}
 use Rattle.intake_csv.proofs.Shapes.{claim-layout}
 use Rattle.intake_csv.proofs.claim_file.ClaimFile.new.Goals as goal
@@ -12,3 +13,8 @@ invariant_of-result c =
       columns = claim-layout c.args.plan.now.names s.is_sheet.header c.in_ok-sheet.sheet.layout s.is_sheet.columns;
       apart = columns-apart-under c.args.plan.now s.is_sheet.header c.in_ok-sheet.sheet.layout.columns c.names-names.ensures.sound s.is_sheet.columns;
     }
+
+pub returns-clause-ok : goal.returns-clause-ok
+returns-clause-ok c =
+    let s = rw (c.as_slice.ensures, c.in_ok-needed.ensures) at c.in_ok-sheet.ensures.ok in
+    record { text_is = refl; under = s.is_sheet }

@@ -14,3 +14,9 @@ unreachable-requires c =
     let none = no-records text c.read.new.self (fields_of c.read.new.row) reads in
     let same : sheet.header ∷ drop 1 (records_of text) ≡ [] = file-one text (sheet.header ∷ drop 1 (records_of text)) [] sheet.file.read none in
     absurd (cc same)
+
+pub behind_header-requires-clause-within : goal.behind_header-requires-clause-within
+behind_header-requires-clause-within c = rw c.in_ok-layout.ensures c.self.invariant.within
+
+pub behind_header-requires-clause-columns : goal.behind_header-requires-clause-columns
+behind_header-requires-clause-columns c = rw c.in_ok-layout.ensures c.self.invariant.columns

@@ -30,3 +30,6 @@ returns-clause-once c = elim c.match-insert.branch [
       rw w.self-is after.once
   | in-Err w ↦ rw (w.self-is, w.in-Err.ensures.err) c.self.invariant.once
 ]
+
+pub invariant_of-self-in-Err : goal.invariant_of-self-in-Err
+invariant_of-self-in-Err c = rw c.in-Err.ensures.err c.self.invariant

@@ -1,4 +1,4 @@
-use Rattle.std.proofs.Common.{refl, ap, arith, ◌≡◌, ◌+◌, Some}
+use Rattle.std.proofs.Common.{refl, ap, arith, ◌≡◌, ◌+◌, Some, ◌∙◌}
 use Rattle.intake_csv.specs.Records.{RecordsLeft, is_failed}
 use Rattle.intake_csv.proofs.AllRecords.{read-at, records-few}
 use Rattle.intake_csv.proofs.Handing.{gives-row, left_of, rows-head}
@@ -45,3 +45,30 @@ returns-in-Ok-Err-clause-gives c =
     let gives = gives-row i.layout i.next i.claims i.claims i.records.text i.records.stage c.read.new.self row at.1 (refl, has) none reads.2 in
     let stage : c.read.new.records.stage ≡ i.records.stage = ap (λ (r : RecordsLeft). r.stage) reads.1 in
     rw (← c.self.view_is, at.2, stage) (record { row = Some row; gives = gives; head = rows-head old new row gives; tells = (refl, refl) })
+
+pub invariant_of-self-in-Ok-Ok : goal.invariant_of-self-in-Ok-Ok
+invariant_of-self-in-Ok-Ok c =
+    let i = c.self.inside in
+    let reads = rw c.in-Ok-true.field-0-test at c.in-Ok-true.ensures.reads in
+    let at = read-at i.records c.read.new.records i.next c.read.new.self (c.self.invariant.4 (ap is_failed reads.2)) reads in (
+      c.self.invariant.0,
+      c.self.invariant.1,
+      omega (arith, c.self.invariant.2),
+      rw at.2 c.self.invariant.3,
+      λ well. ap (λ (r : RecordsLeft). r.given) reads.1 ∙ ap (λ n. n + 1) (c.self.invariant.4 (ap is_failed reads.2)),
+    )
+
+pub invariant_of-self-in-Ok-Err : goal.invariant_of-self-in-Ok-Err
+invariant_of-self-in-Ok-Err c =
+    let i = c.self.inside in
+    let reads = rw c.in-Ok-true.field-0-test at c.in-Ok-true.ensures.reads in
+    let at = read-at i.records c.read.new.records i.next c.read.new.self (c.self.invariant.4 (ap is_failed reads.2)) reads in (
+      c.self.invariant.0,
+      c.self.invariant.1,
+      omega (arith, c.self.invariant.2),
+      rw at.2 c.self.invariant.3,
+      λ well. ap (λ (r : RecordsLeft). r.given) reads.1 ∙ ap (λ n. n + 1) (c.self.invariant.4 (ap is_failed reads.2)),
+    )
+
+pub judge_claim-requires-clause-within : goal.judge_claim-requires-clause-within
+judge_claim-requires-clause-within c = c.self.invariant.0
