@@ -9,12 +9,22 @@ use std::alloc::{AllocError, Global};
 use std::marker::Model;
 
 /// A reader of a text's records, less a byte order mark in front of it. It holds one record at a time.
-#[derive(Drop)]
 pub struct Records<'t> {
     text: &'t [u8],
     reader: Reader<&'t [u8]>,
     given: usize,
     stage: Stage,
+}
+
+impl Drop for Records<'_> {
+    fn drop(self) {
+        let Records {
+            text: _,
+            reader: _,
+            given: _,
+            stage: _,
+        } = self;
+    }
 }
 
 /// How far a reader has come.

@@ -1,6 +1,6 @@
-use Rattle.std.proofs.lemmas.Grind.{common_steps}
-use Rattle.std.proofs.Common.{arith, rules}
-use Rattle.intake_csv.specs.Records.{records_of, remaining}
+use Rattle.intake_csv.proofs.AllRecords.{read-at, records-few}
+use Rattle.std.proofs.Common.{arith, rules, ap, length, ◌+◌}
+use Rattle.intake_csv.specs.Records.{records_of, remaining, RecordsLeft}
 use Rattle.intake_csv.proofs.Entries.{read-all, read-next, refused-next, read_none}
 use Rattle.intake_csv.proofs.Shapes.{balance-layout}
 use Rattle.intake_csv.proofs.balances.read_by.Goals as goal
@@ -38,3 +38,17 @@ loop-record-init c = (c.in_ok-sheet.ensures.ok.records, search (rules, read_none
 
 pub read-requires-in-loop-record-clause-within : goal.read-requires-in-loop-record-clause-within
 read-requires-in-loop-record-clause-within c = c.in_ok-sheet.ensures.ok.within
+
+pub loop-record-smaller : goal.loop-record-smaller
+loop-record-smaller c =
+    let reads = rw c.if-branch.true at c.in_ok-read.ensures.reads in
+    omega (arith, ap length reads.0)
+
+pub overflow_add-number : goal.overflow_add-number
+overflow_add-number c =
+    let start = c.loop-record.invariant.0 in
+    let reads = rw c.if-branch.true at c.in_ok-read.ensures.reads in
+    let given = ap (λ (r : RecordsLeft). r.given) start in
+    let at = read-at c.loop-record.records c.read.new.records (c.loop-record.number + 1) c.read.new.self given reads in
+    let within = rw (ap (λ (r : RecordsLeft). r.text) start) at at.0 in
+    omega (arith, within, records-few c.args.text.now, c.in_ok-sheet.ensures.ok.small)

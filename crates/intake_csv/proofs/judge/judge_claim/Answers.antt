@@ -1,5 +1,6 @@
+use Rattle.std.specs.List.{All}
 use Rattle.std.proofs.lemmas.Grind.{common_steps}
-use Rattle.std.proofs.Common.{◌≡◌, Bool, true, false, length, subst, sym, ◌∙◌, arith}
+use Rattle.std.proofs.Common.{◌≡◌, Bool, true, false, length, subst, sym, ◌∙◌, arith, ◌<◌}
 use Rattle.intake_csv.specs.Record.{IsClaimShaped, has_family_column}
 use Rattle.intake_csv.proofs.Judging.{is-alone, is-joined}
 use Rattle.intake_csv.proofs.Shapes.{claim-shaped}
@@ -11,7 +12,7 @@ returns-clause-claim c =
     let layout = c.args.layout.now in
     let judged = rw (c.as_slice-columns.ensures, c.in_default.is) at c.in_ok-fault.ensures in
     let shaped = claim-shaped (has_family_column layout) c.args.line.now layout.columns judged.0 c.requires.claims.fields c.requires.claims.contents judged.1.0 in
-    let width : length c.args.line.now ≡ layout.width = cc (c.len.ensures, c.if-len-layout.false) in
+    let width : length c.args.line.now ≡ layout.width = sym c.len.ensures ∙ c.if-len-layout.false in
     elim c.if-has_family_column.branch [
       | then-has_family_column w ↦
           let families : has_family_column layout ≡ true = sym c.has_family_column.ensures ∙ w.if-has_family_column.true in
@@ -34,3 +35,8 @@ bounds-columns-behind c = grind (arith, common_steps)
 
 pub bounds-columns-0 : goal.bounds-columns-0
 bounds-columns-0 c = grind (arith, common_steps)
+
+pub first_fault-requires-clause-within : goal.first_fault-requires-clause-within
+first_fault-requires-clause-within c =
+    let width : c.args.layout.now.width ≡ length c.args.line.now = sym c.if-len-layout.false ∙ c.len.ensures in
+    rw c.as_slice-columns.ensures (subst (λ count. All (λ column. column.place < count) c.args.layout.now.columns) width c.requires.within)

@@ -1,4 +1,5 @@
-use Rattle.std.proofs.Common.{◌≡◌, None, sym}
+use Rattle.std.proofs.lemmas.Option.{none-some}
+use Rattle.std.proofs.Common.{◌≡◌, None, sym, ◌∙◌}
 use Rattle.std.proofs.lemmas.Bool.{eqb-true}
 use Rattle.csv.specs.Records.{field_at}
 use Rattle.intake_csv.proofs.Lists.{field_at-within}
@@ -9,7 +10,7 @@ pub unreachable-requires : goal.unreachable-requires
 unreachable-requires c =
     let found = field_at-within c.args.row.now c.args.column.place c.requires.within in
     let none : field_at c.args.row.now c.args.column.place ≡ None = c.text.ensures.lacking c.in_default.is in
-    cc (found, none)
+    none-some _ (sym none ∙ found)
 
 pub returns-then-is_empty-clause-none : goal.returns-then-is_empty-clause-none
 returns-then-is_empty-clause-none c =

@@ -1,6 +1,5 @@
 use Rattle.intake_csv.proofs.Books.{begun_none, begun_some}
-use Rattle.std.proofs.lemmas.Grind.{common_steps}
-use Rattle.std.proofs.Common.{arith, sym, ◌∙◌}
+use Rattle.std.proofs.Common.{sym, ◌∙◌}
 use Rattle.intake_csv.proofs.balances.Balances.of.Goals as goal
 
 pub returns-in-Some : goal.returns-in-Some

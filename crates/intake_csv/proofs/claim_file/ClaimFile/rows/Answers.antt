@@ -1,4 +1,4 @@
-use Rattle.std.proofs.Common.{◌≡◌, [], ◌∷◌, drop}
+use Rattle.std.proofs.Common.{◌≡◌, [], ◌∷◌, drop, ap, arith, length}
 use Rattle.csv.specs.Records.{fields_of}
 use Rattle.intake_csv.specs.Records.{records_of}
 use Rattle.intake_csv.proofs.AllRecords.{no-records}
@@ -13,7 +13,7 @@ unreachable-requires c =
     let reads = rw (c.new-records.ensures, c.if-not-branch.true) at c.in_ok-read.ensures.reads in
     let none = no-records text c.read.new.self (fields_of c.read.new.row) reads in
     let same : sheet.header ∷ drop 1 (records_of text) ≡ [] = file-one text (sheet.header ∷ drop 1 (records_of text)) [] sheet.file.read none in
-    absurd (cc same)
+    absurd (omega (arith, ap length same))
 
 pub behind_header-requires-clause-within : goal.behind_header-requires-clause-within
 behind_header-requires-clause-within c = rw c.in_ok-layout.ensures c.self.invariant.within

@@ -1,7 +1,7 @@
 use Rattle.feel_tests.specs.declared.kind.Kind.TheVariants as kinds
 use Rattle.intake_csv.proofs.Spelling.{no_plain}
 use Rattle.std.proofs.lemmas.Option.{same_Some}
-use Rattle.std.proofs.Common.{◌≡◌, refl, sym, ◌∙◌}
+use Rattle.std.proofs.Common.{refl, sym, ◌∙◌}
 use Rattle.feel_tests.specs.declared.value.Value.TheVariants.{Day}
 use Rattle.intake_csv.proofs.line.Line.day.Goals as goal
 

@@ -1,4 +1,5 @@
-use Rattle.std.proofs.Common.{refl, ap, arith, ◌≡◌, ◌+◌, ◌∙◌}
+use Rattle.std.proofs.lemmas.Bool.{false≢true}
+use Rattle.std.proofs.Common.{refl, ap, arith, ◌≡◌, ◌+◌, ◌∙◌, sym}
 use Rattle.intake_csv.specs.Records.{is_failed, RecordsLeft}
 use Rattle.intake_csv.proofs.AllRecords.{read-at, records-few}
 use Rattle.intake_csv.proofs.Handing.{gives-row, left_of, rows-head}
@@ -87,3 +88,19 @@ returns-in-Ok-Err-clause-gives c =
     let none : i.claims ≡ i.claims + 0 = omega arith in
     let stage : c.read.new.records.stage ≡ i.records.stage = ap (λ (r : RecordsLeft). r.stage) reads.1 in
     rw (← c.self.view_is, at.2, stage) (gives-row i.layout i.next i.claims i.claims i.records.text i.records.stage c.read.new.self row at.1 (refl, has) none reads.2)
+
+pub invariant_of-self : goal.invariant_of-self
+invariant_of-self c =
+    let reads = rw c.in-Ok-false.field-0-test at c.in-Ok-false.ensures.reads in
+    rw reads.1 (c.self.invariant.0, c.self.invariant.1, c.self.invariant.2, c.self.invariant.3, λ well. c.self.invariant.4 reads.2)
+
+pub invariant_of-self-in-Err : goal.invariant_of-self-in-Err
+invariant_of-self-in-Err c =
+    rw c.in-Err.ensures.refused (c.self.invariant.0, c.self.invariant.1, c.self.invariant.2, c.self.invariant.3, λ well. absurd (false≢true (sym well)))
+
+pub invariant_of-self-in-Err-read_claim : goal.invariant_of-self-in-Err-read_claim
+invariant_of-self-in-Err-read_claim c =
+    let i = c.self.inside in
+    let reads = rw c.in-Ok-true.field-0-test at c.in-Ok-true.ensures.reads in
+    let at = read-at i.records c.read.new.records i.next c.read.new.self (c.self.invariant.4 (ap is_failed reads.2)) reads in
+    rw (c.fail.ensures, at.2) (c.self.invariant.0, c.self.invariant.1, c.self.invariant.2, c.self.invariant.3, λ well. absurd (false≢true (sym well)))

@@ -1,4 +1,5 @@
-use Rattle.std.proofs.Common.{refl, ap, arith, ◌≡◌, ◌+◌, Some, ◌∙◌}
+use Rattle.std.proofs.lemmas.Bool.{false≢true}
+use Rattle.std.proofs.Common.{refl, ap, arith, ◌≡◌, ◌+◌, Some, ◌∙◌, sym}
 use Rattle.intake_csv.specs.Records.{RecordsLeft, is_failed}
 use Rattle.intake_csv.proofs.AllRecords.{read-at, records-few}
 use Rattle.intake_csv.proofs.Handing.{gives-row, left_of, rows-head}
@@ -72,3 +73,19 @@ invariant_of-self-in-Ok-Err c =
 
 pub judge_claim-requires-clause-within : goal.judge_claim-requires-clause-within
 judge_claim-requires-clause-within c = c.self.invariant.0
+
+pub invariant_of-self : goal.invariant_of-self
+invariant_of-self c =
+    let reads = rw c.in-Ok-false.field-0-test at c.in-Ok-false.ensures.reads in
+    rw reads.1 (c.self.invariant.0, c.self.invariant.1, c.self.invariant.2, c.self.invariant.3, λ well. c.self.invariant.4 reads.2)
+
+pub invariant_of-self-in-Err : goal.invariant_of-self-in-Err
+invariant_of-self-in-Err c =
+    rw c.in-Err.ensures.refused (c.self.invariant.0, c.self.invariant.1, c.self.invariant.2, c.self.invariant.3, λ well. absurd (false≢true (sym well)))
+
+pub invariant_of-self-in-Err-judge_claim : goal.invariant_of-self-in-Err-judge_claim
+invariant_of-self-in-Err-judge_claim c =
+    let i = c.self.inside in
+    let reads = rw c.in-Ok-true.field-0-test at c.in-Ok-true.ensures.reads in
+    let at = read-at i.records c.read.new.records i.next c.read.new.self (c.self.invariant.4 (ap is_failed reads.2)) reads in
+    rw (c.fail.ensures, at.2) (c.self.invariant.0, c.self.invariant.1, c.self.invariant.2, c.self.invariant.3, λ well. absurd (false≢true (sym well)))
