@@ -1,6 +1,8 @@
 -- Files of claims, judged one after another.
-use Rattle.std.proofs.Common.{◌≡◌, ◌<◌, ◌≤◌, ◌+◌, ℕ, zero, suc, Result, Ok, Err, IfOk, Option, IsSome, List, [], ◌∷◌, ◌++◌, length, take, get_or, Some, Bor, refl, sym, ap, subst, ◌∙◌, arith}
+use Rattle.std.proofs.Common.{◌≡◌, ◌<◌, ◌≤◌, ◌+◌, ℕ, zero, suc, Result, Ok, Err, IfOk, Option, IsSome, List, [], ◌∷◌, ◌++◌, length, take, get_or, Some, None, Bor, true, is_some, refl, sym, ap, subst, ◌∙◌, arith}
 use Rattle.std.specs.List.{All}
+use Rattle.std.specs.Option.{option_copied}
+use Rattle.std.proofs.lemmas.Bool.{false≢true}
 use Rattle.std.proofs.lemmas.List.{get_or-map, length-map, take_all, take_more}
 use Rattle.std.proofs.lemmas.List.Elements.{All-cons, All-nil}
 use Rattle.std.proofs.lemmas.Option.{slice_get-get_or}
@@ -110,6 +112,20 @@ gives-at names texts files place d file E (Ok rows) are within at is =
     subst (λ r. (all : List Row) → AreRowsLeft r all → AreRowsOf names text all) (sym (is ∙ ap rows_of at))
     (gives-all names text (get_or files place d) (file-at names texts files place d are within))
 gives-at names texts files place d file E (Err e) are within at is = tt
+
+-- a plan whose roles are lent has some
+pub have-roles : {A : Type 0} (lent : Option (Bor A)) (roles : Option A) → option_copied lent ≡ roles → is_some lent ≡ true → IsSome roles
+have-roles None roles is some = absurd (false≢true some)
+have-roles (Some lends) roles is some = ap is_some (sym is)
+
+-- files that are refused
+pub refused-files : (plan : PlanParts) (texts : List (List ℕ)) (balances : Option (List ℕ)) (fault : TermsFault) → IsSome plan.roles → IsFileCount (length texts)
+    → IsFaultOfFiles plan.names texts fault → HasTermsFault plan texts balances fault
+refused-files plan texts balances NoRoles roles count refused = absurd refused
+refused-files plan texts balances Files roles count refused = absurd refused
+refused-files plan texts balances (File provider fault) roles count refused = (roles, count, refused)
+refused-files plan texts balances (Balances fault) roles count refused = absurd refused
+refused-files plan texts balances OutOfMemory roles count refused = tt
 
 -- a fault of the balances, behind a plan with roles and files of claims
 pub refused-balances : (plan : PlanParts) (texts : List (List ℕ)) (balances : Option (List ℕ)) (fault : TermsFault) → IsSome plan.roles → IsFileCount (length texts)
