@@ -116,15 +116,18 @@ fn tell_claim(told: &mut String, claim: &Claim) -> Result<(), AllocError> {
     }
     write!(told, " {} {day} {units}", claim.member.as_str())?;
     for value in &claim.fields {
-        match value {
-            Value::Number(number) => write!(told, " {}", number.units())?,
-            Value::Text(text) => write!(told, " {}", text.as_str())?,
-            Value::Flag(flag) => write!(told, " {flag}")?,
-            Value::Day(day) => write!(told, " {}", day.epoch_day())?,
-        }
+        tell_value(told, value)?;
     }
-    told.push(';')?;
-    Ok(())
+    told.push(';')
+}
+
+fn tell_value(told: &mut String, value: &Value) -> Result<(), AllocError> {
+    match value {
+        Value::Number(number) => write!(told, " {}", number.units()),
+        Value::Text(text) => write!(told, " {}", text.as_str()),
+        Value::Flag(flag) => write!(told, " {flag}"),
+        Value::Day(day) => write!(told, " {}", day.epoch_day()),
+    }
 }
 
 // Reads a file of these parts.
