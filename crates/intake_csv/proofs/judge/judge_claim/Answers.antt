@@ -24,6 +24,9 @@ returns-clause-claim c =
           rw (w.family-is, c.as_slice-columns.ensures) (claim.claim, (width, claim.values), claim.claimant)
     ]
 
+pub bounds-columns-1 : goal.bounds-columns-1
+bounds-columns-1 c = grind (arith, common_steps)
+
 pub bounds-columns-behind-2 : goal.bounds-columns-behind-2
 bounds-columns-behind-2 c = grind (arith, common_steps)
 
