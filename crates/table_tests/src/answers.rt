@@ -7,13 +7,14 @@ use dtable::{Answer, Env, Fault, Inputs, Plan, PlanFault, Valuer, read_plan};
 use feel_tests::{Kind, TEXT_LIMIT_BYTES, Text, Value, read_value};
 use std::alloc::{AllocError, Global};
 use std::process::Abort;
+use worked_examples::{expects, fail};
 
 /// The plan of a text.
 pub fn plan_of(rt: &impl Abort, alloc: Global, text: &[u8]) -> Plan {
     match read_plan(alloc, text) {
         Ok(plan) => plan,
         Err(fault) => {
-            assert_eq!(rt; fault, PlanFault::from(AllocError));
+            expects(rt, fault == PlanFault::from(AllocError), "a plan");
             read_plan(alloc, text).expect(rt, "a plan")
         }
     }
@@ -41,9 +42,9 @@ pub fn give_text(rt: &impl Abort, alloc: Global, inputs: &mut Inputs, place: usi
     match inputs.kind_at(place) {
         Some(Kind::Text) => {
             let given = inputs.set_text(alloc, place, &text);
-            assert!(rt; given.is_ok());
+            expects(rt, given.is_ok(), "memory for a text");
         }
-        _ => panic!(rt; "a name for a text"),
+        _ => fail(rt, "a name for a text"),
     }
 }
 
@@ -53,7 +54,7 @@ pub fn value_of<'a>(rt: &impl Abort, alloc: Global, plan: &'a Plan, inputs: &Inp
     match plan.value(alloc, inputs) {
         Ok(values) => values,
         Err(fault) => {
-            assert_eq!(rt; fault, Fault::OutOfMemory);
+            expects(rt, fault == Fault::OutOfMemory, "a value");
             plan.value(alloc, inputs).expect(rt, "a value")
         }
     }
@@ -64,15 +65,15 @@ pub fn shown(rt: &impl Abort, alloc: Global, values: &Env, outputs: &[&str]) -> 
     let mut text = Vec::new(alloc);
     if write_shown(&mut text, values, outputs).is_err() {
         text.clear();
-        assert!(rt; write_shown(&mut text, values, outputs).is_ok());
+        let written = write_shown(&mut text, values, outputs);
+        expects(rt, written.is_ok(), "memory for a text");
     }
     text
 }
 
 fn write_shown(text: &mut Vec<u8>, values: &Env, outputs: &[&str]) -> Result<(), AllocError> {
     for output in outputs {
-        write_answer(text, values.get(output))?;
-        text.push(b'\n')?;
+        write_line(text, values.get(output))?;
     }
     Ok(())
 }
@@ -88,8 +89,8 @@ pub fn shown_by_place(
     let mut text = Vec::new(alloc);
     for output in outputs {
         let place = plan.output_place(output).expect(rt, "an output");
-        assert!(rt; write_answer(&mut text, values.at(place)).is_ok());
-        assert!(rt; text.push(b'\n').is_ok());
+        let written = write_line(&mut text, values.at(place));
+        expects(rt, written.is_ok(), "memory for a text");
     }
     text
 }
@@ -98,8 +99,8 @@ pub fn shown_by_place(
 pub fn listed(rt: &impl Abort, alloc: Global, answers: &[Answer]) -> Vec<u8> {
     let mut text = Vec::new(alloc);
     for answer in answers {
-        assert!(rt; write_answer(&mut text, Some(answer)).is_ok());
-        assert!(rt; text.push(b'\n').is_ok());
+        let written = write_line(&mut text, Some(answer));
+        expects(rt, written.is_ok(), "memory for a text");
     }
     text
 }
@@ -108,13 +109,26 @@ pub fn listed(rt: &impl Abort, alloc: Global, answers: &[Answer]) -> Vec<u8> {
 pub fn literal_of(rt: &impl Abort, alloc: Global, value: Option<&Value>) -> Vec<u8> {
     let mut text = Vec::new(alloc);
     if let Some(value) = value {
-        assert!(rt; value.write_text(&mut text).is_ok());
+        let written = value.write_text(&mut text);
+        expects(rt, written.is_ok(), "memory for a text");
     }
     text
 }
 
-/// A literal, or the word `list` and the literals of a list.
-pub fn write_answer(text: &mut Vec<u8>, answer: Option<&Answer>) -> Result<(), AllocError> {
+/// Whether a text is the one that is wanted.
+pub fn is_text(text: Vec<u8>, wanted: &str) -> bool {
+    text.as_slice() == wanted.as_bytes()
+}
+
+/// An answer and the end of its line.
+pub fn write_line(text: &mut Vec<u8>, answer: Option<&Answer>) -> Result<(), AllocError> {
+    write_answer(text, answer)?;
+    text.push(b'\n')?;
+    Ok(())
+}
+
+// A literal, or the word `list` and the literals of a list.
+fn write_answer(text: &mut Vec<u8>, answer: Option<&Answer>) -> Result<(), AllocError> {
     match answer {
         Some(Answer::One(value)) => value.write_text(text),
         Some(Answer::Many(list)) => write_list(text, list.as_slice()),

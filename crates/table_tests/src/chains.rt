@@ -1,6 +1,6 @@
 //! Whole plans, from their texts to their values: chains of tables, lists, and want of memory.
 use crate::answers::{
-    give, give_text, inputs_of, literal_of, plan_of, shown, shown_by_place, value_of,
+    give, give_text, inputs_of, is_text, literal_of, plan_of, shown, shown_by_place, value_of,
 };
 use crate::plans::{chain_plan, sum_and_level_plan};
 use crate::tables::told;
@@ -11,7 +11,7 @@ use dtable::{
 use feel_tests::Kind;
 use std::alloc::Global;
 use std::process::Abort;
-use worked_examples::health_plan;
+use worked_examples::{expects, health_plan};
 
 /// The places of some names in the health plan.
 const BILLED: usize = 3;
@@ -28,20 +28,25 @@ fn claimed(rt: &impl Abort, alloc: Global, plan: &Plan, claim: &Claim) -> Inputs
     let mut inputs = inputs_of(rt, alloc, plan);
     give(rt, alloc, &mut inputs, CODE, claim.0);
     give(rt, alloc, &mut inputs, BILLED, claim.1);
-    assert!(rt; !plan.ready(&inputs) && inputs.get(MET).is_none());
+    let lacks = !plan.ready(&inputs) && inputs.get(MET).is_none();
+    expects(rt, lacks, "a value that lacks");
     give(rt, alloc, &mut inputs, MET, claim.2);
-    assert!(rt; inputs.get(MET).is_some());
+    expects(rt, inputs.get(MET).is_some(), "the value that lacked");
     inputs
+}
+
+fn outputs_of_health() -> &'static [&'static str] {
+    &["covered", "fee", "note"]
 }
 
 /// The health plan answers what is wanted for the claim.
 fn is_answered(rt: &impl Abort, alloc: Global, plan: &Plan, claim: &Claim) {
     let inputs = claimed(rt, alloc, plan, claim);
     let values = value_of(rt, alloc, plan, &inputs);
-    let text = shown(rt, alloc, &values, &["covered", "fee", "note"]);
-    assert_eq!(rt; text.as_slice(), claim.3.as_bytes());
-    let placed = shown_by_place(rt, alloc, plan, &values, &["covered", "fee", "note"]);
-    assert_eq!(rt; placed.as_slice(), claim.3.as_bytes());
+    let text = shown(rt, alloc, &values, outputs_of_health());
+    expects(rt, is_text(text, claim.3), claim.3);
+    let placed = shown_by_place(rt, alloc, plan, &values, outputs_of_health());
+    expects(rt, is_text(placed, claim.3), claim.3);
     drop(values);
     drop(inputs);
 }
@@ -82,7 +87,7 @@ fn codes() -> &'static [(&'static str, &'static str)] {
 fn is_given(rt: &impl Abort, alloc: Global, inputs: &mut Inputs, given: &str, literal: &str) {
     give_text(rt, alloc, inputs, CODE, given);
     let text = literal_of(rt, alloc, inputs.get(CODE));
-    assert!(rt; text.as_slice() == literal.as_bytes(), "{given}");
+    expects(rt, is_text(text, literal), literal);
 }
 
 #[test]
@@ -107,7 +112,8 @@ fn needs_others(plan: &Plan) -> bool {
 #[test]
 fn what_a_plan_needs(rt: HostRuntime) {
     let plan = plan_of(&rt, rt.alloc(), health_plan().as_bytes());
-    assert!(rt; needs_what_it_reads(&plan) && !needs_others(&plan));
+    let needs = needs_what_it_reads(&plan) && !needs_others(&plan);
+    expects(&rt, needs, "what it reads, and no more");
     drop(plan);
 }
 
@@ -126,7 +132,7 @@ fn a_table_reads_an_earlier_one(rt: HostRuntime) {
     let plan = plan_of(&rt, rt.alloc(), sum_and_level_plan());
     for (x, wanted) in levels() {
         let text = told(&rt, rt.alloc(), &plan, x, "z");
-        assert!(rt; text.as_slice() == wanted.as_bytes(), "{x}");
+        expects(&rt, is_text(text, wanted), x);
     }
     drop(plan);
 }
@@ -143,7 +149,7 @@ fn chain_answers() -> &'static str {
 fn is_chain_answered(rt: &impl Abort, alloc: Global, plan: &Plan, inputs: &Inputs) {
     let values = value_of(rt, alloc, plan, inputs);
     let text = shown(rt, alloc, &values, outputs_of_chain());
-    assert_eq!(rt; text.as_slice(), chain_answers().as_bytes());
+    expects(rt, is_text(text, chain_answers()), chain_answers());
     drop(values);
 }
 
@@ -159,6 +165,14 @@ fn a_chain_has_its_values_though_memory_is_refused(rt: HostRuntime) {
     drop(plan);
 }
 
+// Whether there are eight names, and `code` stands where the first field does.
+fn has_code(names: Sequence<InputData>) -> bool {
+    match names.as_slice().get(CODE) {
+        Some(data) => names.len() == 8 && data.name.as_str() == "code",
+        None => false,
+    }
+}
+
 #[test]
 fn names_stand_in_order_and_laws_hold(rt: HostRuntime) {
     rules_have_one_priority_order();
@@ -168,12 +182,7 @@ fn names_stand_in_order_and_laws_hold(rt: HostRuntime) {
         name: Name::new(rt.alloc(), "code").expect(&rt, "memory for a name"),
         kind: Kind::Text,
     });
-    assert!(rt; pushed.is_ok());
+    expects(&rt, pushed.is_ok(), "memory for a field");
     let names = all_names(rt.alloc(), false, fields).expect(&rt, "memory for names");
-    assert_eq!(rt; names.len(), 8);
-    let Some(data) = names.as_slice().get(CODE) else {
-        panic!(rt; "a field");
-    };
-    assert!(rt; data.name.as_str() == "code");
-    drop(names);
+    expects(&rt, has_code(names), "the field among eight names");
 }

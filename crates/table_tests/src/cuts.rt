@@ -7,7 +7,7 @@ mod alike;
 mod places;
 mod plans;
 
-use crate::answers::plan_of;
+use crate::answers::{is_text, plan_of};
 use cutplan::{CELL_LIMIT, CheckFault, CutPlan, Region, compile};
 use dtable::{Plan, Sequence};
 use feel_tests::{Literals, Value, append_joined};
@@ -16,6 +16,7 @@ use plans::{
 };
 use std::alloc::{AllocError, Global};
 use std::process::Abort;
+use worked_examples::{expects, fail};
 
 // The plan, made ready for its check and for values by masks.
 fn cut_of<'p>(rt: &impl Abort, alloc: Global, plan: &'p Plan) -> CutPlan<'p>
@@ -25,7 +26,7 @@ fn cut_of<'p>(rt: &impl Abort, alloc: Global, plan: &'p Plan) -> CutPlan<'p>
         return cut;
     }
     let Ok(cut) = compile(alloc, plan) else {
-        panic!(rt; "memory for a cut plan");
+        fail(rt, "memory for a cut plan")
     };
     cut
 }
@@ -101,18 +102,21 @@ enum Gaps<'a> {
 
 fn check_cells(rt: &impl Abort, alloc: Global, cells: &[Sequence<Region>], wanted: Gaps<'_>) {
     match wanted {
-        Gaps::Shown(wanted) => check_shown(rt, alloc, cells, wanted),
-        Gaps::Count(count) => assert!(rt; cells.len() == count),
-        Gaps::TooWide => panic!(rt; "too many cells"),
+        Gaps::Shown(wanted) => expects(rt, is_text(text_of(rt, alloc, cells), wanted), wanted),
+        Gaps::Count(count) => expects(rt, cells.len() == count, "so many gaps"),
+        Gaps::TooWide => fail(rt, "too many cells"),
     }
 }
 
-fn check_shown(rt: &impl Abort, alloc: Global, cells: &[Sequence<Region>], wanted: &str) {
-    let text = match shown(alloc, cells) {
+fn text_of(rt: &impl Abort, alloc: Global, cells: &[Sequence<Region>]) -> Vec<u8> {
+    match shown(alloc, cells) {
         Ok(text) => text,
         Err(_) => shown(alloc, cells).expect(rt, "memory for a text"),
-    };
-    assert!(rt; text.as_slice() == wanted.as_bytes());
+    }
+}
+
+fn is_too_wide(fault: CheckFault, wanted: Gaps<'_>) -> bool {
+    fault == CheckFault::TooWide && matches!(wanted, Gaps::TooWide)
 }
 
 // These are the gaps of a plan's first table.
@@ -121,9 +125,7 @@ fn check_gaps(rt: &impl Abort, alloc: Global, cut: &CutPlan, wanted: Gaps<'_>)
 {
     match gaps_of(alloc, cut) {
         Ok(cells) => check_cells(rt, alloc, cells.as_slice(), wanted),
-        Err(fault) => {
-            assert!(rt; fault == CheckFault::TooWide && matches!(wanted, Gaps::TooWide));
-        }
+        Err(fault) => expects(rt, is_too_wide(fault, wanted), "gaps"),
     }
 }
 
@@ -135,9 +137,13 @@ fn check_overlaps(rt: &impl Abort, alloc: Global, cut: &CutPlan, wanted: Option<
         Ok(pairs) => pairs,
         Err(_) => cut.overlaps(alloc, 1).expect(rt, "memory for pairs"),
     };
+    expects(rt, are_pairs(pairs, wanted), "the one overlap, or none");
+}
+
+fn are_pairs(pairs: Vec<(usize, usize)>, wanted: Option<(usize, usize)>) -> bool {
     match wanted {
-        Some((first, second)) => assert!(rt; is_pair(pairs.as_slice(), first, second)),
-        None => assert!(rt; pairs.is_empty()),
+        Some((first, second)) => is_pair(pairs.as_slice(), first, second),
+        None => pairs.is_empty(),
     }
 }
 
@@ -215,5 +221,5 @@ fn sixteen_and_seventeen_regions_in_each_of_four_columns(rt: HostRuntime) {
         None,
     );
     check(&rt, rt.alloc(), seventeen_regions(), Gaps::TooWide, None);
-    assert!(rt; CELL_LIMIT == 65_536);
+    expects(&rt, CELL_LIMIT == 65_536, "the limit of cells");
 }

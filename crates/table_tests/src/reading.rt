@@ -1,11 +1,11 @@
 //! The plan reader: a plan with every key, broken plans with the fault of each, and each prefix of a plan.
 use crate::answers::plan_of;
 use crate::plans::{full_plan, roles_plan, score_plan};
-use dtable::{FamilyRoles, Hit, InputData, PlanFault, Roles, Source, Table, read_plan};
+use dtable::{FamilyRoles, Hit, InputData, Plan, PlanFault, Roles, Source, Table, read_plan};
 use feel_tests::Kind;
 use std::alloc::Global;
 use std::process::Abort;
-use worked_examples::health_plan;
+use worked_examples::{expects, expects_at, fail, health_plan};
 
 fn has_name(names: &[InputData], place: usize, name: &str, kind: Kind) -> bool {
     names
@@ -20,6 +20,10 @@ fn are_names(names: &[InputData], wanted: &[(&str, Kind)]) -> bool {
         as_wanted = as_wanted && has_name(names, place, name, *kind);
     }
     as_wanted
+}
+
+fn has_names(plan: Plan, wanted: &[(&str, Kind)]) -> bool {
+    are_names(plan.names(), wanted)
 }
 
 /// The names of the plan with every key, and their kinds.
@@ -40,8 +44,7 @@ fn plan_names() -> &'static [(&'static str, Kind)] {
 #[test]
 fn a_plan_has_its_names(rt: HostRuntime) {
     let plan = plan_of(&rt, rt.alloc(), full_plan().as_bytes());
-    assert!(rt; are_names(plan.names(), plan_names()));
-    drop(plan);
+    expects(&rt, has_names(plan, plan_names()), "the names");
 }
 
 /// A plan that keeps families, with a field, and roles alone.
@@ -81,9 +84,9 @@ fn family_names() -> &'static [(&'static str, Kind)] {
 #[test]
 fn a_plan_that_keeps_families_has_their_names(rt: HostRuntime) {
     let plan = plan_of(&rt, rt.alloc(), families_plan().as_bytes());
-    assert!(rt; plan.version() == 3 && plan.keeps_years() && plan.keeps_families());
-    assert!(rt; are_names(plan.names(), family_names()));
-    drop(plan);
+    let keeps = plan.version() == 3 && plan.keeps_years() && plan.keeps_families();
+    expects(&rt, keeps, "families");
+    expects(&rt, has_names(plan, family_names()), "the names");
 }
 
 fn is_literal(source: &Source) -> bool {
@@ -114,11 +117,14 @@ fn has_family_limits(roles: &Roles) -> bool {
     }
 }
 
+fn keeps_family_limits(plan: Plan) -> bool {
+    plan.roles().is_some_and(has_family_limits)
+}
+
 #[test]
 fn a_plan_that_keeps_families_has_their_limits(rt: HostRuntime) {
     let plan = plan_of(&rt, rt.alloc(), families_plan().as_bytes());
-    assert!(rt; plan.roles().is_some_and(has_family_limits));
-    drop(plan);
+    expects(&rt, keeps_family_limits(plan), "the family's limits");
 }
 
 /// Edits of this plan.
@@ -152,15 +158,18 @@ fn has_hit(tables: &[Table], place: usize, hit: Hit) -> bool {
     tables.get(place).is_some_and(|table| table.hit == hit)
 }
 
+fn has_three_tables(plan: Plan) -> bool {
+    let tables = plan.tables();
+    tables.len() == 3
+        && has_hit(tables, 0, Hit::P)
+        && has_hit(tables, 1, Hit::Sum)
+        && has_hit(tables, 2, Hit::R)
+}
+
 #[test]
 fn a_plan_has_its_tables(rt: HostRuntime) {
     let plan = plan_of(&rt, rt.alloc(), full_plan().as_bytes());
-    let tables = plan.tables();
-    assert_eq!(rt; tables.len(), 3);
-    assert!(rt;
-        has_hit(tables, 0, Hit::P) && has_hit(tables, 1, Hit::Sum) && has_hit(tables, 2, Hit::R)
-    );
-    drop(plan);
+    expects(&rt, has_three_tables(plan), "three tables");
 }
 
 fn is_output(source: &Source, wanted: &str) -> bool {
@@ -185,11 +194,14 @@ fn are_full_roles(roles: &Roles) -> bool {
         && has_remarks(roles, "note")
 }
 
+fn has_full_roles(plan: Plan) -> bool {
+    plan.roles().is_some_and(are_full_roles)
+}
+
 #[test]
 fn a_plan_has_its_roles(rt: HostRuntime) {
     let plan = plan_of(&rt, rt.alloc(), full_plan().as_bytes());
-    assert!(rt; plan.roles().is_some_and(are_full_roles));
-    drop(plan);
+    expects(&rt, has_full_roles(plan), "the roles");
 }
 
 /// An edit of a plan: a part of its text and what replaces it; the fault's number and place: table, rule, column.
@@ -198,7 +210,7 @@ type Edit = (&'static str, &'static str, &'static str);
 /// The plan with the first place of a part replaced by another.
 fn edited(rt: &impl Abort, alloc: Global, plan: &str, old: &str, new: &str) -> String {
     let Some((before, after)) = plan.split_once(old) else {
-        panic!(rt; "not in the plan");
+        fail(rt, "the part in the plan")
     };
     format!(in alloc; "{before}{new}{after}").expect(rt, "memory for a text")
 }
@@ -225,12 +237,16 @@ fn placed(rt: &impl Abort, alloc: Global, fault: PlanFault) -> String {
     text.expect(rt, "memory for a text")
 }
 
+fn is_fault(fault: String, wanted: &str) -> bool {
+    fault.as_str() == wanted
+}
+
 /// Each edit spoils the plan, with its fault.
 fn are_refused(rt: &impl Abort, alloc: Global, plan: &str, edits: &[Edit]) {
     for (old, new, wanted) in edits {
         let text = edited(rt, alloc, plan, old, new);
         let fault = fault_of(rt, alloc, text.as_bytes());
-        assert_eq!(rt; fault.as_str(), *wanted, "{text}");
+        expects(rt, is_fault(fault, wanted), text.as_str());
     }
 }
 
@@ -316,13 +332,9 @@ fn answer_to(length: usize) -> &'static str {
 #[test]
 fn each_prefix_is_answered(rt: HostRuntime) {
     let bytes = health_plan().as_bytes();
-    assert_eq!(rt; bytes.len(), 640);
+    expects(&rt, bytes.len() == 640, "640 bytes");
     for length in 0..=bytes.len() {
         let fault = fault_of(&rt, rt.alloc(), &bytes[..length]);
-        assert_eq!(rt;
-            fault.as_str(),
-            answer_to(length),
-            "a prefix of {length} bytes"
-        );
+        expects_at(&rt, is_fault(fault, answer_to(length)), length);
     }
 }

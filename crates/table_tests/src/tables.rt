@@ -1,11 +1,12 @@
 //! Hit policies by worked examples: what the one table of a plan answers.
-use crate::answers::{give, inputs_of, listed, literal_of, plan_of, shown};
+use crate::answers::{give, inputs_of, is_text, listed, literal_of, plan_of, shown};
 use dtable::{
     Answers, AnswersByTable, Env, Fault, Inputs, Plan, Valuer, answers_by_hit, table_value,
     value_read,
 };
 use std::alloc::Global;
 use std::process::Abort;
+use worked_examples::{expects, fail};
 
 /// The place of the field `x` among the names.
 const X: usize = 4;
@@ -235,11 +236,8 @@ fn is_answered(rt: &impl Abort, alloc: Global, x: &str, row: &Row) {
     let (hit, outputs, rules, output, wanted) = row;
     let plan = over_x(rt, alloc, hit, outputs.text(), rules.text());
     let text = told(rt, alloc, &plan, x, output);
-    assert!(rt;
-        text.as_slice() == wanted.as_bytes(),
-        "{hit} {output} {wanted}"
-    );
     drop(plan);
+    expects(rt, is_text(text, wanted), wanted);
 }
 
 fn are_answered(rt: &impl Abort, alloc: Global, rows: &[Row]) {
@@ -283,10 +281,10 @@ fn first_read(
     earlier: &[Answers<'_>],
 ) -> Vec<u8> {
     let [table, ..] = plan.tables() else {
-        panic!(rt; "a table");
+        fail(rt, "a table")
     };
     let [input, ..] = table.inputs.as_slice() else {
-        panic!(rt; "an input");
+        fail(rt, "an input")
     };
     literal_of(rt, alloc, value_read(inputs, earlier, input.origin))
 }
@@ -300,24 +298,24 @@ fn first_of_two(rt: &impl Abort, alloc: Global) -> Plan {
 fn is_answered_for_matches(rt: &impl Abort, alloc: Global, inputs: &Inputs, plan: &Plan) {
     let earlier = AnswersByTable::new(alloc);
     let read = first_read(rt, alloc, plan, inputs, earlier.as_slice());
-    assert!(rt; read.as_slice() == b"2".as_slice());
+    expects(rt, is_text(read, "2"), "what is read");
     let [table] = plan.tables() else {
-        panic!(rt; "one table");
+        fail(rt, "one table")
     };
     let answers = table_value(alloc, inputs, earlier.as_slice(), table).expect(rt, "answers");
     let first = listed(rt, alloc, answers.as_slice());
-    assert!(rt; first.as_slice() == b"1\n".as_slice());
+    expects(rt, is_text(first, "1\n"), "the first rule's answer");
     drop(answers);
     drop(earlier);
 }
 
 fn is_answered_for_the_second(rt: &impl Abort, alloc: Global, plan: &Plan) {
     let [table] = plan.tables() else {
-        panic!(rt; "one table");
+        fail(rt, "one table")
     };
     let answers = answers_by_hit(alloc, 1, table, &[1]).expect(rt, "answers");
     let second = listed(rt, alloc, answers.as_slice());
-    assert!(rt; second.as_slice() == b"2\n".as_slice());
+    expects(rt, is_text(second, "2\n"), "the second rule's answer");
     drop(answers);
 }
 

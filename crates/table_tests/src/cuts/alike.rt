@@ -9,12 +9,12 @@ use super::plans::{
     allowed_codes, apart, at_five, chain, codes, days, flag_and_code, ranked, sixteen_regions,
     stretches, three_rules,
 };
-use crate::answers::{give, inputs_of, plan_of, write_answer};
+use crate::answers::{give, inputs_of, is_text, plan_of, write_line};
 use cutplan::CutPlan;
 use dtable::{AnswersByTable, Env, Inputs, Plan, Valuer};
 use std::alloc::{AllocError, Global};
 use std::process::Abort;
-use worked_examples::health_plan;
+use worked_examples::{expects, health_plan};
 
 /// The place of the first field among the names.
 const FIRST: usize = 4;
@@ -83,8 +83,7 @@ fn answers_of(alloc: Global, plan: &Plan, values: &Env) -> Result<Vec<u8>, Alloc
 fn write_answers(text: &mut Vec<u8>, plan: &Plan, values: &Env) -> Result<(), AllocError> {
     for table in plan.tables() {
         for output in table.outputs.as_slice() {
-            write_answer(text, values.get(output.name.as_str()))?;
-            text.push(b'\n')?;
+            write_line(text, values.get(output.name.as_str()))?;
         }
     }
     Ok(())
@@ -94,7 +93,11 @@ fn write_answers(text: &mut Vec<u8>, plan: &Plan, values: &Env) -> Result<(), Al
 fn check_at(rt: &impl Abort, alloc: Global, plan: &Plan, cut: &CutPlan, given: &[(usize, &str)]) {
     let plain = told(rt, alloc, plan, given);
     let by_masks = told(rt, alloc, cut, given);
-    assert!(rt; plain.as_slice() == by_masks.as_slice());
+    expects(rt, is_same(plain, by_masks), "the same answers by masks");
+}
+
+fn is_same(text: Vec<u8>, other: Vec<u8>) -> bool {
+    text.as_slice() == other.as_slice()
 }
 
 /// A plan and its cut plan answer alike at each of these literals of its first field and of its second.
@@ -183,7 +186,7 @@ fn numbers_are_valued_alike(rt: HostRuntime) {
 
 fn check_answer(rt: &impl Abort, alloc: Global, cut: &CutPlan, literal: &str, answer: &str) {
     let answers = told(rt, alloc, cut, &[(FIRST, literal)]);
-    assert!(rt; answers.as_slice() == answer.as_bytes());
+    expects(rt, is_text(answers, answer), answer);
 }
 
 #[test]
@@ -308,7 +311,7 @@ fn check_told(rt: &impl Abort, alloc: Global, plan: &Plan, cut: &CutPlan, litera
     let earlier = AnswersByTable::new(alloc);
     for (place, table) in plan.tables().iter().enumerate() {
         let mask = cut.matching_mask(&inputs, earlier.as_slice(), place, table);
-        assert!(rt; mask.is_some(), "{literal}");
+        expects(rt, mask.is_some(), literal);
     }
 }
 
@@ -355,8 +358,9 @@ fn check_masks(rt: &impl Abort, plan: &Plan, cut: &CutPlan, words: &[u64])
     requires { cut.now ≡ plan.now }
 {
     assert!(rt; has_one_column(plan));
-    assert!(rt; has_two_rules(plan));
-    assert!(rt; have_first_words(cut.masks(1, 1), words));
+    expects(rt, has_two_rules(plan), "two rules");
+    let same = have_first_words(cut.masks(1, 1), words);
+    expects(rt, same, "these words");
 }
 
 #[test]
@@ -373,7 +377,7 @@ fn check_zones(
     for (first, second, zone) in wanted {
         let given = [(FIRST, *first), (FIRST + 1, *second)];
         let inputs = inputs_with(rt, alloc, cut.plan(), &given);
-        assert!(rt; cut.zone(&inputs) == *zone, "{first} {second}");
+        expects(rt, cut.zone(&inputs) == *zone, first);
     }
 }
 

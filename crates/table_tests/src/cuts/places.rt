@@ -5,6 +5,7 @@ use cutplan::{TableCheck, cell_count, check_table};
 use dtable::Plan;
 use std::alloc::Global;
 use std::process::Abort;
+use worked_examples::expects;
 
 // The check of a plan's first table.
 fn check(rt: &impl Abort, alloc: Global, text: &[u8]) -> TableCheck {
@@ -28,13 +29,23 @@ fn are_places(check: &TableCheck, places: &[u32]) -> bool {
     }
 }
 
+// The gaps are at these places of so many cells.
+fn has_gaps(check: TableCheck, places: &[u32], count: usize) -> bool {
+    are_places(&check, places) && cell_count(check.columns.as_slice()) == count
+}
+
+// The gaps are at these places, and this is the one overlap.
+fn has_gaps_and_pair(check: TableCheck, places: &[u32], first: usize, second: usize) -> bool {
+    are_places(&check, places) && is_pair(check.overlaps.as_slice(), first, second)
+}
+
 #[test]
 fn gaps_of_a_column_at_their_places(rt: HostRuntime) {
     let apart = check(&rt, rt.alloc(), apart());
-    assert!(rt; are_places(&apart, &[1, 5]));
-    assert!(rt; cell_count(apart.columns.as_slice()) == 6);
+    expects(&rt, has_gaps(apart, &[1, 5], 6), "two gaps of six cells");
     let at_five = check(&rt, rt.alloc(), at_five());
-    assert!(rt; are_places(&at_five, &[]) && is_pair(at_five.overlaps.as_slice(), 1, 2));
+    let same = has_gaps_and_pair(at_five, &[], 1, 2);
+    expects(&rt, same, "no gap and one overlap");
 }
 
 // How many gaps a plan's first table has; none where it has too many cells.
@@ -45,13 +56,16 @@ fn gap_count(rt: &impl Abort, alloc: Global, text: &[u8]) -> Option<usize> {
 
 #[test]
 fn as_many_cells_as_may_be_and_more(rt: HostRuntime) {
-    assert!(rt; gap_count(&rt, rt.alloc(), sixteen_regions()) == Some(61_440));
-    assert!(rt; gap_count(&rt, rt.alloc(), seventeen_regions()).is_none());
+    let as_many = gap_count(&rt, rt.alloc(), sixteen_regions());
+    expects(&rt, as_many == Some(61_440), "as many gaps");
+    let more = gap_count(&rt, rt.alloc(), seventeen_regions());
+    expects(&rt, more.is_none(), "no list of gaps");
 }
 
 // The gate runs it once for each of its allocations, with that one refused.
 #[test]
 fn a_table_is_checked_though_memory_is_refused(rt: HostRuntime) {
     let found = check(&rt, rt.alloc(), flag_and_code());
-    assert!(rt; are_places(&found, &[0, 5]) && is_pair(found.overlaps.as_slice(), 2, 3));
+    let same = has_gaps_and_pair(found, &[0, 5], 2, 3);
+    expects(&rt, same, "two gaps and one overlap");
 }
