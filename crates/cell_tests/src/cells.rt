@@ -13,6 +13,7 @@ use feel_tests::{
 };
 use std::alloc::Global;
 use std::process::Abort;
+use worked_examples::{expects, fail};
 
 // What one reading of a cell's text tells of its fault.
 fn told_of(alloc: Global, kind: Kind, text: &str) -> Option<CellFault> {
@@ -39,7 +40,7 @@ fn field_fault_of(alloc: Global, kind: Kind, field: &str) -> Option<PlainFault> 
 
 fn cell_of(rt: &impl Abort, alloc: Global, kind: Kind, text: &str) -> Cell {
     let Ok(cell) = read_cell(alloc, kind, text) else {
-        panic!(rt; "a cell: {text}");
+        fail(rt, text)
     };
     cell
 }
@@ -50,7 +51,7 @@ fn value_of(rt: &impl Abort, alloc: Global, kind: Kind, literal: &str) -> Value 
         return value;
     }
     let Ok(value) = read_value(alloc, kind, literal) else {
-        panic!(rt; "a literal: {literal}");
+        fail(rt, literal)
     };
     value
 }
@@ -61,7 +62,7 @@ fn plain_of(rt: &impl Abort, alloc: Global, kind: Kind, field: &str) -> Value {
         return value;
     }
     let Ok(value) = read_plain(alloc, kind, field) else {
-        panic!(rt; "a value: {field}");
+        fail(rt, field)
     };
     value
 }
@@ -82,7 +83,7 @@ fn holds(rt: &impl Abort, alloc: Global, kind: Kind, text: &str, of: Kind, field
 fn are_cells(rt: &impl Abort, alloc: Global, kind: Kind, texts: &[&str]) {
     for text in texts {
         let text: &str = text;
-        assert!(rt; fault_of(alloc, kind, text).is_none(), "{text}");
+        expects(rt, fault_of(alloc, kind, text).is_none(), text);
     }
 }
 
@@ -91,7 +92,7 @@ fn are_refused(rt: &impl Abort, alloc: Global, kind: Kind, rows: &[(&str, CellCa
     for row in rows {
         let (text, cause, at) = *row;
         let fault = Some(CellFault { at, cause });
-        assert!(rt; fault_of(alloc, kind, text) == fault, "{text}");
+        expects(rt, fault_of(alloc, kind, text) == fault, text);
     }
 }
 
@@ -100,7 +101,7 @@ fn are_no_literals(rt: &impl Abort, alloc: Global, kind: Kind, rows: &[(&str, Ce
     for row in rows {
         let (text, cause, at) = *row;
         let fault = Some(CellFault { at, cause });
-        assert!(rt; literal_fault_of(alloc, kind, text) == fault, "{text}");
+        expects(rt, literal_fault_of(alloc, kind, text) == fault, text);
     }
 }
 
@@ -108,10 +109,8 @@ fn are_no_literals(rt: &impl Abort, alloc: Global, kind: Kind, rows: &[(&str, Ce
 fn hold(rt: &impl Abort, alloc: Global, kind: Kind, rows: &[(&str, &str, bool)]) {
     for row in rows {
         let (text, field, wanted) = *row;
-        assert!(rt;
-            holds(rt, alloc, kind, text, kind, field) == wanted,
-            "{text} of {field}"
-        );
+        let held = holds(rt, alloc, kind, text, kind, field);
+        expects(rt, held == wanted, text);
     }
 }
 

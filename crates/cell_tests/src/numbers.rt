@@ -7,6 +7,7 @@ use fixpoint::{
 use std::alloc::Global;
 use std::fmt::Display;
 use std::process::Abort;
+use worked_examples::expects;
 
 mod writers;
 
@@ -19,8 +20,9 @@ fn reads(rt: &impl Abort, text: &str, units: i64, shortest: &str) {
     let number = number(rt, text);
     let mut buffer = [0; 24];
     let length = number.write_into(&mut buffer);
-    assert!(rt; number.units() == units, "{text}");
-    assert!(rt; &buffer[..length] == shortest.as_bytes(), "{text}");
+    expects(rt, number.units() == units, text);
+    let same = &buffer[..length] == shortest.as_bytes();
+    expects(rt, same, shortest);
 }
 
 #[test]
@@ -47,7 +49,8 @@ fn reads_and_writes_numbers(rt: HostRuntime) {
 }
 
 fn refuses(rt: &impl Abort, text: &str, fault: NumFault) {
-    assert!(rt; Fixed::parse(text.as_bytes()) == Err(fault), "{text}");
+    let refused = Fixed::parse(text.as_bytes()) == Err(fault);
+    expects(rt, refused, text);
 }
 
 #[test]
@@ -68,20 +71,22 @@ fn refuses_texts(rt: HostRuntime) {
 fn orders_numbers(rt: HostRuntime) {
     let least = Fixed::from_units(-MAX_UNITS);
     let greatest = Fixed::from_units(MAX_UNITS);
-    assert!(rt; least < greatest);
-    assert!(rt; Fixed::from_units(MAX_UNITS + 1).is_none());
-    assert!(rt; Fixed::from_units(-MAX_UNITS - 1).is_none());
+    expects(&rt, least < greatest, "the least before the greatest");
+    let behind = Fixed::from_units(MAX_UNITS + 1);
+    expects(&rt, behind.is_none(), "none behind");
+    let before = Fixed::from_units(-MAX_UNITS - 1);
+    expects(&rt, before.is_none(), "none before");
 }
 
 fn rounds(rt: &impl Abort, one: &str, rate: &str, cents: &str) {
     let product = number(rt, one).mul_cents(number(rt, rate));
-    assert!(rt; product == Some(number(rt, cents)), "{one} times {rate}");
+    expects(rt, product == Some(number(rt, cents)), cents);
 }
 
 // The product is out of the range.
 fn leaves_the_range(rt: &impl Abort, one: &str, rate: &str) {
     let product = number(rt, one).mul_cents(number(rt, rate));
-    assert!(rt; product.is_none(), "{one} times {rate}");
+    expects(rt, product.is_none(), "no product");
 }
 
 #[test]
@@ -102,22 +107,44 @@ fn adds_and_compares(rt: HostRuntime) {
     let greatest = number(&rt, "99999999999.9999");
     let least = number(&rt, "-99999999999.9999");
     let smallest_step = number(&rt, "0.0001");
-    assert!(rt; greatest.add(smallest_step).is_none());
-    assert!(rt; least.sub(smallest_step).is_none());
-    assert!(rt; greatest.add(least) == Some(number(&rt, "0")));
-    assert!(rt; smallest_step.sub(smallest_step) == Some(number(&rt, "-0")));
-    assert!(rt; least.min(greatest) == least);
-    assert!(rt; least.max(greatest) == greatest);
+    let none = has_no_sum(greatest, smallest_step) && has_no_difference(least, smallest_step);
+    expects(&rt, none, "no sum and no difference");
+    let zero = number(&rt, "0");
+    expects(&rt, greatest.add(least) == Some(zero), "the sum");
+    cancels(&rt, smallest_step);
+    expects(
+        &rt,
+        are_ordered(least, greatest),
+        "the least and the greatest",
+    );
+}
+
+fn has_no_sum(one: Fixed, other: Fixed) -> bool {
+    one.add(other).is_none()
+}
+
+fn has_no_difference(one: Fixed, other: Fixed) -> bool {
+    one.sub(other).is_none()
+}
+
+// A number less itself is 0.
+fn cancels(rt: &impl Abort, one: Fixed) {
+    let zero = number(rt, "-0");
+    expects(rt, one.sub(one) == Some(zero), "the difference");
+}
+
+fn are_ordered(least: Fixed, greatest: Fixed) -> bool {
+    least.min(greatest) == least && least.max(greatest) == greatest
 }
 
 fn tells(rt: &impl Abort, text: &str, is_cents: bool, is_money: bool) {
     let number = number(rt, text);
-    assert!(rt; number.is_cents() == is_cents, "{text}");
-    assert!(rt; number.is_money() == is_money, "{text}");
+    expects(rt, number.is_cents() == is_cents, text);
+    expects(rt, number.is_money() == is_money, text);
 }
 
 fn tells_rate(rt: &impl Abort, text: &str, is_rate: bool) {
-    assert!(rt; number(rt, text).is_rate() == is_rate, "{text}");
+    expects(rt, number(rt, text).is_rate() == is_rate, text);
 }
 
 #[test]
@@ -137,7 +164,8 @@ fn has_money_text(rt: &impl Abort, text: &str, money: &str) {
     assert!(rt; number.is_cents(), "{text}");
     let mut buffer = [0; 24];
     let length = number.write_money(&mut buffer);
-    assert!(rt; &buffer[..length] == money.as_bytes(), "{text}");
+    let same = &buffer[..length] == money.as_bytes();
+    expects(rt, same, money);
 }
 
 #[test]
@@ -152,7 +180,7 @@ fn writes_money(rt: HostRuntime) {
 // What is shown has this text.
 fn says(rt: &impl Abort, alloc: Global, shown: &impl Display, message: &str) {
     let text = format!(in alloc; "{shown}").expect(rt, "memory for a message");
-    assert!(rt; text.as_str() == message, "{message}");
+    expects(rt, text.as_str() == message, message);
 }
 
 #[test]

@@ -1,13 +1,14 @@
 //! Cells and the values of which they hold, values and their literals, and each public call once with ample memory.
 use super::{cell_of, field_fault_of, hold, holds, plain_of, text_of, value_of};
 use feel_tests::{
-    Cell, CellCause, CellFault, Day, Kind, PlainFault, Value, day_year,
+    Cell, CellCause, CellFault, Day, Kind, PlainFault, Text, Value, day_year,
     field_spells_at_most_one_value, literal_spells_its_value, text_spells_at_most_one_cell,
     text_spells_at_most_one_value, year_in, year_text,
 };
 use fixpoint::Fixed;
 use std::alloc::Global;
 use std::process::Abort;
+use worked_examples::{expects, expects_at};
 
 const NUMBER_CELLS: [(&str, &str, bool); 29] = [
     ("[1...5]", "0.7", false),
@@ -92,43 +93,57 @@ fn cells_hold(rt: HostRuntime) {
     hold(&rt, rt.alloc(), Kind::Day, &DAY_CELLS);
 }
 
+// A cell of numbers holds of a field of this kind, or doesn't.
+fn asks_another(rt: &impl Abort, alloc: Global, cell: &str, kind: Kind, field: &str, wanted: bool) {
+    let held = holds(rt, alloc, Kind::Number, cell, kind, field);
+    expects(rt, held == wanted, field);
+}
+
 #[test]
 fn other_kinds_are_neither_equal_nor_ordered(rt: HostRuntime) {
-    for (cell, kind, field, held) in [
-        (">=0", Kind::Flag, "true", false),
-        (">=0", Kind::Day, "1970-01-02", false),
-        ("not(1)", Kind::Day, "1970-01-02", true),
-        ("not(1)", Kind::Number, "1", false),
-    ] {
-        assert!(rt; holds(&rt, rt.alloc(), Kind::Number, cell, kind, field) == held);
-    }
+    asks_another(&rt, rt.alloc(), ">=0", Kind::Flag, "true", false);
+    asks_another(&rt, rt.alloc(), ">=0", Kind::Day, "1970-01-02", false);
+    asks_another(&rt, rt.alloc(), "not(1)", Kind::Day, "1970-01-02", true);
+    asks_another(&rt, rt.alloc(), "not(1)", Kind::Number, "1", false);
 }
 
 #[test]
 fn a_cell_keeps_its_tests(rt: HostRuntime) {
-    match &cell_of(&rt, rt.alloc(), Kind::Flag, "true,false,true") {
-        Cell::OneOf(tests) => assert!(rt; tests.as_slice().len() == 3),
-        _ => panic!(rt; "tests"),
-    }
+    let cell = cell_of(&rt, rt.alloc(), Kind::Flag, "true,false,true");
+    expects(&rt, has_three_tests(cell), "three tests");
     text_spells_at_most_one_cell();
 }
 
+fn has_three_tests(cell: Cell) -> bool {
+    match &cell {
+        Cell::OneOf(tests) => tests.as_slice().len() == 3,
+        Cell::Dash => false,
+        Cell::NoneOf(_) => false,
+    }
+}
+
 // Whether the literal is read as the value.
-fn is_read_as(rt: &impl Abort, alloc: Global, kind: Kind, literal: &str, value: &Value) -> bool {
+fn is_read_as(rt: &impl Abort, alloc: Global, kind: Kind, literal: &str, value: Value) -> bool {
+    literal_spells_its_value(&value);
     let read = value_of(rt, alloc, kind, literal);
-    literal_spells_its_value(value);
-    read == *value
+    read == value
 }
 
 // Whether the literal of a value is written behind a text. Where memory is refused, the text is as it was.
 fn is_written(rt: &impl Abort, alloc: Global, value: &Value, wanted: &str) -> bool {
     let mut out = begun(rt, alloc);
     if value.write_text(&mut out).is_err() {
-        assert!(rt; out.as_slice() == b"x = ".as_slice());
-        value
-            .write_text(&mut out)
-            .expect(rt, "memory for a literal");
+        write_again(rt, value, &mut out);
     }
+    is_behind(out, wanted)
+}
+
+fn write_again(rt: &impl Abort, value: &Value, out: &mut Vec<u8>) {
+    expects(rt, out.as_slice() == b"x = ".as_slice(), "the text before");
+    value.write_text(out).expect(rt, "memory for a literal");
+}
+
+fn is_behind(out: Vec<u8>, wanted: &str) -> bool {
     out.as_slice().strip_prefix(b"x = ") == Some(wanted.as_bytes())
 }
 
@@ -175,14 +190,10 @@ fn literals_are_written_and_read_back_though_memory_is_refused(rt: HostRuntime) 
     for row in &LITERALS {
         let (kind, literal, wanted) = *row;
         let value = value_of(&rt, rt.alloc(), kind, literal);
-        assert!(rt;
-            value.kind() == kind && is_written(&rt, rt.alloc(), &value, wanted),
-            "{literal}"
-        );
-        assert!(rt;
-            is_read_as(&rt, rt.alloc(), kind, wanted, &value),
-            "{literal}"
-        );
+        let same = value.kind() == kind && is_written(&rt, rt.alloc(), &value, wanted);
+        expects(&rt, same, literal);
+        let same = is_read_as(&rt, rt.alloc(), kind, wanted, value);
+        expects(&rt, same, literal);
     }
     text_spells_at_most_one_value();
 }
@@ -190,55 +201,63 @@ fn literals_are_written_and_read_back_though_memory_is_refused(rt: HostRuntime) 
 #[test]
 fn literals_have_their_values(rt: HostRuntime) {
     let number = Value::Number(Fixed::from_units(12_345).expect(&rt, "in range"));
-    assert!(rt; is_read_as(&rt, rt.alloc(), Kind::Number, "1.23450", &number));
-    assert!(rt; is_read_as(&rt, rt.alloc(), Kind::Flag, "false", &Value::Flag(false)));
+    let same = is_read_as(&rt, rt.alloc(), Kind::Number, "1.23450", number);
+    expects(&rt, same, "the number");
+    let flag = Value::Flag(false);
+    let same = is_read_as(&rt, rt.alloc(), Kind::Flag, "false", flag);
+    expects(&rt, same, "the flag");
     let day = Day::from_epoch_day(19_782).expect(&rt, "a day");
-    assert!(rt; day.epoch_day() == 19_782);
-    assert!(rt;
-        is_read_as(
-            &rt,
-            rt.alloc(),
-            Kind::Day,
-            "date(\"2024-02-29\")",
-            &Value::Day(day)
-        )
-    );
+    expects(&rt, day.epoch_day() == 19_782, "the day's number");
+    let day = Value::Day(day);
+    let same = is_read_as(&rt, rt.alloc(), Kind::Day, "date(\"2024-02-29\")", day);
+    expects(&rt, same, "the day");
+}
+
+fn is_shown(text: &Text, wanted: &str) -> bool {
+    text.as_str() == wanted && text.as_bytes() == wanted.as_bytes()
+}
+
+fn is_copied_over(rt: &impl Abort, alloc: Global, text: &Text) -> bool {
+    let mut over = text_of(rt, alloc, "longer");
+    over.copy_from(text).expect(rt, "memory");
+    over == *text
+}
+
+fn copy_of(rt: &impl Abort, alloc: Global, text: Text) -> Value {
+    Value::Text(text).duplicate(alloc).expect(rt, "memory")
 }
 
 #[test]
 fn texts_are_shown_and_copied(rt: HostRuntime) {
     let text = text_of(&rt, rt.alloc(), "a\"b");
-    assert!(rt; text.as_str() == "a\"b" && text.as_bytes() == b"a\"b".as_slice());
-    let mut over = text_of(&rt, rt.alloc(), "longer");
-    over.copy_from(&text).expect(&rt, "memory");
-    assert!(rt; over == text);
-    let copy = Value::Text(text)
-        .duplicate(rt.alloc())
-        .expect(&rt, "memory");
-    assert!(rt; copy.kind() == Kind::Text);
-    assert!(rt; is_read_as(&rt, rt.alloc(), Kind::Text, "\"a\\\"b\"", &copy));
+    expects(&rt, is_shown(&text, "a\"b"), "the text as it is");
+    let same = is_copied_over(&rt, rt.alloc(), &text);
+    expects(&rt, same, "a copy over another text");
+    let copy = copy_of(&rt, rt.alloc(), text);
+    expects(&rt, copy.kind() == Kind::Text, "a text");
+    let same = is_read_as(&rt, rt.alloc(), Kind::Text, "\"a\\\"b\"", copy);
+    expects(&rt, same, "the text as a literal");
 }
 
-// Whether the field is the day of this number.
-fn is_day(rt: &impl Abort, alloc: Global, field: &str, number: i32) -> bool {
+// The field is the day of this number, in this year.
+fn is_day(rt: &impl Abort, alloc: Global, field: &str, number: i32, year: u16) {
     let day = Day::from_epoch_day(number).expect(rt, "a day");
-    plain_of(rt, alloc, Kind::Day, field) == Value::Day(day)
+    expects(rt, day_year(day.epoch_day()) == year, field);
+    let read = plain_of(rt, alloc, Kind::Day, field);
+    expects(rt, read == Value::Day(day), field);
 }
 
 #[test]
 fn days_are_those_of_the_years_1_to_9999(rt: HostRuntime) {
-    for (field, number, year) in [
-        ("0001-01-01", -719_162, 1),
-        ("1969-12-31", -1, 1969),
-        ("1970-01-01", 0, 1970),
-        ("2000-02-29", 11_016, 2000),
-        ("9999-12-31", 2_932_896, 9999),
-    ] {
-        assert!(rt; is_day(&rt, rt.alloc(), field, number), "{field}");
-        assert!(rt; day_year(number) == year, "{field}");
-    }
-    assert!(rt; Day::from_epoch_day(-719_163).is_none());
-    assert!(rt; Day::from_epoch_day(2_932_897).is_none());
+    is_day(&rt, rt.alloc(), "0001-01-01", -719_162, 1);
+    is_day(&rt, rt.alloc(), "1969-12-31", -1, 1969);
+    is_day(&rt, rt.alloc(), "1970-01-01", 0, 1970);
+    is_day(&rt, rt.alloc(), "2000-02-29", 11_016, 2000);
+    is_day(&rt, rt.alloc(), "9999-12-31", 2_932_896, 9999);
+    let before = Day::from_epoch_day(-719_163);
+    expects(&rt, before.is_none(), "no day before");
+    let behind = Day::from_epoch_day(2_932_897);
+    expects(&rt, behind.is_none(), "no day behind");
 }
 
 const YEARS: [(&str, u16); 4] = [("0001", 1), ("0970", 970), ("2024", 2024), ("9999", 9999)];
@@ -252,14 +271,14 @@ fn is_year(text: &str, year: u16) -> bool {
 #[test]
 fn years_are_four_digits(rt: HostRuntime) {
     for (text, year) in &YEARS {
-        assert!(rt; is_year(text, *year), "{text}");
+        expects(&rt, is_year(text, *year), text);
     }
 }
 
 #[test]
 fn other_texts_are_no_years(rt: HostRuntime) {
     for text in &NO_YEARS {
-        assert!(rt; year_in(text.as_bytes()).is_none(), "{text}");
+        expects(&rt, year_in(text.as_bytes()).is_none(), text);
     }
 }
 
@@ -296,10 +315,8 @@ fn plain_fields_are_values_though_memory_is_refused(rt: HostRuntime) {
     for row in &FIELDS {
         let (kind, field, literal) = *row;
         let value = plain_of(&rt, rt.alloc(), kind, field);
-        assert!(rt;
-            is_read_as(&rt, rt.alloc(), kind, literal, &value),
-            "{field}"
-        );
+        let same = is_read_as(&rt, rt.alloc(), kind, literal, value);
+        expects(&rt, same, field);
     }
     field_spells_at_most_one_value();
 }
@@ -308,10 +325,8 @@ fn plain_fields_are_values_though_memory_is_refused(rt: HostRuntime) {
 fn plain_fields_are_refused(rt: HostRuntime) {
     for row in &BAD_FIELDS {
         let (kind, field) = *row;
-        assert!(rt;
-            field_fault_of(rt.alloc(), kind, field) == Some(PlainFault::Bad),
-            "{field}"
-        );
+        let fault = field_fault_of(rt.alloc(), kind, field);
+        expects(&rt, fault == Some(PlainFault::Bad), field);
     }
 }
 
@@ -330,14 +345,16 @@ const CAUSES: [(CellCause, u8); 8] = [
 fn faults_have_numbers(rt: HostRuntime) {
     for row in &CAUSES {
         let (cause, number) = *row;
-        assert!(rt; cause.number() == number);
+        expects_at(&rt, cause.number() == number, usize::from(number));
     }
-    assert!(rt; PlainFault::Bad.number() == 1 && PlainFault::OutOfMemory.number() == 2);
+    let of_fields = PlainFault::Bad.number() == 1 && PlainFault::OutOfMemory.number() == 2;
+    expects(&rt, of_fields, "numbers of a field's faults");
 }
 
 #[test]
 fn faults_are_told(rt: HostRuntime) {
     let cause = CellCause::BadDate;
     let told = format!(in rt.alloc(); "{}", CellFault { at: 17, cause }).expect(&rt, "memory");
-    assert!(rt; told.as_str() == "bad date at byte 17");
+    let wanted = "bad date at byte 17";
+    expects(&rt, told.as_str() == wanted, wanted);
 }

@@ -2,9 +2,12 @@
 //! commas between them, and `)`. Each of its fronts is read too: those shorter than `not(` stand in the table of cells.
 use super::{cell_of, fault_of, field_fault_of, plain_of, repeated};
 use feel_tests::CellCause::{BadEscape, Literal, Token, TooMany, Trailing, WrongKind};
-use feel_tests::{CellCause, CellFault, Kind, PlainFault, TEST_LIMIT, TEXT_LIMIT_BYTES};
+use feel_tests::{
+    Cell, CellCause, CellFault, Kind, PlainFault, TEST_LIMIT, TEXT_LIMIT_BYTES, Value,
+};
 use std::alloc::Global;
 use std::process::Abort;
+use worked_examples::{expects, expects_at};
 
 // The fault of a cell's text: so many copies of a piece between a front and a back.
 fn long_fault_of(
@@ -38,10 +41,10 @@ fn after_64_tests_and_a_comma(rt: HostRuntime) {
     for row in &LISTS {
         let (front, back, cause, at) = *row;
         let fault = long_fault_of(&rt, rt.alloc(), Kind::Number, front, ",1", 63, back);
-        assert!(rt; fault == Some(CellFault { at, cause }), "{front} {back}");
+        expects(&rt, fault == Some(CellFault { at, cause }), back);
     }
     let fault = long_fault_of(&rt, rt.alloc(), Kind::Number, "not(1", ",1", 63, ")");
-    assert!(rt; fault.is_none());
+    expects(&rt, fault.is_none(), "a cell");
 }
 
 // Round a string of 257 bytes, which is refused at its quote.
@@ -62,29 +65,30 @@ fn long_strings_are_refused_at_their_quote(rt: HostRuntime) {
     for row in &STRINGS {
         let (kind, front, back, cause, at) = *row;
         let fault = long_fault_of(&rt, rt.alloc(), kind, front, "x", 257, back);
-        assert!(rt; fault == Some(CellFault { at, cause }), "{front} {back}");
+        expects(&rt, fault == Some(CellFault { at, cause }), front);
     }
 }
 
 #[test]
 fn an_escape_counts_as_one_byte(rt: HostRuntime) {
     let fault = long_fault_of(&rt, rt.alloc(), Kind::Text, "\"", "\\\\", 256, "\"");
-    assert!(rt; fault.is_none());
+    expects(&rt, fault.is_none(), "a cell");
     let fault = long_fault_of(&rt, rt.alloc(), Kind::Text, "\"", "\\\\", 257, "\"");
     let refused = CellFault {
         at: 0,
         cause: Literal,
     };
-    assert!(rt; fault == Some(refused));
+    expects(&rt, fault == Some(refused), "a string that is too long");
 }
 
 #[test]
 fn a_field_has_at_most_256_bytes(rt: HostRuntime) {
     let most = repeated(&rt, rt.alloc(), "", "x", TEXT_LIMIT_BYTES, "");
-    assert!(rt; field_fault_of(rt.alloc(), Kind::Text, most.as_str()).is_none());
+    let fault = field_fault_of(rt.alloc(), Kind::Text, most.as_str());
+    expects(&rt, fault.is_none(), "a value");
     let long = repeated(&rt, rt.alloc(), "", "x", 257, "");
     let fault = field_fault_of(rt.alloc(), Kind::Text, long.as_str());
-    assert!(rt; fault == Some(PlainFault::Bad));
+    expects(&rt, fault == Some(PlainFault::Bad), "no value");
 }
 
 // The bytes of a string and of what follows it: two quotes, and a comma or the bracket.
@@ -106,10 +110,19 @@ fn longest_cell(rt: &impl Abort, alloc: Global) -> String {
 #[test]
 fn the_longest_cell_is_read(rt: HostRuntime) {
     let text = longest_cell(&rt, rt.alloc());
-    let cell = cell_of(&rt, rt.alloc(), Kind::Text, text.as_str());
-    assert!(rt; cell.holds(&plain_of(&rt, rt.alloc(), Kind::Text, "x")));
     let field = repeated(&rt, rt.alloc(), "", "x", TEXT_LIMIT_BYTES, "");
-    assert!(rt; !cell.holds(&plain_of(&rt, rt.alloc(), Kind::Text, field.as_str())));
+    let cell = cell_of(&rt, rt.alloc(), Kind::Text, text.as_str());
+    let short = plain_of(&rt, rt.alloc(), Kind::Text, "x");
+    let long = plain_of(&rt, rt.alloc(), Kind::Text, field.as_str());
+    expects(
+        &rt,
+        holds_of_one(cell, short, long),
+        "the first value alone",
+    );
+}
+
+fn holds_of_one(cell: Cell, held: Value, other: Value) -> bool {
+    cell.holds(&held) && !cell.holds(&other)
 }
 
 // Where a front of the longest cell ends too early: at the quote of the string that it cuts, or
@@ -132,6 +145,6 @@ fn every_front_of_the_longest_cell_is_answered(rt: HostRuntime) {
         let front = str::from_utf8(&bytes[..len]).expect(&rt, "text");
         let fault = fault_of(rt.alloc(), Kind::Text, front);
         let at = early_end(len);
-        assert!(rt; fault == Some(CellFault { at, cause: Token }), "{len}");
+        expects_at(&rt, fault == Some(CellFault { at, cause: Token }), len);
     }
 }

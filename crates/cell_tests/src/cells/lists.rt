@@ -3,18 +3,27 @@ use super::text_of;
 use feel_tests::{Bytes, Literals, Sequence, Text, Value, append_joined, duplicates};
 use std::alloc::Global;
 use std::process::Abort;
+use worked_examples::expects;
 
 #[test]
 fn items_are_listed_in_order(rt: HostRuntime) {
     let mut days = Sequence::new(rt.alloc());
-    assert!(rt; days.is_empty());
+    expects(&rt, days.is_empty(), "no item");
     days.push(3u64).expect(&rt, "memory");
     days.insert(0, 5).expect(&rt, "memory");
-    assert!(rt; !days.is_empty() && days.len() == 2);
-    let mut order = (&days).into_iter();
-    assert!(rt; order.next().copied() == Some(5) && order.next().copied() == Some(3));
-    assert!(rt; order.next().is_none());
-    assert!(rt; days.iter().any(|day| *day == 3));
+    expects(&rt, are_five_and_three(&days), "two items in order");
+    expects(&rt, are_two_with_three(days), "two items with 3");
+}
+
+fn are_five_and_three(days: &Sequence<u64>) -> bool {
+    let mut order = days.into_iter();
+    let first = order.next().copied();
+    let second = order.next().copied();
+    first == Some(5) && second == Some(3) && order.next().is_none()
+}
+
+fn are_two_with_three(days: Sequence<u64>) -> bool {
+    !days.is_empty() && days.len() == 2 && days.iter().any(|day| *day == 3)
 }
 
 // A flag and a text, and copies of them.
@@ -34,12 +43,16 @@ fn two_texts(rt: &impl Abort, alloc: Global) -> Sequence<Text> {
     texts
 }
 
+fn is_text(text: Vec<u8>, wanted: &str) -> bool {
+    text.as_slice() == wanted.as_bytes()
+}
+
 #[test]
 fn literals_are_joined_by_a_mark(rt: HostRuntime) {
     let values = copied_values(&rt, rt.alloc());
     let mut text = Vec::new(rt.alloc());
     append_joined::<Value, Literals>(&mut text, " ; ", values.as_slice()).expect(&rt, "memory");
-    assert!(rt; text.as_slice() == b"true ; \"a;b\"".as_slice());
+    expects(&rt, is_text(text, "true ; \"a;b\""), "both literals");
 }
 
 #[test]
@@ -47,5 +60,5 @@ fn texts_are_joined_by_a_mark(rt: HostRuntime) {
     let texts = two_texts(&rt, rt.alloc());
     let mut text = Vec::new(rt.alloc());
     append_joined::<Text, Bytes>(&mut text, ";", texts.as_slice()).expect(&rt, "memory");
-    assert!(rt; text.as_slice() == b"one;".as_slice());
+    expects(&rt, is_text(text, "one;"), "both texts");
 }

@@ -1,9 +1,12 @@
 //! Writers that are full after some bytes.
+ghost use Rattle.std.specs.Prelude.{◌<◌, length};
+
 use fixpoint::{Cut, Failed, HeldText, Out, put_all};
 use std::alloc::Global;
 use std::io;
 use std::io::{ErrorKind, Write};
 use std::process::Abort;
+use worked_examples::expects;
 
 /// What a writer of the tests does once it is full.
 #[derive(Clone, Copy)]
@@ -52,20 +55,34 @@ impl Write for Limited {
 
 // The writer has got these bytes, in three writes.
 fn has_taken(rt: &impl Abort, out: Out<Limited>, bytes: &[u8]) {
-    let writer = out.into_inner();
-    assert!(rt; writer.taken.as_slice() == bytes);
-    assert!(rt; writer.writes == 3);
+    expects(rt, is_as_far(out.into_inner(), bytes), "three writes");
+}
+
+fn is_as_far(writer: Limited, bytes: &[u8]) -> bool {
+    writer.taken.as_slice() == bytes && writer.writes == 3
+}
+
+// A piece is taken so far, or refused; and the writer has failed by then, or hasn't.
+fn puts(
+    rt: &impl Abort,
+    out: &mut Out<Limited>,
+    piece: &[u8],
+    wanted: Result<usize, Failed>,
+    failed: bool,
+)
+    requires { 0 < length piece.now }
+{
+    expects(rt, out.put(piece) == wanted, "so many bytes or a failure");
+    expects(rt, out.failed() == failed, "the failure or none");
 }
 
 fn put_until_full(rt: &impl Abort, alloc: Global, when_full: WhenFull) {
     let mut out = Out::new(Limited::new(alloc, 3, when_full));
-    assert!(rt; !out.failed());
-    assert!(rt; out.put(b"ab") == Ok(2));
-    assert!(rt; out.put(b"cd") == Ok(1));
-    assert!(rt; !out.failed());
-    assert!(rt; out.put(b"d") == Err(Failed));
-    assert!(rt; out.failed());
-    assert!(rt; out.put(b"d") == Err(Failed));
+    expects(rt, !out.failed(), "no failure");
+    puts(rt, &mut out, b"ab", Ok(2), false);
+    puts(rt, &mut out, b"cd", Ok(1), false);
+    puts(rt, &mut out, b"d", Err(Failed), true);
+    puts(rt, &mut out, b"d", Err(Failed), true);
     has_taken(rt, out, b"abc");
 }
 
@@ -75,15 +92,25 @@ fn puts_until_the_writer_is_full(rt: HostRuntime) {
     put_until_full(&rt, rt.alloc(), WhenFull::TakesNothing);
 }
 
+// A text is taken whole, or cut; and the writer has failed by then, or hasn't.
+fn puts_text(
+    rt: &impl Abort,
+    out: &mut Out<Limited>,
+    text: &[u8],
+    wanted: Result<(), Cut>,
+    failed: bool,
+) {
+    expects(rt, put_all(text, out) == wanted, "the whole text or a cut");
+    expects(rt, out.failed() == failed, "the failure or none");
+}
+
 fn put_texts_until_full(rt: &impl Abort, alloc: Global, when_full: WhenFull) {
     let mut out = Out::new(Limited::new(alloc, 5, when_full));
-    assert!(rt; put_all(b"", &mut out) == Ok(()));
-    assert!(rt; put_all(b"abcd", &mut out) == Ok(()));
-    assert!(rt; !out.failed());
-    assert!(rt; put_all(b"efg", &mut out) == Err(Cut { written: 1 }));
-    assert!(rt; out.failed());
-    assert!(rt; put_all(b"", &mut out) == Ok(()));
-    assert!(rt; put_all(b"fg", &mut out) == Err(Cut { written: 0 }));
+    puts_text(rt, &mut out, b"", Ok(()), false);
+    puts_text(rt, &mut out, b"abcd", Ok(()), false);
+    puts_text(rt, &mut out, b"efg", Err(Cut { written: 1 }), true);
+    puts_text(rt, &mut out, b"", Ok(()), true);
+    puts_text(rt, &mut out, b"fg", Err(Cut { written: 0 }), true);
     has_taken(rt, out, b"abcde");
 }
 
@@ -93,11 +120,24 @@ fn puts_a_text_until_the_writer_is_full(rt: HostRuntime) {
     put_texts_until_full(&rt, rt.alloc(), WhenFull::TakesNothing);
 }
 
+// So many bytes are taken, or the text is refused.
+fn takes(rt: &impl Abort, held: &mut HeldText, piece: &[u8], wanted: Option<usize>) {
+    expects(
+        rt,
+        held.write(piece).ok() == wanted,
+        "so many bytes or none",
+    );
+}
+
 #[test]
 fn a_text_is_held_up_to_its_limit(rt: HostRuntime) {
     let mut held = HeldText::new(rt.alloc(), 3);
-    assert!(rt; matches!(held.write(b"ab"), Ok(2)));
-    assert!(rt; held.write(b"cd").is_err());
-    assert!(rt; matches!(held.write(b"c"), Ok(1)));
-    assert!(rt; held.into_text().as_slice() == b"abc".as_slice());
+    takes(&rt, &mut held, b"ab", Some(2));
+    takes(&rt, &mut held, b"cd", None);
+    takes(&rt, &mut held, b"c", Some(1));
+    expects(&rt, is_held(held), "three bytes");
+}
+
+fn is_held(held: HeldText) -> bool {
+    held.into_text().as_slice() == b"abc".as_slice()
 }
