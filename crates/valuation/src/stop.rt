@@ -74,8 +74,11 @@ impl ValueStop {
     {
         match self {
             ValueStop::Plan(_) => 1,
-            ValueStop::Argument { .. } | ValueStop::Missing(_) | ValueStop::Tables(_) => 1,
-            ValueStop::Write { .. } | ValueStop::NoMemory => 3,
+            ValueStop::Argument { .. } => 1,
+            ValueStop::Missing(_) => 1,
+            ValueStop::Tables(_) => 1,
+            ValueStop::Write { .. } => 3,
+            ValueStop::NoMemory => 3,
         }
     }
 
@@ -93,10 +96,7 @@ impl ValueStop {
                 line.put(name.as_str());
             }
             ValueStop::Tables(fault) => line.put_tables_fault(fault),
-            ValueStop::Write { written } => {
-                line.put("write fault at ");
-                line.put_number(*written);
-            }
+            ValueStop::Write { written } => line.put_numbered("write fault at ", *written),
             ValueStop::NoMemory => line.put("no memory"),
         }
         line.put("\n");

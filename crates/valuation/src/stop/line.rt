@@ -87,12 +87,9 @@ impl Line {
     {
         self.put("plan fault ");
         self.put_cause(fault.cause.number());
-        self.put(" table ");
-        self.put_number(fault.table);
-        self.put(" rule ");
-        self.put_number(fault.rule);
-        self.put(" column ");
-        self.put_number(fault.column);
+        self.put_numbered(" table ", fault.table);
+        self.put_numbered(" rule ", fault.rule);
+        self.put_numbered(" column ", fault.column);
         if let PlanCause::Cell(cell) = &fault.cause {
             self.put_cell_fault(cell);
         }
@@ -104,8 +101,7 @@ impl Line {
         ensures text { self.new ≡ self.old ++ argument_fault_text number fault.now }
         ensures short { length self.new ≤ 100 }
     {
-        self.put("argument ");
-        self.put_number(number);
+        self.put_numbered("argument ", number);
         self.put(" fault ");
         self.put_cause(fault.number());
         if let ArgumentFault::Literal(cell) = fault {
@@ -140,7 +136,7 @@ impl Line {
     }
 
     // Puts a mark and a number behind the line.
-    fn put_numbered(&mut self, mark: &str, number: usize)
+    pub(crate) fn put_numbered(&mut self, mark: &str, number: usize)
         requires { length self.old + (length mark.now + 20) ≤ LINE_LIMIT_BYTES }
         ensures text { self.new ≡ self.old ++ (mark.now ++ decimal number) }
         ensures short { length self.new ≤ length self.old + (length mark.now + 20) }
@@ -157,7 +153,6 @@ impl Line {
     {
         self.put(" cell ");
         self.put_cause(fault.cause.number());
-        self.put(" at ");
-        self.put_number(fault.at);
+        self.put_numbered(" at ", fault.at);
     }
 }

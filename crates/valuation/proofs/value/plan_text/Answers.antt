@@ -1,3 +1,5 @@
+use Rattle.std.proofs.Common.{arith}
+use Rattle.std.proofs.lemmas.Grind.{common_steps}
 use Rattle.std.proofs.lemmas.Result.{err_from_is_err_and}
 use Rattle.valuation.specs.Arguments.{argument_texts}
 use Rattle.valuation.proofs.Answered.{AreAnswered-from_env}
@@ -31,3 +33,9 @@ returns-clause-text c =
       answered = AreAnswered-from_env plan c.in_ok-inputs.inputs values c.tables.ensures.sound c.in_ok-values.ensures.value;
       lines = rw c.tables.ensures.tables at c.in_ok-value_lines.ensures;
     }
+
+pub returns-in-Some-clause-refused : goal.returns-in-Some-clause-refused
+returns-in-Some-clause-refused c = grind (arith, common_steps)
+
+pub value-requires : goal.value-requires
+value-requires c = grind (arith, common_steps)

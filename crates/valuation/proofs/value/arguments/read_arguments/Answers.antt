@@ -1,3 +1,5 @@
+use Rattle.std.proofs.Common.{arith}
+use Rattle.std.proofs.lemmas.Grind.{common_steps}
 use Rattle.valuation.proofs.Givens.{Gives-none, Gives-next, argument_taken, argument_texts-at}
 use Rattle.valuation.proofs.Refusals.{refuses_argument}
 use Rattle.valuation.proofs.value.arguments.read_arguments.Goals as goal
@@ -23,3 +25,9 @@ loop-index-preserved c =
     let assigned = rw c.names.ensures.names at c.in-Ok.ensures.assigned in
     let given = Gives-next _ _ c.loop-index.index _ c.loop-index.inputs (record { place = a.place; value = a.value }) c.loop-index.invariant c.loop-index-test.true assigned c.in-Ok.ensures.fresh in
     rw c.set.ensures given
+
+pub returns-clause-given : goal.returns-clause-given
+returns-clause-given c = grind (arith, common_steps)
+
+pub overflow_add-index : goal.overflow_add-index
+overflow_add-index c = grind (arith, common_steps)
