@@ -1,3 +1,4 @@
+use Rattle.std.proofs.lemmas.Grind.{common_steps}
 use Rattle.std.proofs.Common.{◌≡◌, ap, arith, pos, ◌∙◌, w8, w16, w32, FitsSigned}
 use Rattle.std.proofs.lemmas.Int.{ints, to_z_pos, to_z-of_z}
 use Rattle.std.proofs.lemmas.Bool.{false≢true}
@@ -47,3 +48,6 @@ returns-then-year-eq0-clause-none c =
 
 pub returns-in_err-year-clause-none : goal.returns-in_err-year-clause-none
 returns-in_err-year-clause-none c = rw c.from_residual.ensures (no_ymd c.args.text.now c.in_err-year.ensures.none)
+
+pub returns-in_err-year-clause-some : goal.returns-in_err-year-clause-some
+returns-in_err-year-clause-some c = grind (arith, common_steps)

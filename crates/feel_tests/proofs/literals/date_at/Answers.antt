@@ -1,5 +1,5 @@
 use Rattle.std.proofs.Common.{sym, ◌∙◌, arith}
-use denote.Enum.Bare.{differs_true}
+use denote.Enum.Bare.{differs_true, differs_false}
 use Rattle.feel_tests.specs.contracts.kind.Kind.{the_type}
 use Rattle.feel_tests.specs.declared.kind.Kind.TheVariants as kinds
 use Rattle.std.proofs.lemmas.Result.{err_from_is_err_and}
@@ -34,3 +34,19 @@ returns-then-len-gt-TEXT_LIMIT_BYTES-clause-refused c memory =
 pub returns-clause-refused : goal.returns-clause-refused
 returns-clause-refused c memory =
     date_denied c.args.kind c.args.text.now c.args.behind_word.now c.requires (date_bad c.args.text.now c.args.behind_word.now c.in_ok-behind_open.behind_open.now c.in_ok-date.date.items c.in_ok-date.behind_string.now c.requires c.in_ok-behind_open.ensures.ok c.in_ok-date.ensures.ok (λ day h. c.in-None.ensures.none day (rw c.deref.ensures.value h)))
+
+pub returns-in-Some-clause-ok : goal.returns-in-Some-clause-ok
+returns-in-Some-clause-ok c = (
+  differs_false the_type tt c.args.kind kinds.Day (sym c.ne.ensures ∙ c.if-ne.false),
+  record {
+    behind_word = c.args.behind_word.now;
+    behind_open = c.in_ok-behind_open.behind_open.now;
+    behind_string = c.in_ok-date.behind_string.now;
+    date = c.in_ok-date.date.items;
+    word = c.requires;
+    opens = c.in_ok-behind_open.ensures.ok;
+    string = c.in_ok-date.ensures.ok;
+    closes = c.in_ok-rest.ensures.ok;
+    is_date = rw c.deref.ensures.value at c.in-Some.ensures.some;
+  },
+)

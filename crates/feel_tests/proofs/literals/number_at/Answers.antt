@@ -1,4 +1,5 @@
-use Rattle.std.proofs.Common.{sym, ◌∙◌}
+use Rattle.std.proofs.lemmas.Grind.{common_steps}
+use Rattle.std.proofs.Common.{sym, ◌∙◌, arith}
 use denote.Enum.Bare.{differs_true}
 use Rattle.feel_tests.specs.contracts.kind.Kind.{the_type}
 use Rattle.feel_tests.specs.declared.kind.Kind.TheVariants as kinds
@@ -13,3 +14,6 @@ returns-then-ne-clause-refused c memory =
 pub returns-in-Err-clause-refused : goal.returns-in-Err-clause-refused
 returns-in-Err-clause-refused c memory =
     number_denied c.args.kind c.args.text.now c.args.digits.now c.args.rest.now c.requires c.in-Err.ensures.refused
+
+pub returns-in-Ok-clause-ok : goal.returns-in-Ok-clause-ok
+returns-in-Ok-clause-ok c = grind (arith, common_steps)

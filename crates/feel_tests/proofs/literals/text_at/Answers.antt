@@ -1,4 +1,5 @@
-use Rattle.std.proofs.Common.{sym, ◌∙◌}
+use Rattle.std.proofs.lemmas.Grind.{common_steps}
+use Rattle.std.proofs.Common.{sym, ◌∙◌, arith}
 use denote.Enum.Bare.{differs_true}
 use Rattle.feel_tests.specs.contracts.kind.Kind.{the_type}
 use Rattle.feel_tests.specs.declared.kind.Kind.TheVariants as kinds
@@ -19,3 +20,6 @@ returns-then-ne-clause-refused c memory =
 pub returns-in-None-clause-refused : goal.returns-in-None-clause-refused
 returns-in-None-clause-refused c memory =
     text_denied c.args.kind c.args.text.now c.in_ok-bytes.bytes.items c.in_ok-bytes.rest.now c.in_ok-bytes.ensures.ok c.in-None.ensures.none
+
+pub returns-in-Some-clause-ok : goal.returns-in-Some-clause-ok
+returns-in-Some-clause-ok c = grind (arith, common_steps)

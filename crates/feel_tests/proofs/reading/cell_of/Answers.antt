@@ -1,3 +1,5 @@
+use Rattle.std.proofs.Common.{arith}
+use Rattle.std.proofs.lemmas.Grind.{common_steps}
 use Rattle.std.proofs.lemmas.Result.{err_from_is_err_and}
 use Rattle.std.proofs.lemmas.Bool.{iff_false}
 use Rattle.feel_tests.proofs.OneCell.{dash_trailing, list_denied, list_trailing}
@@ -17,3 +19,12 @@ pub returns-in_err-blank_end-2-clause-refused : goal.returns-in_err-blank_end-2-
 returns-in_err-blank_end-2-clause-refused c =
     let p = err_from_is_err_and c.from_residual-in_err-blank_end-2.result c.from_residual-in_err-blank_end-2.ensures.1 in
     rw (p.1, p.2) (list_trailing c.args.kind c.args.text.now c.in_ok-tests.tests c.in_ok-tests.rest.now c.in_err-blank_end-2.field-0.0 (iff_false c.is_blank.ensures c.if-is_blank.false) c.in_default.ensures.none c.in_default-after_not.ensures.none c.in_ok-tests.ensures.ok c.in_err-blank_end-2.ensures.refused)
+
+pub returns-clause-ok : goal.returns-clause-ok
+returns-clause-ok c = (c.in_ok-tests.rest.now, c.in_ok-tests.ensures.ok.0, c.in_ok-tests.ensures.ok.1, c.in_ok-blank_end-2.ensures.ok)
+
+pub returns-in-Some-clause-ok : goal.returns-in-Some-clause-ok
+returns-in-Some-clause-ok c = grind (arith, common_steps)
+
+pub returns-then-is_blank-clause-ok : goal.returns-then-is_blank-clause-ok
+returns-then-is_blank-clause-ok c = grind (arith, common_steps)

@@ -1,3 +1,4 @@
+use Rattle.std.proofs.lemmas.Grind.{common_steps}
 use Rattle.std.proofs.lemmas.Result.{err_from_is_err_and}
 use Rattle.std.proofs.Common.{arith}
 use Rattle.std.proofs.lemmas.List.{length_push}
@@ -23,3 +24,15 @@ loop-count-preserved c =
     let count = c.loop-count.invariant.0 in
     rw c.in_ok-push.ensures.ok
     (omega (arith, count, length_push c.loop-count.tests c.in_ok-test.test), list_more c.args.kind c.args.text.now c.loop-count.tests c.loop-count.rest.now c.in-Some.behind_comma.now c.in_ok-test.test c.in_ok-test.behind_test.now c.loop-count.invariant.1 c.in-Some.ensures.some c.in_ok-test.ensures.ok)
+
+pub returns-in_err-push-clause-refused : goal.returns-in_err-push-clause-refused
+returns-in_err-push-clause-refused c = grind (arith, common_steps)
+
+pub returns-clause-ok : goal.returns-clause-ok
+returns-clause-ok c = grind (arith, common_steps)
+
+pub returns-in_default-clause-ok : goal.returns-in_default-clause-ok
+returns-in_default-clause-ok c = grind (arith, common_steps)
+
+pub loop-count-init : goal.loop-count-init
+loop-count-init c = grind (arith, common_steps)

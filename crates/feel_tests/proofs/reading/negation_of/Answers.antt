@@ -21,3 +21,17 @@ pub returns-in_err-blank_end-clause-refused : goal.returns-in_err-blank_end-clau
 returns-in_err-blank_end-clause-refused c =
     let p = err_from_is_err_and c.from_residual-in_err-blank_end.result c.from_residual-in_err-blank_end.ensures.1 in
     rw (p.1, p.2) (not_trailing c.args.kind c.args.text.now c.args.behind_word.now c.in_ok-behind_open.behind_open.now c.in_ok-tests.tests c.in_ok-tests.behind_list.now c.in_ok-rest.rest.now c.in_err-blank_end.field-0.0 c.requires c.in_ok-behind_open.ensures.ok c.in_ok-tests.ensures.ok c.in_ok-rest.ensures.ok c.in_err-blank_end.ensures.refused)
+
+pub returns-clause-ok : goal.returns-clause-ok
+returns-clause-ok c = record {
+  behind_word = c.args.behind_word.now;
+  behind_open = c.in_ok-behind_open.behind_open.now;
+  behind_list = c.in_ok-tests.behind_list.now;
+  rest = c.in_ok-rest.rest.now;
+  word = c.requires;
+  opens = c.in_ok-behind_open.ensures.ok;
+  list = c.in_ok-tests.ensures.ok.0;
+  few = c.in_ok-tests.ensures.ok.1;
+  closes = c.in_ok-rest.ensures.ok;
+  blank = c.in_ok-blank_end.ensures.ok;
+}

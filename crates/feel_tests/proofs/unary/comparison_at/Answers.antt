@@ -1,4 +1,5 @@
-use Rattle.std.proofs.Common.{refl}
+use Rattle.std.proofs.lemmas.Grind.{common_steps}
+use Rattle.std.proofs.Common.{refl, arith}
 use Rattle.std.proofs.lemmas.Result.{err_from_is_err_and}
 use Rattle.feel_tests.proofs.Denials.{comparison_denied}
 use Rattle.feel_tests.proofs.unary.comparison_at.Goals as goal
@@ -15,3 +16,6 @@ returns-clause-ok c = record {
   operator = c.requires;
   has_literal = c.in_ok-value.ensures.ok;
 }
+
+pub returns-then-not-has_order-clause-refused : goal.returns-then-not-has_order-clause-refused
+returns-then-not-has_order-clause-refused c = grind (arith, common_steps)

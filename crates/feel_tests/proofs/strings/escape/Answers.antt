@@ -1,0 +1,12 @@
+use Rattle.std.proofs.Common.{arith}
+use Rattle.std.proofs.lemmas.Grind.{common_steps}
+use Rattle.feel_tests.proofs.strings.escape.Goals as goal
+
+pub returns-in-34 : goal.returns-in-34
+returns-in-34 c = grind (arith, common_steps)
+
+pub returns-in-92 : goal.returns-in-92
+returns-in-92 c = grind (arith, common_steps)
+
+pub bounds-behind-0 : goal.bounds-behind-0
+bounds-behind-0 c = grind (arith, common_steps)

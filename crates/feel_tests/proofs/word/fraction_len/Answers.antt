@@ -1,0 +1,9 @@
+use Rattle.std.proofs.Common.{arith}
+use Rattle.std.proofs.lemmas.Grind.{common_steps}
+use Rattle.feel_tests.proofs.word.fraction_len.Goals as goal
+
+pub returns-then-len-gt0-clause-value : goal.returns-then-len-gt0-clause-value
+returns-then-len-gt0-clause-value c = grind (arith, common_steps)
+
+pub returns-else-len-gt0-clause-value : goal.returns-else-len-gt0-clause-value
+returns-else-len-gt0-clause-value c = grind (arith, common_steps)
