@@ -98,7 +98,8 @@ impl Symbol {
     {
         match self {
             Symbol::OpenSquare => Some(true),
-            Symbol::OpenRound | Symbol::CloseSquare => Some(false),
+            Symbol::OpenRound => Some(false),
+            Symbol::CloseSquare => Some(false),
             _ => None,
         }
     }

@@ -1,4 +1,4 @@
-use Rattle.std.proofs.Common.{◌≡◌, None, refl}
+use Rattle.std.proofs.Common.{◌≡◌, None, refl, rules}
 use Rattle.feel_tests.specs.Grammar.{start_in}
 use Rattle.feel_tests.specs.declared.symbol.Symbol.{Symbol}
 use Rattle.feel_tests.specs.declared.symbol.Symbol.TheVariants.{Less, AtMost, More, AtLeast, OpenRound, CloseRound, OpenSquare, CloseSquare, Dots, Comma, Dash}
@@ -20,3 +20,6 @@ no_start Dash a b c = refl
 
 pub returns-in_default : goal.returns-in_default
 returns-in_default c = no_start c.args.self c.in_default.not-OpenSquare c.in_default.not-OpenRound c.in_default.not-CloseSquare
+
+pub returns-in-CloseSquare : goal.returns-in-CloseSquare
+returns-in-CloseSquare c = search rules
