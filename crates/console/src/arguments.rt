@@ -34,18 +34,13 @@ pub fn assignment_argument<'a>(alloc: Global) -> Arg<'a> {
 
 /// The flag by which only the gaps and overlaps that are faults are listed.
 pub fn harmful_argument<'a>(alloc: Global) -> Arg<'a> {
-    Arg::new(alloc, HARMFUL)
-        .long("harmful")
-        .action(ArgAction::SetTrue)
-        .help("List only the gaps that end as norule, and the overlaps that clash")
+    let help = "List only the gaps that end as norule, and the overlaps that clash";
+    flag(alloc, HARMFUL, "harmful", help)
 }
 
 /// The flag by which a key that nothing reads is refused, with what it does in this command.
 pub fn strict_argument<'a>(alloc: Global, help: &'a str) -> Arg<'a> {
-    Arg::new(alloc, STRICT)
-        .long("strict")
-        .action(ArgAction::SetTrue)
-        .help(help)
+    flag(alloc, STRICT, "strict", help)
 }
 
 /// The file that the results go to.
@@ -58,11 +53,8 @@ pub fn output_argument<'a>(alloc: Global) -> Arg<'a> {
 
 /// The flag for explanations, of every command.
 pub fn explain_argument<'a>(alloc: Global) -> Arg<'a> {
-    Arg::new(alloc, EXPLAIN)
-        .long("explain")
-        .action(ArgAction::SetTrue)
-        .global(true)
-        .help("Say what a refusal means and what to do, as on a terminal")
+    let help = "Say what a refusal means and what to do, as on a terminal";
+    flag(alloc, EXPLAIN, "explain", help).global(true)
 }
 
 /// The file of balances.
@@ -97,10 +89,8 @@ pub fn workers_argument<'a>(alloc: Global, limit: u64) -> Arg<'a>
 
 /// The flag for a line of what a run did.
 pub fn summary_argument<'a>(alloc: Global) -> Arg<'a> {
-    Arg::new(alloc, SUMMARY)
-        .long("summary")
-        .action(ArgAction::SetTrue)
-        .help("Say on standard error what became of the records, as on a terminal")
+    let help = "Say on standard error what became of the records, as on a terminal";
+    flag(alloc, SUMMARY, "summary", help)
 }
 
 /// The providers' files.
@@ -112,4 +102,12 @@ pub fn files_argument<'a>(alloc: Global) -> Arg<'a>
         .required(true)
         .action(ArgAction::Append)
         .num_args(1..)
+}
+
+/// A flag that is written so behind two dashes, with what help says of it.
+fn flag<'a>(alloc: Global, name: &'a str, long: &'a str, help: &'a str) -> Arg<'a> {
+    Arg::new(alloc, name)
+        .long(long)
+        .action(ArgAction::SetTrue)
+        .help(help)
 }

@@ -1,7 +1,7 @@
 //! The command line, by `clap`.
 
-ghost use Rattle.std.specs.Prelude.{◌≡◌, ◌∷◌, [], IfOk};
-ghost use Rattle.clap.specs.Words.{subcommand_names};
+ghost use Rattle.std.specs.Prelude.{◌≡◌, ◌∷◌, [], IfOk, IsOkAnd};
+ghost use Rattle.clap.specs.Words.{AddsSubcommand, subcommand_names};
 ghost use Rattle.clap.specs.declared.builder.command.Command.TheViews.{out-Command as fields_of};
 
 use crate::arguments::{
@@ -11,7 +11,7 @@ use crate::arguments::{
 };
 use crate::names::{CHECK, RUN, VALUE};
 use crate::texts::{check_example, run_example, statuses, value_example};
-use clap::{ArgMatches, Command, Error};
+use clap::{Arg, ArgMatches, Command, Error};
 use std::alloc::{AllocError, Global};
 
 /// What the words of a command line give, of which the first is the program's name. A run has no more workers than the limit.
@@ -27,62 +27,94 @@ pub fn matches_of<'a>(
 fn command_line<'a>(alloc: Global, workers_limit: usize) -> Result<Command<'a>, AllocError>
     ensures { IfOk result (λ line. subcommand_names line ≡ VALUE.now ∷ CHECK.now ∷ RUN.now ∷ []) }
 {
+    let line = with_command(bare_line(alloc)?, value_command(alloc))?;
+    let line = with_command(line, check_command(alloc))?;
+    with_command(line, run_command(alloc, workers_limit))
+}
+
+/// The command line without its commands.
+fn bare_line<'a>(alloc: Global) -> Result<Command<'a>, AllocError>
+    ensures { IfOk result (λ line. subcommand_names line ≡ []) }
+{
     Command::new(alloc, "adjudicate")
         .bin_name("adjudicate")?
         .about("Adjudicate health-plan claims by DMN decision tables, with proved answers")
         .version("0.1.0")
         .after_help(statuses())
-        .arg(explain_argument(alloc))?
         .subcommand_required(true)
         .arg_required_else_help(true)
-        .subcommand(value_command(alloc)?)?
-        .subcommand(check_command(alloc)?)?
-        .subcommand(run_command(alloc, workers_limit)?)
+        .arg(explain_argument(alloc))
+}
+
+/// The line with one more command, if that one was made. A `Command` is much to let go, so this is the one function that leaves while it owns one.
+fn with_command<'a>(
+    line: Command<'a>,
+    command: Result<Command<'a>, AllocError>,
+) -> Result<Command<'a>, AllocError>
+    ensures { IfOk result (λ longer. IsOkAnd command.entry (λ added. AddsSubcommand line.entry added longer)) }
+{
+    line.subcommand(command?)
 }
 
 /// The command `value`.
 fn value_command<'a>(alloc: Global) -> Result<Command<'a>, AllocError>
     ensures { IfOk result (λ command. (fields_of command).name.now ≡ VALUE.now) }
 {
-    Command::new(alloc, VALUE)
-        .about("Evaluate the plan's decision tables at given values, and print their outputs")
-        .after_help(value_example())
-        .arg(plan_argument(alloc))?
-        .arg(assignment_argument(alloc))?
-        .arg(output_argument(alloc))
+    let about = "Evaluate the plan's decision tables at given values, and print their outputs";
+    let arguments = vec![in alloc;
+        plan_argument(alloc),
+        assignment_argument(alloc),
+        output_argument(alloc),
+    ]?;
+    command_of(alloc, VALUE, about, value_example(), arguments)
 }
 
 /// The command `check`.
 fn check_command<'a>(alloc: Global) -> Result<Command<'a>, AllocError>
     ensures { IfOk result (λ command. (fields_of command).name.now ≡ CHECK.now) }
 {
-    Command::new(alloc, CHECK)
-        .about(
-            "List the inputs that no rule of a table covers, and the pairs of rules that overlap",
-        )
-        .after_help(check_example())
-        .arg(plan_argument(alloc))?
-        .arg(harmful_argument(alloc))?
-        .arg(strict_argument(
-            alloc,
-            "Tell each key of the plan that nothing reads, with status 1",
-        ))?
-        .arg(output_argument(alloc))
+    let about =
+        "List the inputs that no rule of a table covers, and the pairs of rules that overlap";
+    let strict = "Tell each key of the plan that nothing reads, with status 1";
+    let arguments = vec![in alloc;
+        plan_argument(alloc),
+        harmful_argument(alloc),
+        strict_argument(alloc, strict),
+        output_argument(alloc),
+    ]?;
+    command_of(alloc, CHECK, about, check_example(), arguments)
 }
 
 /// The command `run`.
 fn run_command<'a>(alloc: Global, workers_limit: usize) -> Result<Command<'a>, AllocError>
     ensures { IfOk result (λ command. (fields_of command).name.now ≡ RUN.now) }
 {
-    Command::new(alloc, RUN)
-        .about("Settle the claims of providers' files by the plan, and write the remittance")
-        .after_help(run_example())
-        .arg(plan_argument(alloc).long("plan"))?
-        .arg(balances_argument(alloc))?
-        .arg(cutoff_argument(alloc))?
-        .arg(workers_argument(alloc, workers_limit as u64))?
-        .arg(output_argument(alloc))?
-        .arg(summary_argument(alloc))?
-        .arg(strict_argument(alloc, "Refuse a plan with a key that nothing reads"))?
-        .arg(files_argument(alloc))
+    let about = "Settle the claims of providers' files by the plan, and write the remittance";
+    let arguments = vec![in alloc;
+        plan_argument(alloc).long("plan"),
+        balances_argument(alloc),
+        cutoff_argument(alloc),
+        workers_argument(alloc, workers_limit as u64),
+        output_argument(alloc),
+        summary_argument(alloc),
+        strict_argument(alloc, "Refuse a plan with a key that nothing reads"),
+        files_argument(alloc),
+    ]?;
+    command_of(alloc, RUN, about, run_example(), arguments)
+}
+
+/// The command with this name, what help says of it, and its arguments.
+fn command_of<'a>(
+    alloc: Global,
+    name: &'a str,
+    about: &'a str,
+    after_help: &'a str,
+    arguments: Vec<Arg<'a>>,
+) -> Result<Command<'a>, AllocError>
+    ensures { IfOk result (λ command. (fields_of command).name.now ≡ name.entry.now) }
+{
+    Command::new(alloc, name)
+        .about(about)
+        .after_help(after_help)
+        .args(arguments)
 }

@@ -43,8 +43,16 @@ pub fn input_once<R: Eprint>(rt: &R, matches: &ArgMatches<'_>) -> Result<(), u8>
 
 /// In how many places standard input is named.
 fn times_of_input(matches: &ArgMatches<'_>) -> usize {
-    let others = [matches.get_str(PLAN), matches.get_str(BALANCES)];
-    let files = matches.get_strs(FILE).unwrap_or(&[]);
-    let named = others.iter().filter(|path| **path == Some(STREAM)).count();
-    named.saturating_add(files.iter().filter(|path| **path == STREAM).count())
+    let mut times = times_in(matches.get_str(PLAN)).saturating_add(times_in(matches.get_str(
+        BALANCES,
+    )));
+    for path in matches.get_strs(FILE).unwrap_or(&[]) {
+        times = times.saturating_add(times_in(Some(*path)));
+    }
+    times
+}
+
+/// How often a place names standard input: once or not at all.
+fn times_in(path: Option<&str>) -> usize {
+    usize::from(path == Some(STREAM))
 }
