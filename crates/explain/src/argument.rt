@@ -12,10 +12,17 @@ pub fn explain_literal(
     fault: &CellFault,
 ) -> Result<Page, AllocError> {
     let mut page = Page::new(alloc);
-    let literal = argument.split_once('=').map_or("", |(_, literal)| literal);
+    add_literal(&mut page, argument, fault)?;
+    Ok(page)
+}
+
+fn add_literal(page: &mut Page, argument: &str, fault: &CellFault) -> Result<(), AllocError> {
+    let literal = match argument.split_once('=') {
+        Some((_, literal)) => literal,
+        None => "",
+    };
     let front = argument.len().saturating_sub(literal.len());
     page.mark(argument, front.saturating_add(fault.at))?;
     page.line(&[cell_words(fault.cause)])?;
-    page.words(argument_words(4))?;
-    Ok(page)
+    page.words(argument_words(4))
 }

@@ -1,33 +1,30 @@
 //! What is amiss at the place of a plan's fault, of the things that its cause may mean. Where the document tells no more, nothing is said.
 
-use crate::spot::{count_at, role_name, text_at, value_at};
+use crate::page::Page;
+use crate::spot::{count_at, items_behind, role_name, text_at, text_behind, value_at};
 use plan_places::{Step, is_one_edit};
-use std::alloc::{AllocError, Global};
+use std::alloc::AllocError;
 use table_faults::{PlanCause, PlanFault};
 use toml::Value;
 
-/// What is amiss, by what the document has at the fault's place; empty where no more is known.
-pub fn amiss(
-    alloc: Global,
+/// Adds what is amiss, by what the document has at the fault's place; nothing where no more is known.
+pub fn add_amiss(
+    page: &mut Page,
     document: &Value,
     entry: Option<&Value>,
     fault: &PlanFault,
-) -> Result<String, AllocError> {
+) -> Result<(), AllocError> {
     match fault.cause {
-        PlanCause::Missing => missing_key(alloc, entry, wanted_keys(document, fault)),
-        PlanCause::Role => role(alloc, document, fault.column),
-        PlanCause::Kind if fault.rule > 0 && fault.column > 0 => String::from_str(
-            alloc,
+        PlanCause::Missing => add_missing_key(page, entry, wanted_keys(document, fault)),
+        PlanCause::Role => add_role(page, document, fault.column),
+        PlanCause::Kind if fault.rule > 0 && fault.column > 0 => page.line(&[
             "cells and literals are strings: they stand in quotes, numbers too",
-        ),
-        PlanCause::Kind if fault.rule > 0 => cells(alloc, document, entry, fault.table),
-        PlanCause::Kind => kind(alloc, entry),
-        PlanCause::Unknown => unknown(alloc, document, entry),
-        PlanCause::Cell(cell) => {
-            let text = entry.and_then(Value::as_str).unwrap_or("");
-            String::from_str(alloc, cell_advice(text.as_bytes(), cell.at))
-        }
-        _ => Ok(String::new(alloc)),
+        ]),
+        PlanCause::Kind if fault.rule > 0 => add_counts(page, document, entry, fault.table),
+        PlanCause::Kind => add_kind(page, entry),
+        PlanCause::Unknown => add_unknown(page, document, entry),
+        PlanCause::Cell(cell) => add_cell_advice(page, entry, cell.at),
+        _ => Ok(()),
     }
 }
 
@@ -51,25 +48,32 @@ fn wanted_keys(document: &Value, fault: &PlanFault) -> &'static [&'static str] {
 }
 
 // The first of these keys that an entry lacks, and a key of it that is one edit away.
-fn missing_key(
-    alloc: Global,
+fn add_missing_key(
+    page: &mut Page,
     entry: Option<&Value>,
     wanted: &[&'static str],
-) -> Result<String, AllocError> {
+) -> Result<(), AllocError> {
     for key in wanted {
-        if entry.and_then(|entry| entry.get(*key)).is_none() {
+        if !has_key(entry, key) {
             return match near_key(entry, key) {
-                Some(near) => format!(in alloc; "`{key}` isn't there, but `{near}` is"),
-                None => format!(in alloc; "`{key}` isn't there"),
+                Some(near) => page.told(format_args!("`{key}` isn't there, but `{near}` is")),
+                None => page.told(format_args!("`{key}` isn't there")),
             };
         }
     }
-    Ok(String::new(alloc))
+    Ok(())
+}
+
+fn has_key(entry: Option<&Value>, key: &str) -> bool {
+    match entry {
+        Some(entry) => entry.get(key).is_some(),
+        None => false,
+    }
 }
 
 // A key of an entry that is one edit away from another.
 fn near_key<'d>(entry: Option<&'d Value>, wanted: &str) -> Option<&'d str> {
-    for (key, _) in entry.and_then(Value::as_table)? {
+    for (key, _) in entry?.as_table()? {
         if is_one_edit(key.as_str().as_bytes(), wanted.as_bytes()) {
             return Some(key.as_str());
         }
@@ -78,57 +82,68 @@ fn near_key<'d>(entry: Option<&'d Value>, wanted: &str) -> Option<&'d str> {
 }
 
 // What a role has in place of a literal or a name.
-fn role(alloc: Global, document: &Value, number: usize) -> Result<String, AllocError> {
+fn add_role(page: &mut Page, document: &Value, number: usize) -> Result<(), AllocError> {
     let name = role_name(number);
     let Some(value) = value_at(document, &[Step::Key("roles"), Step::Key(name)]) else {
-        return missing_key(alloc, value_at(document, &[Step::Key("roles")]), &[name]);
+        return add_missing_key(page, value_at(document, &[Step::Key("roles")]), &[name]);
     };
-    let Some(word) = value.as_str() else {
-        return format!(in alloc;
+    match value.as_str() {
+        Some(word) => add_word_of_role(page, document, number, word),
+        None => page.told(format_args!(
             "`{name}` is no string: a literal stands in quotes too, as \"50\""
-        );
-    };
+        )),
+    }
+}
+
+// What a word is not that stands in a role.
+fn add_word_of_role(
+    page: &mut Page,
+    document: &Value,
+    number: usize,
+    word: &str,
+) -> Result<(), AllocError> {
     match number {
-        1 => not_of_kind(alloc, document, word, "flag"),
-        7 => format!(in alloc; "`{word}` is no text output of a table with `R`, `O` or `C`"),
-        _ => not_of_kind(alloc, document, word, "number"),
+        1 => add_single_values(page, document, word, "flag"),
+        7 => page.told(format_args!("`{word}` is no text output of a table with `R`, `O` or `C`")),
+        _ => add_single_values(page, document, word, "number"),
     }
 }
 
 // That a word is none of the plan's single values of a kind, and which there are.
-fn not_of_kind(
-    alloc: Global,
+fn add_single_values(
+    page: &mut Page,
     document: &Value,
     word: &str,
     kind: &str,
-) -> Result<String, AllocError> {
-    let mut said = format!(in alloc;
-        "`{word}` is no {kind}, nor the name of one; the plan's own are:"
-    )?;
-    push_single_values(&mut said, document, kind)?;
-    Ok(said)
+) -> Result<(), AllocError> {
+    page.begin_line()?;
+    page.push(format_args!("`{word}` is no {kind}, nor the name of one; the plan's own are:"))?;
+    push_single_values(page, document, kind)?;
+    page.end_line()
 }
 
 // The names of the plan's single values of this kind, or that there is none.
-fn push_single_values(said: &mut String, document: &Value, kind: &str) -> Result<(), AllocError> {
-    let mut count = push_names(said, 0, items(document.get("fields")), kind)?;
+fn push_single_values(page: &mut Page, document: &Value, kind: &str) -> Result<(), AllocError> {
+    let mut count = push_names(page, 0, items_behind(Some(document), "fields"), kind)?;
     for table in tables(document) {
-        if !matches!(
-            table.get("hit").and_then(Value::as_str),
-            Some("R" | "O" | "C")
-        ) {
-            count = push_names(said, count, items(table.get("outputs")), kind)?;
+        if has_single_values(table) {
+            count = push_names(page, count, items_behind(Some(table), "outputs"), kind)?;
         }
     }
     if count == 0 {
-        said.push_str(" none")?;
+        page.push(" none")?;
     }
     Ok(())
 }
 
+// Whether the outputs of a table are single values, and no lists.
+fn has_single_values(table: &Value) -> bool {
+    !matches!(text_behind(Some(table), "hit"), Some("R" | "O" | "C"))
+}
+
 // The names of the entries of this kind, behind so many others. Returns how many there are by then.
 fn push_names(
-    said: &mut String,
+    page: &mut Page,
     before: usize,
     entries: &[Value],
     kind: &str,
@@ -136,81 +151,85 @@ fn push_names(
     let mut count = before;
     for entry in entries {
         if text_at(entry, &[], "kind") == kind {
-            said.push_str(if count == 0 { " " } else { ", " })?;
-            said.push_str(text_at(entry, &[], "name"))?;
+            push_name(page, count, text_at(entry, &[], "name"))?;
             count = count.saturating_add(1);
         }
     }
     Ok(count)
 }
 
-fn tables(document: &Value) -> &[Value] {
-    items(document.get("tables"))
+fn push_name(page: &mut Page, before: usize, name: &str) -> Result<(), AllocError> {
+    page.push(if before == 0 { " " } else { ", " })?;
+    page.push(name)
 }
 
-// The items of an array; none where there is no such.
-fn items(array: Option<&Value>) -> &[Value] {
-    match array.and_then(Value::as_array) {
-        Some(items) => items.as_slice(),
-        None => &[],
-    }
+fn tables(document: &Value) -> &[Value] {
+    items_behind(Some(document), "tables")
 }
 
 // That a rule has another number of cells or literals than its table has columns.
-fn cells(
-    alloc: Global,
+fn add_counts(
+    page: &mut Page,
     document: &Value,
     rule: Option<&Value>,
     table: usize,
-) -> Result<String, AllocError> {
+) -> Result<(), AllocError> {
     let columns = [Step::Key("tables"), Step::Item(table.saturating_sub(1))];
-    for (part, of) in [("when", "inputs"), ("then", "outputs")] {
-        let has = items(rule.and_then(|rule| rule.get(part))).len();
-        let wanted = count_at(document, &columns, of);
-        if has != wanted {
-            return format!(in alloc; "`{part}` has {has}, and the table has {wanted} {of}");
-        }
+    let cells = items_behind(rule, "when").len();
+    let inputs = count_at(document, &columns, "inputs");
+    if cells != inputs {
+        return page.told(format_args!("`when` has {cells}, and the table has {inputs} inputs"));
     }
-    Ok(String::new(alloc))
+    let literals = items_behind(rule, "then").len();
+    let outputs = count_at(document, &columns, "outputs");
+    if literals != outputs {
+        return page.told(format_args!(
+            "`then` has {literals}, and the table has {outputs} outputs"
+        ));
+    }
+    Ok(())
 }
 
 // That a kind is none.
-fn kind(alloc: Global, entry: Option<&Value>) -> Result<String, AllocError> {
-    match entry
-        .and_then(|entry| entry.get("kind"))
-        .and_then(Value::as_str)
-    {
-        None | Some("number" | "text" | "flag" | "day") => Ok(String::new(alloc)),
-        Some(word) => format!(in alloc; "`{word}` is none of `number`, `text`, `flag` and `day`"),
+fn add_kind(page: &mut Page, entry: Option<&Value>) -> Result<(), AllocError> {
+    match text_behind(entry, "kind") {
+        None | Some("number" | "text" | "flag" | "day") => Ok(()),
+        Some(word) => page.told(format_args!(
+            "`{word}` is none of `number`, `text`, `flag` and `day`"
+        )),
     }
 }
 
 // That nothing has the name that an input reads, and a name that is one edit away.
-fn unknown(alloc: Global, document: &Value, entry: Option<&Value>) -> Result<String, AllocError> {
-    let Some(name) = entry
-        .and_then(|entry| entry.get("name"))
-        .and_then(Value::as_str)
-    else {
-        return Ok(String::new(alloc));
+fn add_unknown(page: &mut Page, document: &Value, entry: Option<&Value>) -> Result<(), AllocError> {
+    let Some(name) = text_behind(entry, "name") else {
+        return Ok(());
     };
-    if let Some(near) = near_value(document, name) {
-        return format!(in alloc; "nothing before is called `{name}`; near it is `{near}`");
+    match near_value(document, name) {
+        Some(near) => page.told(format_args!(
+            "nothing before is called `{name}`; near it is `{near}`"
+        )),
+        None => add_unlike(page, document, name),
     }
+}
+
+// The same where no name is near: a key that is near `fields`, where that isn't there.
+fn add_unlike(page: &mut Page, document: &Value, name: &str) -> Result<(), AllocError> {
     match near_key(Some(document), "fields") {
-        Some(near) if document.get("fields").is_none() => format!(in alloc;
+        Some(near) if document.get("fields").is_none() => page.told(format_args!(
             "nothing before is called `{name}`; `fields` isn't there, but `{near}` is"
-        ),
-        _ => format!(in alloc; "nothing before is called `{name}`"),
+        )),
+        _ => page.told(format_args!("nothing before is called `{name}`")),
     }
 }
 
 // The name of a field or an output that is one edit away from another: the first such one.
 fn near_value<'d>(document: &'d Value, name: &str) -> Option<&'d str> {
-    if let Some(near) = near_name(items(document.get("fields")), name) {
+    if let Some(near) = near_name(items_behind(Some(document), "fields"), name) {
         return Some(near);
     }
     for table in tables(document) {
-        if let Some(near) = near_name(items(table.get("outputs")), name) {
+        if let Some(near) = near_name(items_behind(Some(table), "outputs"), name) {
             return Some(near);
         }
     }
@@ -227,13 +246,32 @@ fn near_name<'d>(entries: &'d [Value], name: &str) -> Option<&'d str> {
     None
 }
 
+// What a cell or literal looks like, if that tells more.
+fn add_cell_advice(page: &mut Page, cell: Option<&Value>, at: usize) -> Result<(), AllocError> {
+    let advice = cell_advice(text_of(cell).as_bytes(), at);
+    if advice.is_empty() {
+        return Ok(());
+    }
+    page.line(&[advice])
+}
+
+// The text of a string; nothing where there is none.
+fn text_of(value: Option<&Value>) -> &str {
+    match value {
+        Some(value) => value.as_str().unwrap_or(""),
+        None => "",
+    }
+}
+
 // What the text of a cell or literal looks like that can't be read from its byte at this offset on.
 fn cell_advice(text: &[u8], at: usize) -> &'static str {
-    let has = |byte: u8| text.contains(&byte);
     match text.get(at) {
-        _ if has(b'%') => "a part of a hundred is written as a fraction: 0.25 for 25 %",
+        _ if text.contains(&b'%') => "a part of a hundred is written as a fraction: 0.25 for 25 %",
         _ if has_plain_day(text) => "a day is written with its word: date(\"2024-02-29\")",
-        _ if has(b'-') && !has(b'.') && matches!(text.first(), Some(b'[' | b'(' | b']')) =>
+        _
+            if text.contains(&b'-')
+                && !text.contains(&b'.')
+                && matches!(text.first(), Some(b'[' | b'(' | b']')) =>
             "between the ends of an interval stand two dots: [1..3]",
         Some(b',') =>
             "a number has no commas in it, and several tests stand in an input's cell alone",

@@ -4,6 +4,7 @@ use crate::words::{Words, resource_words};
 use plan_places::{Step, places_of, position_of};
 use shown::push_shown;
 use std::alloc::{AllocError, Global};
+use std::fmt::Display;
 
 /// Lines, put together.
 pub struct Page {
@@ -33,10 +34,30 @@ impl Page {
 
     /// A line, set in, with U+FFFD in place of each control character.
     pub fn line(&mut self, words: &[&str]) -> Result<(), AllocError> {
-        self.text.push_str("  ")?;
+        self.begin_line()?;
         for word in words {
             push_shown(&mut self.text, word)?;
         }
+        self.end_line()
+    }
+
+    // A line of what is put together here.
+    pub(crate) fn told<D: Display + Drop>(&mut self, words: D) -> Result<(), AllocError> {
+        self.begin_line()?;
+        self.push(words)?;
+        self.end_line()
+    }
+
+    pub(crate) fn begin_line(&mut self) -> Result<(), AllocError> {
+        self.text.push_str("  ")
+    }
+
+    pub(crate) fn push<D: Display + Drop>(&mut self, words: D) -> Result<(), AllocError> {
+        let words = String::format(self.alloc, words)?;
+        push_shown(&mut self.text, words.as_str())
+    }
+
+    pub(crate) fn end_line(&mut self) -> Result<(), AllocError> {
         self.text.push_str("\n")
     }
 
@@ -61,8 +82,7 @@ impl Page {
     pub fn place(&mut self, name: &str, text: &[u8], at: usize) -> Result<(), AllocError> {
         let position = position_of(text, at);
         let (line, column) = (position.line, position.column);
-        let place = format!(in self.alloc; "{name}, line {line}, column {column}")?;
-        self.line(&[place.as_str()])
+        self.told(format_args!("{name}, line {line}, column {column}"))
     }
 
     /// Where the value that the steps lead to stands in a plan's text, or the last one on the way that is there.
@@ -86,15 +106,26 @@ impl Page {
     }
 
     fn mark_below(&mut self, line: &str, at: usize) -> Result<(), AllocError> {
-        let mut blanks = String::from_str(self.alloc, "    ")?;
-        let mut place = 0usize;
-        for character in line.chars() {
-            if place >= at {
-                break;
-            }
-            place = place.saturating_add(character.len_utf8());
-            blanks.push(' ')?;
+        self.begin_line()?;
+        self.text.push_str("    ")?;
+        for _ in 0..characters_before(line, at) {
+            self.text.push(' ')?;
         }
-        self.line(&[blanks.as_str(), "^"])
+        self.text.push_str("^")?;
+        self.end_line()
     }
+}
+
+// How many characters of a line begin before this byte.
+fn characters_before(line: &str, at: usize) -> usize {
+    let mut count = 0usize;
+    let mut place = 0usize;
+    for character in line.chars() {
+        if place >= at {
+            break;
+        }
+        place = place.saturating_add(character.len_utf8());
+        count = count.saturating_add(1);
+    }
+    count
 }

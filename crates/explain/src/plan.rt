@@ -1,8 +1,8 @@
 //! What a plan's fault means, and where it stands.
 
-use crate::here::amiss;
+use crate::here::add_amiss;
 use crate::page::Page;
-use crate::spot::{value_at, way_of, what_of};
+use crate::spot::{add_what, value_at, way_of};
 use crate::words::{cell_words, plan_words};
 use std::alloc::{AllocError, Global};
 use table_faults::{CellFault, PlanCause, PlanFault};
@@ -16,23 +16,43 @@ pub fn explain_plan(
     fault: &PlanFault,
 ) -> Result<Page, AllocError> {
     let mut page = Page::new(alloc);
-    match toml::table_from_slice(alloc, text) {
-        Ok(members) => add_place(alloc, &mut page, name, text, &Value::Table(members), fault)?,
-        Err(refusal) => {
-            if refusal.is_memory() {
-                return Err(AllocError);
-            }
-            let at = refusal.span().map_or(0, |span| span.start);
-            page.place(name, text, at)?;
-            page.line(&[refusal.message()])?;
-        }
-    }
+    add_text(alloc, &mut page, name, text, fault)?;
     page.words(plan_words(fault.cause))?;
     Ok(page)
 }
 
-fn add_place(
+fn add_text(
     alloc: Global,
+    page: &mut Page,
+    name: &str,
+    text: &[u8],
+    fault: &PlanFault,
+) -> Result<(), AllocError> {
+    match toml::table_from_slice(alloc, text) {
+        Ok(members) => add_place(page, name, text, &Value::Table(members), fault),
+        Err(refusal) => add_refusal(page, name, text, &refusal),
+    }
+}
+
+// Where a text ceases to be a document, and why.
+fn add_refusal(
+    page: &mut Page,
+    name: &str,
+    text: &[u8],
+    refusal: &toml::de::Error,
+) -> Result<(), AllocError> {
+    if refusal.is_memory() {
+        return Err(AllocError);
+    }
+    let at = match refusal.span() {
+        Some(span) => span.start,
+        None => 0,
+    };
+    page.place(name, text, at)?;
+    page.line(&[refusal.message()])
+}
+
+fn add_place(
     page: &mut Page,
     name: &str,
     text: &[u8],
@@ -43,42 +63,20 @@ fn add_place(
     if let Ok(text) = str::from_utf8(text) {
         page.place_of(name, text, way.as_slice())?;
     }
-    add_what(alloc, page, document, fault)?;
+    add_what(page, document, fault)?;
     let value = value_at(document, way.as_slice());
     if let PlanCause::Cell(cell) = fault.cause {
         add_cell(page, value, cell)?;
     }
-    add_amiss(alloc, page, document, value, fault)
-}
-
-fn add_what(
-    alloc: Global,
-    page: &mut Page,
-    document: &Value,
-    fault: &PlanFault,
-) -> Result<(), AllocError> {
-    let what = what_of(alloc, document, fault)?;
-    page.line(&[what.as_str()])
+    add_amiss(page, document, value, fault)
 }
 
 // The text of a cell or literal with a mark at its fault, and what that is.
 fn add_cell(page: &mut Page, value: Option<&Value>, fault: CellFault) -> Result<(), AllocError> {
-    if let Some(text) = value.and_then(Value::as_str) {
+    if let Some(value) = value
+        && let Some(text) = value.as_str()
+    {
         page.mark(text, fault.at)?;
     }
     page.line(&[cell_words(fault.cause)])
-}
-
-fn add_amiss(
-    alloc: Global,
-    page: &mut Page,
-    document: &Value,
-    value: Option<&Value>,
-    fault: &PlanFault,
-) -> Result<(), AllocError> {
-    let amiss = amiss(alloc, document, value, fault)?;
-    if amiss.is_empty() {
-        return Ok(());
-    }
-    page.line(&[amiss.as_str()])
 }

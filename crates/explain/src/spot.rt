@@ -1,7 +1,8 @@
 //! The value of a plan's document that a table, a rule and a column name.
 
+use crate::page::Page;
 use plan_places::Step;
-use std::alloc::{AllocError, Global};
+use std::alloc::AllocError;
 use table_faults::{PlanCause, PlanFault};
 use toml::Value;
 
@@ -102,31 +103,45 @@ pub fn way_of(document: &Value, fault: &PlanFault) -> Way {
     }
 }
 
-/// What stands at the place of a plan's fault, in words.
-pub fn what_of(alloc: Global, document: &Value, fault: &PlanFault) -> Result<String, AllocError> {
+/// Adds what stands at the place of a plan's fault, in words.
+pub fn add_what(page: &mut Page, document: &Value, fault: &PlanFault) -> Result<(), AllocError> {
     if fault.table == 0 {
-        return top_words(alloc, document, fault);
+        return add_top_words(page, document, fault);
     }
-    let (table, rule) = (fault.table, fault.rule);
     if fault.column == 0 {
-        return rule_words(alloc, table, rule);
+        return add_rule_words(page, fault.table, fault.rule);
     }
-    let column = Column::of(document, table, fault.column);
-    let (side, number, name) = (column.side(), column.number, column.name);
-    if rule > 0 {
-        format!(in alloc; "table {table}, rule {rule}, {side} {number} {name}")
-    } else {
-        format!(in alloc; "table {table}, {side} {number} {name}")
-    }
+    let column = Column::of(document, fault.table, fault.column);
+    add_column_words(page, fault.table, fault.rule, column)
 }
 
-/// The words of a rule of a table; of the table, where the rule is 0.
-fn rule_words(alloc: Global, table: usize, rule: usize) -> Result<String, AllocError> {
+// The words of a column of a rule of a table; of the table's, where the rule is 0.
+fn add_column_words(
+    page: &mut Page,
+    table: usize,
+    rule: usize,
+    column: Column<'_>,
+) -> Result<(), AllocError> {
+    let (side, number, name) = (column.side(), column.number, column.name);
+    page.begin_line()?;
+    push_rule(page, table, rule)?;
+    page.push(format_args!(", {side} {number} {name}"))?;
+    page.end_line()
+}
+
+// The words of a rule of a table; of the table, where the rule is 0.
+fn add_rule_words(page: &mut Page, table: usize, rule: usize) -> Result<(), AllocError> {
+    page.begin_line()?;
+    push_rule(page, table, rule)?;
+    page.end_line()
+}
+
+fn push_rule(page: &mut Page, table: usize, rule: usize) -> Result<(), AllocError> {
+    page.push(format_args!("table {table}"))?;
     if rule > 0 {
-        format!(in alloc; "table {table}, rule {rule}")
-    } else {
-        format!(in alloc; "table {table}")
+        page.push(format_args!(", rule {rule}"))?;
     }
+    Ok(())
 }
 
 /// The way to a table, by its number from 1.
@@ -144,18 +159,18 @@ pub fn input_way(table: usize, input: usize) -> Way {
     }
 }
 
-/// The words of an input of a table; of the table, where the input is 0.
-pub fn input_words(
-    alloc: Global,
+/// Adds the words of an input of a table; of the table, where the input is 0.
+pub fn add_input_words(
+    page: &mut Page,
     document: &Value,
     table: usize,
     input: usize,
-) -> Result<String, AllocError> {
+) -> Result<(), AllocError> {
     if input == 0 {
-        return rule_words(alloc, table, 0);
+        return add_rule_words(page, table, 0);
     }
     let name = Column::of(document, table, input).name;
-    format!(in alloc; "table {table}, input {input} {name}")
+    page.told(format_args!("table {table}, input {input} {name}"))
 }
 
 /// A column of a table: an input or an output, by its number among these from 1, and its name; nothing where it has none.
@@ -221,17 +236,17 @@ fn field_way(field: usize) -> Way {
 }
 
 // What stands there, in words.
-fn top_words(alloc: Global, document: &Value, fault: &PlanFault) -> Result<String, AllocError> {
+fn add_top_words(page: &mut Page, document: &Value, fault: &PlanFault) -> Result<(), AllocError> {
     let column = fault.column;
     if column == 0 {
-        return String::from_str(alloc, "the plan as a whole");
+        return page.line(&["the plan as a whole"]);
     }
     if is_role(document, fault) {
         let name = role_name(column);
-        return format!(in alloc; "role {column} {name}");
+        return page.told(format_args!("role {column} {name}"));
     }
     let name = text_at(document, field_way(column).as_slice(), "name");
-    format!(in alloc; "field {column} {name}")
+    page.told(format_args!("field {column} {name}"))
 }
 
 // Whether a column outside of tables is a role's: such causes are.
@@ -244,19 +259,34 @@ fn is_role(document: &Value, fault: &PlanFault) -> bool {
 
 /// The string at a key behind the steps; nothing where there is none.
 pub fn text_at<'d>(document: &'d Value, steps: &[Step], key: &str) -> &'d str {
-    match value_at(document, steps) {
-        Some(entry) => entry.get(key).and_then(Value::as_str).unwrap_or(""),
-        None => "",
-    }
+    text_behind(value_at(document, steps), key).unwrap_or("")
 }
 
 /// How many items the array at a key behind the steps has.
 pub fn count_at(document: &Value, steps: &[Step], key: &str) -> usize {
-    match value_at(document, steps) {
-        Some(entry) => match entry.get(key).and_then(Value::as_array) {
-            Some(items) => items.len(),
-            None => 0,
-        },
-        None => 0,
+    items_behind(value_at(document, steps), key).len()
+}
+
+/// The string at a key, if there is one.
+pub fn text_behind<'d>(entry: Option<&'d Value>, key: &str) -> Option<&'d str> {
+    value_behind(entry, key)?.as_str()
+}
+
+/// The items of the array at a key; none where there is no such.
+pub fn items_behind<'d>(entry: Option<&'d Value>, key: &str) -> &'d [Value] {
+    match value_behind(entry, key) {
+        Some(array) => items(array),
+        None => &[],
     }
+}
+
+fn items(array: &Value) -> &[Value] {
+    match array.as_array() {
+        Some(items) => items.as_slice(),
+        None => &[],
+    }
+}
+
+fn value_behind<'d>(entry: Option<&'d Value>, key: &str) -> Option<&'d Value> {
+    entry?.get(key)
 }

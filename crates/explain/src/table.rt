@@ -1,7 +1,7 @@
 //! What a fault of the tables means, and of which table and input.
 
 use crate::page::Page;
-use crate::spot::{input_way, input_words};
+use crate::spot::{add_input_words, input_way};
 use crate::words::tables_words;
 use std::alloc::{AllocError, Global};
 use table_faults::Fault;
@@ -39,21 +39,12 @@ fn add_table(
     input: usize,
 ) -> Result<(), AllocError> {
     match toml::table_from_str(alloc, text) {
-        Ok(members) => add_input(
-            alloc,
-            page,
-            name,
-            text,
-            &Value::Table(members),
-            table,
-            input,
-        ),
+        Ok(members) => add_input(page, name, text, &Value::Table(members), table, input),
         Err(_) => Ok(()),
     }
 }
 
 fn add_input(
-    alloc: Global,
     page: &mut Page,
     name: &str,
     text: &str,
@@ -62,6 +53,5 @@ fn add_input(
     input: usize,
 ) -> Result<(), AllocError> {
     page.place_of(name, text, input_way(table, input).as_slice())?;
-    let words = input_words(alloc, document, table, input)?;
-    page.line(&[words.as_str()])
+    add_input_words(page, document, table, input)
 }

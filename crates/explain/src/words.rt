@@ -131,49 +131,38 @@ pub fn tables_words(fault: &Fault) -> Words {
 /// The words of the lines that no text gives: a missing value, and what is wanting of files, streams, memory and threads. They are known by the
 /// line's first words.
 pub fn resource_words(line: &str) -> Option<Words> {
-    const LINES: [(&str, &str, &str); 7] = [
-        (
-            "missing ",
+    let words = match line {
+        _ if line.starts_with("missing ") => both(
             "a table reads this name and no argument gives it",
             "give it",
         ),
-        (
-            "run fault 3",
+        _ if line.starts_with("run fault 3") => both(
             "`run`: a thread can't be started, one that reads a file or a worker",
             "run again with fewer workers, or when fewer threads are at work",
         ),
-        (
-            "write fault at ",
+        _ if line.starts_with("write fault at ") => both(
             "standard output, or the file beside that of `--output`, took the first W bytes of the text and then failed: a full device, a closed pipe",
             "run again into something that takes it",
         ),
-        (
-            "cannot write output",
+        _ if line.starts_with("cannot write output") => both(
             "the file of `--output` can't be made or put in place: its folder is missing or not to be written, or it is a folder or a device; what stood there before stands there still",
             "give a file that can be written",
         ),
-        (
-            "cannot read plan",
+        _ if line.starts_with("cannot read plan") => both(
             "the plan file is missing, is a folder, or can't be read",
             "give a file that can be read",
         ),
-        (
-            "cannot read ",
+        _ if line.starts_with("cannot read ") => both(
             "the file is missing, is a folder, or can't be read",
             "give a file that can be read",
         ),
-        (
-            "no memory",
+        _ if line.starts_with("no memory") => both(
             "memory was refused, wherever that was, also in a thread of a run",
             "run again with more",
         ),
-    ];
-    for (front, meaning, remedy) in LINES {
-        if line.starts_with(front) {
-            return Some(both(meaning, remedy));
-        }
-    }
-    None
+        _ => return None,
+    };
+    Some(words)
 }
 
 /// The words of a refusal that the program tells otherwise: as want of memory.
