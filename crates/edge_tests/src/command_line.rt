@@ -1,9 +1,11 @@
 //! The command line, and the texts that it names.
 use clap::error::ErrorKind;
-use console::{Sources, matches_of, read_text};
-use std::alloc::Global;
+use clap::{ArgMatches, Error};
+use console::{ReadFault, Sources, matches_of, read_text};
+use std::alloc::{AllocError, Global};
 use std::io;
-use std::test::Fail;
+use std::process::Abort;
+use worked_examples::{expects, fail};
 
 // One text, under every name.
 #[derive(Drop)]
@@ -23,8 +25,8 @@ impl<'a> Sources for OneText<'a> {
     }
 }
 
-// The kind of fault of a run with so many workers, of which at most three may be; none where it may be.
-fn fault_of(alloc: Global, workers: &str) -> Result<Option<ErrorKind>, Fail> {
+// The words of a run with so many workers.
+fn words_with(alloc: Global, workers: &str) -> Result<Vec<String>, AllocError> {
     let mut words = Vec::new(alloc);
     for word in [
         "adjudicate",
@@ -37,27 +39,50 @@ fn fault_of(alloc: Global, workers: &str) -> Result<Option<ErrorKind>, Fail> {
     ] {
         words.push(String::from_str(alloc, word)?)?;
     }
-    match matches_of(alloc, words.as_slice(), 3) {
-        Ok(_) => Ok(None),
-        Err(fault) => Ok(Some(fault.kind())),
+    Ok(words)
+}
+
+// The kind of a command line's fault, if it has one.
+fn kind_of(matched: Result<ArgMatches<'_>, Error>) -> Option<ErrorKind> {
+    match matched {
+        Ok(_) => None,
+        Err(fault) => Some(fault.kind()),
+    }
+}
+
+// The kind of fault of a run with so many workers, of which at most three may be; none where it may be.
+fn fault_of(rt: &impl Abort, alloc: Global, workers: &str) -> Option<ErrorKind> {
+    match words_with(alloc, workers) {
+        Ok(words) => kind_of(matches_of(alloc, words.as_slice(), 3)),
+        Err(_) => fail(rt, "memory for the words"),
     }
 }
 
 #[test]
-fn workers_are_from_one_to_the_limit(rt: HostRuntime) -> Result<(), Fail> {
+fn workers_are_from_one_to_the_limit(rt: HostRuntime) {
     let alloc = rt.alloc();
-    assert!(rt; fault_of(alloc, "1")?.is_none() && fault_of(alloc, "3")?.is_none());
-    assert!(rt; fault_of(alloc, "0")? == Some(ErrorKind::ValueValidation));
-    assert!(rt; fault_of(alloc, "4")? == Some(ErrorKind::ValueValidation));
-    Ok(())
+    expects(&rt, fault_of(&rt, alloc, "1").is_none(), "a run with 1");
+    expects(&rt, fault_of(&rt, alloc, "3").is_none(), "a run with 3");
+    let refused = Some(ErrorKind::ValueValidation);
+    expects(&rt, fault_of(&rt, alloc, "0") == refused, "a refusal of 0");
+    expects(&rt, fault_of(&rt, alloc, "4") == refused, "a refusal of 4");
+}
+
+fn is_text(read: Result<Vec<u8>, ReadFault>, wanted: &[u8]) -> bool {
+    match read {
+        Ok(bytes) => bytes.as_slice() == wanted,
+        Err(_) => false,
+    }
+}
+
+// Whether of a text of five bytes these are read under a limit.
+fn is_read(alloc: Global, limit: usize, wanted: &[u8]) -> bool {
+    let sources = OneText { text: b"12345" };
+    is_text(read_text(alloc, &sources, "one", limit), wanted)
 }
 
 #[test]
-fn text_is_read_to_one_byte_beyond_the_limit(rt: HostRuntime) -> Result<(), Fail> {
-    let alloc = rt.alloc();
-    let sources = OneText { text: b"12345" };
-    let cut = read_text(alloc, &sources, "one", 3)?;
-    let all = read_text(alloc, &sources, "one", 5)?;
-    assert!(rt; cut.as_slice() == b"1234".as_slice() && all.as_slice() == sources.text);
-    Ok(())
+fn text_is_read_to_one_byte_beyond_the_limit(rt: HostRuntime) {
+    expects(&rt, is_read(rt.alloc(), 3, b"1234"), "four bytes");
+    expects(&rt, is_read(rt.alloc(), 5, b"12345"), "all five");
 }

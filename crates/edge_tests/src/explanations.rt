@@ -1,9 +1,11 @@
 //! Explanations of refusals by worked examples.
-use explain::{explain_literal, explain_plan, explain_tables};
+use explain::{Page, explain_literal, explain_plan, explain_tables};
 use explain_files::{FileKind, explain_file, explain_record};
 use intake_csv::{FileFault, RowCause, RowFault};
-use std::test::Fail;
+use std::alloc::{AllocError, Global};
+use std::process::Abort;
 use table_faults::{CellCause, CellFault, Fault, PlanCause, PlanFault};
+use worked_examples::{expects, fail};
 
 fn plan() -> &'static [u8] {
     b"version = 1
@@ -15,6 +17,14 @@ rules = [
   {when = ['[1..\\t5'], then = ['1']}, {when = [\"[1..\\t5\"], then = ['1']},
 ]
 "
+}
+
+// Ends the test where a page isn't this text.
+fn expects_page(rt: &impl Abort, page: Result<Page, AllocError>, wanted: &str) {
+    match page {
+        Ok(page) => expects(rt, page.as_str() == wanted, wanted),
+        Err(_) => fail(rt, "memory for a page"),
+    }
 }
 
 // The fault of a cell in the first column of a rule.
@@ -32,8 +42,8 @@ fn fault_of_cell(rule: usize, at: usize) -> PlanFault {
 }
 
 #[test]
-fn cell_is_marked_where_it_stands(rt: HostRuntime) -> Result<(), Fail> {
-    let page = explain_plan(rt.alloc(), "plan.toml", plan(), &fault_of_cell(1, 7))?;
+fn cell_is_marked_where_it_stands(rt: HostRuntime) {
+    let page = explain_plan(rt.alloc(), "plan.toml", plan(), &fault_of_cell(1, 7));
     let wanted = "  plan.toml, line 7, column 12
   table 1, rule 1, input 1 age
       [1..\\t5
@@ -42,13 +52,12 @@ fn cell_is_marked_where_it_stands(rt: HostRuntime) -> Result<(), Fail> {
   It means: a cell or a literal can't be read: in `values`, `priority`, `default`, `when` or `then`
   What to do: see the cause behind `cell`
 ";
-    assert!(rt; page.as_str() == wanted, "{}", page.as_str());
-    Ok(())
+    expects_page(&rt, page, wanted);
 }
 
 #[test]
-fn control_character_of_a_cell_is_not_shown(rt: HostRuntime) -> Result<(), Fail> {
-    let page = explain_plan(rt.alloc(), "plan.toml", plan(), &fault_of_cell(2, 6))?;
+fn control_character_of_a_cell_is_not_shown(rt: HostRuntime) {
+    let page = explain_plan(rt.alloc(), "plan.toml", plan(), &fault_of_cell(2, 6));
     let wanted = "  plan.toml, line 7, column 48
   table 1, rule 2, input 1 age
       [1..\u{fffd}5
@@ -57,46 +66,43 @@ fn control_character_of_a_cell_is_not_shown(rt: HostRuntime) -> Result<(), Fail>
   It means: a cell or a literal can't be read: in `values`, `priority`, `default`, `when` or `then`
   What to do: see the cause behind `cell`
 ";
-    assert!(rt; page.as_str() == wanted, "{}", page.as_str());
-    Ok(())
+    expects_page(&rt, page, wanted);
 }
 
 #[test]
-fn text_that_is_no_toml_has_its_own_message(rt: HostRuntime) -> Result<(), Fail> {
+fn text_that_is_no_toml_has_its_own_message(rt: HostRuntime) {
     let fault = PlanFault {
         table: 0,
         rule: 0,
         column: 0,
         cause: PlanCause::Toml,
     };
-    let page = explain_plan(rt.alloc(), "-", b"version = 1\nfields!= 1\n", &fault)?;
+    let page = explain_plan(rt.alloc(), "-", b"version = 1\nfields!= 1\n", &fault);
     let wanted = "  -, line 2, column 7
   key with no value, expected `=`
   It means: the text is not UTF-8, or no TOML document; a key that stands twice is such a fault
   What to do: let a TOML editor show the line
 ";
-    assert!(rt; page.as_str() == wanted, "{}", page.as_str());
-    Ok(())
+    expects_page(&rt, page, wanted);
 }
 
 #[test]
-fn value_that_is_not_allowed_has_its_input(rt: HostRuntime) -> Result<(), Fail> {
+fn value_that_is_not_allowed_has_its_input(rt: HostRuntime) {
     let fault = Fault::Outside {
         table: 1,
         column: 1,
     };
-    let page = explain_tables(rt.alloc(), "plan.toml", plan(), &fault)?;
+    let page = explain_tables(rt.alloc(), "plan.toml", plan(), &fault);
     let wanted = "  plan.toml, line 4, column 11
   table 1, input 1 age
   It means: the value of column C of table T is none of the column's allowed values (`values`)
   What to do: give an allowed value, or allow this one
 ";
-    assert!(rt; page.as_str() == wanted, "{}", page.as_str());
-    Ok(())
+    expects_page(&rt, page, wanted);
 }
 
 #[test]
-fn missing_column_is_named(rt: HostRuntime) -> Result<(), Fail> {
+fn missing_column_is_named(rt: HostRuntime) {
     let page = explain_file(
         rt.alloc(),
         "a.csv",
@@ -104,99 +110,99 @@ fn missing_column_is_named(rt: HostRuntime) -> Result<(), Fail> {
         plan(),
         FileKind::Claims,
         FileFault::MissingColumn,
-    )?;
+    );
     let wanted = "  a.csv
   the header has no column age
   It means: the header lacks a column that is needed: `claim`, `member`, `service`, `billed` and the plan's fields; of balances `member`, `met`, `oop`, `paid`, and from version 2 on `year`; of both under version 3 `family`
   What to do: add the column
 ";
-    assert!(rt; page.as_str() == wanted, "{}", page.as_str());
-    Ok(())
+    expects_page(&rt, page, wanted);
 }
 
 #[test]
-fn column_of_a_record_is_named(rt: HostRuntime) -> Result<(), Fail> {
+fn column_of_a_record_is_named(rt: HostRuntime) {
     let fault = RowFault {
         column: 3,
         cause: RowCause::NotCents,
     };
     let header = b"member,met,oop,paid\n";
-    let page = explain_record(rt.alloc(), "b.csv", header, 2, &fault)?;
+    let page = explain_record(rt.alloc(), "b.csv", header, 2, &fault);
     let wanted = "  b.csv, record 2 behind the header, column oop
   an amount has part of a cent
   It means: `run`: the balances are no such file, for the cause F below
   What to do: correct it
 ";
-    assert!(rt; page.as_str() == wanted, "{}", page.as_str());
-    Ok(())
+    expects_page(&rt, page, wanted);
 }
 
 #[test]
-fn literal_is_marked(rt: HostRuntime) -> Result<(), Fail> {
+fn literal_is_marked(rt: HostRuntime) {
     let fault = CellFault {
         at: 0,
         cause: CellCause::Literal,
     };
-    let page = explain_literal(rt.alloc(), "x=1.23451", &fault)?;
+    let page = explain_literal(rt.alloc(), "x=1.23451", &fault);
     let wanted = "      x=1.23451
         ^
   a number with more than four decimals that count, or beyond the number range; a text over its limit
   It means: the literal can't be read, for the cause K below, at its byte B, counted from behind the first `=`
   What to do: correct the literal; mind that the shell takes a pair of quotes away
 ";
-    assert!(rt; page.as_str() == wanted, "{}", page.as_str());
-    Ok(())
+    expects_page(&rt, page, wanted);
 }
 
-// The fault of the plan as a whole, or of its first table.
-fn fault_of(table: usize, rule: usize, column: usize, cause: PlanCause) -> PlanFault {
-    PlanFault {
+// A plan with a fault of each kind that is told in more words.
+fn faulty_plan() -> &'static str {
+    "roles = {fee = 'charge', rate = 2, copays = '1'}
+fields = [{name = 'code', kind = 'text'}, {name = 'cost', kind = 'number'}]
+tables = [{input = [], outputs = [{name = 'a', kind = 'integer'}], rules = [{when = ['25%'], then = []}]}]
+"
+}
+
+// Ends the test where the page of this fault, of the plan as a whole or of its first table, doesn't tell this.
+fn expects_told(
+    rt: &impl Abort,
+    alloc: Global,
+    table: usize,
+    rule: usize,
+    column: usize,
+    cause: PlanCause,
+    wanted: &str,
+) {
+    let fault = PlanFault {
         table,
         rule,
         column,
         cause,
+    };
+    match explain_plan(alloc, "p", faulty_plan().as_bytes(), &fault) {
+        Ok(page) => expects(rt, page.as_str().contains(wanted), wanted),
+        Err(_) => fail(rt, "memory for a page"),
     }
 }
 
 #[test]
-fn what_is_amiss_is_told(rt: HostRuntime) -> Result<(), Fail> {
-    let roles = "roles = {fee = 'charge', rate = 2, copays = '1'}
-fields = [{name = 'code', kind = 'text'}, {name = 'cost', kind = 'number'}]
-tables = [{input = [], outputs = [{name = 'a', kind = 'integer'}], rules = [{when = ['25%'], then = []}]}]
-";
-    let rows = [
-        (
-            fault_of(0, 0, 2, PlanCause::Role),
-            "`charge` is no number, nor the name of one; the plan's own are: cost",
-        ),
-        (
-            fault_of(0, 0, 5, PlanCause::Role),
-            "`rate` is no string: a literal stands in quotes too, as \"50\"",
-        ),
-        (
-            fault_of(0, 0, 4, PlanCause::Role),
-            "`copay` isn't there, but `copays` is",
-        ),
-        (
-            fault_of(0, 0, 0, PlanCause::Missing),
-            "`version` isn't there",
-        ),
-        (
-            fault_of(1, 0, 0, PlanCause::Missing),
-            "`inputs` isn't there, but `input` is",
-        ),
-        (
-            fault_of(1, 1, 0, PlanCause::Kind),
-            "`when` has 1, and the table has 0 inputs",
-        ),
-        (
-            fault_of(1, 0, 1, PlanCause::Kind),
-            "`integer` is none of `number`, `text`, `flag` and `day`",
-        ),
-    ];
-    for (fault, wanted) in rows {
-        let page = explain_plan(rt.alloc(), "p", roles.as_bytes(), &fault)?;
-        assert!(rt; page.as_str().contains(wanted), "{wanted}");
-    }
-    Ok(())
+fn what_is_amiss_is_told(rt: HostRuntime) {
+    let alloc = rt.alloc();
+    let charge = "`charge` is no number, nor the name of one; the plan's own are: cost";
+    expects_told(&rt, alloc, 0, 0, 2, PlanCause::Role, charge);
+    let rate = "`rate` is no string: a literal stands in quotes too, as \"50\"";
+    expects_told(&rt, alloc, 0, 0, 5, PlanCause::Role, rate);
+    let copay = "`copay` isn't there, but `copays` is";
+    expects_told(&rt, alloc, 0, 0, 4, PlanCause::Role, copay);
+    expects_told(
+        &rt,
+        alloc,
+        0,
+        0,
+        0,
+        PlanCause::Missing,
+        "`version` isn't there",
+    );
+    let inputs = "`inputs` isn't there, but `input` is";
+    expects_told(&rt, alloc, 1, 0, 0, PlanCause::Missing, inputs);
+    let when = "`when` has 1, and the table has 0 inputs";
+    expects_told(&rt, alloc, 1, 1, 0, PlanCause::Kind, when);
+    let kind = "`integer` is none of `number`, `text`, `flag` and `day`";
+    expects_told(&rt, alloc, 1, 0, 1, PlanCause::Kind, kind);
 }

@@ -1,8 +1,12 @@
 //! Where things stand in a plan's text.
-use plan_places::{Position, Step, is_one_edit, places_of, position_of, unread_keys};
-use std::test::Fail;
+use plan_places::{
+    Places, Position, Step, Unread, is_one_edit, places_of, position_of, unread_keys,
+};
+use std::process::Abort;
+use worked_examples::{expects, fail};
 
-const PLAN: &str = "version = 1
+fn plan() -> &'static str {
+    "version = 1
 fields = [{name = \"x\", kind = \"number\"}]
 [[tables]] # the first
 hitt = 'U'
@@ -15,93 +19,98 @@ rules = [
 hit = 'U'
 [roles]
 remark = 'y'
-";
+"
+}
 
-#[test]
-fn values_are_found_where_they_stand(rt: HostRuntime) -> Result<(), Fail> {
-    let places = places_of(rt.alloc(), PLAN)?;
-    let table = [Step::Key("tables"), Step::Item(0)];
-    assert!(rt;
-        position_of(PLAN.as_bytes(), places.nearest(&table)) == Position { line: 3, column: 1 }
+// Ends the test where the value that the steps lead to stands elsewhere.
+fn expects_at(rt: &impl Abort, places: &Places, steps: &[Step], line: usize, column: usize) {
+    let found = position_of(plan().as_bytes(), places.nearest(steps));
+    expects(
+        rt,
+        found == Position { line, column },
+        "a value in its place",
     );
-    let cell = [
+}
+
+// The steps to a cell of the first rule.
+fn cell(item: usize) -> [Step; 6] {
+    [
         Step::Key("tables"),
         Step::Item(0),
         Step::Key("rules"),
         Step::Item(0),
         Step::Key("when"),
-        Step::Item(1),
-    ];
-    assert!(rt;
-        position_of(PLAN.as_bytes(), places.nearest(&cell))
-            == Position {
-                line: 8,
-                column: 19
-            }
-    );
-    let no_cell = [
-        Step::Key("tables"),
-        Step::Item(0),
-        Step::Key("rules"),
-        Step::Item(0),
-        Step::Key("when"),
-        Step::Item(2),
-    ];
-    assert!(rt;
-        position_of(PLAN.as_bytes(), places.nearest(&no_cell))
-            == Position {
-                line: 8,
-                column: 11
-            }
-    );
-    Ok(())
+        Step::Item(item),
+    ]
 }
 
 #[test]
-fn unread_keys_are_told(rt: HostRuntime) -> Result<(), Fail> {
-    let unread = unread_keys(rt.alloc(), PLAN)?;
-    let wanted = [
-        ("hitt", 4, Some("hit")),
-        ("value", 5, Some("values")),
-        ("colour", 6, None),
-        ("table", 10, Some("tables")),
-        ("remark", 13, Some("remarks")),
-    ];
-    assert!(rt; unread.len() == wanted.len());
-    let mut place = 0usize;
-    for (key, line, near) in wanted {
-        let Some(found) = unread.get(place) else {
-            return Err(Fail::from("too few"));
-        };
-        assert!(rt;
-            found.key.as_str() == key && found.position.line == line && found.near == near,
-            "{key}"
-        );
-        place = place.saturating_add(1);
+fn values_are_found_where_they_stand(rt: HostRuntime) {
+    match places_of(rt.alloc(), plan()) {
+        Ok(places) => {
+            let table = [Step::Key("tables"), Step::Item(0)];
+            expects_at(&rt, &places, &table, 3, 1);
+            expects_at(&rt, &places, &cell(1), 8, 19);
+            // There is no third cell.
+            expects_at(&rt, &places, &cell(2), 8, 11);
+        }
+        Err(_) => fail(&rt, "memory for places"),
     }
-    Ok(())
+}
+
+// Ends the test where another key stands at this place of a list, or on another line, or another key is near it.
+fn expects_unread(
+    rt: &impl Abort,
+    unread: &[Unread],
+    place: usize,
+    line: usize,
+    key: &str,
+    near: Option<&'static str>,
+) {
+    match unread.get(place) {
+        Some(found) => {
+            let is_there = found.key.as_str() == key && found.position.line == line;
+            expects(rt, is_there && found.near == near, key);
+        }
+        None => fail(rt, key),
+    }
+}
+
+#[test]
+fn unread_keys_are_told(rt: HostRuntime) {
+    match unread_keys(rt.alloc(), plan()) {
+        Ok(keys) => {
+            let unread = keys.as_slice();
+            expects(&rt, unread.len() == 5, "five keys");
+            expects_unread(&rt, unread, 0, 4, "hitt", Some("hit"));
+            expects_unread(&rt, unread, 1, 5, "value", Some("values"));
+            expects_unread(&rt, unread, 2, 6, "colour", None);
+            expects_unread(&rt, unread, 3, 10, "table", Some("tables"));
+            expects_unread(&rt, unread, 4, 13, "remark", Some("remarks"));
+        }
+        Err(_) => fail(&rt, "memory for keys"),
+    }
+}
+
+// Ends the test where it isn't so, either way round, that one edit makes the one word of the other.
+fn expects_one_edit(rt: &impl Abort, one: &str, other: &str, wanted: bool) {
+    let (one, other) = (one.as_bytes(), other.as_bytes());
+    let is_so = is_one_edit(one, other) == wanted && is_one_edit(other, one) == wanted;
+    expects(rt, is_so, "one edit, or none and two");
 }
 
 #[test]
 fn one_edit_is_told_from_none_and_two(rt: HostRuntime) {
-    for other in [
-        b"hi".as_slice(),
-        b"hitt".as_slice(),
-        b"hut".as_slice(),
-        b"hti".as_slice(),
-        b"it".as_slice(),
-    ] {
-        assert!(rt; is_one_edit(b"hit", other) && is_one_edit(other, b"hit"));
-    }
-    for other in [
-        b"hit".as_slice(),
-        b"h".as_slice(),
-        b"hot!".as_slice(),
-        b"".as_slice(),
-        b"tih".as_slice(),
-    ] {
-        assert!(rt; !is_one_edit(b"hit", other) && !is_one_edit(other, b"hit"));
-    }
+    expects_one_edit(&rt, "hit", "hi", true);
+    expects_one_edit(&rt, "hit", "hitt", true);
+    expects_one_edit(&rt, "hit", "hut", true);
+    expects_one_edit(&rt, "hit", "hti", true);
+    expects_one_edit(&rt, "hit", "it", true);
+    expects_one_edit(&rt, "hit", "hit", false);
+    expects_one_edit(&rt, "hit", "h", false);
+    expects_one_edit(&rt, "hit", "hot!", false);
+    expects_one_edit(&rt, "hit", "", false);
+    expects_one_edit(&rt, "hit", "tih", false);
     // Here the first two bytes stand the other way round as well, and only the first one is too many.
-    assert!(rt; is_one_edit(b"aba", b"ba") && is_one_edit(b"ba", b"aba"));
+    expects_one_edit(&rt, "aba", "ba", true);
 }

@@ -1,11 +1,20 @@
 //! A text of others as it is shown.
 use shown::push_shown;
-use std::test::Fail;
+use std::alloc::{AllocError, Global};
+use worked_examples::{expects, fail};
+
+// A text as it is shown behind another.
+fn shown_behind(alloc: Global, front: &str, text: &str) -> Result<String, AllocError> {
+    let mut shown = String::from_str(alloc, front)?;
+    push_shown(&mut shown, text)?;
+    Ok(shown)
+}
 
 #[test]
-fn no_control_character_is_shown(rt: HostRuntime) -> Result<(), Fail> {
-    let mut text = String::from_str(rt.alloc(), "> ")?;
-    push_shown(&mut text, "\u{1b}[2J\u{7f}\u{9b}é\r\n\t.")?;
-    assert!(rt; text.as_str() == "> \u{fffd}[2J\u{fffd}\u{fffd}é\u{fffd}\u{fffd}\u{fffd}.");
-    Ok(())
+fn no_control_character_is_shown(rt: HostRuntime) {
+    let wanted = "> \u{fffd}[2J\u{fffd}\u{fffd}é\u{fffd}\u{fffd}\u{fffd}.";
+    match shown_behind(rt.alloc(), "> ", "\u{1b}[2J\u{7f}\u{9b}é\r\n\t.") {
+        Ok(shown) => expects(&rt, shown.as_str() == wanted, wanted),
+        Err(_) => fail(&rt, "memory for a text"),
+    }
 }

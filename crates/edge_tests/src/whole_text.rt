@@ -2,8 +2,9 @@
 use std::alloc::Global;
 use std::io;
 use std::io::Write;
-use std::test::Fail;
+use std::process::Abort;
 use whole_file::{Place, finish};
+use worked_examples::{expects, fail};
 
 // A place in memory.
 #[derive(Drop)]
@@ -34,30 +35,59 @@ impl Place for Shelf {
     fn give_up(&mut self, _text: Vec<u8>) {}
 }
 
-// What stands on a shelf after a new text was written, whole or not, and finished.
-fn after(alloc: Global, is_broken: bool, is_whole: bool) -> Result<(Vec<u8>, bool), Fail> {
-    let mut shelf = Shelf {
-        stands: b"old".to_vec(alloc)?,
-        is_broken,
-    };
-    let mut text = shelf.begin()?;
-    text.write_all(b"new text")?;
-    let is_done = finish(&mut shelf, text, is_whole).is_ok();
-    Ok((shelf.stands, is_done))
+// A shelf with an old text.
+fn shelf_of(rt: &impl Abort, alloc: Global, is_broken: bool) -> Shelf {
+    match b"old".to_vec(alloc) {
+        Ok(stands) => Shelf { stands, is_broken },
+        Err(_) => fail(rt, "memory for a shelf"),
+    }
+}
+
+// A new text for a shelf.
+fn text_for(rt: &impl Abort, shelf: &mut Shelf) -> Vec<u8> {
+    match shelf.begin() {
+        Ok(mut text) => {
+            expects(rt, text.write_all(b"new text").is_ok(), "memory for a text");
+            text
+        }
+        Err(_) => fail(rt, "a text"),
+    }
+}
+
+// Whether this stands on a shelf after a new text was written, whole or not, and finished, well or not.
+fn stands(
+    rt: &impl Abort,
+    alloc: Global,
+    is_broken: bool,
+    is_whole: bool,
+    is_done: bool,
+    wanted: &[u8],
+) -> bool {
+    let mut shelf = shelf_of(rt, alloc, is_broken);
+    let text = text_for(rt, &mut shelf);
+    let is_as_wanted = finish(&mut shelf, text, is_whole).is_ok() == is_done;
+    is_as_wanted && shelf.stands.as_slice() == wanted
 }
 
 #[test]
-fn whole_text_takes_the_place(rt: HostRuntime) -> Result<(), Fail> {
-    let (stands, is_done) = after(rt.alloc(), false, true)?;
-    assert!(rt; is_done && stands.as_slice() == b"new text".as_slice());
-    Ok(())
+fn whole_text_takes_the_place(rt: HostRuntime) {
+    expects(
+        &rt,
+        stands(&rt, rt.alloc(), false, true, true, b"new text"),
+        "the new text",
+    );
 }
 
 #[test]
-fn old_text_stays_under_one_that_is_cut_or_refused(rt: HostRuntime) -> Result<(), Fail> {
-    let (stands, is_done) = after(rt.alloc(), false, false)?;
-    assert!(rt; is_done && stands.as_slice() == b"old".as_slice());
-    let (stands, is_done) = after(rt.alloc(), true, true)?;
-    assert!(rt; !is_done && stands.as_slice() == b"old".as_slice());
-    Ok(())
+fn old_text_stays_under_one_that_is_cut_or_refused(rt: HostRuntime) {
+    expects(
+        &rt,
+        stands(&rt, rt.alloc(), false, false, true, b"old"),
+        "the old text under a cut one",
+    );
+    expects(
+        &rt,
+        stands(&rt, rt.alloc(), true, true, false, b"old"),
+        "the old text under a refused one",
+    );
 }
