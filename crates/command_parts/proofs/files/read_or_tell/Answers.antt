@@ -1,0 +1,5 @@
+use Rattle.std.proofs.Common.{rules}
+use Rattle.command_parts.proofs.files.read_or_tell.Goals as goal
+
+pub returns-after-explains-clause-failed : goal.returns-after-explains-clause-failed
+returns-after-explains-clause-failed g c = search rules
