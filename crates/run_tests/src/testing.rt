@@ -8,7 +8,6 @@ use std::io;
 use std::io::{ErrorKind, Write};
 use std::process::Abort;
 use worked_examples::health_plan;
-
 pub use worked_examples::{expects, expects_at, fail};
 
 /// The plan of the worked examples. What is refused memory is asked for once more, here and below.
