@@ -7,13 +7,13 @@ mod limits;
 mod lists;
 mod table;
 
+use crate::ending::{expects, fail};
 use feel_tests::{
     Cell, CellCause, CellFault, Kind, PlainFault, TEXT_LIMIT_BYTES, Text, Value, read_cell,
     read_plain, read_value,
 };
 use std::alloc::Global;
 use std::process::Abort;
-use worked_examples::{expects, fail};
 
 // What one reading of a cell's text tells of its fault.
 fn told_of(alloc: Global, kind: Kind, text: &str) -> Option<CellFault> {

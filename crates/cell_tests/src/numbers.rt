@@ -1,5 +1,6 @@
 //! Worked values, and what no clause says of an `Out`: that it succeeds where its writer does, and
 //! makes one write a piece.
+use crate::ending::expects;
 use fixpoint::{
     Cut, Failed, Fixed, MAX_UNITS, NumFault, money_text_denotes, products_are_rounded,
     shortest_text_denotes, text_denotes_at_most_one,
@@ -7,7 +8,6 @@ use fixpoint::{
 use std::alloc::Global;
 use std::fmt::Display;
 use std::process::Abort;
-use worked_examples::expects;
 
 mod writers;
 

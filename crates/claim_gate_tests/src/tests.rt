@@ -27,7 +27,17 @@ use filing::gate_of;
 use runs::{Calls, run};
 use std::alloc::Global;
 use std::process::Abort;
-use worked_examples::{both_files, expects, fail, health_plan};
+use worked_examples::{both_files, health_plan};
+
+// Ends the test. A call of it takes its caller's proof less than a `panic!` there, which puts a message together in the caller.
+fn fail(rt: &impl Abort, wanted: &str) -> ! {
+    panic!(rt; "not there: {wanted}")
+}
+
+// Ends the test where this doesn't hold: an `assert!` that has no branch in the caller.
+fn expects(rt: &impl Abort, holds: bool, wanted: &str) {
+    assert!(rt; holds, "not there: {wanted}");
+}
 
 // Whether the answer of `take` is that nothing is left to do.
 fn is_over(reply: Result<Taken, TakeFault>) -> bool {

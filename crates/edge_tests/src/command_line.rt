@@ -1,11 +1,11 @@
 //! The command line, and the texts that it names.
+use crate::ending::{expects, fail};
 use clap::error::ErrorKind;
 use clap::{ArgMatches, Error};
 use console::{ReadFault, Sources, matches_of, read_text};
 use std::alloc::{AllocError, Global};
 use std::io;
 use std::process::Abort;
-use worked_examples::{expects, fail};
 
 // One text, under every name.
 #[derive(Drop)]

@@ -1,11 +1,11 @@
 //! Explanations of refusals by worked examples.
+use crate::ending::{expects, fail};
 use explain::{Page, explain_literal, explain_plan, explain_tables};
 use explain_files::{FileKind, explain_file, explain_record};
 use intake_csv::{FileFault, RowCause, RowFault};
 use std::alloc::{AllocError, Global};
 use std::process::Abort;
 use table_faults::{CellCause, CellFault, Fault, PlanCause, PlanFault};
-use worked_examples::{expects, fail};
 
 fn plan() -> &'static [u8] {
     b"version = 1

@@ -5,6 +5,8 @@
 #[cfg(test)]
 mod command_line;
 #[cfg(test)]
+mod ending;
+#[cfg(test)]
 mod explanations;
 #[cfg(test)]
 mod places;

@@ -1,9 +1,9 @@
 //! Where things stand in a plan's text.
+use crate::ending::{expects, fail};
 use plan_places::{
     Places, Position, Step, Unread, is_one_edit, places_of, position_of, unread_keys,
 };
 use std::process::Abort;
-use worked_examples::{expects, fail};
 
 fn plan() -> &'static str {
     "version = 1

@@ -1,7 +1,7 @@
 //! A text of others as it is shown.
+use crate::ending::{expects, fail};
 use shown::push_shown;
 use std::alloc::{AllocError, Global};
-use worked_examples::{expects, fail};
 
 // A text as it is shown behind another.
 fn shown_behind(alloc: Global, front: &str, text: &str) -> Result<String, AllocError> {

@@ -1,8 +1,8 @@
 //! Summaries of remittances that are written by hand.
+use crate::ending::{expects, fail};
 use std::alloc::AllocError;
 use std::process::Abort;
 use summary::{Counts, Tally};
-use worked_examples::{expects, fail};
 
 fn header() -> &'static [u8] {
     b"provider,record,claim,member,status,reason,allowed,ded,copay,coins,share,paid,remarks\r\n"

@@ -1,11 +1,11 @@
 //! Files of balances by worked examples.
 use crate::claims::{BY_FAMILY, BY_YEAR, PLAN, fault_of_front, plan};
+use crate::ending::{expects, expects_at, fail};
 use dtable::{Plan, read_plan};
 use intake_csv::{BalanceFault, Balances, FileFault, RowCause, RowFault, read_balances};
 use settlement::Acc;
 use std::alloc::Global;
 use std::process::Abort;
-use worked_examples::{expects, expects_at, fail};
 
 const BALANCES: &[u8] = b"member,met,oop,paid\nM1,50.00,10.00,5.00\n";
 

@@ -1,11 +1,11 @@
 //! Rows in brief by a worked example.
 use crate::claims::{BY_FAMILY, plan};
+use crate::ending::expects;
 use dtable::Plan;
 use intake_csv::{Brief, ClaimFile, Line, Rows};
 use std::alloc::{AllocError, Global};
 use std::fmt::Write;
 use std::process::Abort;
-use worked_examples::expects;
 
 /// Two claims, and between them a record without a member. The columns stand in an order of their own.
 const CLAIMS: &[u8] = b"code,member,claim,service,billed,family

@@ -1,4 +1,5 @@
 //! Files of claims by worked examples.
+use crate::ending::{expects, expects_at, fail};
 use dtable::{Plan, read_plan};
 use feel_tests::Value;
 use intake_csv::{
@@ -9,7 +10,6 @@ use settlement::Claim;
 use std::alloc::{AllocError, Global};
 use std::fmt::Write;
 use std::process::Abort;
-use worked_examples::{expects, expects_at, fail};
 
 /// A plan with one field, of text.
 pub(crate) const PLAN: &[u8] = b"version = 1\nfields = [{name = \"code\", kind = \"text\"}]\n";

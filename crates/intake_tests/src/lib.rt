@@ -9,4 +9,6 @@ mod briefs;
 #[cfg(test)]
 mod claims;
 #[cfg(test)]
+mod ending;
+#[cfg(test)]
 mod terms;

@@ -1,6 +1,7 @@
 //! Terms by worked examples. What is refused memory is asked for once more.
 use crate::balances::same;
 use crate::claims::plan;
+use crate::ending::{expects, fail};
 use claim_terms::{FILES_LIMIT, Terms, TermsFault};
 use dtable::{Plan, Sequence};
 use feel_tests::{Day, TEXT_LIMIT_BYTES, Text};
@@ -8,7 +9,6 @@ use intake_csv::{BalanceFault, FILE_LIMIT_BYTES, FileFault, Row, RowCause, RowFa
 use settlement::{Acc, Claim};
 use std::alloc::Global;
 use std::process::Abort;
-use worked_examples::{expects, fail};
 
 mod families;
 

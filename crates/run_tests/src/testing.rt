@@ -8,7 +8,6 @@ use std::io;
 use std::io::{ErrorKind, Write};
 use std::process::Abort;
 use worked_examples::health_plan;
-pub use worked_examples::{expects, expects_at, fail};
 
 /// The plan of the worked examples. What is refused memory is asked for once more, here and below.
 pub fn plan_of(rt: &impl Abort, alloc: Global) -> Plan {
@@ -36,6 +35,21 @@ pub fn terms_of<'a>(
         fail(rt, "terms")
     };
     terms
+}
+
+/// Ends the test. A call of it takes its caller's proof less than a `panic!` there, which puts a message together in the caller.
+pub fn fail(rt: &impl Abort, wanted: &str) -> ! {
+    panic!(rt; "not there: {wanted}")
+}
+
+/// Ends the test where this doesn't hold: an `assert!` that has no branch in the caller.
+pub fn expects(rt: &impl Abort, holds: bool, wanted: &str) {
+    assert!(rt; holds, "not there: {wanted}");
+}
+
+/// The same; a number tells which.
+pub fn expects_at(rt: &impl Abort, holds: bool, number: usize) {
+    assert!(rt; holds, "not at {number}");
 }
 
 /// The refusal has this line and this status.

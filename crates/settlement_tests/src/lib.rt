@@ -3,6 +3,8 @@
 #![tactic(auto)]
 
 #[cfg(test)]
+mod ending;
+#[cfg(test)]
 mod settling;
 #[cfg(test)]
 mod turns;

@@ -8,6 +8,7 @@ mod examples;
 mod families;
 mod plans;
 
+use crate::ending::{expects, fail};
 use dtable::{Plan, PlanFault, Sequence, read_plan};
 use examples::{
     Example, MOST, before_capped, behind_a_pended, capped, first, naming, paid, rates, scored,
@@ -23,7 +24,7 @@ use settlement::{
 use std::alloc::{AllocError, Global};
 use std::fmt::Write;
 use std::process::Abort;
-use worked_examples::{expects, fail, health_plan};
+use worked_examples::health_plan;
 
 /// So many cents.
 pub fn money(rt: &impl Abort, cents: i64) -> Money {

@@ -3,6 +3,7 @@
 ghost use Rattle.std.specs.Prelude.{ℕ, IfSome};
 ghost use Rattle.lanes.specs.Calls.{IsInWork};
 
+use crate::ending::{expects, fail};
 use crate::settling::{acc, money, text};
 use dtable::Sequence;
 use feel_tests::Day;
@@ -10,7 +11,6 @@ use lanes::{Lanes, Picked, StoredClaim};
 use settlement::{Acc, Claim, Money};
 use std::alloc::{AllocFailed, Global};
 use std::process::Abort;
-use worked_examples::{expects, fail};
 
 // A claim of a member of a family, or who is a family of its own.
 fn claim(rt: &impl Abort, alloc: Global, id: &str, of: Option<&str>, member: &str) -> StoredClaim {

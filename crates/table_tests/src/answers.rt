@@ -3,11 +3,11 @@
 //!
 //! Who holds a plan, inputs or answers ends with `drop` of them: that is one call to the prover, and the end of a scope is each of their
 //! parts.
+use crate::ending::{expects, fail};
 use dtable::{Answer, Env, Fault, Inputs, Plan, PlanFault, Valuer, read_plan};
 use feel_tests::{Kind, TEXT_LIMIT_BYTES, Text, Value, read_value};
 use std::alloc::{AllocError, Global};
 use std::process::Abort;
-use worked_examples::{expects, fail};
 
 /// The plan of a text.
 pub fn plan_of(rt: &impl Abort, alloc: Global, text: &[u8]) -> Plan {

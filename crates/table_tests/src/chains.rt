@@ -2,6 +2,7 @@
 use crate::answers::{
     give, give_text, inputs_of, is_text, literal_of, plan_of, shown, shown_by_place, value_of,
 };
+use crate::ending::expects;
 use crate::plans::{chain_plan, sum_and_level_plan};
 use crate::tables::told;
 use dtable::{
@@ -11,7 +12,7 @@ use dtable::{
 use feel_tests::Kind;
 use std::alloc::Global;
 use std::process::Abort;
-use worked_examples::{expects, health_plan};
+use worked_examples::health_plan;
 
 /// The places of some names in the health plan.
 const BILLED: usize = 3;

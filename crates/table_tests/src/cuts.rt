@@ -8,6 +8,7 @@ mod places;
 mod plans;
 
 use crate::answers::{is_text, plan_of};
+use crate::ending::{expects, fail};
 use cutplan::{CELL_LIMIT, CheckFault, CutPlan, Region, compile};
 use dtable::{Plan, Sequence};
 use feel_tests::{Literals, Value, append_joined};
@@ -16,7 +17,6 @@ use plans::{
 };
 use std::alloc::{AllocError, Global};
 use std::process::Abort;
-use worked_examples::{expects, fail};
 
 // The plan, made ready for its check and for values by masks.
 fn cut_of<'p>(rt: &impl Abort, alloc: Global, plan: &'p Plan) -> CutPlan<'p>

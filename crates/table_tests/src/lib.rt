@@ -9,6 +9,8 @@ mod chains;
 #[cfg(test)]
 mod cuts;
 #[cfg(test)]
+mod ending;
+#[cfg(test)]
 mod harms;
 #[cfg(test)]
 mod plans;

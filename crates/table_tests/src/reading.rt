@@ -1,11 +1,12 @@
 //! The plan reader: a plan with every key, broken plans with the fault of each, and each prefix of a plan.
 use crate::answers::plan_of;
+use crate::ending::{expects, expects_at, fail};
 use crate::plans::{full_plan, roles_plan, score_plan};
 use dtable::{FamilyRoles, Hit, InputData, Plan, PlanFault, Roles, Source, Table, read_plan};
 use feel_tests::Kind;
 use std::alloc::Global;
 use std::process::Abort;
-use worked_examples::{expects, expects_at, fail, health_plan};
+use worked_examples::health_plan;
 
 fn has_name(names: &[InputData], place: usize, name: &str, kind: Kind) -> bool {
     names

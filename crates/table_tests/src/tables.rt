@@ -1,12 +1,12 @@
 //! Hit policies by worked examples: what the one table of a plan answers.
 use crate::answers::{give, inputs_of, is_text, listed, literal_of, plan_of, shown};
+use crate::ending::{expects, fail};
 use dtable::{
     Answers, AnswersByTable, Env, Fault, Inputs, Plan, Valuer, answers_by_hit, table_value,
     value_read,
 };
 use std::alloc::Global;
 use std::process::Abort;
-use worked_examples::{expects, fail};
 
 /// The place of the field `x` among the names.
 const X: usize = 4;

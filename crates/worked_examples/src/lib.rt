@@ -1,11 +1,7 @@
-//! What the tests of several crates share: an example of a plan, two providers' files and the remittance of both, and how a test ends.
+//! The example that the tests of several crates share: a plan, two providers' files, and the remittance of both.
 //!
 //! Each text is what a function returns, so that whoever calls it is proved without the text.
 #![tactic(auto)]
-
-mod ending;
-
-pub use ending::{expects, expects_at, fail};
 
 const HEALTH_PLAN: &str = r#"version = 1
 fields = [{name = "code", kind = "text"}]

@@ -1,5 +1,6 @@
 //! Cells and the values of which they hold, values and their literals, and each public call once with ample memory.
 use super::{cell_of, field_fault_of, hold, holds, plain_of, text_of, value_of};
+use crate::ending::{expects, expects_at};
 use feel_tests::{
     Cell, CellCause, CellFault, Day, Kind, PlainFault, Text, Value, day_year,
     field_spells_at_most_one_value, literal_spells_its_value, text_spells_at_most_one_cell,
@@ -8,7 +9,6 @@ use feel_tests::{
 use fixpoint::Fixed;
 use std::alloc::Global;
 use std::process::Abort;
-use worked_examples::{expects, expects_at};
 
 const NUMBER_CELLS: [(&str, &str, bool); 29] = [
     ("[1...5]", "0.7", false),

@@ -1,13 +1,13 @@
 //! Long texts: strings and lists at their limits and beyond, and the longest cell, `not(`, 64 strings of 256 bytes with
 //! commas between them, and `)`. Each of its fronts is read too: those shorter than `not(` stand in the table of cells.
 use super::{cell_of, fault_of, field_fault_of, plain_of, repeated};
+use crate::ending::{expects, expects_at};
 use feel_tests::CellCause::{BadEscape, Literal, Token, TooMany, Trailing, WrongKind};
 use feel_tests::{
     Cell, CellCause, CellFault, Kind, PlainFault, TEST_LIMIT, TEXT_LIMIT_BYTES, Value,
 };
 use std::alloc::Global;
 use std::process::Abort;
-use worked_examples::{expects, expects_at};
 
 // The fault of a cell's text: so many copies of a piece between a front and a back.
 fn long_fault_of(

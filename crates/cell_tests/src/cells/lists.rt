@@ -1,9 +1,9 @@
 //! Lists: what they hold, and their texts in a row.
 use super::text_of;
+use crate::ending::expects;
 use feel_tests::{Bytes, Literals, Sequence, Text, Value, append_joined, duplicates};
 use std::alloc::Global;
 use std::process::Abort;
-use worked_examples::expects;
 
 #[test]
 fn items_are_listed_in_order(rt: HostRuntime) {

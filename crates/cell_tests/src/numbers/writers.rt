@@ -1,12 +1,12 @@
 //! Writers that are full after some bytes.
 ghost use Rattle.std.specs.Prelude.{◌<◌, length};
 
+use crate::ending::expects;
 use fixpoint::{Cut, Failed, HeldText, Out, put_all};
 use std::alloc::Global;
 use std::io;
 use std::io::{ErrorKind, Write};
 use std::process::Abort;
-use worked_examples::expects;
 
 /// What a writer of the tests does once it is full.
 #[derive(Clone, Copy)]

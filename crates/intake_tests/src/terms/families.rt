@@ -1,12 +1,12 @@
 //! Terms of a plan that keeps accumulators for families.
 use super::{Tried, check, claim, fault_of, terms};
+use crate::ending::{expects, expects_at};
 use claim_terms::{Terms, TermsFault};
 use dtable::Plan;
 use intake_csv::{BalanceFault, RowCause, RowFault};
 use settlement::Acc;
 use std::alloc::Global;
 use std::process::Abort;
-use worked_examples::{expects, expects_at};
 
 /// A plan that pays what is billed, up to 5.00.
 const PLAN: &[u8] = br#"

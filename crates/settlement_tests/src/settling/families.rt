@@ -3,11 +3,12 @@
 use super::examples::MOST;
 use super::plans::{families_named, families_open};
 use super::{claim, copies, decided, money, plan, some_paid, told};
+use crate::ending::expects;
 use dtable::Plan;
 use settlement::{Acc, Claim, Outcome, Role, after, fields_of};
 use std::alloc::Global;
 use std::process::Abort;
-use worked_examples::{expects, family_plan, health_plan};
+use worked_examples::{family_plan, health_plan};
 
 /// The accumulators: what the member met, paid and had paid, and what its family met and paid.
 type Sums = (i64, i64, i64, i64, i64);

@@ -10,11 +10,12 @@ use super::plans::{
     stretches, three_rules,
 };
 use crate::answers::{give, inputs_of, is_text, plan_of, write_line};
+use crate::ending::expects;
 use cutplan::CutPlan;
 use dtable::{AnswersByTable, Env, Inputs, Plan, Valuer};
 use std::alloc::{AllocError, Global};
 use std::process::Abort;
-use worked_examples::{expects, health_plan};
+use worked_examples::health_plan;
 
 /// The place of the first field among the names.
 const FIRST: usize = 4;

@@ -1,11 +1,11 @@
 //! The check of one table, its gaps by their places.
 use super::plans::{apart, at_five, flag_and_code, seventeen_regions, sixteen_regions};
 use super::{is_pair, plan_of};
+use crate::ending::expects;
 use cutplan::{TableCheck, cell_count, check_table};
 use dtable::Plan;
 use std::alloc::Global;
 use std::process::Abort;
-use worked_examples::expects;
 
 // The check of a plan's first table.
 fn check(rt: &impl Abort, alloc: Global, text: &[u8]) -> TableCheck {

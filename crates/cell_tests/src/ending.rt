@@ -1,5 +1,5 @@
-//! How a test ends where it fails. A call of one of these takes its caller's proof less than a `panic!` or an `assert!` there, which
-//! puts a message together in the caller, at each way out.
+//! How a test ends where it fails. A call of these takes its caller's proof less than a `panic!` or an `assert!` there, which puts a message
+//! together in the caller, at each way out. Each crate of tests has them itself: no library may end the process.
 use std::process::Abort;
 
 /// Ends the test.
