@@ -94,7 +94,7 @@ joined join (Some so_far) (Some units) = Some (join so_far units)
 abbrev pub IsFarFromOverflow : ℤ → Type 0
 IsFarFromOverflow sum = (neg_ℤ (pos (2 ^ 126)) ≤ℤ sum) × (sum ≤ℤ pos (2 ^ 126))
 
--- what an aggregator makes of the the matches' numbers, if there are any
+-- what an aggregator makes of the matches' numbers, if there are any
 abbrev pub aggregated : ℕ → Table → Option ℤ → TableValue
 aggregated number t None = unmatched number t
 aggregated number t (Some units) = number_answer number units

@@ -31,6 +31,10 @@ Takes given place kind = kind_at given place ≡ Some kind
 abbrev pub filled : List Slot → ℕ → Value → List Slot
 filled given place value = slice_set given place (record { kind = kind_of value; value = Some value })
 
+-- what is given once the place, of this kind, has no value
+abbrev pub emptied : List Slot → ℕ → Kind → List Slot
+emptied given place kind = slice_set given place (record { kind = kind; value = None })
+
 -- the input reads the name at the place
 abbrev pub reads : ℕ → Origin → Bool
 reads place (Given p) = p == place

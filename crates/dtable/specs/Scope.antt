@@ -27,13 +27,15 @@ seen_output hit output = record { name = output.name; kind = seen_kind hit outpu
 abbrev pub seen_of : Table → List SeenOutput
 seen_of t = map (seen_output t.hit) t.outputs
 
--- the names of input data, of outputs and of what is seen, in order
+-- the names of input data, in order
 abbrev pub data_names : List InputData → List (List ℕ)
 data_names names = map (λ d. d.name) names
 
+-- the names of a table's outputs, in order
 abbrev pub output_names : List Output → List (List ℕ)
 output_names outputs = map (λ o. o.name) outputs
 
+-- the names of all outputs that are seen, table by table
 abbrev pub seen_names : List (List SeenOutput) → List (List ℕ)
 seen_names [] = []
 seen_names (os ∷ earlier) = map (λ o. o.name) os ++ seen_names earlier

@@ -1,10 +1,10 @@
 //! What is given for the names that tables read.
-ghost use Rattle.std.specs.Prelude.{◌≡◌, map, Some, IfOk, OnOk};
+ghost use Rattle.std.specs.Prelude.{◌≡◌, map, Some, None, IfOk, OnErr, OnOk};
 ghost use Rattle.std.specs.Option.{option_copied};
 ghost use Rattle.feel_tests.specs.declared.kind.Kind.TheVariants as kinds;
 ghost use Rattle.feel_tests.specs.declared.value.Value.TheVariants as values;
 ghost use Rattle.feel_tests.specs.Value.{kind_of};
-ghost use Rattle.dtable.specs.Inputs.{empty_slots, filled, kind_at, value_at, Takes};
+ghost use Rattle.dtable.specs.Inputs.{emptied, empty_slots, filled, kind_at, value_at, Takes};
 
 use crate::plan::Plan;
 use feel_tests::{Kind, Text, Value};
@@ -24,8 +24,21 @@ impl Drop for Slot {
 }
 
 impl Slot {
-    // Its value is this text then, in the memory of the text that stands there, if one does.
+    // Its value is this text then, in the memory of the text that stands there, if one does. Where memory is refused it has none.
     fn set_text(&mut self, alloc: Global, text: &Text) -> Result<(), AllocError>
+        ensures set { OnOk result (self.new.value ≡ Some (values.Text text.now)) }
+        ensures refused { OnErr result (self.new.value ≡ None) }
+        ensures kind { self.new.kind ≡ self.old.kind }
+    {
+        let copied = self.copy_text(alloc, text);
+        if copied.is_err() {
+            self.value = None;
+        }
+        copied
+    }
+
+    // The same, but that where memory is refused some value or none stands there.
+    fn copy_text(&mut self, alloc: Global, text: &Text) -> Result<(), AllocError>
         ensures set { OnOk result (self.new.value ≡ Some (values.Text text.now)) }
         ensures kind { self.new.kind ≡ self.old.kind }
     {
@@ -96,10 +109,11 @@ impl Inputs {
     }
 
     /// Gives the name at the place this text, in the memory of the text that stands there, if one does. Where memory is refused,
-    /// the names keep their kinds.
+    /// that name has no value then, and the others are as they were.
     pub fn set_text(&mut self, alloc: Global, place: usize, text: &Text) -> Result<(), AllocError>
         requires { Takes self.old place kinds.Text }
         ensures set { OnOk result (self.new ≡ filled self.old place (values.Text text.now)) }
+        ensures refused { OnErr result (self.new ≡ emptied self.old place kinds.Text) }
         ensures kinds { map (λ s. s.kind) self.new ≡ map (λ s. s.kind) self.old }
     {
         self.slots[place].set_text(alloc, text)

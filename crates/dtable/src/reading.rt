@@ -34,7 +34,8 @@ use table_faults::{PlanCause, PlanFault};
 use tables::read_tables;
 use toml::Value;
 
-/// Reads a plan's text.
+/// Reads a plan's text: TOML in UTF-8, of at most `PLAN_LIMIT_BYTES` bytes, with the keys of a plan. Where it spells none, the fault has the first cause that is met,
+/// in the order of the plan's keys, and the table, rule and column where it stands.
 pub fn read_plan(alloc: Global, text: &[u8]) -> Result<Plan, PlanFault>
     ensures plan { IfOk result (λ plan. IsPlanText text.now plan) }
     ensures refused { IfErr result (λ fault. fault.cause ≢ PlanCause.OutOfMemory → (plan : PlanParts) → ¬ IsPlanText text.now plan) }

@@ -17,10 +17,11 @@ use Rattle.feel_tests.specs.declared.cell.Op.TheVariants.{Less, AtMost, More, At
 use Rattle.feel_tests.specs.declared.cell.Test.{Test}
 use Rattle.feel_tests.specs.declared.cell.Test.TheVariants.{Equal, Compare, Between}
 
--- the names that begin a date and a negated list
+-- the name that begins a date
 abbrev pub date_word : List ℕ
 date_word = codes "date"
 
+-- the name that begins a negated list
 abbrev pub not_word : List ℕ
 not_word = codes "not"
 

@@ -31,7 +31,7 @@ pub const FIRST_DAY: i32 = -719_162;
 const LAST_DAY: i32 = 2_932_896;
 
 impl Day {
-    /// The day of this number, which counts from 1 January 1970.
+    /// The day of this number, which counts from 1 January 1970 (0), if it is one of the years 0001 to 9999.
     pub fn from_epoch_day(number: i32) -> Option<Day>
         ensures { SomeIff result (IsDayNumber number) number }
     {

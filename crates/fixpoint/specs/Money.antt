@@ -20,6 +20,7 @@ is_money units = (unsigned_abs units % 100 == 0) && int_le (pos 0) units
 abbrev pub is_rate : ℤ → Bool
 is_rate units = int_le (pos 0) units && int_le units (pos 10000)
 
+-- the number is a rate
 abbrev pub IsRate : ℤ → Type 0
 IsRate units = IsTrue (is_rate units)
 

@@ -34,7 +34,8 @@ impl Model for Fixed {
 }
 
 impl Fixed {
-    /// Reads a whole text: digits with an optional `-`, and an optional `.` with digits behind it.
+    /// Reads a whole text: an optional `-`, then digits, with an optional `.` and digits behind it, or a `.` and digits alone. Decimals beyond the fourth are to be
+    /// zero. Each other text is refused as `NotNumber`, `TooFine` or `TooLarge`, the first of these that applies.
     pub fn parse(text: &[u8]) -> Result<Fixed, NumFault>
         ensures answers { IsAnswer text.now result }
         ensures refused { OnErr result ((units : ℤ) → ¬ Denotes text.now units) }
@@ -46,7 +47,7 @@ impl Fixed {
         Ok(Fixed { units })
     }
 
-    /// The number of so many ten-thousandths.
+    /// The number of so many ten-thousandths, unless these are more than 999,999,999,999,999 above or below zero.
     pub fn from_units(units: i64) -> Option<Fixed>
         ensures { SomeIff result (IsInRange units) units }
     {

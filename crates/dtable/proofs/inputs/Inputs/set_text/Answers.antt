@@ -14,3 +14,6 @@ index_mut-requires c = grind (arith, elements)
 
 pub returns-clause-set : goal.returns-clause-set
 returns-clause-set c = grind (arith, elements)
+
+pub returns-clause-refused : goal.returns-clause-refused
+returns-clause-refused c = grind (arith, elements)
