@@ -36,6 +36,15 @@ pub fn cell_count(columns: &[Sequence<Region>]) -> usize
     count
 }
 
+// Whether there is no cell, since a column has no region. Then no walk begins: one would go through each tuple of regions of
+// the columns in front of that one, and these may be any number.
+fn has_no_cell(columns: &[Sequence<Region>]) -> bool
+    ensures none { OnTrue result (length (cells columns.now) ≡ 0) }
+    ensures some { OnFalse result (0 < length (cells columns.now)) }
+{
+    cell_count(columns) == 0
+}
+
 // The product, or one more than the limit where it is larger.
 fn capped(count: usize, factor: usize) -> usize
     ensures { result ≡ min (count * factor) (cell_limit + 1) }
@@ -55,6 +64,9 @@ pub fn gaps(
     requires masks { AreTableMasks table.now columns.now masks.now }
     ensures { IfOk result (λ found. found.items ≡ filter (λ cell. not (list_any (λ r. covers r.cells cell) table.now.rules)) (cells columns.now)) }
 {
+    if has_no_cell(columns) {
+        return Ok(Vec::new(alloc));
+    }
     let rules = first_rules(table.rules.len());
     uncovered(alloc, table, 0, columns, masks, &rules)
 }
@@ -149,6 +161,9 @@ pub fn gap_places(
 {
     if is_wide(columns) {
         return Ok(None);
+    }
+    if has_no_cell(columns) {
+        return Ok(Some(Vec::new(alloc)));
     }
     let mut walk = Walk {
         found: Vec::new(alloc),

@@ -13,7 +13,8 @@ use cutplan::{CELL_LIMIT, CheckFault, CutPlan, Region, compile};
 use dtable::{Plan, Sequence};
 use feel_tests::{Literals, Value, append_joined};
 use plans::{
-    allowed_codes, apart, at_five, codes, flag_and_code, seventeen_regions, sixteen_regions,
+    allowed_codes, apart, at_five, codes, flag_and_code, no_region_behind_ten_columns,
+    seventeen_regions, sixteen_regions,
 };
 use std::alloc::{AllocError, Global};
 use std::process::Abort;
@@ -196,6 +197,18 @@ fn any_other_text_is_a_gap(rt: HostRuntime) {
 #[test]
 fn named_texts_leave_no_gap(rt: HostRuntime) {
     check(&rt, rt.alloc(), allowed_codes(), Gaps::Shown(""), None);
+}
+
+// The walk over cells ends though the columns in front have more tuples of regions than could be gone through.
+#[test]
+fn a_last_column_without_a_region_leaves_no_gap(rt: HostRuntime) {
+    check(
+        &rt,
+        rt.alloc(),
+        no_region_behind_ten_columns(),
+        Gaps::Shown(""),
+        None,
+    );
 }
 
 // The gate runs it once for each of its allocations, with that one refused.

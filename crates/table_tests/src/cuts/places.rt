@@ -1,5 +1,7 @@
 //! The check of one table, its gaps by their places.
-use super::plans::{apart, at_five, flag_and_code, seventeen_regions, sixteen_regions};
+use super::plans::{
+    apart, at_five, flag_and_code, no_region_behind_ten_columns, seventeen_regions, sixteen_regions,
+};
 use super::{is_pair, plan_of};
 use crate::ending::expects;
 use cutplan::{TableCheck, cell_count, check_table};
@@ -60,6 +62,14 @@ fn as_many_cells_as_may_be_and_more(rt: HostRuntime) {
     expects(&rt, as_many == Some(61_440), "as many gaps");
     let more = gap_count(&rt, rt.alloc(), seventeen_regions());
     expects(&rt, more.is_none(), "no list of gaps");
+}
+
+// The check ends though the columns in front have more tuples of regions than could be gone through.
+#[test]
+fn a_last_column_without_a_region_leaves_no_cell(rt: HostRuntime) {
+    let found = check(&rt, rt.alloc(), no_region_behind_ten_columns());
+    expects(&rt, found.overlaps.is_empty(), "no overlap");
+    expects(&rt, has_gaps(found, &[], 0), "no cell and no gap");
 }
 
 // The gate runs it once for each of its allocations, with that one refused.

@@ -88,6 +88,33 @@ rules = [
 "#
 }
 
+/// Two rules that are alike, over ten columns of 17 regions and one whose allowed values are none.
+pub fn no_region_behind_ten_columns() -> &'static [u8] {
+    br#"version = 1
+fields = [{name = "x", kind = "number"}]
+[[tables]]
+hit = "R"
+inputs = [
+  {name = "x"}, {name = "x"}, {name = "x"}, {name = "x"}, {name = "x"},
+  {name = "x"}, {name = "x"}, {name = "x"}, {name = "x"}, {name = "x"},
+  {name = "x", values = '[5..1]'},
+]
+outputs = [{name = "y", kind = "number"}]
+rules = [
+  {when = [
+    '1,2,3,4,5,6,7,8', '1,2,3,4,5,6,7,8', '1,2,3,4,5,6,7,8', '1,2,3,4,5,6,7,8', '1,2,3,4,5,6,7,8',
+    '1,2,3,4,5,6,7,8', '1,2,3,4,5,6,7,8', '1,2,3,4,5,6,7,8', '1,2,3,4,5,6,7,8', '1,2,3,4,5,6,7,8',
+    '-',
+  ], then = ['1']},
+  {when = [
+    '1,2,3,4,5,6,7,8', '1,2,3,4,5,6,7,8', '1,2,3,4,5,6,7,8', '1,2,3,4,5,6,7,8', '1,2,3,4,5,6,7,8',
+    '1,2,3,4,5,6,7,8', '1,2,3,4,5,6,7,8', '1,2,3,4,5,6,7,8', '1,2,3,4,5,6,7,8', '1,2,3,4,5,6,7,8',
+    '-',
+  ], then = ['1']},
+]
+"#
+}
+
 /// Three rules, of which the first and the last hold of 2.
 pub fn three_rules() -> &'static [u8] {
     br#"version = 1

@@ -1,12 +1,18 @@
-use Rattle.std.proofs.Common.{◌++◌, ap, arith, length, subst, ◌∙◌}
+use Rattle.std.proofs.Common.{◌++◌, ap, arith, length, subst, sym, ◌∙◌}
+use Rattle.std.proofs.lemmas.List.{nil_from_length}
 use Rattle.std.specs.Prelude.{nat_lt}
 use Rattle.cutplan.specs.Check.{cells}
 use Rattle.cutplan.specs.Masks.{Marks, rules_in}
 use Rattle.cutplan.specs.Parts.{uncovered}
-use Rattle.cutplan.specs.Places.{places}
+use Rattle.cutplan.specs.Places.{is_gap, places}
 use Rattle.cutplan.proofs.Places.{gap_places_are}
 use Rattle.cutplan.proofs.Meeting.{first_are, first_rules, table_masks}
 use Rattle.cutplan.proofs.gap.gap_places.Goals as goal
+
+pub returns-then-has_no_cell : goal.returns-then-has_no_cell
+returns-then-has_no_cell c =
+    let none = nil_from_length (cells c.args.columns.now) c.if-has_no_cell.ensures.none in
+    (c.if-is_wide.ensures.narrow, c.new.ensures.items ∙ ap (places (is_gap c.args.table.now) 0) (sym none))
 
 pub walk_cells-requires : goal.walk_cells-requires
 walk_cells-requires c =
@@ -28,5 +34,5 @@ returns c =
     let marks = subst (λ n. Marks (λ place. nat_lt place n) c.first_rules-rules.result) c.len.ensures c.first_rules-rules.ensures in
     let rules = first_are (length t.rules) c.first_rules-rules.result c.requires.few marks in (
       c.if-is_wide.ensures.narrow,
-      c.in_ok-walk_cells.ensures.found ∙ ap (λ front. front ++ places (uncovered t 0 (rules_in (length t.rules) c.first_rules-rules.result)) 0 (cells columns)) c.new.ensures.items ∙ ap (λ found. places (uncovered t 0 found) 0 (cells columns)) rules ∙ gap_places_are t columns,
+      c.in_ok-walk_cells.ensures.found ∙ ap (λ front. front ++ places (uncovered t 0 (rules_in (length t.rules) c.first_rules-rules.result)) 0 (cells columns)) c.new-2.ensures.items ∙ ap (λ found. places (uncovered t 0 found) 0 (cells columns)) rules ∙ gap_places_are t columns,
     )

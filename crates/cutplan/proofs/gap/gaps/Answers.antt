@@ -1,12 +1,19 @@
-use Rattle.std.proofs.Common.{◌≡◌, ap, filter, arith, length, subst, ◌∙◌}
+use Rattle.std.proofs.Common.{◌≡◌, ap, filter, arith, length, not, subst, sym, ◌∙◌}
+use Rattle.std.proofs.lemmas.List.{nil_from_length}
+use Rattle.std.specs.List.{list_any}
 use Rattle.std.specs.Prelude.{nat_lt}
 use Rattle.std.specs.Result.{IfOk}
-use Rattle.cutplan.specs.Check.{cells}
+use Rattle.cutplan.specs.Check.{cells, covers}
 use Rattle.cutplan.specs.Masks.{Marks}
 use Rattle.cutplan.specs.Parts.{uncovered}
 use Rattle.cutplan.proofs.Covering.{gaps_are}
 use Rattle.cutplan.proofs.Meeting.{first_are, first_rules, table_masks}
 use Rattle.cutplan.proofs.gap.gaps.Goals as goal
+
+pub returns-then-has_no_cell : goal.returns-then-has_no_cell
+returns-then-has_no_cell c =
+    let none = nil_from_length (cells c.args.columns.now) c.if-has_no_cell.ensures.none in
+    c.new.ensures.items ∙ ap (filter (λ cell. not (list_any (λ r. covers r.cells cell) c.args.table.now.rules))) (sym none)
 
 pub uncovered-requires : goal.uncovered-requires
 uncovered-requires c =
