@@ -64,12 +64,12 @@ abbrev pub FitsAreMatches : Type 0
 FitsAreMatches = (given : List Slot) (earlier : List (List Answer)) (t : Table) (tuple : List Value) → ReadsTuple given earlier t tuple
     → (place : ℕ) → place < length t.rules → IsTrue (fits (rule_cells t place) tuple) ↔ Contains (matching given earlier t) place
 
--- the values that are read are allowed exactly where none is outside
+-- values of the columns' kinds that are read are allowed exactly where none is outside
 abbrev pub AllowedAreInside : Type 0
 AllowedAreInside = (p : PlanParts) (given : List Slot) (earlier : List (List Answer)) (t : Table) (tuple : List Value) → ReadsTuple given earlier t tuple
     → IsTrue (are_values (columns p t) tuple) → IsTrue (is_allowed_tuple (columns p t) tuple) ↔ (first_outside given earlier t ≡ None)
 
--- the values that are read lie in a cell among the gaps exactly where none of them is outside, and no rule matches
+-- values of the columns' kinds that are read lie in a cell among the gaps exactly where none of them is outside, and no rule matches
 abbrev pub GapsMatchNothing : Type 0
 GapsMatchNothing = (p : PlanParts) (given : List Slot) (earlier : List (List Answer)) (t : Table) (tuple : List Value) → ReadsTuple given earlier t tuple
     → IsTrue (are_values (columns p t) tuple) → IsTrue (list_any (λ cell. lies_in cell tuple) (gaps p t)) ↔ ((first_outside given earlier t ≡ None) × (matching given earlier t ≡ []))
@@ -80,8 +80,8 @@ pub record MatchTogether (given : List Slot) (earlier : List (List Answer)) (t :
   pub one : Contains (matching given earlier t) (first - 1)
   pub other : Contains (matching given earlier t) (second - 1)
 
--- what the overlaps tell of a pair of rules: it is among them where both rules match what is read, and where it is among them there is an
--- allowed tuple such that both rules match wherever that tuple is read
+-- what the overlaps tell of a pair of rules: it is among them where both rules match what is read, of values of the columns' kinds, and where it
+-- is among them there is an allowed tuple such that both rules match wherever that tuple is read
 pub record TellsMatches (p : PlanParts) (t : Table) (first second : ℕ) : Type 0 where
   pub listed : (given : List Slot) (earlier : List (List Answer)) (tuple : List Value) → ReadsTuple given earlier t tuple → IsTrue (are_values (columns p t) tuple)
       → MatchTogether given earlier t first second → Contains (overlaps p t) (first, second)

@@ -34,22 +34,24 @@ pub fn fits_are_matches()
     ensures { FitsAreMatches }
 {}
 
-/// The values that a table reads are allowed exactly where none of them is outside. A table reads 7, and its one input
-/// has the allowed values `[0..5]`: 7 isn't allowed, and `first_outside` is the input's place, 0; at 3 there is none.
+/// The values that a table reads, each of its column's kind and in that kind's range, are allowed exactly where none of
+/// them is outside. A table reads 7, and its one input has the allowed values `[0..5]`: 7 isn't allowed, and
+/// `first_outside` is the input's place, 0; at 3 there is none.
 pub fn allowed_are_inside()
     ensures { AllowedAreInside }
 {}
 
-/// What a table reads lies in a cell among the gaps exactly where none of it is outside, and no rule matches. The gaps
-/// of a table list `]5..7[` alone. It reads 6: nothing is outside, and `matching` is empty. It reads 7: that is outside,
-/// or some rule matches.
+/// What a table reads, of values of the columns' kinds and in their ranges, lies in a cell among the gaps exactly where none
+/// of it is outside, and no rule matches. The gaps of a table list `]5..7[` alone. It reads 6: nothing is outside, and
+/// `matching` is empty. It reads 7: that is outside, or some rule matches.
 pub fn gaps_match_nothing()
     ensures { GapsMatchNothing }
 {}
 
-/// Two rules that match together are among the overlaps, and of a pair among them both match some allowed tuple of
-/// values, wherever it is read. The overlaps of a table list the rules 1 and 3 alone: there is an allowed tuple at which
-/// `matching` has both, and at no input has it the rules 1 and 2, unless something is outside.
+/// Two rules that match together at values of the columns' kinds and in their ranges are among the overlaps, and of a pair
+/// among them both match some allowed tuple of values, wherever it is read. The overlaps of a table list the rules 1 and 3
+/// alone: there is an allowed tuple at which `matching` has both, and at no such values has it the rules 1 and 2, unless
+/// something is outside.
 pub fn overlaps_match_together()
     ensures { OverlapsMatchTogether }
 {}
