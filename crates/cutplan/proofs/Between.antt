@@ -14,7 +14,7 @@ use Rattle.dtable.specs.declared.table.Rule.{Rule}
 use Rattle.dtable.specs.Plan.{has_kind}
 use Rattle.cutplan.specs.Values.{is_before, rising}
 use Rattle.cutplan.specs.Regions.{literals}
-use Rattle.cutplan.specs.Parts.{has_order, fits_at, stands_at, own_cuts, cell_holds, IsAsked}
+use Rattle.cutplan.specs.Parts.{can_be_sorted, fits_at, stands_at, own_cuts, cell_holds, IsAsked}
 use Rattle.cutplan.proofs.Integers.{beside_above, beside_below, lt_from}
 use Rattle.cutplan.proofs.Alike.{Among, Apart, Alike, each_from, alike_apart, alike_number, alike_day, holds_alike}
 use Rattle.cutplan.proofs.CutLists.{rising_only}
@@ -98,7 +98,7 @@ front_alike (Flag c) (Day a) w h k = absurd (both_ways false refl h)
 front_alike (Day c) (Day a) w h k = front_day a c h w k
 
 -- values have nothing to do with a literal of another kind
-kinds_apart : (kind : Kind) (v l : Value) → has_order kind ≡ true → has_kind kind v ≡ true → has_kind kind l ≡ false → Apart v l
+kinds_apart : (kind : Kind) (v l : Value) → can_be_sorted kind ≡ true → has_kind kind v ≡ true → has_kind kind l ≡ false → Apart v l
 kinds_apart kinds.Number v (Number c) ordered is other = absurd (both_ways true other refl)
 kinds_apart kinds.Number v (Text t) ordered is other = let of = number_is v is in subst (λ x. Apart x (Text t)) (sym of.1) (number_text of.0 t)
 kinds_apart kinds.Number v (Flag f) ordered is other = let of = number_is v is in subst (λ x. Apart x (Flag f)) (sym of.1) (number_flag of.0 f)
@@ -187,28 +187,28 @@ ordered_cuts kind lits line is rise = record {
   rise = rise;
 }
 
-kind_cuts_alike : (kind : Kind) (lits : List Value) (place : ℕ) (v w : Value) → has_order kind ≡ true → has_kind kind v ≡ true → has_kind kind w ≡ true → place ≤ length (cuts_in kind lits)
+kind_cuts_alike : (kind : Kind) (lits : List Value) (place : ℕ) (v w : Value) → can_be_sorted kind ≡ true → has_kind kind v ≡ true → has_kind kind w ≡ true → place ≤ length (cuts_in kind lits)
     → fits_at (cuts_in kind lits) place v ≡ true → fits_at (cuts_in kind lits) place w ≡ true → (l : Value) → Among l (cuts_in kind lits) → Alike v w l
 kind_cuts_alike kinds.Number lits place v w ordered v_is w_is within fit_v fit_w l at =
-    cut_alike (cuts_in kinds.Number lits) place v w (ordered_cuts kinds.Number lits number_lined number_is (cuts_of_kind kinds.Number lits (λ e. both_ways (has_order kinds.Number) (ap has_order e) refl))) (number_is v v_is) (number_is w w_is) within fit_v fit_w l at
+    cut_alike (cuts_in kinds.Number lits) place v w (ordered_cuts kinds.Number lits number_lined number_is (cuts_of_kind kinds.Number lits (λ e. both_ways (can_be_sorted kinds.Number) (ap can_be_sorted e) refl))) (number_is v v_is) (number_is w w_is) within fit_v fit_w l at
 kind_cuts_alike kinds.Text lits place v w ordered v_is w_is within fit_v fit_w l at =
-    cut_alike (cuts_in kinds.Text lits) place v w (ordered_cuts kinds.Text lits text_lined text_is (cuts_of_kind kinds.Text lits (λ e. both_ways (has_order kinds.Text) (ap has_order e) refl))) (text_is v v_is) (text_is w w_is) within fit_v fit_w l at
+    cut_alike (cuts_in kinds.Text lits) place v w (ordered_cuts kinds.Text lits text_lined text_is (cuts_of_kind kinds.Text lits (λ e. both_ways (can_be_sorted kinds.Text) (ap can_be_sorted e) refl))) (text_is v v_is) (text_is w w_is) within fit_v fit_w l at
 kind_cuts_alike kinds.Flag lits place v w ordered v_is w_is within fit_v fit_w l at = absurd (both_ways false refl ordered)
 kind_cuts_alike kinds.Day lits place v w ordered v_is w_is within fit_v fit_w l at =
-    cut_alike (cuts_in kinds.Day lits) place v w (ordered_cuts kinds.Day lits day_lined day_is (cuts_of_kind kinds.Day lits (λ e. both_ways (has_order kinds.Day) (ap has_order e) refl))) (day_is v v_is) (day_is w w_is) within fit_v fit_w l at
+    cut_alike (cuts_in kinds.Day lits) place v w (ordered_cuts kinds.Day lits day_lined day_is (cuts_of_kind kinds.Day lits (λ e. both_ways (can_be_sorted kinds.Day) (ap can_be_sorted e) refl))) (day_is v v_is) (day_is w w_is) within fit_v fit_w l at
 
 -- the four parts of standing at a place
 record AtPlace (kind : Kind) (cs : List Value) (place : ℕ) (v : Value) : Type 0 where
-  ordered : has_order kind ≡ true
+  ordered : can_be_sorted kind ≡ true
   is : has_kind kind v ≡ true
   within : place ≤ length cs
   fit : fits_at cs place v ≡ true
 
 at_place : (kind : Kind) (cs : List Value) (place : ℕ) (v : Value) → stands_at kind cs place v ≡ true → AtPlace kind cs place v
 at_place kind cs place v e =
-    let all = and_parts ((has_order kind && has_kind kind v) && nat_le place (length cs)) (fits_at cs place v) e in
-    let front = and_parts (has_order kind && has_kind kind v) (nat_le place (length cs)) all.0 in
-    let first = and_parts (has_order kind) (has_kind kind v) front.0 in
+    let all = and_parts ((can_be_sorted kind && has_kind kind v) && nat_le place (length cs)) (fits_at cs place v) e in
+    let front = and_parts (can_be_sorted kind && has_kind kind v) (nat_le place (length cs)) all.0 in
+    let first = and_parts (can_be_sorted kind) (has_kind kind v) front.0 in
     record { ordered = first.0; is = first.1; within = leb-true place (length cs) front.1; fit = all.1 }
 
 -- two values at one place among the literals of a cell stand alike to each of them

@@ -21,25 +21,25 @@ use Rattle.cutplan.specs.Check.{covers, holds_at, rule_cells}
 abbrev pub with_literal : Kind → List Value → Value → List Value
 with_literal kind cuts v = if has_kind kind v then with_value cuts v else cuts
 
--- the values of the kind have an order
-abbrev pub has_order : Kind → Bool
-has_order kinds.Number = true
-has_order kinds.Text = true
-has_order kinds.Flag = false
-has_order kinds.Day = true
+-- values of the kind can be sorted: texts by their bytes, though no test of a cell compares them
+abbrev pub can_be_sorted : Kind → Bool
+can_be_sorted kinds.Number = true
+can_be_sorted kinds.Text = true
+can_be_sorted kinds.Flag = false
+can_be_sorted kinds.Day = true
 
 -- each value is of the kind, and stands before all behind it
 abbrev pub rises : Kind → List Value → Bool
 rises kind [] = true
 rises kind (v ∷ vs) = (has_kind kind v && list_all (is_before v) vs) && rises kind vs
 
--- so by the order of the kind
+-- so of a kind that can be sorted
 abbrev pub is_risen : Kind → List Value → Bool
-is_risen kind cuts = has_order kind && rises kind cuts
+is_risen kind cuts = can_be_sorted kind && rises kind cuts
 
--- values of the kind, which has an order
+-- values of the kind, which can be sorted
 abbrev pub are_ordered : Kind → List Value → Bool
-are_ordered kind values = has_order kind && list_all (has_kind kind) values
+are_ordered kind values = can_be_sorted kind && list_all (has_kind kind) values
 
 -- the value stands at this place
 abbrev pub is_at : List Value → ℕ → Value → Bool
@@ -49,9 +49,9 @@ is_at cuts place v = option_map_or (λ cut. is_equal cut v) (slice_get cuts plac
 abbrev pub fits_at : List Value → ℕ → Value → Bool
 fits_at cuts place v = option_map_or (λ cut. is_before v cut) (slice_get cuts place) true && (place == 0 || option_map_or (λ cut. is_before cut v) (slice_get cuts (place - 1)) true)
 
--- so a value of the kind, which has an order
+-- so a value of the kind, which can be sorted
 abbrev pub stands_at : Kind → List Value → ℕ → Value → Bool
-stands_at kind cuts place v = ((has_order kind && has_kind kind v) && nat_le place (length cuts)) && fits_at cuts place v
+stands_at kind cuts place v = ((can_be_sorted kind && has_kind kind v) && nat_le place (length cuts)) && fits_at cuts place v
 
 -- the literals of the kind in a rule's cell of a column, in rising order
 abbrev pub own_cuts : Kind → ℕ → Rule → List Value
