@@ -13,6 +13,7 @@ use Rattle.std.proofs.lemmas.Option.{slice_get-get_or}
 use Rattle.std.proofs.lemmas.Slice.Eq.{bytes_eq-Decides}
 use Rattle.dtable.specs.Plan.{has_families, has_years}
 use Rattle.settlement.specs.Accounts.{Account, is_household, is_same, part}
+use Rattle.settlement.specs.Accumulators.{AreInRange}
 use Rattle.settlement.specs.Amount.{is_in_range}
 use Rattle.settlement.specs.declared.acc.Acc.{Acc}
 use Rattle.settlement.specs.declared.account.Balance.{Balance}
@@ -21,7 +22,7 @@ use Rattle.intake_csv.specs.Records.{Fields}
 use Rattle.intake_csv.specs.Record.{family_contents}
 use Rattle.intake_csv.specs.Columns.{IsSheet, balance_columns, family_columns, year_columns}
 use Rattle.intake_csv.specs.Households.{HasJoined, Members, balance_in, begins, met_of, oop_of, refused_behind}
-use Rattle.intake_csv.specs.Balances.{AreBalances, AreOnce, Book, Entry, Holder, HoldsEntries, IsBalanceLayout, IsEntry, IsRecordFault, JoinsIn, RefusesRecord, accounts_of, balance_of, found_in, holder_of, is_holder, opening_with, refusal_cause, refusal_place, year_contents}
+use Rattle.intake_csv.specs.Balances.{AreBalances, AreOnce, Book, Entry, Holder, HoldsEntries, IsBalanceLayout, IsEntry, IsRecordFault, JoinsIn, RefusesRecord, TakesEntry, accounts_of, balance_of, found_in, holder_of, is_holder, opening_with, refusal_cause, refusal_place, year_contents}
 use Rattle.intake_csv.specs.declared.column.Layout.{Layout}
 use Rattle.intake_csv.specs.declared.column.Column.{Column}
 use Rattle.intake_csv.specs.declared.column.Content.TheVariants.{Identifier, Money}
@@ -31,6 +32,7 @@ use Rattle.intake_csv.specs.declared.fault.RowFault.{RowFault}
 use Rattle.intake_csv.proofs.Books.{begins_among, joined-house, joined-other, members_at, opened-books, year-self}
 use Rattle.intake_csv.proofs.Households.{bytes-turned, lacking}
 use Rattle.intake_csv.proofs.Lists.{AllZip-grow, any-more, drop-after, next-at}
+use Rattle.intake_csv.proofs.Ranges.{begun-range, entry-amounts, free-sums, household-range}
 
 -- holders that are told to be the same are so
 holder-same : (a b : Holder) → is_holder a b ≡ true → a ≡ b
@@ -172,6 +174,29 @@ opening-more (e ∷ es) account balance q none =
     ap (joins (is_same e.0 q) (is_household e.0 q) e.1) (opening-more es account balance q (All-tail (λ e. e.0 ≢ account) e es none))
     ∙ joins-turned (is_same e.0 q) (is_household e.0 q) (is_same account q) (is_household account q) e.1 balance (opening es q) apart
 
+-- so it is of the account of that entry
+opening-own : (es : List Entry) (account : Account) (balance : Balance) → All (λ e. e.0 ≢ account) es
+    → opening (es ++ (account, balance) ∷ []) account ≡ joins true true balance (opening es account)
+opening-own es account balance none =
+    opening-more es account balance account none ∙ ap (λ (b : Bool). joins b (is_household account account) balance (opening es account)) (account-self account)
+    ∙ ap (λ (b : Bool). joins true b balance (opening es account)) (holder-self (holder_of account))
+
+-- what accounts begin with stays in the number range with an entry of another account, where what that one begins with does
+range-more : (es : List Entry) (account : Account) (balance : Balance) → All (λ e. e.0 ≢ account) es → ((q : Account) → AreInRange (opening es q))
+    → AreInRange (opening_with es (account, balance)) → (q : Account) → AreInRange (opening (es ++ (account, balance) ∷ []) q)
+range-more es account balance none before joined q =
+    let own = bytes_eq account.member q.member in
+    let more = opening-more es account balance q none in
+    elim (cases_Bool (is_household account q)) [
+      | inl here ↦
+          let same : holder_of account ≡ holder_of q = holder-same (holder_of account) (holder_of q) here in
+          let is = more ∙ ap (λ (b : Bool). joins (b && own) b balance (opening es q)) here in
+          subst AreInRange (sym is) (household-range es account q balance own same (subst AreInRange (opening-own es account balance none) joined) (before q))
+      | inr other ↦
+          let is = more ∙ ap (λ (b : Bool). joins (b && own) b balance (opening es q)) other ∙ joined-other balance (opening es q) in
+          subst AreInRange (sym is) (before q)
+    ]
+
 -- no books have no entries
 pub holds-none : (books : List Book) → books ≡ [] → HoldsEntries [] books
 holds-none books empty = record {
@@ -302,20 +327,19 @@ told-within version layout refusal contents =
     within Met count = omega (arith, count)
     within Oop count = omega (arith, count)
 
+-- what the account of an entry that stands behind others begins with, and its family, with it
+opened-with : (front : List Entry) (balances : List Book) (entry : Entry) → HoldsEntries front balances → balance_of balances entry.0 ≡ None
+    → opening_with front entry ≡ joins true true entry.1 (begins (members_at balances (holder_of entry.0)) None)
+opened-with front balances entry h absent =
+    let members = members_at balances (holder_of entry.0) in
+    let nobody : balance_in members entry.0.member ≡ None = sym (balance-among (found_in balances (holder_of entry.0)) entry.0.member) ∙ absent in
+    let before : opening front entry.0 ≡ begins members None = sym (h.given entry.0) ∙ opened-books balances entry.0 h.once ∙ ap (begins members) nobody in
+    opening-own front entry.0 entry.1 (h.lacking entry.0 absent) ∙ ap (joins true true entry.1) before
+
 module _ (version : ℕ) where
   -- the fault of a record whose entry is refused behind others
   module _ (layout : Layout) (front : List Entry) (balances : List Book) (fields : Fields) (entry : Entry) (fault : RowFault)
       (contents : IsBalanceLayout version layout) (read : IsEntry version layout fields entry) (h : HoldsEntries front balances) where
-    -- what its account begins with, and its family, with it
-    opened-with : balance_of balances entry.0 ≡ None → opening_with front entry ≡ joins true true entry.1 (begins (members_at balances (holder_of entry.0)) None)
-    opened-with absent =
-        let members = members_at balances (holder_of entry.0) in
-        let nobody : balance_in members entry.0.member ≡ None = sym (balance-among (found_in balances (holder_of entry.0)) entry.0.member) ∙ absent in
-        let before : opening front entry.0 ≡ begins members None = sym (h.given entry.0) ∙ opened-books balances entry.0 h.once ∙ ap (begins members) nobody in
-        opening-more front entry.0 entry.1 entry.0 (h.lacking entry.0 absent)
-        ∙ ap (λ (b : Bool). joins b (is_household entry.0 entry.0) entry.1 (opening front entry.0)) (account-self entry.0)
-        ∙ ap (λ (b : Bool). joins true b entry.1 (opening front entry.0)) (holder-self (holder_of entry.0)) ∙ ap (joins true true entry.1) before
-
     refuses-said : (refusal : Refusal) → Says (members_at balances (holder_of entry.0)) (balance_of balances entry.0) entry.1 refusal
         → ((column : Column) → slice_get layout.columns (refusal_place version refusal) ≡ Some column → fault ≡ record { column = column.place + 1; cause = refusal_cause refusal })
         → IsRecordFault version layout front fields fault
@@ -328,7 +352,7 @@ module _ (version : ℕ) where
         let d : Column = record { place = 0; content = Identifier } in
         let stands = slice_get-get_or layout.columns (refusal_place version Met) d (told-within version layout Met contents) in
         let column = get_or layout.columns (refusal_place version Met) d in
-        let met = ap (λ (acc : Acc). is_in_range acc.fmet) (opened-with absent) in
+        let met = ap (λ (acc : Acc). is_in_range acc.fmet) (opened-with front balances entry h absent) in
         inr (inr (record {
           entry = entry;
           read = read;
@@ -341,8 +365,8 @@ module _ (version : ℕ) where
         let d : Column = record { place = 0; content = Identifier } in
         let stands = slice_get-get_or layout.columns (refusal_place version Oop) d (told-within version layout Oop contents) in
         let column = get_or layout.columns (refusal_place version Oop) d in
-        let met = ap (λ (acc : Acc). is_in_range acc.fmet) (opened-with absent) in
-        let oop = ap (λ (acc : Acc). is_in_range acc.foop) (opened-with absent) in
+        let met = ap (λ (acc : Acc). is_in_range acc.fmet) (opened-with front balances entry h absent) in
+        let oop = ap (λ (acc : Acc). is_in_range acc.foop) (opened-with front balances entry h absent) in
         inr (inr (record {
           entry = entry;
           read = read;
@@ -360,28 +384,47 @@ module _ (version : ℕ) where
   refuses-entry layout fields entry refusal balances fault contents read refused told front h =
       refuses-said layout front balances fields entry fault contents read h refusal (found-says (found_in balances (holder_of entry.0)) entry.0.member entry.1 refusal refused) told
 
+  -- an entry that isn't refused behind others leaves what its account begins with in the number range
+  pub takes-entry : (layout : Layout) (fields : Fields) (entry : Entry) (old new : List Book) → IsEntry version layout fields entry
+      → option_and_then (λ ms. refused_behind ms (balance_in ms entry.0.member) entry.1) (found_in old (holder_of entry.0)) ≡ None
+      → ((front : List Entry) → HoldsEntries front old → HoldsEntries (front ++ entry ∷ []) new)
+      → (front : List Entry) → HoldsEntries front old → TakesEntry version layout front fields new
+  takes-entry layout fields entry old new read free put front h =
+      let found = found_in old (holder_of entry.0) in
+      let absent = free-none found entry.0.member entry.1 free in
+      let amounts = entry-amounts version layout fields entry read in
+      let sums = free-sums found entry.0.member entry.1 amounts free in
+      record {
+        entry = entry;
+        read = read;
+        new = h.lacking entry.0 absent;
+        holds = put front h;
+        in_range = subst AreInRange (sym (opened-with front old entry h absent)) (begun-range entry.1 (members_at old (holder_of entry.0)) amounts sums);
+      }
+
   -- these many records behind the header hold entries, which the balances have
   pub record ReadBefore (layout : Layout) (records : List Fields) (count : ℕ) (balances : List Book) : Type 0 where
     pub entries : List Entry
     pub each : AllZip (IsEntry version layout) (take count records) entries
+    pub in_range : (account : Account) → AreInRange (opening entries account)
     pub holds : HoldsEntries entries balances
 
   -- no record is read yet
   pub read_none : (layout : Layout) (records : List Fields) (balances : List Book) → balances ≡ [] → ReadBefore layout records 0 balances
-  read_none layout records balances empty = record { entries = []; each = tt; holds = holds-none balances empty }
+  read_none layout records balances empty = record { entries = []; each = tt; in_range = λ account. refl; holds = holds-none balances empty }
 
   -- one record more holds an entry
   pub read-next : (layout : Layout) (all : List Fields) (count : ℕ) (fields : Fields) (more : List Fields) (old new : List Book) → drop (count + 1) all ≡ fields ∷ more
       → ReadBefore layout (drop 1 all) count old
-      → ((front : List Entry) → HoldsEntries front old → (entry : Entry) × IsEntry version layout fields entry × HoldsEntries (front ++ entry ∷ []) new)
-      → ReadBefore layout (drop 1 all) (count + 1) new
+      → ((front : List Entry) → HoldsEntries front old → TakesEntry version layout front fields new) → ReadBefore layout (drop 1 all) (count + 1) new
   read-next layout all count fields more old new next before step =
-      let (entry, read, holds) = step before.entries before.holds in
-      let taken = (next-at all count fields more next).1 in
+      let taken = step before.entries before.holds in
+      let one_more = (next-at all count fields more next).1 in
       record {
-        entries = before.entries ++ entry ∷ [];
-        each = rw taken (AllZip-grow (IsEntry version layout) (take count (drop 1 all)) before.entries fields entry before.each read);
-        holds = holds;
+        entries = before.entries ++ taken.entry ∷ [];
+        each = rw one_more (AllZip-grow (IsEntry version layout) (take count (drop 1 all)) before.entries fields taken.entry before.each taken.read);
+        in_range = range-more before.entries taken.entry.0 taken.entry.1 taken.new before.in_range taken.in_range;
+        holds = taken.holds;
       }
 
   -- one record more is refused
@@ -395,7 +438,7 @@ module _ (version : ℕ) where
         records = drop 1 all;
         sheet = sheet;
         front = before.entries;
-        read = record { each = rw back before.each; distinct = before.holds.distinct };
+        read = record { each = rw back before.each; distinct = before.holds.distinct; in_range = before.in_range };
         fields = fields;
         numbered = omega arith;
         refused = rw back (next-at all count fields more next).0;
@@ -413,6 +456,6 @@ module _ (version : ℕ) where
         records = drop 1 all;
         entries = before.entries;
         sheet = sheet;
-        read = record { each = rw (← taken) before.each; distinct = held.distinct };
+        read = record { each = rw (← taken) before.each; distinct = held.distinct; in_range = before.in_range };
         given = held.given;
       }

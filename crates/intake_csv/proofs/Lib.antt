@@ -6,6 +6,7 @@ pub mod RecordSteps
 pub mod Shapes
 pub mod Handing
 pub mod Books
+pub mod Ranges
 pub mod Entries
 pub mod ClaimFields
 pub mod OneFile

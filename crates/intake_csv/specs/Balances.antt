@@ -12,6 +12,7 @@ use Rattle.feel_tests.specs.declared.value.Value.{Value}
 use Rattle.feel_tests.specs.declared.value.Value.TheVariants.{Number, Text}
 use Rattle.dtable.specs.Plan.{has_families, has_years}
 use Rattle.settlement.specs.Accounts.{Account}
+use Rattle.settlement.specs.Accumulators.{AreInRange}
 use Rattle.settlement.specs.Amount.{is_in_range}
 use Rattle.settlement.specs.Given.{behind_family}
 use Rattle.settlement.specs.Opening.{opening}
@@ -121,10 +122,12 @@ pub record IsEntry (version : ℕ) (layout : Layout) (fields : Fields) (entry : 
   pub kept : IsKeptUnder version entry.0
   pub values : HasValues layout fields (entry_values version entry)
 
--- the records hold the entries, one each, and no account stands twice
+-- the records hold the entries, one each, no account stands twice, and what each account begins with is in the number range, the sums
+-- of its family too
 pub record AreEntries (version : ℕ) (layout : Layout) (records : List Fields) (entries : List Entry) : Type 0 where
   pub each : AllZip (IsEntry version layout) records entries
   pub distinct : AllPairs (λ a b. a.0 ≢ b.0) entries
+  pub in_range : (account : Account) → AreInRange (opening entries account)
 
 -- the book of a map, in the order of its keys
 abbrev pub book_of : {Y : Type 0} → BTreeMap (String Y) Members → Book
@@ -207,6 +210,15 @@ pub record HoldsEntries (entries : List Entry) (balances : List Book) : Type 0 w
   pub found : (account : Account) → is_some (balance_of balances account) ≡ true → Any (λ e. e.0 ≡ account) entries
   pub lacking : (account : Account) → balance_of balances account ≡ None → All (λ e. e.0 ≢ account) entries
   pub given : (account : Account) → opening (accounts_of balances) account ≡ opening entries account
+
+-- the record holds an entry, the balances have it and those in front, and what its account begins with is in the number range, the sums
+-- of its family too
+pub record TakesEntry (version : ℕ) (layout : Layout) (front : List Entry) (fields : Fields) (balances : List Book) : Type 0 where
+  pub entry : Entry
+  pub read : IsEntry version layout fields entry
+  pub new : All (λ e. e.0 ≢ entry.0) front
+  pub holds : HoldsEntries (front ++ entry ∷ []) balances
+  pub in_range : AreInRange (opening_with front entry)
 
 -- the household of a family in a year has a member more
 pub record Joins (holder : Holder) (member : List ℕ) (balance : Balance) (before : Members) (new : List Book) : Type 0 where

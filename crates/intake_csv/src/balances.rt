@@ -7,7 +7,7 @@ ghost use Rattle.std.specs.Vec.Iter.{into_iter_items};
 ghost use Rattle.dtable.specs.Plan.{has_families, has_years};
 ghost use Rattle.settlement.specs.Accounts.{named_or};
 ghost use Rattle.settlement.specs.Opening.{opening};
-ghost use Rattle.intake_csv.specs.Balances.{AreAmounts, AreBalances, AreOnce, BeginsWithYear, Entry as AnyEntry, Holder as AnyHolder, HasBalanceFault, HoldsEntries, IsBalanceLayout, JoinsIn, IsEntry, IsEntryShaped, IsKeptUnder, IsRecordFault, TakesYear, accounts_of, balance_values, books_of, entry_values, found_in, is_holder, refusal_cause, refusal_place};
+ghost use Rattle.intake_csv.specs.Balances.{AreAmounts, AreBalances, AreOnce, BeginsWithYear, Entry as AnyEntry, Holder as AnyHolder, HasBalanceFault, HoldsEntries, IsBalanceLayout, JoinsIn, IsEntryShaped, IsKeptUnder, IsRecordFault, TakesEntry, TakesYear, accounts_of, balance_values, books_of, entry_values, found_in, is_holder, refusal_cause, refusal_place};
 ghost use Rattle.intake_csv.specs.Columns.{balance_columns, member_place, met_place, year_columns};
 ghost use Rattle.intake_csv.specs.Households.{AreOnceBy, balance_in, refused_behind};
 ghost use Rattle.intake_csv.specs.Rows.{HasFault};
@@ -167,7 +167,7 @@ impl Balances {
         requires within { IsWithin layout.now }
         requires balances { IsBalanceLayout version layout.now }
         ensures entry { IfOk result (λ read. OnOk read ((front : List AnyEntry) → HoldsEntries front self.old
-            → (entry : AnyEntry) × IsEntry version layout.now row.now entry × HoldsEntries (front ++ entry ∷ []) self.new)) }
+            → TakesEntry version layout.now front row.now self.new)) }
         ensures refused { IfOk result (λ read. IfErr read (λ fault. (front : List AnyEntry) → HoldsEntries front self.old
             → IsRecordFault version layout.now front row.now fault)) }
     {

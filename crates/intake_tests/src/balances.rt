@@ -138,8 +138,8 @@ fn have_members_by_family(rt: &impl Abort, balances: Balances, members: &[OfFami
 /// A file of balances with a record that is refused: its number, the column, and why.
 type RefusedRow = (&'static [u8], usize, usize, RowCause);
 
-/// Files of balances of families with a record that is refused.
-const REFUSED_FAMILIES: [RefusedRow; 5] = [
+/// Files of balances of families with a record that is refused; in the last two a later record has a fault, too.
+const REFUSED_FAMILIES: [RefusedRow; 7] = [
     (
         b"family,member,year,met,oop,paid\nF1,M1,2024,99999999999.99,0.00,0.00\nF1,M2,2024,0.01,0.00,0.00\n",
         2,
@@ -169,6 +169,18 @@ const REFUSED_FAMILIES: [RefusedRow; 5] = [
         3,
         3,
         RowCause::Value,
+    ),
+    (
+        b"family,member,year,met,oop,paid\nF1,M1,2024,99999999999.99,0,0\nF1,M2,2024,0.01,0,0\nF1,,2024,0,0,0\n",
+        2,
+        4,
+        RowCause::Sum,
+    ),
+    (
+        b"family,member,year,met,oop,paid\nF1,M1,2024,99999999999.99,0,0\nF1,,2024,0,0,0\nF1,M2,2024,0.01,0,0\n",
+        2,
+        2,
+        RowCause::EmptyId,
     ),
 ];
 

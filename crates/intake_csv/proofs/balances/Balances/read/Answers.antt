@@ -1,7 +1,7 @@
-use Rattle.std.proofs.Common.{sym}
+use Rattle.std.proofs.Common.{rules, sym}
 use Rattle.settlement.specs.Accounts.{named_or}
 use Rattle.intake_csv.specs.Balances.{Entry, IsEntry}
-use Rattle.intake_csv.proofs.Entries.{refuses-entry, told-within}
+use Rattle.intake_csv.proofs.Entries.{refuses-entry, takes-entry, told-within}
 use Rattle.intake_csv.proofs.Shapes.{entry-shaped}
 use Rattle.intake_csv.proofs.balances.Balances.read.Goals as goal
 
@@ -27,7 +27,7 @@ returns-clause-entry c =
     let e = c.entry_of-entry.result in
     let entry : Entry = (record { family = named_or e.family e.member; member = e.member; year = e.year }, e.balance) in
     let read : IsEntry c.args.version c.args.layout.now c.args.row.now entry = record { kept = c.entry_of-entry.ensures.kept; values = rw c.entry_of-entry.ensures.values at values } in
-    λ front h. (entry, read, c.in_ok-put.ensures front h)
+    takes-entry c.args.version c.args.layout.now c.args.row.now entry c.args.self.now c.put.new.self read (search rules) c.in_ok-put.ensures
 
 pub fault_of-requires-clause-within : goal.fault_of-requires-clause-within
 fault_of-requires-clause-within c = c.requires.within

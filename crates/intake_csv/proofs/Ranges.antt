@@ -1,0 +1,137 @@
+-- What an account begins with stays in the number range with a balance more.
+use Rattle.std.proofs.Common.{◌≡◌, ◌≤◌, ◌+ℤ◌, ◌&&◌, ℕ, ℤ, pos, Bool, true, false, unsigned_abs, subst, List, [], ◌∷◌, ◌++◌, Option, Some, None, if◌then◌else◌, refl, sym, ap, ap₂, ◌∙◌, arith}
+use Rattle.std.specs.Option.{option_and_then, unwrap_or}
+use Rattle.std.proofs.lemmas.Bool.{and_parts}
+use Rattle.std.proofs.lemmas.Bool.Decides.{nat_tests}
+use Rattle.std.proofs.lemmas.Int.{ints}
+use Rattle.fixpoint.specs.Number.{greatest_units}
+use Rattle.feel_tests.specs.declared.value.Value.{Value}
+use Rattle.feel_tests.specs.declared.value.Value.TheVariants.{Number, Text}
+use Rattle.dtable.specs.Plan.{has_families, has_years}
+use Rattle.settlement.specs.Accounts.{Account, is_household, part}
+use Rattle.settlement.specs.Accumulators.{AreInRange, are_in_range}
+use Rattle.settlement.specs.Amount.{is_in_range}
+use Rattle.settlement.specs.Given.{behind_family}
+use Rattle.settlement.specs.Opening.{joins, opening}
+use Rattle.settlement.specs.declared.acc.Acc.{Acc}
+use Rattle.settlement.specs.declared.account.Balance.{Balance}
+use Rattle.intake_csv.specs.Records.{Fields}
+use Rattle.intake_csv.specs.Rows.{AreValues, HoldsUnder}
+use Rattle.intake_csv.specs.Households.{Members, balance_in, begins, met_of, oop_of, refused_behind}
+use Rattle.intake_csv.specs.Balances.{Entry, Holder, IsEntry, balance_values, entry_values, family_in, holder_of, is_holder, year_values}
+use Rattle.intake_csv.specs.declared.column.Column.{Column}
+use Rattle.intake_csv.specs.declared.column.Layout.{Layout}
+use Rattle.intake_csv.specs.declared.household.Refusal.{Refusal}
+use Rattle.intake_csv.specs.declared.household.Refusal.TheVariants.{Met, Oop}
+
+-- the amounts of a balance are in the number range
+pub record AmountsInRange (balance : Balance) : Type 0 where
+  pub met : is_in_range balance.met ≡ true
+  pub oop : is_in_range balance.oop ≡ true
+  pub paid : is_in_range balance.paid ≡ true
+
+-- so is a number that a record holds
+number-held : (fields : Fields) (column : Column) (units : ℤ) → HoldsUnder fields column (Number units) → is_in_range units ≡ true
+number-held fields column units h =
+    let within : unsigned_abs units ≤ greatest_units = h.holds.spells.plain.1.in_range in
+    grind (arith, nat_tests)
+
+-- the values behind the first one
+values-behind : (fields : Fields) (columns : List Column) (value : Value) (values : List Value) → AreValues fields columns (value ∷ values)
+    → (rest : List Column) × AreValues fields rest values
+values-behind fields [] value values h = absurd h
+values-behind fields (c ∷ cs) value values h = (cs, h.1)
+
+amounts-held : (fields : Fields) (columns : List Column) (balance : Balance) → AreValues fields columns (balance_values balance) → AmountsInRange balance
+amounts-held fields [] balance h = absurd h
+amounts-held fields (a ∷ []) balance h = absurd h.1
+amounts-held fields (a ∷ b ∷ []) balance h = absurd h.1.1
+amounts-held fields (a ∷ b ∷ c ∷ cs) balance h = record {
+  met = number-held fields a balance.met h.0;
+  oop = number-held fields b balance.oop h.1.0;
+  paid = number-held fields c balance.paid h.1.1.0;
+}
+
+behind-year : (years : Bool) (fields : Fields) (columns : List Column) (year : ℕ) (balance : Balance) → AreValues fields columns (year_values years year ++ balance_values balance)
+    → AmountsInRange balance
+behind-year false fields columns year balance h = amounts-held fields columns balance h
+behind-year true fields columns year balance h =
+    let (rest, held) = values-behind fields columns _ (balance_values balance) h in
+    amounts-held fields rest balance held
+
+behind-member : (years : Bool) (fields : Fields) (columns : List Column) (account : Account) (balance : Balance)
+    → AreValues fields columns (Text account.member ∷ (year_values years account.year ++ balance_values balance)) → AmountsInRange balance
+behind-member years fields columns account balance h =
+    let (rest, held) = values-behind fields columns (Text account.member) (year_values years account.year ++ balance_values balance) h in
+    behind-year years fields rest account.year balance held
+
+behind-all : (families years : Bool) (fields : Fields) (columns : List Column) (account : Account) (balance : Balance)
+    → AreValues fields columns (behind_family (family_in families account) (Text account.member ∷ (year_values years account.year ++ balance_values balance))) → AmountsInRange balance
+behind-all false years fields columns account balance h = behind-member years fields columns account balance h
+behind-all true years fields columns account balance h =
+    let (rest, held) = values-behind fields columns (Text account.family) (Text account.member ∷ (year_values years account.year ++ balance_values balance)) h in
+    behind-member years fields rest account balance held
+
+-- the amounts of an entry are in the number range, as each number that a record holds
+pub entry-amounts : (version : ℕ) (layout : Layout) (fields : Fields) (entry : Entry) → IsEntry version layout fields entry → AmountsInRange entry.1
+entry-amounts version layout fields entry read =
+    behind-all (has_families version) (has_years version) fields layout.columns entry.0 entry.1 read.values.1
+
+-- the sums of members and of one more are in the number range
+pub record SumsInRange (members : Members) (balance : Balance) : Type 0 where
+  pub met : is_in_range (met_of members +ℤ balance.met) ≡ true
+  pub oop : is_in_range (oop_of members +ℤ balance.oop) ≡ true
+
+sums-free : (members : Members) (balance : Balance) (met oop : Bool) → is_in_range (met_of members +ℤ balance.met) ≡ met
+    → is_in_range (oop_of members +ℤ balance.oop) ≡ oop → (if met then (if oop then None else Some Oop) else Some Met) ≡ None → SumsInRange members balance
+sums-free members balance true true is_met is_oop e = record { met = is_met; oop = is_oop }
+sums-free members balance true false is_met is_oop e = absurd (cc e)
+sums-free members balance false oop is_met is_oop e = absurd (cc e)
+
+free-behind : (members : Members) (own : Option Balance) (balance : Balance) → refused_behind members own balance ≡ None → SumsInRange members balance
+free-behind members (Some own) balance e = absurd (cc e)
+free-behind members None balance e =
+    sums-free members balance (is_in_range (met_of members +ℤ balance.met)) (is_in_range (oop_of members +ℤ balance.oop)) refl refl e
+
+nothing-before : (x : ℤ) → pos 0 +ℤ x ≡ x
+nothing-before x = omega (arith, ints)
+
+-- so they are with a member that isn't refused behind those that are found
+pub free-sums : (found : Option Members) (member : List ℕ) (balance : Balance) → AmountsInRange balance
+    → option_and_then (λ ms. refused_behind ms (balance_in ms member) balance) found ≡ None → SumsInRange (unwrap_or found []) balance
+free-sums None member balance amounts free =
+    record { met = ap is_in_range (nothing-before balance.met) ∙ amounts.met; oop = ap is_in_range (nothing-before balance.oop) ∙ amounts.oop }
+free-sums (Some members) member balance amounts free = free-behind members (balance_in members member) balance free
+
+-- what an account begins with then is in the number range
+pub begun-range : (balance : Balance) (members : Members) → AmountsInRange balance → SumsInRange members balance → AreInRange (joins true true balance (begins members None))
+begun-range balance members amounts sums = rw (amounts.met, amounts.oop, amounts.paid, sums.met) sums.oop
+
+-- accounts of one household have the same sums of their family
+shared-sums : (entries : List Entry) (a b : Account) → holder_of a ≡ holder_of b
+    → ((opening entries a).fmet ≡ (opening entries b).fmet) × ((opening entries a).foop ≡ (opening entries b).foop)
+shared-sums [] a b same = (refl, refl)
+shared-sums (e ∷ es) a b same =
+    let (met, oop) = shared-sums es a b same in
+    let house : is_household e.0 a ≡ is_household e.0 b = ap (λ (h : Holder). is_holder (holder_of e.0) h) same in (
+      ap₂ (λ (sum : ℤ) (here : Bool). sum +ℤ part here e.1.met) met house,
+      ap₂ (λ (sum : ℤ) (here : Bool). sum +ℤ part here e.1.oop) oop house,
+    )
+
+-- what one of them begins with is in the number range with a balance more, where it was before, and where the one whose balance it is
+-- begins with what is in it
+pub household-range : (entries : List Entry) (a b : Account) (balance : Balance) (own : Bool) → holder_of a ≡ holder_of b → AreInRange (joins true true balance (opening entries a))
+    → AreInRange (opening entries b) → AreInRange (joins own true balance (opening entries b))
+household-range entries a b balance own same joined before =
+    let (met, oop) = shared-sums entries a b same in
+    let alike : joins true true balance (opening entries a) ≡ joins true true balance (opening entries b) =
+    λ i. record { met = balance.met; oop = balance.oop; paid = balance.paid; fmet = met i +ℤ balance.met; foop = oop i +ℤ balance.oop } in
+    joined-range own balance (opening entries b) (subst AreInRange alike joined) before
+  where
+    joined-range : (own : Bool) (balance : Balance) (acc : Acc) → AreInRange (joins true true balance acc) → AreInRange acc → AreInRange (joins own true balance acc)
+    joined-range true balance acc joined before = joined
+    joined-range false balance acc joined before =
+        let foop = and_parts _ (is_in_range (acc.foop +ℤ balance.oop)) joined in
+        let fmet = and_parts _ (is_in_range (acc.fmet +ℤ balance.met)) foop.0 in
+        let own = and_parts _ (is_in_range acc.fmet) (and_parts _ (is_in_range acc.foop) before).0 in
+        rw (own.0, fmet.1) foop.1
