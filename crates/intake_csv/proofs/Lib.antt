@@ -13,6 +13,7 @@ pub mod OneFile
 pub mod PlanColumns
 pub mod OneField
 pub mod OneRow
+pub mod OneList
 pub mod SomeRow
 pub mod Spelling
 pub mod Households

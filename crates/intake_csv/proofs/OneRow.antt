@@ -166,7 +166,7 @@ moved-row : (layout other : Layout) (n m p q : ℕ) (fields : Fields) (row : Row
 moved-row layout other n m p q fields row same number place h = rw (same, number, place) at h
 
 -- the first row that was left is that of the next record
-first-row : (old new : RowsLeft) (fields : Fields) (row : Row) (rows : List Row) → old.records ≡ fields ∷ new.records → AreRowsLeft old (row ∷ rows)
+pub first-row : (old new : RowsLeft) (fields : Fields) (row : Row) (rows : List Row) → old.records ≡ fields ∷ new.records → AreRowsLeft old (row ∷ rows)
     → IsRow old.layout old.number old.place fields row
 first-row old new fields row rows next h =
     let there : slice_get old.records 0 ≡ Some fields = rw next refl in
@@ -174,7 +174,7 @@ first-row old new fields row rows next h =
     (h.each [] rows row fields refl there)
 
 -- and the others are left behind it
-rows-behind : (old new : RowsLeft) (row first : Row) (rows : List Row) → GivesRow old new row → claims_in row ≡ claims_in first → AreRowsLeft old (first ∷ rows)
+pub rows-behind : (old new : RowsLeft) (row first : Row) (rows : List Row) → GivesRow old new row → claims_in row ≡ claims_in first → AreRowsLeft old (first ∷ rows)
     → AreRowsLeft new rows
 rows-behind old new row first rows g alike h = record { as_many = as_many; each = each }
   where

@@ -3,7 +3,7 @@ use Rattle.std.specs.Prelude.{◌≡◌, ◌≢◌, ℕ, List, [], ◌∷◌}
 use Rattle.std.specs.List.{AllPairs}
 use Rattle.dtable.specs.declared.table.InputData.{InputData}
 use Rattle.dtable.specs.Names.{names_of}
-use Rattle.dtable.specs.Plan.{PlanParts, keeps_families}
+use Rattle.dtable.specs.Plan.{IsPlan, PlanParts, keeps_families}
 use Rattle.settlement.specs.declared.claim.Claim.{Claim}
 use Rattle.settlement.specs.Claim.{IsClaimOf}
 use Rattle.intake_csv.specs.Records.{Fields}
@@ -50,6 +50,11 @@ pub record BeginLike (row : Row) (left : RowsLeft) (rows : List Row) : Type 0 wh
 -- the row that a reader gives is the same claim as the first of those that it had left
 abbrev pub GivenRowHasTheClaim : Type 0
 GivenRowHasTheClaim = (old new : RowsLeft) (row : Row) (rows : List Row) → GivesRow old new row → AreRowsLeft old rows → BeginLike row new rows
+
+-- a text has one list of rows under a plan's names
+abbrev pub TextHasOneListOfRows : Type 0
+TextHasOneListOfRows = (plan : PlanParts) (text : List ℕ) (rows others : List Row) → IsPlan plan → AreRowsOf plan.names text rows → AreRowsOf plan.names text others
+    → rows ≡ others
 
 -- some rows of a text
 pub record RowsOf (names : List InputData) (text : List ℕ) : Type 0 where

@@ -1,5 +1,5 @@
 //! Laws of files of claims, for proofs that stand on them. Each call does nothing.
-ghost use Rattle.intake_csv.specs.Laws.{ClaimsHaveFields, FilesHaveRows, GivenRowHasTheClaim, GivenRowIsTheFirst, NoRecordsNoRows, StartHasTheRows};
+ghost use Rattle.intake_csv.specs.Laws.{ClaimsHaveFields, FilesHaveRows, GivenRowHasTheClaim, GivenRowIsTheFirst, NoRecordsNoRows, StartHasTheRows, TextHasOneListOfRows};
 
 /// A claim that a record of a file of claims holds has the plan's fields.
 pub fn claims_have_the_plan_s_fields()
@@ -14,6 +14,15 @@ pub fn reader_begins_with_all_rows()
 /// The row that a reader gives is the first of those that it had left.
 pub fn given_row_is_the_first()
     ensures { GivenRowIsTheFirst }
+{
+    // Known from here: what two readings of one field find is the same.
+    fixpoint::text_denotes_at_most_one();
+    feel_tests::field_spells_at_most_one_value();
+}
+
+/// A text has one list of rows under a plan's names.
+pub fn text_has_one_list_of_rows()
+    ensures { TextHasOneListOfRows }
 {
     // Known from here: what two readings of one field find is the same.
     fixpoint::text_denotes_at_most_one();

@@ -34,6 +34,7 @@ pub use fault::{BalanceFault, FileFault, RowCause, RowFault};
 pub use laws::{
     claims_have_the_plan_s_fields, files_have_rows, given_row_has_the_claim,
     given_row_is_the_first, no_records_give_no_rows, reader_begins_with_all_rows,
+    text_has_one_list_of_rows,
 };
 pub use line::Line;
 pub use rows::{Row, Rows};
