@@ -1,5 +1,5 @@
--- The records of a text (RFC 4180), as `csv` reads them: comma and double quote, CRLF or LF, no trimming, any number of
--- fields, and no record set apart as a header.
+-- The records of a text (RFC 4180), as `csv` reads them: comma and double quote, a record ended by CRLF, LF or a lone CR, no trimming,
+-- any number of fields, and no record set apart as a header.
 use Rattle.std.specs.Prelude.{◌≡◌, ◌+◌, ◌∷◌, ℕ, Bool, true, false, List, [], drop}
 use Rattle.csv.specs.Reading.{AreRecords, default_config, records, strip_bom}
 use Rattle.csv.specs.declared.parser.State.TheVariants as state
