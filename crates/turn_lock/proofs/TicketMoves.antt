@@ -219,20 +219,21 @@ module _ {T : Type 0} (leads : T → T → Type 0) (first : ℕ) where
       let free : Free k = idle_free k (known_stage me.0 Idle is) in
       let old = r.values.values_seen id k here in
       let word : ℕ = get_or s.words 0 0 in
-      let low : k.next ≤ r.words.next = r.words.words_seen id k here in ⊎_elim
+      let low : k.next ≤ r.words.next = r.words.words_seen id k here in
+      let fits : k.next ≤ last_word = on_words.none_beyond first s r.words id k here in ⊎_elim
       (λ (up : leads k.seen k.also). (
         Live (seen_alone k k.also),
         keeps,
         tt,
         freely s r id k (seen_alone k k.also) (set s.words 0 word) here free (idle_free (seen_alone k k.also) refl) (old.1, old.1) low (set-get_or s.words 0 0),
-        (k, live, inr (up, refl)),
+        (k, live, fits, inr (up, refl)),
       ))
       (λ (down : leads k.also k.seen). (
         Live (seen_alone k k.seen),
         keeps,
         tt,
         freely s r id k (seen_alone k k.seen) (set s.words 0 word) here free (idle_free (seen_alone k k.seen) refl) (old.0, old.0) low (set-get_or s.words 0 0),
-        (k, live, inl (down, refl)),
+        (k, live, fits, inl (down, refl)),
       ))
       (ordered k.seen k.also r.values.current old.0 old.1)
 
@@ -240,7 +241,7 @@ module _ {T : Type 0} (leads : T → T → Type 0) (first : ℕ) where
   pub settled_idle : (st : Step (Option T)) (me me' : TicketSeat T) (word : ℕ) → Settles leads st me word me' → stage_of me'.0 ≡ Some Idle
   settled_idle st me me' word told =
       ⊎_elim (λ (t : leads told.0.also told.0.seen × (me' ≡ (Live (seen_alone told.0 told.0.seen), me.1))). ap (λ (m : TicketSeat T). stage_of m.0) t.1)
-      (λ (t : leads told.0.seen told.0.also × (me' ≡ (Live (seen_alone told.0 told.0.also), me.1))). ap (λ (m : TicketSeat T). stage_of m.0) t.1) told.2
+      (λ (t : leads told.0.seen told.0.also × (me' ≡ (Live (seen_alone told.0 told.0.also), me.1))). ap (λ (m : TicketSeat T). stage_of m.0) t.1) told.3
 
   pub opens : ((x : T) → leads x x) → first ≤ last_word → (value : T) → Rule (opening (first ∷ first ∷ []) (Some value ∷ []) (newcomer first value))
   opens same small value = record { words = on_words.opens first small value; values = on_values.opens leads first same value }
@@ -263,7 +264,7 @@ module _ {T : Type 0} (leads : T → T → Type 0) (same : (x : T) → leads x x
   settles_remember st me me' word told = let k = told.0 in ⊎_elim
       (λ (t : leads k.also k.seen × (me' ≡ (Live (seen_alone k k.seen), me.1))). both_remembered me me' k (seen_alone k k.seen) told.1 (ap (λ (m : TicketSeat T). m.0) t.1) (same k.seen) t.0 (omega arith))
       (λ (t : leads k.seen k.also × (me' ≡ (Live (seen_alone k k.also), me.1))). both_remembered me me' k (seen_alone k k.also) told.1 (ap (λ (m : TicketSeat T). m.0) t.1) t.0 (same k.also) (omega arith))
-      told.2
+      told.3
 
   pub looks_remember : (st : Step (Option T)) (me me' : TicketSeat T) (word : ℕ) → Looks st me word me' → (a b : LiveView T) → me.0 ≡ Live a → me'.0 ≡ Live b → leads a.seen b.seen × (a.next ≤ b.next)
   looks_remember st me me' word told = let k = told.0 in dite (ℕ_discrete word last_word)
@@ -295,11 +296,14 @@ module _ {T : Type 0} (leads : T → T → Type 0) where
   counts : (Tally : LiveView T → LiveView T → Type 0) (me me' : TicketSeat T) (k l : LiveView T) → me.0 ≡ Live k → me'.0 ≡ Live l → Tally k l → (a b : LiveView T) → me.0 ≡ Live a → me'.0 ≡ Live b → Tally a b
   counts Tally me me' k l is is' tally a b at at' = subst (λ (x : LiveView T × LiveView T). Tally x.0 x.1) (λ i. (live_is k a (sym is ∙ at) i, live_is l b (sym is' ∙ at') i)) tally
 
+  pub joins_keep_tally : (k l m : LiveView T) → beside (Live k) (Live l) ≡ Live m → SameTally k m
+  joins_keep_tally k l m is = subst (SameTally k) (live_is (both_known k l) m is) (refl, refl)
+
   pub settles_keep_tally : (st : Step (Option T)) (me me' : TicketSeat T) (word : ℕ) → Settles leads st me word me' → (a b : LiveView T) → me.0 ≡ Live a → me'.0 ≡ Live b → SameTally a b
   settles_keep_tally st me me' word told = let k = told.0 in ⊎_elim
       (λ (t : leads k.also k.seen × (me' ≡ (Live (seen_alone k k.seen), me.1))). counts SameTally me me' k (seen_alone k k.seen) told.1 (ap (λ (m : TicketSeat T). m.0) t.1) (refl, refl))
       (λ (t : leads k.seen k.also × (me' ≡ (Live (seen_alone k k.also), me.1))). counts SameTally me me' k (seen_alone k k.also) told.1 (ap (λ (m : TicketSeat T). m.0) t.1) (refl, refl))
-      told.2
+      told.3
 
   pub looks_keep_tally : (st : Step (Option T)) (me me' : TicketSeat T) (word : ℕ) → Looks st me word me' → (a b : LiveView T) → me.0 ≡ Live a → me'.0 ≡ Live b → SameTally a b
   looks_keep_tally st me me' word told = let k = told.0 in dite (ℕ_discrete word last_word)

@@ -244,3 +244,6 @@ module _ {T : Type 0} (first : ℕ) where
 
   pub worn_for_good : (s : TicketState T) → Rule s → (i : ℕ) (k : LiveView T) → Has s i k → k.next ≡ last_word → get_or s.words 0 0 ≡ last_word
   worn_for_good s r i k at worn = let low : k.next ≤ r.next = r.words_seen i k at in let high : r.next ≤ last_word = r.never_wraps in let is : get_or s.words 0 0 ≡ r.next = ap (λ ws. get_or ws 0 0) r.words in omega arith
+
+  pub none_beyond : (s : TicketState T) → Rule s → (i : ℕ) (k : LiveView T) → Has s i k → k.next ≤ last_word
+  none_beyond s r i k at = let low : k.next ≤ r.next = r.words_seen i k at in let high : r.next ≤ last_word = r.never_wraps in omega arith

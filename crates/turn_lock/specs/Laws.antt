@@ -44,6 +44,8 @@ module _ {T : Type 0} (leads : T → T → Type 0) where
     pub one_ticket : (s : TicketState T) → WordsRule first s → (i j : ℕ) (k l : LiveView T) (t : ℕ) → Has s i k → Has s j l → HasTicket t k.stage → HasTicket t l.stage → i ≡ j
     -- once a pass has seen the last word, the next word is the last
     pub worn_for_good : (s : TicketState T) → WordsRule first s → (i : ℕ) (k : LiveView T) → Has s i k → k.next ≡ last_word → slice_index s.words 0 ≡ last_word
+    -- no pass has seen a next word beyond the last: one that has seen the last, and forgets nothing, has seen it for good
+    pub none_beyond : (s : TicketState T) → WordsRule first s → (i : ℕ) (k : LiveView T) → Has s i k → k.next ≤ last_word
 
   -- what the values say of them
   pub record ValuesSay : Type 0 where
@@ -77,6 +79,8 @@ module _ {T : Type 0} (leads : T → T → Type 0) where
 
   -- only the end of a section changes the tally of its pass: it is one more then, and the value found is the last
   pub record TicketStepsKeepTally : Type 0 where
+    -- two passes made one have the first's: the second's, which is spent, is gone
+    pub joins : (k l m : LiveView T) → beside (Live k) (Live l) ≡ Live m → (m.ended ≡ k.ended) × (m.last ≡ k.last)
     pub settles : (st : Step (Option T)) (me me' : TicketSeat T) (word : ℕ) → Settles leads st me word me' → HasSameTally me me'
     pub looks : (st : Step (Option T)) (me me' : TicketSeat T) (word : ℕ) → Looks st me word me' → HasSameTally me me'
     pub draws : (st : Step (Option T)) (me me' : TicketSeat T) (word : ℕ) → Draws st me word me' → HasSameTally me me'

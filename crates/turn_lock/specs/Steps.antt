@@ -34,10 +34,10 @@ module _ {T : Type 0} where
       × (word ≡ ticket → Begins leads ticket me me')
       × (word ≢ ticket → me' ≡ me)
 
-  -- a pass that has seen two values loads a word: of the two, to one of which the other leads, it has seen the later one then
+  -- a pass that has seen two values, and no next word beyond the last, loads a word: of the two, to one of which the other leads, it has seen the later one then
   abbrev pub Settles : (T → T → Type 0) → Step (Option T) → TicketSeat T → ℕ → TicketSeat T → Type 0
   Settles leads st me word me' =
-      (k : LiveView T) × (me.0 ≡ Live k)
+      (k : LiveView T) × (me.0 ≡ Live k) × (k.next ≤ last_word)
       × ((leads k.also k.seen × (me' ≡ (Live (seen_alone k k.seen), me.1))) ⊎ (leads k.seen k.also × (me' ≡ (Live (seen_alone k k.also), me.1))))
 
   -- leave: the pass raises the word that is served, and the slot goes home with a value to which the one found leads

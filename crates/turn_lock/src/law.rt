@@ -37,7 +37,7 @@ pub fn ticket_steps_forget_nothing<T: Growing>()
     ensures { TicketStepsForgetNothing T.leads }
 {}
 
-/// A ticket lock's pass counts its sections: only the step that ends one changes its tally.
+/// A ticket lock's pass counts its sections: only the step that ends one changes its tally. Two passes made one have the first's.
 pub fn ticket_steps_keep_the_tally<T: Growing>()
     ensures { TicketStepsKeepTally T.leads }
 {}

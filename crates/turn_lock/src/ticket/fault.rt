@@ -13,8 +13,10 @@ pub struct Raced {
 /// Why `try_draw` drew no ticket.
 #[derive(Debug, Drop, Error)]
 pub enum DrawFault {
+    /// The last ticket has been drawn: none is left, and none will be.
     #[error("the last ticket was drawn")]
     Worn,
+    /// Another pass has drawn the ticket that was looked at. `next` is the next word that was found, which is greater.
     #[error("the ticket was drawn by another pass, and the next is {next}")]
     Raced { next: u64 },
 }

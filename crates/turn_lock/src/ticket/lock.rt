@@ -1,6 +1,6 @@
 //! The ticket lock and its calls.
 
-ghost use Rattle.std.specs.Prelude.{◌≡◌, ◌+◌, ◌<◌, ◌≤◌, IfOk, IfErr, IsErr};
+ghost use Rattle.std.specs.Prelude.{◌≡◌, ◌⊎◌, ◌+◌, ◌<◌, ◌≤◌, IfOk, IfErr, IsErr};
 ghost use Rattle.turn_lock.specs.Ticket.{last_word, opened, idle_at, looked_at, waiting_for, in_section, after_section, IsWaiting};
 ghost use Rattle.turn_lock.specs.Steps.{Begins};
 
@@ -35,7 +35,8 @@ impl<T: Growing + Drop> TicketLock<T> {
         TicketLock::new_at(alloc, value, 0)
     }
 
-    /// The same, with this first ticket. At 2^64 - 1 no ticket is left.
+    /// The lock, whose tickets begin with this one, and its first pass. At 2^64 - 1 no ticket is left. The value is dropped where
+    /// there is no memory.
     pub fn new_at(
         alloc: Global,
         value: T,
@@ -72,13 +73,14 @@ impl<T: Growing> TicketLock<T> {
     }
 
     /// Makes what two passes of this lock have seen one: both have then seen the later of the two values and the greater next
-    /// word, and both have the first's tally. It waits for nobody and takes no memory.
+    /// word, so that both are worn where one was, and both have the first's tally. It waits for nobody and takes no memory.
     /// Not promised: that the value is the newest, since another pass may have left one behind it.
     pub fn meet(&self, one: Pass<T>, other: Pass<T>) -> (Pass<T>, Pass<T>)
         requires { IsPassOf self.now one × IsPassOf self.now other }
         ensures own { IsPassOf self.now result.0 × IsPassOf self.now result.1 }
         ensures met { HasMet T.leads (pass_knows one) (pass_knows other) (pass_knows result.0) }
         ensures same { pass_knows result.1 ≡ pass_knows result.0 }
+        ensures worn { IsWornPass one ⊎ IsWornPass other → IsWornPass result.0 × IsWornPass result.1 }
     {
         let Pass { mut seat } = one;
         let Pass { seat: second } = other;
