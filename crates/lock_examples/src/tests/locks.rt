@@ -1,9 +1,10 @@
 //! The locks' worked values, and threads that append through each lock.
 
-ghost use Rattle.std.specs.Prelude.{IfOk};
+ghost use Rattle.std.specs.Prelude.{◌≡◌, ◌<◌, IfOk};
 ghost use Rattle.lock_examples.specs.Lists.{GoesOn, same_list, longer_list, either_list};
 ghost use Rattle.turn_lock.specs.SpinShown.{IsPassOf as IsSpinPassOf};
-ghost use Rattle.turn_lock.specs.TicketShown.{IsDrawnOf, IsPassOf};
+ghost use Rattle.turn_lock.specs.Ticket.{last_word};
+ghost use Rattle.turn_lock.specs.TicketShown.{IsDrawnOf, IsPassOf, IsWornPass, pass_knows};
 
 use std::alloc::Global;
 use std::process::Abort;
@@ -87,7 +88,8 @@ fn ticket_lock_at(
     alloc: Global,
     first: u64,
 ) -> (TicketLock<Entries>, Pass<Entries>)
-    ensures { IsPassOf result.0 result.1 }
+    ensures own { IsPassOf result.0 result.1 }
+    ensures next { (pass_knows result.1).next ≡ first }
 {
     TicketLock::new_at(alloc, Entries::new(alloc), first).expect(rt, "memory for a lock")
 }
@@ -490,27 +492,48 @@ fn two_passes_meet(rt: HostRuntime) {
     find_both(&rt, &lock, pass);
 }
 
-// The first is worn, and after they have met both are.
-fn meet_worn(
-    rt: &impl Abort,
+// Uses the last ticket, of which the pass knows then.
+fn use_last<R: Wait + Abort>(
+    rt: &R,
     lock: &TicketLock<Entries>,
-    a: Pass<Entries>,
-    b: Pass<Entries>,
-) -> (Pass<Entries>, Pass<Entries>)
-    requires { IsPassOf lock.now a × IsPassOf lock.now b }
-    ensures { IsPassOf lock.now result.0 × IsPassOf lock.now result.1 }
+    pass: Pass<Entries>,
+) -> Pass<Entries>
+    requires { IsPassOf lock.now pass }
+    ensures own { IsPassOf lock.now result }
+    ensures worn { IsWornPass result }
 {
-    let a = look_worn(rt, lock, a);
-    let (a, b) = meet(lock, a, b);
-    (look_worn(rt, lock, a), look_worn(rt, lock, b))
+    let Ok((value, holding)) = lock.lock(rt, pass) else {
+        panic!(rt; "the last ticket is refused");
+    };
+    assert!(rt; holding.ticket() == u64::MAX - 1);
+    lock.leave(holding, value)
+}
+
+// A worn pass meets two that aren't: the one as the first of the two that meet, the other as the second. All three are worn then.
+fn meet_worn(
+    lock: &TicketLock<Entries>,
+    worn: Pass<Entries>,
+    fresh: Pass<Entries>,
+) -> (Pass<Entries>, Pass<Entries>, Pass<Entries>)
+    requires own { IsPassOf lock.now worn × IsPassOf lock.now fresh }
+    requires worn { IsWornPass worn }
+    requires fresh { (pass_knows fresh).next < last_word }
+    ensures own { IsPassOf lock.now result.0 × IsPassOf lock.now result.1 × IsPassOf lock.now result.2 }
+    ensures worn { IsWornPass result.0 × IsWornPass result.1 × IsWornPass result.2 }
+{
+    let (one, other) = lock.split(fresh);
+    let (worn, one) = lock.meet(worn, one);
+    let (other, worn) = lock.meet(other, worn);
+    (worn, one, other)
 }
 
 #[test]
-fn two_worn_passes_meet(rt: HostRuntime) {
-    let (lock, pass) = ticket_lock_at(&rt, rt.alloc(), u64::MAX);
+fn worn_passes_meet(rt: HostRuntime) {
+    let (lock, pass) = ticket_lock_at(&rt, rt.alloc(), u64::MAX - 1);
     let (a, b) = lock.split(pass);
-    let (a, b) = meet_worn(&rt, &lock, a, b);
-    let (a, b) = meet(&lock, b, a);
+    let a = use_last(&rt, &lock, a);
+    let (a, b, c) = meet_worn(&lock, a, b);
     look_worn(&rt, &lock, a);
     look_worn(&rt, &lock, b);
+    look_worn(&rt, &lock, c);
 }
