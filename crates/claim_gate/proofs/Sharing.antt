@@ -1,5 +1,5 @@
 -- Calls of a gate behind a lock, by those of the gate of one thread.
-use Rattle.std.proofs.Common.{◌≡◌, ◌+◌, ℕ, max, refl, sym, ap, inl, inr, ◌∙◌, subst}
+use Rattle.std.proofs.Common.{◌≡◌, ◌+◌, ℕ, refl, sym, ap, inl, inr, subst}
 use Rattle.claim_terms.specs.Terms.{ForTerms, IsTermsOf}
 use Rattle.settlement.specs.declared.acc.Acc.{Acc}
 use Rattle.settlement.specs.declared.claim.Claim.{Claim}
@@ -7,11 +7,11 @@ use Rattle.journal.specs.Terms.{Terms}
 use Rattle.journal.specs.Events.{IsJob}
 use Rattle.journal.specs.Gate.{LeadsTo}
 use Rattle.journal.specs.Laws.{JobsStay}
-use Rattle.turn_lock.specs.Ticket.{last_word}
 use Rattle.turn_lock.specs.TicketShown.{HasMet}
 use Rattle.turn_lock.specs.declared.ticket.view.LiveView.{LiveView as Seen}
+use Rattle.claim_gate.specs.Locked.{known_by}
 use Rattle.claim_gate.specs.Parts.{GateParts, at}
-use Rattle.claim_gate.specs.Shared.{HadSection, IsLawful, Known}
+use Rattle.claim_gate.specs.Shared.{HadSection, HaveMet, IsLawful, Known}
 
 -- what leads to another state as contracts see the two does so as journals see them
 pub leads_at : (T : Terms) (earlier later : GateParts) → LeadsTo earlier later → LeadsTo (at T earlier) (at T later)
@@ -36,13 +36,12 @@ had_section before after found left found_is left_is fresh found_lawful grown le
   tally = tally;
 }
 
--- where two passes that have seen the last word have met, both have seen it
-pub met_worn :
-    {T : Type 0} (leads : T → T → Type 0) (one other both : Seen T) → HasMet leads one other both → one.next ≡ last_word → other.next ≡ last_word
-    → both.next ≡ last_word
-met_worn leads one other both met worn behind =
-    let greater : max one.next other.next ≡ last_word = rw (worn, behind) refl in
+-- passes of a lock that have met, as callers of the gate behind it
+pub met_known :
+    {V : Type 0} (leads : V → V → Type 0) (shown : V → GateParts) → ((earlier later : V) → leads earlier later → LeadsTo (shown earlier) (shown later)) → (one other both : Seen V)
+    → HasMet leads one other both → HaveMet (known_by shown one) (known_by shown other) (known_by shown both)
+met_known leads shown shows one other both met =
     elim met [
-      | inl is ↦ ap (λ k. k.next) is.1 ∙ greater
-      | inr is ↦ ap (λ k. k.next) is.1 ∙ greater
+      | inl is ↦ record { later = inl (ap (λ k. shown k.seen) is.1, shows other.seen one.seen is.0); found = ap (λ k. shown k.last) is.1; tally = ap (λ k. k.ended) is.1 }
+      | inr is ↦ record { later = inr (ap (λ k. shown k.seen) is.1, shows one.seen other.seen is.0); found = ap (λ k. shown k.last) is.1; tally = ap (λ k. k.ended) is.1 }
     ]

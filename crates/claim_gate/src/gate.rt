@@ -123,7 +123,7 @@ pub trait Gate {
         ensures worn_back { IfErr result (λ e. (e.2 ≡ job) × (e.3 ≡ outcome)) }
         ensures late { is_worn pass → IsErr result };
 
-    /// Stops the gate: from then on each call answers so. The journal stays as it is.
+    /// Stops the gate: from then on `offer`, `end`, `take` and `finish` answer so, and change nothing. The journal stays as it is.
     fn stop<R: Wait>(&self, rt: &R, pass: Self::Pass) -> Result<Self::Pass, (Worn, Self::Pass)>
         requires { has_pass self.now pass }
         ensures served { IfOk result (IsServed (has_pass self.now) known (known pass)) }

@@ -1,5 +1,5 @@
 //! The gate behind a lock.
-ghost use Rattle.std.specs.Prelude.{◌≡◌, IfOk, IfErr, IsErr};
+ghost use Rattle.std.specs.Prelude.{◌≡◌, ◌⊎◌, IfOk, IfErr, IsErr};
 ghost use Rattle.journal.specs.Gate.{LeadsTo};
 ghost use Rattle.claim_gate.specs.Shared.{IsLawful};
 ghost use Rattle.claim_gate.specs.Locked.{lock_of, known_by};
@@ -33,13 +33,13 @@ where
         LockedGate { lock }
     }
 
-    /// Takes the gate of one thread out of the lock, as a section of it finds the gate: no later call of any pass is answered.
+    /// Takes the gate of one thread out of the lock, as the pass's next section finds it: no later call of any pass is served.
     /// `Worn` has changed nothing, and the pass knows what it knew.
     pub fn retire<R: Wait>(&self, rt: &R, pass: S::Pass) -> Result<S::Value, (Worn, S::Pass)>
         requires { S.has_pass (lock_of self.now) pass }
         ensures fresh { IfOk result (λ gate. LeadsTo (S.Value.shown (S.seen pass)) (S.Value.shown gate)) }
         ensures lawful { IfOk result (λ gate. IsLawful (S.Value.shown gate)) }
-        ensures found { IfOk result (λ gate. (holder : S.Holder) × S.has_holder (lock_of self.now) holder × (S.found holder ≡ gate)) }
+        ensures found { IfOk result (λ gate. (holder : S.Holder) × S.has_holder (lock_of self.now) holder × (S.found holder ≡ gate) × (S.tally_before holder ≡ S.tally pass)) }
         ensures worn { IfErr result (λ e. S.is_worn e.1) }
         ensures back { IfErr result (λ e. S.has_pass (lock_of self.now) e.1 × (S.seen e.1 ≡ S.seen pass) × (S.tally e.1 ≡ S.tally pass) × (S.last_found e.1 ≡ S.last_found pass)) }
         ensures late { S.is_worn pass → IsErr result }
@@ -60,16 +60,15 @@ impl<V: SerialGate> LockedGate<TicketLock<V>> {
     ghost use Rattle.claim_gate.specs.Shared.{HaveMet};
 
     /// Makes what two passes have seen one: both have then seen the later of the two states, whose journal the other's begins.
-    /// The tally of both, and the state that their last section found, are the first's.
+    /// The tally of both, and the state that their last section found, are the first's. Where one of them was worn, both are.
     ///
     /// It ends no section, waits for nobody and takes no memory. Nothing says that what both have seen then is the newest state.
-    #[tactic(auto, using(crate::proofs::Sharing::met_worn))]
     pub fn meet(&self, one: Pass<V>, other: Pass<V>) -> (Pass<V>, Pass<V>)
         requires { IsPassOf (lock_of self.now) one × IsPassOf (lock_of self.now) other }
         ensures own { IsPassOf (lock_of self.now) result.0 × IsPassOf (lock_of self.now) result.1 }
         ensures met { HaveMet (known_by V.shown (pass_knows one)) (known_by V.shown (pass_knows other)) (known_by V.shown (pass_knows result.0)) }
         ensures same { pass_knows result.1 ≡ pass_knows result.0 }
-        ensures worn { IsWornPass one → IsWornPass other → IsWornPass result.0 × IsWornPass result.1 }
+        ensures worn { IsWornPass one ⊎ IsWornPass other → IsWornPass result.0 × IsWornPass result.1 }
     {
         self.lock.meet(one, other)
     }

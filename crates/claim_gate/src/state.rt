@@ -309,7 +309,7 @@ impl<'t> GateState<'t> {
         Ok(Recorded { claim: job.claim })
     }
 
-    /// Stops the gate: from now on each call answers so. The journal stays as it is.
+    /// Stops the gate: from now on `offer`, `end`, `take` and `finish` answer so, and change nothing. The journal stays as it is.
     pub fn stop(&mut self)
         ensures stopped { self.new ≡ record self.old { stopped = true } }
         ensures lawful { IsLawful self.new }
