@@ -8,8 +8,11 @@ use std::sync::Wait;
 use std::sync::atomic::{AtomicU64, Ordering};
 use std::time::Duration;
 
+#[cfg(test)]
+mod tests;
+
 /// So many claims may wait before an intake sleeps: some turns of several workers, and a few megabytes.
-pub(crate) const CLAIMS_LIMIT: u64 = 8_192;
+const CLAIMS_LIMIT: u64 = 8_192;
 
 /// It goes on once no more than so many wait. The workers have enough to do until it has woken up.
 const CLAIMS_ENOUGH: u64 = 4_096;
@@ -25,6 +28,10 @@ const SLEEPS_LIMIT: u32 = 20;
 pub(crate) struct Backlog {
     offered: AtomicU64,
     taken: AtomicU64,
+    // How many intakes sleep, or look whether they are to.
+    sleepers: AtomicU64,
+    // How often they were woken. They sleep on this word, which stays as it is while claims are taken.
+    wakes: AtomicU64,
 }
 
 impl Backlog {
@@ -33,6 +40,8 @@ impl Backlog {
         Backlog {
             offered: AtomicU64::new(0),
             taken: AtomicU64::new(0),
+            sleepers: AtomicU64::new(0),
+            wakes: AtomicU64::new(0),
         }
     }
 
@@ -46,31 +55,49 @@ impl Backlog {
         self.taken.fetch_add(1, Ordering::SeqCst);
     }
 
-    /// Wakes the intakes that sleep, where so few claims wait that they are to go on.
+    /// Wakes the intakes that sleep, where so few claims wait that they are to go on. Where none sleeps it only looks at their number.
+    ///
+    /// Whoever took claims calls this afterwards, and no wake-up is lost. An intake is counted first, reads `wakes`, looks at the
+    /// length, and sleeps while `wakes` is what it has read. A caller that finds none counted has looked before the intake was, and so
+    /// the intake finds the caller's claims taken. One that finds some changes `wakes`: either the intake looks at the length behind that
+    /// change, or its sleep doesn't begin, or it is woken. (Were one lost all the same, it would cost the bound of a sleep.)
     pub(crate) fn wake_where_short(&self) {
-        if self.length() <= CLAIMS_ENOUGH {
-            self.taken.wake_all();
+        if self.has_sleepers() && self.length() <= CLAIMS_ENOUGH {
+            self.wakes.fetch_add(1, Ordering::SeqCst);
+            self.wakes.wake_all();
         }
     }
 
-    /// Sleeps where too many claims wait, for a while at most.
-    pub(crate) fn await_shorter<R: Wait>(&self, rt: &R) {
+    /// Sleeps where too many claims wait, for a while at most. Gives how often it slept.
+    pub(crate) fn await_shorter<R: Wait>(&self, rt: &R) -> u32 {
         if self.length() <= CLAIMS_LIMIT {
-            return;
+            return 0;
         }
-        for _ in 0..SLEEPS_LIMIT {
-            let taken = self.taken.load(Ordering::SeqCst);
+        self.sleepers.fetch_add(1, Ordering::SeqCst);
+        let sleeps = self.sleep_until_short(rt);
+        self.sleepers.fetch_sub(1, Ordering::SeqCst);
+        sleeps
+    }
+
+    fn sleep_until_short<R: Wait>(&self, rt: &R) -> u32 {
+        for sleeps in 0..SLEEPS_LIMIT {
+            let wakes = self.wakes.load(Ordering::SeqCst);
             if self.length() <= CLAIMS_ENOUGH {
-                return;
+                return sleeps;
             }
-            let low_half = (taken & u64::from(u32::MAX)) as u32;
-            self.taken
+            let low_half = (wakes & u64::from(u32::MAX)) as u32;
+            self.wakes
                 .park_timeout(rt, low_half, Duration::from_micros(SLEEP_MICROS));
         }
+        SLEEPS_LIMIT
+    }
+
+    fn has_sleepers(&self) -> bool {
+        self.sleepers.load(Ordering::SeqCst) > 0
     }
 
     /// On a gate that others call too, more may be taken than was counted.
-    pub(crate) fn length(&self) -> u64 {
+    fn length(&self) -> u64 {
         let taken = self.taken.load(Ordering::SeqCst);
         self.offered.load(Ordering::SeqCst).saturating_sub(taken)
     }

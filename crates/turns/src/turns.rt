@@ -163,11 +163,12 @@ impl Turn<'_> {
 }
 
 impl Drop for Turn<'_> {
+    // An intake that is woken here finds the turn given back.
     fn drop(self) {
-        self.turns.backlog.wake_where_short();
-        if self.has {
-            self.turns.give_back();
+        let Turn { turns, has } = self;
+        if has {
+            turns.give_back();
         }
-        let Turn { turns: _, has: _ } = self;
+        turns.backlog.wake_where_short();
     }
 }

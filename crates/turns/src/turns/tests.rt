@@ -1,7 +1,6 @@
 //! Turns as one thread sees them: what is held and what is given back, and that each wait has an end.
 
 use super::{FREE, HELD, Turns};
-use crate::backlog::{Backlog, CLAIMS_LIMIT};
 use std::sync::atomic::Ordering;
 use std::test::Fail;
 
@@ -42,27 +41,5 @@ fn offers_begin_where_few_claims_wait(rt: HostRuntime) -> Result<(), Fail> {
     first.count_taken();
     drop(first);
     assert!(rt; turns.begin_offers(&rt).has);
-    Ok(())
-}
-
-#[test]
-fn an_intake_far_ahead_goes_on_after_a_while(rt: HostRuntime) -> Result<(), Fail> {
-    let backlog = Backlog::new();
-    for _ in 0..CLAIMS_LIMIT + 1 {
-        backlog.add_one();
-    }
-    backlog.await_shorter(&rt);
-    assert!(rt; backlog.length() == CLAIMS_LIMIT + 1);
-    Ok(())
-}
-
-#[test]
-fn more_claims_taken_than_counted(rt: HostRuntime) -> Result<(), Fail> {
-    let backlog = Backlog::new();
-    backlog.remove_one();
-    assert!(rt; backlog.length() == 0);
-    backlog.add_one();
-    backlog.add_one();
-    assert!(rt; backlog.length() == 1);
     Ok(())
 }

@@ -1,0 +1,97 @@
+//! The counts of claims, when an intake sleeps, and who wakes it.
+
+use super::{Backlog, CLAIMS_ENOUGH, CLAIMS_LIMIT, SLEEPS_LIMIT};
+use std::sync::Wait;
+use std::sync::atomic::Ordering;
+use std::test::Fail;
+use std::thread;
+use std::time::{Clock, Duration, Instant};
+
+/// Far longer than an intake sleeps, and than a wake-up takes on a busy machine.
+const LONG_SECONDS: u64 = 20;
+
+// So many claims wait.
+fn with_claims(count: u64) -> Backlog {
+    let backlog = Backlog::new();
+    for _ in 0..count {
+        backlog.add_one();
+    }
+    backlog
+}
+
+fn count_a_sleeper(backlog: &Backlog) {
+    backlog.sleepers.fetch_add(1, Ordering::SeqCst);
+}
+
+fn wakes(backlog: &Backlog) -> u64 {
+    backlog.wakes.load(Ordering::SeqCst)
+}
+
+#[test]
+fn more_claims_taken_than_counted(rt: HostRuntime) -> Result<(), Fail> {
+    let backlog = Backlog::new();
+    backlog.remove_one();
+    assert!(rt; backlog.length() == 0);
+    backlog.add_one();
+    backlog.add_one();
+    assert!(rt; backlog.length() == 1);
+    Ok(())
+}
+
+#[test]
+fn an_intake_far_ahead_goes_on_after_a_while(rt: HostRuntime) -> Result<(), Fail> {
+    let backlog = with_claims(CLAIMS_LIMIT);
+    assert!(rt; backlog.await_shorter(&rt) == 0);
+    backlog.add_one();
+    assert!(rt; backlog.await_shorter(&rt) == SLEEPS_LIMIT);
+    assert!(rt; !backlog.has_sleepers());
+    Ok(())
+}
+
+#[test]
+fn nobody_is_woken_where_nobody_sleeps_or_many_claims_wait(rt: HostRuntime) -> Result<(), Fail> {
+    let backlog = with_claims(CLAIMS_ENOUGH + 1);
+    count_a_sleeper(&backlog);
+    backlog.wake_where_short();
+    assert!(rt; wakes(&backlog) == 0);
+    backlog.remove_one();
+    backlog.wake_where_short();
+    assert!(rt; wakes(&backlog) == 1);
+    let no_sleeper = Backlog::new();
+    no_sleeper.wake_where_short();
+    assert!(rt; wakes(&no_sleeper) == 0);
+    Ok(())
+}
+
+// As an intake sleeps, but for longer.
+fn sleep_for_long<R: Wait>(rt: &R, backlog: &Backlog) {
+    count_a_sleeper(backlog);
+    backlog
+        .wakes
+        .park_timeout(rt, 0, Duration::from_secs(LONG_SECONDS));
+}
+
+// Waits until somebody sleeps or is about to, and a little longer.
+fn wake_who_sleeps<R: Wait + Clock>(rt: &R, backlog: &Backlog) {
+    for _ in rt.forever() {
+        if backlog.has_sleepers() {
+            break;
+        }
+        thread::yield_now();
+    }
+    thread::sleep(rt, Duration::from_millis(20));
+    backlog.wake_where_short();
+}
+
+#[test]
+fn a_wake_ends_a_sleep(rt: HostRuntime) -> Result<(), Fail> {
+    let backlog = Backlog::new();
+    let begun = Instant::now(&rt)?;
+    thread::join(
+        &rt,
+        || sleep_for_long(&rt, &backlog),
+        || wake_who_sleeps(&rt, &backlog),
+    );
+    assert!(rt; begun.elapsed(&rt)? < Duration::from_secs(LONG_SECONDS / 2));
+    Ok(())
+}
