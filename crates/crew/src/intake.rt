@@ -102,7 +102,8 @@ fn read_ahead(alloc: Global, rows: &mut Rows<'_>) -> Result<Ahead, AllocError>
 }
 
 // Offers these claims of a provider in one turn, of which the first stands at this place, from the place on that is expected. Gives the
-// place that is expected then; none where no more claims are accepted.
+// place that is expected then; none where no more claims are accepted. Where there are none, as of records that are all refused, the gate
+// isn't called, and no turn is waited for.
 fn offer_all<R: Wait, G: Gate>(
     rt: &R,
     terms: &Terms,
@@ -124,6 +125,9 @@ fn offer_all<R: Wait, G: Gate>(
     ensures next { IfOk result (λ r. GoesOnBehind (G.known r.1).seen provider (first + length claims.items) r.0) }
     ensures leaves { IfErr result (LeavesWith (G.has_pass gate.now) G.known pass) }
 {
+    if claims.is_empty() {
+        return Ok((Some(expected), pass));
+    }
     let turn = turns.begin_offers(rt);
     let pass = match foresee(rt, gate, pass, claims.as_slice()) {
         Ok(pass) => pass,

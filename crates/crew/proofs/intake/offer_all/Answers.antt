@@ -1,5 +1,5 @@
-use Rattle.std.proofs.Common.{◌∙◌, arith}
-use Rattle.crew.proofs.Passes.{further_beside, leaves_later_where_err}
+use Rattle.std.proofs.Common.{◌≡◌, ◌∙◌, length, refl, arith, rules}
+use Rattle.crew.proofs.Passes.{further_beside, leaves_later_where_err, unchanged}
 use Rattle.crew.proofs.Sections.{no_fewer}
 use Rattle.crew.proofs.intake.offer_all.Goals as goal
 
@@ -38,3 +38,11 @@ returns-clause-next g c = c.offer_each.ensures.next
 pub returns-clause-leaves : goal.returns-clause-leaves
 returns-clause-leaves g c =
     leaves_later_where_err (g.G.Gate.has_pass c.args.gate.now) g.G.Gate.known c.args.pass c.in-Ok.pass c.offer_each.result c.in-Ok.ensures.goes_on c.offer_each.ensures.leaves
+
+pub returns-then-is_empty-clause-goes_on : goal.returns-then-is_empty-clause-goes_on
+returns-then-is_empty-clause-goes_on g c = unchanged (g.G.Gate.has_pass c.args.gate.now) g.G.Gate.known c.args.pass c.args.pass c.requires.own refl
+
+pub returns-then-is_empty-clause-next : goal.returns-then-is_empty-clause-next
+returns-then-is_empty-clause-next g c =
+    let none : length c.args.claims.items ≡ 0 = search rules in
+    (omega (arith, none, c.requires.reached), c.requires.taken)
