@@ -26,7 +26,8 @@ use turns::Turns;
 /// How many workers a run may have at most.
 pub const WORKERS_LIMIT: usize = 64;
 
-/// Runs by an intake thread for each provider's file and so many workers, behind a ticket lock.
+/// Runs by an intake thread for each provider's file and so many workers, 1 to 64, on a gate of its own behind a ticket lock. Gives the
+/// batch, whose journal is finished. The caller takes part as one worker more, and its faults are those of `run_with`.
 pub fn run<'t, R: Threads + Wait + Sync>(
     rt: &R,
     alloc: Global,
@@ -102,8 +103,17 @@ where
     }
 }
 
-/// The same on a gate and a pass of the caller's. The caller takes part as one worker more until the journal is finished, and
-/// then waits for all threads.
+/// Runs on a gate and with a pass of the caller's, by an intake thread for each provider's file and so many workers, 1 to 64. Others may
+/// call the gate meanwhile. The caller takes part as one worker more until the journal is finished, and then waits for all threads.
+///
+/// `Ok` says that the caller's pass has seen the finished journal, whatever another thread met. Otherwise the fault is the first, in the
+/// order of `RunFault`, of those that the caller and its threads met:
+///
+/// - `Workers`: another number of workers, before any call of the gate.
+/// - `OutOfMemory`, `Thread`: the caller or a thread was refused memory, or the system starts no more threads. Each of these stops the
+///   gate, for all who call it, unless its lock is worn. So it may be stopped where `Ok` comes, too.
+/// - `Worn`: the gate's lock has no ticket left.
+/// - `Stopped`: the gate was stopped by someone else, and the pass has seen it so.
 pub fn run_with<R: Threads + Wait + Sync, G: Gate + Sync>(
     rt: &R,
     alloc: Global,
