@@ -1,6 +1,7 @@
 //! The least fault that the threads of a run have met.
-ghost use Rattle.std.specs.Prelude.{◌≡◌, ◌≤◌};
-ghost use Rattle.crew.specs.FaultNumber.{number_of};
+ghost use Rattle.std.specs.Prelude.{◌≡◌, ◌≢◌, ◌≤◌, IfSome, IfNone};
+ghost use Rattle.crew.specs.FaultNumber.{IsMetAlone, number_of};
+ghost use Rattle.crew.specs.declared.fault.RunFault.{RunFault};
 ghost use Rattle.crew.specs.declared.fault.RunFault.TheVariants.{Workers, Stopped};
 
 use crate::fault::RunFault;
@@ -34,11 +35,22 @@ impl LeastFault {
         ensures stopped { result ≡ Stopped → own ≡ Stopped }
     {
         let noted = self.number.load(Ordering::SeqCst);
-        match noted.min(u64::from(own.number())) {
-            2 => RunFault::OutOfMemory,
-            3 => RunFault::Thread,
-            4 => RunFault::Worn,
-            _ => own,
+        match met_alone(noted.min(u64::from(own.number()))) {
+            Some(fault) => fault,
+            None => own,
         }
+    }
+}
+
+// The fault of this number, where it is one that a thread meets by itself.
+fn met_alone(number: u64) -> Option<RunFault>
+    ensures found { IfSome result (λ fault. (number_of fault ≡ number) × IsMetAlone fault) }
+    ensures none { IfNone result ((fault : RunFault) → IsMetAlone fault → number_of fault ≢ number) }
+{
+    match number {
+        2 => Some(RunFault::OutOfMemory),
+        3 => Some(RunFault::Thread),
+        4 => Some(RunFault::Worn),
+        _ => None,
     }
 }
