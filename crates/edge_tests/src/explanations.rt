@@ -129,8 +129,8 @@ fn column_of_a_record_is_named(rt: HostRuntime) {
     let page = explain_record(rt.alloc(), "b.csv", header, 2, &fault);
     let wanted = "  b.csv, record 2 behind the header, column oop
   an amount has part of a cent
-  It means: `run`: the balances are no such file, for the cause F below
-  What to do: correct it
+  It means: `run`: record R of the balances, behind the header, is refused for the cause C below, at column K of the header
+  What to do: correct that record
 ";
     expects_page(&rt, page, wanted);
 }

@@ -1,6 +1,6 @@
 //! Which column of a file of claims or balances is meant.
 
-use crate::words::{file_words, record_words, terms_words};
+use crate::words::{file_words, record_words, refused_record_words};
 use csv::{ByteRecord, ReaderBuilder};
 use explain::{Page, count_at, value_at};
 use intake_csv::{FileFault, RowFault};
@@ -15,6 +15,24 @@ pub enum FileKind {
     Balances,
 }
 
+/// What is amiss with a needed column of a header.
+#[derive(Clone, Copy, PartialEq, Eq)]
+enum Amiss {
+    Missing,
+    Twice,
+}
+
+impl Amiss {
+    // What the fault of a file says of its columns; nothing where it is about something else.
+    fn of(fault: FileFault) -> Option<Amiss> {
+        match fault {
+            FileFault::MissingColumn => Some(Amiss::Missing),
+            FileFault::DuplicateColumn => Some(Amiss::Twice),
+            FileFault::TooLarge | FileFault::NoHeader | FileFault::OutOfMemory => None,
+        }
+    }
+}
+
 /// What the fault of a whole file of this name means. For claims the plan's text says which columns are needed.
 pub fn explain_file(
     alloc: Global,
@@ -26,17 +44,11 @@ pub fn explain_file(
 ) -> Result<Page, AllocError> {
     let mut page = Page::new(alloc);
     page.line(&[name])?;
-    if fault == FileFault::MissingColumn || fault == FileFault::DuplicateColumn {
+    if let Some(amiss) = Amiss::of(fault) {
         let header = header_of(alloc, text)?;
-        let wanted = if fault == FileFault::MissingColumn {
-            0
-        } else {
-            2
-        };
-        add_columns(alloc, &mut page, &header, plan, kind, wanted)?;
+        add_columns(alloc, &mut page, &header, plan, kind, amiss)?;
     }
-    let words = file_words(fault);
-    page.words(words)?;
+    page.words(file_words(fault))?;
     Ok(page)
 }
 
@@ -58,7 +70,7 @@ pub fn explain_record(
         page.line(&[record.as_str(), ", column ", column])?;
     }
     page.line(&[record_words(fault.cause)])?;
-    page.words(terms_words(4))?;
+    page.words(refused_record_words())?;
     Ok(page)
 }
 
@@ -82,26 +94,26 @@ fn header_of(alloc: Global, text: &[u8]) -> Result<ByteRecord, AllocError> {
     }
 }
 
-// Names the needed columns that the header hasn't, at 0, or has more than once.
+// Names the needed columns with which this is amiss.
 fn add_columns(
     alloc: Global,
     page: &mut Page,
     header: &ByteRecord,
     plan: &[u8],
     kind: FileKind,
-    wanted: usize,
+    amiss: Amiss,
 ) -> Result<(), AllocError> {
-    for place in 0..4 {
-        add_column(page, header, needed(kind, place), wanted)?;
+    for name in needed(kind) {
+        add_column(page, header, name, amiss)?;
     }
     let Ok(members) = toml::table_from_slice(alloc, plan) else {
         return Ok(());
     };
     let document = Value::Table(members);
-    add_since(page, header, &document, (3, "family"), wanted)?;
+    add_since(page, header, &document, (3, "family"), amiss)?;
     match kind {
-        FileKind::Claims => add_fields(page, header, &document, wanted),
-        FileKind::Balances => add_since(page, header, &document, (2, "year"), wanted),
+        FileKind::Claims => add_fields(page, header, &document, amiss),
+        FileKind::Balances => add_since(page, header, &document, (2, "year"), amiss),
     }
 }
 
@@ -110,12 +122,12 @@ fn add_fields(
     page: &mut Page,
     header: &ByteRecord,
     plan: &Value,
-    wanted: usize,
+    amiss: Amiss,
 ) -> Result<(), AllocError> {
     for place in 0..count_at(plan, &[], "fields") {
         let steps = [Step::Key("fields"), Step::Item(place), Step::Key("name")];
         if let Some(name) = value_at(plan, &steps).and_then(Value::as_str) {
-            add_column(page, header, name, wanted)?;
+            add_column(page, header, name, amiss)?;
         }
     }
     Ok(())
@@ -127,27 +139,21 @@ fn add_since(
     header: &ByteRecord,
     plan: &Value,
     needed: (i64, &str),
-    wanted: usize,
+    amiss: Amiss,
 ) -> Result<(), AllocError> {
     let (first, name) = needed;
     let steps = [Step::Key("version")];
     match value_at(plan, &steps).and_then(Value::as_integer) {
-        Some(version) if version >= first => add_column(page, header, name, wanted),
+        Some(version) if version >= first => add_column(page, header, name, amiss),
         _ => Ok(()),
     }
 }
 
 // The columns that each such file needs.
-fn needed(kind: FileKind, place: usize) -> &'static str {
-    match (kind, place) {
-        (FileKind::Balances, 0) => "member",
-        (FileKind::Balances, 1) => "met",
-        (FileKind::Balances, 2) => "oop",
-        (FileKind::Balances, _) => "paid",
-        (FileKind::Claims, 0) => "claim",
-        (FileKind::Claims, 1) => "member",
-        (FileKind::Claims, 2) => "service",
-        (FileKind::Claims, _) => "billed",
+fn needed(kind: FileKind) -> &'static [&'static str] {
+    match kind {
+        FileKind::Claims => &["claim", "member", "service", "billed"],
+        FileKind::Balances => &["member", "met", "oop", "paid"],
     }
 }
 
@@ -155,7 +161,7 @@ fn add_column(
     page: &mut Page,
     header: &ByteRecord,
     name: &str,
-    wanted: usize,
+    amiss: Amiss,
 ) -> Result<(), AllocError> {
     let mut count = 0usize;
     for place in 0..header.len() {
@@ -163,11 +169,9 @@ fn add_column(
             count = count.saturating_add(1);
         }
     }
-    if wanted == 0 && count == 0 {
-        return page.line(&["the header has no column ", name]);
+    match amiss {
+        Amiss::Missing if count == 0 => page.line(&["the header has no column ", name]),
+        Amiss::Twice if count > 1 => page.line(&["the header has more than one column ", name]),
+        Amiss::Missing | Amiss::Twice => Ok(()),
     }
-    if wanted > 0 && count >= wanted {
-        return page.line(&["the header has more than one column ", name]);
-    }
-    Ok(())
 }

@@ -47,6 +47,14 @@ pub fn file_words(fault: FileFault) -> Words {
     }
 }
 
+/// The words of balances of which a record is refused; `record_words` says why it is.
+pub fn refused_record_words() -> Words {
+    both(
+        "`run`: record R of the balances, behind the header, is refused for the cause C below, at column K of the header",
+        "correct that record",
+    )
+}
+
 /// What a record's fault is.
 pub fn record_words(cause: RowCause) -> &'static str {
     match cause {
