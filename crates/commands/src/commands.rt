@@ -1,7 +1,7 @@
 //! One command, from the words of the command line to the exit status.
 
 ghost use Rattle.std.specs.Prelude.{◌≡◌, ◌≤◌};
-ghost use Rattle.commands.specs.Ends.{CommandIsDone, CommandIsRefused, IsDone, IsRefused, SomeWordsAreDone, SomeWordsAreRefused};
+ghost use Rattle.commands.specs.Ends.{CommandIsDone, CommandIsRefused, IsDone, IsRefused};
 
 use crate::check::check_of;
 use crate::run::run_of;
@@ -22,10 +22,6 @@ where
     R: Env + Files + Print + Eprint + AllocGlobal,
     R: Clock + Threads + Wait + Clone + Drop + Send + Sync + 'static,
     ensures known { result ≤ RESOURCE }
-
-    // What the words are isn't known here: it is so of some.
-    ensures done { result ≡ DONE → SomeWordsAreDone (S.whole sources.now) }
-    ensures refused { result ≡ REFUSED → SomeWordsAreRefused (S.whole sources.now) result }
 {
     let words = match words_of(rt) {
         Ok(words) => words,
@@ -35,8 +31,9 @@ where
     matched_status(rt, sources, &matched, is_watched)
 }
 
-/// The status by what the words were matched to: a command, or a fault of theirs.
-fn matched_status<R, S: Sources>(
+/// The exit status by what the words were matched to: a command, over these texts, or a fault of theirs. What a status means is promised here and not
+/// of `status`, since of the words that an `Env` gives no proof knows anything.
+pub fn matched_status<R, S: Sources>(
     rt: &R,
     sources: &S,
     matched: &Result<ArgMatches<'_>, Error>,

@@ -12,4 +12,4 @@ mod run;
 mod strict;
 mod words;
 
-pub use commands::status;
+pub use commands::{matched_status, status};

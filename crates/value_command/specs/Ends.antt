@@ -66,11 +66,3 @@ IsDone whole (Err fault) = IsHelp fault
 abbrev pub IsRefused : Whole → Result ArgMatches Error → ℕ → Type 0
 IsRefused whole (Ok matches) status = NamesValue matches (λ words. ValueIsRefused whole words status)
 IsRefused whole (Err fault) status = ⊥
-
--- there are words that name `value`, which can end with 0, or that ask for help or the version; which ones, nothing says
-abbrev pub SomeWordsAreDone : Whole → Type 0
-SomeWordsAreDone whole = (matched : Result ArgMatches Error) × IsDone whole matched
-
--- there are words that name `value`, which can end with this status of a refusal; which ones, nothing says
-abbrev pub SomeWordsAreRefused : Whole → ℕ → Type 0
-SomeWordsAreRefused whole status = (matched : Result ArgMatches Error) × IsRefused whole matched status

@@ -1,7 +1,7 @@
 //! The words of a command line, where the program has the command `value` alone.
 
 ghost use Rattle.std.specs.Prelude.{◌≡◌, ◌≤◌};
-ghost use Rattle.value_command.specs.Ends.{IsDone, IsRefused, NamesValue, SomeWordsAreDone, SomeWordsAreRefused, ValueIsDone, ValueIsRefused};
+ghost use Rattle.value_command.specs.Ends.{IsDone, IsRefused, NamesValue, ValueIsDone, ValueIsRefused};
 
 use crate::value::value_of;
 use clap::{ArgMatches, Error};
@@ -17,10 +17,6 @@ pub fn status<R, S: Sources>(rt: &R, sources: &S, is_watched: bool) -> u8
 where
     R: Env + Files + Print + Eprint + AllocGlobal,
     ensures known { result ≤ RESOURCE }
-
-    // What the words are isn't known here: it is so of some.
-    ensures done { result ≡ DONE → SomeWordsAreDone (S.whole sources.now) }
-    ensures refused { result ≡ REFUSED → SomeWordsAreRefused (S.whole sources.now) result }
 {
     let words = match words_of(rt) {
         Ok(words) => words,
@@ -31,8 +27,9 @@ where
     matched_status(rt, sources, &matched, is_watched)
 }
 
-/// The status by what the words were matched to: a command, or a fault of theirs.
-fn matched_status<R, S: Sources>(
+/// The exit status by what the words were matched to: a command, over these texts, or a fault of theirs. What a status means is promised here and not
+/// of `status`, since of the words that an `Env` gives no proof knows anything.
+pub fn matched_status<R, S: Sources>(
     rt: &R,
     sources: &S,
     matched: &Result<ArgMatches<'_>, Error>,

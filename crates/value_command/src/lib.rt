@@ -10,7 +10,7 @@ mod explaining;
 mod files;
 mod value;
 
-pub use command::status;
+pub use command::{matched_status, status};
 pub use explaining::value_page;
 pub use files::plan_of;
 pub use value::value_of;
