@@ -1,12 +1,23 @@
 //! A place over the system's files: a path.
 
 use crate::place::Place;
-use std::fs::{File, OpenFile, Permissions};
+use std::fs::{OpenFile, OpenOptions, Permissions};
+use std::os::unix::fs::OpenOptionsExt;
+use std::path::PathBuf;
 use std::rt::Files;
 use std::{fs, io};
 
 /// How many names beside the file are tried for its new text.
 const NAMES: u32 = 100;
+
+/// How many links are followed one after another, as many as the system follows.
+const LINKS: u32 = 40;
+
+/// The mode of a new file where none was, from which the process's mask takes.
+const NEW_MODE: u32 = 0o666;
+
+/// The mode of one that is to have the old one's permissions, until it has them.
+const PRIVATE_MODE: u32 = 0o600;
 
 /// A path, where a file may stand. The new text is written into another file beside it, which is removed where the text is given up.
 #[derive(Drop)]
@@ -18,19 +29,13 @@ pub struct FilePlace<'a, R: Files> {
 }
 
 impl<'a, R: Files + AllocGlobal> FilePlace<'a, R> {
-    /// The place at a path. A link stands for what it leads to. What is there and no file, as a device or a folder, is refused.
+    /// The place at a path. A link stands for what it leads to, be that there or not. What is there and no file, as a device or a folder, is
+    /// refused, and so is what can't be looked at, as a link that leads back to itself.
     pub fn new(files: &'a R, path: &str) -> io::Result<FilePlace<'a, R>> {
-        let path = led_to(files, path)?;
-        let permissions = match fs::metadata(files, path.as_str()) {
-            Ok(there) if !there.is_file() => {
-                return Err(io::Error::new(io::ErrorKind::InvalidInput, "not a regular file"));
-            }
-            Ok(there) => Some(there.permissions()),
-            Err(_) => None,
-        };
+        let permissions = permissions_at(files, path)?;
         Ok(FilePlace {
             files,
-            path,
+            path: led_to(files, path)?.into_string(),
             permissions,
             beside: String::new(files.alloc()),
         })
@@ -39,10 +44,15 @@ impl<'a, R: Files + AllocGlobal> FilePlace<'a, R> {
     // Makes a new file beside the path, by the first of some names that is not there.
     fn create(&mut self) -> io::Result<R::File> {
         let path = self.path.as_str();
+        let mode = if self.permissions.is_some() {
+            PRIVATE_MODE
+        } else {
+            NEW_MODE
+        };
         let mut last = io::Error::from(io::ErrorKind::AlreadyExists);
         for number in 0..NAMES {
             let beside = format!(in self.files.alloc(); "{path}.new{number}")?;
-            match File::create_new(self.files, beside.as_str()) {
+            match create_new(self.files, beside.as_str(), mode) {
                 Ok(file) => {
                     self.beside = beside;
                     return Ok(file);
@@ -72,12 +82,48 @@ impl<'a, R: Files + AllocGlobal> FilePlace<'a, R> {
     }
 }
 
-// What the path leads to, if there is anything.
-fn led_to<R: Files + AllocGlobal>(files: &R, path: &str) -> io::Result<String> {
-    match fs::canonicalize(files, path) {
-        Ok(found) => Ok(String::from_str(files.alloc(), found.as_str())?),
-        Err(_) => Ok(String::from_str(files.alloc(), path)?),
+// The permissions of the file at a path, if one is there.
+fn permissions_at<R: Files>(files: &R, path: &str) -> io::Result<Option<Permissions>> {
+    match fs::metadata(files, path) {
+        Ok(there) if !there.is_file() => Err(io::Error::new(
+            io::ErrorKind::InvalidInput,
+            "not a regular file",
+        )),
+        Ok(there) => Ok(Some(there.permissions())),
+        Err(fault) if fault.kind() == io::ErrorKind::NotFound => Ok(None),
+        Err(fault) => Err(fault),
     }
+}
+
+// Where a path leads, be anything there or not.
+fn led_to<R: Files + AllocGlobal>(files: &R, path: &str) -> io::Result<PathBuf> {
+    let mut path = PathBuf::from_str(files.alloc(), path)?;
+    for _ in 0..=LINKS {
+        let Some(target) = target_of(files, &path)? else {
+            return Ok(path);
+        };
+        // A target that isn't absolute is looked for in the link's folder.
+        path.pop();
+        path.push(&target)?;
+    }
+    Err(io::Error::from(io::ErrorKind::FilesystemLoop))
+}
+
+// What the link at a path says, if one is there.
+fn target_of<R: Files + AllocGlobal>(files: &R, path: &PathBuf) -> io::Result<Option<PathBuf>> {
+    match fs::symlink_metadata(files, path) {
+        Ok(there) if there.is_symlink() => Ok(Some(fs::read_link(files, path)?)),
+        Ok(_) => Ok(None),
+        Err(fault) if fault.kind() == io::ErrorKind::NotFound => Ok(None),
+        Err(fault) => Err(fault),
+    }
+}
+
+// Makes a file where none is.
+fn create_new<R: Files>(files: &R, path: &str, mode: u32) -> io::Result<R::File> {
+    let mut options = OpenOptions::new();
+    options.write(true).create_new(true).mode(mode);
+    options.open(files, path)
 }
 
 impl<R: Files + AllocGlobal> Place for FilePlace<'_, R> {
