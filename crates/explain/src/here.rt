@@ -1,10 +1,14 @@
 //! What is amiss at the place of a plan's fault, of the things that its cause may mean. Where the document tells no more, nothing is said.
 
+use crate::cell::Part;
+use crate::kind::kind_of;
 use crate::page::Page;
-use crate::spot::{count_at, items_behind, role_name, text_at, text_behind, value_at};
+use crate::spot::{
+    Column, count_at, items_behind, role_name, tables, text_at, text_behind, value_at,
+};
 use plan_places::{Step, is_one_edit};
 use std::alloc::AllocError;
-use table_faults::{PlanCause, PlanFault};
+use table_faults::{CellFault, PlanCause, PlanFault};
 use toml::Value;
 
 /// Adds what is amiss, by what the document has at the fault's place; nothing where no more is known.
@@ -23,7 +27,10 @@ pub fn add_amiss(
         PlanCause::Kind if fault.rule > 0 => add_counts(page, document, entry, fault.table),
         PlanCause::Kind => add_kind(page, entry),
         PlanCause::Unknown => add_unknown(page, document, entry),
-        PlanCause::Cell(cell) => add_cell_advice(page, entry, cell.at),
+        PlanCause::Cell(cell) => {
+            let column = Column::of(document, fault.table, fault.column);
+            add_cell_advice(page, document, entry, &column, cell)
+        }
         _ => Ok(()),
     }
 }
@@ -163,10 +170,6 @@ fn push_name(page: &mut Page, before: usize, name: &str) -> Result<(), AllocErro
     page.push(name)
 }
 
-fn tables(document: &Value) -> &[Value] {
-    items_behind(Some(document), "tables")
-}
-
 // That a rule has another number of cells or literals than its table has columns.
 fn add_counts(
     page: &mut Page,
@@ -246,49 +249,28 @@ fn near_name<'d>(entries: &'d [Value], name: &str) -> Option<&'d str> {
     None
 }
 
-// What a cell or literal looks like, if that tells more.
-fn add_cell_advice(page: &mut Page, cell: Option<&Value>, at: usize) -> Result<(), AllocError> {
-    let advice = cell_advice(text_of(cell).as_bytes(), at);
-    if advice.is_empty() {
+// What is right in place of a cell or literal of this column, if that is known.
+fn add_cell_advice(
+    page: &mut Page,
+    document: &Value,
+    entry: Option<&Value>,
+    column: &Column<'_>,
+    fault: CellFault,
+) -> Result<(), AllocError> {
+    let Some(text) = entry.and_then(Value::as_str) else {
         return Ok(());
+    };
+    let Some(kind) = kind_of(document, column) else {
+        return Ok(());
+    };
+    let part = Part {
+        text: text.as_bytes(),
+        kind,
+        is_literal: !column.is_input,
+        at: fault.at,
+    };
+    match part.advice(fault.cause) {
+        Some(advice) => page.line(&[advice.words()]),
+        None => Ok(()),
     }
-    page.line(&[advice])
-}
-
-// The text of a string; nothing where there is none.
-fn text_of(value: Option<&Value>) -> &str {
-    match value {
-        Some(value) => value.as_str().unwrap_or(""),
-        None => "",
-    }
-}
-
-// What the text of a cell or literal looks like that can't be read from its byte at this offset on.
-fn cell_advice(text: &[u8], at: usize) -> &'static str {
-    match text.get(at) {
-        _ if text.contains(&b'%') => "a part of a hundred is written as a fraction: 0.25 for 25 %",
-        _ if has_plain_day(text) => "a day is written with its word: date(\"2024-02-29\")",
-        _
-            if text.contains(&b'-')
-                && !text.contains(&b'.')
-                && matches!(text.first(), Some(b'[' | b'(' | b']')) =>
-            "between the ends of an interval stand two dots: [1..3]",
-        Some(b',') =>
-            "a number has no commas in it, and several tests stand in an input's cell alone",
-        Some(b'\'') => "a text stands in double quotes",
-        Some(byte) if byte.is_ascii_alphabetic() =>
-            "a text stands in double quotes: '\"OFFICE\"' for the word OFFICE",
-        _ => "",
-    }
-}
-
-// Whether a text has the two dashes of a day, and no `date`.
-fn has_plain_day(text: &[u8]) -> bool {
-    for at in 0..text.len() {
-        let dashes = (text.get(at), text.get(at.saturating_add(3)));
-        if dashes == (Some(&b'-'), Some(&b'-')) && !text.contains(&b'd') {
-            return true;
-        }
-    }
-    false
 }

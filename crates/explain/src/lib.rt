@@ -3,11 +3,14 @@
 //!
 //! `words.rt` is the table of texts, which `docs/FAULTS.md` has too (`scripts/faults` compares them). `page.rt` puts lines together.
 //! `plan.rt` says where a plan's fault stands, `table.rt` where a fault of the tables does, and `argument.rt` which byte of an argument.
-//! `spot.rt` finds what a plan's document has at a place.
+//! `spot.rt` finds what a plan's document has at a place, `here.rt` says what is amiss there, `cell.rt` what would be right in place of a cell or
+//! literal, by its column's kind, which `kind.rt` finds.
 #![tactic(auto)]
 
 mod argument;
+mod cell;
 mod here;
+mod kind;
 mod page;
 mod plan;
 mod spot;

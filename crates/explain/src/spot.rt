@@ -173,16 +173,19 @@ pub fn add_input_words(
     page.told(format_args!("table {table}, input {input} {name}"))
 }
 
-/// A column of a table: an input or an output, by its number among these from 1, and its name; nothing where it has none.
+/// A column of a table: an input or an output, by its number among these from 1, its name and the kind that it says; nothing where it says none, as
+/// inputs do.
 #[derive(Clone, Copy)]
-struct Column<'d> {
-    is_input: bool,
+pub struct Column<'d> {
+    pub is_input: bool,
     number: usize,
-    name: &'d str,
+    pub name: &'d str,
+    pub kind: &'d str,
 }
 
 impl<'d> Column<'d> {
-    fn of(document: &'d Value, table: usize, column: usize) -> Column<'d> {
+    /// The column of a table, both by their numbers from 1.
+    pub fn of(document: &'d Value, table: usize, column: usize) -> Column<'d> {
         let way = table_way(table);
         let inputs = count_at(document, way.as_slice(), "inputs");
         let is_input = column <= inputs;
@@ -196,6 +199,7 @@ impl<'d> Column<'d> {
             is_input,
             number,
             name: text_at(document, way.as_slice(), "name"),
+            kind: text_at(document, way.as_slice(), "kind"),
         }
     }
 
@@ -260,6 +264,11 @@ fn is_role(document: &Value, fault: &PlanFault) -> bool {
 /// The string at a key behind the steps; nothing where there is none.
 pub fn text_at<'d>(document: &'d Value, steps: &[Step], key: &str) -> &'d str {
     text_behind(value_at(document, steps), key).unwrap_or("")
+}
+
+/// The plan's tables.
+pub fn tables(document: &Value) -> &[Value] {
+    items_behind(Some(document), "tables")
 }
 
 /// How many items the array at a key behind the steps has.

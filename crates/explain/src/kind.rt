@@ -1,0 +1,83 @@
+//! The kinds of a plan's columns, as its document has them.
+
+use crate::spot::{Column, items_behind, tables, text_at, text_behind};
+use toml::Value;
+
+/// A kind of values.
+#[derive(Clone, Copy, PartialEq, Eq)]
+pub enum Kind {
+    Number,
+    Text,
+    Flag,
+    Day,
+}
+
+impl Kind {
+    // The kind that a plan calls so, if it is one.
+    fn called(word: &str) -> Option<Kind> {
+        match word {
+            "number" => Some(Kind::Number),
+            "text" => Some(Kind::Text),
+            "flag" => Some(Kind::Flag),
+            "day" => Some(Kind::Day),
+            _ => None,
+        }
+    }
+
+    /// Whether its values are told apart as less and more.
+    pub fn has_order(self) -> bool {
+        matches!(self, Kind::Number | Kind::Day)
+    }
+}
+
+/// The kind of a column, if the document tells it.
+pub fn kind_of(document: &Value, column: &Column<'_>) -> Option<Kind> {
+    if !column.is_input {
+        return Kind::called(column.kind);
+    }
+    match kind_of_own(document, column.name) {
+        Some(kind) => Some(kind),
+        None => kind_from_the_start(column.name),
+    }
+}
+
+// The kind of the field or output with this name.
+fn kind_of_own(document: &Value, name: &str) -> Option<Kind> {
+    if let Some(kind) = kind_among(items_behind(Some(document), "fields"), name) {
+        return Some(kind);
+    }
+    for table in tables(document) {
+        if let Some(kind) = kind_among(items_behind(Some(table), "outputs"), name) {
+            return Some(seen_kind(table, kind));
+        }
+    }
+    None
+}
+
+fn kind_among(entries: &[Value], name: &str) -> Option<Kind> {
+    for entry in entries {
+        if text_behind(Some(entry), "name") == Some(name) {
+            return Kind::called(text_at(entry, &[], "kind"));
+        }
+    }
+    None
+}
+
+// The kind that later tables see of an output: a count is a number.
+fn seen_kind(table: &Value, kind: Kind) -> Kind {
+    if text_behind(Some(table), "hit") == Some("C#") {
+        Kind::Number
+    } else {
+        kind
+    }
+}
+
+// The kind of a name that plans have from the start.
+fn kind_from_the_start(name: &str) -> Option<Kind> {
+    match name {
+        "claim" | "member" | "family" => Some(Kind::Text),
+        "service" => Some(Kind::Day),
+        "billed" | "met" | "oop" | "paid" | "fmet" | "foop" => Some(Kind::Number),
+        _ => None,
+    }
+}
