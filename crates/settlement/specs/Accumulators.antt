@@ -1,4 +1,4 @@
--- What a claim's outcome adds to its member's accumulators.
+-- What a claim's outcome adds to its member's accumulators and to its family's.
 use Rattle.std.specs.Prelude.{ℤ, ◌+ℤ◌, Bool, ◌&&◌, IsTrue}
 use Rattle.settlement.specs.declared.acc.Acc.{Acc}
 use Rattle.settlement.specs.declared.outcome.Outcome.{Outcome}

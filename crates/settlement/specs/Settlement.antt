@@ -114,6 +114,6 @@ by_tables None billed acc given answers = denied []
 by_tables (Some roles) billed acc given (Err fault) = by_fault (reason_of fault)
 by_tables (Some roles) billed acc given (Ok env) = by_roles roles billed acc given env
 
--- the outcome of a claim by a plan, at its member's accumulators
+-- the outcome of a claim by a plan, at its member's accumulators and its family's
 abbrev pub outcome : PlanParts → Claim → Acc → Outcome
 outcome plan claim acc = by_tables plan.roles claim.billed acc (given_by claim acc) (env plan (given_by claim acc))

@@ -1,4 +1,4 @@
-//! The outcome of a claim, and what it leaves of its member's accumulators.
+//! The outcome of a claim, and what it leaves of its member's accumulators and of its family's.
 ghost use Rattle.std.specs.Prelude.{◌≡◌, ℕ, IfOk, IfSome, IsSome};
 ghost use Rattle.std.specs.Option.{SomeIff};
 ghost use Rattle.dtable.specs.Environment.{env};
@@ -96,7 +96,7 @@ impl<'v, V: Valuer> Adjudicator<'v, V> {
         })
     }
 
-    /// The outcome of a claim by the plan, at its member's accumulators, whatever was decided before.
+    /// The outcome of a claim by the plan, at its member's accumulators and its family's, whatever was decided before.
     pub fn decide(&mut self, alloc: Global, claim: &Claim, acc: Acc) -> Result<Outcome, AllocError>
         requires roles { IsSome self.old.roles }
         requires fields { IsClaimOf self.old claim.now }
@@ -117,7 +117,8 @@ impl<'v, V: Valuer> Adjudicator<'v, V> {
     }
 }
 
-/// The outcome of a claim by the valuer's plan, at its member's accumulators. An `Adjudicator` decides many with less memory.
+/// The outcome of a claim by the valuer's plan, at its member's accumulators and its family's. An `Adjudicator` decides many with less
+/// memory.
 pub fn decide<V: Valuer>(
     alloc: Global,
     valuer: &V,
@@ -152,6 +153,7 @@ fn settled<V: Valuer>(
     ensures true_still { IsTrueOf (V.in_zone valuer.now) (V.plan_of valuer.now) memory.new }
 {
     let Some(zone) = zone_of(valuer, inputs, memory) else {
+        memory.count_in_vain();
         let benefit = benefit_of(alloc, valuer, inputs, places, vocabulary)?;
         return benefit.outcome(billed, &acc);
     };

@@ -1,4 +1,4 @@
-//! What a claim and its member's accumulators give the names that a plan reads.
+//! What a claim and the accumulators, its member's and its family's, give the names that a plan reads.
 ghost use Rattle.std.specs.Prelude.{◌≡◌, ◌<◌, ℕ, length, map, slice_get, Some, IsTrue, IfOk, OnOk};
 ghost use Rattle.std.specs.List.{All};
 ghost use Rattle.dtable.specs.Plan.{IsPlan};

@@ -1,7 +1,7 @@
-//! The settlement of a health plan's claims: what a claim's outcome is, in exact money, and what it adds to its
-//! member's accumulators.
+//! The settlement of a health plan's claims: what a claim's outcome is, in exact money, and what it adds to the
+//! accumulators of its member and of the member's family.
 //!
-//! A `Claim` is what a provider files, an `Acc` what is kept of a member. `decide` has the plan's tables evaluated at
+//! A `Claim` is what a provider files, an `Acc` what is kept of a member and of the family. `decide` has the plan's tables evaluated at
 //! both, by any `Valuer` of `dtable`, reads the plan's roles in their answers and gives the `Outcome`: paid with its
 //! amounts, denied, or pended with a `Reason`. `after` gives the accumulators that the outcome leaves.
 //! Numbers come from `fixpoint`, values from `feel_tests`, reasons from `reasons`.

@@ -94,6 +94,13 @@ impl Memory {
         self.patience = self.patience.saturating_add(WORTH).min(PATIENCE);
     }
 
+    /// Counts a zone that was sought in vain: it isn't known, or nothing is remembered of it.
+    pub fn count_in_vain(&mut self)
+        ensures { self.new ≡ self.old }
+    {
+        self.patience = self.patience.saturating_sub(1);
+    }
+
     /// No zone is worth while from now on.
     pub fn give_up(&mut self)
         ensures { self.new ≡ self.old }

@@ -7,9 +7,10 @@ ghost use Rattle.std.specs.Prelude.{◌≡◌};
 mod examples;
 mod families;
 mod plans;
+mod zones;
 
 use crate::ending::{expects, fail};
-use dtable::{Plan, PlanFault, Sequence, read_plan};
+use dtable::{Plan, PlanFault, Sequence, Valuer, read_plan};
 use examples::{
     Example, MOST, before_capped, behind_a_pended, capped, first, naming, paid, rates, scored,
     second, treated, uncapped, unpaid, written,
@@ -125,10 +126,10 @@ fn decided_once(
 }
 
 // The outcome of one claim more.
-fn decided_next(
+fn decided_next<V: Valuer>(
     rt: &impl Abort,
     alloc: Global,
-    desk: &mut Adjudicator<Plan>,
+    desk: &mut Adjudicator<V>,
     plan: &Plan,
     example: &Example,
 ) -> Result<Outcome, AllocError>
@@ -297,10 +298,10 @@ fn desk<'v>(rt: &impl Abort, alloc: Global, plan: &'v Plan) -> Adjudicator<'v, P
 }
 
 // Decides one claim more.
-fn settles_next(
+fn settles_next<V: Valuer>(
     rt: &impl Abort,
     alloc: Global,
-    desk: &mut Adjudicator<Plan>,
+    desk: &mut Adjudicator<V>,
     plan: &Plan,
     example: &Example,
 )

@@ -53,3 +53,13 @@ returns-clause-true_still g c =
     let answered : are_answered plan.roles ≡ true = sym (c.are_answered.ensures ∙ ap (λ (p : PlanParts). are_answered p.roles) c.plan.ensures) ∙ c.if-not-are_answered.false in
     kept_true (g.V.Valuer.in_zone c.args.valuer.now) plan c.args.memory.now c.keep.new.self c.args.inputs.now c.in-Some.zone c.in_ok-benefit-2.benefit c.requires.true_yet c.in_ok-benefit-2.ensures
     answered c.in-Some.ensures.alike c.keep.ensures
+
+pub returns-in_err-benefit-clause-true_still : goal.returns-in_err-benefit-clause-true_still
+returns-in_err-benefit-clause-true_still g c =
+    subst (λ (rooms : List (Option Remembered)). IsTrueOf (g.V.Valuer.in_zone c.args.valuer.now) (g.V.Valuer.plan_of c.args.valuer.now) rooms) (sym c.count_in_vain.ensures)
+    c.requires.true_yet
+
+pub returns-in_default-clause-true_still : goal.returns-in_default-clause-true_still
+returns-in_default-clause-true_still g c =
+    subst (λ (rooms : List (Option Remembered)). IsTrueOf (g.V.Valuer.in_zone c.args.valuer.now) (g.V.Valuer.plan_of c.args.valuer.now) rooms) (sym c.count_in_vain.ensures)
+    c.requires.true_yet
