@@ -20,7 +20,7 @@ last_more test ks k = last_more_from 0 test ks k None ∙ ap (λ m. cond (test k
 module _ (keys : List Key) (owns houses : List (Option ℕ)) (old_accounts old_households accounts households : Key → Option ℕ) (key : Key)
     (h : AreBacked keys owns houses old_accounts old_households) (owns_size : length owns ≡ length keys) (houses_size : length houses ≡ length keys)
     (accounts_told : (q : Key) → accounts q ≡ cond (is_key key q) (Some (length keys)) (old_accounts q))
-    (households_told : (q : Key) → households q ≡ cond (is_key (house key) q) (Some (length keys)) (old_households q)) where
+    (households_told : (q : Key) → households (house q) ≡ cond (is_key (house key) (house q)) (Some (length keys)) (old_households (house q))) where
   abbrev pub more : List Key
   more = keys ++ key ∷ []
 
@@ -50,7 +50,7 @@ module _ (keys : List Key) (owns houses : List (Option ℕ)) (old_accounts old_h
     accounts_are = λ q.
         accounts_told q ∙ ap (cond (is_key key q) (Some (length keys))) (h.accounts_are q) ∙ sym (last_more (λ k. is_key k q) keys key);
     households_are = λ q.
-        households_told (house q) ∙ ap (cond (is_key (house key) (house q)) (Some (length keys))) (h.households_are q)
+        households_told q ∙ ap (cond (is_key (house key) (house q)) (Some (length keys))) (h.households_are q)
         ∙ sym (last_more (λ k. is_key (house k) (house q)) keys key);
     own = λ i q there.
         ap (λ o. slice_get (owns ++ o ∷ []) i) (h.accounts_are key) ∙ backs last_own owns owns_size h.own i q there;

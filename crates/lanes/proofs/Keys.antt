@@ -6,7 +6,7 @@ use Rattle.std.specs.Ordering.{is_eq, nat_cmp, ordering_then}
 use Rattle.std.specs.declared.cmp.Ordering.{Ordering}
 use Rattle.std.specs.declared.cmp.Ordering.TheVariants.{Less, Equal, Greater}
 use Rattle.std.proofs.lemmas.Bool.Decides.{nat_tests}
-use Rattle.lanes.specs.Lasts.{Key, key_cmp, is_key, flat, found_among}
+use Rattle.lanes.specs.Lasts.{Key, key_cmp, is_key}
 
 then_is : (o p : Ordering) → is_eq (ordering_then o p) ≡ (is_eq o && is_eq p)
 then_is Less p = refl
@@ -22,25 +22,8 @@ key_is a b =
     ∙ (λ i. then_is (nat_cmp a.0 b.0) (nat_cmp a.1 b.1) i && nat_is a.2 b.2 i)
     ∙ (λ i. (nat_is a.0 b.0 i && nat_is a.1 b.1 i) && (a.2 == b.2))
 
-none_is : (o : Option (Option ℕ)) → is_some o ≡ false → o ≡ None
-none_is None h = refl
-none_is (Some x) h = absurd (both_ways true h refl)
-
 pub one_key : (a b : Key) → is_key a b ≡ true → a ≡ b
 one_key a b h =
     let parts = and_parts ((a.0 == b.0) && (a.1 == b.1)) (a.2 == b.2) h in
     let front = and_parts (a.0 == b.0) (a.1 == b.1) parts.0 in
     λ i. (eqb-true a.0 b.0 front.0 i, eqb-true a.1 b.1 front.1 i, eqb-true a.2 b.2 parts.1 i)
-
-key_same : (a b : Key) → is_eq (key_cmp a b) ≡ true → a ≡ b
-key_same a b h = one_key a b (sym (key_is a b) ∙ h)
-
--- a key that is put in without a position changes nothing of what is found
-pub prepared : (old new : BTreeMap Key (Option ℕ)) (key q : Key) → is_some (get key_cmp old key) ≡ false
-    → get key_cmp new q ≡ cond (is_eq (key_cmp key q)) (Some None) (get key_cmp old q) → found_among new q ≡ found_among old q
-prepared old new key q none updates = elim (cases_Bool (is_eq (key_cmp key q))) [
-  | inl here ↦
-      let was : get key_cmp old q ≡ None = ap (get key_cmp old) (sym (key_same key q here)) ∙ none_is (get key_cmp old key) none in
-      ap flat (updates ∙ ap (λ b. cond b (Some None) (get key_cmp old q)) here) ∙ sym (ap flat was)
-  | inr there ↦ ap flat (updates ∙ ap (λ b. cond b (Some None) (get key_cmp old q)) there)
-]

@@ -5,6 +5,7 @@ pub mod Neighbours
 pub mod Numbers
 pub mod Linking
 pub mod Links
+pub mod Households
 pub mod Backs
 pub mod Standing
 pub mod Queue

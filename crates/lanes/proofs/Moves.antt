@@ -1,5 +1,5 @@
 -- Chains and their places, after each call.
-use Rattle.std.proofs.Common.{vec_len, ◌≡◌, ◌<◌, ◌+◌, ◌==◌, ℕ, zero, suc, true, false, cond, not, List, [], ◌∷◌, ◌++◌, length, map, get_or, take, Some, None, Option, Result, Ok, Err, IfOk, OnOk, OnErr, is_err, option_map, refl, sym, ap, subst, ◌∙◌, inl, inr, arith, length-append}
+use Rattle.std.proofs.Common.{vec_len, ◌≡◌, ◌<◌, ◌+◌, ◌==◌, ℕ, zero, suc, true, false, cond, not, List, [], ◌∷◌, ◌++◌, length, map, get_or, take, Some, None, Option, Result, Ok, Err, IfOk, IfErr, OnOk, OnErr, is_err, option_map, refl, sym, ap, subst, ◌∙◌, inl, inr, arith, length-append}
 use Rattle.std.specs.List.{slice_get, slice_set}
 use Rattle.std.proofs.lemmas.List.{get_or_append_left, length-map, map-set, map_push}
 use Rattle.std.proofs.lemmas.Option.{none-some, same_Some, get_or_from_slice_get, slice_get_within}
@@ -9,12 +9,13 @@ use Rattle.std.proofs.lemmas.Bool.{false≢true, not-false}
 use Rattle.settlement.specs.Accounts.{account_in, family_of}
 use Rattle.settlement.specs.declared.acc.Acc.{Acc}
 use Rattle.settlement.specs.declared.claim.Claim.{Claim}
-use Rattle.lanes.specs.Lasts.{Key, end_of, found_in, house, is_key}
+use Rattle.lanes.specs.Lasts.{Key, end_of, found_in, house, household_in, is_key}
 use Rattle.lanes.specs.Places.{Phase, Place, Decided, InWork, Ready, Waiting, all_decided, is_decided, is_of, is_ready, is_waiting, phase_at, started}
 use Rattle.lanes.specs.Calls.{IsInWork, IsPicked, phase_after, phase_behind, place_behind, ready_at, with_decision, with_phase}
 use Rattle.lanes.specs.Names.{AreDistinct, Grows}
 use Rattle.lanes.specs.Chains.{AddsSlot, AreAs, AreBacked, AreKept, AreKnown, AreLinked, AreQueued, DecidesSlot, FirstIsReady, IsEnd, IsFollowedBy, IsIdle, IsKeyOf, IsLast, IsNext, NextIsAnother, SlotAt, TakesFirst, TellsBack, houses_of, keys_of, lanes_of, nexts_of, owns_of, place_of, places_of, queued, slot_behind}
 use Rattle.lanes.specs.declared.chains.Chains.{Chains}
+use Rattle.lanes.specs.declared.last_claims.LastClaims.{LastClaims}
 use Rattle.lanes.specs.declared.picked.Picked.{Picked}
 use Rattle.lanes.specs.declared.slot.Slot.{Slot}
 use Rattle.lanes.proofs.Backs.{backed-more}
@@ -53,7 +54,7 @@ kept-as names old new h same = record {
   distinct = h.distinct;
   known = rw same.slots h.known;
   linked = linked-as _ _ _ _ (end_of old.ends) (end_of new.ends) (ap lanes_of same.slots) (ap nexts_of same.slots) same.ends h.linked;
-  backed = backed-as _ _ _ _ _ _ (found_in old.accounts) (found_in new.accounts) (found_in old.households) (found_in new.households)
+  backed = backed-as _ _ _ _ _ _ (found_in old.lasts.accounts) (found_in new.lasts.accounts) (household_in old.lasts) (household_in new.lasts)
       (ap keys_of same.slots) (ap owns_of same.slots) (ap houses_of same.slots) same.accounts same.households h.backed;
   queued = rw (same.slots, same.ready) h.queued;
   in_turn = rw same.slots h.in_turn;
@@ -115,7 +116,7 @@ taken-picked names old new picked h t =
       ready = t.phase;
       stands = λ opening.
           (λ i. started opening (t.own i) (t.household i))
-          ∙ stands names slots (found_in old.accounts) (found_in old.households) k t.slot opening h.distinct h.known h.backed t.there settled;
+          ∙ stands names slots (found_in old.lasts.accounts) (household_in old.lasts) k t.slot opening h.distinct h.known h.backed t.there settled;
     }
 
 taken-kept : (names : List (List ℕ)) (old new : Chains) (picked : Picked) → AreKept names old → TakesFirst old new picked → AreKept names new
@@ -136,8 +137,8 @@ taken-kept names old new picked h t =
       distinct = h.distinct;
       known = rw keys h.known;
       linked = linked-as _ _ _ _ (end_of old.ends) (end_of new.ends) lanes nexts (λ l. ap (λ e. end_of e l) t.ends) h.linked;
-      backed = backed-as _ _ _ _ _ _ (found_in old.accounts) (found_in new.accounts) (found_in old.households) (found_in new.households)
-          keys owns houses (λ q. ap (λ a. found_in a q) t.accounts) (λ q. ap (λ a. found_in a q) t.households) h.backed;
+      backed = backed-as _ _ _ _ _ _ (found_in old.lasts.accounts) (found_in new.lasts.accounts) (household_in old.lasts) (household_in new.lasts)
+          keys owns houses (λ q. ap (λ (l : LastClaims). found_in l.accounts q) t.lasts) (λ q. ap (λ l. household_in l q) t.lasts) h.backed;
       queued = rw same queue;
       in_turn = rw same (in_turn-take places k picked.claim h.in_turn (taken-phase names old new picked t));
     }
@@ -275,8 +276,7 @@ decided-same f same names old new position left slot (Some next) h there work li
 -- what is found stays as it is
 pub record StaysFound (old new : Chains) : Type 0 where
   pub ends : new.ends ≡ old.ends
-  pub accounts : new.accounts ≡ old.accounts
-  pub households : new.households ≡ old.households
+  pub lasts : new.lasts ≡ old.lasts
 
 decided-kept : (names : List (List ℕ)) (old new : Chains) (position : ℕ) (left : Acc) (slot : Slot) → AreKept names old → SlotAt old position slot
     → slot.phase ≡ InWork → StaysFound old new → DecidesSlot old new position slot left slot.next → AreKept names new
@@ -294,8 +294,8 @@ decided-kept names old new position left slot h there work found d =
       distinct = h.distinct;
       known = rw keys h.known;
       linked = linked-as _ _ _ _ (end_of old.ends) (end_of new.ends) lanes nexts (λ l. ap (λ e. end_of e l) found.ends) h.linked;
-      backed = backed-as _ _ _ _ _ _ (found_in old.accounts) (found_in new.accounts) (found_in old.households) (found_in new.households)
-          keys owns houses (λ q. ap (λ a. found_in a q) found.accounts) (λ q. ap (λ a. found_in a q) found.households) h.backed;
+      backed = backed-as _ _ _ _ _ _ (found_in old.lasts.accounts) (found_in new.lasts.accounts) (household_in old.lasts) (household_in new.lasts)
+          keys owns houses (λ q. ap (λ (l : LastClaims). found_in l.accounts q) found.lasts) (λ q. ap (λ l. household_in l q) found.lasts) h.backed;
       queued = decided-queued names old new position left slot slot.next h there work refl d;
       in_turn = rw same (in_turn-decide places position left h.in_turn in_work);
     }
@@ -417,22 +417,22 @@ module _ (names : List (List ℕ)) (old new : Chains) (key : Key) (claim : Claim
         let lanes : lanes_of new.slots.items ≡ lanes_of slots ++ key.0 ∷ [] =
         ap lanes_of b.slots ∙ map_push (λ (x : Slot). x.key.0) front slot ∙ ap (λ xs. xs ++ key.0 ∷ []) b.lanes in
         let nexts : nexts_of new.slots.items ≡ nexts_of front ++ None ∷ [] = ap nexts_of b.slots ∙ map_push (λ (x : Slot). x.next) front slot in
-        let owns : owns_of new.slots.items ≡ owns_of slots ++ found_in old.accounts key ∷ [] =
-        ap owns_of b.slots ∙ map_push (λ (x : Slot). x.own) front slot ∙ ap (λ xs. xs ++ found_in old.accounts key ∷ []) b.owns in
-        let houses : houses_of new.slots.items ≡ houses_of slots ++ found_in old.households (house key) ∷ [] =
-        ap houses_of b.slots ∙ map_push (λ (x : Slot). x.household) front slot ∙ ap (λ xs. xs ++ found_in old.households (house key) ∷ []) b.houses in
+        let owns : owns_of new.slots.items ≡ owns_of slots ++ found_in old.lasts.accounts key ∷ [] =
+        ap owns_of b.slots ∙ map_push (λ (x : Slot). x.own) front slot ∙ ap (λ xs. xs ++ found_in old.lasts.accounts key ∷ []) b.owns in
+        let houses : houses_of new.slots.items ≡ houses_of slots ++ household_in old.lasts (house key) ∷ [] =
+        ap houses_of b.slots ∙ map_push (λ (x : Slot). x.household) front slot ∙ ap (λ xs. xs ++ household_in old.lasts (house key) ∷ []) b.houses in
         let size = many ∙ sym (length-map slots (λ (x : Slot). x.key)) in
-        let backed = backed-more (keys_of slots) (owns_of slots) (houses_of slots) (found_in old.accounts) (found_in old.households) (found_in new.accounts) (found_in new.households) key
+        let backed = backed-more (keys_of slots) (owns_of slots) (houses_of slots) (found_in old.lasts.accounts) (household_in old.lasts) (found_in new.lasts.accounts) (household_in new.lasts) key
         a.kept.backed (length-map slots (λ (x : Slot). x.own) ∙ sym (length-map slots (λ (x : Slot). x.key)))
         (length-map slots (λ (x : Slot). x.household) ∙ sym (length-map slots (λ (x : Slot). x.key)))
-        (λ q. a.back.accounts q ∙ ap (λ n. cond (is_key key q) (Some n) (found_in old.accounts q)) size)
-        (λ q. a.back.households q ∙ ap (λ n. cond (is_key (house key) q) (Some n) (found_in old.households q)) size) in
+        (λ q. a.back.accounts q ∙ ap (λ n. cond (is_key key q) (Some n) (found_in old.lasts.accounts q)) size)
+        (λ q. a.back.households q ∙ ap (λ n. cond (is_key (house key) (house q)) (Some n) (household_in old.lasts (house q))) size) in
         let queue = queue-add places old.ready.items (place_of names slot) (length slots) (sym (length-map slots (place_of names))) a.kept.queued in
         record {
           distinct = a.kept.distinct;
           known = rw keys (known-more (length names) (keys_of slots) key a.kept.known family-within (slice_get_within names key.1 claim.member a.key_is.member));
           linked = linked-as _ _ _ _ (end_of new.ends) (end_of new.ends) lanes nexts (λ l. refl) b.linked;
-          backed = backed-as _ _ _ _ _ _ (found_in new.accounts) (found_in new.accounts) (found_in new.households) (found_in new.households)
+          backed = backed-as _ _ _ _ _ _ (found_in new.lasts.accounts) (found_in new.lasts.accounts) (household_in new.lasts) (household_in new.lasts)
               keys owns houses (λ q. refl) (λ q. refl) backed;
           queued = rw (behind-places, b.ready, ← behind-place) queue;
           in_turn = rw behind-places (in_turn-add places claim year a.kept.in_turn);
@@ -498,3 +498,23 @@ prepared-kept names more old new h grows distinct same = kept-as more old new (g
 pub prepared-places : (names more : List (List ℕ)) (old new : Chains) → AreKept names old → Grows names more → AreAs old new
     → places_of more new.slots.items ≡ places_of names old.slots.items
 prepared-places names more old new h grows same = ap (places_of more) same.slots ∙ grown-places names more old h grows
+
+-- what a call that adds a claim makes of the chains and of the places
+pub add-kept : {T E : Type 0} (names : List (List ℕ)) (old new : Chains) (key : Key) (claim : Claim) (year : ℕ) (r : Result T E) → AreKept names old
+    → IsKeyOf names key (account_in year claim) → OnOk r (AddsSlot old new key claim (end_of old.ends key.0)) → OnOk r (TellsBack old new key (vec_len old.slots))
+    → OnErr r (AreAs old new) → AreKept names new
+add-kept names old new key claim year (Ok x) h is added back refused = added-kept names old new key claim year (record { kept = h; key_is = is; slots = added; back = back })
+add-kept names old new key claim year (Err e) h is added back refused = kept-as names old new h refused
+
+pub add-places : {T E : Type 0} (names : List (List ℕ)) (old new : Chains) (key : Key) (claim : Claim) (year : ℕ) (r : Result T E) (places : List Place) → AreKept names old
+    → places_of names old.slots.items ≡ places → IsKeyOf names key (account_in year claim) → OnOk r (AddsSlot old new key claim (end_of old.ends key.0))
+    → OnOk r (TellsBack old new key (vec_len old.slots)) → IfOk r (λ _. places_of names new.slots.items ≡ places ++ place_behind places claim year ∷ [])
+add-places names old new key claim year (Ok x) places h before is added back =
+    added-places names old new key claim year (record { kept = h; key_is = is; slots = added; back = back })
+    ∙ ap (λ (ps : List Place). ps ++ place_behind ps claim year ∷ []) before
+add-places names old new key claim year (Err e) places h before is added back = tt
+
+pub add-refused : {T E : Type 0} (names : List (List ℕ)) (old new : Chains) (r : Result T E) (places : List Place) → places_of names old.slots.items ≡ places
+    → OnErr r (AreAs old new) → IfErr r (λ _. places_of names new.slots.items ≡ places)
+add-refused names old new (Ok x) places before refused = tt
+add-refused names old new (Err e) places before refused = ap (places_of names) refused.slots ∙ before

@@ -7,7 +7,7 @@ use Rattle.settlement.specs.declared.acc.Acc.{Acc}
 use Rattle.settlement.specs.declared.claim.Claim.{Claim}
 use Rattle.lanes.specs.Places.{Phase, Decided, InWork, Place, InTurn, Ready, is_ready, left_of}
 use Rattle.lanes.specs.Calls.{phase_after, ready_at}
-use Rattle.lanes.specs.Lasts.{Key, HasRoomFor, end_of, found_in, house, is_key}
+use Rattle.lanes.specs.Lasts.{Key, end_of, found_in, house, household_in, is_key}
 use Rattle.lanes.specs.Names.{AreDistinct}
 use Rattle.lanes.specs.declared.picked.Picked.{Picked}
 use Rattle.lanes.specs.declared.chains.Chains.{Chains}
@@ -30,21 +30,19 @@ place_of names slot = record { account = account_at names slot.key; phase = slot
 abbrev pub places_of : List (List ℕ) → List Slot → List Place
 places_of names slots = map (place_of names) slots
 
--- room for one claim more, of this account
-pub record HasRoom (chains : Chains) (key : Key) : Type 0 where
+-- room for one claim more, in this lane
+pub record HasRoom (chains : Chains) (lane : ℕ) : Type 0 where
   pub position : vec_len chains.slots < 2 ^ 32
   pub slots : vec_len chains.slots < vec_capacity chains.slots
-  pub ends : key.0 < length chains.ends.positions.items
-  pub accounts : HasRoomFor chains.accounts key
-  pub households : HasRoomFor chains.households (house key)
+  pub ends : lane < length chains.ends.positions.items
   pub ready : deque_len chains.ready < deque_capacity chains.ready
 
 -- the same, but for the room
 pub record AreAs (old new : Chains) : Type 0 where
   pub slots : new.slots.items ≡ old.slots.items
   pub ends : (lane : ℕ) → end_of new.ends lane ≡ end_of old.ends lane
-  pub accounts : (q : Key) → found_in new.accounts q ≡ found_in old.accounts q
-  pub households : (q : Key) → found_in new.households q ≡ found_in old.households q
+  pub accounts : (q : Key) → found_in new.lasts.accounts q ≡ found_in old.lasts.accounts q
+  pub households : (q : Key) → household_in new.lasts q ≡ household_in old.lasts q
   pub ready : new.ready.items ≡ old.ready.items
 
 -- the slot at a position
@@ -66,8 +64,8 @@ abbrev pub slot_behind : Chains → Key → Phase → Slot
 slot_behind old key phase = record {
   key = key;
   next = None;
-  own = found_in old.accounts key;
-  household = found_in old.households (house key);
+  own = found_in old.lasts.accounts key;
+  household = household_in old.lasts (house key);
   phase = phase;
 }
 
@@ -86,8 +84,8 @@ AddsSlot old new key claim (Some last) = (before : Slot) → SlotAt old last bef
 -- the position is the last one of the lane, of the account and of its household
 pub record TellsBack (old new : Chains) (key : Key) (position : ℕ) : Type 0 where
   pub ends : (lane : ℕ) → end_of new.ends lane ≡ cond (key.0 == lane) (Some position) (end_of old.ends lane)
-  pub accounts : (q : Key) → found_in new.accounts q ≡ cond (is_key key q) (Some position) (found_in old.accounts q)
-  pub households : (q : Key) → found_in new.households q ≡ cond (is_key (house key) q) (Some position) (found_in old.households q)
+  pub accounts : (q : Key) → found_in new.lasts.accounts q ≡ cond (is_key key q) (Some position) (found_in old.lasts.accounts q)
+  pub households : (q : Key) → household_in new.lasts (house q) ≡ cond (is_key (house key) (house q)) (Some position) (household_in old.lasts (house q))
 
 -- the slot at a position is linked to the next one of its lane, whose claim is at this phase
 pub record Follows (old new : Chains) (last next : ℕ) (claim : Claim) (phase : Phase) : Type 0 where
@@ -96,8 +94,7 @@ pub record Follows (old new : Chains) (last next : ℕ) (claim : Claim) (phase :
   pub len : vec_len new.slots ≡ vec_len old.slots
   pub capacity : vec_capacity new.slots ≡ vec_capacity old.slots
   pub ends : new.ends ≡ old.ends
-  pub accounts : new.accounts ≡ old.accounts
-  pub households : new.households ≡ old.households
+  pub lasts : new.lasts ≡ old.lasts
   pub ready : new.ready ≡ old.ready
 
 -- the claim of a slot is decided; what follows it, if there is something, is ready, and behind the others in the queue
@@ -127,8 +124,7 @@ pub record TakesFirst (old new : Chains) (picked : Picked) : Type 0 where
   pub household : picked.household ≡ left_at old.slots.items slot.household
   pub slots : new.slots.items ≡ slice_set old.slots.items picked.position (record slot { phase = InWork })
   pub ends : new.ends ≡ old.ends
-  pub accounts : new.accounts ≡ old.accounts
-  pub households : new.households ≡ old.households
+  pub lasts : new.lasts ≡ old.lasts
   pub queue : old.ready.items ≡ picked.position ∷ new.ready.items
 
 -- what follows the slot at a position is there, and is another one
@@ -226,6 +222,6 @@ pub record AreKept (names : List (List ℕ)) (chains : Chains) : Type 0 where
   pub distinct : AreDistinct names
   pub known : AreKnown (length names) (keys_of chains.slots.items)
   pub linked : AreLinked (lanes_of chains.slots.items) (nexts_of chains.slots.items) (end_of chains.ends)
-  pub backed : AreBacked (keys_of chains.slots.items) (owns_of chains.slots.items) (houses_of chains.slots.items) (found_in chains.accounts) (found_in chains.households)
+  pub backed : AreBacked (keys_of chains.slots.items) (owns_of chains.slots.items) (houses_of chains.slots.items) (found_in chains.lasts.accounts) (household_in chains.lasts)
   pub queued : AreQueued (places_of names chains.slots.items) chains.ready.items
   pub in_turn : InTurn (places_of names chains.slots.items)

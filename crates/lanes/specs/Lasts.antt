@@ -1,9 +1,12 @@
 -- The last position of each key.
-use Rattle.std.specs.Prelude.{◌<◌, ℕ, ◌==◌, ◌&&◌, Bool, true, false, get_or, length, if◌then◌else◌, Option, Some, None, IsSome}
+use Rattle.std.specs.Prelude.{◌≡◌, ◌<◌, ℕ, ◌==◌, ◌&&◌, Bool, true, false, get_or, length, if◌then◌else◌, Option, Some, None, IsSome}
+use Rattle.std.specs.Option.{option_or}
 use Rattle.std.specs.Ordering.{nat_cmp, ordering_then}
 use Rattle.std.specs.declared.cmp.Ordering.{Ordering}
 use Rattle.std.specs.BTreeMap.{BTreeMap, get}
 use Rattle.lanes.specs.declared.ends.Ends.{Ends}
+use Rattle.lanes.specs.declared.last_claims.Behind.{Behind}
+use Rattle.lanes.specs.declared.last_claims.LastClaims.{LastClaims}
 use Rattle.lanes.specs.declared.lasts.Lasts.{Lasts}
 
 -- an account by numbers: its family, its member, and its year
@@ -47,3 +50,22 @@ HasRoomBy false lasts key = IsSome (get key_cmp lasts.others key)
 -- there is room for the key
 abbrev pub HasRoomFor : Lasts → Key → Type 0
 HasRoomFor lasts key = HasRoomBy (is_plain key) lasts key
+
+-- a new position in place of one; none stays none
+abbrev pub renewed : Option ℕ → ℕ → Option ℕ
+renewed None position = None
+renewed (Some before) position = Some position
+
+-- the last position of a household: where none is noted for it, that of the account whose member is the family itself
+abbrev pub household_in : LastClaims → Key → Option ℕ
+household_in lasts key = option_or (found_in lasts.households key) (found_in lasts.accounts key)
+
+-- the last positions of an account and of its household
+pub record IsBehind (lasts : LastClaims) (key : Key) (behind : Behind) : Type 0 where
+  pub own : behind.own ≡ found_in lasts.accounts key
+  pub household : behind.household ≡ household_in lasts (house key)
+
+-- the same is found
+pub record AreFoundAlike (old new : LastClaims) : Type 0 where
+  pub accounts : (q : Key) → found_in new.accounts q ≡ found_in old.accounts q
+  pub households : (q : Key) → household_in new q ≡ household_in old q

@@ -7,6 +7,7 @@
 
 use crate::chains::Chains;
 use crate::ends::Ends;
+use crate::hints::Sought;
 use crate::names::Names;
 use crate::slot::Slot;
 use crate::stored::StoredClaim;
@@ -15,12 +16,12 @@ use std::alloc::Global;
 /// For so many claims at once: a processor has about so many reads under way.
 const CLAIMS_AT_ONCE: usize = 12;
 
-/// How many of the next claims to be taken are fetched already, the numbers that the families of the next claims to be added may have, how many
-/// of those were added, and a number made of what was read, without which the reads could be left out.
+/// How many of the next claims to be taken are fetched already, how the families of the next claims to be added are sought, how many of those
+/// were added, and a number made of what was read, without which the reads could be left out.
 #[derive(Drop)]
 pub struct Ahead {
     fetched: usize,
-    coming: Vec<u32>,
+    coming: Vec<Sought>,
     added: usize,
     read: usize,
 }
@@ -59,25 +60,24 @@ impl Ahead {
         self.added = 0;
         for claim in claims {
             // Where there is no memory, those behind it are looked up one by one.
-            let Ok(()) = self.coming.push(names.place_of(claim.as_claim().family())) else {
+            let Ok(()) = self.coming.push(Sought::new(claim.as_claim().family())) else {
                 break;
             };
         }
-        for number in self.coming.iter_mut() {
-            *number = names.hint_at(*number);
+        for sought in self.coming.iter_mut() {
+            sought.likely = names.hint_of(sought.bits);
         }
     }
 
-    /// Before a claim is added: fetches what it and some behind it need, where that isn't fetched yet, and gives the number that its
-    /// family may have.
-    pub fn fetch_added(&mut self, names: &Names, chains: &Chains) -> Option<u32> {
-        let number = self.coming.get(self.added).copied()?;
+    /// Before a claim is added: fetches what it and some behind it need, where that isn't fetched yet, and tells how its family is sought.
+    pub fn fetch_added(&mut self, names: &Names, chains: &Chains) -> Option<Sought> {
+        let sought = self.coming.get(self.added).copied()?;
         if self.added % CLAIMS_AT_ONCE == 0 {
             let read = self.read_of_coming(names, chains);
             self.read = self.read.wrapping_add(read);
         }
         self.added = self.added.saturating_add(1);
-        Some(number)
+        Some(sought)
     }
 
     // A number made of what the next claims to be added need.
@@ -85,17 +85,22 @@ impl Ahead {
         let mut lasts = [None; CLAIMS_AT_ONCE];
         let mut read = 0usize;
         for (place, last) in lasts.iter_mut().enumerate() {
-            if let Some(number) = self.coming.get(self.added.saturating_add(place)) {
-                read = read.wrapping_add(names.bytes_of(*number));
-                read = read.wrapping_add(position_in(&chains.households.plain, *number));
-                read = read.wrapping_add(position_in(&chains.accounts.plain, *number));
-                *last = chains.ends.last_of(*number);
+            if let Some(number) = self.likely_at(self.added.saturating_add(place)) {
+                read = read.wrapping_add(names.bytes_of(number));
+                read = read.wrapping_add(position_in(&chains.lasts.households.plain, number));
+                read = read.wrapping_add(position_in(&chains.lasts.accounts.plain, number));
+                *last = chains.ends.last_of(number);
             }
         }
         for last in &lasts {
             read = read.wrapping_add(left_by(chains, *last));
         }
         read
+    }
+
+    // The number that the family of a coming claim may have.
+    fn likely_at(&self, place: usize) -> Option<u32> {
+        self.coming.get(place)?.likely
     }
 }
 

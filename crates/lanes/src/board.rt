@@ -8,10 +8,12 @@ ghost use Rattle.lanes.specs.Chains.{IsKeyOf};
 
 use crate::ahead::Ahead;
 use crate::chains::Chains;
+use crate::hints::Sought;
 use crate::lasts::Key;
 use crate::names::Names;
 use crate::picked::Picked;
 use crate::stored::StoredClaim;
+use feel_tests::Text;
 use settlement::{Acc, Claim};
 use std::alloc::{AllocError, AllocFailed, Global};
 use std::marker::Model;
@@ -65,23 +67,22 @@ impl Lanes {
         self.chains.slots.len()
     }
 
-    /// Adds a claim, of its member's account in this year, behind all others. The claim comes back where there is no memory, as
-    /// for more than 2^32 claims.
+    /// Adds a claim, of its member's account in this year, which is 0 where accounts aren't kept by the year, behind all others. The claim
+    /// comes back where there is no memory, as for more than 2^32 claims.
     pub fn add(&mut self, claim: StoredClaim, year: u16) -> Result<(), AllocFailed<StoredClaim>>
         ensures added { IfOk result (λ _. self.new ≡ self.old ++ place_behind self.old claim year ∷ []) }
         ensures back { IfErr result (λ failed. failed.value ≡ claim) }
         ensures refused { IfErr result (λ _. self.new ≡ self.old) }
         ensures in_turn { InTurn self.new }
     {
-        let likely = self.ahead.fetch_added(&self.names, &self.chains);
-        let Ok(key) = key_of(&mut self.names, claim.as_claim(), year, likely) else {
+        let foreseen = self.ahead.fetch_added(&self.names, &self.chains);
+        let Ok(key) = key_of(&mut self.names, claim.as_claim(), year, foreseen) else {
             return Err(AllocFailed { value: claim });
         };
-        let Ok(()) = self.chains.prepare(key) else {
+        let Ok(()) = self.chains.prepare(key.0) else {
             return Err(AllocFailed { value: claim });
         };
-        self.chains.add(key, claim);
-        Ok(())
+        self.chains.add(key, claim)
     }
 
     /// Reads what these claims will need when they are added. Contracts see no change.
@@ -127,24 +128,33 @@ impl Lanes {
     }
 }
 
-// The account of a claim in a year, by numbers; names that are new get one. A number that its family may have is tried first.
+// The account of a claim in a year, by numbers; names that are new get one. Its family is sought as it was foreseen, where it was.
 #[tactic(auto, using(crate::proofs::Growing::grows_on, crate::proofs::Growing::key_alone, crate::proofs::Growing::key_apart))]
 fn key_of(
     names: &mut Names,
     claim: &Claim,
     year: u16,
-    likely: Option<u32>,
+    foreseen: Option<Sought>,
 ) -> Result<Key, AllocError>
     ensures key { IfOk result (λ key. IsKeyOf names.new key (account_in year claim.now)) }
     ensures grows { Grows names.old names.new }
     ensures distinct { AreDistinct names.new }
 {
     let family = claim.family();
-    let lane = names.number(family, likely)?;
+    let sought = sought_as(family, foreseen);
+    let lane = names.number(family, sought)?;
     let member = &claim.member;
     if member.as_str() == family.as_str() {
         return Ok((lane, lane, year));
     }
-    let number = names.number(member, None)?;
+    let number = names.number(member, Sought::new(member))?;
     Ok((lane, number, year))
+}
+
+// How a name is sought: as it was foreseen, where it was.
+fn sought_as(name: &Text, foreseen: Option<Sought>) -> Sought {
+    match foreseen {
+        Some(sought) => sought,
+        None => Sought::new(name),
+    }
 }

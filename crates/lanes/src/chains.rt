@@ -1,21 +1,22 @@
 //! Chains: the slots of all claims, linked lane by lane and back to the last of their account, and which of them are ready.
-ghost use Rattle.std.specs.Prelude.{◌≡◌, ◌<◌, ◌++◌, ◌∷◌, [], ℕ, Some, None, cond, vec_len, vec_capacity, OnOk, OnErr, MatchOption, if◌then◌else◌};
+ghost use Rattle.std.specs.Prelude.{◌≡◌, ◌<◌, ◌++◌, ◌∷◌, [], ℕ, Some, None, cond, vec_len, vec_capacity, OnOk, OnErr, IfErr, MatchOption, if◌then◌else◌};
 ghost use Rattle.std.specs.VecDeque.{deque_len, deque_capacity};
-ghost use Rattle.lanes.specs.Lasts.{Key as AnyKey, end_of, found_in, house, is_key};
+ghost use Rattle.lanes.specs.Lasts.{Key as AnyKey, end_of, found_in, household_in};
 ghost use Rattle.lanes.specs.Places.{is_ready};
 ghost use Rattle.lanes.specs.Calls.{phase_after};
 ghost use Rattle.lanes.specs.Chains.{AreAs, AddsSlot, DecidesSlot, FirstIsReady, Follows, HasRoom, IsIdle, NextIsAnother, SlotAt, TakesFirst, TellsBack};
 ghost use Rattle.lanes.specs.declared.slot.Slot.{Slot as AnySlot};
 
 use crate::ends::Ends;
-use crate::lasts::{Key, Lasts};
+use crate::last_claims::LastClaims;
+use crate::lasts::Key;
 use crate::phase::Phase;
 use crate::picked::Picked;
 use crate::short::short;
 use crate::slot::{Slot, left_at};
 use crate::stored::StoredClaim;
 use settlement::Acc;
-use std::alloc::{AllocError, Global};
+use std::alloc::{AllocError, AllocFailed, Global};
 use std::collections::VecDeque;
 
 /// The slots of all claims by position. Each family has a lane, by the number of its name, in which its claims' slots are linked.
@@ -23,10 +24,8 @@ pub struct Chains {
     pub slots: Vec<Slot>,
     /// The position of the last claim in each lane.
     pub ends: Ends,
-    /// The position of the last claim of each account.
-    pub accounts: Lasts,
-    /// The position of the last claim of each family in each year.
-    pub households: Lasts,
+    /// The position of the last claim of each account, and of each family in each year.
+    pub lasts: LastClaims,
     /// The positions of the claims that are ready, first come first.
     pub ready: VecDeque<usize>,
 }
@@ -36,8 +35,7 @@ impl Drop for Chains {
         let Chains {
             slots: _,
             ends: _,
-            accounts: _,
-            households: _,
+            lasts: _,
             ready: _,
         } = self;
     }
@@ -48,53 +46,54 @@ impl Chains {
     pub fn new(alloc: Global) -> Chains
         ensures slots { result.slots.items ≡ [] }
         ensures ends { (lane : ℕ) → end_of result.ends lane ≡ None }
-        ensures accounts { (q : AnyKey) → found_in result.accounts q ≡ None }
-        ensures households { (q : AnyKey) → found_in result.households q ≡ None }
+        ensures accounts { (q : AnyKey) → found_in result.lasts.accounts q ≡ None }
+        ensures households { (q : AnyKey) → household_in result.lasts q ≡ None }
         ensures ready { result.ready.items ≡ [] }
     {
         Chains {
             slots: Vec::new(alloc),
             ends: Ends::new(alloc),
-            accounts: Lasts::new(alloc),
-            households: Lasts::new(alloc),
+            lasts: LastClaims::new(alloc),
             ready: VecDeque::new(alloc),
         }
     }
 
-    /// Makes room for one claim more, of this account.
-    pub fn prepare(&mut self, key: Key) -> Result<(), AllocError>
+    /// Makes room for one claim more, in this lane.
+    pub fn prepare(&mut self, lane: u32) -> Result<(), AllocError>
         ensures same { AreAs self.old self.new }
-        ensures room { OnOk result (HasRoom self.new key) }
+        ensures room { OnOk result (HasRoom self.new lane) }
     {
         let _position = short(self.slots.len())?;
         self.slots.reserve(1)?;
         self.ready.reserve(1)?;
-        self.ends.prepare(key.0)?;
-        self.accounts.prepare(key)?;
-        self.households.prepare((key.0, key.0, key.2))
+        self.ends.prepare(lane)
     }
 
-    /// Adds a claim of an account behind the others.
-    pub fn add(&mut self, key: Key, claim: StoredClaim)
-        requires room { HasRoom self.old key }
+    /// Adds a claim of an account behind the others. Where there is no memory it comes back, and what is found stays as it is.
+    pub fn add(&mut self, key: Key, claim: StoredClaim) -> Result<(), AllocFailed<StoredClaim>>
+        requires room { HasRoom self.old key.0 }
         requires within { (last : ℕ) → end_of self.old.ends key.0 ≡ Some last → last < vec_len self.old.slots }
-        ensures slots { AddsSlot self.old self.new key claim (end_of self.old.ends key.0) }
-        ensures back { TellsBack self.old self.new key (vec_len self.old.slots) }
+        ensures slots { OnOk result (AddsSlot self.old self.new key claim (end_of self.old.ends key.0)) }
+        ensures back { OnOk result (TellsBack self.old self.new key (vec_len self.old.slots)) }
+        ensures returned { IfErr result (λ failed. failed.value ≡ claim) }
+        ensures refused { OnErr result (AreAs self.old self.new) }
     {
         let position = self.slots.len() as u32;
-        let own = self.accounts.put(key, position);
-        let household = self.households.put((key.0, key.0, key.2), position);
-        let phase = match self.ends.put(key.0, position) {
+        let Ok(behind) = self.lasts.put(key, position) else {
+            return Err(AllocFailed { value: claim });
+        };
+        let phase = match self.ends.put(key.0, Some(position)) {
             Some(last) => self.follow(last, position, claim),
             None => Phase::Ready(claim),
         };
         self.put(Slot {
             key,
             next: None,
-            own,
-            household,
+            own: behind.own,
+            household: behind.household,
             phase,
         });
+        Ok(())
     }
 
     // Links the last slot of a lane to what comes behind it: the phase of the claim there.
@@ -130,8 +129,7 @@ impl Chains {
         requires next { NextIsAnother self.old position }
         ensures decided { OnOk result ((slot : AnySlot) → SlotAt self.old position slot → DecidesSlot self.old self.new position slot left.now slot.next) }
         ensures ends { self.new.ends ≡ self.old.ends }
-        ensures accounts { self.new.accounts ≡ self.old.accounts }
-        ensures households { self.new.households ≡ self.old.households }
+        ensures lasts { self.new.lasts ≡ self.old.lasts }
         ensures refused { OnErr result (AreAs self.old self.new) }
     {
         match self.slots[position].next {
@@ -152,8 +150,7 @@ impl Chains {
         requires ready { deque_len self.old.ready < deque_capacity self.old.ready }
         ensures slots { self.new.slots.items ≡ self.old.slots.items ++ slot ∷ [] }
         ensures ends { self.new.ends ≡ self.old.ends }
-        ensures accounts { self.new.accounts ≡ self.old.accounts }
-        ensures households { self.new.households ≡ self.old.households }
+        ensures lasts { self.new.lasts ≡ self.old.lasts }
         ensures ready { self.new.ready.items ≡ (if is_ready slot.phase then self.old.ready.items ++ vec_len self.old.slots ∷ [] else self.old.ready.items) }
     {
         if slot.phase.is_ready() {

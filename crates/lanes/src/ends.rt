@@ -1,6 +1,6 @@
 //! Ends: the last position of each number.
-ghost use Rattle.std.specs.Prelude.{◌≡◌, ◌<◌, ◌==◌, ℕ, Some, None, [], cond, length, OnOk};
-ghost use Rattle.lanes.specs.Lasts.{end_of};
+ghost use Rattle.std.specs.Prelude.{◌≡◌, ◌<◌, ◌==◌, ℕ, None, [], cond, length, OnOk};
+ghost use Rattle.lanes.specs.Lasts.{end_of, renewed};
 
 use std::alloc::{AllocError, Global};
 use std::mem::replace;
@@ -22,7 +22,9 @@ impl Ends {
     }
 
     /// The last position of a number.
-    pub fn last_of(&self, number: u32) -> Option<u32> {
+    pub fn last_of(&self, number: u32) -> Option<u32>
+        ensures { result ≡ end_of self.now number }
+    {
         self.positions.get(number as usize).copied().flatten()
     }
 
@@ -38,12 +40,35 @@ impl Ends {
         self.positions.resize(number + 1, None)
     }
 
-    /// Gives a number, for which there is room, its new last position, and tells the one before.
-    pub fn put(&mut self, number: u32, position: u32) -> Option<u32>
+    /// Gives a number, for which there is room, its new last position, or none, and tells the one before.
+    pub fn put(&mut self, number: u32, position: Option<u32>) -> Option<u32>
         requires { number < length self.old.positions.items }
         ensures before { result ≡ end_of self.old number }
-        ensures found { (n : ℕ) → end_of self.new n ≡ cond (number == n) (Some position) (end_of self.old n) }
+        ensures found { (n : ℕ) → end_of self.new n ≡ cond (number == n) position (end_of self.old n) }
     {
-        replace(&mut self.positions[number as usize], Some(position))
+        replace(&mut self.positions[number as usize], position)
     }
+
+    /// Gives a number that has a last position a new one, and tells the one before.
+    pub fn renew(&mut self, number: u32, position: u32) -> Option<u32>
+        ensures before { result ≡ end_of self.old number }
+        ensures found { (n : ℕ) → end_of self.new n ≡ cond (number == n) (renewed (end_of self.old number) position) (end_of self.old n) }
+    {
+        match self.positions.get_mut(number as usize) {
+            Some(last) => renew_last(last, position),
+            None => None,
+        }
+    }
+}
+
+/// Puts a position in place of another, and tells that one; none stays none.
+pub fn renew_last(last: &mut Option<u32>, position: u32) -> Option<u32>
+    ensures before { result ≡ last.old }
+    ensures after { last.new ≡ renewed last.old position }
+{
+    let before = *last;
+    if before.is_some() {
+        *last = Some(position);
+    }
+    before
 }

@@ -22,6 +22,25 @@ const MIXED_FIRST: u64 = 0xcbf2_9ce4_8422_2325;
 
 const MIXED_PRIME: u64 = 0x0000_0100_0000_01b3;
 
+/// How a name is sought: by the bits made of its bytes, and by a number that it may have, which is tried first.
+#[derive(Clone, Copy)]
+pub struct Sought {
+    /// The bits that its hints are found by.
+    pub bits: u64,
+    /// The number, if one is at hand.
+    pub likely: Option<u32>,
+}
+
+impl Sought {
+    /// A name for which no number is at hand.
+    pub fn new(name: &Text) -> Sought {
+        Sought {
+            bits: bits_of(name),
+            likely: None,
+        }
+    }
+}
+
 /// The numbers that names with these bits had last, the latest first. There are as many as a power of two, or none.
 #[derive(Drop)]
 pub struct Hints {
@@ -36,38 +55,31 @@ impl Hints {
         }
     }
 
-    /// The number to try first.
-    pub fn first_of(&self, name: &Text) -> Option<u32> {
-        self.numbers
-            .get(place_of(name, self.numbers.len()))
-            .copied()
+    /// The number to try first for a name with these bits.
+    pub fn first_of(&self, bits: u64) -> Option<u32> {
+        self.numbers.get(self.place_of(bits)).copied()
     }
 
     /// The number to try then.
-    pub fn second_of(&self, name: &Text) -> Option<u32> {
-        let place = place_of(name, self.numbers.len());
-        self.numbers.get(place.wrapping_add(1)).copied()
+    pub fn second_of(&self, bits: u64) -> Option<u32> {
+        let place = self.place_of(bits).wrapping_add(1);
+        self.numbers.get(place).copied()
     }
 
-    /// Where the first hint for a name stands; 0 where there are so many that its place is no number of 32 bits.
-    pub fn place_of(&self, name: &Text) -> u32 {
-        u32::try_from(place_of(name, self.numbers.len())).unwrap_or(0)
-    }
-
-    /// The hint at a place; 0 where there is none.
-    pub fn at(&self, place: u32) -> u32 {
-        self.numbers.get(place as usize).copied().unwrap_or(0)
-    }
-
-    /// Notes the number of a name.
-    pub fn note(&mut self, name: &Text, number: u32) {
-        let place = place_of(name, self.numbers.len());
+    /// Notes the number of a name with these bits.
+    pub fn note(&mut self, bits: u64, number: u32) {
+        let place = self.place_of(bits);
         if let Some(first) = self.numbers.get_mut(place) {
             let before = replace(first, number);
             if let Some(second) = self.numbers.get_mut(place.wrapping_add(1)) {
                 *second = before;
             }
         }
+    }
+
+    // The place of the first hint for a name with these bits.
+    fn place_of(&self, bits: u64) -> usize {
+        (bits >> 32) as usize & self.numbers.len().wrapping_sub(HINTS_A_PLACE)
     }
 
     /// Makes more of them, where they are few for so many names. What was noted may be forgotten. Where memory is refused, they stay as they
@@ -81,11 +93,11 @@ impl Hints {
     }
 }
 
-// The place of a name's first hint among so many.
-fn place_of(name: &Text, places: usize) -> usize {
+// The bits by which a name's hints are found.
+fn bits_of(name: &Text) -> u64 {
     let mut mixed = MIXED_FIRST;
     for byte in name.as_bytes() {
         mixed = (mixed ^ u64::from(*byte)).wrapping_mul(MIXED_PRIME);
     }
-    (mixed >> 32) as usize & places.wrapping_sub(HINTS_A_PLACE)
+    mixed
 }

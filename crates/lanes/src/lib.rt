@@ -11,6 +11,7 @@ mod board;
 mod chains;
 mod ends;
 mod hints;
+mod last_claims;
 mod lasts;
 mod names;
 mod phase;

@@ -3,7 +3,7 @@ ghost use Rattle.std.specs.Prelude.{◌≡◌, ◌++◌, ◌∷◌, [], Some, On
 ghost use Rattle.std.specs.List.{slice_get};
 ghost use Rattle.lanes.specs.Names.{AreDistinct, Grows, IsAbsent};
 
-use crate::hints::Hints;
+use crate::hints::{Hints, Sought};
 use crate::short::short;
 use feel_tests::Text;
 use std::alloc::{AllocError, Global};
@@ -43,39 +43,34 @@ impl Names {
         }
     }
 
-    /// The number of a name, which is added where it isn't there. A number that it may have is tried first.
+    /// The number of a name, which is added where it isn't there. A number that it may have is tried first, then those of its hints.
     #[tactic(auto, using(crate::proofs::Growing::grows_same, crate::proofs::Growing::grows_added))]
-    pub fn number(&mut self, name: &Text, likely: Option<u32>) -> Result<u32, AllocError>
+    pub fn number(&mut self, name: &Text, sought: Sought) -> Result<u32, AllocError>
         ensures number { IfOk result (λ number. slice_get self.new number ≡ Some name.now) }
         ensures grows { Grows self.old self.new }
         ensures distinct { AreDistinct self.new }
     {
-        if let Some(number) = self.tried(name, likely) {
+        if let Some(number) = self.tried(name, sought.likely) {
             return Ok(number);
         }
-        if let Some(number) = self.tried(name, self.hints.first_of(name)) {
+        if let Some(number) = self.tried(name, self.hints.first_of(sought.bits)) {
             return Ok(number);
         }
-        if let Some(number) = self.tried(name, self.hints.second_of(name)) {
+        if let Some(number) = self.tried(name, self.hints.second_of(sought.bits)) {
             return Ok(number);
         }
         match self.find(name) {
             Some(number) => {
-                self.hints.note(name, number);
+                self.hints.note(sought.bits, number);
                 Ok(number)
             }
-            None => self.add(name),
+            None => self.add(name, sought.bits),
         }
     }
 
-    /// Where the hint for a name stands.
-    pub fn place_of(&self, name: &Text) -> u32 {
-        self.hints.place_of(name)
-    }
-
-    /// The number that a name with its hint at this place may have.
-    pub fn hint_at(&self, place: u32) -> u32 {
-        self.hints.at(place)
+    /// The number that a name with these bits may have.
+    pub fn hint_of(&self, bits: u64) -> Option<u32> {
+        self.hints.first_of(bits)
     }
 
     /// How many bytes the name with a number has.
@@ -110,7 +105,7 @@ impl Names {
     }
 
     // Adds a name that isn't there: its number is how many were there.
-    fn add(&mut self, name: &Text) -> Result<u32, AllocError>
+    fn add(&mut self, name: &Text, bits: u64) -> Result<u32, AllocError>
         requires { IsAbsent self.old name.now }
         ensures number { IfOk result (λ number. slice_get self.new number ≡ Some name.now) }
         ensures added { OnOk result (self.new ≡ self.old ++ name.now ∷ []) }
@@ -124,7 +119,7 @@ impl Names {
         let _before = self.numbers.insert(key, number)?;
         self.names.push_reserved(entry);
         self.hints.make_enough(self.names.len());
-        self.hints.note(name, number);
+        self.hints.note(bits, number);
         Ok(number)
     }
 }

@@ -1,7 +1,7 @@
-use Rattle.std.proofs.Common.{◌++◌, ◌∷◌, [], List, ap, ◌∙◌}
-use Rattle.lanes.specs.Calls.{place_behind}
-use Rattle.lanes.specs.Places.{Place}
-use Rattle.lanes.proofs.Moves.{Adds, added-kept, added-places, end-within, grown-kept, grown-places, prepared-kept, prepared-places}
+use Rattle.std.proofs.Common.{◌≡◌, ◌∙◌}
+use Rattle.settlement.specs.Accounts.{account_in}
+use Rattle.lanes.specs.Chains.{AreKept, IsKeyOf, places_of}
+use Rattle.lanes.proofs.Moves.{add-kept, add-places, add-refused, end-within, grown-kept, grown-places, prepared-kept, prepared-places}
 use Rattle.lanes.proofs.board.Lanes.add.Goals as goal
 
 pub invariant_of-self : goal.invariant_of-self
@@ -33,23 +33,32 @@ add-requires-clause-within c = λ last is.
     end-within c.key_of.new.names c.prepare.new.self c.in-Ok.key.0 last
     (prepared-kept c.self.inside.names c.key_of.new.names c.self.inside.chains c.prepare.new.self c.self.invariant c.in-Ok.ensures.grows c.in-Ok.ensures.distinct c.prepare.ensures.same) is
 
--- what was added
-done : (c : goal.After-add) → Adds c.key_of.new.names c.prepare.new.self c.add.new.self c.in-Ok.key c.args.claim c.args.year
-done c = record {
-  kept = prepared-kept c.self.inside.names c.key_of.new.names c.self.inside.chains c.prepare.new.self c.self.invariant c.in-Ok.ensures.grows c.in-Ok.ensures.distinct c.prepare.ensures.same;
-  key_is = rw c.as_claim.ensures at c.in-Ok.ensures.key;
-  slots = c.add.ensures.slots;
-  back = c.add.ensures.back;
-}
+-- the chains are kept once there is room, and what their places are then
+kept : (c : goal.After-add) → AreKept c.key_of.new.names c.prepare.new.self
+kept c =
+    prepared-kept c.self.inside.names c.key_of.new.names c.self.inside.chains c.prepare.new.self c.self.invariant c.in-Ok.ensures.grows c.in-Ok.ensures.distinct c.prepare.ensures.same
+
+placed : (c : goal.After-add) → places_of c.key_of.new.names c.prepare.new.self.slots.items ≡ c.args.self.now
+placed c =
+    prepared-places c.self.inside.names c.key_of.new.names c.self.inside.chains c.prepare.new.self c.self.invariant c.in-Ok.ensures.grows c.prepare.ensures.same ∙ c.self.view_is
+
+key_is : (c : goal.After-add) → IsKeyOf c.key_of.new.names c.in-Ok.key (account_in c.args.year c.args.claim)
+key_is c = rw c.as_claim.ensures at c.in-Ok.ensures.key
 
 pub invariant_of-self-2 : goal.invariant_of-self-2
-invariant_of-self-2 c = added-kept c.key_of.new.names c.prepare.new.self c.add.new.self c.in-Ok.key c.args.claim c.args.year (done c)
+invariant_of-self-2 c =
+    add-kept c.key_of.new.names c.prepare.new.self c.add.new.self c.in-Ok.key c.args.claim c.args.year c.add.result (kept c) (key_is c) c.add.ensures.slots c.add.ensures.back
+    c.add.ensures.refused
 
 pub returns-clause-added : goal.returns-clause-added
 returns-clause-added c =
-    let before = prepared-places c.self.inside.names c.key_of.new.names c.self.inside.chains c.prepare.new.self c.self.invariant c.in-Ok.ensures.grows c.prepare.ensures.same ∙ c.self.view_is in
-    let next : List Place → List Place = λ places. places ++ place_behind places c.args.claim c.args.year ∷ [] in
-    added-places c.key_of.new.names c.prepare.new.self c.add.new.self c.in-Ok.key c.args.claim c.args.year (done c) ∙ ap next before
+    add-places c.key_of.new.names c.prepare.new.self c.add.new.self c.in-Ok.key c.args.claim c.args.year c.add.result c.args.self.now (kept c) (placed c) (key_is c)
+    c.add.ensures.slots c.add.ensures.back
+
+pub returns-clause-refused : goal.returns-clause-refused
+returns-clause-refused c = add-refused c.key_of.new.names c.prepare.new.self c.add.new.self c.add.result c.args.self.now (placed c) c.add.ensures.refused
 
 pub returns-clause-in_turn : goal.returns-clause-in_turn
-returns-clause-in_turn c = (added-kept c.key_of.new.names c.prepare.new.self c.add.new.self c.in-Ok.key c.args.claim c.args.year (done c)).in_turn
+returns-clause-in_turn c =
+    (add-kept c.key_of.new.names c.prepare.new.self c.add.new.self c.in-Ok.key c.args.claim c.args.year c.add.result (kept c) (key_is c) c.add.ensures.slots c.add.ensures.back
+    c.add.ensures.refused).in_turn

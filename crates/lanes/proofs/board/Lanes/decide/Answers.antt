@@ -9,7 +9,7 @@ decide-requires-clause-next c =
 
 -- what is found is as it was
 found : (c : goal.After-decide) → StaysFound c.self.inside.chains c.decide.new.self
-found c = record { ends = c.decide.ensures.ends; accounts = c.decide.ensures.accounts; households = c.decide.ensures.households }
+found c = record { ends = c.decide.ensures.ends; lasts = c.decide.ensures.lasts }
 
 pub invariant_of-self : goal.invariant_of-self
 invariant_of-self c =

@@ -16,7 +16,6 @@ returns c =
       len = refl;
       capacity = refl;
       ends = refl;
-      accounts = refl;
-      households = refl;
+      lasts = refl;
       ready = refl;
     }
