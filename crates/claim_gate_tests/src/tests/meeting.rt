@@ -79,7 +79,17 @@ fn two_passes_meet_at_a_gate(rt: HostRuntime) {
     );
 }
 
-// Two passes that have seen that no ticket is left: they meet, and have seen so still.
+// A call of a worn pass, of which is known that it is refused.
+fn refuse_worn<G: Gate>(rt: &impl Wait, gate: &G, pass: G::Pass)
+    requires own { G.has_pass gate.now pass }
+    requires worn { G.is_worn pass }
+{
+    let Err((_, _pass)) = gate.counts(rt, pass) else {
+        unreachable!()
+    };
+}
+
+// The one pass makes the last call, and has seen so; the other has not. They meet, and both are worn.
 fn meet_worn<V: SerialGate + Send + Drop>(
     rt: &(impl Abort + Wait),
     lock: TicketLock<V>,
@@ -89,18 +99,24 @@ fn meet_worn<V: SerialGate + Send + Drop>(
 {
     let gate = LockedGate::over(lock);
     let (one, other) = gate.split(pass);
+    let Ok((_, one)) = gate.counts(rt, one) else {
+        fail(rt, "the last ticket")
+    };
+    let Err((_, one)) = gate.counts(rt, one) else {
+        fail(rt, "no ticket")
+    };
     let (one, other) = gate.meet(one, other);
-    expects(rt, gate.counts(rt, one).is_err(), "no counts");
-    expects(rt, gate.counts(rt, other).is_err(), "no counts");
+    refuse_worn(rt, &gate, one);
+    refuse_worn(rt, &gate, other);
 }
 
 pub fn meet_without(rt: &(impl Abort + Wait), alloc: Global, terms: &Terms) {
-    let (lock, pass) = with_used(rt, alloc, terms, u64::MAX);
+    let (lock, pass) = with_used(rt, alloc, terms, u64::MAX - 1);
     meet_worn(rt, lock, pass);
 }
 
 #[test]
-fn two_worn_passes_meet_at_a_gate(rt: HostRuntime) {
+fn a_worn_pass_meets_another_at_a_gate(rt: HostRuntime) {
     let files = [first_file()];
     run(
         &rt,
