@@ -21,7 +21,10 @@ use Rattle.settlement.specs.Opening.{opening}
 use Rattle.intake_csv.specs.Balances.{accounts_of}
 use Rattle.journal.specs.Terms.{Terms, claims_of}
 use Rattle.journal.specs.Settled.{outcome_of, accumulated}
-use Rattle.journal.specs.Events.{accepted, places, closed, is_close, taken, decided, claim_filed, claims, claim_at, noted, before, reached, due, IsJob}
+use Rattle.std.proofs.Common.{append-nil}
+use Rattle.std.proofs.lemmas.List.Concat.{flat_map-append}
+use Rattle.journal.specs.Order.{IsInOrder, StaysInOrder, in_file_order}
+use Rattle.journal.specs.Events.{accept_in, accepts, accepted, ended, places, closed, is_close, taken, decided, claim_filed, claims, claim_at, noted, before, reached, due, IsJob}
 use Rattle.journal.specs.Lawful.{Lawful, closing}
 use Rattle.journal.specs.Gate.{GateAt, OfferReply, EndReply, TakeReply, FinishReply, Offers, Ends, Takes, Finishes, is_any_decision}
 use Rattle.journal.specs.Laws.{StartsLawful, OfferGoes, EndGoes, TakeGoes, FinishGoes}
@@ -77,6 +80,21 @@ decisions_where : (b : Bool) (J : List Event) → count_by is_any_decision (clos
 decisions_where true J = decisions_stay J Close refl
 decisions_where false J = refl
 
+-- an event that accepts no claim leaves the order
+order_same : (T : Terms) (J : List Event) (event : Event) → accept_in event ≡ [] → IsInOrder T J → IsInOrder T (J ++ event ∷ [])
+order_same T J event none ordered =
+    let same : accepts (J ++ event ∷ []) ≡ accepts J =
+    flat_map-append accept_in J (event ∷ []) ∙ ap (λ fs. accepts J ++ (fs ++ [])) none ∙ append-nil (accepts J) in
+    subst (λ order. order ≡ take (length order) (in_file_order 1 T.files)) (sym same) ordered
+
+order_where : (T : Terms) (b : Bool) (J : List Event) → IsInOrder T J → IsInOrder T (closed_where b J)
+order_where T true J ordered = order_same T J Close refl ordered
+order_where T false J ordered = ordered
+
+-- where nothing more of a provider is accepted by a gate that accepts, it has ended
+ended_of : (stopped : Bool) (J : List Event) (q : ℕ) → stopped ≡ false → closed J ≡ false → ((stopped || closed J) || ended J q) ≡ true → ended J q ≡ true
+ended_of stopped J q runs open_yet past = sym (ap (λ b. (b || closed J) || ended J q) runs ∙ ap (λ b. b || ended J q) open_yet) ∙ past
+
 -- a gate that nothing was offered yet
 none_ended : (n : ℕ) → 1 ≤ n → list_all (λ x. x.ended) (replicate n none_yet) ≡ false
 none_ended zero h = let never : ⊥ = omega arith in absurd never
@@ -122,15 +140,17 @@ module _ (terms : TermsParts) (starts : StartsLawful) (b : Bool) (files : 1 ≤ 
             subst (Lawful T)
             (closing_is T [] b (due_is terms T [] (replicate (length terms.files) none_yet) is (tied_start terms).intakes_are ∙ sym when) refl)
             (starts T);
+        ordered = λ by_files T is. order_where T b [] refl;
       }
 
 -- an accepted claim
 module _ (terms : TermsParts) (J : List Event) (stopped : Bool) (lanes : List Place) (intakes : List Intake) (is_closed : Bool) (decisions : ℕ)
     (kept : IsKept terms J lanes intakes is_closed decisions) where
-  module _ (goes : OfferGoes) (provider place : ℕ) (claim : Claim) (year : ℕ) (b : Bool)
+  module _ (goes : OfferGoes) (stays : StaysInOrder) (provider place : ℕ) (claim : Claim) (year : ℕ) (b : Bool)
       (runs : stopped ≡ false) (open_yet : closed J ≡ false)
       (filed : ForTerms terms (λ T. claim_filed T (record { provider = provider; place = place }) ≡ Some claim))
       (in_turn : ForTerms terms (λ T. place ≡ length (places J provider)))
+      (in_order : terms.in_order ≡ true → (q : ℕ) → 1 ≤ q → q < provider → ((stopped || closed J) || ended J q) ≡ true)
       (dated : year ≡ account_year terms.plan claim)
       (when : b ≡ is_due terms (length (lanes ++ place_behind lanes claim year ∷ [])) (with_accept intakes provider)) where
     abbrev accepted_in : List Event
@@ -185,6 +205,11 @@ module _ (terms : TermsParts) (J : List Event) (stopped : Bool) (lanes : List Pl
           lawful = λ T is.
               (goes (gate T J stopped) (gate T (closed_where b accepted_in) stopped) provider place (OfferReply.Accepted (length lanes))
               (kept.lawful T is) (slice_get_within (claims_of T provider) place claim (filed T is)) (offer_accepted T is)).lawful;
+          ordered = λ by_files T is.
+              order_where T b accepted_in
+              (stays T J provider place (kept.lawful T is) (kept.ordered by_files T is)
+              (λ q least before. ended_of stopped J q runs open_yet (in_order by_files q least before))
+              (record { open_yet = open_yet; place_is = in_turn T is; there = slice_get_within (claims_of T provider) place claim (filed T is) }));
         }
 
   -- a provider that ends
@@ -230,6 +255,7 @@ module _ (terms : TermsParts) (J : List Event) (stopped : Bool) (lanes : List Pl
           lawful = λ T is.
               (goes (gate T J stopped) (gate T (closed_where b ended_in) stopped) provider EndReply.Ended (kept.lawful T is) (known T is).known
               (subst (λ n. Ends (gate T J stopped) provider n EndReply.Ended (gate T (closed_where b ended_in) stopped)) (known T is).count_is (end_ended T is))).lawful;
+          ordered = λ by_files T is. order_where T b ended_in (order_same T J (End provider) refl (kept.ordered by_files T is));
         }
 
   -- an event that is no accept and no end, behind the journal
@@ -268,6 +294,7 @@ module _ (terms : TermsParts) (J : List Event) (stopped : Bool) (lanes : List Pl
       places_are = λ T is. places_take T (J ++ Take k ∷ []) lanes k (places_still T (Take k) (claims_stay T J (Take k) refl) (kept.places_are T is));
       lawful = λ T is.
           (goes (gate T J stopped) (gate T (J ++ Take k ∷ []) stopped) (TakeReply.Work k picked.claim acc) (kept.lawful T is) (take_work T is)).lawful;
+      ordered = λ by_files T is. order_same T J (Take k) refl (kept.ordered by_files T is);
     }
 
   pub take_over : (T : Terms) → IsTermsOf terms T → stopped ≡ false → IsOver J → Takes (gate T J stopped) TakeReply.Over (gate T J stopped)
@@ -326,4 +353,5 @@ module _ (terms : TermsParts) (J : List Event) (stopped : Bool) (lanes : List Pl
       lawful = λ T is.
           (goes (gate T J stopped) (gate T decided_in stopped) k claim acc outcome FinishReply.Recorded (kept.lawful T is)
           (record { in_work = in_work; job = job T is; settled = settled ∙ ap (λ p. outcome_of p claim acc) (sym is.plan) }) (finish_recorded T)).lawful;
+      ordered = λ by_files T is. order_same T J (Decide k outcome) refl (kept.ordered by_files T is);
     }

@@ -27,6 +27,8 @@ use Rattle.journal.specs.Events.{accepted, place_in, places, closed, taken, deci
 use Rattle.journal.specs.Leading.{leads_itself}
 use Rattle.journal.specs.Gate.{OfferReply, EndReply, TakeReply, Continues, GateAt, LeadsTo, Offers, Ends, Takes, is_any_decision}
 use Rattle.journal.specs.Lawful.{Finished, Lawful}
+use Rattle.claim_gate.specs.Shared.{InTurn as ShutTurn}
+use Rattle.journal.specs.Order.{StaysInOrder}
 use Rattle.journal.specs.Laws.{StartsLawful, OfferGoes, EndGoes, TakeGoes, FinishGoes}
 use Rattle.journal.specs.declared.event.Event.{Event}
 use Rattle.journal.specs.declared.event.Event.TheVariants.{Accept, End, Close, Take, Decide}
@@ -192,27 +194,28 @@ module _ (s : Inside) (g : GateParts) (is : seen s ≡ g) (kept : Keeps s) where
       pub reply : ForTerms g.terms (λ T. Offers (at T g) offer.provider offer.place (OfferReply.Accepted position) (gate_of T J2))
       pub goes_on : Continues g.journal J2
 
-    pub accepts : OfferGoes → g.stopped ≡ false → closed g.journal ≡ false → ForTerms g.terms (λ T. IsFiled T offer)
+    pub accepts : OfferGoes → StaysInOrder → ShutTurn g offer.provider → g.stopped ≡ false → closed g.journal ≡ false → ForTerms g.terms (λ T. IsFiled T offer)
         → ForTerms g.terms (λ T. offer.place ≡ length (places g.journal offer.provider))
         → position ≡ length s.lanes → year ≡ account_year s.terms.now.plan offer.claim
         → lanes ≡ s.lanes ++ place_behind s.lanes offer.claim year ∷ [] → intakes ≡ with_accept s.intakes offer.provider
         → J1 ≡ s.journal.items ++ Accept offer.provider offer.place ∷ [] → J2 ≡ closed_where b J1
         → b ≡ is_due s.terms.now (length lanes) intakes
         → IsAccepted
-    accepts goes runs open_yet filed turn stands dated lanes_are intakes_are accept_is journal_is when =
+    accepts goes stays order runs open_yet filed turn stands dated lanes_are intakes_are accept_is journal_is when =
         let runs' : s.stopped ≡ false = runs_so runs in
         let open' : closed s.journal.items ≡ false = subst (λ w. closed w.journal ≡ false) (sym is) open_yet in
         let filed' : ForTerms s.terms.now (λ T. IsFiled T offer) = subst (λ w. ForTerms w.terms (λ T. IsFiled T offer)) (sym is) filed in
         let turn' : ForTerms s.terms.now (λ T. offer.place ≡ length (places s.journal.items offer.provider)) =
         subst (λ w. ForTerms w.terms (λ T. offer.place ≡ length (places w.journal offer.provider))) (sym is) turn in
+        let order' : ShutTurn (seen s) offer.provider = subst (λ w. ShutTurn w offer.provider) (sym is) order in
         let more : List Place = s.lanes ++ place_behind s.lanes offer.claim year ∷ [] in
         let when' : b ≡ is_due s.terms.now (length more) (with_accept s.intakes offer.provider) =
         when ∙ ap (λ l. is_due s.terms.now (length l) intakes) lanes_are ∙ ap (is_due s.terms.now (length more)) intakes_are in
         let journal' : J2 ≡ closed_where b (s.journal.items ++ Accept offer.provider offer.place ∷ []) = journal_is ∙ ap (closed_where b) accept_is in
-        let keeps = kept_accept s.terms.now s.journal.items s.stopped s.lanes s.intakes s.closed s.decisions kept goes
-        offer.provider offer.place offer.claim year b runs' open' filed' turn' dated when' in
-        let answers = offer_accepted s.terms.now s.journal.items s.stopped s.lanes s.intakes s.closed s.decisions kept goes
-        offer.provider offer.place offer.claim year b runs' open' filed' turn' dated when' in
+        let keeps = kept_accept s.terms.now s.journal.items s.stopped s.lanes s.intakes s.closed s.decisions kept goes stays
+        offer.provider offer.place offer.claim year b runs' open' filed' turn' order' dated when' in
+        let answers = offer_accepted s.terms.now s.journal.items s.stopped s.lanes s.intakes s.closed s.decisions kept goes stays
+        offer.provider offer.place offer.claim year b runs' open' filed' turn' order' dated when' in
         record {
           keeps =
               subst (λ j. IsKept s.terms.now j lanes intakes b s.decisions) (sym journal')

@@ -1,6 +1,6 @@
 -- Calls of a gate behind a lock, by those of the gate of one thread.
-use Rattle.std.proofs.Common.{◌≡◌, ◌+◌, ℕ, refl, sym, ap, inl, inr, subst}
-use Rattle.claim_terms.specs.Terms.{ForTerms, IsTermsOf}
+use Rattle.std.proofs.Common.{◌≡◌, ◌+◌, ◌∙◌, ℕ, refl, sym, ap, inl, inr, subst}
+use Rattle.claim_terms.specs.Terms.{ForTerms, IsTermsOf, TermsParts}
 use Rattle.settlement.specs.declared.acc.Acc.{Acc}
 use Rattle.settlement.specs.declared.claim.Claim.{Claim}
 use Rattle.journal.specs.Terms.{Terms}
@@ -11,7 +11,14 @@ use Rattle.turn_lock.specs.TicketShown.{HasMet}
 use Rattle.turn_lock.specs.declared.ticket.view.LiveView.{LiveView as Seen}
 use Rattle.claim_gate.specs.Locked.{known_by}
 use Rattle.claim_gate.specs.Parts.{GateParts, at}
-use Rattle.claim_gate.specs.Shared.{HadSection, HaveMet, IsLawful, Known}
+use Rattle.std.proofs.Common.{◌||◌, Bool, true, List}
+use Rattle.std.proofs.lemmas.Bool.{or_cases, or_left, or_right}
+use Rattle.std.specs.List.{list_any}
+use Rattle.std.proofs.lemmas.List.Folds.{list_any-append}
+use Rattle.journal.specs.Events.{closed, ended, is_close, is_end}
+use Rattle.journal.specs.Gate.{Continues}
+use Rattle.journal.specs.declared.event.Event.{Event}
+use Rattle.claim_gate.specs.Shared.{HadSection, HaveMet, InTurn, IsLawful, Known, is_past}
 
 -- what leads to another state as contracts see the two does so as journals see them
 pub leads_at : (T : Terms) (earlier later : GateParts) → LeadsTo earlier later → LeadsTo (at T earlier) (at T later)
@@ -45,3 +52,23 @@ met_known leads shown shows one other both met =
       | inl is ↦ record { later = inl (ap (λ k. shown k.seen) is.1, shows other.seen one.seen is.0); found = ap (λ k. shown k.last) is.1; tally = ap (λ k. k.ended) is.1 }
       | inr is ↦ record { later = inr (ap (λ k. shown k.seen) is.1, shows one.seen other.seen is.0); found = ap (λ k. shown k.last) is.1; tally = ap (λ k. k.ended) is.1 }
     ]
+
+-- what a journal has a longer one has
+any_goes_on : (test : Event → Bool) (J K : List Event) → Continues J K → list_any test J ≡ true → list_any test K ≡ true
+any_goes_on test J K on h =
+    subst (λ w. list_any test w ≡ true) (sym on.whole) (list_any-append test J on.rest ∙ or_left (list_any test J) (list_any test on.rest) h)
+
+-- a provider that is past stays so
+pub past_stays : (seen found : GateParts) (q : ℕ) → LeadsTo seen found → is_past seen q ≡ true → is_past found q ≡ true
+past_stays seen found q leads past = elim (or_cases (seen.stopped || closed seen.journal) (ended seen.journal q) past) [
+  | inl shut ↦ or_left (found.stopped || closed found.journal) (ended found.journal q) (elim (or_cases seen.stopped (closed seen.journal) shut) [
+    | inl stopped ↦ or_left found.stopped (closed found.journal) (ap (λ (g : GateParts). g.stopped) (leads.stop stopped) ∙ stopped)
+    | inr is_closed ↦ or_right found.stopped (closed found.journal) (any_goes_on is_close seen.journal found.journal leads.journal is_closed)
+  ])
+  | inr has_ended ↦ or_right (found.stopped || closed found.journal) (ended found.journal q) (any_goes_on (is_end q) seen.journal found.journal leads.journal has_ended)
+]
+
+-- what is in turn by what was seen is so by what is found
+pub turn_stays : (seen found : GateParts) (provider : ℕ) → LeadsTo seen found → InTurn seen provider → InTurn found provider
+turn_stays seen found provider leads turn by_files q least before =
+    past_stays seen found q leads (turn (ap (λ (t : TermsParts). t.in_order) (sym leads.terms) ∙ by_files) q least before)

@@ -13,6 +13,7 @@ use Rattle.lanes.specs.Calls.{is_decided_at}
 use Rattle.journal.specs.Terms.{Terms}
 use Rattle.journal.specs.Events.{accepted, places, ended, closed, taken, decided, claim_at, before, reached}
 use Rattle.journal.specs.Lawful.{Lawful}
+use Rattle.journal.specs.Order.{IsInOrder}
 use Rattle.journal.specs.Gate.{is_any_end, is_any_decision}
 use Rattle.journal.specs.declared.event.Event.{Event}
 use Rattle.claim_gate.specs.declared.intakes.Intake.{Intake}
@@ -72,6 +73,7 @@ pub record IsKept (terms : TermsParts) (J : List Event) (lanes : List Place) (in
   pub marked : AreMarked J lanes
   pub places_are : ForTerms terms (λ T. ArePlacesOf T J lanes)
   pub lawful : ForTerms terms (λ T. Lawful T J)
+  pub ordered : terms.in_order ≡ true → ForTerms terms (λ T. IsInOrder T J)
 
 -- the close is due with so many claims accepted and these intakes
 abbrev pub is_due : TermsParts → ℕ → List Intake → Bool

@@ -1,13 +1,27 @@
 -- A gate that several callers share: what one of them knows of it, and what a call tells.
-use Rattle.std.specs.Prelude.{◌≡◌, ◌⊎◌, ◌+◌, ℕ}
+use Rattle.std.specs.Prelude.{◌≡◌, ◌⊎◌, ◌<◌, ◌≤◌, ◌||◌, ◌+◌, ℕ, Bool, true}
 use Rattle.journal.specs.Gate.{GateAt, LeadsTo}
+use Rattle.journal.specs.Events.{closed, ended}
 use Rattle.journal.specs.Lawful.{Lawful}
+use Rattle.journal.specs.Order.{IsInOrder}
 use Rattle.claim_terms.specs.Terms.{ForTerms}
 use Rattle.claim_gate.specs.Parts.{GateParts, at}
 
 -- its journal is lawful
 abbrev pub IsLawful : GateParts → Type 0
 IsLawful gate = ForTerms gate.terms (λ T. Lawful T gate.journal)
+
+-- where the gate's terms are in order, so is its journal: claims are accepted in the order of the files
+abbrev pub IsOrdered : GateParts → Type 0
+IsOrdered gate = gate.terms.in_order ≡ true → ForTerms gate.terms (λ T. IsInOrder T gate.journal)
+
+-- the gate accepts nothing more, or the provider has ended
+abbrev pub is_past : GateParts → ℕ → Bool
+is_past gate provider = (gate.stopped || closed gate.journal) || ended gate.journal provider
+
+-- where the gate's terms are in order, nothing more of the files in front of a provider's is accepted
+abbrev pub InTurn : GateParts → ℕ → Type 0
+InTurn gate provider = gate.terms.in_order ≡ true → (q : ℕ) → 1 ≤ q → q < provider → is_past gate q ≡ true
 
 -- what a caller knows of the gate by its pass: the state that it has seen last, the state that its last section found,
 -- and how many sections it has ended

@@ -23,7 +23,7 @@ pub trait Gate {
     ghost use Rattle.claim_terms.specs.Terms.{ForTerms};
     ghost use Rattle.claim_gate.specs.Parts.{at};
     ghost use Rattle.claim_gate.specs.Replies.{offer_reply, end_reply, take_reply, finish_reply, IsFiled, HasClaims, IsWorkOf};
-    ghost use Rattle.claim_gate.specs.Shared.{Known, IsServed, IsWornOut, Went};
+    ghost use Rattle.claim_gate.specs.Shared.{InTurn, Known, IsServed, IsWornOut, Went};
 
     type Pass: Send + Drop;
 
@@ -52,6 +52,7 @@ pub trait Gate {
     ) -> Result<(Result<Accepted, (OfferFault, Offer)>, Self::Pass), (Worn, Self::Pass, Offer)>
         requires own { has_pass self.now pass }
         requires filed { ForTerms (known pass).seen.terms (λ T. IsFiled T offer) }
+        requires in_order { InTurn (known pass).seen offer.provider }
         ensures served { IfOk result (λ r. IsServed (has_pass self.now) known (known pass) r.1) }
         ensures reply { IfOk result (λ r. Went (λ old new. Offers old offer.provider offer.place (offer_reply r.0) new) (known r.1)) }
         ensures back { IfOk result (λ r. IfErr r.0 (λ refused. refused.1 ≡ offer)) }

@@ -35,7 +35,7 @@ pub trait SerialGate: Growing {
     ghost use Rattle.claim_gate.specs.Parts.{GateParts, at};
     ghost use Rattle.claim_gate.specs.Replies.{offer_reply, end_reply, take_reply, finish_reply, IsFiled, HasClaims, IsWorkOf};
     ghost use Rattle.journal.specs.Gate.{LeadsTo};
-    ghost use Rattle.claim_gate.specs.Shared.{IsLawful};
+    ghost use Rattle.claim_gate.specs.Shared.{InTurn, IsLawful, IsOrdered};
 
     // Its terms, its journal, and whether it is stopped.
     ghost shown: { Self → GateParts };
@@ -43,11 +43,13 @@ pub trait SerialGate: Growing {
     /// The journal.
     fn journal(&self) -> &[Event]
         ensures journal { result.now ≡ (shown self.now).journal }
-        ensures lawful { IsLawful (shown self.now) };
+        ensures lawful { IsLawful (shown self.now) }
+        ensures ordered { IsOrdered (shown self.now) };
 
     /// `GateState::offer`.
     fn offer(&mut self, offer: Offer) -> Result<Accepted, (OfferFault, Offer)>
-        requires { ForTerms (shown self.old).terms (λ T. IsFiled T offer) }
+        requires filed { ForTerms (shown self.old).terms (λ T. IsFiled T offer) }
+        requires in_order { InTurn (shown self.old) offer.provider }
         ensures grown { Self.leads self.old self.new }
         ensures reply { ForTerms (shown self.old).terms (λ T. Offers (at T (shown self.old)) offer.provider offer.place (offer_reply result) (at T (shown self.new))) }
         ensures lawful { IsLawful (shown self.new) }

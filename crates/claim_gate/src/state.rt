@@ -13,7 +13,7 @@ ghost use Rattle.claim_gate.specs.Kept.{is_due};
 ghost use Rattle.claim_terms.specs.Terms.{ForTerms};
 ghost use Rattle.claim_gate.specs.Parts.{at};
 ghost use Rattle.claim_gate.specs.Replies.{offer_reply, end_reply, take_reply, finish_reply, IsFiled, HasClaims, IsOver, IsWorkOf, first_journal};
-ghost use Rattle.claim_gate.specs.Shared.{IsLawful};
+ghost use Rattle.claim_gate.specs.Shared.{InTurn, IsLawful, IsOrdered};
 
 use crate::counts::Counts;
 use crate::fault::{EndFault, FinishFault, OfferFault, TakeFault};
@@ -22,7 +22,7 @@ use crate::job::Job;
 use crate::offer::Offer;
 use crate::reply::{Accepted, Ended, Recorded, Taken};
 use claim_terms::Terms;
-use journal::{Decision, Event, gate_stays_lawful, starts_lawful};
+use journal::{Decision, Event, acceptance_stays_in_order, gate_stays_lawful, starts_lawful};
 use lanes::{Lanes, Picked, StoredClaim};
 use settlement::{Acc, account_year, after};
 use std::alloc::{AllocError, Global};
@@ -93,6 +93,7 @@ impl<'t> GateState<'t> {
     pub fn journal(&self) -> &[Event]
         ensures journal { result.now ≡ self.now.journal }
         ensures lawful { IsLawful self.now }
+        ensures ordered { IsOrdered self.now }
     {
         &self.journal
     }
@@ -116,7 +117,8 @@ impl<'t> GateState<'t> {
 
     /// Offers a claim: it is accepted where it is its provider's next. The offer comes back where it is refused.
     pub fn offer(&mut self, offer: Offer) -> Result<Accepted, (OfferFault, Offer)>
-        requires { ForTerms self.old.terms (λ T. IsFiled T offer) }
+        requires filed { ForTerms self.old.terms (λ T. IsFiled T offer) }
+        requires in_order { InTurn self.old offer.provider }
         ensures reply { ForTerms self.old.terms (λ T. Offers (at T self.old) offer.provider offer.place (offer_reply result) (at T self.new)) }
         ensures lawful { IsLawful self.new }
         ensures leads { LeadsTo self.old self.new }
@@ -142,14 +144,16 @@ impl<'t> GateState<'t> {
         requires open_yet { closed self.old.journal ≡ false }
         requires filed { ForTerms self.old.terms (λ T. IsFiled T offer) }
         requires in_turn { ForTerms self.old.terms (λ T. offer.place ≡ length (places self.old.journal offer.provider)) }
+        requires in_order { InTurn self.old offer.provider }
         ensures reply { ForTerms self.old.terms (λ T. Offers (at T self.old) offer.provider offer.place (offer_reply result) (at T self.new)) }
         ensures lawful { IsLawful self.new }
         ensures leads { LeadsTo self.old self.new }
         ensures back { IfErr result (λ refused. refused.1 ≡ offer) }
         ensures refused { OnErr result (self.new ≡ self.old) }
     {
-        // Known from here: from a lawful journal each call goes to a lawful one.
+        // Known from here: from a lawful journal each call goes to a lawful one, and an accept in turn leaves the order.
         gate_stays_lawful();
+        acceptance_stays_in_order();
         if self.journal.reserve(2).is_err() {
             return Err((OfferFault::OutOfMemory, offer));
         }

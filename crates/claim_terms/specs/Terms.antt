@@ -1,5 +1,5 @@
 -- What a run is fixed over: as texts, as the code keeps it, and as journals see it.
-use Rattle.std.specs.Prelude.{◌≡◌, ◌≤◌, ℕ, List, [], length, map, option_map, Option, Some, None, IsSome}
+use Rattle.std.specs.Prelude.{◌≡◌, ◌≤◌, ℕ, Bool, List, [], length, map, option_map, Option, Some, None, IsSome}
 use Rattle.std.specs.Borrow.{Bor}
 use Rattle.std.specs.List.{All, AllZip}
 use Rattle.dtable.specs.Plan.{PlanParts}
@@ -25,6 +25,8 @@ pub record TermsParts : Type 0 where
   pub files : List (List ℕ)
   pub balances : List Book
   pub cutoff : Option ℕ
+  -- whether claims are accepted in the order of the files, and in each in its own
+  pub in_order : Bool
 
 -- the claims of a file: those among its rows
 pub record AreClaimsOf (names : List InputData) (text : List ℕ) (claims : List Claim) : Type 0 where

@@ -29,6 +29,7 @@ pub struct Terms<'a> {
     judged: Sequence<ClaimFile<'a>>,
     balances: Option<Balances>,
     cutoff: Option<u64>,
+    in_order: bool,
 }
 
 impl Drop for Terms<'_> {
@@ -39,6 +40,7 @@ impl Drop for Terms<'_> {
             judged: _,
             balances: _,
             cutoff: _,
+            in_order: _,
         } = self;
     }
 }
@@ -50,14 +52,14 @@ impl<'a> Model for Terms<'a> {
 
     ghost Value = { TermsParts };
 
-    ghost view = { λ t. record { plan = t.plan.now; files = texts_of t.files.now; balances = unwrap_or t.balances []; cutoff = t.cutoff } };
+    ghost view = { λ t. record { plan = t.plan.now; files = texts_of t.files.now; balances = unwrap_or t.balances []; cutoff = t.cutoff; in_order = t.in_order } };
 
-    ghost invariant = { λ t. AreTerms (record { plan = t.plan.now; files = texts_of t.files.now; balances = unwrap_or t.balances []; cutoff = t.cutoff }) × AreFilesOf t.plan.now.names (texts_of t.files.now) t.judged };
+    ghost invariant = { λ t. AreTerms (record { plan = t.plan.now; files = texts_of t.files.now; balances = unwrap_or t.balances []; cutoff = t.cutoff; in_order = t.in_order }) × AreFilesOf t.plan.now.names (texts_of t.files.now) t.judged };
 }
 
 impl<'a> Terms<'a> {
     /// The terms of a plan, the providers' files in order, a file of balances, if there is one, and a cutoff, or
-    /// without one. Without balances every member begins with nothing.
+    /// without one. Without balances every member begins with nothing. Claims of different files are accepted in any order.
     pub fn new(
         alloc: Global,
         plan: &'a Plan,
@@ -66,6 +68,23 @@ impl<'a> Terms<'a> {
         cutoff: Option<u64>,
     ) -> Result<Terms<'a>, TermsFault>
         ensures ok { IfOk result (AreTermsOf plan.now (texts_of files.now) (text_in balances.entry) cutoff) }
+        ensures any_order { IfOk result (λ terms. terms.in_order ≡ false) }
+        ensures fault { IfErr result (HasTermsFault plan.now (texts_of files.now) (text_in balances.entry)) }
+    {
+        Terms::with_order(alloc, plan, files, balances, cutoff, false)
+    }
+
+    /// The terms as `new` makes them; where `in_order` is set, claims are accepted file after file.
+    pub fn with_order(
+        alloc: Global,
+        plan: &'a Plan,
+        files: &'a [&'a [u8]],
+        balances: Option<&[u8]>,
+        cutoff: Option<u64>,
+        in_order: bool,
+    ) -> Result<Terms<'a>, TermsFault>
+        ensures ok { IfOk result (AreTermsOf plan.now (texts_of files.now) (text_in balances.entry) cutoff) }
+        ensures order { IfOk result (λ terms. terms.in_order ≡ in_order) }
         ensures fault { IfErr result (HasTermsFault plan.now (texts_of files.now) (text_in balances.entry)) }
     {
         if plan.roles().is_none() {
@@ -80,6 +99,7 @@ impl<'a> Terms<'a> {
             judged: judge_files(alloc, plan, files)?,
             balances: balances_of(alloc, plan, balances)?,
             cutoff,
+            in_order,
         })
     }
 
@@ -115,6 +135,13 @@ impl<'a> Terms<'a> {
         ensures { result ≡ self.now.cutoff }
     {
         self.cutoff
+    }
+
+    /// Whether claims are accepted in the order of the files, and in each in its own.
+    pub fn in_order(&self) -> bool
+        ensures { result ≡ self.now.in_order }
+    {
+        self.in_order
     }
 
     /// What the account of a claim begins with: of its own zeros where the balances don't name its member, or not in its year.

@@ -3,6 +3,7 @@ ghost use Rattle.std.specs.Prelude.{◌≡◌, ◌<◌, ◌≤◌, ◌+◌, ◌-
 ghost use Rattle.intake_csv.specs.Rows.{IsAtStart};
 ghost use Rattle.claim_terms.specs.Terms.{ForTerms};
 ghost use Rattle.claim_gate.specs.Replies.{HasClaims, IsFiled};
+ghost use Rattle.claim_gate.specs.Shared.{InTurn};
 ghost use Rattle.crew.specs.Passes.{GoesOn, LeavesWith};
 ghost use Rattle.crew.specs.Reading.{AreNext, ReadsAhead};
 ghost use Rattle.crew.specs.Sharing.{GoesOnAt, GoesOnBehind, HasAccepted, is_past};
@@ -25,9 +26,61 @@ struct Ahead {
     is_last: bool,
 }
 
+/// What the intake of this number does, from 0: it takes in its provider's file. Where claims are accepted in the order of the files the first
+/// takes in all, one after another, and the others nothing.
+pub(crate) fn take_in_part<R: Wait, G: Gate>(
+    rt: &R,
+    alloc: Global,
+    terms: &Terms,
+    gate: &G,
+    pass: G::Pass,
+    number: usize,
+    turns: &Turns,
+) -> Result<G::Pass, (RunFault, G::Pass)>
+    requires own { G.has_pass gate.now pass }
+    requires terms { (G.known pass).seen.terms ≡ terms.now }
+    requires within { number < length terms.now.files }
+    ensures goes_on { IfOk result (GoesOn (G.has_pass gate.now) G.known pass) }
+    ensures leaves { IfErr result (LeavesWith (G.has_pass gate.now) G.known pass) }
+{
+    // Known from here: how many files a run has at most.
+    let _files = terms.files();
+    if !terms.in_order() {
+        return take_in(rt, alloc, terms, gate, pass, number + 1, turns);
+    }
+    if number != 0 {
+        return Ok(pass);
+    }
+    take_in_all(rt, alloc, terms, gate, pass, turns)
+}
+
+// Takes in the files one after another, each behind the end of the one in front.
+fn take_in_all<R: Wait, G: Gate>(
+    rt: &R,
+    alloc: Global,
+    terms: &Terms,
+    gate: &G,
+    mut pass: G::Pass,
+    turns: &Turns,
+) -> Result<G::Pass, (RunFault, G::Pass)>
+    requires own { G.has_pass gate.now pass }
+    requires terms { (G.known pass).seen.terms ≡ terms.now }
+    ensures goes_on { IfOk result (GoesOn (G.has_pass gate.now) G.known pass) }
+    ensures leaves { IfErr result (LeavesWith (G.has_pass gate.now) G.known pass) }
+{
+    let files = terms.files().len();
+    'files: for place in 0..files {
+        pass = match take_in(rt, alloc, terms, gate, pass, place + 1, turns) {
+            Ok(pass) => pass,
+            Err(left) => return Err(left),
+        };
+    }
+    Ok(pass)
+}
+
 /// Offers the claims of a provider's file in order, and ends the provider behind the last. What others have offered of it isn't
 /// offered again. So many records are read ahead as are offered in one turn, while another thread has its own.
-pub(crate) fn take_in<R: Wait, G: Gate>(
+fn take_in<R: Wait, G: Gate>(
     rt: &R,
     alloc: Global,
     terms: &Terms,
@@ -38,6 +91,7 @@ pub(crate) fn take_in<R: Wait, G: Gate>(
 ) -> Result<G::Pass, (RunFault, G::Pass)>
     requires own { G.has_pass gate.now pass }
     requires terms { (G.known pass).seen.terms ≡ terms.now }
+    requires in_order { InTurn (G.known pass).seen provider }
     requires least { 1 ≤ provider }
     requires most { provider ≤ length terms.now.files }
     ensures goes_on { IfOk result (GoesOn (G.has_pass gate.now) G.known pass) }
@@ -118,6 +172,7 @@ fn offer_all<R: Wait, G: Gate>(
     requires own { G.has_pass gate.now pass }
     requires terms { (G.known pass).seen.terms ≡ terms.now }
     requires filed { ForTerms terms.now (λ T. AreNext T provider first claims.items) }
+    requires in_order { InTurn (G.known pass).seen provider }
     requires taken { HasAccepted (G.known pass).seen provider expected }
     requires reached { first ≤ expected }
     requires room { first + length claims.items < 2 ^ 64 }
@@ -170,6 +225,7 @@ fn offer_each<R: Wait, G: Gate>(
     requires own { G.has_pass gate.now pass }
     requires terms { (G.known pass).seen.terms ≡ terms.now }
     requires filed { ForTerms terms.now (λ T. AreNext T provider first claims.items) }
+    requires in_order { InTurn (G.known pass).seen provider }
     requires taken { HasAccepted (G.known pass).seen provider expected }
     requires reached { first ≤ expected }
     requires room { first + length claims.items < 2 ^ 64 }
@@ -222,6 +278,7 @@ fn offer<R: Wait, G: Gate>(
     requires own { G.has_pass gate.now pass }
     requires terms { (G.known pass).seen.terms ≡ terms.now }
     requires filed { ForTerms terms.now (λ T. IsFiled T offer) }
+    requires in_order { InTurn (G.known pass).seen offer.provider }
     requires taken { HasAccepted (G.known pass).seen offer.provider offer.place }
     requires room { offer.place + 1 < 2 ^ 64 }
     ensures goes_on { IfOk result (λ r. GoesOn (G.has_pass gate.now) G.known pass r.1) }

@@ -1,6 +1,7 @@
 //! A run by many threads: an intake for each provider's file, and so many workers.
 ghost use Rattle.std.specs.Prelude.{◌≡◌, ◌≢◌, ◌↔◌, ◌<◌, ◌≤◌, ◌+◌, true, IsTrue, length, IfOk, IfErr, OnOk};
 ghost use Rattle.journal.specs.Lawful.{Finished};
+ghost use Rattle.journal.specs.Order.{IsInOrder};
 ghost use Rattle.claim_terms.specs.Terms.{ForTerms};
 ghost use Rattle.journal.specs.Gate.{LeadsTo};
 ghost use Rattle.crew.specs.Passes.{GoesOn, LeavesWith};
@@ -8,7 +9,7 @@ ghost use Rattle.crew.specs.Workers.{IsWorkerCount};
 ghost use Rattle.crew.specs.declared.fault.RunFault.TheVariants.{Workers, Stopped};
 
 use crate::fault::RunFault;
-use crate::intake::take_in;
+use crate::intake::take_in_part;
 use crate::least::LeastFault;
 use crate::stopping::stop;
 use crate::worker::work;
@@ -36,6 +37,7 @@ pub fn run<'t, R: Threads + Wait + Sync>(
 ) -> Result<Batch<'t>, RunFault>
     ensures terms { IfOk result (λ batch. batch.terms ≡ terms.now) }
     ensures finished { IfOk result (λ batch. ForTerms terms.now (λ T. Finished T batch.journal)) }
+    ensures ordered { IfOk result (λ batch. terms.now.in_order ≡ true → ForTerms terms.now (λ T. IsInOrder T batch.journal)) }
     ensures workers { OnOk result (IsWorkerCount workers) }
     ensures refused { IfErr result (λ fault. (fault ≡ Workers) ↔ (¬ IsWorkerCount workers)) }
 {
@@ -58,7 +60,10 @@ pub fn run<'t, R: Threads + Wait + Sync>(
         Ok(state) => state,
         Err(fault) => return Err(fault),
     };
-    match Batch::from_state(Box::into_inner(state), terms) {
+    let state = Box::into_inner(state);
+    // Known from here: where claims are accepted in the order of the files, they were.
+    let _ordered = state.journal();
+    match Batch::from_state(state, terms) {
         Ok(batch) => Ok(batch),
         Err(_) => unreachable!(),
     }
@@ -222,7 +227,7 @@ fn take_part<R: Wait, G: Gate>(
     ensures leaves { IfErr result (LeavesWith (G.has_pass gate.now) G.known pass) }
 {
     let left = if number < terms.files().len() {
-        take_in(rt, alloc, terms, gate, pass, number + 1, turns)
+        take_in_part(rt, alloc, terms, gate, pass, number, turns)
     } else {
         work(rt, alloc, terms, plan, gate, pass, turns)
     };

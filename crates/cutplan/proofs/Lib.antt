@@ -39,3 +39,4 @@ pub mod FewSets
 pub mod Zoned
 pub mod Literals
 pub mod Zoning
+pub mod ZoneWise

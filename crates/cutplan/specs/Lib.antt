@@ -10,3 +10,4 @@ pub mod Found
 pub mod Kept
 pub mod Lent
 pub mod Zones
+pub mod ZoneWise

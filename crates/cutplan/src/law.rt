@@ -1,6 +1,7 @@
 //! Laws that tie the regions of a column to values, and the check to what matches. Each call does nothing.
 ghost use Rattle.cutplan.specs.Laws.{AllowedAreInside, CellsHoldAlike, CutsAreLiterals, CutsRise, FitsAreMatches, GapsAreTold, GapsMatchNothing, OverlapsAreTold, OverlapsMatchTogether, RegionsHoldValues, RegionsPartValues};
 ghost use Rattle.cutplan.specs.Masks.{MasksListMatches};
+ghost use Rattle.cutplan.specs.ZoneWise.{ZonesAreValued};
 ghost use Rattle.cutplan.specs.Zones.{ZonesAnswerAlike};
 
 /// A rule's cell holds of all values of a region of its column, or of none.
@@ -78,4 +79,10 @@ pub fn masks_list_matches()
 /// zone, so that the tables answer the same at both; 18 and 20 don't, whatever the tables answer there.
 pub fn zones_answer_alike()
     ensures { ZonesAnswerAlike }
+{}
+
+/// Tables have the value of a zone wherever what is given lies in it: of regions by the literals of the plan, and maybe others, as those of
+/// another plan.
+pub fn zones_are_valued()
+    ensures { ZonesAreValued }
 {}

@@ -45,6 +45,7 @@ pub use law::{
     allowed_are_inside, cells_hold_alike, cuts_are_literals, cuts_rise, fits_are_matches,
     gaps_are_told, gaps_match_nothing, masks_list_matches, overlaps_are_told,
     overlaps_match_together, regions_hold_values, regions_part_values, zones_answer_alike,
+    zones_are_valued,
 };
 pub use region::Region;
 pub use table_check::{TableCheck, check_table};

@@ -8,3 +8,4 @@ pub mod Laws
 pub mod Turns
 pub mod Families
 pub mod TestWords
+pub mod Order

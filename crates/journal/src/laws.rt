@@ -14,6 +14,7 @@ ghost use Rattle.journal.specs.Laws.{
   StopGoes,
   JobsStay,
 };
+ghost use Rattle.journal.specs.Order.{StaysInOrder};
 ghost use Rattle.journal.specs.Turns.{TakeTurns};
 ghost use Rattle.journal.specs.Families.{FamiliesAreTheirMembers};
 
@@ -73,4 +74,9 @@ pub fn members_take_turns()
 /// pocket.
 pub fn families_are_their_members()
     ensures { FamiliesAreTheirMembers }
+{}
+
+/// A claim that is accepted behind the ends of all files in front of its own leaves the order of acceptance that of the files.
+pub fn acceptance_stays_in_order()
+    ensures { StaysInOrder }
 {}

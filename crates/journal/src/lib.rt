@@ -11,8 +11,9 @@ mod laws;
 pub use decision::Decision;
 pub use event::Event;
 pub use laws::{
-    families_are_their_members, finished_is_final, finished_takes_all, gate_stays_lawful,
-    jobs_stay, leads_either_way, leads_in_order, members_take_turns, starts_lawful, stays_lawful,
+    acceptance_stays_in_order, families_are_their_members, finished_is_final, finished_takes_all,
+    gate_stays_lawful, jobs_stay, leads_either_way, leads_in_order, members_take_turns,
+    starts_lawful, stays_lawful,
 };
 
 #[cfg(test)]

@@ -1,6 +1,7 @@
 use Rattle.std.proofs.Common.{◌≡◌, ◌∙◌, length, refl, arith, rules}
 use Rattle.crew.proofs.Passes.{further_beside, leaves_later_where_err, unchanged}
 use Rattle.crew.proofs.Sections.{no_fewer}
+use Rattle.claim_gate.proofs.Sharing.{turn_stays}
 use Rattle.crew.proofs.intake.offer_all.Goals as goal
 
 pub returns-in-Err-clause-leaves : goal.returns-in-Err-clause-leaves
@@ -46,3 +47,7 @@ pub returns-then-is_empty-clause-next : goal.returns-then-is_empty-clause-next
 returns-then-is_empty-clause-next g c =
     let none : length c.args.claims.items ≡ 0 = search rules in
     (omega (arith, none, c.requires.reached), c.requires.taken)
+
+pub offer_each-requires-clause-in_order : goal.offer_each-requires-clause-in_order
+offer_each-requires-clause-in_order g c κs within =
+    turn_stays (g.G.Gate.known c.args.pass).seen (g.G.Gate.known c.in-Ok.pass).seen c.args.provider c.in-Ok.ensures.goes_on.seen c.requires.in_order

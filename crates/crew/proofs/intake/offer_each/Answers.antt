@@ -2,6 +2,7 @@ use Rattle.std.proofs.Common.{length, ap, ◌∙◌, arith}
 use Rattle.std.specs.Vec.Iter.{into_iter_items}
 use Rattle.crew.proofs.Lefts.{next_first}
 use Rattle.crew.proofs.Passes.{further, leaves_later}
+use Rattle.claim_gate.proofs.Sharing.{turn_stays}
 use Rattle.crew.proofs.intake.offer_each.Goals as goal
 
 pub overflow_add-place : goal.overflow_add-place
@@ -66,3 +67,7 @@ loop-claim-preserved g c =
 
 pub returns-clause-goes_on : goal.returns-clause-goes_on
 returns-clause-goes_on g c = c.loop-claim.invariant.0
+
+pub offer-requires-clause-in_order : goal.offer-requires-clause-in_order
+offer-requires-clause-in_order g c κs within =
+    turn_stays (g.G.Gate.known c.args.pass).seen (g.G.Gate.known c.loop-claim.pass).seen c.args.provider c.loop-claim.invariant.0.seen c.requires.in_order

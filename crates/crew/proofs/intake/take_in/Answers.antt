@@ -1,6 +1,7 @@
 use Rattle.std.proofs.Common.{◌≡◌, ◌<◌, ◌+◌, ◌^◌, length, refl, arith, rules, ◌∙◌}
 use Rattle.crew.proofs.Lefts.{behind_offers, first_offer, left_none}
 use Rattle.crew.proofs.Passes.{further, further_where_ok, leaves_by, leaves_for_memory, leaves_later, leaves_later_where_err, unchanged}
+use Rattle.claim_gate.proofs.Sharing.{turn_stays}
 use Rattle.crew.proofs.intake.take_in.Goals as goal
 
 pub loop-ahead-init : goal.loop-ahead-init
@@ -91,3 +92,7 @@ end-requires-clause-own g c κs within = c.in-Ok-Some-default.ensures.goes_on.ow
 
 pub end-requires-clause-terms : goal.end-requires-clause-terms
 end-requires-clause-terms g c κs within = c.in-Ok-Some-default.ensures.goes_on.seen.terms ∙ c.loop-ahead.invariant.1.of_terms
+
+pub offer_all-requires-clause-in_order : goal.offer_all-requires-clause-in_order
+offer_all-requires-clause-in_order g c κs within =
+    turn_stays (g.G.Gate.known c.args.pass).seen (g.G.Gate.known c.loop-ahead.pass).seen c.args.provider c.loop-ahead.invariant.0.seen c.requires.in_order

@@ -4,8 +4,8 @@ use Rattle.crew.proofs.Passes.{further, leaves_for_memory}
 use Rattle.crew.proofs.threads.take_part.Goals as goal
 use Rattle.crew.proofs.threads.take_part.Goals.{then-number-files, else-number-files}
 
-pub take_in-left-requires-clause-most : goal.take_in-left-requires-clause-most
-take_in-left-requires-clause-most g c κs within =
+pub take_in_part-left-requires-clause-within : goal.take_in_part-left-requires-clause-within
+take_in_part-left-requires-clause-within g c κs within =
     let size = length-map c.files.result.now (λ f. f.now) in
     let files = ap length c.files.ensures.files in
     omega (arith, c.if-number-files.true, size, files)
@@ -13,21 +13,21 @@ take_in-left-requires-clause-most g c κs within =
 pub stop-requires-clause-own : goal.stop-requires-clause-own
 stop-requires-clause-own g c κs within =
     elim c.if-number-files.branch [
-      | then-number-files w ↦ (rw (sym w.left-is ∙ c.in-Err-OutOfMemory-default.is) at w.take_in-left.ensures.leaves).goes_on.own
+      | then-number-files w ↦ (rw (sym w.left-is ∙ c.in-Err-OutOfMemory-default.is) at w.take_in_part-left.ensures.leaves).goes_on.own
       | else-number-files w ↦ (rw (sym w.left-is ∙ c.in-Err-OutOfMemory-default.is) at w.work-left.ensures.leaves).goes_on.own
     ]
 
 pub stop-requires-clause-terms : goal.stop-requires-clause-terms
 stop-requires-clause-terms g c κs within =
     elim c.if-number-files.branch [
-      | then-number-files w ↦ (rw (sym w.left-is ∙ c.in-Err-OutOfMemory-default.is) at w.take_in-left.ensures.leaves).goes_on.seen.terms ∙ c.requires.terms
+      | then-number-files w ↦ (rw (sym w.left-is ∙ c.in-Err-OutOfMemory-default.is) at w.take_in_part-left.ensures.leaves).goes_on.seen.terms ∙ c.requires.terms
       | else-number-files w ↦ (rw (sym w.left-is ∙ c.in-Err-OutOfMemory-default.is) at w.work-left.ensures.leaves).goes_on.seen.terms ∙ c.requires.terms
     ]
 
 pub returns-in-Ok-clause-goes_on : goal.returns-in-Ok-clause-goes_on
 returns-in-Ok-clause-goes_on g c =
     elim c.if-number-files.branch [
-      | then-number-files w ↦ rw (sym w.left-is ∙ c.in-Ok.is) at w.take_in-left.ensures.goes_on
+      | then-number-files w ↦ rw (sym w.left-is ∙ c.in-Ok.is) at w.take_in_part-left.ensures.goes_on
       | else-number-files w ↦ rw (sym w.left-is ∙ c.in-Ok.is) at w.work-left.ensures.goes_on
     ]
 
@@ -47,7 +47,7 @@ returns-in-Err-OutOfMemory-default-clause-leaves g c =
     let back = c.in-Err-OutOfMemory-default.pass in
     elim c.if-number-files.branch [
       | then-number-files w ↦ leaves_for_memory own known c.args.pass c.stop.result (further own known c.args.pass back c.stop.result
-          (rw (sym w.left-is ∙ c.in-Err-OutOfMemory-default.is) at w.take_in-left.ensures.leaves).goes_on (record { own = c.stop.ensures.own; seen = c.stop.ensures.seen }))
+          (rw (sym w.left-is ∙ c.in-Err-OutOfMemory-default.is) at w.take_in_part-left.ensures.leaves).goes_on (record { own = c.stop.ensures.own; seen = c.stop.ensures.seen }))
       | else-number-files w ↦ leaves_for_memory own known c.args.pass c.stop.result (further own known c.args.pass back c.stop.result
           (rw (sym w.left-is ∙ c.in-Err-OutOfMemory-default.is) at w.work-left.ensures.leaves).goes_on (record { own = c.stop.ensures.own; seen = c.stop.ensures.seen }))
     ]
@@ -57,7 +57,7 @@ returns-in-Err g c = record {
   goes_on = tt;
   finished = tt;
   leaves = elim c.if-number-files.branch [
-    | then-number-files w ↦ rw (sym w.left-is ∙ c.in-Err.is) at w.take_in-left.ensures.leaves
+    | then-number-files w ↦ rw (sym w.left-is ∙ c.in-Err.is) at w.take_in_part-left.ensures.leaves
     | else-number-files w ↦ rw (sym w.left-is ∙ c.in-Err.is) at w.work-left.ensures.leaves
   ];
 }

@@ -1,5 +1,5 @@
 use Rattle.std.proofs.Common.{◌+◌, ap, ◌∙◌, rules}
-use Rattle.claim_gate.proofs.Sharing.{had_section}
+use Rattle.claim_gate.proofs.Sharing.{had_section, turn_stays}
 use Rattle.claim_gate.proofs.locked.LockedGateGate.offer.Goals as goal
 
 pub returns-in-Ok-clause-served : goal.returns-in-Ok-clause-served
@@ -19,3 +19,10 @@ returns-in-Ok-clause-served g c =
 
 pub returns-in-Ok-clause-reply : goal.returns-in-Ok-clause-reply
 returns-in-Ok-clause-reply g c = search rules
+
+pub offer-reply-requires-clause-in_order : goal.offer-reply-requires-clause-in_order
+offer-reply-requires-clause-in_order g c =
+    let shown = g.S.Value.SerialGate.shown in
+    let shows = g.met.S.Value.SerialGate.shows in
+    let seen = g.S.Section.seen c.args.pass in
+    turn_stays (shown seen) (shown c.in-Ok.state) c.args.offer.provider (shows seen c.in-Ok.state c.in-Ok.ensures.fresh) c.requires.in_order

@@ -5,7 +5,7 @@ use Rattle.std.proofs.lemmas.List.{length-map}
 use Rattle.std.proofs.lemmas.Result.{err_from_is_err_and}
 use Rattle.claim_terms.specs.Terms.{IsFileCount, text_in, texts_of}
 use Rattle.claim_terms.proofs.Files.{are_claim_files, refused-balances, refused-files, have-roles}
-use Rattle.claim_terms.proofs.terms.Terms.new.Goals as goal
+use Rattle.claim_terms.proofs.terms.Terms.with_order.Goals as goal
 
 pub returns-in_err-balances_of-clause-fault : goal.returns-in_err-balances_of-clause-fault
 returns-in_err-balances_of-clause-fault c =

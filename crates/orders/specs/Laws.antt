@@ -1,0 +1,28 @@
+-- The laws of the order of acceptance.
+use Rattle.std.specs.Prelude.{◌≡◌, ◌<◌, ℕ, ℤ, List}
+use Rattle.settlement.specs.declared.outcome.Outcome.{Outcome}
+use Rattle.intake_csv.specs.declared.rows.Row.{Row}
+use Rattle.journal.specs.Terms.{Terms}
+use Rattle.journal.specs.Events.{accepted, accepts}
+use Rattle.journal.specs.Lawful.{Finished}
+use Rattle.journal.specs.declared.event.Event.{Event}
+use Rattle.remit.specs.Decided.{decision_at, paid_outcomes, sum_of}
+use Rattle.remit.specs.Report.{report_records}
+use Rattle.journal.specs.Order.{IsInOrder}
+use Rattle.orders.specs.Order.{outcome_by, report_by, total_by}
+
+-- in a finished journal each position is decided as the order of acceptance says
+abbrev pub DecidedByOrder : Type 0
+DecidedByOrder = (T : Terms) (J : List Event) (position : ℕ) → Finished T J → position < accepted J → decision_at J position ≡ outcome_by T (accepts J) position
+
+-- so are its totals
+abbrev pub TotalsByOrder : Type 0
+TotalsByOrder = (T : Terms) (J : List Event) (amount : Outcome → ℤ) → Finished T J → sum_of amount (paid_outcomes J) ≡ total_by T (accepts J) amount
+
+-- so is its report
+abbrev pub ReportIsOfItsOrder : Type 0
+ReportIsOfItsOrder = (version : ℕ) (T : Terms) (J : List Event) (files : List (List Row)) → Finished T J → report_records version J files ≡ report_by version T (accepts J) files
+
+-- journals that are finished over the same terms, and accept in the order of the files, accept the same
+abbrev pub AcceptAlike : Type 0
+AcceptAlike = (T : Terms) (J K : List Event) → Finished T J → Finished T K → IsInOrder T J → IsInOrder T K → accepts J ≡ accepts K
