@@ -1,8 +1,8 @@
 -- What becomes of a refusal on its way to the caller, by the lemmas of `valuation`.
 use Rattle.std.proofs.Common.{◌≢◌, ℕ, List, Option, Result, IfErr, OnOk}
 use Rattle.std.specs.Io.KnownBytes.{Appends}
-use Rattle.table_faults.specs.declared.plan_fault.PlanCause.TheVariants as cause
-use Rattle.table_faults.specs.declared.plan_fault.PlanFault.{PlanFault}
+use Rattle.faults.specs.declared.plan_fault.PlanCause.TheVariants as cause
+use Rattle.faults.specs.declared.plan_fault.PlanFault.{PlanFault}
 use Rattle.dtable.specs.Plan.{PlanParts}
 use Rattle.dtable.specs.PlanFile.{IsPlanText}
 use Rattle.valuation.specs.declared.stop.ValueStop.{ValueStop}

@@ -6,8 +6,8 @@ use Rattle.std.specs.List.{AllZip}
 use Rattle.dtable.specs.Plan.{PlanParts}
 use Rattle.dtable.specs.PlanFile.{IsPlanText}
 use Rattle.dtable.specs.declared.table.InputData.{InputData}
-use Rattle.table_faults.specs.declared.plan_fault.PlanCause.TheVariants as cause
-use Rattle.table_faults.specs.declared.plan_fault.PlanFault.{PlanFault}
+use Rattle.faults.specs.declared.plan_fault.PlanCause.TheVariants as cause
+use Rattle.faults.specs.declared.plan_fault.PlanFault.{PlanFault}
 use Rattle.settlement.specs.declared.claim.Claim.{Claim}
 use Rattle.intake_csv.specs.Balances.{accounts_of}
 use Rattle.intake_csv.specs.Rows.{AreRowsOf, claims_among}

@@ -1,7 +1,7 @@
 -- What each refusal says of the texts, its line on standard error, and its exit status: of those that `value` has what is said of them there.
 use Rattle.std.specs.Prelude.{ℕ, ◌++◌, Bool, List, [], ◌∷◌, codes, decimal, Option}
 use Rattle.std.specs.Io.KnownBytes.{Keeps}
-use Rattle.table_faults.specs.declared.plan_fault.PlanFault.{PlanFault}
+use Rattle.faults.specs.declared.plan_fault.PlanFault.{PlanFault}
 use Rattle.intake_csv.specs.declared.fault.BalanceFault.{BalanceFault}
 use Rattle.intake_csv.specs.declared.fault.BalanceFault.TheVariants as balance
 use Rattle.intake_csv.specs.declared.fault.RowFault.{RowFault}

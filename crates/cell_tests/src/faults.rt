@@ -1,7 +1,7 @@
 //! Faults by worked examples.
 use crate::ending::expects;
+use faults::{CellCause, CellFault, Fault, PlanCause, PlanFault};
 use std::alloc::AllocError;
-use table_faults::{CellCause, CellFault, Fault, PlanCause, PlanFault};
 
 #[test]
 fn causes_are_numbered(rt: HostRuntime) {

@@ -8,7 +8,7 @@ use crate::explaining::{About, explain_unreadable};
 use crate::telling::tell;
 use console::names::{OUTPUT, STREAM};
 use console::{DONE, RESOURCE, no_memory, told};
-use refusals::Refusal;
+use faults::Refusal;
 use std::io;
 use std::rt::Files;
 use whole_file::{FilePlace, Place, finish};

@@ -3,7 +3,7 @@
 ghost use Rattle.std.specs.Prelude.{◌≡◌, ◌≢◌, ◌≤◌, IfErr, OnErr, OnOk};
 
 use console::{DONE, RESOURCE};
-use refusals::{LINE_LIMIT_BYTES, Refusal};
+use faults::{LINE_LIMIT_BYTES, Refusal};
 
 /// The status that a command of the library ends with. A refusal is told.
 pub fn ended<R: Eprint, S: Refusal>(rt: &R, answer: &Result<(), S>) -> u8

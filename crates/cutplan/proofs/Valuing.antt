@@ -2,8 +2,8 @@
 use Rattle.std.proofs.Common.{◌≡◌, ◌≢◌, ℕ, ◌+◌, ◌<◌, List, [], ◌∷◌, ◌++◌, length, get_or, drop, Result, Ok, Err, ap, sym, ◌∙◌}
 use Rattle.std.proofs.lemmas.List.{drop_more}
 use Rattle.dtable.specs.declared.environment.Answer.{Answer}
-use Rattle.table_faults.specs.declared.fault.Fault.{Fault}
-use Rattle.table_faults.specs.declared.fault.Fault.TheVariants.{OutOfMemory}
+use Rattle.faults.specs.declared.fault.Fault.{Fault}
+use Rattle.faults.specs.declared.fault.Fault.TheVariants.{OutOfMemory}
 use Rattle.dtable.specs.declared.inputs.Slot.{Slot}
 use Rattle.dtable.specs.declared.table.Table.{Table}
 use Rattle.dtable.specs.Environment.{answers_of, table_value, and_then}

@@ -19,7 +19,7 @@ use Rattle.dtable.specs.declared.table.Table.{Table}
 use Rattle.dtable.specs.Document.{Optionally}
 use Rattle.dtable.specs.NameForm.{is_among, names_taken}
 use Rattle.dtable.specs.Names.{names_of}
-use Rattle.table_faults.specs.declared.plan_fault.PlanFault.{PlanFault}
+use Rattle.faults.specs.declared.plan_fault.PlanFault.{PlanFault}
 use Rattle.dtable.specs.Plan.{PlanParts, has_families, is_ranked, seen_kind}
 use Rattle.dtable.specs.Reading.{Reads}
 use Rattle.dtable.specs.PlanFile.{IsEntry, is_listed, kind_word, hit_word, IsNamed, IsNewlyNamed, IsOfKind, IsLiteral, IsCellOf, IsCell, IsField, AreFields, IsInput, IsPriority, ArePriorities, IsOutput, IsHit, AreInputs, AreOutputs, IsTable, AreTables, AreNames, AreTablesOf, IsPlanDocument, IsVersionOf}

@@ -12,8 +12,8 @@ use Rattle.std.specs.Str.{IsUtf8}
 use Rattle.toml.specs.Data.{Data, Items, Members, no_items, item, table as whole_table, get}
 use Rattle.toml.specs.Parse.{parse_document}
 use Rattle.feel_tests.specs.Cell.{SpellsOneValue}
-use Rattle.table_faults.specs.declared.plan_fault.PlanFault.{PlanFault}
-use Rattle.table_faults.specs.declared.plan_fault.PlanCause.TheVariants.{OutOfMemory}
+use Rattle.faults.specs.declared.plan_fault.PlanFault.{PlanFault}
+use Rattle.faults.specs.declared.plan_fault.PlanCause.TheVariants.{OutOfMemory}
 use Rattle.dtable.specs.Limits.{plan_limit_bytes}
 use Rattle.dtable.specs.Names.{names_of}
 use Rattle.dtable.specs.Reading.{Reads}

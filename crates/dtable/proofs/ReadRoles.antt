@@ -7,7 +7,7 @@ use Rattle.feel_tests.specs.declared.kind.Kind.{Kind}
 use Rattle.feel_tests.specs.declared.value.Value.{Value}
 use Rattle.feel_tests.specs.Cell.{SpellsValue, SpellsOneValue}
 use Rattle.feel_tests.specs.Value.{kind_of}
-use Rattle.table_faults.specs.declared.plan_fault.PlanFault.{PlanFault}
+use Rattle.faults.specs.declared.plan_fault.PlanFault.{PlanFault}
 use Rattle.dtable.specs.declared.roles.FamilyRoles.{FamilyRoles}
 use Rattle.dtable.specs.declared.roles.Roles.{Roles}
 use Rattle.dtable.specs.declared.roles.Source.{Source}

@@ -11,8 +11,8 @@ use Rattle.feel_tests.specs.declared.value.Value.TheVariants.{Number}
 use Rattle.feel_tests.specs.Holds.{is_equal}
 use Rattle.dtable.specs.declared.environment.Answer.{Answer}
 use Rattle.dtable.specs.declared.environment.Answer.TheVariants.{One, Many}
-use Rattle.table_faults.specs.declared.fault.Fault.{Fault}
-use Rattle.table_faults.specs.declared.fault.Fault.TheVariants.{NoRule, Clash, Range, OutOfMemory}
+use Rattle.faults.specs.declared.fault.Fault.{Fault}
+use Rattle.faults.specs.declared.fault.Fault.TheVariants.{NoRule, Clash, Range, OutOfMemory}
 use Rattle.dtable.specs.declared.hit.Hit.{Hit}
 use Rattle.dtable.specs.declared.hit.Hit.TheVariants as hits
 use Rattle.dtable.specs.declared.table.Table.{Table}

@@ -16,12 +16,12 @@ use crate::inputs::Inputs;
 use crate::plan::Plan;
 use crate::table::Table;
 use crate::valuer::Valuer;
+use faults::Fault;
 use feel_tests::Sequence;
 pub use lists::lists_of;
 pub use priority::{in_priority_order, rules_are_ranked_once, rules_have_one_priority_order};
 pub use single::rules_agree;
 use std::alloc::Global;
-use table_faults::Fault;
 
 impl Valuer for Plan {
     ghost plan_of = { λ plan. plan };

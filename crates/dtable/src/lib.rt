@@ -3,7 +3,7 @@
 //! A `Plan` names the input data of a claim and holds `Table`s in order of evaluation. `Inputs` takes a value for
 //! each name that a table reads. `Plan::value` evaluates the tables: it gives an `Env`, which has the answer of each
 //! output by its name, or the first `Fault`. `Valuer` is what any other evaluator of a plan promises as well.
-//! Cells and values come from `feel_tests`, faults from `table_faults`, numbers from `fixpoint`, the list of tables' answers from `smallvec`.
+//! Cells and values come from `feel_tests`, faults from `faults`, numbers from `fixpoint`, the list of tables' answers from `smallvec`.
 //!
 //! Begin with `specs/Plan.antt`, which says what holds of every plan, and go on with `specs/Matching.antt`,
 //! `specs/HitPolicy.antt` and `specs/Environment.antt`, which say what the tables' value is; then read
@@ -32,6 +32,7 @@ pub use evaluation::{
     answers_by_hit, in_priority_order, lists_of, rules_agree, rules_are_ranked_once,
     rules_have_one_priority_order, table_value,
 };
+pub use faults::{Fault, PlanCause, PlanFault};
 pub use feel_tests::Sequence;
 pub use hit::Hit;
 pub use inputs::{Inputs, Slot};
@@ -41,5 +42,4 @@ pub use plan::{Plan, all_names, has_families, has_years};
 pub use reading::{PLAN_LIMIT_BYTES, read_plan, text_spells_at_most_one_plan};
 pub use roles::{FamilyRoles, Roles, Source};
 pub use table::{Input, InputData, Origin, Output, Rule, Table};
-pub use table_faults::{Fault, PlanCause, PlanFault};
 pub use valuer::Valuer;

@@ -24,13 +24,13 @@ mod tables;
 
 use crate::plan::{Plan, has_families};
 use document::{read_document, required};
+use faults::{PlanCause, PlanFault};
 use feel_tests::{text_spells_at_most_one_cell, text_spells_at_most_one_value};
 pub use limits::PLAN_LIMIT_BYTES;
 use names::read_names;
 use place::Place;
 use roles::read_roles;
 use std::alloc::Global;
-use table_faults::{PlanCause, PlanFault};
 use tables::read_tables;
 use toml::Value;
 

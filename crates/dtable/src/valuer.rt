@@ -9,8 +9,8 @@ ghost use Rattle.dtable.specs.Plan.{PlanParts};
 use crate::environment::Env;
 use crate::inputs::Inputs;
 use crate::plan::Plan;
+use faults::Fault;
 use std::alloc::Global;
-use table_faults::Fault;
 
 /// An evaluator of a plan's tables.
 pub trait Valuer {

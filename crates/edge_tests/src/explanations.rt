@@ -2,10 +2,10 @@
 use crate::ending::{expects, fail};
 use explain::{Page, explain_literal, explain_plan, explain_tables};
 use explain_files::{FileKind, explain_file, explain_record};
+use faults::{CellCause, CellFault, Fault, PlanCause, PlanFault};
 use intake_csv::{FileFault, RowCause, RowFault};
 use std::alloc::{AllocError, Global};
 use std::process::Abort;
-use table_faults::{CellCause, CellFault, Fault, PlanCause, PlanFault};
 
 fn plan() -> &'static [u8] {
     b"version = 1

@@ -2,8 +2,8 @@
 
 use crate::page::Page;
 use crate::words::{argument_words, cell_words};
+use faults::CellFault;
 use std::alloc::{AllocError, Global};
-use table_faults::CellFault;
 
 /// What the fault of an argument's literal means.
 pub fn explain_literal(

@@ -2,7 +2,7 @@
 //! more than the cause does, nothing is said.
 
 use crate::kind::Kind;
-use table_faults::CellCause;
+use faults::CellCause;
 
 /// What is right.
 #[derive(Clone, Copy, PartialEq, Eq)]

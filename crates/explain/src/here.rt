@@ -6,9 +6,9 @@ use crate::page::Page;
 use crate::spot::{
     Column, count_at, items_behind, role_name, tables, text_at, text_behind, value_at,
 };
+use faults::{CellFault, PlanCause, PlanFault};
 use plan_places::{Step, is_one_edit};
 use std::alloc::AllocError;
-use table_faults::{CellFault, PlanCause, PlanFault};
 use toml::Value;
 
 /// Adds what is amiss, by what the document has at the fault's place; nothing where no more is known.

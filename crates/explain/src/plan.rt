@@ -4,8 +4,8 @@ use crate::here::add_amiss;
 use crate::page::Page;
 use crate::spot::{add_what, value_at, way_of};
 use crate::words::{cell_words, plan_words};
+use faults::{CellFault, PlanCause, PlanFault};
 use std::alloc::{AllocError, Global};
-use table_faults::{CellFault, PlanCause, PlanFault};
 use toml::Value;
 
 /// What the fault of a plan's text means, for a file of this name: where it stands, the text of the cell, and what to do.

@@ -1,9 +1,9 @@
 //! The value of a plan's document that a table, a rule and a column name.
 
 use crate::page::Page;
+use faults::{PlanCause, PlanFault};
 use plan_places::Step;
 use std::alloc::AllocError;
-use table_faults::{PlanCause, PlanFault};
 use toml::Value;
 
 /// The name of a role, by its number from 1; nothing where there is none.

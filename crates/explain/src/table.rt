@@ -3,8 +3,8 @@
 use crate::page::Page;
 use crate::spot::{add_input_words, input_way};
 use crate::words::tables_words;
+use faults::Fault;
 use std::alloc::{AllocError, Global};
-use table_faults::Fault;
 use toml::Value;
 
 /// What a fault of the tables means, for a plan in a file of this name.

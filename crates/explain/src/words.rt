@@ -1,7 +1,7 @@
 //! The table of texts: what each refusal of a plan, of its values and of the program's surroundings means, and what to do. `docs/FAULTS.md` has the
 //! same texts.
 
-use table_faults::{CellCause, Fault, PlanCause};
+use faults::{CellCause, Fault, PlanCause};
 
 /// What a refusal means, and what to do; nothing where the line says no more than its words do.
 #[derive(Clone, Copy, PartialEq, Eq)]

@@ -4,8 +4,8 @@ use Rattle.feel_tests.specs.Limits.{test_limit}
 use Rattle.feel_tests.specs.Words.{Sign, Name, IsBlank, Begins}
 use Rattle.feel_tests.specs.Grammar.{not_word, IsLiteral, IsList}
 use Rattle.feel_tests.specs.declared.symbol.Symbol.TheVariants as symbols
-use Rattle.table_faults.specs.declared.cell_fault.CellCause.TheVariants.{OutOfMemory}
-use Rattle.table_faults.specs.declared.cell_fault.CellFault.{CellFault}
+use Rattle.faults.specs.declared.cell_fault.CellCause.TheVariants.{OutOfMemory}
+use Rattle.faults.specs.declared.cell_fault.CellFault.{CellFault}
 use Rattle.feel_tests.specs.declared.kind.Kind.{Kind}
 use Rattle.feel_tests.specs.declared.value.Value.{Value}
 use Rattle.feel_tests.specs.declared.cell.Test.{Test}

@@ -8,7 +8,7 @@ use Rattle.feel_tests.specs.declared.symbol.Symbol.TheVariants as symbols
 use Rattle.feel_tests.specs.declared.cell.Test.{Test}
 use Rattle.feel_tests.specs.declared.cell.Test.TheVariants.{Equal, Compare, Between}
 use Rattle.feel_tests.specs.declared.symbol.Symbol.{Symbol}
-use Rattle.table_faults.specs.declared.cell_fault.CellCause.TheVariants.{OutOfMemory}
+use Rattle.faults.specs.declared.cell_fault.CellCause.TheVariants.{OutOfMemory}
 use Rattle.feel_tests.specs.declared.refusal.Refusal.{Refusal}
 
 -- unless memory ran out, nothing is so

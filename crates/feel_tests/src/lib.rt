@@ -3,7 +3,7 @@
 //! A `Value` is a number, a text, a flag or a day. A `Cell` is what one entry of a table asks of a
 //! value: nothing, one of a list of tests, or none of them. `read_cell` and `read_value` read their
 //! texts, `Cell::holds` asks the question, `Value::write_text` writes a value as a literal.
-//! Numbers come from `fixpoint`, faults from `table_faults`, the calendar from `jiff`, the list of a cell's tests from `smallvec`.
+//! Numbers come from `fixpoint`, faults from `faults`, the calendar from `jiff`, the list of a cell's tests from `smallvec`.
 //!
 //! Begin with `specs/Words.antt` and `specs/Grammar.antt`, which say what a text spells, and
 //! `specs/Holds.antt`, which says what a cell holds of; then read `cell.rt` and `reading.rt`.
@@ -31,6 +31,7 @@ mod word;
 pub use cell::{Cell, Op, TEST_LIMIT, Test, Tests};
 pub use dates::{day_year, year_in, year_text};
 pub use day::{Day, FIRST_DAY};
+pub use faults::{CellCause, CellFault};
 pub use joined::{Bytes, Literals, Spelling, append_joined};
 pub use kind::Kind;
 pub use law::{
@@ -40,7 +41,6 @@ pub use law::{
 pub use plain::{PlainFault, read_plain};
 pub use reading::{read_cell, read_value};
 pub use sequence::{Sequence, duplicates};
-pub use table_faults::{CellCause, CellFault};
 pub use text::{TEXT_LIMIT_BYTES, Text};
 pub use value::Value;
 pub use word::{is_name_byte, is_name_start};

@@ -13,9 +13,9 @@ use crate::symbol::Symbol;
 use crate::text::{TEXT_LIMIT_BYTES, Text};
 use crate::value::Value;
 use crate::word::{Token, first_token};
+use faults::CellCause;
 use fixpoint::Fixed;
 use std::alloc::Global;
-use table_faults::CellCause;
 
 /// Reads one literal.
 pub fn literal_at(alloc: Global, kind: Kind, text: &[u8]) -> Result<(Value, &[u8]), Refusal>

@@ -15,8 +15,8 @@ use crate::symbol::Symbol;
 use crate::unary::test_at;
 use crate::value::Value;
 use crate::word::{Token, after_symbol, first_token, is_blank};
+use faults::{CellCause, CellFault};
 use std::alloc::Global;
-use table_faults::{CellCause, CellFault};
 
 /// Reads the whole text of a cell of a column of this kind (DMN 1.4, S-FEEL, unary tests).
 /// The text is read once, from left to right, and its first fault is answered; or

@@ -1,12 +1,12 @@
 //! Why a part of a text could not be read, while it is read.
 ghost use Rattle.std.specs.Prelude.{◌≡◌, ℕ, ◌-◌, List, length, IfOk, OnErr};
 ghost use Rattle.feel_tests.specs.Words.{Sign, Begins, skip_white};
-ghost use Rattle.table_faults.specs.declared.cell_fault.CellCause.TheVariants.{OutOfMemory};
+ghost use Rattle.faults.specs.declared.cell_fault.CellCause.TheVariants.{OutOfMemory};
 
 use crate::symbol::Symbol;
 use crate::word::{after_symbol, skip_white};
+use faults::{CellCause, CellFault};
 use std::alloc::{AllocError, AllocFailed};
-use table_faults::{CellCause, CellFault};
 
 /// A fault, placed by how much of the text is left there.
 #[derive(Clone, Copy, Drop)]

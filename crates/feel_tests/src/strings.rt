@@ -6,8 +6,8 @@ ghost use Rattle.feel_tests.specs.Fronts.{IsPiece};
 
 use crate::refusal::Refusal;
 use crate::word::{Token, first_token};
+use faults::CellCause;
 use std::alloc::Global;
-use table_faults::CellCause;
 
 /// Reads a string, of any length: the bytes that it stands for.
 pub fn quoted_at(alloc: Global, text: &[u8]) -> Result<(Vec<u8>, &[u8]), Refusal>

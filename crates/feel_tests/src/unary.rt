@@ -10,8 +10,8 @@ use crate::literals::literal_at;
 use crate::refusal::{Refusal, symbol_at};
 use crate::symbol::Symbol;
 use crate::word::first_symbol;
+use faults::CellCause;
 use std::alloc::Global;
-use table_faults::CellCause;
 
 /// Reads one test.
 pub fn test_at(alloc: Global, kind: Kind, text: &[u8]) -> Result<(Test, &[u8]), Refusal>

@@ -10,7 +10,7 @@ use Rattle.fixpoint.specs.Number.{greatest_units}
 use Rattle.feel_tests.specs.declared.value.Value.TheVariants.{Number}
 use Rattle.dtable.specs.declared.environment.Answer.{Answer}
 use Rattle.dtable.specs.declared.environment.Answer.TheVariants.{One}
-use Rattle.table_faults.specs.declared.fault.Fault.TheVariants.{NoRule, Clash, Range}
+use Rattle.faults.specs.declared.fault.Fault.TheVariants.{NoRule, Clash, Range}
 use Rattle.dtable.specs.declared.hit.Hit.{Hit}
 use Rattle.dtable.specs.declared.hit.Hit.TheVariants as hits
 use Rattle.dtable.specs.declared.inputs.Slot.{Slot}

@@ -6,7 +6,7 @@ use Rattle.std.specs.Option.{option_map_or}
 use Rattle.std.specs.Cmp.Lexicographic.{pointwise_decides}
 use Rattle.std.proofs.lemmas.Bool.{and_parts, both_ways}
 use Rattle.dtable.specs.declared.environment.Answer.{Answer}
-use Rattle.table_faults.specs.declared.fault.Fault.TheVariants.{NoRule, Clash}
+use Rattle.faults.specs.declared.fault.Fault.TheVariants.{NoRule, Clash}
 use Rattle.dtable.specs.declared.hit.Hit.{Hit}
 use Rattle.dtable.specs.declared.hit.Hit.TheVariants as hits
 use Rattle.dtable.specs.declared.inputs.Slot.{Slot}

@@ -1,7 +1,7 @@
 -- Which gaps and overlaps of a table's check are faults where its rules are asked there (DMN 1.4, hit policies). Tables and rules are numbered from 1.
 use Rattle.std.specs.Prelude.{ℕ, ◌-◌, Bool, true, false, not, ◌&&◌, Err, slice_get}
 use Rattle.std.specs.Option.{option_map_or}
-use Rattle.table_faults.specs.declared.fault.Fault.TheVariants.{NoRule}
+use Rattle.faults.specs.declared.fault.Fault.TheVariants.{NoRule}
 use Rattle.dtable.specs.declared.hit.Hit.{Hit}
 use Rattle.dtable.specs.declared.hit.Hit.TheVariants.{U, A}
 use Rattle.dtable.specs.declared.table.Table.{Table}

@@ -1,7 +1,7 @@
 -- The law that ties harmful gaps and overlaps to what tables answer.
 use Rattle.std.specs.Prelude.{◌≡◌, ℕ, ◌-◌, ◌≤◌, ◌<◌, ◌↔◌, List, [], Some, None, Err, slice_get, IsTrue}
 use Rattle.dtable.specs.declared.environment.Answer.{Answer}
-use Rattle.table_faults.specs.declared.fault.Fault.TheVariants.{NoRule, Clash}
+use Rattle.faults.specs.declared.fault.Fault.TheVariants.{NoRule, Clash}
 use Rattle.dtable.specs.declared.inputs.Slot.{Slot}
 use Rattle.dtable.specs.declared.table.Table.{Table}
 use Rattle.dtable.specs.Environment.{number_behind, table_value}

@@ -1,7 +1,7 @@
 -- The texts of the report's fields.
 use Rattle.std.specs.Prelude.{ℕ, List, codes}
 use Rattle.std.specs.List.{join_by}
-use Rattle.reasons.specs.ReasonText.{numbered}
+use Rattle.faults.specs.ReasonText.{numbered}
 use Rattle.intake_csv.specs.declared.fault.RowCause.{RowCause}
 use Rattle.intake_csv.specs.declared.fault.RowCause.TheVariants.{FieldCount, Utf8, TooLong, EmptyId, Value, NotCents, Negative, Repeated, Sum}
 use Rattle.intake_csv.specs.declared.fault.RowFault.{RowFault}

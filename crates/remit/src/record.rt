@@ -1,7 +1,7 @@
 //! The fields of the report's records.
 ghost use Rattle.std.specs.Prelude.{◌≡◌, ◌≤◌, ℕ, ℤ, Some, IfOk, pos, List, [], ◌∷◌, codes, decimal, map, replicate, OnOk};
 ghost use Rattle.csv.specs.Records.{fields_of};
-ghost use Rattle.reasons.specs.ReasonText.{reason_text};
+ghost use Rattle.faults.specs.ReasonText.{reason_text};
 ghost use Rattle.feel_tests.specs.Calendar.{year_of, year_text};
 ghost use Rattle.fixpoint.specs.Money.{money_text};
 ghost use Rattle.dtable.specs.Plan.{has_families, has_years};

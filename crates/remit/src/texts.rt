@@ -1,7 +1,7 @@
 //! The texts of the report's fields.
 ghost use Rattle.std.specs.Prelude.{◌≡◌, ℕ, codes, pos, string_bytes, IfNone, IfOk, IfSome, OnOk};
 ghost use Rattle.fixpoint.specs.Money.{money_text};
-ghost use Rattle.reasons.specs.ReasonText.{numbered, reason_text};
+ghost use Rattle.faults.specs.ReasonText.{numbered, reason_text};
 ghost use Rattle.remit.specs.Texts.{cause_text, fault_text, remarks_text};
 
 use intake_csv::{RowCause, RowFault};

@@ -1,7 +1,7 @@
 -- What a plan gives for a claim, and its outcome by that; where it is shared.
 use Rattle.std.proofs.Common.{◌≡◌, ◌⊎◌, inl, inr, ℕ, ℤ, Bool, true, false, if◌then◌else◌, List, Option, Some, None, Result, Ok, Err, refl, ap, sym, ◌∙◌, subst}
 use Rattle.std.proofs.lemmas.Bool.{both_ways, or_parts}
-use Rattle.table_faults.specs.declared.fault.Fault.{Fault}
+use Rattle.faults.specs.declared.fault.Fault.{Fault}
 use Rattle.dtable.specs.declared.inputs.Slot.{Slot}
 use Rattle.dtable.specs.declared.roles.FamilyRoles.{FamilyRoles}
 use Rattle.dtable.specs.declared.roles.Roles.{Roles}
@@ -9,9 +9,9 @@ use Rattle.dtable.specs.declared.roles.Source.{Source}
 use Rattle.dtable.specs.declared.roles.Source.TheVariants.{Literal, Input as Place, Output}
 use Rattle.dtable.specs.Environment.{Environment, env}
 use Rattle.dtable.specs.Plan.{PlanParts}
-use Rattle.reasons.specs.declared.reason.Reason.{Reason}
-use Rattle.reasons.specs.declared.role.Role.{Role}
-use Rattle.reasons.specs.Reason.{reason_of}
+use Rattle.faults.specs.declared.reason.Reason.{Reason}
+use Rattle.faults.specs.declared.role.Role.{Role}
+use Rattle.faults.specs.Reason.{reason_of}
 use Rattle.settlement.specs.declared.acc.Acc.{Acc}
 use Rattle.settlement.specs.declared.benefit.Benefit.{Benefit}
 use Rattle.settlement.specs.declared.benefit.Benefit.TheVariants.{Denied}

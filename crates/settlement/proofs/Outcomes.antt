@@ -2,7 +2,7 @@
 use Rattle.std.proofs.Common.{◌≡◌, ℕ, ℤ, pos, ◌+ℤ◌, Bool, true, false, if◌then◌else◌, List, Option, Some, None, Result, Ok, Err, refl, arith}
 use Rattle.std.specs.Option.{SomeIff, IsSome}
 use Rattle.std.proofs.lemmas.Int.{ints}
-use Rattle.table_faults.specs.declared.fault.Fault.{Fault}
+use Rattle.faults.specs.declared.fault.Fault.{Fault}
 use Rattle.dtable.specs.declared.inputs.Slot.{Slot}
 use Rattle.dtable.specs.declared.roles.Roles.{Roles}
 use Rattle.dtable.specs.Environment.{Environment, env}
@@ -10,14 +10,14 @@ use Rattle.dtable.specs.Plan.{PlanParts}
 use Rattle.settlement.specs.declared.acc.Acc.{Acc}
 use Rattle.settlement.specs.declared.claim.Claim.{Claim}
 use Rattle.settlement.specs.declared.outcome.Outcome.{Outcome}
-use Rattle.reasons.specs.declared.reason.Reason.{Reason}
-use Rattle.reasons.specs.declared.reason.Reason.TheVariants.{Range}
-use Rattle.reasons.specs.declared.role.Role.{Role}
+use Rattle.faults.specs.declared.reason.Reason.{Reason}
+use Rattle.faults.specs.declared.reason.Reason.TheVariants.{Range}
+use Rattle.faults.specs.declared.role.Role.{Role}
 use Rattle.settlement.specs.declared.terms.RoleTerms.{RoleTerms}
 use Rattle.settlement.specs.Accumulators.{added, after, are_in_range, AreInRange}
 use Rattle.settlement.specs.Given.{given_by}
 use Rattle.settlement.specs.Roles.{value_of, is_true_flag, terms, remarks_of}
-use Rattle.reasons.specs.Reason.{reason_of}
+use Rattle.faults.specs.Reason.{reason_of}
 use Rattle.settlement.specs.Settlement.{amounts, paid, denied, pended, by_terms, by_fault, by_tables, outcome}
 
 -- nothing more of each

@@ -2,7 +2,7 @@
 use Rattle.std.proofs.Common.{◌≡◌, List, [], Some, None, Result, Ok, Err, refl, subst, ◌∙◌}
 use Rattle.std.proofs.lemmas.Option.{same_Some}
 use Rattle.dtable.specs.declared.environment.Answer.{Answer}
-use Rattle.table_faults.specs.declared.fault.Fault.{Fault}
+use Rattle.faults.specs.declared.fault.Fault.{Fault}
 use Rattle.dtable.specs.declared.inputs.Slot.{Slot}
 use Rattle.dtable.specs.declared.roles.Roles.{Roles}
 use Rattle.dtable.specs.Environment.{Environment, answers_of, env}

@@ -7,7 +7,7 @@ use Rattle.std.proofs.lemmas.List.Elements.{filter_agree}
 use Rattle.feel_tests.specs.declared.cell.Cell.{Cell}
 use Rattle.feel_tests.specs.declared.value.Value.{Value}
 use Rattle.dtable.specs.declared.environment.Answer.{Answer}
-use Rattle.table_faults.specs.declared.fault.Fault.{Fault}
+use Rattle.faults.specs.declared.fault.Fault.{Fault}
 use Rattle.dtable.specs.declared.inputs.Slot.{Slot}
 use Rattle.dtable.specs.declared.roles.FamilyRoles.{FamilyRoles}
 use Rattle.dtable.specs.declared.roles.Roles.{Roles}
@@ -25,7 +25,7 @@ use Rattle.dtable.specs.Matching.{value_read, holds_of, cells_hold, rule_matches
 use Rattle.dtable.specs.Plan.{PlanParts}
 use Rattle.settlement.specs.declared.acc.Acc.{Acc}
 use Rattle.settlement.specs.declared.claim.Claim.{Claim}
-use Rattle.reasons.specs.declared.role.Role.{Role}
+use Rattle.faults.specs.declared.role.Role.{Role}
 use Rattle.settlement.specs.declared.terms.RoleTerms.{RoleTerms}
 use Rattle.settlement.specs.Given.{given_by, values_given}
 use Rattle.settlement.specs.Reads.{source_reads, limits_read, roles_read, is_read, Serves}

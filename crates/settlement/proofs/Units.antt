@@ -1,7 +1,7 @@
 -- Whether a role has its units.
 use Rattle.std.proofs.Common.{◌≡◌, ℤ, Option, Some, None, Ok, Err}
 use Rattle.std.specs.Option.{ok_or}
-use Rattle.reasons.specs.declared.role.Role.{Role}
+use Rattle.faults.specs.declared.role.Role.{Role}
 
 pub units_there : (found : Option ℤ) (role : Role) (units : ℤ) → Ok units ≡ ok_or found role → found ≡ Some units
 units_there None role units is = absurd cc

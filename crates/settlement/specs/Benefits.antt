@@ -1,7 +1,7 @@
 -- What a plan gives for a claim before its amounts. It is the same wherever its tables answer the same, unless a role is what is given for a name.
 use Rattle.std.specs.Prelude.{◌≡◌, ℕ, ℤ, Bool, true, false, ◌||◌, List, [], Option, Some, None, Result, Ok, Err, if◌then◌else◌, slice_get}
 use Rattle.std.specs.Option.{option_map_or}
-use Rattle.table_faults.specs.declared.fault.Fault.{Fault}
+use Rattle.faults.specs.declared.fault.Fault.{Fault}
 use Rattle.dtable.specs.declared.inputs.Slot.{Slot}
 use Rattle.dtable.specs.declared.roles.FamilyRoles.{FamilyRoles}
 use Rattle.dtable.specs.declared.roles.Roles.{Roles}
@@ -9,10 +9,10 @@ use Rattle.dtable.specs.declared.roles.Source.{Source}
 use Rattle.dtable.specs.declared.roles.Source.TheVariants.{Literal, Input, Output}
 use Rattle.dtable.specs.Environment.{Environment, env}
 use Rattle.dtable.specs.Plan.{PlanParts}
-use Rattle.reasons.specs.declared.reason.Reason.{Reason}
-use Rattle.reasons.specs.declared.reason.Reason.TheVariants.{Term}
-use Rattle.reasons.specs.declared.role.Role.{Role}
-use Rattle.reasons.specs.Reason.{reason_of}
+use Rattle.faults.specs.declared.reason.Reason.{Reason}
+use Rattle.faults.specs.declared.reason.Reason.TheVariants.{Term}
+use Rattle.faults.specs.declared.role.Role.{Role}
+use Rattle.faults.specs.Reason.{reason_of}
 use Rattle.settlement.specs.declared.acc.Acc.{Acc}
 use Rattle.settlement.specs.declared.benefit.Benefit.{Benefit}
 use Rattle.settlement.specs.declared.benefit.Benefit.TheVariants.{Pended, Denied, Covered}

@@ -16,8 +16,8 @@ use Rattle.dtable.specs.declared.roles.Source.TheVariants.{Literal, Input, Outpu
 use Rattle.dtable.specs.Environment.{Environment, answer_of}
 use Rattle.dtable.specs.Inputs.{value_at}
 use Rattle.dtable.specs.Matching.{single}
-use Rattle.reasons.specs.declared.role.Role.{Role}
-use Rattle.reasons.specs.declared.role.Role.TheVariants.{Fee, Deductible, Copay, Rate, OopMax, FamilyDeductible, FamilyOopMax}
+use Rattle.faults.specs.declared.role.Role.{Role}
+use Rattle.faults.specs.declared.role.Role.TheVariants.{Fee, Deductible, Copay, Rate, OopMax, FamilyDeductible, FamilyOopMax}
 use Rattle.settlement.specs.declared.terms.FamilyTerms.{FamilyTerms}
 use Rattle.settlement.specs.declared.terms.RoleTerms.{RoleTerms}
 

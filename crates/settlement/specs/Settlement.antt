@@ -2,21 +2,21 @@
 use Rattle.std.specs.Prelude.{ℤ, pos, ◌+ℤ◌, ◌-ℤ◌, ℕ, List, [], Option, Some, None, option_map, Result, Ok, Err, if◌then◌else◌}
 use Rattle.std.specs.Int.{int_min, int_max}
 use Rattle.fixpoint.specs.Money.{cents_of_product}
-use Rattle.table_faults.specs.declared.fault.Fault.{Fault}
+use Rattle.faults.specs.declared.fault.Fault.{Fault}
 use Rattle.dtable.specs.declared.inputs.Slot.{Slot}
 use Rattle.dtable.specs.declared.roles.Roles.{Roles}
 use Rattle.dtable.specs.Environment.{Environment, env}
 use Rattle.dtable.specs.Plan.{PlanParts}
-use Rattle.reasons.specs.Reason.{reason_of}
+use Rattle.faults.specs.Reason.{reason_of}
 use Rattle.settlement.specs.declared.acc.Acc.{Acc}
 use Rattle.settlement.specs.declared.amounts.Amounts.{Amounts}
 use Rattle.settlement.specs.declared.claim.Claim.{Claim}
 use Rattle.settlement.specs.declared.outcome.Outcome.{Outcome}
-use Rattle.reasons.specs.declared.reason.Reason.{Reason}
-use Rattle.reasons.specs.declared.reason.Reason.TheVariants.{Range, Term}
+use Rattle.faults.specs.declared.reason.Reason.{Reason}
+use Rattle.faults.specs.declared.reason.Reason.TheVariants.{Range, Term}
 use Rattle.settlement.specs.declared.outcome.Verdict.{Verdict}
 use Rattle.settlement.specs.declared.outcome.Verdict.TheVariants.{Paid, Denied, Pended}
-use Rattle.reasons.specs.declared.role.Role.{Role}
+use Rattle.faults.specs.declared.role.Role.{Role}
 use Rattle.settlement.specs.declared.terms.RoleTerms.{RoleTerms}
 use Rattle.settlement.specs.Accumulators.{after, are_in_range}
 use Rattle.settlement.specs.Given.{given_by}

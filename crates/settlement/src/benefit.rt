@@ -10,7 +10,7 @@ use crate::outcome::Outcome;
 use crate::remarks::Remarks;
 use crate::terms::RoleTerms;
 use dtable::{FamilyRoles, Plan, Roles, Source};
-use reasons::Reason;
+use faults::Reason;
 use std::alloc::AllocError;
 
 /// What a plan's tables and roles say of a claim.

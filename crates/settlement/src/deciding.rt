@@ -23,7 +23,7 @@ use crate::placed::{RolePlaces, role_places};
 use crate::terms::{is_covered, remarks, terms_of};
 use crate::vocabulary::Vocabulary;
 use dtable::{Env, Inputs, Roles, Sequence, Valuer};
-use reasons::Reason;
+use faults::Reason;
 use std::alloc::{AllocError, Global};
 use std::marker::Model;
 

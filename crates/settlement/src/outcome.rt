@@ -5,7 +5,7 @@ ghost use Rattle.settlement.specs.Settlement.{paid, unpaid, pended, denied};
 use crate::amounts::Amounts;
 use crate::money::Money;
 use crate::remarks::Remarks;
-use reasons::Reason;
+use faults::Reason;
 
 /// What is done with a claim.
 #[derive(Clone, Copy, Debug, PartialEq, Eq, Drop)]

@@ -13,8 +13,8 @@ use crate::rate::Rate;
 use crate::remarks::Remarks;
 use crate::vocabulary::Vocabulary;
 use dtable::{Answer, Env, FamilyRoles, Inputs, Name, OutputPlace, Roles, Sequence, Source};
+use faults::Role;
 use feel_tests::{Text, Value};
-use reasons::Role;
 use std::alloc::{AllocError, Global};
 
 /// The limits of a claim's family: amounts of money.

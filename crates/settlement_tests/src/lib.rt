@@ -1,4 +1,4 @@
-//! Tests by worked examples of `reasons`, `settlement` and `lanes`. They stand apart from these, since the tests of a crate are proved together
+//! Tests by worked examples of `faults`, `settlement` and `lanes`. They stand apart from these, since the tests of a crate are proved together
 //! with all of its code.
 #![tactic(auto)]
 

@@ -1,7 +1,6 @@
 //! Reasons and their words by worked examples.
 use crate::ending::expects;
-use reasons::{Reason, Role};
-use table_faults::Fault;
+use faults::{Fault, Reason, Role};
 
 #[test]
 fn a_fault_of_the_tables_is_the_reason(rt: HostRuntime) {

@@ -16,7 +16,7 @@ use Rattle.feel_tests.specs.declared.value.Value.{Value}
 use Rattle.feel_tests.specs.declared.value.Value.TheVariants.{Number}
 use Rattle.dtable.specs.declared.environment.Answer.{Answer}
 use Rattle.dtable.specs.declared.environment.Answer.TheVariants.{One, Many}
-use Rattle.table_faults.specs.declared.fault.Fault.{Fault}
+use Rattle.faults.specs.declared.fault.Fault.{Fault}
 use Rattle.dtable.specs.declared.hit.Hit.{Hit}
 use Rattle.dtable.specs.declared.hit.Hit.TheVariants as hits
 use Rattle.dtable.specs.declared.inputs.Slot.{Slot}

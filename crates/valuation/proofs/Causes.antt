@@ -1,11 +1,11 @@
 -- The numbers of causes have at most two digits.
 use Rattle.std.proofs.Common.{◌<◌, lit<}
-use Rattle.table_faults.specs.declared.cell_fault.CellCause.{CellCause}
-use Rattle.table_faults.specs.declared.cell_fault.CellCause.TheVariants as cell
-use Rattle.table_faults.specs.CellCauseNumber.{number_of as cell_cause_number}
-use Rattle.table_faults.specs.declared.plan_fault.PlanCause.{PlanCause}
-use Rattle.table_faults.specs.declared.plan_fault.PlanCause.TheVariants as cause
-use Rattle.table_faults.specs.PlanCauseNumber.{number_of as plan_cause_number}
+use Rattle.faults.specs.declared.cell_fault.CellCause.{CellCause}
+use Rattle.faults.specs.declared.cell_fault.CellCause.TheVariants as cell
+use Rattle.faults.specs.CellCauseNumber.{number_of as cell_cause_number}
+use Rattle.faults.specs.declared.plan_fault.PlanCause.{PlanCause}
+use Rattle.faults.specs.declared.plan_fault.PlanCause.TheVariants as cause
+use Rattle.faults.specs.PlanCauseNumber.{number_of as plan_cause_number}
 
 pub cell_cause_small : (c : CellCause) → cell_cause_number c < 100
 cell_cause_small cell.Token = lit< tt

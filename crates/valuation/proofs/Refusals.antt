@@ -2,11 +2,11 @@
 use Rattle.std.proofs.Common.{◌≡◌, ◌≢◌, ℕ, ◌+◌, List, take, slice_get, Option, Some, Result, Err, IfErr, OnOk, sym, subst}
 use Rattle.std.specs.Io.KnownBytes.{Appends}
 use Rattle.std.proofs.lemmas.Result.{on_ok_weaker, IfErr-weaker}
-use Rattle.table_faults.specs.declared.fault.Fault.{Fault}
-use Rattle.table_faults.specs.declared.fault.Fault.TheVariants as faults
+use Rattle.faults.specs.declared.fault.Fault.{Fault}
+use Rattle.faults.specs.declared.fault.Fault.TheVariants as faults
 use Rattle.dtable.specs.declared.inputs.Slot.{Slot}
-use Rattle.table_faults.specs.declared.plan_fault.PlanCause.TheVariants as cause
-use Rattle.table_faults.specs.declared.plan_fault.PlanFault.{PlanFault}
+use Rattle.faults.specs.declared.plan_fault.PlanCause.TheVariants as cause
+use Rattle.faults.specs.declared.plan_fault.PlanFault.{PlanFault}
 use Rattle.dtable.specs.declared.table.InputData.{InputData}
 use Rattle.dtable.specs.Environment.{env}
 use Rattle.dtable.specs.HitPolicy.{IsFaultOf}

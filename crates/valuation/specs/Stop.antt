@@ -4,26 +4,26 @@ use Rattle.std.specs.Prelude.{◌≡◌, ◌≢◌, ℕ, ◌+◌, ◌<◌, ◌++
 use Rattle.std.specs.Io.KnownBytes.{Appends, Keeps}
 use Rattle.std.specs.Option.{option_map_or}
 use Rattle.fixpoint.specs.Out.{PutsFront}
-use Rattle.table_faults.specs.declared.cell_fault.CellFault.{CellFault}
-use Rattle.table_faults.specs.declared.cell_fault.CellCause.TheVariants as cell
-use Rattle.table_faults.specs.CellCauseNumber.{number_of as cell_cause_number}
+use Rattle.faults.specs.declared.cell_fault.CellFault.{CellFault}
+use Rattle.faults.specs.declared.cell_fault.CellCause.TheVariants as cell
+use Rattle.faults.specs.CellCauseNumber.{number_of as cell_cause_number}
 use Rattle.feel_tests.specs.declared.value.Value.{Value}
 use Rattle.feel_tests.specs.Cell.{SpellsValue}
-use Rattle.table_faults.specs.declared.fault.Fault.{Fault}
-use Rattle.table_faults.specs.declared.fault.Fault.TheVariants as faults
+use Rattle.faults.specs.declared.fault.Fault.{Fault}
+use Rattle.faults.specs.declared.fault.Fault.TheVariants as faults
 use Rattle.dtable.specs.declared.inputs.Slot.{Slot}
-use Rattle.table_faults.specs.declared.plan_fault.PlanCause.{PlanCause}
-use Rattle.table_faults.specs.declared.plan_fault.PlanCause.TheVariants as cause
-use Rattle.table_faults.specs.declared.plan_fault.PlanFault.{PlanFault}
+use Rattle.faults.specs.declared.plan_fault.PlanCause.{PlanCause}
+use Rattle.faults.specs.declared.plan_fault.PlanCause.TheVariants as cause
+use Rattle.faults.specs.declared.plan_fault.PlanFault.{PlanFault}
 use Rattle.dtable.specs.declared.table.InputData.{InputData}
-use Rattle.table_faults.specs.PlanCauseNumber.{number_of as plan_cause_number}
+use Rattle.faults.specs.PlanCauseNumber.{number_of as plan_cause_number}
 use Rattle.dtable.specs.Environment.{env}
 use Rattle.dtable.specs.Inputs.{IsReady, value_at}
 use Rattle.dtable.specs.Plan.{PlanParts}
 use Rattle.dtable.specs.PlanFile.{IsPlanText}
 use Rattle.dtable.specs.Scope.{data_names}
-use Rattle.reasons.specs.ReasonText.{reason_text}
-use Rattle.reasons.specs.Reason.{reason_of}
+use Rattle.faults.specs.ReasonText.{reason_text}
+use Rattle.faults.specs.Reason.{reason_of}
 use Rattle.valuation.specs.declared.stop.ArgumentFault.{ArgumentFault}
 use Rattle.valuation.specs.declared.stop.ArgumentFault.TheVariants as argument
 use Rattle.valuation.specs.declared.stop.ValueStop.{ValueStop}

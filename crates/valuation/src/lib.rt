@@ -5,7 +5,7 @@
 //! exit status.
 //!
 //! Plans and their evaluation come from `dtable`, cells and values from `feel_tests`, numbers and the counting writer from `fixpoint`, the
-//! words of a fault of the tables from `reasons`, what a caller needs of refusals of any command from `refusals`.
+//! words of a fault of the tables from `faults`, what a caller needs of refusals of any command from `faults`.
 //!
 //! Begin with `value.rt`, whose `do_value` carries the promises, and with `specs/ValueText.antt` and `specs/Stop.antt`, which say
 //! what it prints and why it stops.
@@ -15,7 +15,7 @@ mod output;
 mod stop;
 mod value;
 
-pub use refusals::{LINE_LIMIT_BYTES, Refusal};
+pub use faults::{LINE_LIMIT_BYTES, Refusal};
 pub use stop::line::Line;
 pub use stop::{ArgumentFault, ValueStop};
 pub use value::do_value;

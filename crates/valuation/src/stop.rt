@@ -6,9 +6,9 @@ ghost use Rattle.valuation.specs.Stop.{IsStopOfArgument, argument_fault_number, 
 pub mod line;
 
 use dtable::{Fault, Name, PlanCause, PlanFault};
+use faults::{LINE_LIMIT_BYTES, Refusal};
 use feel_tests::{CellCause, CellFault};
 use line::Line;
-use refusals::{LINE_LIMIT_BYTES, Refusal};
 use std::alloc::{AllocError, AllocFailed};
 use thiserror::Error;
 

@@ -7,9 +7,9 @@ ghost use Rattle.dtable.specs.Priority.{entries_of, in_priority_order};
 use super::priority;
 use crate::environment::Answer;
 use crate::table::Table;
+use faults::Fault;
 use feel_tests::{Sequence, Value};
 use std::alloc::{AllocError, Global};
-use table_faults::Fault;
 
 /// Rule order, and Collect in this profile: for each output its entries, in rule order.
 pub fn in_rule_order(

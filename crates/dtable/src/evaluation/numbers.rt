@@ -9,10 +9,10 @@ ghost use Rattle.dtable.specs.HitPolicy.{Gives, joined, IsFarFromOverflow, aggre
 use super::single;
 use crate::environment::Answer;
 use crate::table::Table;
+use faults::Fault;
 use feel_tests::{Sequence, Value};
 use fixpoint::{Fixed, UNITS_PER_ONE};
 use std::alloc::Global;
-use table_faults::Fault;
 
 /// `C+`: the sum. It is formed whole before its range is looked at.
 pub fn sum(

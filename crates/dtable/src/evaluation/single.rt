@@ -6,9 +6,9 @@ ghost use Rattle.dtable.specs.HitPolicy.{Gives, ones, unmatched, unique, agree, 
 
 use crate::environment::Answer;
 use crate::table::{Output, Table};
+use faults::Fault;
 use feel_tests::{Sequence, Value};
 use std::alloc::{AllocError, Global};
-use table_faults::Fault;
 
 /// The value where no rule matches: the defaults, where every output has one.
 pub fn unmatched(alloc: Global, number: usize, table: &Table) -> Result<Sequence<Answer>, Fault>

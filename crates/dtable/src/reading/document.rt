@@ -6,8 +6,8 @@ ghost use Rattle.toml.specs.View.{view, items_view};
 ghost use Rattle.dtable.specs.Document.{string_at, array_at, optional_array_at, item_count};
 
 use super::place::Place;
+use faults::{PlanCause, PlanFault};
 use std::alloc::Global;
-use table_faults::{PlanCause, PlanFault};
 use toml::Value;
 
 /// Reads the document of a text, which has to be UTF-8.

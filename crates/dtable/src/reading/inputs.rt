@@ -14,9 +14,9 @@ use super::names::read_name;
 use super::place::Place;
 use super::scope::{kind_at, origin_of};
 use crate::table::{Input, InputData, Origin, Table};
+use faults::{PlanCause, PlanFault};
 use feel_tests::{Cell, Sequence};
 use std::alloc::Global;
-use table_faults::{PlanCause, PlanFault};
 use toml::Value;
 
 /// Reads the inputs of a table, each of which names a value that is known there.

@@ -6,9 +6,9 @@ ghost use Rattle.dtable.specs.Reading.{Reads};
 
 use super::document::text_of;
 use super::place::Place;
+use faults::PlanFault;
 use feel_tests::{Cell, Kind, Value as Literal, read_cell, read_value};
 use std::alloc::Global;
-use table_faults::PlanFault;
 use toml::Value;
 
 /// Reads a string as a cell for values of the kind.

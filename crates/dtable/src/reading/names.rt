@@ -13,9 +13,9 @@ use super::scope::is_taken_field;
 use crate::name::{NAME_LIMIT_BYTES, Name};
 use crate::plan::all_names;
 use crate::table::InputData;
+use faults::{PlanCause, PlanFault};
 use feel_tests::{Kind, Sequence, is_name_byte, is_name_start};
 use std::alloc::Global;
-use table_faults::{PlanCause, PlanFault};
 use toml::Value;
 
 /// The names that are taken from the start: a claim's own columns, a member's accumulators, and the words of cells.

@@ -17,9 +17,9 @@ use crate::demands::is_listed;
 use crate::hit::Hit;
 use crate::name::Name;
 use crate::table::{Input, InputData, Output, Table};
+use faults::{PlanCause, PlanFault};
 use feel_tests::{Kind, Sequence, Value as Literal, text_spells_at_most_one_value};
 use std::alloc::Global;
-use table_faults::{PlanCause, PlanFault};
 use toml::Value;
 
 /// Reads the outputs of a table, whose columns stand behind those of its inputs.

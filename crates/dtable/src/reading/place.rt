@@ -1,9 +1,9 @@
 //! Where a fault of a plan's text stands.
 ghost use Rattle.std.specs.Prelude.{◌≡◌, ◌≢◌};
 
+use faults::{PlanCause, PlanFault};
 use feel_tests::{CellCause, CellFault};
 use std::alloc::AllocError;
-use table_faults::{PlanCause, PlanFault};
 
 /// Where a fault stands: tables, rules and columns count from 1, and 0 says none.
 #[derive(Clone, Copy)]

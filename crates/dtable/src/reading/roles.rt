@@ -18,9 +18,9 @@ use super::scope::{kind_at, origin_of};
 use crate::name::Name;
 use crate::roles::{FamilyRoles, Roles, Source};
 use crate::table::{InputData, Origin, Output, Table};
+use faults::{PlanCause, PlanFault};
 use feel_tests::{CellCause, Kind, Value as Literal, read_value, text_spells_at_most_one_value};
 use std::alloc::{AllocError, Global};
-use table_faults::{PlanCause, PlanFault};
 use toml::Value;
 
 /// What is asked of a role's value.

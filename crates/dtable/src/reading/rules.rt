@@ -14,9 +14,9 @@ use super::literals::read_literal_entry;
 use super::place::Place;
 use crate::demands::is_ranked;
 use crate::table::{Input, InputData, Output, Rule, Table};
+use faults::{PlanCause, PlanFault};
 use feel_tests::{Cell, Sequence, Value as Literal, text_spells_at_most_one_value};
 use std::alloc::Global;
-use table_faults::{PlanCause, PlanFault};
 use toml::Value;
 
 /// Reads the rules of a table.

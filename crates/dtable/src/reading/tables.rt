@@ -15,9 +15,9 @@ use super::rules::read_rules;
 use crate::demands::meets_demands;
 use crate::hit::Hit;
 use crate::table::{InputData, Table};
+use faults::{PlanCause, PlanFault};
 use feel_tests::{Sequence, text_spells_at_most_one_cell, text_spells_at_most_one_value};
 use std::alloc::Global;
-use table_faults::{PlanCause, PlanFault};
 use toml::Value;
 
 /// Reads the tables of a document.

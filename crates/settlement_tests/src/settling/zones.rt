@@ -5,11 +5,11 @@ use super::plans::flat;
 use super::{plan, settles_next};
 use crate::ending::{expects, fail};
 use dtable::{Env, Inputs, Plan, Valuer};
+use faults::Fault;
 use settlement::Adjudicator;
 use std::alloc::Global;
 use std::cell::Cell;
 use std::process::Abort;
-use table_faults::Fault;
 
 /// So many claims are decided.
 const CLAIMS: u32 = 1_200;

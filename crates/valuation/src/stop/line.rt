@@ -1,15 +1,14 @@
 //! A line on standard error, put together in memory of fixed size.
 
 ghost use Rattle.std.specs.Prelude.{◌≡◌, ℕ, ◌+◌, ◌<◌, ◌≤◌, ◌++◌, [], List, codes, decimal, length, take};
-ghost use Rattle.reasons.specs.ReasonText.{reason_text};
+ghost use Rattle.faults.specs.ReasonText.{reason_text};
 ghost use Rattle.valuation.specs.Stop.{plan_fault_text, argument_fault_text, cell_fault_text, fault_text};
 
 use super::ArgumentFault;
 use dtable::{Fault, PlanCause, PlanFault};
+use faults::{LINE_LIMIT_BYTES, Reason};
 use feel_tests::CellFault;
 use itoa::Buffer;
-use reasons::Reason;
-use refusals::LINE_LIMIT_BYTES;
 use std::marker::Model;
 
 /// A line so far: bytes, of which there is room for `LINE_LIMIT_BYTES`.
@@ -21,7 +20,7 @@ pub struct Line {
 
 impl Model for Line {
     ghost use Rattle.std.specs.Prelude.{List, ℕ, ◌≤◌, take};
-    ghost use Rattle.refusals.specs.declared.refusal.TheConstants.{LINE_LIMIT_BYTES};
+    ghost use Rattle.faults.specs.declared.refusal.TheConstants.{LINE_LIMIT_BYTES};
 
     ghost Value = { List ℕ };
 

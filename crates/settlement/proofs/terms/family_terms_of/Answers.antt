@@ -1,7 +1,7 @@
 use Rattle.std.proofs.Common.{refl}
 use Rattle.std.proofs.lemmas.Result.{err_from_is_err_and}
 use Rattle.fixpoint.specs.Money.{is_money}
-use Rattle.reasons.specs.declared.role.Role.TheVariants.{FamilyDeductible, FamilyOopMax}
+use Rattle.faults.specs.declared.role.Role.TheVariants.{FamilyDeductible, FamilyOopMax}
 use Rattle.settlement.specs.Roles.{units_where, value_of}
 use Rattle.settlement.proofs.Units.{units_lacking, units_there}
 use Rattle.settlement.proofs.terms.family_terms_of.Goals as goal

@@ -2,7 +2,7 @@ use Rattle.std.proofs.Common.{refl, ap, ◌∙◌}
 use Rattle.std.proofs.lemmas.Result.{err_from_is_err_and}
 use Rattle.std.specs.Option.{ok_or}
 use Rattle.fixpoint.specs.Money.{is_money, is_rate}
-use Rattle.reasons.specs.declared.role.Role.TheVariants.{Fee, Deductible, Copay, Rate, OopMax}
+use Rattle.faults.specs.declared.role.Role.TheVariants.{Fee, Deductible, Copay, Rate, OopMax}
 use Rattle.settlement.specs.Roles.{units_where, value_of}
 use Rattle.settlement.proofs.Units.{units_lacking, units_there}
 use Rattle.settlement.proofs.terms.terms_of.Goals as goal

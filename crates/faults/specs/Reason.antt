@@ -1,9 +1,9 @@
 -- Why a claim waits for a person.
 use Rattle.std.specs.Prelude.{Option, Some, None}
-use Rattle.table_faults.specs.declared.fault.Fault.{Fault}
-use Rattle.table_faults.specs.declared.fault.Fault.TheVariants as faults
-use Rattle.reasons.specs.declared.reason.Reason.{Reason}
-use Rattle.reasons.specs.declared.reason.Reason.TheVariants.{Outside, NoRule, Clash, Range}
+use Rattle.faults.specs.declared.fault.Fault.{Fault}
+use Rattle.faults.specs.declared.fault.Fault.TheVariants as faults
+use Rattle.faults.specs.declared.reason.Reason.{Reason}
+use Rattle.faults.specs.declared.reason.Reason.TheVariants.{Outside, NoRule, Clash, Range}
 
 -- why a fault of the tables pends a claim; want of memory is no fault of theirs
 abbrev pub reason_of : Fault → Option Reason

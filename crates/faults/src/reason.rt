@@ -1,10 +1,10 @@
 //! Why claims wait.
 ghost use Rattle.std.specs.Prelude.{◌≡◌, ◌≤◌, length};
-ghost use Rattle.reasons.specs.Reason.{reason_of};
-ghost use Rattle.reasons.specs.ReasonText.{column_of, place_of, word_of};
+ghost use Rattle.faults.specs.Reason.{reason_of};
+ghost use Rattle.faults.specs.ReasonText.{column_of, place_of, word_of};
 
+use crate::fault::Fault;
 use crate::role::Role;
-use table_faults::Fault;
 
 /// Why a claim waits. Tables and columns count from 1.
 #[derive(Clone, Copy, Debug, PartialEq, Eq, Drop)]

@@ -1,7 +1,7 @@
 -- The number roles in a program's messages.
 use Rattle.std.specs.Prelude.{ℕ}
-use Rattle.reasons.specs.declared.role.Role.{Role}
-use Rattle.reasons.specs.declared.role.Role.TheVariants.{Fee, Deductible, Copay, Rate, OopMax, FamilyDeductible, FamilyOopMax}
+use Rattle.faults.specs.declared.role.Role.{Role}
+use Rattle.faults.specs.declared.role.Role.TheVariants.{Fee, Deductible, Copay, Rate, OopMax, FamilyDeductible, FamilyOopMax}
 
 -- the number of a role in a program's messages
 abbrev pub number_of : Role → ℕ

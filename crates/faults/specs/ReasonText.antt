@@ -1,9 +1,9 @@
 -- The words of a reason, in reports and in the program's lines: such as `outside:2:1`, `norule:3` and `term:4`.
 use Rattle.std.specs.Prelude.{ℕ, ◌++◌, List, codes, decimal, Option, Some, None}
 use Rattle.std.specs.Option.{option_map_or}
-use Rattle.reasons.specs.Role.{number_of}
-use Rattle.reasons.specs.declared.reason.Reason.{Reason}
-use Rattle.reasons.specs.declared.reason.Reason.TheVariants.{Outside, NoRule, Clash, Range, Term}
+use Rattle.faults.specs.Role.{number_of}
+use Rattle.faults.specs.declared.reason.Reason.{Reason}
+use Rattle.faults.specs.declared.reason.Reason.TheVariants.{Outside, NoRule, Clash, Range, Term}
 
 -- a word, and a number behind a colon
 abbrev pub numbered : List ℕ → ℕ → List ℕ

@@ -1,6 +1,6 @@
 //! Why a text is no plan, and where.
 ghost use Rattle.std.specs.Prelude.{◌≡◌};
-ghost use Rattle.table_faults.specs.PlanCauseNumber.{number_of};
+ghost use Rattle.faults.specs.PlanCauseNumber.{number_of};
 
 use crate::cell_fault::CellFault;
 use std::alloc::AllocError;
@@ -85,7 +85,7 @@ pub struct PlanFault {
 
 impl From<AllocError> for PlanFault {
     ghost use Rattle.std.specs.Prelude.{◌≡◌};
-    ghost use Rattle.table_faults.specs.declared.plan_fault.PlanCause.TheVariants.{OutOfMemory};
+    ghost use Rattle.faults.specs.declared.plan_fault.PlanCause.TheVariants.{OutOfMemory};
 
     ghost from_gives = { λ _ fault. fault ≡ record { table = 0; rule = 0; column = 0; cause = OutOfMemory } };
 

@@ -1,2 +1,5 @@
 pub mod CellCauseNumber
 pub mod PlanCauseNumber
+pub mod Role
+pub mod Reason
+pub mod ReasonText

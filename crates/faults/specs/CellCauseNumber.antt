@@ -1,7 +1,7 @@
 -- Why a text is no cell and no literal.
 use Rattle.std.specs.Prelude.{ℕ}
-use Rattle.table_faults.specs.declared.cell_fault.CellCause.{CellCause}
-use Rattle.table_faults.specs.declared.cell_fault.CellCause.TheVariants.{Token, Literal, WrongKind, BadEscape, BadDate, TooMany, Trailing, OutOfMemory}
+use Rattle.faults.specs.declared.cell_fault.CellCause.{CellCause}
+use Rattle.faults.specs.declared.cell_fault.CellCause.TheVariants.{Token, Literal, WrongKind, BadEscape, BadDate, TooMany, Trailing, OutOfMemory}
 
 -- the cause's number in a program's messages
 abbrev pub number_of : CellCause → ℕ

@@ -1,6 +1,6 @@
 //! Why tables have no value.
 ghost use Rattle.std.specs.Prelude.{◌≡◌};
-ghost use Rattle.table_faults.specs.declared.fault.Fault.TheVariants.{OutOfMemory};
+ghost use Rattle.faults.specs.declared.fault.Fault.TheVariants.{OutOfMemory};
 
 use std::alloc::AllocError;
 use thiserror::Error;

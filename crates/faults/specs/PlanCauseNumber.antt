@@ -1,7 +1,7 @@
 -- The numbers of a plan's faults in a program's messages.
 use Rattle.std.specs.Prelude.{ℕ}
-use Rattle.table_faults.specs.declared.plan_fault.PlanCause.{PlanCause}
-use Rattle.table_faults.specs.declared.plan_fault.PlanCause.TheVariants.{Toml, Missing, Unknown, Duplicate, Kind, Hit, Priority, Role, Money, Limit, Cell, OutOfMemory}
+use Rattle.faults.specs.declared.plan_fault.PlanCause.{PlanCause}
+use Rattle.faults.specs.declared.plan_fault.PlanCause.TheVariants.{Toml, Missing, Unknown, Duplicate, Kind, Hit, Priority, Role, Money, Limit, Cell, OutOfMemory}
 
 -- the number of a cause
 abbrev pub number_of : PlanCause → ℕ

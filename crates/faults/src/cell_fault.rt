@@ -1,6 +1,6 @@
 //! Why a cell or a literal could not be read.
 ghost use Rattle.std.specs.Prelude.{◌≡◌};
-ghost use Rattle.table_faults.specs.CellCauseNumber.{number_of};
+ghost use Rattle.faults.specs.CellCauseNumber.{number_of};
 
 use thiserror::Error;
 

@@ -1,6 +1,6 @@
 //! The number roles of a plan.
 ghost use Rattle.std.specs.Prelude.{◌≡◌};
-ghost use Rattle.reasons.specs.Role.{number_of};
+ghost use Rattle.faults.specs.Role.{number_of};
 
 /// A role that gives a number, where a claim's one may not be what it must be.
 #[derive(Clone, Copy, Debug, PartialEq, Eq, Drop)]

@@ -1,0 +1,20 @@
+//! The faults of cells, plans, tables, files, terms, runs and reports, and the number of each in the program's messages; the reason for which
+//! a fault of the tables pends a claim, with its words; and what each refusal of a command has.
+//!
+//! These types need nothing of the crates that find the faults, so that the explanations of faults need nothing of those crates either. Each
+//! crate that finds faults hands their types on by its own root.
+#![tactic(auto)]
+
+mod cell_fault;
+mod fault;
+mod plan_fault;
+mod reason;
+mod refusal;
+mod role;
+
+pub use cell_fault::{CellCause, CellFault};
+pub use fault::Fault;
+pub use plan_fault::{PlanCause, PlanFault};
+pub use reason::Reason;
+pub use refusal::{LINE_LIMIT_BYTES, Refusal};
+pub use role::Role;

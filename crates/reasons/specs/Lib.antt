@@ -1,3 +1,0 @@
-pub mod Role
-pub mod Reason
-pub mod ReasonText
