@@ -16,14 +16,14 @@ use Rattle.journal.specs.declared.event.Event.{Event}
 use Rattle.journal.specs.Terms.{Terms}
 use Rattle.claim_terms.specs.Fault.{HasTermsFault}
 use Rattle.claim_terms.specs.Terms.{AreClaimsOf, ForTerms, IsFinishedOver, IsTermsOf, TermsParts}
-use Rattle.claim_terms.specs.declared.fault.TermsFault.{TermsFault}
-use Rattle.claim_terms.specs.declared.fault.TermsFault.TheVariants as terms
+use Rattle.faults.specs.declared.terms_fault.TermsFault.{TermsFault}
+use Rattle.faults.specs.declared.terms_fault.TermsFault.TheVariants as terms
 use Rattle.crew.specs.Workers.{IsWorkerCount}
-use Rattle.crew.specs.declared.fault.RunFault.{RunFault}
-use Rattle.crew.specs.declared.fault.RunFault.TheVariants as run
+use Rattle.faults.specs.declared.run_fault.RunFault.{RunFault}
+use Rattle.faults.specs.declared.run_fault.RunFault.TheVariants as run
 use Rattle.remit.specs.Report.{IsReport, report_records, text_of}
 use Rattle.remit.specs.Writing.{WritesFront, WritesReport}
-use Rattle.remit.specs.declared.fault.WriteFault.{WriteFault}
+use Rattle.faults.specs.declared.write_fault.WriteFault.{WriteFault}
 use Rattle.valuation.specs.Stop.{WritesText}
 use Rattle.valuation.specs.declared.stop.ValueStop.TheVariants as value
 use Rattle.adjudicate.specs.declared.stop.Stop.{Stop}

@@ -5,13 +5,13 @@ use Rattle.dtable.specs.Plan.{PlanParts}
 use Rattle.dtable.specs.PlanFile.{IsPlanText}
 use Rattle.claim_terms.specs.Fault.{HasTermsFault}
 use Rattle.claim_terms.specs.Terms.{TermsParts}
-use Rattle.claim_terms.specs.declared.fault.TermsFault.{TermsFault}
-use Rattle.claim_terms.specs.declared.fault.TermsFault.TheVariants as terms
-use Rattle.crew.specs.declared.fault.RunFault.{RunFault}
-use Rattle.crew.specs.declared.fault.RunFault.TheVariants as run
+use Rattle.faults.specs.declared.terms_fault.TermsFault.{TermsFault}
+use Rattle.faults.specs.declared.terms_fault.TermsFault.TheVariants as terms
+use Rattle.faults.specs.declared.run_fault.RunFault.{RunFault}
+use Rattle.faults.specs.declared.run_fault.RunFault.TheVariants as run
 use Rattle.crew.specs.Workers.{IsWorkerCount}
-use Rattle.remit.specs.declared.fault.WriteCause.TheVariants as write
-use Rattle.remit.specs.declared.fault.WriteFault.{WriteFault}
+use Rattle.faults.specs.declared.write_fault.WriteCause.TheVariants as write
+use Rattle.faults.specs.declared.write_fault.WriteFault.{WriteFault}
 use Rattle.valuation.specs.Stop.{SpellsNoPlan}
 use Rattle.valuation.specs.declared.stop.ValueStop.TheVariants as value
 use Rattle.adjudicate.specs.declared.stop.Stop.{Stop}

@@ -2,16 +2,16 @@
 use Rattle.std.specs.Prelude.{ℕ, ◌++◌, Bool, List, [], ◌∷◌, codes, decimal, Option}
 use Rattle.std.specs.Io.KnownBytes.{Keeps}
 use Rattle.faults.specs.declared.plan_fault.PlanFault.{PlanFault}
-use Rattle.intake_csv.specs.declared.fault.BalanceFault.{BalanceFault}
-use Rattle.intake_csv.specs.declared.fault.BalanceFault.TheVariants as balance
-use Rattle.intake_csv.specs.declared.fault.RowFault.{RowFault}
-use Rattle.intake_csv.specs.FaultNumber.{cause_number_of as row_cause_number, file_number_of as file_number}
-use Rattle.claim_terms.specs.Fault.{number_of as terms_number}
-use Rattle.claim_terms.specs.declared.fault.TermsFault.{TermsFault}
-use Rattle.claim_terms.specs.declared.fault.TermsFault.TheVariants as terms
-use Rattle.crew.specs.FaultNumber.{number_of as run_number}
-use Rattle.crew.specs.declared.fault.RunFault.{RunFault}
-use Rattle.crew.specs.declared.fault.RunFault.TheVariants as run
+use Rattle.faults.specs.declared.file_fault.BalanceFault.{BalanceFault}
+use Rattle.faults.specs.declared.file_fault.BalanceFault.TheVariants as balance
+use Rattle.faults.specs.declared.file_fault.RowFault.{RowFault}
+use Rattle.faults.specs.FileFaultNumber.{cause_number_of as row_cause_number, file_number_of as file_number}
+use Rattle.faults.specs.TermsFaultNumber.{number_of as terms_number}
+use Rattle.faults.specs.declared.terms_fault.TermsFault.{TermsFault}
+use Rattle.faults.specs.declared.terms_fault.TermsFault.TheVariants as terms
+use Rattle.faults.specs.RunFaultNumber.{number_of as run_number}
+use Rattle.faults.specs.declared.run_fault.RunFault.{RunFault}
+use Rattle.faults.specs.declared.run_fault.RunFault.TheVariants as run
 use Rattle.valuation.specs.declared.stop.ValueStop.{ValueStop}
 use Rattle.valuation.specs.Stop.{IsPlanReason as IsPlanReasonOfValue, IsReason as IsReasonOfValue, IsStopOfPlan as IsValueStopOfPlan, WritesUntil as WritesUntilValueStop, failed_after as failed_after_value, status_of as status_of_value, stop_text as value_stop_text}
 use Rattle.valuation.specs.ValueText.{line_end}

@@ -13,8 +13,8 @@ use Rattle.intake_csv.specs.Rows.{AreRowsLeft, AreRowsOf, IsAtStart, RowsLeft}
 use Rattle.intake_csv.specs.declared.rows.Row.{Row}
 use Rattle.claim_terms.specs.Fault.{HasTermsFault, IsFaultOfBalances, IsFaultOfFile, IsFaultOfFiles}
 use Rattle.claim_terms.specs.Terms.{AreFilesOf, IsClaimFile, IsFileCount, texts_of}
-use Rattle.claim_terms.specs.declared.fault.TermsFault.{TermsFault}
-use Rattle.claim_terms.specs.declared.fault.TermsFault.TheVariants.{NoRoles, Files, File, Balances, OutOfMemory}
+use Rattle.faults.specs.declared.terms_fault.TermsFault.{TermsFault}
+use Rattle.faults.specs.declared.terms_fault.TermsFault.TheVariants.{NoRoles, Files, File, Balances, OutOfMemory}
 
 -- the text at a place is behind the reference at that place
 text-at : (files : List (Bor (List ℕ))) (place : ℕ) (d : Bor (List ℕ)) → place < length files → get_or (texts_of files) place d.now ≡ (get_or files place d).now

@@ -5,21 +5,13 @@ use Rattle.dtable.specs.Plan.{PlanParts}
 use Rattle.dtable.specs.declared.table.InputData.{InputData}
 use Rattle.intake_csv.specs.Columns.{HasFileFault, claim_columns}
 use Rattle.intake_csv.specs.Balances.{HasBalanceFault}
-use Rattle.intake_csv.specs.declared.fault.FileFault.{FileFault}
-use Rattle.intake_csv.specs.declared.fault.FileFault.TheVariants as file
-use Rattle.intake_csv.specs.declared.fault.BalanceFault.{BalanceFault}
-use Rattle.intake_csv.specs.declared.fault.BalanceFault.TheVariants as balance
+use Rattle.faults.specs.declared.file_fault.FileFault.{FileFault}
+use Rattle.faults.specs.declared.file_fault.FileFault.TheVariants as file
+use Rattle.faults.specs.declared.file_fault.BalanceFault.{BalanceFault}
+use Rattle.faults.specs.declared.file_fault.BalanceFault.TheVariants as balance
 use Rattle.claim_terms.specs.Terms.{IsClaimFile, IsFileCount}
-use Rattle.claim_terms.specs.declared.fault.TermsFault.{TermsFault}
-use Rattle.claim_terms.specs.declared.fault.TermsFault.TheVariants.{NoRoles, Files, File, Balances, OutOfMemory}
-
--- the fault's number in a program's messages
-abbrev pub number_of : TermsFault → ℕ
-number_of NoRoles = 1
-number_of Files = 2
-number_of (File provider fault) = 3
-number_of (Balances fault) = 4
-number_of OutOfMemory = 5
+use Rattle.faults.specs.declared.terms_fault.TermsFault.{TermsFault}
+use Rattle.faults.specs.declared.terms_fault.TermsFault.TheVariants.{NoRoles, Files, File, Balances, OutOfMemory}
 
 -- the text is no file of claims, for this reason
 pub record IsRefused (names : List InputData) (text : List ℕ) (fault : FileFault) : Type 0 where

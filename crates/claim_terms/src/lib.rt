@@ -7,10 +7,9 @@
 //! read `terms.rt`.
 #![tactic(auto)]
 
-mod fault;
 mod laws;
 mod terms;
 
-pub use fault::TermsFault;
+pub use faults::TermsFault;
 pub use laws::terms_are_seen;
 pub use terms::{FILES_LIMIT, Terms};

@@ -11,8 +11,8 @@ ghost use Rattle.intake_csv.specs.Rows.{AreRowsLeft, AreRowsOf, IsAtStart};
 ghost use Rattle.intake_csv.specs.declared.rows.Row.{Row as AnyRow};
 ghost use Rattle.claim_terms.specs.Terms.{AreBalancesOf, AreFilesOf, AreTerms, AreTermsOf, text_in, texts_of};
 
-use crate::fault::TermsFault;
 use dtable::{Plan, Sequence};
+use faults::TermsFault;
 use intake_csv::{BalanceFault, Balances, ClaimFile, FileFault, Rows, read_balances};
 use settlement::{Acc, Claim, account_year};
 use std::alloc::{AllocError, Global};

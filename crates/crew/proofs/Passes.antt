@@ -6,8 +6,8 @@ use Rattle.journal.specs.Leading.{leads_further, leads_itself}
 use Rattle.claim_gate.specs.Shared.{IsServed, IsWornOut, Known}
 use Rattle.crew.specs.Passes.{GoesOn, LeavesWith}
 use Rattle.crew.specs.Workers.{IsWorkerCount}
-use Rattle.crew.specs.declared.fault.RunFault.{RunFault}
-use Rattle.crew.specs.declared.fault.RunFault.TheVariants.{Workers, OutOfMemory, Worn, Stopped}
+use Rattle.faults.specs.declared.run_fault.RunFault.{RunFault}
+use Rattle.faults.specs.declared.run_fault.RunFault.TheVariants.{Workers, OutOfMemory, Worn, Stopped}
 
 -- what an answer has under a premise, where that is known
 pub under_known : {A E : Type 0} (X : Type 0) (Y : A → Type 0) (answer : Result A E) → X → IfOk answer (λ value. X → Y value) → IfOk answer Y

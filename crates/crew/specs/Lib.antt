@@ -1,4 +1,4 @@
-pub mod FaultNumber
+pub mod MetAlone
 pub mod Workers
 pub mod Sharing
 pub mod Passes

@@ -2,8 +2,8 @@
 use Rattle.std.specs.Prelude.{◌≡◌, ◌≢◌, true}
 use Rattle.journal.specs.Gate.{LeadsTo}
 use Rattle.claim_gate.specs.Shared.{Known}
-use Rattle.crew.specs.declared.fault.RunFault.{RunFault}
-use Rattle.crew.specs.declared.fault.RunFault.TheVariants.{Workers, Stopped}
+use Rattle.faults.specs.declared.run_fault.RunFault.{RunFault}
+use Rattle.faults.specs.declared.run_fault.RunFault.TheVariants.{Workers, Stopped}
 
 -- the pass is one of the gate, and what was seen by the old one leads to what it has seen
 pub record GoesOn {P : Type 0} (has_pass : P → Type 0) (known : P → Known) (old new : P) : Type 0 where

@@ -7,12 +7,12 @@ ghost use Rattle.claim_gate.specs.Shared.{InTurn};
 ghost use Rattle.crew.specs.Passes.{GoesOn, LeavesWith};
 ghost use Rattle.crew.specs.Reading.{AreNext, ReadsAhead};
 ghost use Rattle.crew.specs.Sharing.{GoesOnAt, GoesOnBehind, HasAccepted, is_past};
-ghost use Rattle.crew.specs.declared.fault.RunFault.TheVariants.{OutOfMemory};
+ghost use Rattle.faults.specs.declared.run_fault.RunFault.TheVariants.{OutOfMemory};
 
-use crate::fault::RunFault;
 use crate::stopping::TRIES;
 use claim_gate::{EndFault, Gate, Offer, OfferFault, StoredClaim};
 use claim_terms::{Terms, terms_are_seen};
+use faults::RunFault;
 use intake_csv::{
     Row, Rows, given_row_has_the_claim, no_records_give_no_rows, reader_begins_with_all_rows,
 };

@@ -1,10 +1,11 @@
 //! The least fault that the threads of a run have met.
 ghost use Rattle.std.specs.Prelude.{◌≡◌, ◌≢◌, ◌≤◌, IfSome, IfNone};
-ghost use Rattle.crew.specs.FaultNumber.{IsMetAlone, number_of};
-ghost use Rattle.crew.specs.declared.fault.RunFault.{RunFault};
-ghost use Rattle.crew.specs.declared.fault.RunFault.TheVariants.{Workers, Stopped};
+ghost use Rattle.faults.specs.RunFaultNumber.{number_of};
+ghost use Rattle.crew.specs.MetAlone.{IsMetAlone};
+ghost use Rattle.faults.specs.declared.run_fault.RunFault.{RunFault};
+ghost use Rattle.faults.specs.declared.run_fault.RunFault.TheVariants.{Workers, Stopped};
 
-use crate::fault::RunFault;
+use faults::RunFault;
 use std::sync::atomic::{AtomicU64, Ordering};
 
 /// The least fault that any thread has noted, by its number.

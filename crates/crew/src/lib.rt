@@ -7,12 +7,11 @@
 //! Begin with `threads.rt`, whose `run` and `run_with` carry the promise; `intake.rt` and `worker.rt` are what the threads do.
 #![tactic(auto)]
 
-mod fault;
 mod intake;
 mod least;
 mod stopping;
 mod threads;
 mod worker;
 
-pub use fault::RunFault;
+pub use faults::RunFault;
 pub use threads::{WORKERS_LIMIT, run, run_with};

@@ -6,9 +6,8 @@ ghost use Rattle.claim_terms.specs.Terms.{ForTerms};
 ghost use Rattle.journal.specs.Gate.{LeadsTo};
 ghost use Rattle.crew.specs.Passes.{GoesOn, LeavesWith};
 ghost use Rattle.crew.specs.Workers.{IsWorkerCount};
-ghost use Rattle.crew.specs.declared.fault.RunFault.TheVariants.{Workers, Stopped};
+ghost use Rattle.faults.specs.declared.run_fault.RunFault.TheVariants.{Workers, Stopped};
 
-use crate::fault::RunFault;
 use crate::intake::take_in_part;
 use crate::least::LeastFault;
 use crate::stopping::stop;
@@ -16,6 +15,7 @@ use crate::worker::work;
 use claim_gate::{Batch, Gate, GateState, LockedGate, SerialGate};
 use claim_terms::{Terms, terms_are_seen};
 use cutplan::{CutPlan, compile};
+use faults::RunFault;
 use journal::finished_is_final;
 use std::alloc::Global;
 use std::sync::Wait;

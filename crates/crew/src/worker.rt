@@ -8,11 +8,11 @@ ghost use Rattle.claim_terms.specs.Terms.{ForTerms};
 ghost use Rattle.crew.specs.Passes.{GoesOn, LeavesWith};
 ghost use Rattle.crew.specs.Sharing.{IsGathered, IsInWork, IsSettledIn, IsTask, settled_by};
 
-use crate::fault::RunFault;
 use crate::stopping::TRIES;
 use claim_gate::{Decision, FinishFault, Gate, Job, StoredClaim, Taken};
 use claim_terms::{Terms, terms_are_seen};
 use cutplan::CutPlan;
+use faults::RunFault;
 use intake_csv::claims_have_the_plan_s_fields;
 use journal::jobs_stay;
 use settlement::Adjudicator;

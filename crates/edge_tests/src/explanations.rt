@@ -2,8 +2,7 @@
 use crate::ending::{expects, fail};
 use explain::{Page, explain_literal, explain_plan, explain_tables};
 use explain_files::{FileKind, explain_file, explain_record};
-use faults::{CellCause, CellFault, Fault, PlanCause, PlanFault};
-use intake_csv::{FileFault, RowCause, RowFault};
+use faults::{CellCause, CellFault, Fault, FileFault, PlanCause, PlanFault, RowCause, RowFault};
 use std::alloc::{AllocError, Global};
 use std::process::Abort;
 

@@ -3,3 +3,7 @@ pub mod PlanCauseNumber
 pub mod Role
 pub mod Reason
 pub mod ReasonText
+pub mod FileFaultNumber
+pub mod TermsFaultNumber
+pub mod RunFaultNumber
+pub mod WriteCauseNumber

@@ -7,14 +7,22 @@
 
 mod cell_fault;
 mod fault;
+mod file_fault;
 mod plan_fault;
 mod reason;
 mod refusal;
 mod role;
+mod run_fault;
+mod terms_fault;
+mod write_fault;
 
 pub use cell_fault::{CellCause, CellFault};
 pub use fault::Fault;
+pub use file_fault::{BalanceFault, FileFault, RowCause, RowFault};
 pub use plan_fault::{PlanCause, PlanFault};
 pub use reason::Reason;
 pub use refusal::{LINE_LIMIT_BYTES, Refusal};
 pub use role::Role;
+pub use run_fault::RunFault;
+pub use terms_fault::TermsFault;
+pub use write_fault::{WriteCause, WriteFault};

@@ -8,7 +8,7 @@ use Rattle.feel_tests.specs.TextBytes.{IsText}
 use Rattle.feel_tests.specs.declared.value.Value.TheVariants.{Number}
 use Rattle.intake_csv.specs.Fields.{Holds, IsFaultless}
 use Rattle.intake_csv.specs.declared.column.Content.TheVariants.{Money}
-use Rattle.intake_csv.specs.declared.fault.RowCause.TheVariants.{FieldCount, Utf8, TooLong, EmptyId, Value as NoValue, NotCents, Negative, Repeated, Sum}
+use Rattle.faults.specs.declared.file_fault.RowCause.TheVariants.{FieldCount, Utf8, TooLong, EmptyId, Value as NoValue, NotCents, Negative, Repeated, Sum}
 
 -- a number below zero isn't one that is not
 pub not_below : (units : ℤ) → pos 0 ≤ℤ units → ¬ (is_negative units ≡ true)

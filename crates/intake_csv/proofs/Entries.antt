@@ -28,7 +28,7 @@ use Rattle.intake_csv.specs.declared.column.Column.{Column}
 use Rattle.intake_csv.specs.declared.column.Content.TheVariants.{Identifier, Money}
 use Rattle.intake_csv.specs.declared.household.Refusal.{Refusal}
 use Rattle.intake_csv.specs.declared.household.Refusal.TheVariants.{Again, Met, Oop}
-use Rattle.intake_csv.specs.declared.fault.RowFault.{RowFault}
+use Rattle.faults.specs.declared.file_fault.RowFault.{RowFault}
 use Rattle.intake_csv.proofs.Books.{begins_among, joined-house, joined-other, members_at, opened-books, year-self}
 use Rattle.intake_csv.proofs.Households.{bytes-turned, lacking}
 use Rattle.intake_csv.proofs.Lists.{AllZip-grow, any-more, drop-after, next-at}

@@ -10,8 +10,8 @@ use Rattle.std.proofs.lemmas.Slice.Eq.{bytes_eq-Decides}
 use Rattle.intake_csv.specs.Records.{Fields}
 use Rattle.intake_csv.specs.Columns.{IsColumnOf, IsThere, IsRepeated, AreColumnsOf, IsFile, HasFileFault}
 use Rattle.intake_csv.specs.Header.{StandsAs, stands_after, AreFound, HasColumnFault}
-use Rattle.intake_csv.specs.declared.fault.FileFault.{FileFault}
-use Rattle.intake_csv.specs.declared.fault.FileFault.TheVariants.{TooLarge, NoHeader, MissingColumn, DuplicateColumn, OutOfMemory}
+use Rattle.faults.specs.declared.file_fault.FileFault.{FileFault}
+use Rattle.faults.specs.declared.file_fault.FileFault.TheVariants.{TooLarge, NoHeader, MissingColumn, DuplicateColumn, OutOfMemory}
 use Rattle.intake_csv.specs.declared.column.Needed.{Needed}
 use Rattle.intake_csv.specs.declared.column.Column.{Column}
 use Rattle.intake_csv.specs.declared.header.Found.{Found}

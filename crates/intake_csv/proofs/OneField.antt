@@ -7,12 +7,12 @@ use Rattle.feel_tests.specs.Plain.{SpellsOnePlain}
 use Rattle.feel_tests.specs.declared.value.Value.{Value}
 use Rattle.feel_tests.specs.declared.value.Value.TheVariants.{Number, Text}
 use Rattle.intake_csv.specs.Columns.{kind_under}
-use Rattle.intake_csv.specs.FaultNumber.{cause_number_of}
+use Rattle.faults.specs.FileFaultNumber.{cause_number_of}
 use Rattle.intake_csv.specs.Fields.{Holds, IsFaulty, Spells}
 use Rattle.intake_csv.specs.declared.column.Content.{Content}
 use Rattle.intake_csv.specs.declared.column.Content.TheVariants.{Identifier, Money}
-use Rattle.intake_csv.specs.declared.fault.RowCause.{RowCause}
-use Rattle.intake_csv.specs.declared.fault.RowCause.TheVariants.{FieldCount, Utf8, TooLong, EmptyId, Value as NoValue, NotCents, Negative, Repeated, Sum}
+use Rattle.faults.specs.declared.file_fault.RowCause.{RowCause}
+use Rattle.faults.specs.declared.file_fault.RowCause.TheVariants.{FieldCount, Utf8, TooLong, EmptyId, Value as NoValue, NotCents, Negative, Repeated, Sum}
 use Rattle.intake_csv.proofs.Amounts.{not_below}
 
 -- a cause by its number

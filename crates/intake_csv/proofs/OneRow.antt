@@ -14,8 +14,8 @@ use Rattle.intake_csv.specs.Laws.{BeginLike, BeginWith, StandApart}
 use Rattle.intake_csv.specs.Rows.{AreRowsLeft, AreValues, GivesRow, HasFault, HasValues, HoldsUnder, IsFaultyUnder, IsFaultlessUnder, IsFirstFault, IsRow, RowsLeft, claim_in, claim_values, claims_in, is_claim}
 use Rattle.intake_csv.specs.declared.column.Column.{Column}
 use Rattle.intake_csv.specs.declared.column.Layout.{Layout}
-use Rattle.intake_csv.specs.declared.fault.RowCause.{RowCause}
-use Rattle.intake_csv.specs.declared.fault.RowFault.{RowFault}
+use Rattle.faults.specs.declared.file_fault.RowCause.{RowCause}
+use Rattle.faults.specs.declared.file_fault.RowFault.{RowFault}
 use Rattle.intake_csv.specs.declared.rows.Row.{Row}
 use Rattle.intake_csv.specs.declared.rows.Row.TheVariants.{Good, Bad}
 use Rattle.intake_csv.proofs.Handing.{count-more}

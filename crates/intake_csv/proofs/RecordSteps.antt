@@ -8,7 +8,7 @@ use Rattle.intake_csv.specs.Records.{Fields}
 use Rattle.intake_csv.specs.Rows.{HoldsUnder, IsFaultyUnder, IsFaultlessUnder, IsFirstFault}
 use Rattle.intake_csv.specs.Record.{IsLeftmost, SoFar}
 use Rattle.intake_csv.specs.declared.column.Column.{Column}
-use Rattle.intake_csv.specs.declared.fault.RowFault.{RowFault}
+use Rattle.faults.specs.declared.file_fault.RowFault.{RowFault}
 use Rattle.intake_csv.proofs.Lists.{AllZip-grow, any-more}
 
 module _ (fields : Fields) where

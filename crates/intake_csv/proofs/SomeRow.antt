@@ -22,9 +22,9 @@ use Rattle.intake_csv.specs.declared.column.Content.{Content}
 use Rattle.intake_csv.specs.declared.column.Content.TheVariants.{Identifier, Money, Plain, Year}
 use Rattle.intake_csv.specs.declared.column.Layout.{Layout}
 use Rattle.intake_csv.specs.declared.column.Needed.{Needed}
-use Rattle.intake_csv.specs.declared.fault.RowCause.{RowCause}
-use Rattle.intake_csv.specs.declared.fault.RowCause.TheVariants.{Utf8, TooLong, EmptyId, Value as NoValue, NotCents, Negative}
-use Rattle.intake_csv.specs.declared.fault.RowFault.{RowFault}
+use Rattle.faults.specs.declared.file_fault.RowCause.{RowCause}
+use Rattle.faults.specs.declared.file_fault.RowCause.TheVariants.{Utf8, TooLong, EmptyId, Value as NoValue, NotCents, Negative}
+use Rattle.faults.specs.declared.file_fault.RowFault.{RowFault}
 use Rattle.intake_csv.specs.declared.rows.Row.{Row}
 use Rattle.intake_csv.specs.declared.rows.Row.TheVariants.{Good, Bad}
 use Rattle.intake_csv.specs.Laws.{RowsOf}

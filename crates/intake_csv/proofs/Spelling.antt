@@ -11,7 +11,7 @@ use Rattle.intake_csv.specs.Columns.{kind_under}
 use Rattle.intake_csv.specs.Fields.{Holds, IsFaultless, IsFaulty, Spells}
 use Rattle.intake_csv.specs.declared.column.Content.{Content}
 use Rattle.intake_csv.specs.declared.column.Content.TheVariants.{Identifier, Money, Plain, Year}
-use Rattle.intake_csv.specs.declared.fault.RowCause.TheVariants.{FieldCount, Utf8, TooLong, EmptyId, Value as NoValue, NotCents, Negative, Repeated, Sum}
+use Rattle.faults.specs.declared.file_fault.RowCause.TheVariants.{FieldCount, Utf8, TooLong, EmptyId, Value as NoValue, NotCents, Negative, Repeated, Sum}
 
 -- nothing is wrong with a value that is spelled, unless it is an empty identifier or an amount
 faultless : (content : Content) (bytes : List ℕ) (v : Value) → IsText bytes → Spells content bytes v → ¬ ((content ≡ Identifier) × (bytes ≡ [])) → ¬ (content ≡ Money)

@@ -14,7 +14,7 @@ use Rattle.intake_csv.specs.Records.{Fields}
 use Rattle.intake_csv.specs.Rows.{HoldsUnder, IsFaultlessUnder}
 use Rattle.intake_csv.specs.declared.column.Column.{Column}
 use Rattle.intake_csv.specs.declared.column.Content.TheVariants.{Identifier}
-use Rattle.intake_csv.specs.declared.fault.RowCause.TheVariants.{EmptyId, TooLong, Utf8}
+use Rattle.faults.specs.declared.file_fault.RowCause.TheVariants.{EmptyId, TooLong, Utf8}
 use Rattle.intake_csv.proofs.Spelling.{identifier_read}
 
 -- where a column is refused, not all are faultless

@@ -28,12 +28,12 @@ use Rattle.intake_csv.specs.declared.column.Content.{Content}
 use Rattle.intake_csv.specs.declared.column.Content.TheVariants.{Identifier, Money, Year}
 use Rattle.intake_csv.specs.declared.column.Layout.{Layout}
 use Rattle.intake_csv.specs.declared.column.Column.{Column}
-use Rattle.intake_csv.specs.declared.fault.FileFault.TheVariants as file
-use Rattle.intake_csv.specs.declared.fault.RowFault.{RowFault}
-use Rattle.intake_csv.specs.declared.fault.RowCause.{RowCause}
-use Rattle.intake_csv.specs.declared.fault.RowCause.TheVariants.{Repeated, Sum}
-use Rattle.intake_csv.specs.declared.fault.BalanceFault.{BalanceFault}
-use Rattle.intake_csv.specs.declared.fault.BalanceFault.TheVariants.{File, Row, OutOfMemory}
+use Rattle.faults.specs.declared.file_fault.FileFault.TheVariants as file
+use Rattle.faults.specs.declared.file_fault.RowFault.{RowFault}
+use Rattle.faults.specs.declared.file_fault.RowCause.{RowCause}
+use Rattle.faults.specs.declared.file_fault.RowCause.TheVariants.{Repeated, Sum}
+use Rattle.faults.specs.declared.file_fault.BalanceFault.{BalanceFault}
+use Rattle.faults.specs.declared.file_fault.BalanceFault.TheVariants.{File, Row, OutOfMemory}
 use Rattle.intake_csv.specs.declared.household.Refusal.{Refusal}
 use Rattle.intake_csv.specs.declared.household.Refusal.TheVariants.{Again, Met, Oop}
 

@@ -14,8 +14,8 @@ use Rattle.intake_csv.specs.declared.column.Content.TheVariants.{Identifier, Mon
 use Rattle.intake_csv.specs.declared.column.Needed.{Needed}
 use Rattle.intake_csv.specs.declared.column.Column.{Column}
 use Rattle.intake_csv.specs.declared.column.Layout.{Layout}
-use Rattle.intake_csv.specs.declared.fault.FileFault.{FileFault}
-use Rattle.intake_csv.specs.declared.fault.FileFault.TheVariants.{TooLarge, NoHeader, MissingColumn, DuplicateColumn, OutOfMemory}
+use Rattle.faults.specs.declared.file_fault.FileFault.{FileFault}
+use Rattle.faults.specs.declared.file_fault.FileFault.TheVariants.{TooLarge, NoHeader, MissingColumn, DuplicateColumn, OutOfMemory}
 use Rattle.intake_csv.specs.Limits.{file_limit_bytes}
 
 -- the kind of the values under a column

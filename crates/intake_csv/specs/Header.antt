@@ -8,8 +8,8 @@ use Rattle.intake_csv.specs.Columns.{AreColumnsOf, times, IsMissing, IsThere, Is
 use Rattle.intake_csv.specs.declared.column.Needed.{Needed}
 use Rattle.intake_csv.specs.declared.header.Standing.{Standing}
 use Rattle.intake_csv.specs.declared.header.Standing.TheVariants.{Missing, Once, Repeated}
-use Rattle.intake_csv.specs.declared.fault.FileFault.{FileFault}
-use Rattle.intake_csv.specs.declared.fault.FileFault.TheVariants.{TooLarge, NoHeader, MissingColumn, DuplicateColumn, OutOfMemory}
+use Rattle.faults.specs.declared.file_fault.FileFault.{FileFault}
+use Rattle.faults.specs.declared.file_fault.FileFault.TheVariants.{TooLarge, NoHeader, MissingColumn, DuplicateColumn, OutOfMemory}
 
 -- how the name stands in the header
 abbrev pub StandsAs : List ℕ → Fields → Standing → Type 0

@@ -7,8 +7,8 @@ use Rattle.intake_csv.specs.Record.{SoFar}
 use Rattle.intake_csv.specs.Rows.{IsFaultyUnder}
 use Rattle.intake_csv.specs.declared.column.Column.{Column}
 use Rattle.intake_csv.specs.declared.column.Content.{Content}
-use Rattle.intake_csv.specs.declared.fault.RowCause.{RowCause}
-use Rattle.intake_csv.specs.declared.fault.RowFault.{RowFault}
+use Rattle.faults.specs.declared.file_fault.RowCause.{RowCause}
+use Rattle.faults.specs.declared.file_fault.RowFault.{RowFault}
 
 -- something is wrong with the record's field under the column
 abbrev pub IsRefusedUnder : Fields → Column → Type 0

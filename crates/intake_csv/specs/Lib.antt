@@ -1,7 +1,6 @@
 pub mod Limits
 pub mod Records
 pub mod Reader
-pub mod FaultNumber
 pub mod Columns
 pub mod Header
 pub mod Sheet

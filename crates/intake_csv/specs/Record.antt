@@ -10,7 +10,7 @@ use Rattle.settlement.specs.declared.claim.Claim.{Claim}
 use Rattle.intake_csv.specs.declared.column.Content.{Content}
 use Rattle.intake_csv.specs.declared.column.Content.TheVariants.{Identifier, Money, Plain}
 use Rattle.intake_csv.specs.declared.column.Layout.{Layout}
-use Rattle.intake_csv.specs.declared.fault.RowFault.{RowFault}
+use Rattle.faults.specs.declared.file_fault.RowFault.{RowFault}
 use Rattle.intake_csv.specs.declared.column.Column.{Column}
 use Rattle.intake_csv.specs.declared.record.Reading.{Reading}
 use Rattle.std.specs.List.{All, slice_get}

@@ -12,9 +12,9 @@ use Rattle.intake_csv.specs.Columns.{IsSheet, claim_columns}
 use Rattle.intake_csv.specs.Fields.{Holds, IsFaulty}
 use Rattle.intake_csv.specs.declared.column.Column.{Column}
 use Rattle.intake_csv.specs.declared.column.Layout.{Layout}
-use Rattle.intake_csv.specs.declared.fault.RowCause.{RowCause}
-use Rattle.intake_csv.specs.declared.fault.RowCause.TheVariants.{FieldCount}
-use Rattle.intake_csv.specs.declared.fault.RowFault.{RowFault}
+use Rattle.faults.specs.declared.file_fault.RowCause.{RowCause}
+use Rattle.faults.specs.declared.file_fault.RowCause.TheVariants.{FieldCount}
+use Rattle.faults.specs.declared.file_fault.RowFault.{RowFault}
 use Rattle.intake_csv.specs.declared.records.Stage.{Stage}
 use Rattle.intake_csv.specs.declared.records.Stage.TheVariants.{Reading, Over}
 use Rattle.intake_csv.specs.declared.rows.Row.{Row}

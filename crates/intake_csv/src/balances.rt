@@ -16,13 +16,13 @@ ghost use Rattle.intake_csv.specs.declared.column.Column.{Column as AnyColumn};
 
 use crate::claim::push_family;
 use crate::column::{Content, Layout, Needed, push_column};
-use crate::fault::{BalanceFault, FileFault, RowCause, RowFault};
 use crate::household::{Household, Refusal};
 use crate::line::Line;
 use crate::record::read_record;
 use crate::sheet::{Sheet, read_sheet};
 use crate::values::{take_family, take_money, take_text};
 use dtable::{Plan, Sequence, has_families, has_years};
+use faults::{BalanceFault, FileFault, RowCause, RowFault};
 use feel_tests::{Text, Value, year_in};
 use settlement::{Acc, Balance};
 use std::alloc::{AllocError, Global};

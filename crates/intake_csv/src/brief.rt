@@ -1,5 +1,5 @@
 //! What a report needs of a row.
-use crate::fault::RowFault;
+use faults::RowFault;
 
 /// A row of a file of claims, in brief: whose claim it is, and not what else it holds.
 #[derive(Clone, Copy, Drop)]

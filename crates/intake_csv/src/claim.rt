@@ -9,11 +9,11 @@ ghost use Rattle.intake_csv.specs.Rows.{AreValues, HasFault, HasValues, claim_va
 ghost use Rattle.intake_csv.specs.Sheet.{IsWithin};
 
 use crate::column::{Column, Content, Layout, Needed, push_column};
-use crate::fault::{RowCause, RowFault};
 use crate::judge::first_fault;
 use crate::line::Line;
 use crate::under::{day_under, money_under, text_under, values_under};
 use dtable::{InputData, Plan, Sequence};
+use faults::{RowCause, RowFault};
 use feel_tests::{Kind, Text};
 use settlement::{Claim, fields_of};
 use std::alloc::{AllocError, Global};

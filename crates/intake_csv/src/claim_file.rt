@@ -11,12 +11,12 @@ ghost use Rattle.intake_csv.specs.Laws.{StandApart};
 
 use crate::claim::claim_columns;
 use crate::column::Layout;
-use crate::fault::FileFault;
 use crate::records::Records;
 use crate::rows::Rows;
 use crate::sheet::read_sheet;
 use csv::ByteRecord;
 use dtable::Plan;
+use faults::FileFault;
 use std::alloc::{AllocError, Global};
 use std::marker::Model;
 

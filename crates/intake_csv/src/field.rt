@@ -7,7 +7,7 @@ ghost use Rattle.intake_csv.specs.Fields.{IsFieldRead};
 ghost use Rattle.intake_csv.specs.declared.column.Content.TheVariants as contents;
 
 use crate::column::Content;
-use crate::fault::RowCause;
+use faults::RowCause;
 use feel_tests::{Kind, PlainFault, TEXT_LIMIT_BYTES, Value, read_plain, year_in};
 use fixpoint::{Fixed, text_denotes_at_most_one};
 use std::alloc::{AllocError, Global};

@@ -7,9 +7,9 @@ ghost use Rattle.intake_csv.specs.Header.{AreFound, HasColumnFault, MissesColumn
 ghost use Rattle.intake_csv.specs.declared.column.Needed.{Needed as AnyNeeded};
 
 use crate::column::{Column, Needed};
-use crate::fault::FileFault;
 use csv::ByteRecord;
 use dtable::Sequence;
+use faults::FileFault;
 use std::alloc::Global;
 
 /// How a name stands in a header.

@@ -14,10 +14,10 @@ ghost use Rattle.intake_csv.specs.declared.column.Content.TheVariants as content
 use crate::brief::Claimant;
 use crate::claim::has_family_column;
 use crate::column::{Column, Content, Layout};
-use crate::fault::{RowCause, RowFault};
 use crate::field::read_text;
 use crate::line::Line;
 use crate::record::leftmost;
+use faults::{RowCause, RowFault};
 use feel_tests::{Kind, TEXT_LIMIT_BYTES};
 use std::alloc::{AllocError, Global};
 

@@ -13,7 +13,6 @@ mod brief;
 mod claim;
 mod claim_file;
 mod column;
-mod fault;
 mod field;
 mod header;
 mod household;
@@ -30,7 +29,7 @@ mod values;
 pub use balances::{Balances, read_balances};
 pub use brief::{Brief, Claimant};
 pub use claim_file::ClaimFile;
-pub use fault::{BalanceFault, FileFault, RowCause, RowFault};
+pub use faults::{BalanceFault, FileFault, RowCause, RowFault};
 pub use laws::{
     claims_have_the_plan_s_fields, files_have_rows, given_row_has_the_claim,
     given_row_is_the_first, no_records_give_no_rows, reader_begins_with_all_rows,

@@ -7,9 +7,9 @@ ghost use Rattle.intake_csv.specs.Record.{IsLeftmost, IsReadSoFar};
 ghost use Rattle.intake_csv.specs.declared.column.Column.{Column as AnyColumn};
 
 use crate::column::{Column, Layout};
-use crate::fault::{RowCause, RowFault};
 use crate::field::read_text;
 use crate::line::Line;
+use faults::{RowCause, RowFault};
 use feel_tests::Value;
 use std::alloc::{AllocError, Global};
 

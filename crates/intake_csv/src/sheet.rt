@@ -5,10 +5,10 @@ ghost use Rattle.intake_csv.specs.Columns.{HasFileFault};
 ghost use Rattle.intake_csv.specs.Sheet.{IsSheetOf};
 
 use crate::column::{Layout, Needed};
-use crate::fault::FileFault;
 use crate::header::find_columns;
 use crate::records::Records;
 use csv::ByteRecord;
+use faults::FileFault;
 use std::alloc::Global;
 
 /// How many bytes a file has at most, its byte order mark included.

@@ -12,7 +12,7 @@ use Rattle.remit.specs.Records.{Deciding, record_of, records_of}
 use Rattle.remit.specs.Report.{record_text, text_of}
 use Rattle.remit.specs.Held.{At, IsNoMemory, Writes, at}
 use Rattle.remit.specs.Rows.{AreRead, Begin, GivesAll, GivesFirst, IsRead, IsReadFirst, WritesFile, WritesFiles, WritesLeft, files_text, rows_text}
-use Rattle.remit.specs.declared.fault.WriteFault.{WriteFault}
+use Rattle.faults.specs.declared.write_fault.WriteFault.{WriteFault}
 use Rattle.remit.specs.declared.record_writer.RecordWriter.{RecordWriter}
 use Rattle.remit.proofs.Holding.{no-memory, writes-none, writes-then}
 use Rattle.remit.proofs.Passing.{rows-append}

@@ -9,8 +9,8 @@ use Rattle.csv.specs.declared.writer.QuoteStyle.TheVariants.{NonNumeric}
 use Rattle.fixpoint.specs.Out.{PutsFront}
 use Rattle.remit.specs.Report.{record_text, report_style}
 use Rattle.remit.specs.Held.{At, Holds, HasFront, IsNoMemory, IsReady, Writes, at, gathered_of}
-use Rattle.remit.specs.declared.fault.WriteCause.TheVariants.{Device}
-use Rattle.remit.specs.declared.fault.WriteFault.{WriteFault}
+use Rattle.faults.specs.declared.write_fault.WriteCause.TheVariants.{Device}
+use Rattle.faults.specs.declared.write_fault.WriteFault.{WriteFault}
 use Rattle.remit.specs.declared.record_writer.RecordWriter.{RecordWriter}
 
 -- want of memory, at once

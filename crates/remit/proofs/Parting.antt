@@ -8,7 +8,7 @@ use Rattle.remit.specs.Held.{At, Writes, gathered_of}
 use Rattle.remit.specs.Parts.{IsPart}
 use Rattle.remit.specs.Records.{Deciding}
 use Rattle.remit.specs.Rows.{IsRead, IsReadFirst, WritesFile, rows_text}
-use Rattle.remit.specs.declared.fault.WriteFault.{WriteFault}
+use Rattle.faults.specs.declared.write_fault.WriteFault.{WriteFault}
 use Rattle.remit.proofs.Holding.{writes-then}
 use Rattle.remit.proofs.Reporting.{IsFresh, written-whole}
 

@@ -9,7 +9,7 @@ use Rattle.remit.specs.Records.{Deciding, record_of}
 use Rattle.remit.specs.Report.{record_text, text_of}
 use Rattle.remit.specs.Rows.{GivesAll, GivesFirst, WritesLeft, rows_text}
 use Rattle.remit.specs.Held.{At, IsNoMemory, Writes, at}
-use Rattle.remit.specs.declared.fault.WriteFault.{WriteFault}
+use Rattle.faults.specs.declared.write_fault.WriteFault.{WriteFault}
 use Rattle.remit.specs.declared.record_writer.RecordWriter.{RecordWriter}
 use Rattle.remit.proofs.Holding.{gathers-and-hands, no-memory, writes-none, writes-then}
 

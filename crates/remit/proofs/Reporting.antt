@@ -24,8 +24,8 @@ use Rattle.remit.specs.Report.{IsReport, record_text, report_records, text_of, t
 use Rattle.remit.specs.Rows.{AreRead, Begin, WritesFiles, files_text}
 use Rattle.remit.specs.Writing.{WritesFront, WritesReport}
 use Rattle.remit.specs.declared.decisions.Decisions.{Decisions}
-use Rattle.remit.specs.declared.fault.WriteCause.TheVariants.{Device, OutOfMemory}
-use Rattle.remit.specs.declared.fault.WriteFault.{WriteFault}
+use Rattle.faults.specs.declared.write_fault.WriteCause.TheVariants.{Device, OutOfMemory}
+use Rattle.faults.specs.declared.write_fault.WriteFault.{WriteFault}
 use Rattle.remit.proofs.Filing.{all-written}
 use Rattle.remit.proofs.Holding.{writes-then}
 use Rattle.remit.proofs.Looking.{looked-right}

@@ -4,8 +4,8 @@ use Rattle.std.specs.Io.KnownBytes.{Appends}
 use Rattle.csv.specs.Records.{Row, fields_of, partial_of}
 use Rattle.csv.specs.Writing.{fields_written, has_written, writer_pending, writer_setup, writer_under}
 use Rattle.remit.specs.Report.{report_style}
-use Rattle.remit.specs.declared.fault.WriteCause.TheVariants.{Device, OutOfMemory}
-use Rattle.remit.specs.declared.fault.WriteFault.{WriteFault}
+use Rattle.faults.specs.declared.write_fault.WriteCause.TheVariants.{Device, OutOfMemory}
+use Rattle.faults.specs.declared.write_fault.WriteFault.{WriteFault}
 use Rattle.remit.specs.declared.record_writer.RecordWriter.{RecordWriter}
 
 -- the fields are put behind those of the record, where no field is begun

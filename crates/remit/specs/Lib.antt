@@ -6,6 +6,5 @@ pub mod Report
 pub mod Writing
 pub mod Held
 pub mod Looked
-pub mod FaultNumber
 pub mod Rows
 pub mod Parts

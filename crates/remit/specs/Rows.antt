@@ -8,7 +8,7 @@ use Rattle.intake_csv.specs.declared.rows.Row.{Row}
 use Rattle.remit.specs.Held.{At, Writes}
 use Rattle.remit.specs.Records.{Deciding, record_of, records_of}
 use Rattle.remit.specs.Report.{text_of}
-use Rattle.remit.specs.declared.fault.WriteFault.{WriteFault}
+use Rattle.faults.specs.declared.write_fault.WriteFault.{WriteFault}
 
 -- the text of a provider's rows
 abbrev pub rows_text : Deciding → ℕ → List Row → List ℕ

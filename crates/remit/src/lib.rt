@@ -9,7 +9,6 @@
 
 mod amount;
 mod decisions;
-mod fault;
 mod parts;
 mod record;
 mod record_writer;
@@ -17,5 +16,5 @@ mod report;
 mod sums;
 mod texts;
 
-pub use fault::{WriteCause, WriteFault};
+pub use faults::{WriteCause, WriteFault};
 pub use report::{write_journal, write_journal_by_threads, write_report, write_report_by_threads};

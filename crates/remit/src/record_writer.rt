@@ -6,8 +6,8 @@ ghost use Rattle.fixpoint.specs.Out.{has_failed, writer_of};
 ghost use Rattle.remit.specs.Held.{IsNoMemory, IsReady, Writes, at, gathered_of};
 ghost use Rattle.remit.specs.Report.{record_text, report_style};
 
-use crate::fault::{WriteCause, WriteFault};
 use csv::{ByteRecord, Terminator, Writer, WriterBuilder};
+use faults::{WriteCause, WriteFault};
 use fixpoint::{Out, put_all};
 use std::alloc::Global;
 use std::io::Write;

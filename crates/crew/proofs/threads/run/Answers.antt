@@ -2,7 +2,7 @@ use Rattle.std.proofs.Common.{List, refl}
 use Rattle.claim_terms.specs.Terms.{ForTerms, TermsParts}
 use Rattle.journal.specs.Lawful.{Finished}
 use Rattle.journal.specs.declared.event.Event.{Event}
-use Rattle.crew.specs.declared.fault.RunFault.TheVariants.{OutOfMemory}
+use Rattle.faults.specs.declared.run_fault.RunFault.TheVariants.{OutOfMemory}
 use Rattle.crew.proofs.Passes.{not_for_workers}
 use Rattle.crew.proofs.threads.run.Goals as goal
 

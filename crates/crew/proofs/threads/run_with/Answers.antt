@@ -1,4 +1,4 @@
-use Rattle.crew.specs.declared.fault.RunFault.TheVariants.{OutOfMemory}
+use Rattle.faults.specs.declared.run_fault.RunFault.TheVariants.{OutOfMemory}
 use Rattle.std.proofs.Common.{refl}
 use Rattle.journal.specs.Leading.{leads_itself}
 use Rattle.crew.proofs.Passes.{not_for_workers}

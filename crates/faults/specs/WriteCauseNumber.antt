@@ -1,7 +1,7 @@
 -- The numbers of what ends the writing of a report.
 use Rattle.std.specs.Prelude.{ℕ}
-use Rattle.remit.specs.declared.fault.WriteCause.{WriteCause}
-use Rattle.remit.specs.declared.fault.WriteCause.TheVariants.{Device, OutOfMemory}
+use Rattle.faults.specs.declared.write_fault.WriteCause.{WriteCause}
+use Rattle.faults.specs.declared.write_fault.WriteCause.TheVariants.{Device, OutOfMemory}
 
 abbrev pub number_of : WriteCause → ℕ
 number_of Device = 1

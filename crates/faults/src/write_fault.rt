@@ -1,6 +1,6 @@
 //! Why the writing of a report ends early.
 ghost use Rattle.std.specs.Prelude.{◌≡◌};
-ghost use Rattle.remit.specs.FaultNumber.{number_of};
+ghost use Rattle.faults.specs.WriteCauseNumber.{number_of};
 
 use thiserror::Error;
 

@@ -1,9 +1,9 @@
 -- The numbers of faults in a program's messages.
 use Rattle.std.specs.Prelude.{ℕ}
-use Rattle.intake_csv.specs.declared.fault.FileFault.{FileFault}
-use Rattle.intake_csv.specs.declared.fault.FileFault.TheVariants as file
-use Rattle.intake_csv.specs.declared.fault.RowCause.{RowCause}
-use Rattle.intake_csv.specs.declared.fault.RowCause.TheVariants as cause
+use Rattle.faults.specs.declared.file_fault.FileFault.{FileFault}
+use Rattle.faults.specs.declared.file_fault.FileFault.TheVariants as file
+use Rattle.faults.specs.declared.file_fault.RowCause.{RowCause}
+use Rattle.faults.specs.declared.file_fault.RowCause.TheVariants as cause
 
 -- the number of a file's fault
 abbrev pub file_number_of : FileFault → ℕ

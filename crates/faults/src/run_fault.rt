@@ -1,6 +1,6 @@
 //! Why a run ends without a finished journal.
 ghost use Rattle.std.specs.Prelude.{◌≡◌};
-ghost use Rattle.crew.specs.FaultNumber.{number_of};
+ghost use Rattle.faults.specs.RunFaultNumber.{number_of};
 
 use std::alloc::AllocError;
 use thiserror::Error;
@@ -42,7 +42,7 @@ impl RunFault {
 
 impl From<AllocError> for RunFault {
     ghost use Rattle.std.specs.Prelude.{◌≡◌};
-    ghost use Rattle.crew.specs.declared.fault.RunFault.TheVariants.{OutOfMemory};
+    ghost use Rattle.faults.specs.declared.run_fault.RunFault.TheVariants.{OutOfMemory};
 
     ghost from_gives = { λ _ fault. fault ≡ OutOfMemory };
 

@@ -1,6 +1,6 @@
 //! Why a file is refused, and why a record is.
 ghost use Rattle.std.specs.Prelude.{◌≡◌};
-ghost use Rattle.intake_csv.specs.FaultNumber.{file_number_of, cause_number_of};
+ghost use Rattle.faults.specs.FileFaultNumber.{file_number_of, cause_number_of};
 
 use std::alloc::AllocError;
 use thiserror::Error;
@@ -42,7 +42,7 @@ impl FileFault {
 
 impl From<AllocError> for FileFault {
     ghost use Rattle.std.specs.Prelude.{◌≡◌};
-    ghost use Rattle.intake_csv.specs.declared.fault.FileFault.TheVariants.{OutOfMemory};
+    ghost use Rattle.faults.specs.declared.file_fault.FileFault.TheVariants.{OutOfMemory};
 
     ghost from_gives = { λ _ fault. fault ≡ OutOfMemory };
 
@@ -128,7 +128,7 @@ pub enum BalanceFault {
 
 impl From<AllocError> for BalanceFault {
     ghost use Rattle.std.specs.Prelude.{◌≡◌};
-    ghost use Rattle.intake_csv.specs.declared.fault.BalanceFault.TheVariants.{OutOfMemory};
+    ghost use Rattle.faults.specs.declared.file_fault.BalanceFault.TheVariants.{OutOfMemory};
 
     ghost from_gives = { λ _ fault. fault ≡ OutOfMemory };
 

@@ -1,8 +1,8 @@
 //! Why texts make no terms.
 ghost use Rattle.std.specs.Prelude.{◌≡◌};
-ghost use Rattle.claim_terms.specs.Fault.{number_of};
+ghost use Rattle.faults.specs.TermsFaultNumber.{number_of};
 
-use intake_csv::{BalanceFault, FileFault};
+use crate::file_fault::{BalanceFault, FileFault};
 use std::alloc::AllocError;
 use thiserror::Error;
 
@@ -43,7 +43,7 @@ impl TermsFault {
 
 impl From<AllocError> for TermsFault {
     ghost use Rattle.std.specs.Prelude.{◌≡◌};
-    ghost use Rattle.claim_terms.specs.declared.fault.TermsFault.TheVariants.{OutOfMemory};
+    ghost use Rattle.faults.specs.declared.terms_fault.TermsFault.TheVariants.{OutOfMemory};
 
     ghost from_gives = { λ _ fault. fault ≡ OutOfMemory };
 
