@@ -5,7 +5,7 @@ use Rattle.dtable.specs.Plan.{PlanParts}
 use Rattle.dtable.specs.PlanFile.{IsPlanText}
 use Rattle.cutplan.specs.declared.region.Region.{Region}
 use Rattle.cutplan.specs.Numbered.{overlaps_of}
-use Rattle.harm.specs.Harm.{gap_harms, overlap_harms}
+use Rattle.cutplan.specs.Violations.{gap_harms, overlap_harms}
 use Rattle.adjudicate.specs.CheckText.{counts_line, gap_line, overlap_line, table_numbers, told_gaps, wide_lines}
 
 -- the gaps that are told of a table: all, or none where it has an answer in them

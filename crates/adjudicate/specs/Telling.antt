@@ -4,7 +4,7 @@ use Rattle.std.specs.List.{sum_by}
 use Rattle.dtable.specs.Plan.{PlanParts}
 use Rattle.cutplan.specs.declared.region.Region.{Region}
 use Rattle.cutplan.specs.Numbered.{overlaps_of}
-use Rattle.harm.specs.Harm.{gap_harms}
+use Rattle.cutplan.specs.Violations.{gap_harms}
 use Rattle.adjudicate.specs.declared.check.told.Telling.{Telling}
 use Rattle.adjudicate.specs.declared.check.told.Telling.TheVariants.{All, Harmful}
 use Rattle.adjudicate.specs.CheckText.{IsCheckText, counts_line, gap_line, overlap_line, table_numbers, told_gaps, wide_lines}

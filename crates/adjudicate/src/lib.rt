@@ -5,7 +5,7 @@
 //! tables. `run` is the command `run`: claims, and their remittance. `stop` names every refusal, with its line and its exit
 //! status: those of `valuation`, and those of a run.
 //!
-//! Plans and their evaluation come from `dtable`, their check from `cutplan`, what in it is harmful from `harm`, cells and
+//! Plans and their evaluation come from `dtable`, their check and its violations from `cutplan`, cells and
 //! values from `feel_tests`, numbers and the counting writer from `fixpoint`. A run goes from the texts to their terms
 //! (`claim_terms`), to a finished journal (`crew`) and to its report (`remit`).
 //!

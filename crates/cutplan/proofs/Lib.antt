@@ -40,3 +40,5 @@ pub mod Zoned
 pub mod Literals
 pub mod Zoning
 pub mod ZoneWise
+pub mod Clashing
+pub mod Harming

@@ -11,3 +11,5 @@ pub mod Kept
 pub mod Lent
 pub mod Zones
 pub mod ZoneWise
+pub mod Violations
+pub mod ViolationLaws

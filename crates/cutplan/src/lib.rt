@@ -10,6 +10,9 @@
 //! The columns that read a name cut its values, too: a plan's zones are the tuples of regions of its names, and inputs that lie in
 //! one zone have one value.
 //!
+//! A gap of a table that has no value where no rule matches is a fault of the plan, and so is an overlap of rules that the hit policy doesn't
+//! let match together: `specs/Violations.antt` says which these are, and `violations.rt` decides it.
+//!
 //! Begin with `specs/Regions.antt`, which says what the regions of a column are, and `specs/Check.antt`, which says what
 //! gaps and overlaps are; `specs/Masks.antt` and `specs/Found.antt` say what masks are, and what they tell, and
 //! `specs/Zones.antt` what zones are. Then read `cut_plan.rt`, whose calls carry the promises, and `law.rt`.
@@ -36,6 +39,8 @@ mod sets;
 mod sharing;
 mod stretch;
 mod table_check;
+mod violation_law;
+mod violations;
 mod zone;
 
 pub use cut_plan::{CutPlan, compile};
@@ -49,3 +54,5 @@ pub use law::{
 };
 pub use region::Region;
 pub use table_check::{TableCheck, check_table};
+pub use violation_law::harm_is_fault;
+pub use violations::{is_gap_harmful, is_overlap_harmful};

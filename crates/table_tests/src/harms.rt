@@ -1,7 +1,7 @@
 //! Worked values: tables of each kind of policy, with the gap and the overlap that their two rules leave.
 use crate::answers::plan_of;
 use crate::ending::expects;
-use harm::{is_gap_harmful, is_overlap_harmful};
+use cutplan::{is_gap_harmful, is_overlap_harmful};
 use std::alloc::Global;
 use std::process::Abort;
 

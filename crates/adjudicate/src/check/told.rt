@@ -2,15 +2,14 @@
 
 ghost use Rattle.std.specs.Prelude.{◌≡◌, ◌+◌, ◌++◌, ◌∷◌, IfOk, OnOk, filter, get_or, length, map, []};
 ghost use Rattle.cutplan.specs.Numbered.{IsTableNumber, overlaps_of};
-ghost use Rattle.harm.specs.Harm.{overlap_harms};
+ghost use Rattle.cutplan.specs.Violations.{overlap_harms};
 ghost use Rattle.adjudicate.specs.CheckText.{region_text};
 ghost use Rattle.adjudicate.specs.Telling.{overlaps_in, tells_gaps};
 ghost use Rattle.adjudicate.specs.Told.{IsTold, IsToldOf, column_text, column_texts, column_texts_if, marked_region, told_places};
 
-use cutplan::{Region, cell_count, check_table};
+use cutplan::{Region, cell_count, check_table, is_gap_harmful, is_overlap_harmful};
 use dtable::{Plan, Sequence};
 use feel_tests::{Literals, Value, append_joined};
-use harm::{is_gap_harmful, is_overlap_harmful};
 use std::alloc::{AllocError, Global};
 use std::marker::Model;
 

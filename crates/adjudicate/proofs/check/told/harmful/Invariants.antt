@@ -1,5 +1,5 @@
 use Rattle.std.proofs.Common.{◌≡◌, take, filter}
-use Rattle.harm.specs.Harm.{overlap_harms}
+use Rattle.cutplan.specs.Violations.{overlap_harms}
 use Rattle.adjudicate.proofs.check.told.harmful.Given as goal
 
 -- the harmful ones so far

@@ -1,5 +1,5 @@
 use Rattle.std.proofs.Common.{◌≡◌, ◌∙◌, IfOk, filter, subst, sym, ℕ}
-use Rattle.harm.specs.Harm.{overlap_harms}
+use Rattle.cutplan.specs.Violations.{overlap_harms}
 use Rattle.adjudicate.specs.Telling.{overlaps_in}
 use Rattle.adjudicate.proofs.check.told.told_overlaps.Goals as goal
 

@@ -1,5 +1,5 @@
 //! The law that ties harmful gaps and overlaps to what tables answer. The call does nothing.
-ghost use Rattle.harm.specs.Laws.{HarmIsFault};
+ghost use Rattle.cutplan.specs.ViolationLaws.{HarmIsFault};
 
 /// Where nothing is outside and no rule matches, a table answers by `norule` exactly where its gaps are harmful; where two
 /// rules match together whose overlap is harmful, it answers that rules clash, and only where two such rules match. A table

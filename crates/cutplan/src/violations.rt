@@ -2,7 +2,7 @@
 ghost use Rattle.std.specs.Prelude.{◌≡◌, ℕ, is_some};
 ghost use Rattle.std.specs.List.{list_all};
 ghost use Rattle.cutplan.specs.Numbered.{IsTableNumber};
-ghost use Rattle.harm.specs.Harm.{clash, gap_harms, overlap_harms, wants_rule};
+ghost use Rattle.cutplan.specs.Violations.{clash, gap_harms, overlap_harms, wants_rule};
 
 use dtable::{Hit, Output, Plan, Table, rules_agree};
 

@@ -8,7 +8,7 @@ use Rattle.dtable.specs.Environment.{number_behind, table_value}
 use Rattle.dtable.specs.Matching.{matching, first_outside}
 use Rattle.dtable.specs.Plan.{PlanParts}
 use Rattle.cutplan.specs.Laws.{MatchTogether}
-use Rattle.harm.specs.Harm.{gap_harms, overlap_harms}
+use Rattle.cutplan.specs.Violations.{gap_harms, overlap_harms}
 
 -- where no value is outside and no rule matches, the table's answer is the fault that no rule matches exactly where its gaps are harmful
 abbrev pub TellsGap : PlanParts → Table → List Slot → List (List Answer) → Type 0

@@ -22,8 +22,8 @@ use Rattle.dtable.specs.Plan.{PlanParts}
 use Rattle.dtable.specs.Priority.{entries_of, highest}
 use Rattle.cutplan.proofs.Alike.{Among}
 use Rattle.cutplan.proofs.Overlapping.{contained_among}
-use Rattle.harm.specs.Harm.{clash}
-use Rattle.harm.specs.Laws.{HarmfulPair, TellsClash}
+use Rattle.cutplan.specs.Violations.{clash}
+use Rattle.cutplan.specs.ViolationLaws.{HarmfulPair, TellsClash}
 
 -- what passes a test of a range is no less than the first of the range
 no_less : (q : ℕ → Bool) (a n s : ℕ) → Among s (filter q (range_with_len a n)) → a ≤ s

@@ -19,9 +19,9 @@ use Rattle.dtable.specs.Priority.{entries_of}
 use Rattle.cutplan.proofs.Alike.{Among}
 use Rattle.cutplan.proofs.ColumnWise.{among_contained}
 use Rattle.cutplan.proofs.CutLists.{equal_same, equal_from}
-use Rattle.harm.proofs.Clashing.{tells_clash}
-use Rattle.harm.specs.Harm.{clash, gap_harms, is_no_rule, overlap_harms, wants_rule}
-use Rattle.harm.specs.Laws.{TellsGap, TellsOverlap, HarmIsFault}
+use Rattle.cutplan.proofs.Clashing.{tells_clash}
+use Rattle.cutplan.specs.Violations.{clash, gap_harms, is_no_rule, overlap_harms, wants_rule}
+use Rattle.cutplan.specs.ViolationLaws.{TellsGap, TellsOverlap, HarmIsFault}
 
 -- no rule is the answer exactly where some output has no default
 abbrev Unmatched : ℕ → Table → Bool → Type 0

@@ -1,2 +1,0 @@
-pub mod Harm
-pub mod Laws
