@@ -1,7 +1,7 @@
 //! What a refusal means, told behind its line where that is wanted.
 
 use clap::ArgMatches;
-use explain::Page;
+use diagnostics::Page;
 use std::alloc::{AllocError, Global};
 use std::io;
 

@@ -3,8 +3,7 @@
 ghost use Rattle.std.specs.Prelude.{◌≤◌};
 
 use console::{DONE, REFUSED, RESOURCE, no_memory};
-use plan_places::{Unread, unread_keys};
-use shown::push_shown;
+use diagnostics::{Unread, push_shown, unread_keys};
 use std::alloc::{AllocError, Global};
 
 /// The status by whether the plan has a key that nothing reads. Each is told.

@@ -1,7 +1,8 @@
 //! Explanations of refusals by worked examples.
 use crate::ending::{expects, fail};
-use explain::{Page, explain_literal, explain_plan, explain_tables};
-use explain_files::{FileKind, explain_file, explain_record};
+use diagnostics::{
+    FileKind, Page, explain_file, explain_literal, explain_plan, explain_record, explain_tables,
+};
 use faults::{CellCause, CellFault, Fault, FileFault, PlanCause, PlanFault, RowCause, RowFault};
 use std::alloc::{AllocError, Global};
 use std::process::Abort;

@@ -1,6 +1,6 @@
 //! Where things stand in a plan's text.
 use crate::ending::{expects, fail};
-use plan_places::{
+use diagnostics::{
     Places, Position, Step, Unread, is_one_edit, places_of, position_of, unread_keys,
 };
 use std::process::Abort;

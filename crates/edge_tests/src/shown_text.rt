@@ -1,6 +1,6 @@
 //! A text of others as it is shown.
 use crate::ending::{expects, fail};
-use shown::push_shown;
+use diagnostics::push_shown;
 use std::alloc::{AllocError, Global};
 
 // A text as it is shown behind another.

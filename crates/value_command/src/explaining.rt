@@ -2,7 +2,7 @@
 
 use command_parts::{About, resource_page, tell_page};
 use console::names::{ASSIGNMENT, PLAN};
-use explain::{Page, argument_words, explain_literal, explain_plan, explain_tables};
+use diagnostics::{Page, argument_words, explain_literal, explain_plan, explain_tables};
 use std::alloc::{AllocError, Global};
 use valuation::{ArgumentFault, ValueStop};
 

@@ -1,0 +1,3 @@
+pub mod ShownTexts
+pub mod OneEdits
+pub mod Positions

@@ -1,0 +1,3 @@
+pub mod Shown
+pub mod Edits
+pub mod Position

@@ -1,0 +1,277 @@
+//! What is amiss at the place of a plan's fault, of the things that its cause may mean. Where the document tells no more, nothing is said.
+
+use crate::cell::Part;
+use crate::edits::is_one_edit;
+use crate::kind::kind_of;
+use crate::page::Page;
+use crate::places::Step;
+use crate::spot::{
+    Column, count_at, items_behind, role_name, tables, text_at, text_behind, value_at,
+};
+use faults::{CellFault, PlanCause, PlanFault};
+use std::alloc::AllocError;
+use toml::Value;
+
+/// Adds what is amiss, by what the document has at the fault's place; nothing where no more is known.
+pub fn add_amiss(
+    page: &mut Page,
+    document: &Value,
+    entry: Option<&Value>,
+    fault: &PlanFault,
+) -> Result<(), AllocError> {
+    match fault.cause {
+        PlanCause::Missing => add_missing_key(page, entry, wanted_keys(document, fault)),
+        PlanCause::Role => add_role(page, document, fault.column),
+        PlanCause::Kind if fault.rule > 0 && fault.column > 0 => page.line(&[
+            "cells and literals are strings: they stand in quotes, numbers too",
+        ]),
+        PlanCause::Kind if fault.rule > 0 => add_counts(page, document, entry, fault.table),
+        PlanCause::Kind => add_kind(page, entry),
+        PlanCause::Unknown => add_unknown(page, document, entry),
+        PlanCause::Cell(cell) => {
+            let column = Column::of(document, fault.table, fault.column);
+            add_cell_advice(page, document, entry, &column, cell)
+        }
+        _ => Ok(()),
+    }
+}
+
+// The keys that must be there where a fault says that one is missing.
+fn wanted_keys(document: &Value, fault: &PlanFault) -> &'static [&'static str] {
+    let steps = [
+        Step::Key("tables"),
+        Step::Item(fault.table.saturating_sub(1)),
+    ];
+    if fault.rule > 0 {
+        &["when", "then"]
+    } else if fault.column == 0 && fault.table == 0 {
+        &["version"]
+    } else if fault.column == 0 {
+        &["inputs", "outputs", "rules"]
+    } else if fault.table > 0 && fault.column <= count_at(document, &steps, "inputs") {
+        &["name"]
+    } else {
+        &["name", "kind"]
+    }
+}
+
+// The first of these keys that an entry lacks, and a key of it that is one edit away.
+fn add_missing_key(
+    page: &mut Page,
+    entry: Option<&Value>,
+    wanted: &[&'static str],
+) -> Result<(), AllocError> {
+    for key in wanted {
+        if !has_key(entry, key) {
+            return match near_key(entry, key) {
+                Some(near) => page.told(format_args!("`{key}` isn't there, but `{near}` is")),
+                None => page.told(format_args!("`{key}` isn't there")),
+            };
+        }
+    }
+    Ok(())
+}
+
+fn has_key(entry: Option<&Value>, key: &str) -> bool {
+    match entry {
+        Some(entry) => entry.get(key).is_some(),
+        None => false,
+    }
+}
+
+// A key of an entry that is one edit away from another.
+fn near_key<'d>(entry: Option<&'d Value>, wanted: &str) -> Option<&'d str> {
+    for (key, _) in entry?.as_table()? {
+        if is_one_edit(key.as_str().as_bytes(), wanted.as_bytes()) {
+            return Some(key.as_str());
+        }
+    }
+    None
+}
+
+// What a role has in place of a literal or a name.
+fn add_role(page: &mut Page, document: &Value, number: usize) -> Result<(), AllocError> {
+    let name = role_name(number);
+    let Some(value) = value_at(document, &[Step::Key("roles"), Step::Key(name)]) else {
+        return add_missing_key(page, value_at(document, &[Step::Key("roles")]), &[name]);
+    };
+    match value.as_str() {
+        Some(word) => add_word_of_role(page, document, number, word),
+        None => page.told(format_args!(
+            "`{name}` is no string: a literal stands in quotes too, as \"50\""
+        )),
+    }
+}
+
+// What a word is not that stands in a role.
+fn add_word_of_role(
+    page: &mut Page,
+    document: &Value,
+    number: usize,
+    word: &str,
+) -> Result<(), AllocError> {
+    match number {
+        1 => add_single_values(page, document, word, "flag"),
+        7 => page.told(format_args!("`{word}` is no text output of a table with `R`, `O` or `C`")),
+        _ => add_single_values(page, document, word, "number"),
+    }
+}
+
+// That a word is none of the plan's single values of a kind, and which there are.
+fn add_single_values(
+    page: &mut Page,
+    document: &Value,
+    word: &str,
+    kind: &str,
+) -> Result<(), AllocError> {
+    page.begin_line()?;
+    page.push(format_args!("`{word}` is no {kind}, nor the name of one; the plan's own are:"))?;
+    push_single_values(page, document, kind)?;
+    page.end_line()
+}
+
+// The names of the plan's single values of this kind, or that there is none.
+fn push_single_values(page: &mut Page, document: &Value, kind: &str) -> Result<(), AllocError> {
+    let mut count = push_names(page, 0, items_behind(Some(document), "fields"), kind)?;
+    for table in tables(document) {
+        if has_single_values(table) {
+            count = push_names(page, count, items_behind(Some(table), "outputs"), kind)?;
+        }
+    }
+    if count == 0 {
+        page.push(" none")?;
+    }
+    Ok(())
+}
+
+// Whether the outputs of a table are single values, and no lists.
+fn has_single_values(table: &Value) -> bool {
+    !matches!(text_behind(Some(table), "hit"), Some("R" | "O" | "C"))
+}
+
+// The names of the entries of this kind, behind so many others. Returns how many there are by then.
+fn push_names(
+    page: &mut Page,
+    before: usize,
+    entries: &[Value],
+    kind: &str,
+) -> Result<usize, AllocError> {
+    let mut count = before;
+    for entry in entries {
+        if text_at(entry, &[], "kind") == kind {
+            push_name(page, count, text_at(entry, &[], "name"))?;
+            count = count.saturating_add(1);
+        }
+    }
+    Ok(count)
+}
+
+fn push_name(page: &mut Page, before: usize, name: &str) -> Result<(), AllocError> {
+    page.push(if before == 0 { " " } else { ", " })?;
+    page.push(name)
+}
+
+// That a rule has another number of cells or literals than its table has columns.
+fn add_counts(
+    page: &mut Page,
+    document: &Value,
+    rule: Option<&Value>,
+    table: usize,
+) -> Result<(), AllocError> {
+    let columns = [Step::Key("tables"), Step::Item(table.saturating_sub(1))];
+    let cells = items_behind(rule, "when").len();
+    let inputs = count_at(document, &columns, "inputs");
+    if cells != inputs {
+        return page.told(format_args!("`when` has {cells}, and the table has {inputs} inputs"));
+    }
+    let literals = items_behind(rule, "then").len();
+    let outputs = count_at(document, &columns, "outputs");
+    if literals != outputs {
+        return page.told(format_args!(
+            "`then` has {literals}, and the table has {outputs} outputs"
+        ));
+    }
+    Ok(())
+}
+
+// That a kind is none.
+fn add_kind(page: &mut Page, entry: Option<&Value>) -> Result<(), AllocError> {
+    match text_behind(entry, "kind") {
+        None | Some("number" | "text" | "flag" | "day") => Ok(()),
+        Some(word) => page.told(format_args!(
+            "`{word}` is none of `number`, `text`, `flag` and `day`"
+        )),
+    }
+}
+
+// That nothing has the name that an input reads, and a name that is one edit away.
+fn add_unknown(page: &mut Page, document: &Value, entry: Option<&Value>) -> Result<(), AllocError> {
+    let Some(name) = text_behind(entry, "name") else {
+        return Ok(());
+    };
+    match near_value(document, name) {
+        Some(near) => page.told(format_args!(
+            "nothing before is called `{name}`; near it is `{near}`"
+        )),
+        None => add_unlike(page, document, name),
+    }
+}
+
+// The same where no name is near: a key that is near `fields`, where that isn't there.
+fn add_unlike(page: &mut Page, document: &Value, name: &str) -> Result<(), AllocError> {
+    match near_key(Some(document), "fields") {
+        Some(near) if document.get("fields").is_none() => page.told(format_args!(
+            "nothing before is called `{name}`; `fields` isn't there, but `{near}` is"
+        )),
+        _ => page.told(format_args!("nothing before is called `{name}`")),
+    }
+}
+
+// The name of a field or an output that is one edit away from another: the first such one.
+fn near_value<'d>(document: &'d Value, name: &str) -> Option<&'d str> {
+    if let Some(near) = near_name(items_behind(Some(document), "fields"), name) {
+        return Some(near);
+    }
+    for table in tables(document) {
+        if let Some(near) = near_name(items_behind(Some(table), "outputs"), name) {
+            return Some(near);
+        }
+    }
+    None
+}
+
+fn near_name<'d>(entries: &'d [Value], name: &str) -> Option<&'d str> {
+    for entry in entries {
+        let near = text_at(entry, &[], "name");
+        if is_one_edit(near.as_bytes(), name.as_bytes()) {
+            return Some(near);
+        }
+    }
+    None
+}
+
+// What is right in place of a cell or literal of this column, if that is known.
+fn add_cell_advice(
+    page: &mut Page,
+    document: &Value,
+    entry: Option<&Value>,
+    column: &Column<'_>,
+    fault: CellFault,
+) -> Result<(), AllocError> {
+    let Some(text) = entry.and_then(Value::as_str) else {
+        return Ok(());
+    };
+    let Some(kind) = kind_of(document, column) else {
+        return Ok(());
+    };
+    let part = Part {
+        text: text.as_bytes(),
+        kind,
+        is_literal: !column.is_input,
+        at: fault.at,
+    };
+    match part.advice(fault.cause) {
+        Some(advice) => page.line(&[advice.words()]),
+        None => Ok(()),
+    }
+}

@@ -1,0 +1,78 @@
+//! Lines and columns.
+
+ghost use Rattle.std.specs.Prelude.{take};
+ghost use Rattle.diagnostics.specs.Position.{IsBehind};
+
+/// A place in a text: lines and columns count from 1, columns in characters.
+#[derive(Clone, Copy, PartialEq, Eq)]
+pub struct Position {
+    pub line: usize,
+    pub column: usize,
+}
+
+/// The place of the byte at this offset; behind a shorter text, where it ends.
+pub fn position_of(text: &[u8], at: usize) -> Position
+    ensures { IsBehind (take at text.now) result }
+{
+    position_behind(&text[..at.min(text.len())])
+}
+
+// The place right behind a text.
+fn position_behind(text: &[u8]) -> Position
+    ensures { IsBehind text.now result }
+{
+    let mut line = 1;
+    let mut column = 1;
+    for byte in text {
+        if *byte == b'\n' {
+            line += 1;
+            column = 1;
+        } else if *byte & 0xC0 != 0x80 {
+            column += 1;
+        }
+    }
+    Position { line, column }
+}
+
+/// The places of bytes of a text that are asked for in rising order: each byte of it is looked at once.
+#[derive(Drop)]
+pub(crate) struct Positions<'t> {
+    rest: &'t [u8],
+    /// The offset of the rest, and its place.
+    at: usize,
+    known: Position,
+}
+
+impl<'t> Positions<'t> {
+    pub fn new(text: &'t [u8]) -> Positions<'t> {
+        Positions {
+            rest: text,
+            at: 0,
+            known: Position { line: 1, column: 1 },
+        }
+    }
+
+    // The place of the byte at this offset, which is not before the last one.
+    pub fn next(&mut self, at: usize) -> Position {
+        let between = at.saturating_sub(self.at).min(self.rest.len());
+        self.known = self.known.and_then(position_of(self.rest, between));
+        self.rest = &self.rest[between..];
+        self.at = at;
+        self.known
+    }
+}
+
+impl Position {
+    // The place behind this one that has the other place in the text that begins here.
+    fn and_then(self, further: Position) -> Position {
+        let column = if further.line == 1 {
+            self.column.saturating_add(further.column).saturating_sub(1)
+        } else {
+            further.column
+        };
+        Position {
+            line: self.line.saturating_add(further.line).saturating_sub(1),
+            column,
+        }
+    }
+}

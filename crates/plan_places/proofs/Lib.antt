@@ -1,2 +1,0 @@
-pub mod OneEdits
-pub mod Positions

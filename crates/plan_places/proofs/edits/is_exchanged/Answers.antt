@@ -1,6 +1,0 @@
-use Rattle.std.proofs.Common.{arith}
-use Rattle.std.proofs.lemmas.Grind.{common_steps}
-use Rattle.plan_places.proofs.edits.is_exchanged.Goals as goal
-
-pub returns-then-one-other-2 : goal.returns-then-one-other-2
-returns-then-one-other-2 c = grind (arith, common_steps)
