@@ -2,16 +2,15 @@
 
 ghost use Rattle.std.specs.Prelude.{◌≡◌, ◌≢◌, ◌≤◌, ◌⊎◌, IfErr, IsOk, MatchResult, OnErr};
 ghost use Rattle.std.specs.Io.KnownBytes.{Keeps};
-ghost use Rattle.whole_file.specs.Place.{Becomes};
+ghost use Rattle.console.specs.Place.{Becomes};
 
 use crate::explaining::{About, explain_unreadable};
 use crate::telling::tell;
 use console::names::{OUTPUT, STREAM};
-use console::{DONE, RESOURCE, no_memory, told};
+use console::{DONE, FilePlace, Place, RESOURCE, finish, no_memory, told};
 use faults::Refusal;
 use std::io;
 use std::rt::Files;
-use whole_file::{FilePlace, Place, finish};
 
 /// The line that tells that the results can't be put into the file.
 const CANNOT_WRITE: &str = "cannot write output";

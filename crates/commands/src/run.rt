@@ -19,7 +19,9 @@ use adjudicate::{FILE_LIMIT_BYTES, RunInput, do_run};
 use clap::ArgMatches;
 use command_parts::{About, ended, output_of, placed, read_or_tell, unwritable};
 use console::names::{BALANCES, FILE, SUMMARY};
-use console::{DONE, Pulse, REFUSED, RESOURCE, Sources, USAGE, explains, input_once, no_memory};
+use console::{
+    DONE, Place, Pulse, REFUSED, RESOURCE, Sources, USAGE, explains, input_once, no_memory,
+};
 use fixpoint::Out;
 use std::alloc::{AllocError, Global};
 use std::io;
@@ -29,7 +31,6 @@ use std::thread::Threads;
 use std::time::Clock;
 use summary::{Stream, Tallied};
 use value_command::plan_of;
-use whole_file::Place;
 
 /// The texts of a run, in the order in which they are read.
 struct Texts {

@@ -1,4 +1,4 @@
-//! Tests by worked examples of what stands around the commands: `diagnostics`, `shown`, `explain`, `diagnostics`, `console`, `whole_file` and
+//! Tests by worked examples of what stands around the commands: `diagnostics`, `shown`, `explain`, `diagnostics`, `console` and
 //! `summary`. They stand apart from these, since the tests of a crate are proved together with all of its code.
 #![tactic(auto)]
 

@@ -1,10 +1,10 @@
 //! A text that takes the place of another, over a place in memory.
 use crate::ending::{expects, fail};
+use console::{Place, finish};
 use std::alloc::Global;
 use std::io;
 use std::io::Write;
 use std::process::Abort;
-use whole_file::{Place, finish};
 
 // A place in memory.
 #[derive(Drop)]

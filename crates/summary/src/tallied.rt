@@ -3,10 +3,10 @@
 ghost use Rattle.std.specs.Prelude.{◌≡◌};
 
 use crate::tally::Tally;
+use console::Place;
 use std::alloc::Global;
 use std::io;
 use std::io::{Printer, Write};
-use whole_file::Place;
 
 /// A place whose next text is tallied.
 #[derive(Drop)]

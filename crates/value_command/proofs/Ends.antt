@@ -5,7 +5,7 @@ use Rattle.std.proofs.lemmas.Option.{same_Some}
 use Rattle.std.specs.Io.KnownBytes.{Keeps}
 use Rattle.valuation.specs.Stop.{WritesText}
 use Rattle.value_command.specs.Ends.{HasText, IsStatusOf, PutsText}
-use Rattle.whole_file.specs.Place.{BeginsEmpty, Becomes}
+use Rattle.console.specs.Place.{BeginsEmpty, Becomes}
 
 -- what is done has written a text
 pub ends_done : {E : Type 0} (IsText : List ℕ → Type 0) (old new : Option (List ℕ)) (answer : Result (Unit {0}) E) (status : ℕ) → OnOk answer (WritesText IsText old new)

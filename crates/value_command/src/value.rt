@@ -13,12 +13,11 @@ use crate::files::plan_of;
 use clap::ArgMatches;
 use command_parts::{About, ended, output_of, placed, unwritable};
 use console::names::ASSIGNMENT;
-use console::{DONE, REFUSED, RESOURCE, Sources};
+use console::{DONE, Place, REFUSED, RESOURCE, Sources};
 use fixpoint::Out;
 use std::io;
 use std::rt::Files;
 use valuation::do_value;
-use whole_file::Place;
 
 /// The command `value`.
 pub fn value_of<R: Files + Print + Eprint + AllocGlobal, S: Sources>(

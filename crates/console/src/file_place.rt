@@ -1,6 +1,6 @@
 //! A place over the system's files: a path.
 
-use crate::place::Place;
+use crate::atomic_file::Place;
 use std::fs::{OpenFile, OpenOptions, Permissions};
 use std::os::unix::fs::OpenOptionsExt;
 use std::path::PathBuf;

@@ -2,7 +2,7 @@
 
 ghost use Rattle.std.specs.Prelude.{◌≡◌, List, ℕ, Option, None, true, false, IfOk, OnOk, OnErr};
 ghost use Rattle.std.specs.Io.KnownBytes.{Keeps};
-ghost use Rattle.whole_file.specs.Place.{Becomes, BeginsEmpty};
+ghost use Rattle.console.specs.Place.{Becomes, BeginsEmpty};
 
 use std::io;
 use std::io::Write;
