@@ -12,12 +12,11 @@ use crate::strict::unread;
 use crate::words::{is_strict, telling_of};
 use adjudicate::{Telling, do_telling_check};
 use clap::ArgMatches;
-use command_parts::{About, ended, output_of, placed, unwritable};
 use console::{DONE, Place, REFUSED, RESOURCE, Sources};
 use fixpoint::Out;
 use std::io;
 use std::rt::Files;
-use value_command::plan_of;
+use value_command::{About, ended, output_of, placed, plan_of, unwritable};
 
 /// The command `check`.
 pub fn check_of<R: Files + Print + Eprint + AllocGlobal, S: Sources>(

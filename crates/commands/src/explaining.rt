@@ -2,12 +2,11 @@
 
 use adjudicate::Stop;
 use claim_terms::TermsFault;
-use command_parts::{About, resource_page, tell_page};
 use console::names::{BALANCES, FILE};
 use diagnostics::{FileKind, Page, Words, explain_file, explain_record, terms_words};
 use intake_csv::BalanceFault;
 use std::alloc::{AllocError, Global};
-use value_command::value_page;
+use value_command::{About, resource_page, tell_page, value_page};
 
 /// What a command over a plan and files is about, as its refusals are told.
 #[derive(Clone, Copy)]

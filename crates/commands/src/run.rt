@@ -17,7 +17,6 @@ use crate::strict::unread;
 use crate::words::{cutoff_of, is_strict, workers_of};
 use adjudicate::{FILE_LIMIT_BYTES, RunInput, do_run};
 use clap::ArgMatches;
-use command_parts::{About, ended, output_of, placed, read_or_tell, unwritable};
 use console::names::{BALANCES, FILE, SUMMARY};
 use console::{
     DONE, Place, Pulse, REFUSED, RESOURCE, Sources, USAGE, explains, input_once, no_memory,
@@ -30,7 +29,7 @@ use std::sync::Wait;
 use std::thread::Threads;
 use std::time::Clock;
 use summary::{Stream, Tallied};
-use value_command::plan_of;
+use value_command::{About, ended, output_of, placed, plan_of, read_or_tell, unwritable};
 
 /// The texts of a run, in the order in which they are read.
 struct Texts {

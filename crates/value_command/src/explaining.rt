@@ -1,6 +1,6 @@
 //! What a refusal of `value` means, told behind its line where that is wanted.
 
-use command_parts::{About, resource_page, tell_page};
+use crate::explanation::{About, resource_page, tell_page};
 use console::names::{ASSIGNMENT, PLAN};
 use diagnostics::{Page, argument_words, explain_literal, explain_plan, explain_tables};
 use std::alloc::{AllocError, Global};

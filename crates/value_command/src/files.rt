@@ -3,8 +3,8 @@
 ghost use Rattle.std.specs.Prelude.{◌≤◌, IfErr, IfOk};
 ghost use Rattle.value_command.specs.Texts.{IsNamedPlan};
 
+use crate::source_text::read_or_tell;
 use clap::ArgMatches;
-use command_parts::read_or_tell;
 use console::names::PLAN;
 use console::{RESOURCE, Sources, USAGE};
 use dtable::PLAN_LIMIT_BYTES;

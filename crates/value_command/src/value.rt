@@ -9,9 +9,11 @@ ghost use Rattle.value_command.specs.Ends.{HasText, IsStatusOfRefusal, PutsText,
 ghost use Rattle.value_command.specs.Words.{words_at};
 
 use crate::explaining::explain_refusal;
+use crate::explanation::About;
 use crate::files::plan_of;
+use crate::output::{output_of, placed, unwritable};
+use crate::telling::ended;
 use clap::ArgMatches;
-use command_parts::{About, ended, output_of, placed, unwritable};
 use console::names::ASSIGNMENT;
 use console::{DONE, Place, REFUSED, RESOURCE, Sources};
 use fixpoint::Out;

@@ -4,7 +4,7 @@ ghost use Rattle.std.specs.Prelude.{◌≡◌, ◌≢◌, ◌≤◌, ◌⊎◌, 
 ghost use Rattle.std.specs.Io.KnownBytes.{Keeps};
 ghost use Rattle.console.specs.Place.{Becomes};
 
-use crate::explaining::{About, explain_unreadable};
+use crate::explanation::{About, explain_unreadable};
 use crate::telling::tell;
 use console::names::{OUTPUT, STREAM};
 use console::{DONE, FilePlace, Place, RESOURCE, finish, no_memory, told};

@@ -3,7 +3,7 @@
 ghost use Rattle.std.specs.Prelude.{◌≡◌, IfErr, IfOk};
 ghost use Rattle.console.specs.Reading.{IsReadUpTo};
 
-use crate::explaining::explain_unreadable;
+use crate::explanation::explain_unreadable;
 use console::{RESOURCE, ReadFault, Sources, no_memory, read_text, told};
 
 /// The bytes of the text with this name; where it can't be read, the line is told, and its status answered.

@@ -1,5 +1,5 @@
 use Rattle.std.proofs.Common.{rules}
-use Rattle.command_parts.proofs.telling.tell.Goals as goal
+use Rattle.value_command.proofs.telling.tell.Goals as goal
 
 pub returns-clause-status : goal.returns-clause-status
 returns-clause-status g c = search rules

@@ -1,5 +1,5 @@
 use Rattle.std.proofs.Common.{arith, inl, inr, refl}
-use Rattle.command_parts.proofs.output.placed.Goals as goal
+use Rattle.value_command.proofs.output.placed.Goals as goal
 
 pub returns-in-Ok-finish-clause-status : goal.returns-in-Ok-finish-clause-status
 returns-in-Ok-finish-clause-status g c = rw c.in-Ok.is (inl refl)
