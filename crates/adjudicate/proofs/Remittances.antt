@@ -14,8 +14,8 @@ use Rattle.intake_csv.specs.Rows.{AreRowsOf, claims_among}
 use Rattle.intake_csv.specs.declared.rows.Row.{Row}
 use Rattle.journal.specs.declared.event.Event.{Event}
 use Rattle.journal.specs.Terms.{Terms}
-use Rattle.claim_terms.specs.Fault.{HasTermsFault}
-use Rattle.claim_terms.specs.Terms.{AreClaimsOf, ForTerms, IsFinishedOver, IsTermsOf, TermsParts}
+use Rattle.claim_gate.specs.TermsFault.{HasTermsFault}
+use Rattle.claim_gate.specs.Terms.{AreClaimsOf, ForTerms, IsFinishedOver, IsTermsOf, TermsParts}
 use Rattle.faults.specs.declared.terms_fault.TermsFault.{TermsFault}
 use Rattle.faults.specs.declared.terms_fault.TermsFault.TheVariants as terms
 use Rattle.crew.specs.Workers.{IsWorkerCount}

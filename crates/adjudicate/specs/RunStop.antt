@@ -3,8 +3,8 @@ use Rattle.std.specs.Prelude.{◌≡◌, ◌≢◌, ◌⊎◌, ◌↔◌, ℕ, L
 use Rattle.std.specs.Io.KnownBytes.{Keeps}
 use Rattle.dtable.specs.Plan.{PlanParts}
 use Rattle.dtable.specs.PlanFile.{IsPlanText}
-use Rattle.claim_terms.specs.Fault.{HasTermsFault}
-use Rattle.claim_terms.specs.Terms.{TermsParts}
+use Rattle.claim_gate.specs.TermsFault.{HasTermsFault}
+use Rattle.claim_gate.specs.Terms.{TermsParts}
 use Rattle.faults.specs.declared.terms_fault.TermsFault.{TermsFault}
 use Rattle.faults.specs.declared.terms_fault.TermsFault.TheVariants as terms
 use Rattle.faults.specs.declared.run_fault.RunFault.{RunFault}

@@ -6,7 +6,7 @@ use Rattle.dtable.specs.PlanFile.{IsPlanText}
 use Rattle.journal.specs.declared.event.Event.{Event}
 use Rattle.journal.specs.Lawful.{Finished}
 use Rattle.journal.specs.Terms.{Terms}
-use Rattle.claim_terms.specs.Terms.{AreTermsOf, IsFinishedOver, IsTermsOf, TermsParts, text_in, texts_of}
+use Rattle.claim_gate.specs.Terms.{AreTermsOf, IsFinishedOver, IsTermsOf, TermsParts, text_in, texts_of}
 use Rattle.remit.specs.Report.{IsReport}
 use Rattle.adjudicate.specs.declared.run.RunInput.{RunInput}
 

@@ -7,7 +7,7 @@
 //!
 //! Plans and their evaluation come from `dtable`, their check and its violations from `cutplan`, cells and
 //! values from `feel_tests`, numbers and the counting writer from `fixpoint`. A run goes from the texts to their terms
-//! (`claim_terms`), to a finished journal (`crew`) and to its report (`remit`).
+//! (`claim_gate`), to a finished journal (`crew`) and to its report (`remit`).
 //!
 //! Begin with `value.rt`, `check.rt` and `run.rt`, whose `do_value`, `do_check`, `do_harmful_check` and `do_run` carry the
 //! promises of the commands, and with `specs/CheckText.antt`, `specs/HarmfulText.antt`, `specs/RunText.antt`, and

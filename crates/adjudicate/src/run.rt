@@ -10,7 +10,7 @@ ghost use Rattle.adjudicate.specs.RunStop.{IsRunReason, StopsRemittance, WritesR
 ghost use Rattle.adjudicate.specs.Stop.{failed_after};
 
 use crate::stop::Stop;
-use claim_terms::{Terms, terms_are_seen};
+use claim_gate::{Terms, terms_are_seen};
 use dtable::{Plan, read_plan};
 use fixpoint::Out;
 use remit::write_report_by_threads;

@@ -5,7 +5,7 @@ ghost use Rattle.adjudicate.specs.Stop.{status_of, stop_line};
 
 mod line;
 
-use claim_terms::TermsFault;
+use claim_gate::TermsFault;
 use crew::RunFault;
 use dtable::PlanFault;
 use line::{put_run_fault, put_terms_fault};

@@ -2,7 +2,7 @@
 
 ghost use Rattle.std.specs.Prelude.{◌≡◌, IfErr, OnOk};
 ghost use Rattle.fixpoint.specs.Out.{writer_of, has_failed};
-ghost use Rattle.claim_terms.specs.Terms.{texts_of};
+ghost use Rattle.claim_gate.specs.Terms.{texts_of};
 ghost use Rattle.valuation.specs.Stop.{WritesText};
 ghost use Rattle.valuation.specs.ValueText.{IsValueText};
 ghost use Rattle.adjudicate.specs.Stop.{WritesUntil, IsReason, failed_after};

@@ -1,3 +1,5 @@
+pub mod Files
+pub mod SomeTerms
 pub mod Tallies
 pub mod Journals
 pub mod Providers

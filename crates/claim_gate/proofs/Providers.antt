@@ -5,7 +5,7 @@ use Rattle.std.proofs.lemmas.Bool.{both_ways, cases_eq, cases_lt, cond-true, con
 use Rattle.std.proofs.lemmas.List.{length_push, get_or_past, get_or-set_same, get_or-set_other, take_all}
 use Rattle.std.proofs.lemmas.List.Folds.{list_all_more}
 use Rattle.std.proofs.lemmas.List.Sums.{sum_by-cons, sum_by_push, sum_by-set}
-use Rattle.claim_terms.specs.Terms.{TermsParts, AreClaimsOf, IsTermsOf}
+use Rattle.claim_gate.specs.Terms.{TermsParts, AreClaimsOf, IsTermsOf}
 use Rattle.journal.specs.Terms.{Terms, IsProvider}
 use Rattle.journal.specs.Events.{accepted, place_in, places, is_end, ended, reached, all_ended, due}
 use Rattle.journal.specs.Gate.{is_any_end}

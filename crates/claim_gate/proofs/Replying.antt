@@ -13,7 +13,7 @@ use Rattle.settlement.specs.declared.acc.Acc.{Acc}
 use Rattle.settlement.specs.declared.claim.Claim.{Claim}
 use Rattle.settlement.specs.declared.outcome.Outcome.{Outcome}
 use Rattle.dtable.specs.Plan.{PlanParts}
-use Rattle.claim_terms.specs.Terms.{TermsParts, AreTerms, texts_of, ForTerms}
+use Rattle.claim_gate.specs.Terms.{TermsParts, AreTerms, texts_of, ForTerms}
 use Rattle.lanes.specs.Places.{Place, is_decided, started, InTurn}
 use Rattle.lanes.specs.declared.phase.Phase.TheVariants.{InWork}
 use Rattle.lanes.specs.declared.picked.Picked.{Picked}

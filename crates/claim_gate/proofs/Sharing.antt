@@ -1,6 +1,6 @@
 -- Calls of a gate behind a lock, by those of the gate of one thread.
 use Rattle.std.proofs.Common.{◌≡◌, ◌+◌, ◌∙◌, ℕ, refl, sym, ap, inl, inr, subst}
-use Rattle.claim_terms.specs.Terms.{ForTerms, IsTermsOf, TermsParts}
+use Rattle.claim_gate.specs.Terms.{ForTerms, IsTermsOf, TermsParts}
 use Rattle.settlement.specs.declared.acc.Acc.{Acc}
 use Rattle.settlement.specs.declared.claim.Claim.{Claim}
 use Rattle.journal.specs.Terms.{Terms}

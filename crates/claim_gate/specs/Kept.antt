@@ -2,7 +2,7 @@
 use Rattle.std.specs.Prelude.{◌≡◌, ◌<◌, ℕ, suc, ◌||◌, Bool, true, false, List, length, count_by, get_or, slice_get, Some}
 use Rattle.std.specs.List.{list_all}
 use Rattle.std.specs.Option.{option_map_or}
-use Rattle.claim_terms.specs.Terms.{TermsParts, ForTerms}
+use Rattle.claim_gate.specs.Terms.{TermsParts, ForTerms}
 use Rattle.settlement.specs.Accounts.{account_of}
 use Rattle.settlement.specs.declared.acc.Acc.{Acc}
 use Rattle.settlement.specs.declared.claim.Claim.{Claim}

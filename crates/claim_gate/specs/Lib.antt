@@ -1,3 +1,5 @@
+pub mod Terms
+pub mod TermsFault
 pub mod Intakes
 pub mod Parts
 pub mod Kept

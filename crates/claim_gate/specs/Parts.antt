@@ -1,6 +1,6 @@
 -- What contracts see of a gate and of a finished run, and how journals see a gate.
 use Rattle.std.specs.Prelude.{List}
-use Rattle.claim_terms.specs.Terms.{TermsParts}
+use Rattle.claim_gate.specs.Terms.{TermsParts}
 use Rattle.journal.specs.Terms.{Terms}
 use Rattle.journal.specs.Gate.{GateAt, GateOver}
 use Rattle.journal.specs.declared.event.Event.{Event}

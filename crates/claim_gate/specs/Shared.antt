@@ -4,7 +4,7 @@ use Rattle.journal.specs.Gate.{GateAt, LeadsTo}
 use Rattle.journal.specs.Events.{closed, ended}
 use Rattle.journal.specs.Lawful.{Lawful}
 use Rattle.journal.specs.Order.{IsInOrder}
-use Rattle.claim_terms.specs.Terms.{ForTerms}
+use Rattle.claim_gate.specs.Terms.{ForTerms}
 use Rattle.claim_gate.specs.Parts.{GateParts, at}
 
 -- its journal is lawful

@@ -1,10 +1,10 @@
 //! Finished runs.
 ghost use Rattle.std.specs.Prelude.{◌≡◌, IfOk, IfErr};
 ghost use Rattle.journal.specs.Lawful.{Finished};
-ghost use Rattle.claim_terms.specs.Terms.{ForTerms};
+ghost use Rattle.claim_gate.specs.Terms.{ForTerms};
 
 use crate::state::GateState;
-use claim_terms::Terms;
+use crate::terms::Terms;
 use journal::Event;
 use std::marker::Model;
 
@@ -16,7 +16,7 @@ pub struct Batch<'t> {
 }
 
 impl<'t> Model for Batch<'t> {
-    ghost use Rattle.claim_terms.specs.Terms.{ForTerms};
+    ghost use Rattle.claim_gate.specs.Terms.{ForTerms};
     ghost use Rattle.claim_gate.specs.Parts.{BatchParts};
     ghost use Rattle.journal.specs.Lawful.{Finished};
 

@@ -20,7 +20,7 @@ pub trait Gate {
     ghost use Rattle.journal.specs.Events.{taken, IsJob};
     ghost use Rattle.journal.specs.Gate.{Offers, Ends, Takes, Finishes, Stops, Counts as AreCounts};
     ghost use Rattle.journal.specs.Settled.{outcome_of};
-    ghost use Rattle.claim_terms.specs.Terms.{ForTerms};
+    ghost use Rattle.claim_gate.specs.Terms.{ForTerms};
     ghost use Rattle.claim_gate.specs.Parts.{at};
     ghost use Rattle.claim_gate.specs.Replies.{offer_reply, end_reply, take_reply, finish_reply, IsFiled, HasClaims, IsWorkOf};
     ghost use Rattle.claim_gate.specs.Shared.{InTurn, Known, IsServed, IsWornOut, Went};

@@ -31,7 +31,7 @@ pub trait SerialGate: Growing {
     ghost use Rattle.journal.specs.Events.{taken, IsJob};
     ghost use Rattle.journal.specs.Gate.{Offers, Ends, Takes, Finishes, Counts as AreCounts};
     ghost use Rattle.journal.specs.Settled.{outcome_of};
-    ghost use Rattle.claim_terms.specs.Terms.{ForTerms};
+    ghost use Rattle.claim_gate.specs.Terms.{ForTerms};
     ghost use Rattle.claim_gate.specs.Parts.{GateParts, at};
     ghost use Rattle.claim_gate.specs.Replies.{offer_reply, end_reply, take_reply, finish_reply, IsFiled, HasClaims, IsWorkOf};
     ghost use Rattle.journal.specs.Gate.{LeadsTo};

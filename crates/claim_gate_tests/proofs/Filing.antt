@@ -9,7 +9,7 @@ use Rattle.settlement.specs.declared.claim.Claim.{Claim}
 use Rattle.intake_csv.specs.Laws.{StartHasTheRows, GivenRowIsTheFirst, NoRecordsNoRows, StandApart}
 use Rattle.intake_csv.specs.Rows.{GivesRow, IsAtStart, RowsLeft, claims_among}
 use Rattle.intake_csv.specs.declared.rows.Row.TheVariants.{Good}
-use Rattle.claim_terms.specs.Terms.{TermsParts, AreClaimsOf, IsTermsOf, texts_of, ForTerms}
+use Rattle.claim_gate.specs.Terms.{TermsParts, AreClaimsOf, IsTermsOf, texts_of, ForTerms}
 use Rattle.journal.specs.Terms.{Terms, claims_of}
 use Rattle.journal.specs.Events.{is_take, taken, IsJob}
 use Rattle.journal.specs.Gate.{GateAt, Continues, TakeReply, Takes, LeadsTo}

@@ -1,6 +1,6 @@
 -- Callers that have met.
 use Rattle.std.proofs.Common.{◌≡◌, ap, inl, inr, ◌∙◌}
-use Rattle.claim_terms.specs.Terms.{TermsParts}
+use Rattle.claim_gate.specs.Terms.{TermsParts}
 use Rattle.claim_gate.specs.Parts.{GateParts}
 use Rattle.claim_gate.specs.Shared.{HaveMet, Known}
 

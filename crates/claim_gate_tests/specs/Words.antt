@@ -4,7 +4,7 @@ use Rattle.settlement.specs.declared.claim.Claim.{Claim}
 use Rattle.intake_csv.specs.Laws.{StandApart}
 use Rattle.intake_csv.specs.Rows.{AreRowsLeft, RowsLeft, claims_among}
 use Rattle.intake_csv.specs.declared.rows.Row.{Row}
-use Rattle.claim_terms.specs.Terms.{TermsParts, ForTerms}
+use Rattle.claim_gate.specs.Terms.{TermsParts, ForTerms}
 use Rattle.journal.specs.Terms.{Terms, IsProvider, claims_of}
 use Rattle.journal.specs.Events.{taken, IsJob}
 use Rattle.claim_gate.specs.Parts.{GateParts}

@@ -3,7 +3,7 @@ use Rattle.std.proofs.Common.{◌≡◌, ◌<◌, ◌+◌, ℕ, List, [], ◌∷
 use Rattle.std.specs.Global.{Vec}
 use Rattle.std.proofs.lemmas.List.{get_or-map, length-map}
 use Rattle.std.proofs.lemmas.List.Elements.{all_zip_more}
-use Rattle.claim_terms.specs.Terms.{texts_of}
+use Rattle.claim_gate.specs.Terms.{texts_of}
 use Rattle.console.specs.Reading.{IsReadUpTo}
 use Rattle.value_command.specs.Texts.{Whole}
 use Rattle.commands.specs.Texts.{AreNamedTexts}

@@ -1,7 +1,7 @@
 //! What a refusal means, told behind its line where that is wanted.
 
 use adjudicate::Stop;
-use claim_terms::TermsFault;
+use claim_gate::TermsFault;
 use console::names::{BALANCES, FILE};
 use diagnostics::{FileKind, Page, Words, explain_file, explain_record, terms_words};
 use intake_csv::BalanceFault;

@@ -2,7 +2,7 @@
 
 ghost use Rattle.std.specs.Prelude.{◌≡◌, ◌≢◌, ◌≤◌, IfErr, IfOk, map, option_map};
 ghost use Rattle.std.specs.Io.KnownBytes.{Keeps};
-ghost use Rattle.claim_terms.specs.Terms.{text_in, texts_of as texts_behind};
+ghost use Rattle.claim_gate.specs.Terms.{text_in, texts_of as texts_behind};
 ghost use Rattle.adjudicate.specs.RunStop.{IsRunReason};
 ghost use Rattle.console.specs.Reading.{IsReadUpTo};
 ghost use Rattle.intake_csv.specs.Limits.{file_limit_bytes};

@@ -18,7 +18,7 @@ use Rattle.intake_csv.specs.Laws.{ClaimsHaveFields}
 use Rattle.intake_csv.specs.declared.rows.Row.{Row}
 use Rattle.intake_csv.specs.declared.rows.Row.TheVariants.{Good, Bad}
 use Rattle.intake_csv.specs.Rows.{claims_among}
-use Rattle.claim_terms.specs.Terms.{AreClaimsOf, IsTermsOf, TermsParts}
+use Rattle.claim_gate.specs.Terms.{AreClaimsOf, IsTermsOf, TermsParts}
 use Rattle.journal.specs.Terms.{Terms, claims_of}
 use Rattle.journal.specs.Events.{Filed, accepts, claim_at, claim_filed}
 use Rattle.journal.specs.declared.event.Event.{Event}

@@ -8,7 +8,7 @@ use Rattle.intake_csv.specs.Rows.{GivesRow, IsAtStart, RowsLeft, claim_in, claim
 use Rattle.faults.specs.declared.file_fault.RowFault.{RowFault}
 use Rattle.intake_csv.specs.declared.rows.Row.{Row}
 use Rattle.intake_csv.specs.declared.rows.Row.TheVariants.{Good, Bad}
-use Rattle.claim_terms.specs.Terms.{AreClaimsOf, IsTermsOf, TermsParts, ForTerms}
+use Rattle.claim_gate.specs.Terms.{AreClaimsOf, IsTermsOf, TermsParts, ForTerms}
 use Rattle.journal.specs.Terms.{Terms, claims_of}
 use Rattle.claim_gate.specs.Parts.{GateParts}
 use Rattle.claim_gate.specs.Replies.{HasClaims}

@@ -2,7 +2,7 @@
 use Rattle.std.proofs.Common.{inl, inr, ◌≡◌, ◌<◌, ◌≤◌, ◌+◌, ℕ, suc, Bool, true, false, List, [], ◌∷◌, ◌++◌, length, Result, Err, refl, sym, ap, subst, ◌∙◌, arith, length-append}
 use Rattle.std.proofs.lemmas.Bool.{cases_Bool, cases_lt, eq-eqb, false≢true, or_left, or_right}
 use Rattle.std.proofs.lemmas.Grind.{flat_map-append}
-use Rattle.claim_terms.specs.Terms.{TermsParts, IsTermsOf, ForTerms}
+use Rattle.claim_gate.specs.Terms.{TermsParts, IsTermsOf, ForTerms}
 use Rattle.dtable.specs.Plan.{IsPlan}
 use Rattle.settlement.specs.Claim.{IsClaimOf}
 use Rattle.settlement.specs.declared.outcome.Outcome.{Outcome}

@@ -9,7 +9,7 @@ use Rattle.crew.specs.declared.worker.Settled.{Settled}
 use Rattle.settlement.specs.Claim.{IsClaimOf}
 use Rattle.journal.specs.Events.{IsJob, closed, ended, places, taken}
 use Rattle.journal.specs.Lawful.{Finished}
-use Rattle.claim_terms.specs.Terms.{ForTerms}
+use Rattle.claim_gate.specs.Terms.{ForTerms}
 use Rattle.claim_gate.specs.Parts.{GateParts}
 use Rattle.claim_gate.specs.declared.job.Job.{Job}
 use Rattle.crew.specs.declared.worker.Task.{Task}

@@ -1,7 +1,7 @@
 //! What an intake of a run does: it reads a provider's file.
 ghost use Rattle.std.specs.Prelude.{◌≡◌, ◌<◌, ◌≤◌, ◌+◌, ◌-◌, ◌^◌, true, false, [], length, get_or, slice_get, Some, IfOk, IfErr, IsTrue};
 ghost use Rattle.intake_csv.specs.Rows.{IsAtStart};
-ghost use Rattle.claim_terms.specs.Terms.{ForTerms};
+ghost use Rattle.claim_gate.specs.Terms.{ForTerms};
 ghost use Rattle.claim_gate.specs.Replies.{HasClaims, IsFiled};
 ghost use Rattle.claim_gate.specs.Shared.{InTurn};
 ghost use Rattle.crew.specs.Passes.{GoesOn, LeavesWith};
@@ -10,8 +10,7 @@ ghost use Rattle.crew.specs.Sharing.{GoesOnAt, GoesOnBehind, HasAccepted, is_pas
 ghost use Rattle.faults.specs.declared.run_fault.RunFault.TheVariants.{OutOfMemory};
 
 use crate::stopping::TRIES;
-use claim_gate::{EndFault, Gate, Offer, OfferFault, StoredClaim};
-use claim_terms::{Terms, terms_are_seen};
+use claim_gate::{EndFault, Gate, Offer, OfferFault, StoredClaim, Terms, terms_are_seen};
 use faults::RunFault;
 use intake_csv::{
     Row, Rows, given_row_has_the_claim, no_records_give_no_rows, reader_begins_with_all_rows,

@@ -2,8 +2,7 @@
 ghost use Rattle.std.specs.Prelude.{◌≡◌, ◌⊎◌, true};
 ghost use Rattle.journal.specs.Gate.{LeadsTo};
 
-use claim_gate::Gate;
-use claim_terms::{Terms, terms_are_seen};
+use claim_gate::{Gate, Terms, terms_are_seen};
 use std::sync::Wait;
 
 /// So often a call of the gate is made that is refused memory, each time with what came back. Then the thread leaves, and stops the gate.

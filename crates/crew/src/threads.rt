@@ -2,7 +2,7 @@
 ghost use Rattle.std.specs.Prelude.{◌≡◌, ◌≢◌, ◌↔◌, ◌<◌, ◌≤◌, ◌+◌, true, IsTrue, length, IfOk, IfErr, OnOk};
 ghost use Rattle.journal.specs.Lawful.{Finished};
 ghost use Rattle.journal.specs.Order.{IsInOrder};
-ghost use Rattle.claim_terms.specs.Terms.{ForTerms};
+ghost use Rattle.claim_gate.specs.Terms.{ForTerms};
 ghost use Rattle.journal.specs.Gate.{LeadsTo};
 ghost use Rattle.crew.specs.Passes.{GoesOn, LeavesWith};
 ghost use Rattle.crew.specs.Workers.{IsWorkerCount};
@@ -12,8 +12,7 @@ use crate::intake::take_in_part;
 use crate::least::LeastFault;
 use crate::stopping::stop;
 use crate::worker::work;
-use claim_gate::{Batch, Gate, GateState, LockedGate, SerialGate};
-use claim_terms::{Terms, terms_are_seen};
+use claim_gate::{Batch, Gate, GateState, LockedGate, SerialGate, Terms, terms_are_seen};
 use cutplan::{CutPlan, compile};
 use faults::RunFault;
 use journal::finished_is_final;

@@ -4,13 +4,12 @@ ghost use Rattle.std.specs.List.{All};
 ghost use Rattle.settlement.specs.Claim.{IsClaimOf};
 ghost use Rattle.journal.specs.Events.{decided};
 ghost use Rattle.journal.specs.Lawful.{Finished};
-ghost use Rattle.claim_terms.specs.Terms.{ForTerms};
+ghost use Rattle.claim_gate.specs.Terms.{ForTerms};
 ghost use Rattle.crew.specs.Passes.{GoesOn, LeavesWith};
 ghost use Rattle.crew.specs.Sharing.{IsGathered, IsInWork, IsSettledIn, IsTask, settled_by};
 
 use crate::stopping::TRIES;
-use claim_gate::{Decision, FinishFault, Gate, Job, StoredClaim, Taken};
-use claim_terms::{Terms, terms_are_seen};
+use claim_gate::{Decision, FinishFault, Gate, Job, StoredClaim, Taken, Terms, terms_are_seen};
 use cutplan::CutPlan;
 use faults::RunFault;
 use intake_csv::claims_have_the_plan_s_fields;

@@ -1,4 +1,4 @@
-//! Tests by worked examples of `intake_csv` and `claim_terms`. They stand apart from these, since the tests of a crate are proved together with
+//! Tests by worked examples of `intake_csv` and `claim_gate`. They stand apart from these, since the tests of a crate are proved together with
 //! all of its code.
 #![tactic(auto)]
 

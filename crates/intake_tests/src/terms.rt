@@ -2,7 +2,7 @@
 use crate::balances::same;
 use crate::claims::plan;
 use crate::ending::{expects, fail};
-use claim_terms::{FILES_LIMIT, Terms, TermsFault};
+use claim_gate::{FILES_LIMIT, Terms, TermsFault};
 use dtable::{Plan, Sequence};
 use feel_tests::{Day, TEXT_LIMIT_BYTES, Text};
 use intake_csv::{BalanceFault, FILE_LIMIT_BYTES, FileFault, Row, RowCause, RowFault, Rows};

@@ -14,7 +14,7 @@ use Rattle.journal.specs.Settled.{outcome_of}
 use Rattle.journal.specs.Terms.{Terms, at_most, claims_in, claims_in_all}
 use Rattle.journal.specs.Events.{Book, Filed, accepted, accepts, noted}
 use Rattle.journal.specs.Laws.{FinishedTakesAll}
-use Rattle.claim_terms.specs.Terms.{AreClaimsOf, AreTermsOf, TermsParts}
+use Rattle.claim_gate.specs.Terms.{AreClaimsOf, AreTermsOf, TermsParts}
 use Rattle.feel_tests.specs.Plain.{SpellsOnePlain}
 use Rattle.orders.proofs.Openings.{openings-one}
 use Rattle.remit.specs.Amounts.{amounts, amount_of}

@@ -7,7 +7,7 @@ use Rattle.intake_csv.specs.Balances.{accounts_of}
 use Rattle.journal.specs.Terms.{Terms}
 use Rattle.journal.specs.Lawful.{Finished}
 use Rattle.journal.specs.declared.event.Event.{Event}
-use Rattle.claim_terms.specs.Terms.{AreTermsOf, IsTermsOf, TermsParts}
+use Rattle.claim_gate.specs.Terms.{AreTermsOf, IsTermsOf, TermsParts}
 use Rattle.remit.specs.Report.{IsReport}
 use Rattle.journal.specs.Order.{IsInOrder}
 

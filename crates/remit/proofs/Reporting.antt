@@ -15,7 +15,7 @@ use Rattle.intake_csv.specs.declared.rows.Row.{Row}
 use Rattle.intake_csv.specs.declared.rows.Row.TheVariants.{Good, Bad}
 use Rattle.journal.specs.Terms.{Terms}
 use Rattle.journal.specs.declared.event.Event.{Event}
-use Rattle.claim_terms.specs.Terms.{AreClaimsOf, IsFinishedOver, IsTermsOf, TermsParts}
+use Rattle.claim_gate.specs.Terms.{AreClaimsOf, IsFinishedOver, IsTermsOf, TermsParts}
 use Rattle.remit.specs.Decided.{decided_as}
 use Rattle.remit.specs.Held.{At, Holds, IsReady, Writes, gathered_of}
 use Rattle.remit.specs.Looked.{LaidOut, found_of, looked_up}

@@ -7,7 +7,7 @@ use Rattle.csv.specs.declared.writer.WriterBuilder.{WriterBuilder}
 use Rattle.intake_csv.specs.Rows.{AreRowsOf}
 use Rattle.intake_csv.specs.declared.rows.Row.{Row}
 use Rattle.journal.specs.declared.event.Event.{Event}
-use Rattle.claim_terms.specs.Terms.{TermsParts}
+use Rattle.claim_gate.specs.Terms.{TermsParts}
 use Rattle.remit.specs.Decided.{decided_as}
 use Rattle.remit.specs.Records.{Deciding, header_fields, records_of, total_fields}
 

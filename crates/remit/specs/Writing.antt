@@ -2,7 +2,7 @@
 use Rattle.std.specs.Prelude.{◌≡◌, ℕ, List, length, take, Option}
 use Rattle.std.specs.Io.KnownBytes.{Appends}
 use Rattle.journal.specs.declared.event.Event.{Event}
-use Rattle.claim_terms.specs.Terms.{TermsParts}
+use Rattle.claim_gate.specs.Terms.{TermsParts}
 use Rattle.remit.specs.Report.{IsReport}
 
 -- the writer has got a report of these terms and this journal, whole

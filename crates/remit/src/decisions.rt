@@ -3,7 +3,7 @@ ghost use Rattle.std.specs.Prelude.{◌≡◌, ◌≤◌, ◌<◌, ◌+◌, [], 
 ghost use Rattle.journal.specs.declared.event.Event.{Event as AnyEvent};
 ghost use Rattle.remit.specs.Looked.{LaidOut, Noted, NotesPlace, NotesPosition, Replaces, ReplacesEach, found_of, outcome_at, outcome_in};
 
-use claim_terms::Terms;
+use claim_gate::Terms;
 use journal::Event;
 use settlement::Outcome;
 use std::alloc::{AllocError, Global};

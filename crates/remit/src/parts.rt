@@ -5,7 +5,7 @@ ghost use Rattle.remit.specs.Parts.{MayBePart};
 
 use crate::decisions::Decisions;
 use crate::report::Report;
-use claim_terms::Terms;
+use claim_gate::Terms;
 use fixpoint::{HeldText, Out};
 use std::alloc::Global;
 

@@ -11,7 +11,7 @@ ghost use Rattle.settlement.specs.Accounts.{family_of};
 ghost use Rattle.settlement.specs.declared.claim.Claim.{Claim as AnyClaim};
 ghost use Rattle.intake_csv.specs.Brief.{DayStandsAt, IsBriefOf, IsClaimantOf, StandsAt};
 ghost use Rattle.intake_csv.specs.declared.rows.Row.{Row as AnyRow};
-ghost use Rattle.claim_terms.specs.Terms.{texts_of};
+ghost use Rattle.claim_gate.specs.Terms.{texts_of};
 ghost use Rattle.remit.specs.Amounts.{amount_of, name_of};
 ghost use Rattle.remit.specs.Held.{Pushes};
 ghost use Rattle.remit.specs.Looked.{AreSums, looked_up, outcome_in};

@@ -1,7 +1,7 @@
 //! The lines of refusals, as the formats give them, where no end-to-end case of the program shows them.
 use crate::testing::{expects, says};
 use adjudicate::{ArgumentFault, LINE_LIMIT_BYTES, Stop, ValueStop};
-use claim_terms::TermsFault;
+use claim_gate::TermsFault;
 use crew::RunFault;
 use dtable::{Fault, Name, PlanCause, PlanFault};
 use feel_tests::{CellCause, CellFault};

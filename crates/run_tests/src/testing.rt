@@ -1,6 +1,6 @@
 //! What the tests of several calls share.
 use adjudicate::{LINE_LIMIT_BYTES, Stop, ValueStop};
-use claim_terms::Terms;
+use claim_gate::Terms;
 use dtable::{Plan, read_plan};
 use fixpoint::Out;
 use std::alloc::Global;

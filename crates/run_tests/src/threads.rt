@@ -1,7 +1,6 @@
 //! Runs by worked examples: what each claim comes to is written by hand, whatever the schedule.
 use crate::testing::{expects, expects_at, fail, plan_of, terms_of};
-use claim_gate::Batch;
-use claim_terms::Terms;
+use claim_gate::{Batch, Terms};
 use crew::{RunFault, WORKERS_LIMIT, run};
 use dtable::Plan;
 use journals::{comes_to, count_of, is_ends_and_close};

@@ -3,7 +3,7 @@
 ghost use Rattle.std.specs.Prelude.{◌≡◌, ◌≤◌, ◌++◌, length};
 ghost use Rattle.adjudicate.specs.Stop.{balance_fault_text, record_fault_text, run_fault_text, terms_fault_text};
 
-use claim_terms::TermsFault;
+use claim_gate::TermsFault;
 use crew::RunFault;
 use intake_csv::{BalanceFault, RowFault};
 use valuation::Line;

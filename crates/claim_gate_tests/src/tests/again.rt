@@ -1,7 +1,7 @@
 //! Calls that are made once more where memory is refused: what was given has come back, and nothing has changed. A second refusal ends
 //! the test, which is run once for each of its allocations, with that one refused.
 ghost use Rattle.std.specs.Prelude.{◌≡◌, true, IfOk, IfErr, OnErr};
-ghost use Rattle.claim_terms.specs.Terms.{ForTerms};
+ghost use Rattle.claim_gate.specs.Terms.{ForTerms};
 ghost use Rattle.journal.specs.Events.{taken, IsJob};
 ghost use Rattle.journal.specs.Gate.{LeadsTo};
 ghost use Rattle.journal.specs.Settled.{outcome_of};

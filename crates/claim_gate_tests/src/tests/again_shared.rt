@@ -2,7 +2,7 @@
 //! as before: `before` is how far it is when the call is made first. A second refusal is no answer that a test wants. The tests are run once
 //! for each of their allocations, with that one refused.
 ghost use Rattle.std.specs.Prelude.{◌≡◌, IfOk, IfErr};
-ghost use Rattle.claim_terms.specs.Terms.{ForTerms};
+ghost use Rattle.claim_gate.specs.Terms.{ForTerms};
 ghost use Rattle.journal.specs.Gate.{LeadsTo};
 ghost use Rattle.journal.specs.Settled.{outcome_of};
 ghost use Rattle.claim_gate.specs.Replies.{HasClaims, IsFiled};

@@ -1,7 +1,7 @@
 //! The calls of a gate, with the answers that are wanted: another answer ends the test. A call that is refused memory is made once more.
 ghost use Rattle.std.specs.Prelude.{◌≡◌, Ok, IfOk};
 ghost use Rattle.journal.specs.Settled.{outcome_of};
-ghost use Rattle.claim_terms.specs.Terms.{ForTerms};
+ghost use Rattle.claim_gate.specs.Terms.{ForTerms};
 ghost use Rattle.claim_gate.specs.Replies.{HasClaims, IsFiled};
 ghost use Rattle.claim_gate.specs.declared.reply.Taken.TheVariants.{Work};
 ghost use Rattle.claim_gate_tests.specs.Words.{IsAtWork, WorkStays};

@@ -1,7 +1,7 @@
 //! What the tests begin with, and the claims of providers' files, one after another, as who reads the files offers them. What is refused memory is
 //! asked for once more.
 ghost use Rattle.std.specs.Prelude.{◌≡◌, ◌+◌, IfOk, OnOk};
-ghost use Rattle.claim_terms.specs.Terms.{ForTerms};
+ghost use Rattle.claim_gate.specs.Terms.{ForTerms};
 ghost use Rattle.claim_gate.specs.Replies.{HasClaims, IsFiled};
 ghost use Rattle.claim_gate_tests.specs.Words.{IsReader};
 

@@ -1,6 +1,6 @@
 //! Two threads offer the same file, each by a pass of its own, and go on at the expected place where the other was there before.
 ghost use Rattle.std.specs.Prelude.{◌≡◌};
-ghost use Rattle.claim_terms.specs.Terms.{ForTerms};
+ghost use Rattle.claim_gate.specs.Terms.{ForTerms};
 ghost use Rattle.claim_gate.specs.Replies.{IsFiled};
 ghost use Rattle.claim_gate_tests.specs.Words.{IsCaller};
 

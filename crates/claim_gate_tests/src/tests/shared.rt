@@ -1,7 +1,7 @@
 //! The calls of a gate behind a lock, each with the answer that is wanted: another one ends the test. A call that is refused memory is made
 //! once more, once the gate is seen to be as far as before: `before` is how far it is when the call is made first.
 ghost use Rattle.std.specs.Prelude.{◌≡◌};
-ghost use Rattle.claim_terms.specs.Terms.{ForTerms};
+ghost use Rattle.claim_gate.specs.Terms.{ForTerms};
 ghost use Rattle.claim_gate.specs.Replies.{HasClaims};
 ghost use Rattle.journal.specs.Gate.{LeadsTo};
 ghost use Rattle.claim_gate_tests.specs.Words.{IsAtWork, IsCaller};

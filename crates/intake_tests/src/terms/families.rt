@@ -1,7 +1,7 @@
 //! Terms of a plan that keeps accumulators for families.
 use super::{Tried, check, claim, fault_of, terms};
 use crate::ending::{expects, expects_at};
-use claim_terms::{Terms, TermsFault};
+use claim_gate::{Terms, TermsFault};
 use dtable::Plan;
 use intake_csv::{BalanceFault, RowCause, RowFault};
 use settlement::Acc;

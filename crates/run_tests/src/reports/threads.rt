@@ -3,7 +3,7 @@ use super::journals::{of_both_files, of_no_claims};
 use super::writing::{is_filled, is_whole, late_batch, with_room};
 use super::{push_one_field_records, repeated, texts};
 use crate::testing::{WhenFull, expects, expects_at, plan_of, terms_of};
-use claim_terms::Terms;
+use claim_gate::Terms;
 use fixpoint::Out;
 use journal::Event;
 use remit::{WriteFault, write_journal_by_threads, write_report_by_threads};

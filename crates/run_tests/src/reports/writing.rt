@@ -2,8 +2,7 @@
 ghost use Rattle.std.specs.Prelude.{◌≡◌};
 
 use crate::testing::{Narrow, WhenFull, expects, fail, plan_of, terms_of};
-use claim_gate::{Batch, GateState};
-use claim_terms::Terms;
+use claim_gate::{Batch, GateState, Terms};
 use fixpoint::Out;
 use journal::Event;
 use remit::{WriteCause, WriteFault, write_journal, write_report};

@@ -2,15 +2,16 @@
 
 ghost use Rattle.std.specs.Prelude.{◌≡◌, ◌≤◌, ◌+◌, length, slice_get, Some};
 ghost use Rattle.journal.specs.Terms.{claims_of};
-ghost use Rattle.claim_terms.specs.Terms.{ForTerms};
+ghost use Rattle.claim_gate.specs.Terms.{ForTerms};
 ghost use Rattle.crew.specs.Sharing.{HasAccepted};
 
 use super::journals::comes_to;
 use super::outcomes_of_both;
 use super::watched::{WatchedGate, nothing};
 use crate::testing::{expects, fail};
-use claim_gate::{Gate, GateState, LockedGate, Offer, SerialGate, StoredClaim};
-use claim_terms::{Terms, terms_are_seen};
+use claim_gate::{
+    Gate, GateState, LockedGate, Offer, SerialGate, StoredClaim, Terms, terms_are_seen,
+};
 use crew::run_with;
 use intake_csv::{Row, given_row_has_the_claim, reader_begins_with_all_rows};
 use settlement::Claim;

@@ -3,7 +3,7 @@
 use super::met::watched_spinning;
 use super::watched::nothing;
 use crate::testing::expects;
-use claim_terms::Terms;
+use claim_gate::Terms;
 use std::alloc::Global;
 use std::process::Abort;
 use std::sync::Wait;

@@ -3,8 +3,7 @@
 ghost use Rattle.std.specs.Prelude.{◌≡◌};
 
 use super::watched::{Watch, WatchedGate};
-use claim_gate::{Gate, GateState, LockedGate, SerialGate};
-use claim_terms::Terms;
+use claim_gate::{Gate, GateState, LockedGate, SerialGate, Terms};
 use crew::{RunFault, run_with};
 use std::alloc::Global;
 use std::process::Abort;

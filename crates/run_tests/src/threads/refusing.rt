@@ -4,7 +4,7 @@ use super::had;
 use super::met::watched;
 use super::watched::{Watch, nothing};
 use crate::testing::{expects, expects_at, terms_of};
-use claim_terms::Terms;
+use claim_gate::Terms;
 use crew::RunFault;
 use dtable::Plan;
 use std::alloc::Global;

@@ -4,7 +4,7 @@ use super::had;
 use super::met::{watched, watched_spinning};
 use super::watched::nothing;
 use crate::testing::expects;
-use claim_terms::Terms;
+use claim_gate::Terms;
 use crew::RunFault;
 use std::alloc::Global;
 use std::process::Abort;

@@ -1,5 +1,5 @@
 use Rattle.std.proofs.Common.{map, take}
-use Rattle.claim_terms.specs.Terms.{texts_of}
+use Rattle.claim_gate.specs.Terms.{texts_of}
 use Rattle.intake_csv.specs.Limits.{file_limit_bytes}
 use Rattle.commands.specs.Texts.{AreNamedTexts}
 use Rattle.commands.proofs.run.files_of.Given as goal

@@ -1,5 +1,5 @@
 use Rattle.std.proofs.Common.{◌≡◌, map, take}
-use Rattle.claim_terms.specs.Terms.{texts_of}
+use Rattle.claim_gate.specs.Terms.{texts_of}
 use Rattle.commands.proofs.run.slices_of.Given as goal
 
 -- those in front of the place are borrowed

@@ -1,6 +1,6 @@
 use Rattle.std.proofs.Common.{◌≡◌, ◌+◌, ◌≤◌, length}
 use Rattle.std.specs.Vec.Iter.{into_iter_items}
-use Rattle.claim_terms.specs.Terms.{ForTerms}
+use Rattle.claim_gate.specs.Terms.{ForTerms}
 use Rattle.crew.specs.Passes.{GoesOn}
 use Rattle.crew.specs.Reading.{AreNext}
 use Rattle.crew.specs.Sharing.{HasAccepted}

@@ -1,5 +1,5 @@
 use Rattle.std.proofs.Common.{List, refl}
-use Rattle.claim_terms.specs.Terms.{ForTerms, TermsParts}
+use Rattle.claim_gate.specs.Terms.{ForTerms, TermsParts}
 use Rattle.journal.specs.Lawful.{Finished}
 use Rattle.journal.specs.declared.event.Event.{Event}
 use Rattle.faults.specs.declared.run_fault.RunFault.TheVariants.{OutOfMemory}

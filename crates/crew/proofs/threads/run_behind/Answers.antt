@@ -2,7 +2,7 @@ use Rattle.std.proofs.Common.{◌≡◌, ◌++◌, sym, ap, subst, ◌∙◌, ap
 use Rattle.journal.specs.Gate.{LeadsTo}
 use Rattle.journal.specs.Laws.{FinishedIsFinal}
 use Rattle.journal.specs.Lawful.{Finished, Lawful}
-use Rattle.claim_terms.specs.Terms.{ForTerms, IsTermsOf, TermsParts}
+use Rattle.claim_gate.specs.Terms.{ForTerms, IsTermsOf, TermsParts}
 use Rattle.claim_gate.specs.Parts.{GateParts}
 use Rattle.claim_gate.specs.Shared.{IsLawful}
 use Rattle.crew.proofs.threads.run_behind.Goals as goal

@@ -1,6 +1,6 @@
 use Rattle.std.proofs.Common.{◌≡◌, map, ap, refl, subst, ◌∙◌, sym}
 use Rattle.std.proofs.lemmas.List.Elements.{All-same}
-use Rattle.claim_terms.specs.Terms.{IsTermsOf}
+use Rattle.claim_gate.specs.Terms.{IsTermsOf}
 use Rattle.crew.specs.Sharing.{IsSettledIn, settled_by}
 use Rattle.crew.proofs.Held.{all_have_fields, all_settled}
 use Rattle.crew.proofs.Passes.{further, leaves_for_memory, leaves_later, unchanged}

@@ -1,5 +1,5 @@
 use Rattle.std.proofs.Common.{take}
-use Rattle.claim_terms.specs.Terms.{texts_of}
+use Rattle.claim_gate.specs.Terms.{texts_of}
 use Rattle.remit.specs.Held.{Pushes}
 use Rattle.remit.proofs.record.push_all.Given as goal
 

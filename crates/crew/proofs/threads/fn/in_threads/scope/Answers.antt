@@ -1,6 +1,6 @@
 use Rattle.std.proofs.Common.{◌≤◌, length, ◌∙◌}
 use Rattle.journal.specs.Lawful.{Finished}
-use Rattle.claim_terms.specs.Terms.{ForTerms}
+use Rattle.claim_gate.specs.Terms.{ForTerms}
 use Rattle.crew.proofs.Passes.{further, further_where_ok, leaves_later_where_err, unchanged, under_known}
 use Rattle.crew.proofs.threads.fn.in_threads.scope.Goals as goal
 

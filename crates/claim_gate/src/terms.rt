@@ -1,7 +1,7 @@
 //! Terms: what a run is fixed over.
 ghost use Rattle.std.specs.Prelude.{◌≡◌, ◌≤◌, ◌-◌, [], List, get_or, length, IfOk, IfErr};
 ghost use Rattle.std.specs.Option.{unwrap_or};
-ghost use Rattle.claim_terms.specs.Fault.{HasTermsFault, IsFaultOfBalances, IsFaultOfFile, IsFaultOfFiles};
+ghost use Rattle.claim_gate.specs.TermsFault.{HasTermsFault, IsFaultOfBalances, IsFaultOfFile, IsFaultOfFiles};
 ghost use Rattle.settlement.specs.Accounts.{account_of};
 ghost use Rattle.settlement.specs.Opening.{opening};
 ghost use Rattle.intake_csv.specs.Balances.{accounts_of};
@@ -9,7 +9,7 @@ ghost use Rattle.intake_csv.specs.ClaimFile.{IsFileOf};
 ghost use Rattle.intake_csv.specs.Laws.{StandApart};
 ghost use Rattle.intake_csv.specs.Rows.{AreRowsLeft, AreRowsOf, IsAtStart};
 ghost use Rattle.intake_csv.specs.declared.rows.Row.{Row as AnyRow};
-ghost use Rattle.claim_terms.specs.Terms.{AreBalancesOf, AreFilesOf, AreTerms, AreTermsOf, text_in, texts_of};
+ghost use Rattle.claim_gate.specs.Terms.{AreBalancesOf, AreFilesOf, AreTerms, AreTermsOf, text_in, texts_of};
 
 use dtable::{Plan, Sequence};
 use faults::TermsFault;
@@ -48,7 +48,7 @@ impl Drop for Terms<'_> {
 impl<'a> Model for Terms<'a> {
     ghost use Rattle.std.specs.Prelude.{[]};
     ghost use Rattle.std.specs.Option.{unwrap_or};
-    ghost use Rattle.claim_terms.specs.Terms.{AreFilesOf, AreTerms, TermsParts, texts_of};
+    ghost use Rattle.claim_gate.specs.Terms.{AreFilesOf, AreTerms, TermsParts, texts_of};
 
     ghost Value = { TermsParts };
 

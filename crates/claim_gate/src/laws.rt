@@ -1,5 +1,5 @@
 //! Laws of terms, for proofs that stand on them. Each call does nothing.
-ghost use Rattle.claim_terms.specs.Terms.{ForTerms};
+ghost use Rattle.claim_gate.specs.Terms.{ForTerms};
 
 use crate::terms::Terms;
 use intake_csv::files_have_rows;

@@ -1,7 +1,7 @@
 use Rattle.std.proofs.Common.{ap, arith, length, ◌-◌}
-use Rattle.claim_terms.specs.Terms.{texts_of}
-use Rattle.claim_terms.proofs.Files.{as-many, gives-at, starts-at}
-use Rattle.claim_terms.proofs.terms.Terms.rows.Goals as goal
+use Rattle.claim_gate.specs.Terms.{texts_of}
+use Rattle.claim_gate.proofs.Files.{as-many, gives-at, starts-at}
+use Rattle.claim_gate.proofs.terms.Terms.rows.Goals as goal
 
 pub bounds-as_slice-provider : goal.bounds-as_slice-provider
 bounds-as_slice-provider c =

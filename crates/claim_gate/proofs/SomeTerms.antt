@@ -5,7 +5,7 @@ use Rattle.settlement.specs.declared.claim.Claim.{Claim}
 use Rattle.dtable.specs.declared.table.InputData.{InputData}
 use Rattle.intake_csv.specs.Balances.{accounts_of}
 use Rattle.intake_csv.specs.Rows.{claims_among}
-use Rattle.claim_terms.specs.Terms.{AreClaimsOf, AreTerms, ForTerms, IsClaimFile, TermsParts}
+use Rattle.claim_gate.specs.Terms.{AreClaimsOf, AreTerms, ForTerms, IsClaimFile, TermsParts}
 use Rattle.intake_csv.specs.Laws.{FilesHaveRows}
 
 -- the claims of a file

@@ -11,8 +11,8 @@ use Rattle.dtable.specs.declared.table.InputData.{InputData}
 use Rattle.intake_csv.specs.ClaimFile.{FileParts, IsFileOf, rows_of}
 use Rattle.intake_csv.specs.Rows.{AreRowsLeft, AreRowsOf, IsAtStart, RowsLeft}
 use Rattle.intake_csv.specs.declared.rows.Row.{Row}
-use Rattle.claim_terms.specs.Fault.{HasTermsFault, IsFaultOfBalances, IsFaultOfFile, IsFaultOfFiles}
-use Rattle.claim_terms.specs.Terms.{AreFilesOf, IsClaimFile, IsFileCount, texts_of}
+use Rattle.claim_gate.specs.TermsFault.{HasTermsFault, IsFaultOfBalances, IsFaultOfFile, IsFaultOfFiles}
+use Rattle.claim_gate.specs.Terms.{AreFilesOf, IsClaimFile, IsFileCount, texts_of}
 use Rattle.faults.specs.declared.terms_fault.TermsFault.{TermsFault}
 use Rattle.faults.specs.declared.terms_fault.TermsFault.TheVariants.{NoRoles, Files, File, Balances, OutOfMemory}
 

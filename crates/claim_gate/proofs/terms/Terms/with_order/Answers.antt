@@ -3,9 +3,9 @@ use Rattle.std.proofs.lemmas.Grind.{common_steps}
 use Rattle.std.proofs.Common.{arith, length, refl, sym}
 use Rattle.std.proofs.lemmas.List.{length-map}
 use Rattle.std.proofs.lemmas.Result.{err_from_is_err_and}
-use Rattle.claim_terms.specs.Terms.{IsFileCount, text_in, texts_of}
-use Rattle.claim_terms.proofs.Files.{are_claim_files, refused-balances, refused-files, have-roles}
-use Rattle.claim_terms.proofs.terms.Terms.with_order.Goals as goal
+use Rattle.claim_gate.specs.Terms.{IsFileCount, text_in, texts_of}
+use Rattle.claim_gate.proofs.Files.{are_claim_files, refused-balances, refused-files, have-roles}
+use Rattle.claim_gate.proofs.terms.Terms.with_order.Goals as goal
 
 pub returns-in_err-balances_of-clause-fault : goal.returns-in_err-balances_of-clause-fault
 returns-in_err-balances_of-clause-fault c =

@@ -1,6 +1,6 @@
 use Rattle.std.proofs.lemmas.Result.{err_from_is_err_and}
-use Rattle.claim_terms.proofs.Files.{judged-more, refused-first}
-use Rattle.claim_terms.proofs.terms.judge_files.Goals as goal
+use Rattle.claim_gate.proofs.Files.{judged-more, refused-first}
+use Rattle.claim_gate.proofs.terms.judge_files.Goals as goal
 
 pub loop-place-preserved : goal.loop-place-preserved
 loop-place-preserved c =

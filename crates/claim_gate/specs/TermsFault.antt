@@ -9,7 +9,7 @@ use Rattle.faults.specs.declared.file_fault.FileFault.{FileFault}
 use Rattle.faults.specs.declared.file_fault.FileFault.TheVariants as file
 use Rattle.faults.specs.declared.file_fault.BalanceFault.{BalanceFault}
 use Rattle.faults.specs.declared.file_fault.BalanceFault.TheVariants as balance
-use Rattle.claim_terms.specs.Terms.{IsClaimFile, IsFileCount}
+use Rattle.claim_gate.specs.Terms.{IsClaimFile, IsFileCount}
 use Rattle.faults.specs.declared.terms_fault.TermsFault.{TermsFault}
 use Rattle.faults.specs.declared.terms_fault.TermsFault.TheVariants.{NoRoles, Files, File, Balances, OutOfMemory}
 

@@ -1,6 +1,6 @@
 use Rattle.std.proofs.Common.{take}
-use Rattle.claim_terms.specs.Terms.{AreFilesOf, texts_of}
-use Rattle.claim_terms.proofs.terms.judge_files.Given as goal
+use Rattle.claim_gate.specs.Terms.{AreFilesOf, texts_of}
+use Rattle.claim_gate.proofs.terms.judge_files.Given as goal
 
 -- those in front of the place are judged
 abbrev pub invariant-loop-place : goal.invariant-loop-place
