@@ -1,7 +1,0 @@
-use Rattle.claim_gate_tests.proofs.Filing.{work_taken}
-use Rattle.claim_gate_tests.proofs.tests.again_shared.take_once.Goals as goal
-
-pub returns-clause-work : goal.returns-clause-work
-returns-clause-work g c =
-    work_taken c.jobs_stay.ensures (g.G.Gate.known c.in-Ok.answer.1).found (g.G.Gate.known c.in-Ok.answer.1).seen c.in-Ok.answer.0
-    c.in-Ok.ensures.reply c.in-Ok.ensures.work

@@ -1,0 +1,17 @@
+//! Tests by worked examples of `diagnostics`, `console` and `summary`. They stand apart from these, since the tests of a crate are proved together with all of its code.
+#![tactic(auto)]
+
+#[cfg(test)]
+mod command_line;
+#[cfg(test)]
+mod ending;
+#[cfg(test)]
+mod explanations;
+#[cfg(test)]
+mod places;
+#[cfg(test)]
+mod shown_text;
+#[cfg(test)]
+mod summaries;
+#[cfg(test)]
+mod whole_text;

@@ -1,0 +1,171 @@
+-- The claims of a file, one after another, and jobs in work.
+use Rattle.std.proofs.Common.{◌≡◌, ℕ, zero, suc, ◌<◌, ◌≤◌, ◌+◌, ◌-◌, true, false, List, [], ◌∷◌, ◌++◌, length, get_or, Some, Result, Ok, Err, refl, sym, ap, ◌∙◌, subst, IfOk, arith, append_assoc, append-nil, eq-eqb}
+use Rattle.std.specs.Borrow.{Bor}
+use Rattle.std.specs.List.{AllZip, slice_get}
+use Rattle.std.proofs.lemmas.Bool.{both_ways, or_left}
+use Rattle.std.proofs.lemmas.List.{length-map, length_push}
+use Rattle.std.proofs.lemmas.List.Folds.{list_any-append}
+use Rattle.settlement.specs.declared.claim.Claim.{Claim}
+use Rattle.intake_csv.specs.Laws.{StartHasTheRows, GivenRowIsTheFirst, NoRecordsNoRows, StandApart}
+use Rattle.intake_csv.specs.Rows.{GivesRow, IsAtStart, RowsLeft, claims_among}
+use Rattle.intake_csv.specs.declared.rows.Row.TheVariants.{Good}
+use Rattle.claim_gate.specs.Terms.{TermsParts, AreClaimsOf, IsTermsOf, texts_of, ForTerms}
+use Rattle.journal.specs.Terms.{Terms, claims_of}
+use Rattle.journal.specs.Events.{is_take, taken, IsJob}
+use Rattle.journal.specs.Gate.{GateAt, Continues, TakeReply, Takes, LeadsTo}
+use Rattle.journal.specs.Laws.{JobsStay}
+use Rattle.journal.specs.declared.event.Event.{Event}
+use Rattle.journal.specs.declared.event.Event.TheVariants.{Take}
+use Rattle.claim_gate.specs.Parts.{GateParts, at}
+use Rattle.claim_gate.specs.Replies.{HasClaims, IsWorkOf, take_reply}
+use Rattle.test_gate.specs.Words.{IsReader, IsAtWork, IsTaken, WorkStays}
+use Rattle.claim_gate.specs.declared.job.Job.{Job}
+use Rattle.claim_gate.specs.declared.fault.TakeFault.{TakeFault}
+use Rattle.claim_gate.specs.declared.reply.Taken.{Taken}
+use Rattle.claim_gate.specs.declared.reply.Taken.TheVariants.{Stopped, Over, NothingReady, Work}
+use Rattle.claim_gate.proofs.Journals.{any_now}
+use Rattle.claim_gate.proofs.Providers.{as_many_files}
+
+zipped_at : {A B : Type 0} (R : A → B → Type 0) (xs : List A) (ys : List B) (i : ℕ) (d : A) (e : B) → AllZip R xs ys → i < length xs → R (get_or xs i d) (get_or ys i e)
+zipped_at R [] [] i d e h within = let never : ⊥ = omega arith in absurd never
+zipped_at R [] (y ∷ ys) i d e h within = absurd h
+zipped_at R (x ∷ xs) [] i d e h within = absurd h
+zipped_at R (x ∷ xs) (y ∷ ys) zero d e h within = h.0
+zipped_at R (x ∷ xs) (y ∷ ys) (suc i) d e h within = zipped_at R xs ys i d e h.1 (omega arith)
+
+at_start : StartHasTheRows → (terms : TermsParts) (T : Terms) (q : ℕ) (left : RowsLeft)
+    → StandApart left.layout.columns → IsTermsOf terms T → q < length terms.files → IsAtStart terms.plan.names (get_or terms.files q []) left → IsReader T (suc q) left
+at_start rows_law terms T q left apart is within starts =
+    let file : AreClaimsOf terms.plan.names (get_or terms.files q []) (get_or T.files q []) =
+    zipped_at (AreClaimsOf terms.plan.names) terms.files T.files q [] [] is.files within in
+    let many : length T.files ≡ length terms.files = as_many_files terms T is in
+    record {
+      known = record { least = omega arith; most = omega (arith, many, within) };
+      front = [];
+      rows = file.rows;
+      are_rows = rows_law terms.plan.names (get_or terms.files q []) left file.rows starts file.are_rows;
+      whole = file.claims_are;
+      counted = sym starts.place;
+      apart = apart;
+    }
+
+-- a reader at the start of a provider's file
+pub reads : StartHasTheRows → (terms : TermsParts) (provider : ℕ) (left : RowsLeft)
+    → StandApart left.layout.columns → 1 ≤ provider → provider ≤ length terms.files → IsAtStart terms.plan.names (get_or terms.files (provider - 1) []) left
+    → ForTerms terms (λ T. IsReader T provider left)
+reads rows_law terms zero left apart least most starts T is = let never : ⊥ = omega (arith, least) in absurd never
+reads rows_law terms (suc q) left apart least most starts T is =
+    let same : suc q - 1 ≡ q = omega arith in
+    at_start rows_law terms T q left apart is (omega (arith, most))
+    (subst (λ i. IsAtStart terms.plan.names (get_or terms.files i []) left) same starts)
+
+-- a provider among the files is one among their texts
+pub among_texts : (files : List (Bor (List ℕ))) (texts : List (List ℕ)) (provider : ℕ) → texts_of files ≡ texts → provider ≤ length files → provider ≤ length texts
+among_texts files texts provider same within =
+    let as_many : length files ≡ length texts = sym (length-map files (λ (f : Bor (List ℕ)). f.now)) ∙ ap length same in
+    omega (arith, as_many, within)
+
+get_behind : (xs : List Claim) (x : Claim) (ys : List Claim) → slice_get (xs ++ x ∷ ys) (length xs) ≡ Some x
+get_behind [] x ys = refl
+get_behind (z ∷ xs) x ys = get_behind xs x ys
+
+-- the claim that a reader gives
+pub record IsNextOf (T : Terms) (provider number place : ℕ) (claim : Claim) (old new : RowsLeft) : Type 0 where
+  pub filed : slice_get (claims_of T provider) place ≡ Some claim
+  pub reader : IsReader T provider new
+
+pub gives : GivenRowIsTheFirst → (T : Terms) (provider number place : ℕ) (claim : Claim) (old new : RowsLeft) → IsReader T provider old
+    → GivesRow old new (Good number place claim) → IsNextOf T provider number place claim old new
+gives law T provider number place claim old new r given =
+    let b = law old new (Good number place claim) r.rows r.apart given r.are_rows in
+    let parted : claims_of T provider ≡ r.front ++ claim ∷ claims_among b.rest = r.whole ∙ ap (λ rows. r.front ++ claims_among rows) b.rows_are in
+    let at : length r.front ≡ place = r.counted ∙ sym given.is_row.1 in
+    let longer : length (r.front ++ claim ∷ []) ≡ length r.front + 1 = length_push r.front claim in
+    record {
+      filed = ap (λ cs. slice_get cs place) parted ∙ ap (slice_get (r.front ++ claim ∷ claims_among b.rest)) (sym at) ∙ get_behind r.front claim (claims_among b.rest);
+      reader = record {
+        known = r.known;
+        front = r.front ++ claim ∷ [];
+        rows = b.rest;
+        are_rows = b.rest_left;
+        whole = parted ∙ sym (append_assoc r.front (claim ∷ []) (claims_among b.rest));
+        counted = longer ∙ ap (λ n. n + 1) r.counted ∙ sym given.place;
+        apart = subst (λ l. StandApart l.columns) (sym given.layout) r.apart;
+      };
+    }
+
+-- a reader that has nothing left has counted the claims
+pub has_claims : NoRecordsNoRows → (T : Terms) (provider count : ℕ) (left : RowsLeft) → IsReader T provider left → left.records ≡ [] → left.place ≡ count → HasClaims T provider count
+has_claims law T provider count left r none same =
+    let rows : r.rows ≡ [] = law left r.rows none r.are_rows in
+    let whole : claims_of T provider ≡ r.front = r.whole ∙ ap (λ w. r.front ++ claims_among w) rows ∙ append-nil r.front in
+    record { known = r.known; count_is = sym same ∙ sym r.counted ∙ sym (ap length whole) }
+
+-- a reader behind so many claims of a provider's file
+pub record IsBehind (terms : TermsParts) (provider place : ℕ) (left : RowsLeft) : Type 0 where
+  pub reader : ForTerms terms (λ T. IsReader T provider left)
+  pub place_is : left.place ≡ place
+
+-- what is in work stays so where the journal goes on
+pub goes_on : JobsStay → (old new : GateParts) → new.terms ≡ old.terms → Continues old.journal new.journal → WorkStays old new
+goes_on law old new same on job work =
+    let before : (T : Terms) → GateAt = λ T. record { terms = T; journal = old.journal; stopped = false } in
+    let behind : (T : Terms) → GateAt = λ T. record { terms = T; journal = new.journal; stopped = false } in
+    record {
+      is_taken =
+          ap (λ J. taken J job.position) on.whole
+          ∙ list_any-append (is_take job.position) old.journal on.rest
+          ∙ or_left (taken old.journal job.position) (taken on.rest job.position) work.is_taken;
+      its = λ T is.
+          law (before T) (behind T) job.position job.claim job.acc
+          (record { terms = refl; journal = on; stop = λ s. absurd (both_ways false refl s) })
+          (work.its T (subst (λ p. IsTermsOf p T) same is));
+    }
+
+-- and where the gate is stopped
+pub stays_stopped : (old new : GateParts) → new ≡ record old { stopped = true } → WorkStays old new
+stays_stopped old new same job work =
+    subst (λ g. IsAtWork g job) (sym same) (record { is_taken = work.is_taken; its = work.its })
+
+-- an event more
+pub one_more : (old new : GateParts) (event : Event) → new ≡ record old { journal = old.journal ++ event ∷ [] } → Continues old.journal new.journal
+one_more old new event is = record { rest = event ∷ []; whole = ap (λ (g : GateParts). g.journal) is }
+
+-- a job that is taken is in work
+pub at_work : JobsStay → (old new : GateParts) (job : Job) → ForTerms old.terms (λ T. IsJob T old.journal job.position job.claim job.acc)
+    → new ≡ record old { journal = old.journal ++ Take job.position ∷ [] } → IsAtWork new job
+at_work law old new job its is =
+    let on : Continues old.journal (old.journal ++ Take job.position ∷ []) = record { rest = Take job.position ∷ []; whole = refl } in
+    subst (λ g. IsAtWork g job) (sym is) (record {
+      is_taken = any_now (is_take job.position) old.journal (Take job.position) (eq-eqb job.position job.position refl);
+      its = λ T terms.
+          law (record { terms = T; journal = old.journal; stopped = false })
+          (record { terms = T; journal = old.journal ++ Take job.position ∷ []; stopped = false }) job.position job.claim job.acc
+          (record { terms = refl; journal = on; stop = λ s. absurd (both_ways false refl s) })
+          (its T terms);
+    })
+
+-- what is in work stays so where the state leads to another one
+pub stays_at_work : JobsStay → (earlier later : GateParts) (job : Job) → LeadsTo earlier later → IsAtWork earlier job → IsAtWork later job
+stays_at_work law earlier later job leads work = goes_on law earlier later leads.terms leads.journal job work
+
+pub work_stays : JobsStay → (earlier later : GateParts) → LeadsTo earlier later → WorkStays earlier later
+work_stays law earlier later leads = goes_on law earlier later leads.terms leads.journal
+
+-- so does a job that was handed back
+pub back_at_work : JobsStay → (earlier later : GateParts) (given back : Job) → LeadsTo earlier later → back ≡ given → IsAtWork earlier given → IsAtWork later back
+back_at_work law earlier later given back leads same work =
+    subst (IsAtWork later) (sym same) (stays_at_work law earlier later given leads work)
+
+-- a job that a call of the gate of one thread has taken is in work
+pub work_taken : JobsStay → (old new : GateParts) (reply : Result Taken TakeFault) → ForTerms old.terms (λ T. Takes (at T old) (take_reply reply) (at T new))
+    → IfOk reply (IsWorkOf old new) → IfOk reply (IsTaken new)
+work_taken law old new (Ok Stopped) went work = tt
+work_taken law old new (Ok Over) went work = tt
+work_taken law old new (Ok NothingReady) went work = tt
+work_taken law old new (Ok (Work job)) went work = at_work law old new job (λ T is. (went T is).2.job) work
+work_taken law old new (Err fault) went work = tt
+
+-- the job of an answer
+pub its_job : (gate : GateParts) (reply : Result Taken TakeFault) (job : Job) → reply ≡ Ok (Work job) → IfOk reply (IsTaken gate) → IsAtWork gate job
+its_job gate reply job is work = subst (λ r. IfOk r (IsTaken gate)) is work

@@ -1,0 +1,233 @@
+//! Calls of a gate behind a lock, as far as the tests know of them; where one is refused for memory, it is made once more, and the gate is as far
+//! as before: `before` is how far it is when the call is made first. A second refusal is no answer that a test wants. The tests are run once
+//! for each of their allocations, with that one refused.
+ghost use Rattle.std.specs.Prelude.{◌≡◌, IfOk, IfErr};
+ghost use Rattle.claim_gate.specs.Terms.{ForTerms};
+ghost use Rattle.journal.specs.Gate.{LeadsTo};
+ghost use Rattle.journal.specs.Settled.{outcome_of};
+ghost use Rattle.claim_gate.specs.Replies.{HasClaims, IsFiled};
+ghost use Rattle.test_gate.specs.Words.{IsAtWork, IsCaller, IsTaken};
+
+use super::again::{is_at, is_paid};
+use super::{expects, fail};
+use claim_gate::{
+    Accepted, Counts, Decision, EndFault, Ended, FinishFault, Gate, Job, Offer, OfferFault,
+    Recorded, TakeFault, Taken, Terms,
+};
+use journal::jobs_stay;
+use std::process::Abort;
+use std::sync::Wait;
+
+// A call that was refused has left the gate as far as it was before.
+fn unchanged<G: Gate>(
+    rt: &(impl Abort + Wait),
+    terms: &Terms,
+    gate: &G,
+    pass: G::Pass,
+    before: Counts,
+) -> G::Pass
+    requires caller { IsCaller (G.has_pass gate.now) G.known terms.now pass }
+    ensures caller { IsCaller (G.has_pass gate.now) G.known terms.now result }
+    ensures leads { LeadsTo (G.known pass).seen (G.known result).seen }
+{
+    match gate.counts(rt, pass) {
+        Ok((reached, pass)) => {
+            expects(rt, reached == before, "the counts of before");
+            pass
+        }
+        Err(_) => fail(rt, "counts"),
+    }
+}
+
+/// Offers a claim.
+pub fn offer_once<G: Gate>(
+    rt: &(impl Abort + Wait),
+    terms: &Terms,
+    gate: &G,
+    pass: G::Pass,
+    offer: Offer,
+) -> (Result<Accepted, (OfferFault, Offer)>, G::Pass)
+    requires caller { IsCaller (G.has_pass gate.now) G.known terms.now pass }
+    requires filed { ForTerms terms.now (λ T. IsFiled T offer) }
+    ensures caller { IsCaller (G.has_pass gate.now) G.known terms.now result.1 }
+    ensures leads { LeadsTo (G.known pass).seen (G.known result.1).seen }
+    ensures back { IfErr result.0 (λ refused. refused.1 ≡ offer) }
+{
+    let _plan = terms.plan();
+    match gate.offer(rt, pass, offer) {
+        Ok(answer) => answer,
+        Err(_) => fail(rt, "a reply"),
+    }
+}
+
+/// The same; where memory is refused, once more.
+pub fn offer<G: Gate>(
+    rt: &(impl Abort + Wait),
+    terms: &Terms,
+    gate: &G,
+    pass: G::Pass,
+    offer: Offer,
+    before: Counts,
+) -> (Result<Accepted, (OfferFault, Offer)>, G::Pass)
+    requires caller { IsCaller (G.has_pass gate.now) G.known terms.now pass }
+    requires filed { ForTerms terms.now (λ T. IsFiled T offer) }
+    ensures caller { IsCaller (G.has_pass gate.now) G.known terms.now result.1 }
+    ensures leads { LeadsTo (G.known pass).seen (G.known result.1).seen }
+{
+    let (provider, place) = (offer.provider, offer.place);
+    let (reply, pass) = offer_once(rt, terms, gate, pass, offer);
+    match reply {
+        Ok(accepted) => (Ok(accepted), pass),
+        Err((fault, back)) => {
+            expects(rt, fault == OfferFault::OutOfMemory, "no other fault");
+            expects(rt, is_at(&back, provider, place), "the offer");
+            let pass = unchanged(rt, terms, gate, pass, before);
+            offer_once(rt, terms, gate, pass, back)
+        }
+    }
+}
+
+/// Takes a claim.
+pub fn take_once<G: Gate>(
+    rt: &(impl Abort + Wait),
+    terms: &Terms,
+    gate: &G,
+    pass: G::Pass,
+) -> (Result<Taken, TakeFault>, G::Pass)
+    requires caller { IsCaller (G.has_pass gate.now) G.known terms.now pass }
+    ensures caller { IsCaller (G.has_pass gate.now) G.known terms.now result.1 }
+    ensures leads { LeadsTo (G.known pass).seen (G.known result.1).seen }
+    ensures work { IfOk result.0 (IsTaken (G.known result.1).seen) }
+{
+    jobs_stay();
+    let _plan = terms.plan();
+    match gate.take(rt, pass) {
+        Ok(answer) => answer,
+        Err(_) => fail(rt, "a reply"),
+    }
+}
+
+/// The same; where memory is refused, once more.
+pub fn take<G: Gate>(
+    rt: &(impl Abort + Wait),
+    terms: &Terms,
+    gate: &G,
+    pass: G::Pass,
+    before: Counts,
+) -> (Result<Taken, TakeFault>, G::Pass)
+    requires caller { IsCaller (G.has_pass gate.now) G.known terms.now pass }
+    ensures caller { IsCaller (G.has_pass gate.now) G.known terms.now result.1 }
+    ensures leads { LeadsTo (G.known pass).seen (G.known result.1).seen }
+    ensures work { IfOk result.0 (IsTaken (G.known result.1).seen) }
+{
+    let (reply, pass) = take_once(rt, terms, gate, pass);
+    match reply {
+        Ok(taken) => (Ok(taken), pass),
+        Err(_) => {
+            let pass = unchanged(rt, terms, gate, pass, before);
+            take_once(rt, terms, gate, pass)
+        }
+    }
+}
+
+/// Finishes a job with its outcome.
+pub fn finish_once<G: Gate>(
+    rt: &(impl Abort + Wait),
+    terms: &Terms,
+    gate: &G,
+    pass: G::Pass,
+    job: Job,
+    outcome: Decision,
+) -> (Result<Recorded, (FinishFault, Job, Decision)>, G::Pass)
+    requires caller { IsCaller (G.has_pass gate.now) G.known terms.now pass }
+    requires at_work { IsAtWork (G.known pass).seen job }
+    requires settled { outcome ≡ outcome_of terms.now.plan job.claim job.acc }
+    ensures caller { IsCaller (G.has_pass gate.now) G.known terms.now result.1 }
+    ensures leads { LeadsTo (G.known pass).seen (G.known result.1).seen }
+    ensures back { IfErr result.0 (λ refused. (refused.1 ≡ job) × (refused.2 ≡ outcome)) }
+{
+    let _plan = terms.plan();
+    match gate.finish(rt, pass, job, outcome) {
+        Ok(answer) => answer,
+        Err(_) => fail(rt, "a reply"),
+    }
+}
+
+/// The same; where memory is refused, once more.
+pub fn finish<G: Gate>(
+    rt: &(impl Abort + Wait),
+    terms: &Terms,
+    gate: &G,
+    pass: G::Pass,
+    job: Job,
+    outcome: Decision,
+    before: Counts,
+) -> (Result<Recorded, (FinishFault, Job, Decision)>, G::Pass)
+    requires caller { IsCaller (G.has_pass gate.now) G.known terms.now pass }
+    requires at_work { IsAtWork (G.known pass).seen job }
+    requires settled { outcome ≡ outcome_of terms.now.plan job.claim job.acc }
+    ensures caller { IsCaller (G.has_pass gate.now) G.known terms.now result.1 }
+    ensures leads { LeadsTo (G.known pass).seen (G.known result.1).seen }
+{
+    jobs_stay();
+    let (position, paid) = (job.position, outcome.outcome().paid);
+    let (reply, pass) = finish_once(rt, terms, gate, pass, job, outcome);
+    match reply {
+        Ok(recorded) => (Ok(recorded), pass),
+        Err((fault, job, outcome)) => {
+            expects(rt, fault == FinishFault::OutOfMemory, "no other fault");
+            let same = is_paid(&job, &outcome, position, paid);
+            expects(rt, same, "the job and its outcome");
+            let pass = unchanged(rt, terms, gate, pass, before);
+            finish_once(rt, terms, gate, pass, job, outcome)
+        }
+    }
+}
+
+/// Ends a provider.
+pub fn end_once<G: Gate>(
+    rt: &(impl Abort + Wait),
+    terms: &Terms,
+    gate: &G,
+    pass: G::Pass,
+    provider: usize,
+    count: usize,
+) -> (Result<Ended, EndFault>, G::Pass)
+    requires caller { IsCaller (G.has_pass gate.now) G.known terms.now pass }
+    requires claims { ForTerms terms.now (λ T. HasClaims T provider count) }
+    ensures caller { IsCaller (G.has_pass gate.now) G.known terms.now result.1 }
+    ensures leads { LeadsTo (G.known pass).seen (G.known result.1).seen }
+{
+    let _plan = terms.plan();
+    match gate.end(rt, pass, provider, count) {
+        Ok(answer) => answer,
+        Err(_) => fail(rt, "a reply"),
+    }
+}
+
+/// Ends a provider whose claims, so many, are accepted; where memory is refused, once more.
+pub fn end<G: Gate>(
+    rt: &(impl Abort + Wait),
+    terms: &Terms,
+    gate: &G,
+    pass: G::Pass,
+    provider: usize,
+    count: usize,
+    before: Counts,
+) -> G::Pass
+    requires caller { IsCaller (G.has_pass gate.now) G.known terms.now pass }
+    requires claims { ForTerms terms.now (λ T. HasClaims T provider count) }
+    ensures caller { IsCaller (G.has_pass gate.now) G.known terms.now result }
+{
+    let (reply, pass) = end_once(rt, terms, gate, pass, provider, count);
+    match reply {
+        Ok(_) => pass,
+        Err(fault) => {
+            expects(rt, fault == EndFault::OutOfMemory, "no other fault");
+            let pass = unchanged(rt, terms, gate, pass, before);
+            let (reply, pass) = end_once(rt, terms, gate, pass, provider, count);
+            expects(rt, reply.is_ok(), "an end");
+            pass
+        }
+    }
+}

@@ -1,0 +1,220 @@
+//! What the tests begin with, and the claims of providers' files, one after another, as who reads the files offers them. What is refused memory is
+//! asked for once more.
+ghost use Rattle.std.specs.Prelude.{◌≡◌, ◌+◌, IfOk, OnOk};
+ghost use Rattle.claim_gate.specs.Terms.{ForTerms};
+ghost use Rattle.claim_gate.specs.Replies.{HasClaims, IsFiled};
+ghost use Rattle.test_gate.specs.Words.{IsReader};
+
+use super::fail;
+use claim_gate::{GateState, Offer, StoredClaim, Terms};
+use dtable::{Plan, read_plan};
+use intake_csv::{
+    Row, Rows, given_row_is_the_first, no_records_give_no_rows, reader_begins_with_all_rows,
+};
+use std::alloc::{AllocError, Global};
+use std::process::Abort;
+
+fn read_once(alloc: Global, text: &[u8]) -> Result<Plan, AllocError> {
+    let Ok(plan) = read_plan(alloc, text) else {
+        return Err(AllocError);
+    };
+    Ok(plan)
+}
+
+// The plan of a text.
+pub fn plan_of(rt: &impl Abort, alloc: Global, text: &[u8]) -> Plan {
+    match read_once(alloc, text) {
+        Ok(plan) => plan,
+        Err(_) => read_once(alloc, text).expect(rt, "a plan"),
+    }
+}
+
+// The terms of a plan and of files, without balances.
+pub fn terms_of<'a>(
+    rt: &impl Abort,
+    alloc: Global,
+    plan: &'a Plan,
+    files: &'a [&'a [u8]],
+    cutoff: Option<u64>,
+) -> Terms<'a> {
+    if let Ok(terms) = Terms::new(alloc, plan, files, None, cutoff) {
+        return terms;
+    }
+    let Ok(terms) = Terms::new(alloc, plan, files, None, cutoff) else {
+        fail(rt, "terms")
+    };
+    terms
+}
+
+fn begun<'t>(alloc: Global, terms: &'t Terms<'t>) -> Result<GateState<'t>, AllocError>
+    ensures { IfOk result (λ gate. gate.terms ≡ terms.now) }
+{
+    GateState::new(alloc, terms)
+}
+
+// A gate to which nothing was offered.
+pub fn gate_of<'t>(rt: &impl Abort, alloc: Global, terms: &'t Terms<'t>) -> GateState<'t>
+    ensures { result.terms ≡ terms.now }
+{
+    match begun(alloc, terms) {
+        Ok(gate) => gate,
+        Err(_) => begun(alloc, terms).expect(rt, "memory for a gate"),
+    }
+}
+
+// A reader at the start of a provider's file.
+pub fn open<'t>(
+    rt: &impl Abort,
+    alloc: Global,
+    terms: &'t Terms,
+    provider: usize,
+) -> Result<Rows<'t>, AllocError>
+    ensures reader { IfOk result (λ rows. ForTerms terms.now (λ T. IsReader T provider rows)) }
+    ensures place { IfOk result (λ rows. rows.place ≡ 0) }
+{
+    reader_begins_with_all_rows();
+    let files = terms.files();
+    assert!(rt; 1 <= provider && provider <= files.len());
+    let rows = terms.rows(alloc, provider)?;
+    Ok(rows)
+}
+
+// The next record of a provider's file, a claim, as an offer.
+pub fn next_offer(
+    rt: &impl Abort,
+    alloc: Global,
+    terms: &Terms,
+    provider: usize,
+    rows: &mut Rows,
+) -> Result<Offer, AllocError>
+    requires { ForTerms terms.now (λ T. IsReader T provider rows.old) }
+    ensures filed { IfOk result (λ offer. ForTerms terms.now (λ T. IsFiled T offer)) }
+    ensures reader { OnOk result (ForTerms terms.now (λ T. IsReader T provider rows.new)) }
+    ensures place { OnOk result (rows.new.place ≡ rows.old.place + 1) }
+{
+    given_row_is_the_first();
+    let _plan = terms.plan();
+    match rows.next()? {
+        Some(Row::Good { place, claim, .. }) => Ok(Offer {
+            provider,
+            place,
+            claim: StoredClaim::new(alloc, claim)?,
+        }),
+        _ => fail(rt, "a claim"),
+    }
+}
+
+// Goes by so many records at the start of a provider's file, which are claims.
+fn go_by(
+    rt: &impl Abort,
+    alloc: Global,
+    terms: &Terms,
+    provider: usize,
+    rows: &mut Rows,
+    count: usize,
+) -> Result<(), AllocError>
+    requires reader { ForTerms terms.now (λ T. IsReader T provider rows.old) }
+    requires place { rows.old.place ≡ 0 }
+    ensures reader { OnOk result (ForTerms terms.now (λ T. IsReader T provider rows.new)) }
+    ensures place { OnOk result (rows.new.place ≡ count) }
+{
+    for _ in 0..count {
+        next_offer(rt, alloc, terms, provider, rows)?;
+    }
+    Ok(())
+}
+
+// The claim behind so many others at the start of a provider's file, as an offer.
+fn offer_behind(
+    rt: &impl Abort,
+    alloc: Global,
+    terms: &Terms,
+    provider: usize,
+    rows: &mut Rows,
+    place: usize,
+) -> Result<Offer, AllocError>
+    requires reader { ForTerms terms.now (λ T. IsReader T provider rows.old) }
+    requires place { rows.old.place ≡ 0 }
+    ensures filed { IfOk result (λ offer. ForTerms terms.now (λ T. IsFiled T offer)) }
+{
+    go_by(rt, alloc, terms, provider, rows, place)?;
+    next_offer(rt, alloc, terms, provider, rows)
+}
+
+fn read_offer(
+    rt: &impl Abort,
+    alloc: Global,
+    terms: &Terms,
+    provider: usize,
+    place: usize,
+) -> Result<Offer, AllocError>
+    ensures { IfOk result (λ offer. ForTerms terms.now (λ T. IsFiled T offer)) }
+{
+    let mut rows = open(rt, alloc, terms, provider)?;
+    offer_behind(rt, alloc, terms, provider, &mut rows, place)
+}
+
+// The claim at a place of a provider's file, whose records up to it are claims, as an offer.
+pub fn offer_at(
+    rt: &impl Abort,
+    alloc: Global,
+    terms: &Terms,
+    provider: usize,
+    place: usize,
+) -> Offer
+    ensures { ForTerms terms.now (λ T. IsFiled T result) }
+{
+    match read_offer(rt, alloc, terms, provider, place) {
+        Ok(offer) => offer,
+        Err(_) => read_offer(rt, alloc, terms, provider, place).expect(rt, "memory for a claim"),
+    }
+}
+
+// Goes to the end of a file, behind so many claims, and nothing else.
+fn go_to_end(
+    rt: &impl Abort,
+    alloc: Global,
+    terms: &Terms,
+    provider: usize,
+    rows: &mut Rows,
+    count: usize,
+) -> Result<(), AllocError>
+    requires reader { ForTerms terms.now (λ T. IsReader T provider rows.old) }
+    requires place { rows.old.place ≡ 0 }
+    ensures { OnOk result (ForTerms terms.now (λ T. HasClaims T provider count)) }
+{
+    no_records_give_no_rows();
+    go_by(rt, alloc, terms, provider, rows, count)?;
+    match rows.next()? {
+        None => Ok(()),
+        Some(_) => fail(rt, "the end of the file"),
+    }
+}
+
+fn read_through(
+    rt: &impl Abort,
+    alloc: Global,
+    terms: &Terms,
+    provider: usize,
+    count: usize,
+) -> Result<(), AllocError>
+    ensures { OnOk result (ForTerms terms.now (λ T. HasClaims T provider count)) }
+{
+    let mut rows = open(rt, alloc, terms, provider)?;
+    go_to_end(rt, alloc, terms, provider, &mut rows, count)
+}
+
+// Reads a provider's file to its end: so many claims, and nothing else.
+pub fn read_all(rt: &impl Abort, alloc: Global, terms: &Terms, provider: usize, count: usize)
+    ensures { ForTerms terms.now (λ T. HasClaims T provider count) }
+{
+    match read_through(rt, alloc, terms, provider, count) {
+        Ok(()) => {}
+        Err(_) => read_through(rt, alloc, terms, provider, count).expect(rt, "memory for a file"),
+    }
+}
+
+// Whether an offer is the claim of this number, of a provider and place.
+pub fn is_offer(offer: Offer, provider: usize, place: usize, id: &str) -> bool {
+    offer.provider == provider && offer.place == place && offer.claim.as_claim().id.as_str() == id
+}

@@ -1,0 +1,286 @@
+//! The worked calls on a gate behind a lock, by two passes in turn: the answers are those of the gate of one thread.
+ghost use Rattle.std.specs.Prelude.{◌≡◌};
+ghost use Rattle.journal.specs.Gate.{LeadsTo};
+ghost use Rattle.test_gate.specs.Words.{AreCallers, IsAtWork, IsCaller};
+
+use super::filing::{is_offer, read_all};
+use super::locks::{by_tickets, ends_with, spinning};
+use super::runs::{Calls, run};
+use super::shared::{
+    accept_at, find_nothing, find_stopped, record, refuse_at, refuse_end, refuse_outcome, take_job,
+};
+use super::worked::{is_back, is_job_at, worked_journal};
+use super::{counts, expects, fail};
+use claim_gate::{
+    Counts, EndFault, FinishFault, Gate, Job, LockedGate, OfferFault, SerialGate, Terms,
+};
+use journal::jobs_stay;
+use std::alloc::Global;
+use std::process::Abort;
+use std::sync::Wait;
+use test_fixtures::{both_files, health_plan};
+use turn_lock::Section;
+
+// One pass has the first provider's first claim accepted; to the other it is refused.
+fn accept_first<G: Gate>(
+    rt: &(impl Abort + Wait),
+    alloc: Global,
+    terms: &Terms,
+    gate: &G,
+    passes: (G::Pass, G::Pass),
+) -> (G::Pass, G::Pass)
+    requires callers { AreCallers (G.has_pass gate.now) G.known terms.now passes }
+    ensures callers { AreCallers (G.has_pass gate.now) G.known terms.now result }
+{
+    let (one, other) = passes;
+    let before = counts(0, 0, 0, false);
+    let one = accept_at(rt, alloc, terms, gate, one, (1, 0), 0, before);
+    let out_of_turn = OfferFault::OutOfTurn { expected: 1 };
+    let (other, back) = refuse_at(rt, alloc, terms, gate, other, (1, 0), out_of_turn);
+    expects(rt, is_offer(back, 1, 0, "c1"), "the offer");
+    (one, other)
+}
+
+// Then the one takes it.
+fn take_first<G: Gate>(
+    rt: &(impl Abort + Wait),
+    alloc: Global,
+    terms: &Terms,
+    gate: &G,
+    passes: (G::Pass, G::Pass),
+) -> (G::Pass, G::Pass, Job)
+    requires callers { AreCallers (G.has_pass gate.now) G.known terms.now passes }
+    ensures callers { AreCallers (G.has_pass gate.now) G.known terms.now (result.0, result.1) }
+    ensures at_work { IsAtWork (G.known result.0).seen result.2 }
+{
+    let (one, other) = accept_first(rt, alloc, terms, gate, passes);
+    let (one, job) = take_job(rt, terms, gate, one, 0, counts(1, 0, 0, false));
+    expects(rt, is_job_at(&job, 0, "c1", 0, 0, 0), "the job");
+    (one, other, job)
+}
+
+// The other finds nothing; the one has its member's second claim accepted; the other finds nothing again.
+fn second_waits<G: Gate>(
+    rt: &(impl Abort + Wait),
+    alloc: Global,
+    terms: &Terms,
+    gate: &G,
+    passes: (G::Pass, G::Pass),
+) -> (G::Pass, G::Pass)
+    requires callers { AreCallers (G.has_pass gate.now) G.known terms.now passes }
+    ensures callers { AreCallers (G.has_pass gate.now) G.known terms.now result }
+    ensures leads { LeadsTo (G.known passes.0).seen (G.known result.0).seen }
+{
+    let (one, other) = passes;
+    let before = counts(1, 0, 0, false);
+    let other = find_nothing(rt, terms, gate, other, before);
+    let one = accept_at(rt, alloc, terms, gate, one, (1, 1), 1, before);
+    let other = find_nothing(rt, terms, gate, other, counts(2, 0, 0, false));
+    (one, other)
+}
+
+// The one has the second provider's first claim accepted, and the other takes it.
+fn take_other<G: Gate>(
+    rt: &(impl Abort + Wait),
+    alloc: Global,
+    terms: &Terms,
+    gate: &G,
+    passes: (G::Pass, G::Pass),
+) -> (G::Pass, G::Pass)
+    requires callers { AreCallers (G.has_pass gate.now) G.known terms.now passes }
+    ensures callers { AreCallers (G.has_pass gate.now) G.known terms.now result }
+    ensures leads { LeadsTo (G.known passes.0).seen (G.known result.0).seen }
+{
+    let (one, other) = passes;
+    let before = counts(2, 0, 0, false);
+    let one = accept_at(rt, alloc, terms, gate, one, (2, 0), 2, before);
+    let (other, job) = take_job(rt, terms, gate, other, 2, counts(3, 0, 0, false));
+    expects(rt, is_job_at(&job, 2, "d1", 0, 0, 0), "the job");
+    drop(job);
+    (one, other)
+}
+
+// The one finishes the first claim, and the other takes the member's second one at what that left. Gives that job.
+fn take_second<G: Gate>(
+    rt: &(impl Abort + Wait),
+    alloc: Global,
+    terms: &Terms,
+    gate: &G,
+    passes: (G::Pass, G::Pass),
+    job: Job,
+) -> (G::Pass, G::Pass, Job)
+    requires callers { AreCallers (G.has_pass gate.now) G.known terms.now passes }
+    requires at_work { IsAtWork (G.known passes.0).seen job }
+    ensures callers { AreCallers (G.has_pass gate.now) G.known terms.now (result.0, result.1) }
+    ensures at_work { IsAtWork (G.known result.1).seen result.2 }
+{
+    let (one, other) = passes;
+    let before = counts(3, 0, 0, false);
+    let one = record(rt, alloc, terms, gate, one, job, before);
+    let (other, next) = take_job(rt, terms, gate, other, 1, counts(3, 0, 1, false));
+    expects(
+        rt,
+        is_job_at(&next, 1, "c2", 500_000, 600_000, 400_000),
+        "the job",
+    );
+    (one, other, next)
+}
+
+// All of these calls. Gives what is in work for the other pass.
+fn turn_calls<G: Gate>(
+    rt: &(impl Abort + Wait),
+    alloc: Global,
+    terms: &Terms,
+    gate: &G,
+    passes: (G::Pass, G::Pass),
+) -> (G::Pass, G::Pass, Job)
+    requires callers { AreCallers (G.has_pass gate.now) G.known terms.now passes }
+    ensures callers { AreCallers (G.has_pass gate.now) G.known terms.now (result.0, result.1) }
+    ensures at_work { IsAtWork (G.known result.1).seen result.2 }
+{
+    jobs_stay();
+    let (one, other, job) = take_first(rt, alloc, terms, gate, passes);
+    let (one, other) = second_waits(rt, alloc, terms, gate, (one, other));
+    let (one, other) = take_other(rt, alloc, terms, gate, (one, other));
+    take_second(rt, alloc, terms, gate, (one, other), job)
+}
+
+// The first provider's end is refused.
+fn refuse_first_end<G: Gate>(
+    rt: &(impl Abort + Wait),
+    alloc: Global,
+    terms: &Terms,
+    gate: &G,
+    pass: G::Pass,
+    fault: EndFault,
+) -> G::Pass
+    requires caller { IsCaller (G.has_pass gate.now) G.known terms.now pass }
+    ensures caller { IsCaller (G.has_pass gate.now) G.known terms.now result }
+    ensures leads { LeadsTo (G.known pass).seen (G.known result).seen }
+{
+    read_all(rt, alloc, terms, 1, 4);
+    refuse_end(rt, terms, gate, pass, 1, 4, fault)
+}
+
+// The calls of an intake and of a worker behind a stop.
+fn stopped_calls<G: Gate>(
+    rt: &(impl Abort + Wait),
+    alloc: Global,
+    terms: &Terms,
+    gate: &G,
+    pass: G::Pass,
+) -> G::Pass
+    requires caller { IsCaller (G.has_pass gate.now) G.known terms.now pass }
+    ensures caller { IsCaller (G.has_pass gate.now) G.known terms.now result }
+    ensures leads { LeadsTo (G.known pass).seen (G.known result).seen }
+{
+    let stopped = OfferFault::Stopped;
+    let (pass, offer) = refuse_at(rt, alloc, terms, gate, pass, (2, 0), stopped);
+    expects(rt, is_offer(offer, 2, 0, "d1"), "the offer");
+    let pass = refuse_first_end(rt, alloc, terms, gate, pass, EndFault::Stopped);
+    find_stopped(rt, terms, gate, pass)
+}
+
+// The same, and the outcome of a job.
+fn finish_stopped<G: Gate>(
+    rt: &(impl Abort + Wait),
+    alloc: Global,
+    terms: &Terms,
+    gate: &G,
+    pass: G::Pass,
+    job: Job,
+) -> G::Pass
+    requires caller { IsCaller (G.has_pass gate.now) G.known terms.now pass }
+    requires at_work { IsAtWork (G.known pass).seen job }
+    ensures caller { IsCaller (G.has_pass gate.now) G.known terms.now result }
+{
+    jobs_stay();
+    let pass = stopped_calls(rt, alloc, terms, gate, pass);
+    let stopped = FinishFault::Stopped;
+    let (pass, job, outcome) = refuse_outcome(rt, alloc, terms, gate, pass, job, stopped);
+    let same = is_back(job, outcome, 1, "c2");
+    expects(rt, same, "the job and its outcome");
+    pass
+}
+
+// The calls in turn, the first provider's end, a stop by the one pass, and each call by the other.
+fn all_calls<G: Gate>(
+    rt: &(impl Abort + Wait),
+    alloc: Global,
+    terms: &Terms,
+    gate: &G,
+    passes: (G::Pass, G::Pass),
+) -> G::Pass
+    requires callers { AreCallers (G.has_pass gate.now) G.known terms.now passes }
+    ensures caller { IsCaller (G.has_pass gate.now) G.known terms.now result }
+{
+    let (one, other, job) = turn_calls(rt, alloc, terms, gate, passes);
+    let out_of_turn = EndFault::OutOfTurn { expected: 2 };
+    let one = refuse_first_end(rt, alloc, terms, gate, one, out_of_turn);
+    expects(rt, gate.stop(rt, one).is_ok(), "a stop");
+    finish_stopped(rt, alloc, terms, gate, other, job)
+}
+
+// Whether three claims are accepted, one of them is decided, and the gate is stopped.
+fn is_stopped_at_three(reached: Counts) -> bool {
+    reached.accepted == 3 && reached.decided == 1 && reached.stopped
+}
+
+// The calls over a lock, then a stop; the journal is the one of the gate of one thread.
+fn calls_over<S: Section + Drop>(
+    rt: &(impl Abort + Wait),
+    alloc: Global,
+    terms: &Terms,
+    lock: S,
+    pass: S::Pass,
+)
+where
+    S::Value: SerialGate + Drop,
+    S::Pass: Send + Drop,
+    requires own { S.has_pass lock pass }
+    requires terms { (S.Value.shown (S.seen pass)).terms ≡ terms.now }
+{
+    let gate = LockedGate::over(lock);
+    let passes = gate.split(pass);
+    let pass = all_calls(rt, alloc, terms, &gate, passes);
+    let Ok((reached, pass)) = gate.counts(rt, pass) else {
+        fail(rt, "counts")
+    };
+    expects(rt, is_stopped_at_three(reached), "these counts");
+    ends_with(rt, &gate, pass, worked_journal());
+    drop(gate);
+}
+
+pub fn by_a_spin_lock(rt: &(impl Abort + Wait), alloc: Global, terms: &Terms) {
+    let (lock, pass) = spinning(rt, alloc, terms);
+    calls_over(rt, alloc, terms, lock, pass)
+}
+
+pub fn by_a_ticket_lock(rt: &(impl Abort + Wait), alloc: Global, terms: &Terms) {
+    let (lock, pass) = by_tickets(rt, alloc, terms);
+    calls_over(rt, alloc, terms, lock, pass)
+}
+
+#[test]
+fn two_passes_take_turns_over_a_spin_lock_though_memory_is_refused(rt: HostRuntime) {
+    run(
+        &rt,
+        rt.alloc(),
+        health_plan(),
+        both_files(),
+        None,
+        Calls::TakeTurnsBySpinLock,
+    );
+}
+
+#[test]
+fn two_passes_take_turns_over_a_ticket_lock_though_memory_is_refused(rt: HostRuntime) {
+    run(
+        &rt,
+        rt.alloc(),
+        health_plan(),
+        both_files(),
+        None,
+        Calls::TakeTurnsByTicketLock,
+    );
+}

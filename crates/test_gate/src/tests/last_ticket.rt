@@ -1,0 +1,184 @@
+//! A gate behind a lock of which two tickets are left, one, or none: each call behind the last one is answered so, and the pass
+//! and the values come back.
+ghost use Rattle.std.specs.Prelude.{◌≡◌};
+ghost use Rattle.test_gate.specs.Words.{IsAtWork, IsCaller};
+
+use super::calls::settled;
+use super::filing::{is_offer, offer_at, read_all};
+use super::locks::with_used;
+use super::runs::{Calls, run};
+use super::shared::{accept_at, take_job};
+use super::worked::is_back;
+use super::{counts, expects, fail};
+use claim_gate::{Gate, Job, LockedGate, SerialGate, Terms};
+use std::alloc::Global;
+use std::process::Abort;
+use std::sync::Wait;
+use test_fixtures::{both_files, health_plan};
+use turn_lock::Section;
+
+// The calls of an intake.
+fn worn_intake<G: Gate>(
+    rt: &(impl Abort + Wait),
+    alloc: Global,
+    terms: &Terms,
+    gate: &G,
+    pass: G::Pass,
+) -> G::Pass
+    requires caller { IsCaller (G.has_pass gate.now) G.known terms.now pass }
+    ensures caller { IsCaller (G.has_pass gate.now) G.known terms.now result }
+{
+    let offer = offer_at(rt, alloc, terms, 1, 0);
+    read_all(rt, alloc, terms, 1, 4);
+    let Err((_, pass, back)) = gate.offer(rt, pass, offer) else {
+        fail(rt, "no ticket for an offer")
+    };
+    expects(rt, is_offer(back, 1, 0, "c1"), "the offer");
+    let Err((_, pass)) = gate.end(rt, pass, 1, 4) else {
+        fail(rt, "no ticket for an end")
+    };
+    pass
+}
+
+// The other calls.
+fn worn_calls<G: Gate>(rt: &(impl Abort + Wait), gate: &G, pass: G::Pass) -> G::Pass
+    requires { G.has_pass gate.now pass }
+    ensures { G.has_pass gate.now result }
+{
+    let Err((_, pass)) = gate.take(rt, pass) else {
+        fail(rt, "no ticket for a take")
+    };
+    let Err((_, pass)) = gate.stop(rt, pass) else {
+        fail(rt, "no ticket for a stop")
+    };
+    let Err((_, pass)) = gate.counts(rt, pass) else {
+        fail(rt, "no ticket for the counts")
+    };
+    pass
+}
+
+// The first claim is accepted by the last ticket.
+fn calls_over<S: Section + Drop>(
+    rt: &(impl Abort + Wait),
+    alloc: Global,
+    terms: &Terms,
+    lock: S,
+    pass: S::Pass,
+)
+where
+    S::Value: SerialGate + Drop,
+    S::Pass: Send + Drop,
+    requires own { S.has_pass lock pass }
+    requires terms { (S.Value.shown (S.seen pass)).terms ≡ terms.now }
+{
+    let gate = LockedGate::over(lock);
+    let before = counts(0, 0, 0, false);
+    let pass = accept_at(rt, alloc, terms, &gate, pass, (1, 0), 0, before);
+    let pass = worn_intake(rt, alloc, terms, &gate, pass);
+    let pass = worn_calls(rt, &gate, pass);
+    expects(rt, gate.retire(rt, pass).is_err(), "no gate");
+}
+
+// No claim is accepted at all.
+fn calls_without<S: Section + Drop>(
+    rt: &(impl Abort + Wait),
+    alloc: Global,
+    terms: &Terms,
+    lock: S,
+    pass: S::Pass,
+)
+where
+    S::Value: SerialGate + Drop,
+    S::Pass: Send + Drop,
+    requires own { S.has_pass lock pass }
+    requires terms { (S.Value.shown (S.seen pass)).terms ≡ terms.now }
+{
+    let gate = LockedGate::over(lock);
+    let pass = worn_intake(rt, alloc, terms, &gate, pass);
+    let _pass = worn_calls(rt, &gate, pass);
+}
+
+// The outcome of a job: both come back.
+fn worn_finish<G: Gate>(
+    rt: &(impl Abort + Wait),
+    alloc: Global,
+    terms: &Terms,
+    gate: &G,
+    pass: G::Pass,
+    job: Job,
+)
+    requires caller { IsCaller (G.has_pass gate.now) G.known terms.now pass }
+    requires at_work { IsAtWork (G.known pass).seen job }
+{
+    let outcome = settled(rt, alloc, terms, &job);
+    let Err((_, _pass, job, outcome)) = gate.finish(rt, pass, job, outcome) else {
+        fail(rt, "no ticket for a finish")
+    };
+    let same = is_back(job, outcome, 0, "c1");
+    expects(rt, same, "the job and its outcome");
+}
+
+// The first claim is taken by the last ticket.
+fn finish_over<S: Section + Drop>(
+    rt: &(impl Abort + Wait),
+    alloc: Global,
+    terms: &Terms,
+    lock: S,
+    pass: S::Pass,
+)
+where
+    S::Value: SerialGate + Drop,
+    S::Pass: Send + Drop,
+    requires own { S.has_pass lock pass }
+    requires terms { (S.Value.shown (S.seen pass)).terms ≡ terms.now }
+{
+    let gate = LockedGate::over(lock);
+    let before = counts(0, 0, 0, false);
+    let pass = accept_at(rt, alloc, terms, &gate, pass, (1, 0), 0, before);
+    let (pass, job) = take_job(rt, terms, &gate, pass, 0, counts(1, 0, 0, false));
+    worn_finish(rt, alloc, terms, &gate, pass, job)
+}
+
+fn one_ticket(rt: &(impl Abort + Wait), alloc: Global, terms: &Terms) {
+    let (lock, pass) = with_used(rt, alloc, terms, u64::MAX - 1);
+    calls_over(rt, alloc, terms, lock, pass)
+}
+
+fn no_ticket(rt: &(impl Abort + Wait), alloc: Global, terms: &Terms) {
+    let (lock, pass) = with_used(rt, alloc, terms, u64::MAX);
+    calls_without(rt, alloc, terms, lock, pass)
+}
+
+pub fn two_tickets(rt: &(impl Abort + Wait), alloc: Global, terms: &Terms) {
+    let (lock, pass) = with_used(rt, alloc, terms, u64::MAX - 2);
+    finish_over(rt, alloc, terms, lock, pass)
+}
+
+pub fn few_tickets(rt: &(impl Abort + Wait), alloc: Global, terms: &Terms) {
+    no_ticket(rt, alloc, terms);
+    one_ticket(rt, alloc, terms)
+}
+
+#[test]
+fn no_call_without_a_ticket(rt: HostRuntime) {
+    run(
+        &rt,
+        rt.alloc(),
+        health_plan(),
+        both_files(),
+        None,
+        Calls::LastTickets,
+    );
+}
+
+#[test]
+fn no_outcome_without_a_ticket(rt: HostRuntime) {
+    run(
+        &rt,
+        rt.alloc(),
+        health_plan(),
+        both_files(),
+        None,
+        Calls::OutcomeWithoutTicket,
+    );
+}

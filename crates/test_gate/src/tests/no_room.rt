@@ -1,0 +1,150 @@
+//! Calls at a journal that has no room left, on a gate of one thread and on one behind a lock: what memory is refused for is more room.
+ghost use Rattle.std.specs.Prelude.{◌≡◌};
+ghost use Rattle.test_gate.specs.Words.{IsCaller};
+
+use super::events::has_journal;
+use super::filing::{gate_of, read_all};
+use super::locks::ends_with;
+use super::runs::{Calls, run};
+use super::shared::{find_nothing, take_job};
+use super::{again_shared, calls, counts, expects};
+use claim_gate::{Gate, GateState, LockedGate, SerialGate, Terms};
+use std::alloc::Global;
+use std::process::Abort;
+use std::sync::Wait;
+use test_fixtures::{first_file, header, health_plan, second_file};
+use turn_lock::{Section, SpinLock};
+
+/// The call that needs room.
+#[derive(Clone, Copy)]
+enum Call {
+    End,
+    Take,
+    FindNothing,
+}
+
+impl Call {
+    // The place of the claim that is accepted last: of another member, or of the first, for which it waits.
+    fn third(self) -> (usize, usize) {
+        match self {
+            Call::End => (2, 0),
+            Call::Take => (2, 0),
+            Call::FindNothing => (1, 2),
+        }
+    }
+
+    // The journal behind the call.
+    fn journal(self) -> &'static [u8] {
+        match self {
+            Call::End => b"A10A11A20T0 E3 ",
+            Call::Take => b"A10A11A20T0 T2 ",
+            Call::FindNothing => b"A10A11A12T0 ",
+        }
+    }
+}
+
+// A gate that has accepted three claims, of which the first is in work. So its journal is full, since it began with room for four events.
+fn full_gate<'t>(
+    rt: &impl Abort,
+    alloc: Global,
+    terms: &'t Terms<'t>,
+    third: (usize, usize),
+) -> GateState<'t>
+    ensures { result.terms ≡ terms.now }
+{
+    let (provider, place) = third;
+    let mut gate = gate_of(rt, alloc, terms);
+    calls::accept_at(rt, alloc, terms, &mut gate, 1, 0, 0);
+    calls::accept_at(rt, alloc, terms, &mut gate, 1, 1, 1);
+    calls::accept_at(rt, alloc, terms, &mut gate, provider, place, 2);
+    drop(calls::take_job(rt, terms, &mut gate, 0));
+    gate
+}
+
+// The call on a gate of one thread.
+fn call_alone(rt: &impl Abort, alloc: Global, terms: &Terms, call: Call) {
+    let mut gate = full_gate(rt, alloc, terms, call.third());
+    read_all(rt, alloc, terms, 3, 0);
+    match call {
+        Call::End => calls::end(rt, terms, &mut gate, 3, 0),
+        Call::Take => drop(calls::take_job(rt, terms, &mut gate, 2)),
+        Call::FindNothing => calls::find_nothing(rt, terms, &mut gate),
+    }
+    let same = has_journal(&gate, call.journal());
+    expects(rt, same, "this journal");
+    drop(gate);
+}
+
+// The call on a shared gate.
+fn call_shared<G: Gate>(
+    rt: &(impl Abort + Wait),
+    alloc: Global,
+    terms: &Terms,
+    gate: &G,
+    pass: G::Pass,
+    call: Call,
+) -> G::Pass
+    requires caller { IsCaller (G.has_pass gate.now) G.known terms.now pass }
+    ensures caller { IsCaller (G.has_pass gate.now) G.known terms.now result }
+{
+    let before = counts(3, 0, 0, false);
+    read_all(rt, alloc, terms, 3, 0);
+    match call {
+        Call::End => again_shared::end(rt, terms, gate, pass, 3, 0, before),
+        Call::Take => take_job(rt, terms, gate, pass, 2, before).0,
+        Call::FindNothing => find_nothing(rt, terms, gate, pass, before),
+    }
+}
+
+fn call_over<S: Section + Drop>(
+    rt: &(impl Abort + Wait),
+    alloc: Global,
+    terms: &Terms,
+    lock: S,
+    pass: S::Pass,
+    call: Call,
+)
+where
+    S::Value: SerialGate + Drop,
+    S::Pass: Send + Drop,
+    requires own { S.has_pass lock pass }
+    requires terms { (S.Value.shown (S.seen pass)).terms ≡ terms.now }
+{
+    let gate = LockedGate::over(lock);
+    let pass = call_shared(rt, alloc, terms, &gate, pass, call);
+    ends_with(rt, &gate, pass, call.journal());
+    drop(gate);
+}
+
+// The call behind a lock.
+fn call_locked(rt: &(impl Abort + Wait), alloc: Global, terms: &Terms, call: Call) {
+    let third = call.third();
+    let (lock, pass) = match SpinLock::new(alloc, full_gate(rt, alloc, terms, third)) {
+        Ok(made) => made,
+        Err(_) => SpinLock::new(alloc, full_gate(rt, alloc, terms, third)).expect(
+            rt,
+            "memory for a lock",
+        ),
+    };
+    call_over(rt, alloc, terms, lock, pass, call)
+}
+
+pub fn full_calls(rt: &(impl Abort + Wait), alloc: Global, terms: &Terms) {
+    for call in [Call::End, Call::Take, Call::FindNothing] {
+        call_alone(rt, alloc, terms, call);
+        call_locked(rt, alloc, terms, call);
+    }
+}
+
+#[test]
+fn a_full_journal_gets_room_though_memory_is_refused(rt: HostRuntime) {
+    let files = [first_file(), second_file(), header()];
+    run(
+        &rt,
+        rt.alloc(),
+        health_plan(),
+        &files,
+        None,
+        Calls::FillJournals,
+    );
+}

@@ -1,0 +1,420 @@
+//! Runs by worked examples: what each claim comes to is written by hand, whatever the schedule.
+use crate::testing::{expects, expects_at, fail, plan_of, terms_of};
+use claim_gate::{Batch, Terms};
+use crew::{RunFault, WORKERS_LIMIT, run};
+use dtable::Plan;
+use journals::{comes_to, count_of, is_ends_and_close};
+use std::alloc::Global;
+use std::fmt::Write;
+use std::process::Abort;
+use std::sync::Wait;
+use std::thread::Threads;
+use test_fixtures::{balances, both_files, header, second_file};
+
+mod behind_others;
+mod hostile;
+mod journals;
+mod meeting;
+mod met;
+mod refusing;
+mod stopping;
+mod watched;
+
+const THREE: &str = "claim,member,service,billed,code
+e1,M3,2024-01-05,120.00,A
+e2,M3,2024-02-01,40.00,B
+e3,M4,2024-02-02,40.00,X
+";
+
+/// Refused records in front of the first claim, between the claims, and behind the last.
+const REFUSED: &str = "claim,member,service,billed,code
+c,,2024-01-01,1.00,A
+a,\"M\"\"1\",2024-02-29,1.00,A
+b,M2,2024-01-01
+d,M,2024-02-30,1.00,A
+e,M,2024-01-01,-1.005,A
+d1,M2,2024-01-09,30.00,B
+f,M,2024-01-01,-1.00,A
+";
+
+/// The claims of both files by provider and place, and how many events of each kind there are.
+const OUTCOMES_OF_BOTH: &str = "1 0 Paid 100.00 50.00 10.00 8.00 60.00 40.00 OVER
+1 1 Paid 40.00 0.00 10.00 6.00 0.00 40.00 MET
+1 2 Pended(NoRule { table: 1 }) 0.00 0.00 0.00 0.00 0.00 0.00
+1 3 Paid 100.00 0.00 10.00 18.00 0.00 100.00 MET
+2 0 Paid 30.00 30.00 0.00 0.00 30.00 0.00
+2 1 Denied 0.00 0.00 0.00 0.00 0.00 0.00
+accepts 6 takes 6 decides 6 ends 2 closes 1
+";
+
+/// With the deductible met and 10.00 out of pocket at the start, the limit of 60.00 is reached by 28.00, 16.00 and 6.00.
+const FROM_BALANCES: &str = "1 0 Paid 100.00 0.00 10.00 18.00 28.00 72.00 OVER MET
+1 1 Paid 40.00 0.00 10.00 6.00 16.00 24.00 MET
+1 2 Pended(NoRule { table: 1 }) 0.00 0.00 0.00 0.00 0.00 0.00
+1 3 Paid 100.00 0.00 10.00 18.00 6.00 94.00 MET
+2 0 Paid 30.00 30.00 0.00 0.00 30.00 0.00
+2 1 Denied 0.00 0.00 0.00 0.00 0.00 0.00
+accepts 6 takes 6 decides 6 ends 2 closes 1
+";
+
+const BETWEEN_REFUSED: &str = "1 0 Paid 1.00 1.00 0.00 0.00 1.00 0.00
+1 1 Paid 30.00 30.00 0.00 0.00 30.00 0.00
+accepts 2 takes 2 decides 2 ends 2 closes 1
+";
+
+// A function for each text: what calls it is proved without the text.
+fn file_three() -> &'static [u8] {
+    THREE.as_bytes()
+}
+
+fn refused() -> &'static [u8] {
+    REFUSED.as_bytes()
+}
+
+fn outcomes_of_both() -> &'static str {
+    OUTCOMES_OF_BOTH
+}
+
+fn from_balances() -> &'static str {
+    FROM_BALANCES
+}
+
+fn between_refused() -> &'static str {
+    BETWEEN_REFUSED
+}
+
+// The finished journal of a run by so many workers.
+fn batch_of<'t, R: Threads + Wait + Abort + Sync>(
+    rt: &R,
+    alloc: Global,
+    terms: &'t Terms,
+    workers: usize,
+) -> Batch<'t> {
+    match run(rt, alloc, terms, workers) {
+        Ok(batch) => batch,
+        Err(_) => fail(rt, "a run"),
+    }
+}
+
+// Runs by so many workers, and compares what the run comes to.
+fn runs_by<R: Threads + Wait + Abort + Sync>(
+    rt: &R,
+    alloc: Global,
+    terms: &Terms,
+    workers: usize,
+    wanted: &str,
+) {
+    let batch = batch_of(rt, alloc, terms, workers);
+    comes_to(rt, alloc, batch.journal(), terms.files().len(), wanted);
+    drop(batch);
+}
+
+// Runs by several numbers of workers.
+fn runs_by_several<R: Threads + Wait + Abort + Sync>(
+    rt: &R,
+    alloc: Global,
+    terms: &Terms,
+    wanted: &str,
+) {
+    runs_by(rt, alloc, terms, 1, wanted);
+    runs_by(rt, alloc, terms, 2, wanted);
+    runs_by(rt, alloc, terms, 4, wanted);
+    runs_by(rt, alloc, terms, WORKERS_LIMIT, wanted);
+}
+
+// Runs over two files.
+fn runs_over<R: Threads + Wait + Abort + Sync>(
+    rt: &R,
+    alloc: Global,
+    plan: &Plan,
+    files: &[&[u8]],
+    balances: Option<&[u8]>,
+    wanted: &str,
+) {
+    let Ok(terms) = Terms::new(alloc, plan, files, balances, None) else {
+        fail(rt, "terms")
+    };
+    runs_by_several(rt, alloc, &terms, wanted);
+    drop(terms);
+}
+
+fn check_worked<R: Threads + Wait + Abort + Sync>(rt: &R, alloc: Global, plan: &Plan) {
+    runs_over(rt, alloc, plan, both_files(), None, outcomes_of_both());
+    let balances = Some(balances());
+    runs_over(rt, alloc, plan, both_files(), balances, from_balances());
+    let files = [refused(), header()];
+    runs_over(rt, alloc, plan, &files, None, between_refused());
+}
+
+// How far a run by two workers up to a cutoff comes.
+fn check_cutoff<R: Threads + Wait + Abort + Sync>(
+    rt: &R,
+    alloc: Global,
+    plan: &Plan,
+    cutoff: u64,
+    accepts: usize,
+) {
+    let files = [file_three(), file_three()];
+    let terms = terms_of(rt, alloc, plan, &files, Some(cutoff));
+    let batch = batch_of(rt, alloc, &terms, 2);
+    expects_at(rt, count_of(batch.journal(), "accepts") == accepts, accepts);
+    expects_at(rt, count_of(batch.journal(), "takes") == accepts, accepts);
+    expects_at(rt, count_of(batch.journal(), "decides") == accepts, accepts);
+    expects_at(rt, count_of(batch.journal(), "closes") == 1, accepts);
+    drop(batch);
+    drop(terms);
+}
+
+fn check_cutoffs<R: Threads + Wait + Abort + Sync>(rt: &R, alloc: Global, plan: &Plan) {
+    check_cutoff(rt, alloc, plan, 0, 0);
+    check_cutoff(rt, alloc, plan, 1, 1);
+    check_cutoff(rt, alloc, plan, 4, 4);
+    check_cutoff(rt, alloc, plan, 6, 6);
+    check_cutoff(rt, alloc, plan, 7, 6);
+}
+
+// Whether a fault is this one, by its number.
+fn is(fault: RunFault, wanted: RunFault) -> bool {
+    fault.number() == wanted.number()
+}
+
+// Whether a run had this fault.
+fn had(fault: Option<RunFault>, wanted: RunFault) -> bool {
+    match fault {
+        Some(fault) => is(fault, wanted),
+        None => false,
+    }
+}
+
+fn check_workers<R: Threads + Wait + Abort + Sync>(
+    rt: &R,
+    alloc: Global,
+    terms: &Terms,
+    workers: usize,
+) {
+    match run(rt, alloc, terms, workers) {
+        Ok(_) => fail(rt, "a refusal"),
+        Err(fault) => expects_at(rt, is(fault, RunFault::Workers), workers),
+    }
+}
+
+// No worker, and too many.
+fn check_crews<R: Threads + Wait + Abort + Sync>(rt: &R, alloc: Global, plan: &Plan) {
+    let files = [second_file()];
+    let terms = terms_of(rt, alloc, plan, &files, None);
+    check_workers(rt, alloc, &terms, 0);
+    check_workers(rt, alloc, &terms, WORKERS_LIMIT + 1);
+    check_workers(rt, alloc, &terms, usize::MAX);
+    drop(terms);
+}
+
+// The journal of a run over files that have no claim is one end of each provider, and the close.
+fn ends_all<R: Threads + Wait + Abort + Sync>(
+    rt: &R,
+    alloc: Global,
+    plan: &Plan,
+    files: &[&[u8]],
+    workers: usize,
+) {
+    let terms = terms_of(rt, alloc, plan, files, None);
+    let batch = batch_of(rt, alloc, &terms, workers);
+    expects(
+        rt,
+        is_ends_and_close(batch.journal(), files.len()),
+        "the ends and the close",
+    );
+    drop(batch);
+    drop(terms);
+}
+
+fn check_headers<R: Threads + Wait + Abort + Sync>(rt: &R, alloc: Global, plan: &Plan) {
+    let one = [header()];
+    ends_all(rt, alloc, plan, &one, 2);
+    let many = [header(); 64];
+    ends_all(rt, alloc, plan, &many, 4);
+}
+
+// The runs of a test.
+#[derive(Clone, Copy)]
+enum Runs {
+    OverTwoFiles,
+    UpToCutoffs,
+    OfOtherCrews,
+    OverHeaders,
+    ThoughRefused,
+    OnGates(OnGates),
+}
+
+// Runs over both files on gates that others call too, that wear out, or that answer at the worst moment.
+#[derive(Clone, Copy)]
+enum OnGates {
+    AllThreads,
+    CalledOff,
+    WorkersMeet,
+    IntakesMeet,
+    BehindOthers,
+    StoppedGate,
+    StoppedOutcomes,
+    RefusedOnce,
+    RefusedTwice,
+}
+
+// One function has the plan of all tests, and one the terms of those on gates: what holds one is dear to prove.
+fn check<R: Threads + Wait + Abort + Sync>(rt: &R, alloc: Global, runs: Runs) {
+    let plan = plan_of(rt, alloc);
+    match runs {
+        Runs::OverTwoFiles => check_worked(rt, alloc, &plan),
+        Runs::UpToCutoffs => check_cutoffs(rt, alloc, &plan),
+        Runs::OfOtherCrews => check_crews(rt, alloc, &plan),
+        Runs::OverHeaders => check_headers(rt, alloc, &plan),
+        Runs::ThoughRefused => check_refused(rt, alloc, &plan),
+        Runs::OnGates(runs) => check_on_gates(rt, alloc, &plan, runs),
+    }
+    drop(plan);
+}
+
+fn check_on_gates<R: Threads + Wait + Abort + Sync>(
+    rt: &R,
+    alloc: Global,
+    plan: &Plan,
+    runs: OnGates,
+) {
+    let terms = terms_of(rt, alloc, plan, both_files(), None);
+    match runs {
+        OnGates::AllThreads => hostile::check_all_threads(rt, alloc, &terms),
+        OnGates::CalledOff => hostile::check_called_off(rt, alloc, &terms),
+        OnGates::WorkersMeet => meeting::check_workers(rt, alloc, &terms),
+        OnGates::IntakesMeet => meeting::check_intakes(rt, alloc, &terms),
+        OnGates::BehindOthers => behind_others::goes_on(rt, alloc, &terms),
+        OnGates::StoppedGate => stopping::check_stopped_gate(rt, alloc, &terms),
+        OnGates::StoppedOutcomes => stopping::check_stopped_outcomes(rt, alloc, &terms),
+        OnGates::RefusedOnce => refusing::check_refused_once(rt, alloc, &terms),
+        OnGates::RefusedTwice => refusing::check_refused_twice(rt, alloc, plan),
+    }
+    drop(terms);
+}
+
+#[test]
+fn runs_over_two_files(rt: HostRuntime) {
+    check(&rt, rt.alloc(), Runs::OverTwoFiles);
+}
+
+#[test]
+fn a_run_up_to_a_cutoff(rt: HostRuntime) {
+    check(&rt, rt.alloc(), Runs::UpToCutoffs);
+}
+
+#[test]
+fn a_run_refuses_no_worker_and_too_many(rt: HostRuntime) {
+    check(&rt, rt.alloc(), Runs::OfOtherCrews);
+}
+
+#[test]
+fn a_run_over_a_header_alone(rt: HostRuntime) {
+    check(&rt, rt.alloc(), Runs::OverHeaders);
+}
+
+#[test]
+fn a_run_has_an_intake_a_file_and_its_workers(rt: HostRuntime) {
+    check(&rt, rt.alloc(), Runs::OnGates(OnGates::AllThreads));
+}
+
+#[test]
+fn runs_that_others_call_off(rt: HostRuntime) {
+    check(&rt, rt.alloc(), Runs::OnGates(OnGates::CalledOff));
+}
+
+#[test]
+fn two_workers_meet(rt: HostRuntime) {
+    check(&rt, rt.alloc(), Runs::OnGates(OnGates::WorkersMeet));
+}
+
+#[test]
+fn two_intakes_meet(rt: HostRuntime) {
+    check(&rt, rt.alloc(), Runs::OnGates(OnGates::IntakesMeet));
+}
+
+#[test]
+fn intakes_go_on_where_others_are(rt: HostRuntime) {
+    check(&rt, rt.alloc(), Runs::OnGates(OnGates::BehindOthers));
+}
+
+#[test]
+fn a_run_on_a_stopped_gate(rt: HostRuntime) {
+    check(&rt, rt.alloc(), Runs::OnGates(OnGates::StoppedGate));
+}
+
+#[test]
+fn a_work_s_finish_is_stopped(rt: HostRuntime) {
+    check(&rt, rt.alloc(), Runs::OnGates(OnGates::StoppedOutcomes));
+}
+
+#[test]
+fn a_call_refused_memory_is_made_once_more(rt: HostRuntime) {
+    check(&rt, rt.alloc(), Runs::OnGates(OnGates::RefusedOnce));
+}
+
+#[test]
+fn a_call_refused_memory_twice_ends_the_run(rt: HostRuntime) {
+    check(&rt, rt.alloc(), Runs::OnGates(OnGates::RefusedTwice));
+}
+
+const FAULT_LINES: &str = "1 no worker, or too many workers
+2 out of memory
+3 a thread can't be started
+4 the lock has no ticket left
+5 the run was stopped
+";
+
+fn fault_lines() -> &'static str {
+    FAULT_LINES
+}
+
+// A fault's number and text, a line each.
+fn write_fault(rt: &impl Abort, text: &mut String, fault: RunFault) {
+    let number = fault.number();
+    writeln!(text, "{number} {fault}").expect(rt, "memory for a line");
+}
+
+#[test]
+fn faults_have_numbers_and_texts(rt: HostRuntime) {
+    let mut text = String::new(rt.alloc());
+    write_fault(&rt, &mut text, RunFault::Workers);
+    write_fault(&rt, &mut text, RunFault::OutOfMemory);
+    write_fault(&rt, &mut text, RunFault::Thread);
+    write_fault(&rt, &mut text, RunFault::Worn);
+    write_fault(&rt, &mut text, RunFault::Stopped);
+    expects(&rt, text.as_str() == fault_lines(), "these lines");
+}
+
+fn is_wanting(fault: RunFault) -> bool {
+    is(fault, RunFault::OutOfMemory) || is(fault, RunFault::Thread)
+}
+
+// The whole journal of a run by two workers; one that is refused memory or a thread says so, and is run once more.
+fn batch_though_refused<'t, R: Threads + Wait + Abort + Sync>(
+    rt: &R,
+    alloc: Global,
+    terms: &'t Terms,
+) -> Batch<'t> {
+    match run(rt, alloc, terms, 2) {
+        Ok(batch) => batch,
+        Err(fault) => {
+            expects(rt, is_wanting(fault), "a want of memory");
+            batch_of(rt, alloc, terms, 2)
+        }
+    }
+}
+
+fn check_refused<R: Threads + Wait + Abort + Sync>(rt: &R, alloc: Global, plan: &Plan) {
+    let terms = terms_of(rt, alloc, plan, both_files(), None);
+    let batch = batch_though_refused(rt, alloc, &terms);
+    expects(rt, batch.journal().len() == 21, "21 events");
+    drop(batch);
+    drop(terms);
+}
+
+#[test]
+fn a_run_though_memory_is_refused(rt: HostRuntime) {
+    check(&rt, rt.alloc(), Runs::ThoughRefused);
+}

@@ -1,0 +1,507 @@
+//! Settlements by worked examples. Amounts are in cents. What is refused memory is asked for once more.
+//!
+//! Who holds a plan, a claim or an outcome ends with `drop` of it: that is one call to the prover, and the end of a scope is each of its
+//! parts.
+ghost use Rattle.std.specs.Prelude.{◌≡◌};
+
+mod examples;
+mod families;
+mod plans;
+mod zones;
+
+use crate::ending::{expects, fail};
+use dtable::{Plan, PlanFault, Sequence, Valuer, read_plan};
+use examples::{
+    Example, MOST, before_capped, behind_a_pended, capped, first, naming, paid, rates, scored,
+    second, treated, uncapped, unpaid, written,
+};
+use feel_tests::{Day, Kind, PlainFault, TEXT_LIMIT_BYTES, Text, Value, read_plain};
+use fixpoint::Fixed;
+use plans::{chained, faulty, flat, flat_by_year, named, open, rate_of_claim};
+use settlement::{
+    Acc, Adjudicator, Claim, Money, Outcome, Remarks, Role, Verdict, account_year, after, decide,
+    fields_of,
+};
+use std::alloc::{AllocError, Global};
+use std::fmt::Write;
+use std::process::Abort;
+use test_fixtures::health_plan;
+
+/// So many cents.
+pub fn money(rt: &impl Abort, cents: i64) -> Money {
+    let amount = Fixed::from_units(cents.saturating_mul(100)).expect(rt, "a number");
+    Money::new(amount).expect(rt, "money")
+}
+
+/// The accumulators of a member who is all of its family.
+pub fn acc(rt: &impl Abort, cents: (i64, i64, i64)) -> Acc {
+    let (met, oop, paid) = cents;
+    families::acc(rt, (met, oop, paid, met, oop))
+}
+
+fn cents(money: Money) -> i64 {
+    money.amount().units() / 100
+}
+
+/// A text of at most 256 bytes.
+pub fn text(rt: &impl Abort, alloc: Global, text: &str) -> Text {
+    assert!(rt; text.len() <= TEXT_LIMIT_BYTES);
+    match Text::new(alloc, text) {
+        Ok(made) => made,
+        Err(_) => Text::new(alloc, text).expect(rt, "memory for a text"),
+    }
+}
+
+fn value(rt: &impl Abort, alloc: Global, kind: Kind, text: &str) -> Value {
+    match plain(alloc, kind, text) {
+        Ok(value) => value,
+        Err(fault) => {
+            expects(rt, matches!(fault, PlainFault::OutOfMemory), "a value");
+            plain(alloc, kind, text).expect(rt, "a value")
+        }
+    }
+}
+
+// The call that is made twice; what it promises isn't needed.
+fn plain(alloc: Global, kind: Kind, text: &str) -> Result<Value, PlainFault> {
+    read_plain(alloc, kind, text)
+}
+
+// Room for so many values.
+fn room(rt: &impl Abort, alloc: Global, count: usize) -> Sequence<Value> {
+    match Sequence::with_capacity(alloc, count) {
+        Ok(room) => room,
+        Err(_) => Sequence::with_capacity(alloc, count).expect(rt, "memory for values"),
+    }
+}
+
+fn values(rt: &impl Abort, alloc: Global, plan: &Plan, texts: &[&str]) -> Sequence<Value> {
+    let mut values = room(rt, alloc, texts.len());
+    for (data, text) in fields_of(plan).iter().zip(texts) {
+        let pushed = values.push(value(rt, alloc, data.kind, text));
+        expects(rt, pushed.is_ok(), "room for a value");
+    }
+    values
+}
+
+// The family of a claim, where the plan keeps families.
+fn family_under(rt: &impl Abort, alloc: Global, plan: &Plan) -> Option<Text> {
+    if plan.keeps_families() {
+        Some(text(rt, alloc, "F1"))
+    } else {
+        None
+    }
+}
+
+fn claim(rt: &impl Abort, alloc: Global, plan: &Plan, billed: i64, texts: &[&str]) -> Claim {
+    Claim {
+        id: text(rt, alloc, "c1"),
+        family: family_under(rt, alloc, plan),
+        member: text(rt, alloc, "M1"),
+        service: Day::from_epoch_day(19_727).expect(rt, "a day"),
+        billed: money(rt, billed),
+        fields: values(rt, alloc, plan, texts),
+    }
+}
+
+// The outcome of a claim by the plan.
+fn decided(rt: &impl Abort, alloc: Global, plan: &Plan, claim: &Claim, before: &Acc) -> Outcome {
+    match decided_once(rt, alloc, plan, claim, before) {
+        Ok(outcome) => outcome,
+        Err(_) => decided_once(rt, alloc, plan, claim, before).expect(rt, "memory for an outcome"),
+    }
+}
+
+// The call that is made twice.
+fn decided_once(
+    rt: &impl Abort,
+    alloc: Global,
+    plan: &Plan,
+    claim: &Claim,
+    before: &Acc,
+) -> Result<Outcome, AllocError> {
+    assert!(rt; plan.roles().is_some());
+    assert!(rt; claim.is_of(plan));
+    decide(alloc, plan, claim, *before)
+}
+
+// The outcome of one claim more.
+fn decided_next<V: Valuer>(
+    rt: &impl Abort,
+    alloc: Global,
+    desk: &mut Adjudicator<V>,
+    plan: &Plan,
+    example: &Example,
+) -> Result<Outcome, AllocError>
+    requires { desk.old ≡ plan.now }
+    ensures { desk.new ≡ desk.old }
+{
+    let (fields, billed, before, _) = example;
+    let claim = claim(rt, alloc, plan, *billed, fields);
+    assert!(rt; plan.roles().is_some());
+    assert!(rt; claim.is_of(plan));
+    let outcome = desk.decide(alloc, &claim, acc(rt, *before));
+    drop(claim);
+    outcome
+}
+
+// An outcome in a line: its verdict, amounts and remarks, and the accumulators that it leaves, those of the family behind the member's
+// where they are asked for.
+fn told(rt: &impl Abort, alloc: Global, outcome: &Outcome, before: &Acc, family: bool) -> String {
+    let mut told = String::new(alloc);
+    if tell(&mut told, outcome, before, family).is_err() {
+        told.clear();
+        let again = tell(&mut told, outcome, before, family);
+        expects(rt, again.is_ok(), "memory for what is told");
+    }
+    told
+}
+
+fn tell(
+    told: &mut String,
+    outcome: &Outcome,
+    before: &Acc,
+    family: bool,
+) -> Result<(), AllocError> {
+    write!(told, "{:?}", outcome.verdict)?;
+    tell_amounts(told, outcome)?;
+    for place in 0..outcome.remarks.len() {
+        if let Some(remark) = outcome.remarks.get(place) {
+            write!(told, " {remark}")?;
+        }
+    }
+    tell_left(told, after(*before, outcome), family)
+}
+
+fn tell_amounts(told: &mut String, outcome: &Outcome) -> Result<(), AllocError> {
+    tell_each(
+        told,
+        &[
+            outcome.allowed,
+            outcome.ded,
+            outcome.copay,
+            outcome.coins,
+            outcome.share,
+            outcome.paid,
+        ],
+    )
+}
+
+fn tell_each(told: &mut String, amounts: &[Money]) -> Result<(), AllocError> {
+    for amount in amounts {
+        write!(told, " {}", cents(*amount))?;
+    }
+    Ok(())
+}
+
+fn tell_left(told: &mut String, left: Option<Acc>, family: bool) -> Result<(), AllocError> {
+    match left {
+        Some(acc) => tell_acc(told, acc, family),
+        None => told.push_str(", out of range"),
+    }
+}
+
+fn tell_acc(told: &mut String, acc: Acc, family: bool) -> Result<(), AllocError> {
+    told.push(',')?;
+    tell_each(told, &[acc.met, acc.oop, acc.paid])?;
+    if family {
+        tell_each(told, &[acc.fmet, acc.foop])?;
+    }
+    Ok(())
+}
+
+fn is_told(rt: &impl Abort, alloc: Global, outcome: Outcome, example: &Example) {
+    let (_, _, before, wanted) = example;
+    let told = told(rt, alloc, &outcome, &acc(rt, *before), false);
+    expects(rt, told.as_str() == *wanted, wanted);
+    drop(outcome);
+}
+
+// Decides a claim by the plan.
+fn settles(rt: &impl Abort, alloc: Global, plan: &Plan, example: &Example) {
+    let (fields, billed, before, _) = example;
+    let claim = claim(rt, alloc, plan, *billed, fields);
+    let outcome = decided(rt, alloc, plan, &claim, &acc(rt, *before));
+    is_told(rt, alloc, outcome, example);
+    drop(claim);
+}
+
+fn plan(rt: &impl Abort, alloc: Global, text: &str) -> Plan {
+    match read(alloc, text) {
+        Ok(plan) => plan,
+        Err(fault) => {
+            expects(rt, fault == PlanFault::from(AllocError), "a plan");
+            read(alloc, text).expect(rt, "a plan")
+        }
+    }
+}
+
+// The call that is made twice; what it promises isn't needed.
+fn read(alloc: Global, text: &str) -> Result<Plan, PlanFault> {
+    read_plan(alloc, text.as_bytes())
+}
+
+// Decides the claims by the plan, each by a call of its own.
+fn decides(rt: &impl Abort, alloc: Global, text: &str, examples: &[Example]) {
+    let plan = plan(rt, alloc, text);
+    for example in examples {
+        settles(rt, alloc, &plan, example);
+    }
+    drop(plan);
+}
+
+#[test]
+fn amounts_written_in_the_plan(rt: HostRuntime) {
+    decides(&rt, rt.alloc(), flat(), written());
+}
+
+#[test]
+fn a_rate_above_one(rt: HostRuntime) {
+    expects(&rt, Role::Rate.number() == 5, "the rate's number");
+    decides(&rt, rt.alloc(), rate_of_claim(), rates());
+}
+
+#[test]
+fn who_pays_what(rt: HostRuntime) {
+    decides(&rt, rt.alloc(), open(), paid());
+}
+
+#[test]
+fn the_first_role_that_is_not_what_it_must_be(rt: HostRuntime) {
+    decides(&rt, rt.alloc(), open(), unpaid());
+}
+
+#[test]
+fn faults_of_the_tables(rt: HostRuntime) {
+    decides(&rt, rt.alloc(), faulty(), scored());
+}
+
+#[test]
+fn tables_give_cover_fee_and_remarks(rt: HostRuntime) {
+    decides(&rt, rt.alloc(), health_plan(), &[first(), second()]);
+    decides(&rt, rt.alloc(), health_plan(), treated());
+}
+
+// The gate runs it once for each of its allocations, with that one refused.
+#[test]
+fn tables_in_a_chain_though_memory_is_refused(rt: HostRuntime) {
+    decides(&rt, rt.alloc(), chained(), &[capped(), uncapped()]);
+}
+
+fn desk<'v>(rt: &impl Abort, alloc: Global, plan: &'v Plan) -> Adjudicator<'v, Plan>
+    ensures { result ≡ plan.now }
+{
+    match Adjudicator::new(alloc, plan) {
+        Ok(desk) => desk,
+        Err(_) => Adjudicator::new(alloc, plan).expect(rt, "memory for an adjudicator"),
+    }
+}
+
+// Decides one claim more.
+fn settles_next<V: Valuer>(
+    rt: &impl Abort,
+    alloc: Global,
+    desk: &mut Adjudicator<V>,
+    plan: &Plan,
+    example: &Example,
+)
+    requires { desk.old ≡ plan.now }
+    ensures { desk.new ≡ desk.old }
+{
+    let outcome = match decided_next(rt, alloc, desk, plan, example) {
+        Ok(outcome) => outcome,
+        Err(_) => {
+            decided_next(rt, alloc, desk, plan, example).expect(rt, "memory for an outcome")
+        }
+    };
+    is_told(rt, alloc, outcome, example);
+}
+
+// Decides two claims by one adjudicator.
+fn settles_both(rt: &impl Abort, alloc: Global, plan: &Plan, examples: &[Example]) {
+    let [first, second] = examples else {
+        fail(rt, "two claims")
+    };
+    let mut desk = desk(rt, alloc, plan);
+    settles_next(rt, alloc, &mut desk, plan, first);
+    settles_next(rt, alloc, &mut desk, plan, second);
+    drop(desk);
+}
+
+fn decides_both(rt: &impl Abort, alloc: Global, text: &str, examples: &[Example]) {
+    let plan = plan(rt, alloc, text);
+    settles_both(rt, alloc, &plan, examples);
+    drop(plan);
+}
+
+#[test]
+fn one_adjudicator_decides_claims_of_two_codes(rt: HostRuntime) {
+    decides_both(&rt, rt.alloc(), health_plan(), &[first(), second()]);
+}
+
+#[test]
+fn one_adjudicator_decides_after_a_pended_claim(rt: HostRuntime) {
+    decides_both(&rt, rt.alloc(), health_plan(), behind_a_pended());
+}
+
+#[test]
+fn what_each_claim_and_each_member_has(rt: HostRuntime) {
+    decides_both(&rt, rt.alloc(), named(), naming());
+}
+
+// A decision that is refused memory, and is not asked for again, leaves no trace in the next, of another claim.
+fn settles_after_a_refusal(rt: &impl Abort, alloc: Global, plan: &Plan) {
+    let mut desk = desk(rt, alloc, plan);
+    if let Ok(outcome) = decided_next(rt, alloc, &mut desk, plan, &before_capped()) {
+        is_told(rt, alloc, outcome, &before_capped());
+    }
+    settles_next(rt, alloc, &mut desk, plan, &capped());
+    drop(desk);
+}
+
+#[test]
+fn an_adjudicator_decides_though_memory_is_refused(rt: HostRuntime) {
+    let plan = plan(&rt, rt.alloc(), chained());
+    settles_after_a_refusal(&rt, rt.alloc(), &plan);
+    drop(plan);
+}
+
+fn some_paid(rt: &impl Abort) -> Outcome {
+    Outcome {
+        verdict: Verdict::Paid,
+        allowed: money(rt, 900),
+        ded: money(rt, 100),
+        copay: money(rt, 800),
+        coins: money(rt, 700),
+        share: money(rt, 200),
+        paid: money(rt, 300),
+        remarks: Remarks::none(),
+    }
+}
+
+/// Accumulators, and what 1.00 met, 2.00 out of pocket and 3.00 paid more leave of them.
+fn added() -> &'static [((i64, i64, i64), &'static str)] {
+    &[
+        ((MOST, 0, 0), ", out of range"),
+        ((0, MOST, 0), ", out of range"),
+        ((0, 0, MOST), ", out of range"),
+        ((1, 2, 3), ", 101 202 303"),
+        (
+            (MOST - 100, MOST - 200, MOST - 300),
+            ", 9999999999999 9999999999999 9999999999999",
+        ),
+    ]
+}
+
+fn leaves(rt: &impl Abort, alloc: Global, outcome: &Outcome, before: Acc, wanted: &str) {
+    let mut told = String::new(alloc);
+    let written = tell_left(&mut told, after(before, outcome), false);
+    expects(rt, written.is_ok() && told.as_str() == wanted, wanted);
+}
+
+#[test]
+fn accumulators_leave_the_range_one_by_one(rt: HostRuntime) {
+    let outcome = some_paid(&rt);
+    for (before, wanted) in added() {
+        leaves(&rt, rt.alloc(), &outcome, acc(&rt, *before), wanted);
+    }
+    drop(outcome);
+}
+
+fn may_cross_threads<T: Send + Sync>(_value: &T) {}
+
+#[test]
+fn an_outcome_may_cross_threads(rt: HostRuntime) {
+    let outcome = some_paid(&rt);
+    may_cross_threads(&outcome);
+    drop(outcome);
+}
+
+// The claim has the fields of its plan, and not those of another, which has more.
+fn fits_one(rt: &impl Abort, alloc: Global, plan: &Plan) {
+    let claim = claim(rt, alloc, plan, 100, &["A"]);
+    expects(rt, claim.is_of(plan), "a claim of its plan");
+    fits_not(rt, alloc, claim);
+}
+
+fn fits_not(rt: &impl Abort, alloc: Global, claim: Claim) {
+    let more = has_more(plan(rt, alloc, open()), claim);
+    expects(rt, more, "fields that the claim hasn't");
+}
+
+fn has_more(open: Plan, claim: Claim) -> bool {
+    let more = fields_of(&open).len() == 6 && !claim.is_of(&open);
+    drop(claim);
+    drop(open);
+    more
+}
+
+#[test]
+fn claims_have_the_fields_of_their_plan(rt: HostRuntime) {
+    let health = plan(&rt, rt.alloc(), health_plan());
+    expects(&rt, fields_of(&health).len() == 1, "one field");
+    fits_one(&rt, rt.alloc(), &health);
+    drop(health);
+}
+
+// The year whose accumulators a claim of 5 January 2024 is settled at.
+fn year_under(rt: &impl Abort, alloc: Global, text: &str) -> u16 {
+    let plan = plan(rt, alloc, text);
+    let claim = claim(rt, alloc, &plan, 100, &[]);
+    let year = account_year(&plan, &claim);
+    drop(claim);
+    drop(plan);
+    year
+}
+
+#[test]
+fn accumulators_are_kept_by_the_year_under_version_2(rt: HostRuntime) {
+    let year = year_under(&rt, rt.alloc(), flat());
+    expects(&rt, year == 0, "no year");
+    let year = year_under(&rt, rt.alloc(), flat_by_year());
+    expects(&rt, year == 2024, "the year of service");
+}
+
+// A copy of a claim.
+fn copy(rt: &impl Abort, alloc: Global, claim: &Claim) -> Claim {
+    match claim.duplicate(alloc) {
+        Ok(copy) => copy,
+        Err(_) => claim.duplicate(alloc).expect(rt, "memory for a copy"),
+    }
+}
+
+// Copies a claim, and looks at the copy.
+fn copies(rt: &impl Abort, alloc: Global, text: &str) {
+    let plan = plan(rt, alloc, text);
+    let claim = claim(rt, alloc, &plan, 100, &["A"]);
+    let copied = copy(rt, alloc, &claim);
+    expects(rt, is_that_claim(&plan, copied), "the same claim");
+    drop(claim);
+    drop(plan);
+}
+
+fn is_that_claim(plan: &Plan, claim: Claim) -> bool {
+    let same = claim.is_of(plan) && has_its_parts(&claim);
+    drop(claim);
+    same
+}
+
+fn has_its_parts(claim: &Claim) -> bool {
+    claim.id.as_str() == "c1"
+        && claim.member.as_str() == "M1"
+        && claim.service.epoch_day() == 19_727
+        && cents(claim.billed) == 100
+}
+
+#[test]
+fn a_copy_of_a_claim_though_memory_is_refused(rt: HostRuntime) {
+    copies(&rt, rt.alloc(), health_plan());
+}
+
+#[test]
+fn amounts_that_are_no_money(rt: HostRuntime) {
+    let below = Fixed::from_units(-100).expect(&rt, "a number");
+    expects(&rt, Money::new(below).is_none(), "nothing below zero");
+    let finer = Fixed::from_units(150).expect(&rt, "a number");
+    expects(&rt, Money::new(finer).is_none(), "whole cents");
+}

@@ -1,0 +1,189 @@
+//! Whole plans, from their texts to their values: chains of tables, lists, and want of memory.
+use crate::answers::{
+    give, give_text, inputs_of, is_text, literal_of, plan_of, shown, shown_by_place, value_of,
+};
+use crate::ending::expects;
+use crate::plans::{chain_plan, sum_and_level_plan};
+use crate::tables::told;
+use dtable::{
+    InputData, Inputs, Name, Plan, Sequence, all_names, rules_have_one_priority_order,
+    text_spells_at_most_one_plan,
+};
+use feel_tests::Kind;
+use std::alloc::Global;
+use std::process::Abort;
+use test_fixtures::health_plan;
+
+/// The places of some names in the health plan.
+const BILLED: usize = 3;
+
+const CODE: usize = 4;
+
+const MET: usize = 5;
+
+/// A claim's code, the amount that is billed and what was met; then what the health plan answers for `covered`, `fee` and `note`.
+type Claim = (&'static str, &'static str, &'static str, &'static str);
+
+/// The inputs of a claim under the health plan.
+fn claimed(rt: &impl Abort, alloc: Global, plan: &Plan, claim: &Claim) -> Inputs {
+    let mut inputs = inputs_of(rt, alloc, plan);
+    give(rt, alloc, &mut inputs, CODE, claim.0);
+    give(rt, alloc, &mut inputs, BILLED, claim.1);
+    let lacks = !plan.ready(&inputs) && inputs.get(MET).is_none();
+    expects(rt, lacks, "a value that lacks");
+    give(rt, alloc, &mut inputs, MET, claim.2);
+    expects(rt, inputs.get(MET).is_some(), "the value that lacked");
+    inputs
+}
+
+fn outputs_of_health() -> &'static [&'static str] {
+    &["covered", "fee", "note"]
+}
+
+/// The health plan answers what is wanted for the claim.
+fn is_answered(rt: &impl Abort, alloc: Global, plan: &Plan, claim: &Claim) {
+    let inputs = claimed(rt, alloc, plan, claim);
+    let values = value_of(rt, alloc, plan, &inputs);
+    let text = shown(rt, alloc, &values, outputs_of_health());
+    expects(rt, is_text(text, claim.3), claim.3);
+    let placed = shown_by_place(rt, alloc, plan, &values, outputs_of_health());
+    expects(rt, is_text(placed, claim.3), claim.3);
+    drop(values);
+    drop(inputs);
+}
+
+fn claims() -> &'static [Claim] {
+    &[
+        ("\"A\"", "120", "0", "true\n100\nlist \"OVER\"\n"),
+        ("\"B\"", "40", "50", "true\n40\nlist \"MET\"\n"),
+        (
+            "\"A\"",
+            "100.01",
+            "50",
+            "true\n100\nlist \"OVER\" \"MET\"\n",
+        ),
+        ("\"X\"", "10", "0", "false\n0\nlist\n"),
+    ]
+}
+
+#[test]
+fn the_health_plan_has_its_values(rt: HostRuntime) {
+    let plan = plan_of(&rt, rt.alloc(), health_plan().as_bytes());
+    for claim in claims() {
+        is_answered(&rt, rt.alloc(), &plan, claim);
+    }
+    drop(plan);
+}
+
+/// Texts that are given one over the other, a shorter one and a longer one in turn, and their literals.
+fn codes() -> &'static [(&'static str, &'static str)] {
+    &[
+        ("LONGER", "\"LONGER\""),
+        ("A", "\"A\""),
+        ("", "\"\""),
+        ("THE LONGEST", "\"THE LONGEST\""),
+    ]
+}
+
+fn is_given(rt: &impl Abort, alloc: Global, inputs: &mut Inputs, given: &str, literal: &str) {
+    give_text(rt, alloc, inputs, CODE, given);
+    let text = literal_of(rt, alloc, inputs.get(CODE));
+    expects(rt, is_text(text, literal), literal);
+}
+
+#[test]
+fn a_text_is_given_over_another(rt: HostRuntime) {
+    let plan = plan_of(&rt, rt.alloc(), health_plan().as_bytes());
+    let mut inputs = inputs_of(&rt, rt.alloc(), &plan);
+    for (given, literal) in codes() {
+        is_given(&rt, rt.alloc(), &mut inputs, given, literal);
+    }
+    drop(inputs);
+    drop(plan);
+}
+
+fn needs_what_it_reads(plan: &Plan) -> bool {
+    plan.needs(BILLED) && plan.needs(CODE) && plan.needs(MET)
+}
+
+fn needs_others(plan: &Plan) -> bool {
+    plan.needs(0) || plan.needs(7) || plan.needs(99)
+}
+
+#[test]
+fn what_a_plan_needs(rt: HostRuntime) {
+    let plan = plan_of(&rt, rt.alloc(), health_plan().as_bytes());
+    let needs = needs_what_it_reads(&plan) && !needs_others(&plan);
+    expects(&rt, needs, "what it reads, and no more");
+    drop(plan);
+}
+
+/// A value of `x`, and what `z` answers.
+fn levels() -> &'static [(&'static str, &'static str)] {
+    &[
+        ("1", "\"LOW\"\n"),
+        ("7", "\"HIGH\"\n"),
+        ("-1", "no rule of table 1 matches"),
+        ("9", "no rule of table 2 matches"),
+    ]
+}
+
+#[test]
+fn a_table_reads_an_earlier_one(rt: HostRuntime) {
+    let plan = plan_of(&rt, rt.alloc(), sum_and_level_plan());
+    for (x, wanted) in levels() {
+        let text = told(&rt, rt.alloc(), &plan, x, "z");
+        expects(&rt, is_text(text, wanted), x);
+    }
+    drop(plan);
+}
+
+fn outputs_of_chain() -> &'static [&'static str] {
+    &["score", "risk", "step", "note", "points", "rules"]
+}
+
+/// What the chain answers to 120: 1.5 and 2 less 0.25 is a high score, which is called about before it is mailed about.
+fn chain_answers() -> &'static str {
+    "3.25\n\"HIGH\"\nlist \"CALL\" \"MAIL\"\nlist \"OVER\" \"LOOK\"\nlist 3 1\n2\n"
+}
+
+fn is_chain_answered(rt: &impl Abort, alloc: Global, plan: &Plan, inputs: &Inputs) {
+    let values = value_of(rt, alloc, plan, inputs);
+    let text = shown(rt, alloc, &values, outputs_of_chain());
+    expects(rt, is_text(text, chain_answers()), chain_answers());
+    drop(values);
+}
+
+// The gate runs it once for each of its allocations, with that one refused: the answer says so, and is the right one when it is asked for
+// once more.
+#[test]
+fn a_chain_has_its_values_though_memory_is_refused(rt: HostRuntime) {
+    let plan = plan_of(&rt, rt.alloc(), chain_plan());
+    let mut inputs = inputs_of(&rt, rt.alloc(), &plan);
+    give(&rt, rt.alloc(), &mut inputs, BILLED, "120");
+    is_chain_answered(&rt, rt.alloc(), &plan, &inputs);
+    drop(inputs);
+    drop(plan);
+}
+
+// Whether there are eight names, and `code` stands where the first field does.
+fn has_code(names: Sequence<InputData>) -> bool {
+    match names.as_slice().get(CODE) {
+        Some(data) => names.len() == 8 && data.name.as_str() == "code",
+        None => false,
+    }
+}
+
+#[test]
+fn names_stand_in_order_and_laws_hold(rt: HostRuntime) {
+    rules_have_one_priority_order();
+    text_spells_at_most_one_plan();
+    let mut fields = Sequence::new(rt.alloc());
+    let pushed = fields.push(InputData {
+        name: Name::new(rt.alloc(), "code").expect(&rt, "memory for a name"),
+        kind: Kind::Text,
+    });
+    expects(&rt, pushed.is_ok(), "memory for a field");
+    let names = all_names(rt.alloc(), false, fields).expect(&rt, "memory for names");
+    expects(&rt, has_code(names), "the field among eight names");
+}

@@ -1,0 +1,414 @@
+//! A plan and its cut plan answer alike: at each cut, one unit below and above it, at each text that is named, and at one
+//! that isn't.
+ghost use Rattle.std.specs.Prelude.{◌≡◌, IsTrue};
+ghost use Rattle.cutplan.specs.Masks.{IsColumnNumber};
+ghost use Rattle.cutplan.specs.Numbered.{IsTableNumber};
+
+use super::cut_of;
+use super::plans::{
+    allowed_codes, apart, at_five, chain, codes, days, flag_and_code, ranked, sixteen_regions,
+    stretches, three_rules,
+};
+use crate::answers::{give, inputs_of, is_text, plan_of, write_line};
+use crate::ending::expects;
+use cutplan::CutPlan;
+use dtable::{AnswersByTable, Env, Inputs, Plan, Valuer};
+use std::alloc::{AllocError, Global};
+use std::process::Abort;
+use test_fixtures::health_plan;
+
+/// The place of the first field among the names.
+const FIRST: usize = 4;
+
+/// Literals of a field.
+type Literals = &'static [&'static str];
+
+/// No literal, for a plan that has no second field.
+fn none() -> Literals {
+    &[""]
+}
+
+/// The places of the amount billed and of what was met among its names.
+const BILLED: usize = 3;
+
+const MET: usize = 5;
+
+fn remark_codes() -> Literals {
+    &["\"A\"", "\"B\"", "\"X\"", "\"C\""]
+}
+
+fn remark_amounts() -> &'static [(&'static str, &'static str)] {
+    &[
+        ("99.9999", "0"),
+        ("100", "49.9999"),
+        ("100.0001", "49.9999"),
+        ("100", "50"),
+        ("100.0001", "50"),
+        ("100.0001", "50.0001"),
+    ]
+}
+
+/// What the plan's outputs answer at these values, each with its place, or the fault, as text.
+fn told<V: Valuer>(rt: &impl Abort, alloc: Global, valuer: &V, given: &[(usize, &str)]) -> Vec<u8> {
+    let inputs = inputs_with(rt, alloc, valuer.plan(), given);
+    told_at(rt, alloc, valuer, &inputs)
+}
+
+// The inputs of the plan with these values, each with its place; an empty literal gives none.
+fn inputs_with(rt: &impl Abort, alloc: Global, plan: &Plan, given: &[(usize, &str)]) -> Inputs {
+    let mut inputs = inputs_of(rt, alloc, plan);
+    for (place, literal) in given {
+        if !literal.is_empty() {
+            give(rt, alloc, &mut inputs, *place, literal);
+        }
+    }
+    inputs
+}
+
+fn told_at<V: Valuer>(rt: &impl Abort, alloc: Global, valuer: &V, inputs: &Inputs) -> Vec<u8> {
+    assert!(rt; valuer.plan().ready(inputs));
+    match valuer.value(alloc, inputs) {
+        Ok(values) => answers_of(alloc, valuer.plan(), &values).expect(rt, "memory for a text"),
+        Err(fault) => format!(in alloc; "{fault}")
+            .expect(rt, "memory for a text")
+            .into_bytes(),
+    }
+}
+
+fn answers_of(alloc: Global, plan: &Plan, values: &Env) -> Result<Vec<u8>, AllocError> {
+    let mut text = Vec::new(alloc);
+    write_answers(&mut text, plan, values)?;
+    Ok(text)
+}
+
+fn write_answers(text: &mut Vec<u8>, plan: &Plan, values: &Env) -> Result<(), AllocError> {
+    for table in plan.tables() {
+        for output in table.outputs.as_slice() {
+            write_line(text, values.get(output.name.as_str()))?;
+        }
+    }
+    Ok(())
+}
+
+/// The plan and its cut plan answer alike at these values.
+fn check_at(rt: &impl Abort, alloc: Global, plan: &Plan, cut: &CutPlan, given: &[(usize, &str)]) {
+    let plain = told(rt, alloc, plan, given);
+    let by_masks = told(rt, alloc, cut, given);
+    expects(rt, is_same(plain, by_masks), "the same answers by masks");
+}
+
+fn is_same(text: Vec<u8>, other: Vec<u8>) -> bool {
+    text.as_slice() == other.as_slice()
+}
+
+/// A plan and its cut plan answer alike at each of these literals of its first field and of its second.
+fn check_each(
+    rt: &impl Abort,
+    alloc: Global,
+    plan: &Plan,
+    cut: &CutPlan,
+    given: (&[&str], &[&str]),
+) {
+    for first in given.0 {
+        for second in given.1 {
+            let given = [(FIRST, *first), (FIRST + 1, *second)];
+            check_at(rt, alloc, plan, cut, &given);
+        }
+    }
+}
+
+/// What is tried of a plan and its cut plan. One function holds the plan for all, since each that does costs the proof long.
+#[derive(Clone, Copy)]
+enum Tried<'a> {
+    /// They answer alike at each of these literals of the first field and of the second.
+    Alike(&'a [&'a str], &'a [&'a str]),
+    /// The masks tell which rules match at each of these literals of the first field.
+    Told(&'a [&'a str]),
+    /// The cut plan answers so at this literal of the first field.
+    Answer(&'a str, &'a str),
+    /// They answer alike at each code and amount of the health plan.
+    Remarks,
+    /// The masks of the one column of two rules begin with these words.
+    Masks(&'a [u64]),
+    /// These literals of the first field and of the second lie in these zones.
+    Zones(&'a [(&'a str, &'a str, Option<u64>)]),
+}
+
+fn try_cut(rt: &impl Abort, alloc: Global, plan: &Plan, tried: Tried<'_>) {
+    let cut = cut_of(rt, alloc, plan);
+    match tried {
+        Tried::Alike(firsts, seconds) => check_each(rt, alloc, plan, &cut, (firsts, seconds)),
+        Tried::Told(literals) => check_each_told(rt, alloc, plan, &cut, literals),
+        Tried::Answer(literal, answer) => check_answer(rt, alloc, &cut, literal, answer),
+        Tried::Remarks => check_remarks(rt, alloc, plan, &cut),
+        Tried::Masks(words) => check_masks(rt, plan, &cut, words),
+        Tried::Zones(wanted) => check_zones(rt, alloc, &cut, wanted),
+    }
+}
+
+fn try_plan(rt: &impl Abort, alloc: Global, text: &[u8], tried: Tried<'_>) {
+    let plan = plan_of(rt, alloc, text);
+    try_cut(rt, alloc, &plan, tried);
+}
+
+/// The plan that the text spells and its cut plan answer alike at these literals.
+fn check(rt: &impl Abort, alloc: Global, text: &[u8], firsts: &[&str], seconds: &[&str]) {
+    try_plan(rt, alloc, text, Tried::Alike(firsts, seconds));
+}
+
+fn around_apart() -> Literals {
+    &[
+        "-99999999999.9999",
+        "0.9999",
+        "1",
+        "1.0001",
+        "1.0002",
+        "4.9999",
+        "5",
+        "5.0001",
+        "99999999999.9999",
+    ]
+}
+
+fn around_five() -> Literals {
+    &["4.9999", "5", "5.0001"]
+}
+
+fn around_three_rules() -> Literals {
+    &["1.9999", "2", "2.0001", "2.9999", "3", "3.0001"]
+}
+
+#[test]
+fn numbers_are_valued_alike(rt: HostRuntime) {
+    check(&rt, rt.alloc(), apart(), around_apart(), none());
+    check(&rt, rt.alloc(), at_five(), around_five(), none());
+    check(&rt, rt.alloc(), three_rules(), around_three_rules(), none());
+}
+
+fn check_answer(rt: &impl Abort, alloc: Global, cut: &CutPlan, literal: &str, answer: &str) {
+    let answers = told(rt, alloc, cut, &[(FIRST, literal)]);
+    expects(rt, is_text(answers, answer), answer);
+}
+
+#[test]
+fn two_of_three_rules_answer_by_masks(rt: HostRuntime) {
+    try_plan(
+        &rt,
+        rt.alloc(),
+        three_rules(),
+        Tried::Answer("2", "list 1 1\n"),
+    );
+}
+
+fn around_sixteen_regions() -> Literals {
+    &[
+        "0.9999", "1", "1.0001", "1.0002", "2.9999", "3", "3.0001", "7.9999", "8", "8.0001",
+    ]
+}
+
+#[test]
+fn four_columns_are_valued_alike(rt: HostRuntime) {
+    check(
+        &rt,
+        rt.alloc(),
+        sixteen_regions(),
+        around_sixteen_regions(),
+        none(),
+    );
+}
+
+fn of_codes() -> Literals {
+    &["\"A\"", "\"B\"", "\"AB\"", "\"\""]
+}
+
+fn of_allowed_codes() -> Literals {
+    &["\"A\"", "\"B\"", "\"C\""]
+}
+
+fn flags() -> Literals {
+    &["false", "true"]
+}
+
+#[test]
+fn texts_and_flags_are_valued_alike(rt: HostRuntime) {
+    check(&rt, rt.alloc(), codes(), of_codes(), none());
+    check(&rt, rt.alloc(), allowed_codes(), of_allowed_codes(), none());
+    check(
+        &rt,
+        rt.alloc(),
+        flag_and_code(),
+        flags(),
+        of_allowed_codes(),
+    );
+}
+
+fn around_days() -> Literals {
+    &[
+        "date(\"0001-01-01\")",
+        "date(\"0001-01-02\")",
+        "date(\"2024-02-28\")",
+        "date(\"2024-02-29\")",
+        "date(\"2024-03-01\")",
+        "date(\"9999-12-30\")",
+        "date(\"9999-12-31\")",
+    ]
+}
+
+#[test]
+fn days_are_valued_alike(rt: HostRuntime) {
+    check(&rt, rt.alloc(), days(), around_days(), none());
+}
+
+fn around_chain() -> Literals {
+    &[
+        "0.9999", "1", "1.0001", "1.9999", "2", "2.0001", "2.5", "2.9999", "3",
+    ]
+}
+
+#[test]
+fn chained_tables_are_valued_alike(rt: HostRuntime) {
+    check(&rt, rt.alloc(), chain(), around_chain(), none());
+}
+
+fn around_ranked() -> Literals {
+    &["0.9999", "1", "1.9999", "2", "2.9999", "3", "4"]
+}
+
+#[test]
+fn ranked_rules_are_valued_alike(rt: HostRuntime) {
+    check(&rt, rt.alloc(), ranked(), around_ranked(), none());
+}
+
+fn around_stretches() -> Literals {
+    &["-0.0001", "0", "0.0001", "9.9999", "10", "10.0001"]
+}
+
+#[test]
+fn stretches_side_by_side_are_valued_alike(rt: HostRuntime) {
+    check(&rt, rt.alloc(), stretches(), around_stretches(), none());
+}
+
+/// The health plan and its cut plan answer alike at each code and amount.
+fn check_remarks(rt: &impl Abort, alloc: Global, plan: &Plan, cut: &CutPlan) {
+    for code in remark_codes() {
+        for (billed, met) in remark_amounts() {
+            let given = [(FIRST, *code), (BILLED, *billed), (MET, *met)];
+            check_at(rt, alloc, plan, cut, &given);
+        }
+    }
+}
+
+#[test]
+fn remarks_are_valued_alike(rt: HostRuntime) {
+    try_plan(&rt, rt.alloc(), health_plan().as_bytes(), Tried::Remarks);
+}
+
+/// The masks of each table tell which rules match.
+fn check_told(rt: &impl Abort, alloc: Global, plan: &Plan, cut: &CutPlan, literal: &str)
+    requires { cut.now ≡ plan.now }
+{
+    let mut inputs = Inputs::new(alloc, plan).expect(rt, "memory for inputs");
+    give(rt, alloc, &mut inputs, FIRST, literal);
+    let earlier = AnswersByTable::new(alloc);
+    for (place, table) in plan.tables().iter().enumerate() {
+        let mask = cut.matching_mask(&inputs, earlier.as_slice(), place, table);
+        expects(rt, mask.is_some(), literal);
+    }
+}
+
+fn check_each_told(rt: &impl Abort, alloc: Global, plan: &Plan, cut: &CutPlan, literals: &[&str])
+    requires { cut.now ≡ plan.now }
+{
+    for literal in literals {
+        let literal: &str = literal;
+        check_told(rt, alloc, plan, cut, literal);
+    }
+}
+
+fn allowed() -> Literals {
+    &["\"A\"", "\"B\""]
+}
+
+#[test]
+fn masks_tell_of_allowed_values(rt: HostRuntime) {
+    try_plan(&rt, rt.alloc(), apart(), Tried::Told(around_apart()));
+    try_plan(&rt, rt.alloc(), codes(), Tried::Told(of_codes()));
+    try_plan(&rt, rt.alloc(), allowed_codes(), Tried::Told(allowed()));
+    try_plan(&rt, rt.alloc(), days(), Tried::Told(around_days()));
+}
+
+// The first words of the masks are these.
+fn have_first_words(masks: &[[u64; 4]], words: &[u64]) -> bool {
+    masks.len() == words.len() && masks.iter().zip(words).all(|(mask, word)| mask[0] == *word)
+}
+
+fn has_one_column(plan: &Plan) -> bool
+    ensures { IsTrue result → IsTableNumber plan.now 1 × IsColumnNumber plan.now 1 1 }
+{
+    plan.tables().len() == 1 && plan.tables()[0].inputs.len() == 1
+}
+
+fn has_two_rules(plan: &Plan) -> bool {
+    match plan.tables() {
+        [table] => table.rules.len() == 2,
+        _ => false,
+    }
+}
+
+fn check_masks(rt: &impl Abort, plan: &Plan, cut: &CutPlan, words: &[u64])
+    requires { cut.now ≡ plan.now }
+{
+    assert!(rt; has_one_column(plan));
+    expects(rt, has_two_rules(plan), "two rules");
+    let same = have_first_words(cut.masks(1, 1), words);
+    expects(rt, same, "these words");
+}
+
+#[test]
+fn masks_of_two_stretches(rt: HostRuntime) {
+    try_plan(&rt, rt.alloc(), apart(), Tried::Masks(&[1, 0, 2, 2, 2, 0]));
+}
+
+fn check_zones(
+    rt: &impl Abort,
+    alloc: Global,
+    cut: &CutPlan,
+    wanted: &[(&str, &str, Option<u64>)],
+) {
+    for (first, second, zone) in wanted {
+        let given = [(FIRST, *first), (FIRST + 1, *second)];
+        let inputs = inputs_with(rt, alloc, cut.plan(), &given);
+        expects(rt, cut.zone(&inputs) == *zone, first);
+    }
+}
+
+// The flag has two regions. The code has three, of which any other text is the last.
+fn zones_of_flag_and_code() -> &'static [(&'static str, &'static str, Option<u64>)] {
+    &[
+        ("false", "\"A\"", Some(0)),
+        ("false", "\"C\"", Some(2)),
+        ("false", "\"D\"", Some(2)),
+        ("true", "\"A\"", Some(3)),
+        ("true", "\"D\"", Some(5)),
+        ("true", "", None),
+    ]
+}
+
+// Both tables cut the one field, at 1, 2, 2.5 and 3.
+fn zones_of_chain() -> &'static [(&'static str, &'static str, Option<u64>)] {
+    &[
+        ("-7", "", Some(0)),
+        ("0.9999", "", Some(0)),
+        ("1", "", Some(1)),
+        ("2.4999", "", Some(4)),
+        ("2.5001", "", Some(6)),
+        ("100", "", Some(8)),
+    ]
+}
+
+#[test]
+fn values_of_one_zone_and_of_others(rt: HostRuntime) {
+    let of_both = Tried::Zones(zones_of_flag_and_code());
+    try_plan(&rt, rt.alloc(), flag_and_code(), of_both);
+    try_plan(&rt, rt.alloc(), chain(), Tried::Zones(zones_of_chain()));
+}
