@@ -5,9 +5,9 @@ use Rattle.faults.specs.declared.plan_fault.PlanCause.TheVariants as cause
 use Rattle.faults.specs.declared.plan_fault.PlanFault.{PlanFault}
 use Rattle.dtable.specs.Plan.{PlanParts}
 use Rattle.dtable.specs.PlanFile.{IsPlanText}
-use Rattle.valuation.specs.declared.stop.ValueStop.{ValueStop}
-use Rattle.valuation.specs.Stop.{IsStopOfPlan, RefusesPlan, PutsUntil, WritesText, WritesUntil}
-use Rattle.valuation.proofs.Refusals as value
+use Rattle.evaluation.specs.declared.stop.ValueStop.{ValueStop}
+use Rattle.evaluation.specs.Stop.{IsStopOfPlan, RefusesPlan, PutsUntil, WritesText, WritesUntil}
+use Rattle.evaluation.proofs.Refusals as value
 
 -- a plan's fault is the refusal of a command that takes a plan alone
 pub refuses_spelling : (text : List ℕ) (fault : PlanFault) (s : ValueStop) → (fault.cause ≢ cause.OutOfMemory → (plan : PlanParts) → ¬ IsPlanText text plan) → IsStopOfPlan fault s → RefusesPlan text s

@@ -24,8 +24,8 @@ use Rattle.faults.specs.declared.run_fault.RunFault.TheVariants as run
 use Rattle.remit.specs.Report.{IsReport, report_records, text_of}
 use Rattle.remit.specs.Writing.{WritesFront, WritesReport}
 use Rattle.faults.specs.declared.write_fault.WriteFault.{WriteFault}
-use Rattle.valuation.specs.Stop.{WritesText}
-use Rattle.valuation.specs.declared.stop.ValueStop.TheVariants as value
+use Rattle.evaluation.specs.Stop.{WritesText}
+use Rattle.evaluation.specs.declared.stop.ValueStop.TheVariants as value
 use Rattle.adjudicate.specs.declared.stop.Stop.{Stop}
 use Rattle.adjudicate.specs.declared.stop.Stop.TheVariants as stop
 use Rattle.adjudicate.specs.RunText.{AreTermsOfTexts, IsRemittance, IsRemittanceOf, RunTexts, WritesRemittanceFront}

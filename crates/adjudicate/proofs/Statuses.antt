@@ -1,6 +1,6 @@
 -- A refusal's status is 1 to 3.
 use Rattle.std.proofs.Common.{◌≤◌, arith}
-use Rattle.valuation.proofs.Statuses as value
+use Rattle.evaluation.proofs.Statuses as value
 use Rattle.adjudicate.specs.declared.stop.Stop.{Stop}
 use Rattle.adjudicate.specs.declared.stop.Stop.TheVariants as stop
 use Rattle.adjudicate.specs.Stop.{status_of}

@@ -20,7 +20,7 @@ use Rattle.adjudicate.specs.declared.check.told.ColumnText.{ColumnText}
 use Rattle.adjudicate.specs.declared.check.told.Telling.{Telling}
 use Rattle.adjudicate.specs.declared.check.told.ToldPlan.{ToldPlan}
 use Rattle.adjudicate.specs.declared.check.told.ToldTable.{ToldTable}
-use Rattle.valuation.specs.ValueText.{line_end}
+use Rattle.evaluation.specs.ValueText.{line_end}
 use Rattle.adjudicate.specs.CheckText.{counts_line, gap_line, is_wide, overlap_line, region_text, told_gaps}
 use Rattle.adjudicate.specs.Telling.{gaps_in, overlaps_in, table_lines, tells_gaps, text_in}
 use Rattle.adjudicate.specs.Told.{AreTold, IsTold, IsToldOf, IsToldOfFirst, cell_text, column_texts, column_texts_if, marked_region, separator, told_gap_line, told_lines, told_places, told_table_lines, told_text, told_wide_lines}

@@ -7,7 +7,7 @@ use Rattle.dtable.specs.PlanFile.{IsPlanText}
 use Rattle.cutplan.specs.declared.region.Region.{Region}
 use Rattle.cutplan.specs.declared.region.Region.TheVariants.{Below, At, Between, Above, Other, Every}
 use Rattle.cutplan.specs.Numbered.{cell_limit, cells_of, gaps_of, overlaps_of}
-use Rattle.valuation.specs.ValueText.{line_end}
+use Rattle.evaluation.specs.ValueText.{line_end}
 
 -- `<a`, `a`, `]a..b[` or `>b`; `not("A","B")` for any other text; `-` for all values of a column
 abbrev pub region_text : Region → List ℕ

@@ -12,8 +12,8 @@ use Rattle.faults.specs.declared.run_fault.RunFault.TheVariants as run
 use Rattle.crew.specs.Workers.{IsWorkerCount}
 use Rattle.faults.specs.declared.write_fault.WriteCause.TheVariants as write
 use Rattle.faults.specs.declared.write_fault.WriteFault.{WriteFault}
-use Rattle.valuation.specs.Stop.{SpellsNoPlan}
-use Rattle.valuation.specs.declared.stop.ValueStop.TheVariants as value
+use Rattle.evaluation.specs.Stop.{SpellsNoPlan}
+use Rattle.evaluation.specs.declared.stop.ValueStop.TheVariants as value
 use Rattle.adjudicate.specs.declared.stop.Stop.{Stop}
 use Rattle.adjudicate.specs.declared.stop.Stop.TheVariants as stop
 use Rattle.adjudicate.specs.RunText.{AreTermsUnder, RunTexts, WritesFrontOver, WritesRemittanceFront}

@@ -12,9 +12,9 @@ use Rattle.faults.specs.declared.terms_fault.TermsFault.TheVariants as terms
 use Rattle.faults.specs.RunFaultNumber.{number_of as run_number}
 use Rattle.faults.specs.declared.run_fault.RunFault.{RunFault}
 use Rattle.faults.specs.declared.run_fault.RunFault.TheVariants as run
-use Rattle.valuation.specs.declared.stop.ValueStop.{ValueStop}
-use Rattle.valuation.specs.Stop.{IsPlanReason as IsPlanReasonOfValue, IsReason as IsReasonOfValue, IsStopOfPlan as IsValueStopOfPlan, WritesUntil as WritesUntilValueStop, failed_after as failed_after_value, status_of as status_of_value, stop_text as value_stop_text}
-use Rattle.valuation.specs.ValueText.{line_end}
+use Rattle.evaluation.specs.declared.stop.ValueStop.{ValueStop}
+use Rattle.evaluation.specs.Stop.{IsPlanReason as IsPlanReasonOfValue, IsReason as IsReasonOfValue, IsStopOfPlan as IsValueStopOfPlan, WritesUntil as WritesUntilValueStop, failed_after as failed_after_value, status_of as status_of_value, stop_text as value_stop_text}
+use Rattle.evaluation.specs.ValueText.{line_end}
 use Rattle.adjudicate.specs.declared.stop.Stop.{Stop}
 use Rattle.adjudicate.specs.declared.stop.Stop.TheVariants as stop
 

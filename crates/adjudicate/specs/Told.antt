@@ -11,7 +11,7 @@ use Rattle.adjudicate.specs.declared.check.told.ColumnText.{ColumnText}
 use Rattle.adjudicate.specs.declared.check.told.Telling.{Telling}
 use Rattle.adjudicate.specs.declared.check.told.ToldPlan.{ToldPlan}
 use Rattle.adjudicate.specs.declared.check.told.ToldTable.{ToldTable}
-use Rattle.valuation.specs.ValueText.{line_end}
+use Rattle.evaluation.specs.ValueText.{line_end}
 use Rattle.adjudicate.specs.CheckText.{counts_line, is_wide, overlap_line, region_text, table_numbers, wide_line}
 use Rattle.adjudicate.specs.Telling.{gap_count_in, gaps_in, overlap_count_in, overlaps_in, tells_gaps}
 

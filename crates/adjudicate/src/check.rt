@@ -4,7 +4,7 @@
 ghost use Rattle.std.specs.Prelude.{◌≡◌, ◌<◌, true, IfOk, IfErr, OnErr, OnOk, length};
 ghost use Rattle.std.specs.Io.KnownBytes.{Appends};
 ghost use Rattle.fixpoint.specs.Out.{writer_of, has_failed};
-ghost use Rattle.valuation.specs.Stop.{PutsUntil, RefusesPlan, WritesText, WritesUntil as WritesUntilValueStop, IsPlanReason as IsPlanReasonOfValue, failed_after as failed_after_value};
+ghost use Rattle.evaluation.specs.Stop.{PutsUntil, RefusesPlan, WritesText, WritesUntil as WritesUntilValueStop, IsPlanReason as IsPlanReasonOfValue, failed_after as failed_after_value};
 ghost use Rattle.adjudicate.specs.CheckText.{IsCheckText};
 ghost use Rattle.adjudicate.specs.HarmfulText.{IsHarmfulCheckText};
 ghost use Rattle.adjudicate.specs.Telling.{IsToldText};
@@ -18,12 +18,12 @@ pub mod told;
 
 use crate::stop::Stop;
 use dtable::read_plan;
+use evaluation::ValueStop;
 use fixpoint::{Cut, Out};
 use std::alloc::Global;
 use std::io::Write;
 use text::{checked, put_told};
 use told::{Telling, ToldPlan};
-use valuation::ValueStop;
 
 /// Checks the plan's tables, and writes a line for each pair of rules that can match together (`overlap`) and each
 /// region of inputs that no rule covers (`gap`), a line for each table with too many regions (`wide`), and the counts.

@@ -8,11 +8,11 @@ mod line;
 use claim_gate::TermsFault;
 use crew::RunFault;
 use dtable::PlanFault;
+use evaluation::{LINE_LIMIT_BYTES, Line, Refusal, ValueStop};
 use line::{put_run_fault, put_terms_fault};
 use remit::{WriteCause, WriteFault};
 use std::alloc::AllocError;
 use thiserror::Error;
-use valuation::{LINE_LIMIT_BYTES, Line, Refusal, ValueStop};
 
 /// Why a command stopped.
 #[derive(Debug, Drop, Error)]
@@ -125,7 +125,7 @@ impl From<WriteFault> for Stop {
 
 impl From<AllocError> for Stop {
     ghost use Rattle.std.specs.Prelude.{◌≡◌};
-    ghost use Rattle.valuation.specs.declared.stop.ValueStop.TheVariants.{NoMemory};
+    ghost use Rattle.evaluation.specs.declared.stop.ValueStop.TheVariants.{NoMemory};
     ghost use Rattle.adjudicate.specs.declared.stop.Stop.TheVariants.{Value};
 
     ghost from_gives = { λ _ stop. stop ≡ Value NoMemory };

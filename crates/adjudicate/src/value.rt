@@ -3,8 +3,8 @@
 ghost use Rattle.std.specs.Prelude.{◌≡◌, IfErr, OnOk};
 ghost use Rattle.fixpoint.specs.Out.{writer_of, has_failed};
 ghost use Rattle.claim_gate.specs.Terms.{texts_of};
-ghost use Rattle.valuation.specs.Stop.{WritesText};
-ghost use Rattle.valuation.specs.ValueText.{IsValueText};
+ghost use Rattle.evaluation.specs.Stop.{WritesText};
+ghost use Rattle.evaluation.specs.ValueText.{IsValueText};
 ghost use Rattle.adjudicate.specs.Stop.{WritesUntil, IsReason, failed_after};
 
 use crate::stop::Stop;
@@ -30,7 +30,7 @@ pub fn do_value<W: Write>(
     ensures ok_failed { OnOk result (has_failed out.new ≡ has_failed out.old) }
     ensures failed { IfErr result (λ stop. has_failed out.new ≡ failed_after (has_failed out.old) stop) }
 {
-    match valuation::do_value(alloc, plan, arguments, out) {
+    match evaluation::do_value(alloc, plan, arguments, out) {
         Ok(()) => Ok(()),
         Err(stop) => Err(Stop::Value(stop)),
     }

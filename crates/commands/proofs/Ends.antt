@@ -4,8 +4,8 @@ use Rattle.std.specs.Io.KnownBytes.{Keeps}
 use Rattle.adjudicate.specs.declared.stop.Stop.{Stop}
 use Rattle.adjudicate.specs.declared.stop.Stop.TheVariants.{Value}
 use Rattle.adjudicate.specs.Stop.{status_of}
-use Rattle.valuation.specs.declared.stop.ValueStop.TheVariants.{NoMemory}
-use Rattle.valuation.specs.Stop.{WritesText}
+use Rattle.evaluation.specs.declared.stop.ValueStop.TheVariants.{NoMemory}
+use Rattle.evaluation.specs.Stop.{WritesText}
 use Rattle.value_command.specs.Ends.{HasText, PutsText}
 use Rattle.value_command.proofs.Ends as value
 use Rattle.commands.specs.Ends.{IsStatusOfRefusal}

@@ -12,12 +12,12 @@ ghost use Rattle.faults.specs.declared.run_fault.RunFault.TheVariants.{OutOfMemo
 use crate::stopping::TRIES;
 use claim_gate::{EndFault, Gate, Offer, OfferFault, StoredClaim, Terms, terms_are_seen};
 use faults::RunFault;
+use gate_batching::{OFFERS_LIMIT, Turn, Turns};
 use intake_csv::{
     Row, Rows, given_row_has_the_claim, no_records_give_no_rows, reader_begins_with_all_rows,
 };
 use std::alloc::{AllocError, Global};
 use std::sync::Wait;
-use turns::{OFFERS_LIMIT, Turn, Turns};
 
 /// The claims of records that an intake has read and not offered yet, and whether they are the last of its file.
 struct Ahead {

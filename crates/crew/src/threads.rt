@@ -15,13 +15,13 @@ use crate::worker::work;
 use claim_gate::{Batch, Gate, GateState, LockedGate, SerialGate, Terms, terms_are_seen};
 use cutplan::{CutPlan, compile};
 use faults::RunFault;
+use gate_batching::Turns;
 use journal::finished_is_final;
 use std::alloc::Global;
 use std::sync::Wait;
 use std::thread;
 use std::thread::Threads;
 use turn_lock::{Section, TicketLock};
-use turns::Turns;
 
 /// How many workers a run may have at most.
 pub const WORKERS_LIMIT: usize = 64;

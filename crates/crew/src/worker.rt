@@ -12,12 +12,12 @@ use crate::stopping::TRIES;
 use claim_gate::{Decision, FinishFault, Gate, Job, StoredClaim, Taken, Terms, terms_are_seen};
 use cutplan::CutPlan;
 use faults::RunFault;
+use gate_batching::{TAKES_LIMIT, Turn, Turns};
 use intake_csv::claims_have_the_plan_s_fields;
 use journal::jobs_stay;
 use settlement::Adjudicator;
 use std::alloc::{AllocError, Global};
 use std::sync::Wait;
-use turns::{TAKES_LIMIT, Turn, Turns};
 
 /// What a worker is to do.
 enum Task {

@@ -5,9 +5,9 @@ use Rattle.clap.specs.declared.error.Error.{Error}
 use Rattle.clap.specs.declared.error.kind.ErrorKind.TheVariants.{DisplayHelp, DisplayVersion}
 use Rattle.clap.specs.declared.parser.matches.ArgMatches.{ArgMatches}
 use Rattle.console.specs.declared.names.TheConstants.{ASSIGNMENT, VALUE}
-use Rattle.valuation.specs.declared.stop.ValueStop.{ValueStop}
-use Rattle.valuation.specs.Stop.{IsReason, status_of}
-use Rattle.valuation.specs.ValueText.{IsValueText}
+use Rattle.evaluation.specs.declared.stop.ValueStop.{ValueStop}
+use Rattle.evaluation.specs.Stop.{IsReason, status_of}
+use Rattle.evaluation.specs.ValueText.{IsValueText}
 use Rattle.value_command.specs.Texts.{IsNamedPlan, Whole}
 use Rattle.value_command.specs.Words.{IsCommand, words_at}
 

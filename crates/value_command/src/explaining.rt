@@ -3,8 +3,8 @@
 use crate::explanation::{About, resource_page, tell_page};
 use console::names::{ASSIGNMENT, PLAN};
 use diagnostics::{Page, argument_words, explain_literal, explain_plan, explain_tables};
+use evaluation::{ArgumentFault, ValueStop};
 use std::alloc::{AllocError, Global};
-use valuation::{ArgumentFault, ValueStop};
 
 /// Says what a refusal of `value` means, if there is one and that is wanted.
 pub fn explain_refusal<R: Eprint + AllocGlobal>(

@@ -1,4 +1,4 @@
-//! The command `value` of the program: what `valuation` does, over the texts that the command line names, its line on standard error, its exit
+//! The command `value` of the program: what `evaluation` does, over the texts that the command line names, its line on standard error, its exit
 //! status.
 //!
 //! `command` chooses the command by the words, where a program has this one alone, and `value` does it. `files` reads the plan, and

@@ -2,9 +2,9 @@
 
 ghost use Rattle.std.specs.Prelude.{◌≡◌, ◌≢◌, ◌≤◌};
 ghost use Rattle.std.specs.Io.KnownBytes.{Keeps};
-ghost use Rattle.valuation.specs.Arguments.{argument_texts};
-ghost use Rattle.valuation.specs.Stop.{IsReason};
-ghost use Rattle.valuation.specs.ValueText.{IsValueText};
+ghost use Rattle.evaluation.specs.Arguments.{argument_texts};
+ghost use Rattle.evaluation.specs.Stop.{IsReason};
+ghost use Rattle.evaluation.specs.ValueText.{IsValueText};
 ghost use Rattle.value_command.specs.Ends.{HasText, IsStatusOfRefusal, PutsText, ValueIsDone, ValueIsRefused};
 ghost use Rattle.value_command.specs.Words.{words_at};
 
@@ -16,10 +16,10 @@ use crate::telling::ended;
 use clap::ArgMatches;
 use console::names::ASSIGNMENT;
 use console::{DONE, Place, REFUSED, RESOURCE, Sources};
+use evaluation::do_value;
 use fixpoint::Out;
 use std::io;
 use std::rt::Files;
-use valuation::do_value;
 
 /// The command `value`.
 pub fn value_of<R: Files + Print + Eprint + AllocGlobal, S: Sources>(

@@ -5,8 +5,8 @@ ghost use Rattle.adjudicate.specs.Stop.{balance_fault_text, record_fault_text, r
 
 use claim_gate::TermsFault;
 use crew::RunFault;
+use evaluation::Line;
 use intake_csv::{BalanceFault, RowFault};
-use valuation::Line;
 
 /// Puts the words of a fault of the terms on an empty line.
 pub fn put_terms_fault(line: &mut Line, fault: &TermsFault)

@@ -1,7 +1,7 @@
 use Rattle.std.proofs.Common.{refl, rules}
 use Rattle.adjudicate.specs.declared.stop.Stop.TheVariants.{Value}
 use Rattle.adjudicate.specs.Stop.{status_of}
-use Rattle.valuation.specs.declared.stop.ValueStop.TheVariants.{NoMemory}
+use Rattle.evaluation.specs.declared.stop.ValueStop.TheVariants.{NoMemory}
 use Rattle.value_command.proofs.Ends.{placed_refused, placed_through}
 use Rattle.commands.proofs.Ends.{resource_refused}
 use Rattle.commands.proofs.run.run_into.Goals as goal

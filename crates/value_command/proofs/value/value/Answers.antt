@@ -1,4 +1,4 @@
-use Rattle.valuation.specs.Stop.{status_of}
+use Rattle.evaluation.specs.Stop.{status_of}
 use Rattle.value_command.proofs.Ends.{ends_done, ends_refused}
 use Rattle.value_command.proofs.value.value.Goals as goal
 

@@ -1,6 +1,6 @@
 use Rattle.std.proofs.Common.{refl}
-use Rattle.valuation.specs.declared.stop.ValueStop.TheVariants.{NoMemory}
-use Rattle.valuation.specs.Stop.{status_of}
+use Rattle.evaluation.specs.declared.stop.ValueStop.TheVariants.{NoMemory}
+use Rattle.evaluation.specs.Stop.{status_of}
 use Rattle.value_command.proofs.Ends.{placed_refused, resource_refused}
 use Rattle.value_command.proofs.value.value_into.Goals as goal
 

@@ -1,8 +1,8 @@
 use Rattle.std.proofs.Common.{◌≢◌, arith, refl, rules, subst}
-use Rattle.valuation.specs.Arguments.{argument_texts}
-use Rattle.valuation.specs.declared.stop.ValueStop.TheVariants.{NoMemory}
-use Rattle.valuation.specs.Stop.{IsReason, status_of}
-use Rattle.valuation.specs.ValueText.{IsValueText}
+use Rattle.evaluation.specs.Arguments.{argument_texts}
+use Rattle.evaluation.specs.declared.stop.ValueStop.TheVariants.{NoMemory}
+use Rattle.evaluation.specs.Stop.{IsReason, status_of}
+use Rattle.evaluation.specs.ValueText.{IsValueText}
 use Rattle.value_command.specs.Ends.{IsStatusOfRefusal}
 use Rattle.value_command.proofs.Ends.{resource_refused, text_by_words}
 use Rattle.value_command.proofs.value.value_plan.Goals as goal

@@ -1,0 +1,185 @@
+//! Why there is no value, or not all of it was written: each refusal has one line on standard error and one exit status.
+
+ghost use Rattle.std.specs.Prelude.{◌≡◌, ◌<◌, ◌≤◌, take};
+ghost use Rattle.evaluation.specs.Stop.{IsStopOfArgument, argument_fault_number, status_of, stop_line};
+
+pub mod line;
+
+use dtable::{Fault, Name, PlanCause, PlanFault};
+use faults::{LINE_LIMIT_BYTES, Refusal};
+use feel_tests::{CellCause, CellFault};
+use line::Line;
+use std::alloc::{AllocError, AllocFailed};
+use thiserror::Error;
+
+/// Why an argument gives no value.
+#[derive(Clone, Copy, Debug, PartialEq, Eq, Error)]
+pub enum ArgumentFault {
+    /// There is no `=`.
+    #[error("there is no `=`")]
+    NoEquals,
+    /// The name in front of the `=` is none that the plan's tables may read.
+    #[error("the plan has no such name")]
+    UnknownName,
+    /// An argument before gave this name.
+    #[error("the name was given before")]
+    RepeatedName,
+    /// What stands behind the `=` is no literal of the name's kind.
+    #[error("the literal can't be read: {0}")]
+    Literal(CellFault),
+}
+
+impl ArgumentFault {
+    /// The fault's number in the program's lines.
+    pub fn number(&self) -> u8
+        ensures number { result ≡ argument_fault_number self.now }
+        ensures small { result < 10 }
+    {
+        match self {
+            ArgumentFault::NoEquals => 1,
+            ArgumentFault::UnknownName => 2,
+            ArgumentFault::RepeatedName => 3,
+            ArgumentFault::Literal(_) => 4,
+        }
+    }
+}
+
+/// Why a command over a plan stopped, `value` or another that is refused so. Arguments count from 1.
+#[derive(Debug, Drop, Error)]
+pub enum ValueStop {
+    /// The text is no plan.
+    #[error("plan: {0}")]
+    Plan(PlanFault),
+    /// The argument with this number gives no value.
+    #[error("argument {number}: {fault}")]
+    Argument { number: usize, fault: ArgumentFault },
+    /// A table reads this name, and no argument gives it.
+    #[error("a value is missing")]
+    Missing(Name),
+    /// The tables have no value at what is given.
+    #[error("tables: {0}")]
+    Tables(Fault),
+    /// The writer took so many bytes of the text, and then failed.
+    #[error("the writer failed after {written} bytes")]
+    Write { written: usize },
+    /// Memory was refused.
+    #[error("out of memory")]
+    NoMemory,
+}
+
+impl ValueStop {
+    /// The exit status: 1 where the texts are refused, 3 where a resource is wanting.
+    pub fn status(&self) -> u8
+        ensures { result ≡ status_of self.now }
+    {
+        match self {
+            ValueStop::Plan(_) => 1,
+            ValueStop::Argument { .. } => 1,
+            ValueStop::Missing(_) => 1,
+            ValueStop::Tables(_) => 1,
+            ValueStop::Write { .. } => 3,
+            ValueStop::NoMemory => 3,
+        }
+    }
+
+    /// Writes the refusal's line, with its end, to the front of the buffer, and returns its length in bytes.
+    pub fn write_line(&self, buffer: &mut [u8; LINE_LIMIT_BYTES]) -> usize
+        ensures fits { result ≤ LINE_LIMIT_BYTES }
+        ensures written { take result buffer.new ≡ stop_line self.now }
+    {
+        let mut line = Line::new();
+        match self {
+            ValueStop::Plan(fault) => line.put_plan_fault(fault),
+            ValueStop::Argument { number, fault } => line.put_argument_fault(*number, fault),
+            ValueStop::Missing(name) => {
+                line.put("missing ");
+                line.put(name.as_str());
+            }
+            ValueStop::Tables(fault) => line.put_tables_fault(fault),
+            ValueStop::Write { written } => line.put_numbered("write fault at ", *written),
+            ValueStop::NoMemory => line.put("no memory"),
+        }
+        line.put("\n");
+        line.copy_to(buffer)
+    }
+
+    /// The refusal for a fault of the argument with this number, counted from 1.
+    pub(crate) fn from_argument(number: usize, fault: ArgumentFault) -> ValueStop
+        ensures { IsStopOfArgument number fault result }
+    {
+        match fault {
+            ArgumentFault::Literal(
+                CellFault {
+                    cause: CellCause::OutOfMemory,
+                    ..
+                },
+            ) => ValueStop::NoMemory,
+            fault => ValueStop::Argument { number, fault },
+        }
+    }
+}
+
+impl Refusal for ValueStop {
+    ghost use Rattle.evaluation.specs.Stop.{status_of, stop_line};
+
+    ghost status = { λ stop. status_of stop };
+
+    ghost line = { λ stop. stop_line stop };
+
+    #[tactic(auto, using(crate::proofs::Statuses::least_status, crate::proofs::Statuses::greatest_status))]
+    fn exit_status(&self) -> u8 {
+        self.status()
+    }
+
+    fn put_line(&self, buffer: &mut [u8; LINE_LIMIT_BYTES]) -> usize {
+        self.write_line(buffer)
+    }
+}
+
+impl From<PlanFault> for ValueStop {
+    ghost use Rattle.evaluation.specs.Stop.{IsStopOfPlan};
+
+    ghost from_gives = { λ fault stop. IsStopOfPlan fault stop };
+
+    fn from(fault: PlanFault) -> ValueStop {
+        match fault.cause {
+            PlanCause::OutOfMemory => ValueStop::NoMemory,
+            _ => ValueStop::Plan(fault),
+        }
+    }
+}
+
+impl From<Fault> for ValueStop {
+    ghost use Rattle.evaluation.specs.Stop.{IsStopOfTables};
+
+    ghost from_gives = { λ fault stop. IsStopOfTables fault stop };
+
+    fn from(fault: Fault) -> ValueStop {
+        match fault {
+            Fault::OutOfMemory => ValueStop::NoMemory,
+            fault => ValueStop::Tables(fault),
+        }
+    }
+}
+
+impl From<AllocError> for ValueStop {
+    ghost use Rattle.std.specs.Prelude.{◌≡◌};
+    ghost use Rattle.evaluation.specs.declared.stop.ValueStop.TheVariants.{NoMemory};
+
+    ghost from_gives = { λ _ stop. stop ≡ NoMemory };
+
+    fn from(_error: AllocError) -> ValueStop {
+        ValueStop::NoMemory
+    }
+}
+
+impl<T: Drop> From<AllocFailed<T>> for ValueStop {
+    ghost use Rattle.std.specs.Prelude.{◌≡◌};
+    ghost use Rattle.evaluation.specs.declared.stop.ValueStop.TheVariants.{NoMemory};
+
+    ghost from_gives = { λ _ stop. stop ≡ NoMemory };
+
+    fn from(_failed: AllocFailed<T>) -> ValueStop {
+        ValueStop::NoMemory
+    }
+}

@@ -1,0 +1,57 @@
+//! The printed text: a line for each output of each table, with the output's value.
+
+ghost use Rattle.std.specs.Prelude.{◌≡◌, ◌++◌, IfOk, OnOk};
+ghost use Rattle.evaluation.specs.ValueText.{answer_text, output_line, table_lines, value_lines};
+
+use dtable::{Answer, Env, Output, Table};
+use feel_tests::{Literals, Value, append_joined};
+use std::alloc::{AllocError, Global};
+
+/// The lines of these tables, in order.
+pub fn value_lines(alloc: Global, tables: &[Table], values: &Env) -> Result<Vec<u8>, AllocError>
+    ensures { IfOk result (λ text. text.items ≡ value_lines values.now tables.now) }
+{
+    let mut text = Vec::new(alloc);
+    for table in tables {
+        append_table(&mut text, table.outputs.as_slice(), values)?;
+    }
+    Ok(text)
+}
+
+// The lines of one table's outputs, in order.
+fn append_table(text: &mut Vec<u8>, outputs: &[Output], values: &Env) -> Result<(), AllocError>
+    ensures { OnOk result (text.new.items ≡ text.old.items ++ table_lines values.now outputs.now) }
+{
+    for output in outputs {
+        append_output(text, output, values)?;
+    }
+    Ok(())
+}
+
+// `NAME = VALUE`, and the end of the line.
+fn append_output(text: &mut Vec<u8>, output: &Output, values: &Env) -> Result<(), AllocError>
+    ensures { OnOk result (text.new.items ≡ text.old.items ++ output_line values.now output.now) }
+{
+    if let Some(answer) = values.get(output.name.as_str()) {
+        text.extend_from_slice(output.name.as_str().as_bytes())?;
+        text.extend_from_slice(b" = ")?;
+        append_answer(text, answer)?;
+        text.push(b'\n')?;
+    }
+    Ok(())
+}
+
+// A literal, or a list of them in square brackets.
+fn append_answer(text: &mut Vec<u8>, answer: &Answer) -> Result<(), AllocError>
+    ensures { OnOk result (text.new.items ≡ text.old.items ++ answer_text answer.now) }
+{
+    match answer {
+        Answer::One(value) => value.write_text(text)?,
+        Answer::Many(values) => {
+            text.push(b'[')?;
+            append_joined::<Value, Literals>(text, ", ", values.as_slice())?;
+            text.push(b']')?;
+        }
+    }
+    Ok(())
+}

@@ -1,7 +1,0 @@
-use Rattle.std.proofs.Common.{take}
-use Rattle.valuation.specs.Arguments.{argument_texts, Gives}
-use Rattle.valuation.proofs.value.arguments.read_arguments.Given as goal
-
--- the arguments so far give what is in the inputs
-abbrev pub invariant-loop-index : goal.invariant-loop-index
-invariant-loop-index l = Gives l.plan.names (take l.index (argument_texts l.arguments)) l.inputs

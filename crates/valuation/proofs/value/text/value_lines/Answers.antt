@@ -1,9 +1,0 @@
-use Rattle.std.proofs.Common.{arith}
-use Rattle.std.proofs.lemmas.Grind.{common_steps}
-use Rattle.valuation.proofs.value.text.value_lines.Goals as goal
-
-pub loop-table-preserved : goal.loop-table-preserved
-loop-table-preserved c = grind (arith, common_steps)
-
-pub returns : goal.returns
-returns c = grind (arith, common_steps)
