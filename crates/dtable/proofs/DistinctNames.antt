@@ -1,4 +1,4 @@
--- No name of a plan that a document spells stands twice.
+-- The names of a plan that a document denotes are pairwise distinct.
 use Rattle.std.proofs.Common.{◌≡◌, ◌≢◌, ◌<◌, ◌+◌, ◌-◌, ◌||◌, ◌&&◌, ℕ, zero, suc, Bool, true, false, not, inl, inr, List, [], ◌∷◌, ◌++◌, length, map, get_or, refl, sym, ap, subst, ◌∙◌, arith, append_assoc}
 use Rattle.std.specs.List.{All, flat_map, list_all}
 use Rattle.std.specs.Str.{bytes_eq}
@@ -40,7 +40,7 @@ among-itself (n ∷ names) zero d within = or_left (bytes_eq n n) (is_among n na
 among-itself (n ∷ names) (suc k) d within =
     or_right (bytes_eq n (get_or names k d)) (is_among (get_or names k d) names) (among-itself names k d (omega arith))
 
--- a name that isn't among them differs from each
+-- a name that is not among the names differs from each of them
 new-differs : (names : List (List ℕ)) (name : List ℕ) → is_among name names ≡ false → (k : ℕ) (d : List ℕ) → k < length names → get_or names k d ≢ name
 new-differs names name new k d within same =
     false≢true (sym new ∙ ap (λ n. is_among n names) (sym same) ∙ among-itself names k d within)
@@ -48,7 +48,7 @@ new-differs names name new k d within same =
 distinct-push : (names : List (List ℕ)) (name : List ℕ) → AreDistinct names → is_among name names ≡ false → AreDistinct (names ++ name ∷ [])
 distinct-push names name distinct new = all_pairs_push (λ a b. a ≢ b) names name distinct (new-differs names name new)
 
--- two lists beside each other, the other way round
+-- distinct names in two lists are distinct in either order of the lists
 distinct-swapped : (xs ys : List (List ℕ)) → AreDistinct (xs ++ ys) → AreDistinct (ys ++ xs)
 distinct-swapped xs ys h i j d before within =
     let size = length-append ys xs in
@@ -84,7 +84,7 @@ distinct-swapped xs ys h i j d before within =
           ]
     ]
 
--- each of the names is taken
+-- each of the names is in use
 AreTaken : List (List ℕ) → List (List ℕ) → Type 0
 AreTaken names taken = (name : List ℕ) → is_among name names ≡ true → is_among name taken ≡ true
 
@@ -106,7 +106,7 @@ taken-push names taken other known name there =
       | inr new ↦ or_right (is_among name taken) (is_among name (other ∷ [])) (rw new at split)
     ]
 
--- new names one after another, where those in front are taken
+-- new names are distinct, one after another, if the names before them are in use
 distinct-behind : {A : Type 0} (name_of : A → List ℕ) (R : List (List ℕ) → Data → A → Type 0) → ((taken : List (List ℕ)) (d : Data) (x : A) → R taken d x → is_among (name_of x) taken ≡ false)
     → (front taken : List (List ℕ)) (ds : Items) (xs : List A) → AreDistinct front → AreTaken front taken → EachBehind name_of R taken ds xs → AreDistinct (front ++ map name_of xs)
 distinct-behind name_of R fresh front taken no_items [] distinct known h = rw append-nil distinct
@@ -116,7 +116,7 @@ distinct-behind name_of R fresh front taken (item e es) (x ∷ xs) distinct know
     let more = distinct-push front (name_of x) distinct (not_taken front taken (name_of x) known (fresh taken e x h.0)) in
     rw append_assoc at (distinct-behind name_of R fresh (front ++ name_of x ∷ []) (taken ++ name_of x ∷ []) es xs more (taken-push front taken (name_of x) known) h.1)
 
--- names that pass a test which computes
+-- the names pass a test that computes
 all_new : List (List ℕ) → Bool
 all_new [] = true
 all_new (n ∷ names) = not (is_among n names) && all_new names
@@ -135,7 +135,7 @@ distinct-tested (n ∷ names) test =
     let parts = and_parts (not (is_among n names)) (all_new names) test in
     AllPairs-cons (λ a b. a ≢ b) n names (differs-all n names (not_true (is_among n names) parts.0)) (distinct-tested names parts.1)
 
--- names that are taken, by a test which computes
+-- names that pass a test that computes are in use
 taken-tested : (names taken : List (List ℕ)) → list_all (λ n. is_among n taken) names ≡ true → AreTaken names taken
 unfolding AreTaken
 taken-tested [] taken test name there = cc
@@ -146,7 +146,7 @@ taken-tested (n ∷ names) taken test name there =
       | inr other ↦ taken-tested names taken parts.1 name (rw other at there)
     ]
 
--- the names of every claim, and of a member's accumulators, where families are kept or not
+-- the names of every claim, and of a member's accumulators
 own_first : Bool → List (List ℕ)
 own_first families = data_names (accumulator_names families) ++ data_names (claim_names families)
 
@@ -155,7 +155,7 @@ unfolding own_first all_new
 own-distinct false = distinct-tested (own_first false) refl
 own-distinct true = distinct-tested (own_first true) refl
 
--- they are taken from the start
+-- the names of every claim and member are reserved
 own-taken : (families : Bool) → AreTaken (own_first families) (names_taken families)
 unfolding own_first reserved_names family_names
 own-taken false = taken-tested (own_first false) reserved_names refl
@@ -164,7 +164,7 @@ own-taken true = taken-tested (own_first true) (family_names ++ reserved_names) 
 fresh-field : (taken : List (List ℕ)) (d : Data) (f : InputData) → IsField taken d f → is_among f.name taken ≡ false
 fresh-field taken d f h = h.name.new
 
--- no name that tables may read from outside stands twice
+-- the names that tables may read from outside are distinct
 fields-distinct : (families : Bool) (ds : Items) (fields : List InputData) → EachBehind (λ f. f.name) IsField (names_taken families) ds fields → AreDistinct (data_names (names_of families fields))
 unfolding own_first
 fields-distinct families ds fields h =
@@ -202,7 +202,7 @@ names-taken names tables name there =
 fresh-output : (t : Table) (taken : List (List ℕ)) (d : Data) (o : Output) → IsOutput t.hit taken d o → is_among o.name taken ≡ false
 fresh-output t taken d o h = h.name.new
 
--- nor does the name of an output
+-- the names of the outputs are distinct from these and from each other
 tables-distinct : (names : List InputData) (earlier : List Table) (ds : Items) (ts : List Table) → AreDistinct (data_names names ++ outputs_of earlier)
     → EachBehind seen_of (IsTable names) (map seen_of earlier) ds ts → AreDistinct (data_names names ++ outputs_of (earlier ++ ts))
 tables-distinct names earlier no_items [] distinct h = rw append-nil distinct

@@ -1,4 +1,4 @@
--- A list of `toml` values beside the items of a document, and what each of them spells.
+-- A list of `toml` values as the items of a document, and the meaning of each.
 use Rattle.std.proofs.Common.{◌≡◌, ℕ, suc, zero, ◌+◌, ◌<◌, List, [], ◌∷◌, ◌++◌, length, map, take, get_or, Option, Some, None, refl, sym, ap, ◌∙◌, arith, append_assoc}
 use Rattle.std.proofs.lemmas.List.{take_more, append-nil}
 use Rattle.toml.specs.Data.{Data, Items, no_items, item}
@@ -6,12 +6,12 @@ use Rattle.toml.specs.View.{view, items_view}
 use Rattle.toml.specs.declared.value.Value.{Value}
 use Rattle.dtable.specs.Document.{item_count, Optionally, Each, EachBehind, EachUnder}
 
--- as many items as values
+-- there are as many items as values
 pub item_count-view : (vs : List Value) → item_count (items_view vs) ≡ length vs
 item_count-view [] = refl
 item_count-view (v ∷ vs) = ap suc (item_count-view vs)
 
--- a value that spells nothing where it is there
+-- a value without a meaning makes the optional value meaningless
 Optionally-none-there : {A : Type 0} (R : Data → A → Type 0) (d : Data) → ((x : A) → ¬ R d x) → (x : Option A) → ¬ Optionally R (Some d) x
 Optionally-none-there R d none None h = h
 Optionally-none-there R d none (Some x) h = none x h
@@ -19,7 +19,7 @@ Optionally-none-there R d none (Some x) h = none x h
 pub Optionally-none : {A : Type 0} (R : Data → A → Type 0) (o : Option Data) (d : Data) → o ≡ Some d → ((x : A) → ¬ R d x) → (x : Option A) → ¬ Optionally R o x
 Optionally-none R o d there none x h = Optionally-none-there R d none x (rw there at h)
 
--- where the value spells one thing at most
+-- an optional value has at most one meaning if the value does
 pub Optionally-same : {A : Type 0} (R : Data → A → Type 0) → ((d : Data) (x y : A) → R d x → R d y → x ≡ y) → (o : Option Data) (x y : Option A) → Optionally R o x → Optionally R o y → x ≡ y
 Optionally-same R once None None None h k = refl
 Optionally-same R once None None (Some y) h k = absurd k
@@ -35,7 +35,7 @@ module _ {A : Type 0} (R : Data → A → Type 0) where
   Each-push (w ∷ vs) v [] x h last = absurd h
   Each-push (w ∷ vs) v (y ∷ ys) x h last = (h.0, Each-push vs v ys x h.1 last)
 
-  -- one more value is read
+  -- the list, extended by one more value
   pub Each-more : (vs : List Value) (k : ℕ) (v : Value) (xs : List A) (x : A) → k < length vs → v ≡ get_or vs k v → Each R (items_view (take k vs)) xs → R (view v) x
       → Each R (items_view (take (k + 1) vs)) (xs ++ x ∷ [])
   Each-more vs k v xs x within here before last =
@@ -43,14 +43,14 @@ module _ {A : Type 0} (R : Data → A → Type 0) where
       let same : take (k + 1) vs ≡ take k vs ++ v ∷ [] = take_more vs k v within ∙ ap (λ w. take k vs ++ w ∷ []) (sym here) in
       rw same pushed
 
-  -- a value that spells nothing leaves no elements for the whole
+  -- a value without a meaning makes the list meaningless
   pub Each-none : (vs : List Value) (k : ℕ) (v : Value) (xs : List A) → k < length vs → v ≡ get_or vs k v → ((x : A) → ¬ R (view v) x) → ¬ Each R (items_view vs) xs
   Each-none [] k v xs within here none h = absurd (omega arith)
   Each-none (w ∷ vs) k v [] within here none h = h
   Each-none (w ∷ vs) zero v (x ∷ xs) within here none h = none x (rw here h.0)
   Each-none (w ∷ vs) (suc k) v (x ∷ xs) within here none h = Each-none vs k v xs (omega arith) here none h.1
 
-  -- where each value spells one element at most, so do all of them
+  -- a list has at most one meaning if each value does
   pub Each-same : ((d : Data) (x y : A) → R d x → R d y → x ≡ y) → (ds : Items) (xs ys : List A) → Each R ds xs → Each R ds ys → xs ≡ ys
   Each-same once no_items [] [] h k = refl
   Each-same once no_items [] (y ∷ ys) h k = absurd k
@@ -68,7 +68,7 @@ module _ {A S : Type 0} (seen : A → S) (R : List S → Data → A → Type 0) 
   EachBehind-push front (w ∷ vs) v [] x h last = absurd h
   EachBehind-push front (w ∷ vs) v (y ∷ ys) x h last = (h.0, EachBehind-push (front ++ seen y ∷ []) vs v ys x h.1 (rw append_assoc last))
 
-  -- one more value is read
+  -- the list, extended by one more value
   pub EachBehind-more : (front : List S) (vs : List Value) (k : ℕ) (v : Value) (xs : List A) (x : A) → k < length vs → v ≡ get_or vs k v
       → EachBehind seen R front (items_view (take k vs)) xs → R (front ++ map seen xs) (view v) x → EachBehind seen R front (items_view (take (k + 1) vs)) (xs ++ x ∷ [])
   EachBehind-more front vs k v xs x within here before last =
@@ -76,7 +76,7 @@ module _ {A S : Type 0} (seen : A → S) (R : List S → Data → A → Type 0) 
       let same : take (k + 1) vs ≡ take k vs ++ v ∷ [] = take_more vs k v within ∙ ap (λ w. take k vs ++ w ∷ []) (sym here) in
       rw same pushed
 
-  -- a value that spells nothing behind those in front of it leaves no elements for the whole
+  -- a value without a meaning, in view of the elements before it, makes the list meaningless
   pub EachBehind-none : ((front : List S) (d : Data) (x y : A) → R front d x → R front d y → seen x ≡ seen y)
       → (front : List S) (vs : List Value) (k : ℕ) (v : Value) (xs ys : List A) → k < length vs → v ≡ get_or vs k v
       → EachBehind seen R front (items_view (take k vs)) xs → ((x : A) → ¬ R (front ++ map seen xs) (view v) x) → ¬ EachBehind seen R front (items_view vs) ys
@@ -89,7 +89,7 @@ module _ {A S : Type 0} (seen : A → S) (R : List S → Data → A → Type 0) 
       let same = once front (view w) x y before.0 h.0 in
       EachBehind-none once (front ++ seen x ∷ []) vs k v xs ys (omega arith) here before.1 (λ z r. none z (rw append_assoc at r)) (rw same h.1)
 
-  -- where each value spells one element at most behind the same front, so do all of them
+  -- a list has at most one meaning if each value does, in view of the elements before it
   pub EachBehind-same : ((front : List S) (d : Data) (x y : A) → R front d x → R front d y → x ≡ y) → (front : List S) (ds : Items) (xs ys : List A)
       → EachBehind seen R front ds xs → EachBehind seen R front ds ys → xs ≡ ys
   EachBehind-same once front no_items [] [] h k = refl
@@ -101,7 +101,7 @@ module _ {A S : Type 0} (seen : A → S) (R : List S → Data → A → Type 0) 
       let same : x ≡ y = once front d x y h.0 k.0 in
       ap (λ z. z ∷ xs) same ∙ ap (λ zs. y ∷ zs) (EachBehind-same once (front ++ seen y ∷ []) ds xs ys (rw same at h.1) k.1)
 
-  -- and where it is the same that is seen of what each value spells
+  -- the later values see the same if each value has one visible part
   pub EachBehind-seen : ((front : List S) (d : Data) (x y : A) → R front d x → R front d y → seen x ≡ seen y) → (front : List S) (ds : Items) (xs ys : List A)
       → EachBehind seen R front ds xs → EachBehind seen R front ds ys → map seen xs ≡ map seen ys
   EachBehind-seen once front no_items [] [] h k = refl
@@ -123,7 +123,7 @@ module _ {C A : Type 0} (R : C → Data → A → Type 0) where
   EachUnder-push (b ∷ cs) c (w ∷ vs) v [] x h last = absurd h
   EachUnder-push (b ∷ cs) c (w ∷ vs) v (y ∷ ys) x h last = (h.0, EachUnder-push cs c vs v ys x h.1 last)
 
-  -- one more value of a row is read
+  -- the row, extended by one more value
   pub EachUnder-more : (cs : List C) (c : C) (vs : List Value) (v : Value) (k : ℕ) (xs : List A) (x : A) → k < length cs → c ≡ get_or cs k c → k < length vs → v ≡ get_or vs k v
       → EachUnder R (take k cs) (items_view (take k vs)) xs → R c (view v) x → EachUnder R (take (k + 1) cs) (items_view (take (k + 1) vs)) (xs ++ x ∷ [])
   EachUnder-more cs c vs v k xs x column at_column within here before last =
@@ -132,7 +132,7 @@ module _ {C A : Type 0} (R : C → Data → A → Type 0) where
       let same : take (k + 1) vs ≡ take k vs ++ v ∷ [] = take_more vs k v within ∙ ap (λ w. take k vs ++ w ∷ []) (sym here) in
       rw (columns, same) pushed
 
-  -- a value that spells nothing under its column leaves no elements for the row
+  -- a value without a meaning in its column makes the row meaningless
   pub EachUnder-none : (cs : List C) (c : C) (vs : List Value) (v : Value) (k : ℕ) (xs : List A) → k < length cs → c ≡ get_or cs k c → k < length vs → v ≡ get_or vs k v
       → ((x : A) → ¬ R c (view v) x) → ¬ EachUnder R cs (items_view vs) xs
   EachUnder-none [] c vs v k xs column at_column within here none h = absurd (omega arith)
@@ -150,7 +150,7 @@ module _ {C A : Type 0} (R : C → Data → A → Type 0) where
   EachUnder-count (c ∷ cs) (item d ds) [] h = absurd h
   EachUnder-count (c ∷ cs) (item d ds) (x ∷ xs) h = ap suc (EachUnder-count cs ds xs h.1)
 
-  -- where each item spells one element at most under its column, so does the row
+  -- a row has at most one meaning if each item does in its column
   pub EachUnder-same : ((c : C) (d : Data) (x y : A) → R c d x → R c d y → x ≡ y) → (cs : List C) (ds : Items) (xs ys : List A) → EachUnder R cs ds xs → EachUnder R cs ds ys → xs ≡ ys
   EachUnder-same once [] no_items [] [] h k = refl
   EachUnder-same once [] no_items [] (y ∷ ys) h k = absurd k

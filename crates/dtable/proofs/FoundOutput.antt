@@ -1,4 +1,4 @@
--- The output that a name stands for: where it is found, and its name.
+-- The output that a name refers to: its place and its name.
 use Rattle.std.proofs.Common.{◌≡◌, ℕ, ◌+◌, ◌<◌, zero, suc, true, ◌&&◌, List, [], ◌∷◌, length, map, Option, Some, None, option_map, slice_get, get_or, refl, sym, ap, ◌∙◌, arith}
 use Rattle.std.specs.List.{position}
 use Rattle.std.specs.Str.{bytes_eq}
@@ -17,7 +17,7 @@ use Rattle.dtable.specs.Plan.{gives_one}
 use Rattle.dtable.specs.Scope.{seen_of, is_single_of, earlier_origin, origin_of}
 use Rattle.dtable.proofs.ReadNames.{position-single}
 
--- the output of an earlier table that a name stands for
+-- the output of an earlier table that a name refers to
 pub record IsFound (name : List ℕ) (first : ℕ) (ts : List Table) (origin : Origin) : Type 0 where
   pub table : ℕ
   pub column : ℕ
@@ -74,7 +74,7 @@ pub found : (name : List ℕ) (first : ℕ) (ts : List Table) (origin : Origin) 
 found name first [] origin e = cc
 found name first (t ∷ ts) origin e = found_by name first t ts origin (found name (suc first) ts origin) (position (is_single_of name) (seen_of t)) refl e
 
--- where the output stands, and that it has the name
+-- the table and the output are within the lists, and the output has the name
 pub record StandsThere (name : List ℕ) (ts : List Table) (table column : ℕ) : Type 0 where
   pub table_within : table < length ts
   pub column_within : (d : Table) → column < length (get_or ts table d).outputs
@@ -100,6 +100,6 @@ stands_by : (name : List ℕ) (ts : List Table) (table column : ℕ) (p : Option
 stands_by name ts table column (Some place) e = cc
 stands_by name ts table column None e = stands_there name ts table column (found name 0 ts (Earlier table column) e)
 
--- the output of an earlier table whose value a name stands for
+-- the output of an earlier table whose value a name refers to
 pub stands_at : (names : List InputData) (ts : List Table) (name : List ℕ) (table column : ℕ) → origin_of names (map seen_of ts) name ≡ Some (Earlier table column) → StandsThere name ts table column
 stands_at names ts name table column e = stands_by name ts table column (position (λ d. bytes_eq d.name name) names) e

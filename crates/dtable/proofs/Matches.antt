@@ -1,4 +1,4 @@
--- The rules that match, one rule on.
+-- The rules that match, extended by one rule.
 use Rattle.std.proofs.Common.{◌≡◌, ℕ, zero, suc, ◌+◌, ◌<◌, Bool, true, false, cond, List, [], ◌∷◌, ◌++◌, length, get_or, filter, Some, slice_get, ap, sym, ◌∙◌, add-one, append-nil, arith}
 use Rattle.std.specs.List.{range_with_len}
 use Rattle.std.specs.Option.{option_map_or}

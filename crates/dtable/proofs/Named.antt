@@ -1,4 +1,4 @@
--- The answer of an output by its name, one table on.
+-- The answer of an output by its name, extended by one table.
 use Rattle.std.proofs.Common.{◌≡◌, ℕ, ◌+◌, ◌<◌, ◌≤◌, inl, inr, List, [], ◌∷◌, length, get_or, drop, Option, Some, None, slice_get, true, false, is_some, refl, ap, sym, ◌∙◌, arith}
 use Rattle.std.specs.Option.{option_and_then, option_copied}
 use Rattle.std.specs.Borrow.{Bor}
@@ -8,7 +8,7 @@ use Rattle.dtable.specs.declared.environment.Answer.{Answer}
 use Rattle.dtable.specs.declared.table.Table.{Table}
 use Rattle.dtable.specs.Environment.{answer_of, answer_in, or_else}
 
--- what a table of these at the place answers under a name
+-- the answer of the table at an index under a name
 abbrev pub found_at : List Table → ℕ → List Answer → List ℕ → Option Answer
 found_at tables i answers name = option_and_then (λ t. answer_in t.outputs answers name) (slice_get tables i)
 
@@ -26,7 +26,8 @@ named_past tables answers name i d past none =
     ∙ sym (at_drop_all (λ ts. answer_of ts (drop (i + 1) answers) name) tables (i + 1) (omega arith))
     ∙ ap (λ o. or_else (option_and_then (λ t. answer_in t.outputs (get_or answers i d) name) o) (answer_of (drop (i + 1) tables) (drop (i + 1) answers) name)) (sym none)
 
--- the tables from one on answer as that one does, or else as those behind it
+-- the answer of the tables from an index on: that of the table at the index, or otherwise that of
+-- the later ones
 pub named_more : (tables : List Table) (answers : List (List Answer)) (name : List ℕ) (i : ℕ) (d : List Answer) → i < length answers
     → answer_of (drop i tables) (drop i answers) name ≡ or_else (found_at tables i (get_or answers i d) name) (answer_of (drop (i + 1) tables) (drop (i + 1) answers) name)
 named_more tables answers name i d below = elim (slice_get_cases tables i).1 [

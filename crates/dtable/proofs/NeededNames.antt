@@ -1,4 +1,4 @@
--- What the tables of a plan read of its names.
+-- The names of a plan that its tables read.
 use Rattle.std.proofs.Common.{◌≡◌, ℕ, ◌<◌, true, List, [], ◌∷◌, ◌++◌, length, ⊎_elim, subst}
 use Rattle.std.specs.List.{list_any, list_all}
 use Rattle.std.proofs.lemmas.Bool.{false≢true, ltb-true, eqb-true, and_parts, or_cases}

@@ -1,4 +1,4 @@
--- The place of an output: where names are distinct, the answer there is the answer by the name.
+-- The place of an output: if names are distinct, the answer at the place is the answer by the name.
 use Rattle.std.proofs.Common.{◌≡◌, ◌≢◌, ℕ, zero, suc, ◌+◌, ◌<◌, List, [], ◌∷◌, ◌++◌, length, map, get_or, drop, Option, Some, None, slice_get, refl, sym, ap, ◌∙◌, subst, add-one, arith}
 use Rattle.std.specs.List.{flat_map, position}
 use Rattle.std.specs.Str.{bytes_eq}
@@ -21,11 +21,11 @@ names_in t = map (λ (o : Output). o.name) t.outputs
 abbrev pub names_of_outputs : List Table → List (List ℕ)
 names_of_outputs ts = flat_map names_in ts
 
--- where the name stands among outputs
+-- the index of the output with this name
 abbrev pub column_named : List Output → List ℕ → Option ℕ
 column_named os name = position (λ o. bytes_eq o.name name) os
 
--- of distinct names those behind are distinct
+-- a suffix of distinct names is distinct
 pub distinct_behind : (xs ys : List (List ℕ)) → AreDistinct (xs ++ ys) → AreDistinct ys
 distinct_behind [] ys h = h
 distinct_behind (x ∷ xs) ys h = distinct_behind xs ys (λ i j d before within. h (suc i) (suc j) d (omega (arith, before)) (omega (arith, within)))
@@ -33,7 +33,7 @@ distinct_behind (x ∷ xs) ys h = distinct_behind xs ys (λ i j d before within.
 no_output : Output
 no_output = record { name = []; kind = kinds.Number; priority = None; fallback = None }
 
--- a column that has the name has it among the names
+-- a column with this name has it in the list of names too
 column_name : (os : List Output) (name : List ℕ) (c : ℕ) (d : List ℕ) → column_named os name ≡ Some c
     → (c < length (map (λ (o : Output). o.name) os)) × (get_or (map (λ (o : Output). o.name) os) c d ≡ name)
 column_name os name c d at =
@@ -42,7 +42,7 @@ column_name os name c d at =
     let named : (get_or os c no_output).name ≡ name = (bytes_eq-Decides (get_or os c no_output).name name).0 there.1 in
     (within, get_or-map (λ (o : Output). o.name) os c no_output d there.0 ∙ named)
 
--- the name is none of these
+-- the name is not among these
 abbrev IsNone : List ℕ → List (List ℕ) → Type 0
 IsNone name names = (k : ℕ) (d : List ℕ) → k < length names → get_or names k d ≢ name
 
@@ -65,7 +65,7 @@ answers_none (t ∷ ts) (a ∷ more) name none =
     let rest = answers_none ts more name (none_behind (names_in t) (names_of_outputs ts) name none) in
     answers_by t ts a more name none rest (column_named t.outputs name) refl
 
--- where a table's column has the name, none behind the table has it
+-- if a column of a table has the name, no later table has it
 none_later : (t : Table) (ts : List Table) (name : List ℕ) (c : ℕ) → AreDistinct (names_of_outputs (t ∷ ts)) → column_named t.outputs name ≡ Some c → IsNone name (names_of_outputs ts)
 none_later t ts name c distinct at k d below same =
     let here = names_in t in
@@ -79,7 +79,7 @@ or_else-none : (found rest : Option Answer) → rest ≡ None → or_else found 
 or_else-none (Some a) rest none = refl
 or_else-none None rest none = none
 
--- the table at a place has the name in a column: that place is what answers it
+-- if the table at an index has the name in a column, this place has the answer
 pub named_at : (ts : List Table) (answers : List (List Answer)) (name : List ℕ) (i c : ℕ) (t : Table) → AreDistinct (names_of_outputs ts) → slice_get ts i ≡ Some t → column_named t.outputs name ≡ Some c
     → answer_of (drop i ts) (drop i answers) name ≡ answer_at answers (record { table = i; column = c })
 named_at [] answers name i c t distinct at is = absurd (none-some t at)
@@ -91,7 +91,7 @@ named_at (u ∷ ts) (a ∷ more) name zero c t distinct at is =
 named_at (u ∷ ts) [] name (suc i) c t distinct at is = named_end (drop i ts) name
 named_at (u ∷ ts) (a ∷ more) name (suc i) c t distinct at is = named_at ts more name i c t (distinct_behind (names_in u) (names_of_outputs ts) distinct) at is
 
--- the table at a place doesn't have it: those behind it answer
+-- if the table at an index does not have the name, a later table has the answer
 passed : (ts : List Table) (answers : List (List Answer)) (name : List ℕ) (i : ℕ) (t : Table) → slice_get ts i ≡ Some t → column_named t.outputs name ≡ None
     → answer_of (drop (suc i) ts) (drop (suc i) answers) name ≡ answer_of (drop i ts) (drop i answers) name
 passed [] answers name i t at is = absurd (none-some t at)

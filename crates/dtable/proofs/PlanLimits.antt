@@ -1,4 +1,4 @@
--- A plan that a document spells is within the limits.
+-- A plan that a document denotes is within the limits.
 use Rattle.std.proofs.Common.{◌≡◌, ◌≤◌, ℕ, suc, List, [], ◌∷◌, ◌++◌, length, codes, Option, Some, None, refl, ap, arith}
 use Rattle.std.specs.List.{All}
 use Rattle.std.specs.Option.{IfSome}
@@ -15,7 +15,7 @@ use Rattle.dtable.specs.Plan.{PlanParts, IsTableWithin, IsWithin}
 use Rattle.dtable.specs.PlanFile.{ArePriorities, IsField, IsInput, IsOutput, IsPlanDocument, IsPriority, IsRule, IsTable}
 use Rattle.dtable.specs.Scope.{SeenOutput, seen_of}
 
--- as many elements as items
+-- there are as many elements as items
 each-length : {A : Type 0} (R : Data → A → Type 0) (ds : Items) (xs : List A) → Each R ds xs → length xs ≡ item_count ds
 each-length R no_items [] h = refl
 each-length R no_items (x ∷ xs) h = absurd h
@@ -28,7 +28,7 @@ each_behind-length seen R front no_items (x ∷ xs) h = absurd h
 each_behind-length seen R front (item d ds) [] h = absurd h
 each_behind-length seen R front (item d ds) (x ∷ xs) h = ap suc (each_behind-length seen R (front ++ seen x ∷ []) ds xs h.1)
 
--- what each item spells behind those in front of it has a property
+-- a property of what each item denotes, in view of the elements before it
 each_behind-has : {A S : Type 0} (seen : A → S) (R : List S → Data → A → Type 0) (P : A → Type 0) → ((front : List S) (d : Data) (x : A) → R front d x → P x)
     → (front : List S) (ds : Items) (xs : List A) → EachBehind seen R front ds xs → All P xs
 each_behind-has seen R P has front no_items [] h = All-nil P
@@ -36,7 +36,7 @@ each_behind-has seen R P has front no_items (x ∷ xs) h = absurd h
 each_behind-has seen R P has front (item d ds) [] h = absurd h
 each_behind-has seen R P has front (item d ds) (x ∷ xs) h = All-cons P x xs (has front d x h.0) (each_behind-has seen R P has (front ++ seen x ∷ []) ds xs h.1)
 
--- a priority list is within its limit
+-- the priority list is within its limit
 abbrev HasPriorityWithin : Output → Type 0
 HasPriorityWithin o = IfSome o.priority (λ list. length list ≤ priority_limit)
 

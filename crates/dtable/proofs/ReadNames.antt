@@ -1,4 +1,4 @@
--- Names in a list, and what is seen of tables: whether a name is among them, and where its value comes from.
+-- Names in a list and in the tables: whether a name is among them, and where its value comes from.
 use Rattle.std.proofs.Common.{◌≡◌, ℕ, Bool, true, false, not, ◌||◌, ◌&&◌, ◌+◌, ◌-◌, ◌<◌, cond, nat_lt, take, drop, get_or, None, List, [], ◌∷◌, ◌++◌, length, map, refl, sym, ap, ◌∙◌, arith}
 use Rattle.std.specs.List.{list_any, list_all, position, prefix_len}
 use Rattle.std.proofs.lemmas.List.{take_rest, length-map}
@@ -19,7 +19,7 @@ or_assoc : (a b c : Bool) → (a || (b || c)) ≡ ((a || b) || c)
 or_assoc true b c = refl
 or_assoc false b c = refl
 
--- a name among two lists, one behind the other
+-- a name in the concatenation of two lists
 pub is_among-append : (name : List ℕ) (xs ys : List (List ℕ)) → is_among name (xs ++ ys) ≡ (is_among name xs || is_among name ys)
 is_among-append name [] ys = refl
 is_among-append name (x ∷ xs) ys = rw (is_among-append name xs ys) (or_assoc (bytes_eq x name) (is_among name xs) (is_among name ys))
@@ -29,12 +29,12 @@ pub is_among-map : {A : Type 0} (name_of : A → List ℕ) (name : List ℕ) (xs
 is_among-map name_of name [] = refl
 is_among-map name_of name (x ∷ xs) = ap (λ b. bytes_eq (name_of x) name || b) (is_among-map name_of name xs)
 
--- the names of a table's outputs are those that are seen
+-- the names of a table's outputs are the names that later tables see
 pub output_names-seen : (hit : Hit) (os : List Output) → map (λ o. o.name) (map (seen_output hit) os) ≡ output_names os
 output_names-seen hit [] = refl
 output_names-seen hit (o ∷ os) = ap (λ ns. o.name ∷ ns) (output_names-seen hit os)
 
--- the names of the outputs of some tables
+-- the names of the outputs of tables
 pub is_among-tables : (name : List ℕ) (ts : List Table) → list_any (λ t. is_among name (output_names t.outputs)) ts ≡ is_among name (seen_names (map seen_of ts))
 is_among-tables name [] = refl
 is_among-tables name (t ∷ ts) =
@@ -42,7 +42,7 @@ is_among-tables name (t ∷ ts) =
     (ap (λ b. is_among name (output_names t.outputs) || b) (is_among-tables name ts)
     ∙ sym (is_among-append name (output_names t.outputs) (seen_names (map seen_of ts))))
 
--- a name among those that are taken
+-- a name among the names in use
 pub is_among_taken : (name : List ℕ) (names : List InputData) (ts : List Table)
     → is_among name (taken_names names (map seen_of ts)) ≡ (is_among name reserved_names || (is_among name (data_names names) || is_among name (seen_names (map seen_of ts))))
 is_among_taken name names ts =
@@ -53,7 +53,7 @@ pub is_among_fields : (families : Bool) (name : List ℕ) (front : List InputDat
     → is_among name (names_taken families ++ data_names front) ≡ (is_among name (names_taken families) || is_among name (data_names front))
 is_among_fields families name front = is_among-append name (names_taken families) (data_names front)
 
--- a name among those that are taken from the start, where families are kept, and where they aren't
+-- a name among the reserved names, with and without families
 pub among_taken_with_families : (families : Bool) (name : List ℕ) → families ≡ true → is_among name (names_taken families) ≡ (is_among name family_names || is_among name reserved_names)
 among_taken_with_families false name kept = cc
 among_taken_with_families true name kept = is_among-append name family_names reserved_names
@@ -69,12 +69,12 @@ start_and_rest : (s : List ℕ) → 0 < length s → has_name_form s ≡ (is_nam
 start_and_rest [] some = absurd (omega arith)
 start_and_rest (byte ∷ bytes) some = refl
 
--- the form of a name whose first byte is tried on its own
+-- the form of a name, tested by its first byte and its other bytes
 pub has_name_form-rest : (s : List ℕ) (r : Bool) → 0 < length s → is_name_start (get_or s 0 0) ≡ true → r ≡ list_all is_name_byte (take (length s - 1) (drop 1 s)) → r ≡ has_name_form s
 has_name_form-rest s r some start rest =
     rw (start_and_rest s some, start) (rest ∙ ap (list_all is_name_byte) (take_rest s 1))
 
--- the first place of what passes, where each element is seen as another
+-- the first index that passes, in a mapped list
 prefix_len-map : {A B : Type 0} (seen : A → B) (p : B → Bool) (xs : List A) → prefix_len p (map seen xs) ≡ prefix_len (λ x. p (seen x)) xs
 prefix_len-map seen p [] = refl
 prefix_len-map seen p (x ∷ xs) = ap (λ n. cond (p (seen x)) (1 + n) 0) (prefix_len-map seen p xs)
@@ -82,7 +82,7 @@ prefix_len-map seen p (x ∷ xs) = ap (λ n. cond (p (seen x)) (1 + n) 0) (prefi
 pub position-map : {A B : Type 0} (seen : A → B) (p : B → Bool) (xs : List A) → position p (map seen xs) ≡ position (λ x. p (seen x)) xs
 position-map seen p xs = rw (prefix_len-map seen (λ y. not (p y)) xs, length-map xs seen)
 
--- nothing passes a test that is never true
+-- no index passes a test that is always false
 prefix_len-never : {A : Type 0} (xs : List A) → prefix_len (λ x. true) xs ≡ length xs
 prefix_len-never [] = refl
 prefix_len-never (x ∷ xs) = rw (prefix_len-never xs) (omega arith)
@@ -93,18 +93,18 @@ not_below_itself n = grind arith
 position-never : {A : Type 0} (xs : List A) → position (λ x. false) xs ≡ None
 position-never xs = rw (prefix_len-never xs, not_below_itself (length xs))
 
--- the single value of the name among a table's outputs
+-- the single value with this name among a table's outputs
 pub position-single : (name : List ℕ) (t : Table) → position (is_single_of name) (seen_of t) ≡ position (λ o. gives_one t.hit && bytes_eq o.name name) t.outputs
 position-single name t = position-map (seen_output t.hit) (is_single_of name) t.outputs
 
--- one of them that is a list, or one that has one value
+-- a table that lists values has no single value; otherwise, it is the first output with the name
 pub position-listed : (name : List ℕ) (t : Table) → gives_one t.hit ≡ false → None ≡ position (is_single_of name) (seen_of t)
 position-listed name t list = rw (position-single name t, list) (sym (position-never t.outputs))
 
 pub position-given : (name : List ℕ) (t : Table) → gives_one t.hit ≡ true → position (λ o. bytes_eq o.name name) t.outputs ≡ position (is_single_of name) (seen_of t)
 position-given name t one = rw (position-single name t, one)
 
--- the kind that is seen of an output that is a list is the written one
+-- the kind that later tables see in a list is the declared kind
 pub seen_kind-listed : (hit : Hit) (kind : Kind) → gives_one hit ≡ false → seen_kind hit kind ≡ kind
 seen_kind-listed hits.U kind list = refl
 seen_kind-listed hits.A kind list = refl
@@ -118,7 +118,7 @@ seen_kind-listed hits.Min kind list = refl
 seen_kind-listed hits.Max kind list = refl
 seen_kind-listed hits.Count kind list = cc
 
--- the outputs of a table that list texts under a name
+-- the output lists texts and has the name
 abbrev pub lists_text_as : List ℕ → SeenOutput → Bool
 lists_text_as name o = bytes_eq o.name name && (not o.is_single && same_kind kinds.Text o.kind)
 

@@ -1,4 +1,4 @@
--- The parts of a plan's document: each entry spells one thing at most, and what leaves none.
+-- The parts of a plan's document: each entry denotes at most one element, and some denote none.
 use Rattle.std.proofs.Common.{◌≡◌, ℕ, pos, Bool, true, false, if◌then◌else◌, List, [], map, codes, Option, Some, None, Result, Ok, Err, refl, sym, ap, subst, ◌∙◌}
 use Rattle.std.specs.Str.{bytes_eq}
 use Rattle.std.proofs.lemmas.Bool.{false≢true}
@@ -26,7 +26,7 @@ use Rattle.dtable.specs.PlanFile.{IsEntry, is_listed, kind_word, hit_word, IsNam
 use Rattle.dtable.specs.Scope.{SeenOutput, seen_of, seen_output, origin_of, kind_at, taken_names}
 use Rattle.dtable.proofs.Entries.{Optionally-same, Each-same, EachBehind-same, EachBehind-seen}
 
--- words stand for one kind, and for one hit policy
+-- a word denotes at most one kind, and at most one hit policy
 kind_of_word : List ℕ → Kind
 kind_of_word word = if bytes_eq word (codes "number") then kinds.Number else if bytes_eq word (codes "text") then kinds.Text else if bytes_eq word (codes "flag") then kinds.Flag else kinds.Day
 
@@ -71,20 +71,20 @@ pub IsHit-same : (o : Option Data) (g h : Hit) → IsHit o g → IsHit o h → g
 IsHit-same None g h a b = a ∙ sym b
 IsHit-same (Some d) g h a b = hit_word-same g h (same_string (hit_word g) (hit_word h) d a b)
 
--- an entry has one name and one kind at most
+-- an entry has at most one name and at most one kind
 pub IsNamed-same : (entry : Data) (a b : List ℕ) → IsNamed entry a → IsNamed entry b → a ≡ b
 IsNamed-same entry a b h k = same_Some a b (sym h.written ∙ k.written)
 
 pub IsOfKind-same : (entry : Data) (k l : Kind) → IsOfKind entry k → IsOfKind entry l → k ≡ l
 IsOfKind-same entry k l a b = kind_word-same k l (same_Some (kind_word k) (kind_word l) (sym a ∙ b))
 
--- a taken name is no new one
+-- a name in use is not new
 pub IsNewlyNamed-taken : (taken : List (List ℕ)) (entry : Data) (name : List ℕ) → IsNamed entry name → is_among name taken ≡ true → (other : List ℕ) → ¬ IsNewlyNamed taken entry other
 IsNewlyNamed-taken taken entry name named among other h =
     let same : other ≡ name = IsNamed-same entry other name h.named named in
     false≢true (sym (rw same at h.new) ∙ among)
 
--- an entry is one field at most
+-- an entry denotes at most one field
 pub IsField-name : (taken : List (List ℕ)) (d : Data) (f g : InputData) → IsField taken d f → IsField taken d g → f.name ≡ g.name
 IsField-name taken d f g h k = IsNamed-same d f.name g.name h.name.named k.name.named
 
@@ -101,7 +101,7 @@ AreNames-same families document ms ns h k =
     let entries : k.entries ≡ h.entries = same_Some k.entries h.entries (sym k.written ∙ h.written) in
     h.named ∙ ap (names_of families) (AreFields-same families h.entries h.fields k.fields h.spelled (rw entries at k.spelled)) ∙ sym k.named
 
--- a document has one version at most, and one list of names under it
+-- a document has at most one version, and at most one list of names for it
 pub version-same : (d : Data) (v w : ℕ) → IsVersionOf d v → IsVersionOf d w → v ≡ w
 version-same d v w h k =
     let same : integer (pos v) ≡ integer (pos w) = same_Some (integer (pos v)) (integer (pos w)) (sym h.written ∙ k.written) in
@@ -112,7 +112,7 @@ names-same d version names written known p h =
     let versions : p.version ≡ version = version-same d p.version version h.version written in
     AreNames-same (has_families version) d p.names names (subst (λ v. AreNames (has_families v) d p.names) versions h.names) known
 
--- literals and cells, where a text spells one at most
+-- literals and cells, if a text denotes at most one
 module _ (once : SpellsOneValue) where
   pub IsLiteral-same : (kind : Kind) (d : Data) (a b : Value) → IsLiteral kind d a → IsLiteral kind d b → a ≡ b
   IsLiteral-same kind d a b h k =
@@ -128,7 +128,7 @@ module _ (once : SpellsOneValue) where
       let other = rw entries at k.spelled in
       EachBehind-same (λ v. v) (IsPriority kind) (IsPriority-same kind) [] h.entries vs ws h.spelled.each other.each
 
-  -- an entry is one output at most
+  -- an entry denotes at most one output
   pub IsOutput-same : (hit : Hit) (taken : List (List ℕ)) (d : Data) (o p : Output) → IsOutput hit taken d o → IsOutput hit taken d p → o ≡ p
   IsOutput-same hit taken d o p h k =
       let names : o.name ≡ p.name = IsNamed-same d o.name p.name h.name.named k.name.named in
@@ -144,7 +144,7 @@ module _ (once : SpellsOneValue) where
       let entries : k.entries ≡ h.entries = same_Some k.entries h.entries (sym k.written ∙ h.written) in
       EachBehind-same (λ o. o.name) (IsOutput hit) (IsOutput-same hit) taken h.entries os ps h.each (rw entries at k.each)
 
-  -- it is the same that is seen of the tables that an entry spells
+  -- the tables that an entry may denote look the same to later tables
   pub IsTable-seen : (names : List InputData) (earlier : List (List SeenOutput)) (d : Data) (t u : Table) → IsTable names earlier d t → IsTable names earlier d u → seen_of t ≡ seen_of u
   IsTable-seen names earlier d t u h k =
       let same_hits : t.hit ≡ u.hit = IsHit-same (get (codes "hit") d) t.hit u.hit h.hit k.hit in
@@ -170,7 +170,7 @@ module _ (once : SpellsOneCell) where
       let same : k.kind ≡ h.kind = same_Some k.kind h.kind (sym k.known ∙ h.known) in
       IsCellOf-same h.kind d a b h.spelled (rw same at k.spelled)
 
-  -- an entry is one input at most
+  -- an entry denotes at most one input
   pub IsInput-same : (names : List InputData) (earlier : List (List SeenOutput)) (d : Data) (i j : Input) → IsInput names earlier d i → IsInput names earlier d j → i ≡ j
   IsInput-same names earlier d i j h k =
       let same_names : i.name ≡ j.name = IsNamed-same d i.name j.name h.name k.name in
@@ -184,18 +184,18 @@ module _ (once : SpellsOneCell) where
       let entries : k.entries ≡ h.entries = same_Some k.entries h.entries (sym k.written ∙ h.written) in
       Each-same (IsInput names earlier) (IsInput-same names earlier) h.entries is js h.each (rw entries at k.each)
 
--- an answer about one thing, as an answer about another that it makes
+-- a result for one property, turned into a result for another
 pub Reads-as : {A : Type 0} (P Q : A → Type 0) (r : Result A PlanFault) → ((x : A) → P x → Q x) → ((x : A) → Q x → P x) → Reads P r → Reads Q r
 Reads-as P Q (Ok x) to from h = to x h
 Reads-as P Q (Err fault) to from h = λ memory x q. h memory x (from x q)
 
--- a string that spells no literal
+-- a string that does not denote a literal
 pub IsLiteral-refused : (kind : Kind) (d : Data) (text : List ℕ) → as_str d ≡ Some text → ((v : Value) → ¬ SpellsValue kind text v) → (v : Value) → ¬ IsLiteral kind d v
 IsLiteral-refused kind d text read none v h =
     let same : h.text ≡ text = same_Some h.text text (sym (ap as_str h.written) ∙ read) in
     none v (rw same at h.spelled)
 
--- a cell of the kind that comes from there
+-- a cell of the kind of its origin
 pub IsCell-made : (names : List InputData) (earlier : List (List SeenOutput)) (origin : Origin) (kind : Kind) → kind_at names earlier origin ≡ Some kind → (d : Data) (cell : Cell) → IsCellOf kind d cell → IsCell names earlier origin d cell
 IsCell-made names earlier origin kind known d cell h = record { kind = kind; known = known; spelled = h }
 
@@ -204,7 +204,7 @@ IsCell-kind names earlier origin kind known d cell h =
     let same : h.kind ≡ kind = same_Some h.kind kind (sym h.known ∙ known) in
     rw same at h.spelled
 
--- an entry whose name is unknown, or whose allowed values are none
+-- an entry whose name is unknown, or whose allowed values are not a cell
 pub IsInput-unknown : (names : List InputData) (earlier : List (List SeenOutput)) (d : Data) (name : List ℕ) → IsNamed d name → origin_of names earlier name ≡ None → (i : Input) → ¬ IsInput names earlier d i
 IsInput-unknown names earlier d name named unknown i h =
     let same : i.name ≡ name = IsNamed-same d i.name name h.name named in
@@ -219,7 +219,7 @@ IsInput-no_values names earlier d name origin named known none i h =
     let origins : i.origin ≡ origin = same_Some i.origin origin (sym (rw same at h.known) ∙ known) in
     none i.values (rw origins at h.values)
 
--- an entry whose priority list or default is none
+-- an entry whose priority list or default is wrong
 pub IsOutput-no_priority : (hit : Hit) (taken : List (List ℕ)) (d : Data) (kind : Kind) → IsOfKind d kind → ((l : Option (List Value)) → ¬ Optionally (ArePriorities kind) (get (codes "priority") d) l) → (o : Output) → ¬ IsOutput hit taken d o
 IsOutput-no_priority hit taken d kind known none o h =
     let same : o.kind ≡ kind = IsOfKind-same d o.kind kind h.kind known in
@@ -230,7 +230,7 @@ IsOutput-no_fallback hit taken d kind known none o h =
     let same : o.kind ≡ kind = IsOfKind-same d o.kind kind h.kind known in
     none o.fallback (rw same at h.fallback)
 
--- a value that stands in the list already, and one that the list lacks
+-- a value that is in the list already, or is missing from the priority list
 pub IsPriority-listed : SpellsOneValue → (kind : Kind) (front : List Value) (d : Data) (v : Value) → IsLiteral kind d v → is_listed front v ≡ true → (w : Value) → ¬ IsPriority kind front d w
 IsPriority-listed once kind front d v literal listed w h =
     let same : w ≡ v = IsLiteral-same once kind d w v h.literal literal in

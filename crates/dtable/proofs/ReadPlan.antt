@@ -1,4 +1,4 @@
--- A plan that a document spells holds what every plan holds.
+-- A plan that a document denotes satisfies `IsPlan`.
 use Rattle.std.proofs.Common.{◌≡◌, ◌≢◌, ℕ, ◌+◌, ◌<◌, ◌≤◌, Result, Ok, Err, IfOk, IfErr, ◌==◌, zero, suc, Bool, true, false, not, ◌&&◌, nat_lt, List, [], ◌∷◌, ◌++◌, length, map, codes, Option, Some, None, option_map, slice_get, IsTrue, inl, inr, refl, sym, ap, subst, ◌∙◌, arith}
 use Rattle.std.specs.List.{list_all, list_any, zip, position}
 use Rattle.std.specs.Option.{option_map_or}
@@ -71,7 +71,7 @@ same_kind-refl kinds.Day = refl
 has_kind-of : (k : Kind) (v : Value) → kind_of v ≡ k → has_kind k v ≡ true
 has_kind-of k v e = rw e (same_kind-refl k)
 
--- what each entry spells passes a test, so all do
+-- all elements pass a test if each entry denotes an element that does
 each_all : {A : Type 0} (R : Data → A → Type 0) (test : A → Bool) → ((d : Data) (x : A) → R d x → test x ≡ true) → (ds : Items) (xs : List A) → Each R ds xs → list_all test xs ≡ true
 each_all R test pass no_items [] h = refl
 each_all R test pass no_items (x ∷ xs) h = absurd h
@@ -162,7 +162,7 @@ known_tables names earlier (item d ds) (t ∷ ts) h =
     (known_inputs names earlier d t h.0)
     (known_tables names (earlier ++ t ∷ []) ds ts (rw (map-append seen_of earlier (t ∷ [])) h.1))
 
--- what is at a place passes a test
+-- the element at an index passes, so some element does
 any_at : {A : Type 0} (test : A → Bool) (xs : List A) (i : ℕ) (x : A) → slice_get xs i ≡ Some x → test x ≡ true → list_any test xs ≡ true
 any_at test [] i x at pass = cc
 any_at test (y ∷ ys) zero x at pass = rw (same_Some y x at, pass)
@@ -303,7 +303,7 @@ AreTables-of names d ds read ts h =
     let same : h.entries ≡ ds = same_Some h.entries ds (sym h.written ∙ read) in
     rw same at h.spelled
 
--- a document's plan, from its parts
+-- the plan of a document, from its parts
 pub plan_made : (d : Data) (version : ℕ) (names : List InputData) (tables : List Table) (roles : Option Roles) → IsVersionOf d version → AreNames (has_families version) d names → AreTablesOf names d tables
     → Optionally (AreRoles (has_families version) names (map seen_of tables)) (get (codes "roles") d) roles → IsPlanDocument d (record { version = version; names = names; tables = tables; roles = roles })
 plan_made d version names tables roles written named spelled given = record { version = written; names = named; tables = spelled; roles = given }
@@ -327,7 +327,7 @@ no_roles once d version names tables written known spelled none p h =
     let seen : map seen_of p.tables ≡ map seen_of tables = AreTablesOf-seen once names d p.tables tables mine spelled in
     none p.roles (rw (versions, same, seen) at h.roles)
 
--- a text's plan is that of its document
+-- the plan of a text is the plan of its document
 pub document_of_text : (text : List ℕ) (d : Data) (p : PlanParts) → option_map whole_table (parse_document text) ≡ Some d → IsPlanText text p → IsPlanDocument d p
 document_of_text text d p read h =
     let same : whole_table h.members ≡ d = same_Some (whole_table h.members) d (sym (ap (option_map whole_table) h.read) ∙ read) in
@@ -341,7 +341,7 @@ of_members (Some members) text d p read h within utf8 spelled =
 pub text_of_document : (text : List ℕ) (d : Data) (p : PlanParts) → option_map whole_table (parse_document text) ≡ Some d → length text ≤ plan_limit_bytes → IsUtf8 text → IsPlanDocument d p → IsPlanText text p
 text_of_document text d p read = of_members (parse_document text) text d p refl read
 
--- the clauses of an answer
+-- the clauses of a result
 pub IfOk-from_Reads : {A : Type 0} (P Q : A → Type 0) (r : Result A PlanFault) → ((x : A) → P x → Q x) → Reads P r → IfOk r Q
 IfOk-from_Reads P Q (Ok x) to h = to x h
 IfOk-from_Reads P Q (Err fault) to h = tt

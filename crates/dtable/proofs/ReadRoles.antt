@@ -1,4 +1,4 @@
--- What a role's string spells, and what leaves no source.
+-- The meaning of a role's string, and the strings without one.
 use Rattle.std.proofs.Common.{◌≡◌, ℕ, Bool, true, false, List, Option, Some, None, Result, Ok, Err, IfOk, OnOk, OnErr, is_some, subst, sym, ◌∙◌}
 use Rattle.std.proofs.lemmas.Bool.{false≢true}
 use Rattle.std.proofs.lemmas.Option.{same_Some}
@@ -22,7 +22,7 @@ use Rattle.dtable.specs.RoleFile.{IsSource, IsNamedSource, SpellsNone, IsRole, A
 use Rattle.dtable.specs.Scope.{SeenOutput, origin_of, kind_at}
 
 module _ (names : List InputData) (earlier : List (List SeenOutput)) where
-  -- a name that stands for nothing, or for a value of another kind
+  -- a name without a meaning, or of a value of another kind
   pub named_none : (kind : Kind) (text : List ℕ) → origin_of names earlier text ≡ None → (s : Source) → ¬ IsNamedSource names earlier kind text s
   named_none kind text none (Literal value) h = h
   named_none kind text none (Input place) h = let clash : None ≡ Some (Given place) = sym none ∙ h.known in cc
@@ -37,7 +37,7 @@ module _ (names : List InputData) (earlier : List (List SeenOutput)) where
       let same : Earlier h.table h.column ≡ origin = same_Some (Earlier h.table h.column) origin (sym h.known ∙ known) in
       other (subst (λ o. kind_at names earlier o ≡ Some kind) same h.of_kind)
 
-  -- a string that is no literal
+  -- a string that is not a literal
   pub source_named : (asked : Asked) (text : List ℕ) → SpellsNone (asked_kind asked) text → (s : Source) → IsNamedSource names earlier (asked_kind asked) text s → IsSource names earlier asked text s
   source_named asked text none (Literal value) h = absurd h
   source_named asked text none (Input place) h = (none, h)
@@ -70,7 +70,7 @@ module _ (names : List InputData) (earlier : List (List SeenOutput)) where
       let same : h.text ≡ text = same_Some h.text text (sym h.written ∙ read) in
       rw same at h.spelled
 
-  -- the family's limits, which there are where families are kept
+  -- the family's limits exist only if the plan has families
   pub no_limits_kept : (families : Bool) (d : Data) → families ≡ false → AreFamilyRoles families names earlier d None
   no_limits_kept false d kept = tt
   no_limits_kept true d kept = cc
@@ -84,7 +84,7 @@ module _ (names : List InputData) (earlier : List (List SeenOutput)) where
   no_limits true d kept none None h = h
   no_limits true d kept none (Some limits) h = none limits h
 
-  -- what is no table has no roles
+  -- a value that is not a table has no roles
   pub no_table : (families : Bool) (d : Data) → is_some (as_table d) ≡ false → (r : Roles) → ¬ AreRoles families names earlier d r
   no_table families (string s) none r h = let clash = h.cover.written in cc
   no_table families (integer z) none r h = let clash = h.cover.written in cc

@@ -1,4 +1,4 @@
--- What leaves no inputs, outputs, rules or table: an entry that spells nothing, or parts that don't fit one another.
+-- Entries and parts that make inputs, outputs, rules or a table meaningless.
 use Rattle.std.proofs.Common.{◌≡◌, ℕ, ◌+◌, ◌<◌, true, false, List, [], ◌∷◌, ◌++◌, length, map, codes, Some, take, get_or, sym, ◌∙◌, arith}
 use Rattle.std.proofs.lemmas.Bool.{false≢true}
 use Rattle.std.proofs.lemmas.Option.{same_Some}
@@ -22,7 +22,7 @@ use Rattle.dtable.specs.Scope.{SeenOutput, seen_of, taken_names}
 use Rattle.dtable.proofs.Entries.{Each-none, EachBehind-more, EachBehind-none, EachUnder-none, EachUnder-count}
 use Rattle.dtable.proofs.ReadParts.{IsPriority-same, IsNamed-same, IsHit-same, AreInputs-same, AreOutputs-same, IsTable-seen}
 
--- an entry that is no input leaves no inputs
+-- an entry that is not an input leaves no inputs
 pub AreInputs-none : (names : List InputData) (earlier : List (List SeenOutput)) (entry : Data) (vs : List Entry) (k : ℕ) (v : Entry) → array_at (codes "inputs") entry ≡ Some (items_view vs) → k < length vs → v ≡ get_or vs k v
     → ((i : Input) → ¬ IsInput names earlier (view v) i) → (is : List Input) → ¬ AreInputs names earlier entry is
 AreInputs-none names earlier entry vs k v read within here none is h =
@@ -32,14 +32,14 @@ AreInputs-none names earlier entry vs k v read within here none is h =
 IsOutput-name : (hit : Hit) (taken : List (List ℕ)) (d : Data) (o p : Output) → IsOutput hit taken d o → IsOutput hit taken d p → o.name ≡ p.name
 IsOutput-name hit taken d o p h k = IsNamed-same d o.name p.name h.name.named k.name.named
 
--- an entry that is no output behind those in front of it leaves no outputs
+-- an entry that is not an output, in view of the outputs before it, leaves no outputs
 pub AreOutputs-none : (hit : Hit) (taken : List (List ℕ)) (entry : Data) (vs : List Entry) (k : ℕ) (v : Entry) (os : List Output) → array_at (codes "outputs") entry ≡ Some (items_view vs) → k < length vs → v ≡ get_or vs k v
     → EachBehind (λ o. o.name) (IsOutput hit) taken (items_view (take k vs)) os → ((o : Output) → ¬ IsOutput hit (taken ++ map (λ p. p.name) os) (view v) o) → (ps : List Output) → ¬ AreOutputs hit taken entry ps
 AreOutputs-none hit taken entry vs k v os read within here before none ps h =
     let same : h.entries ≡ items_view vs = same_Some h.entries (items_view vs) (sym h.written ∙ read) in
     EachBehind-none (λ o. o.name) (IsOutput hit) (IsOutput-name hit) taken vs k v os ps within here before none (rw same at h.each)
 
--- one more value of a priority list, and an entry that is none
+-- a priority list, extended by one value, and an entry that is not a priority
 pub ArePriorities-more : (kind : Kind) (vs : List Entry) (k : ℕ) (v : Entry) (list : List Value) (w : Value) → k < length vs → v ≡ get_or vs k v → EachBehind (λ x. x) (IsPriority kind) [] (items_view (take k vs)) list
     → IsPriority kind list (view v) w → EachBehind (λ x. x) (IsPriority kind) [] (items_view (take (k + 1) vs)) (list ++ w ∷ [])
 ArePriorities-more kind vs k v list w within here before last = EachBehind-more (λ x. x) (IsPriority kind) [] vs k v list w within here before (rw (map-id list) last)
@@ -49,14 +49,14 @@ pub ArePriorities-none : SpellsOneValue → (kind : Kind) (vs : List Entry) (k :
 ArePriorities-none once kind vs k v list more within here before none h =
     EachBehind-none (λ x. x) (IsPriority kind) (IsPriority-same once kind) [] vs k v list more within here before (λ w p. none w (rw (map-id list) at p)) h.each
 
--- an entry that is no rule leaves no rules
+-- an entry that is not a rule leaves no rules
 pub AreRules-none : (names : List InputData) (earlier : List (List SeenOutput)) (is : List Input) (os : List Output) (entry : Data) (vs : List Entry) (k : ℕ) (v : Entry) → array_at (codes "rules") entry ≡ Some (items_view vs) → k < length vs → v ≡ get_or vs k v
     → ((r : Rule) → ¬ IsRule names earlier is os (view v) r) → (rs : List Rule) → ¬ AreRules names earlier is os entry rs
 AreRules-none names earlier is os entry vs k v read within here none rs h =
     let same : h.entries ≡ items_view vs = same_Some h.entries (items_view vs) (sym h.written ∙ read) in
     Each-none (IsRule names earlier is os) vs k v rs within here none (rw same at h.each)
 
--- a row with an entry that spells nothing under its column, or of another length
+-- a row of the wrong length, or with an entry that is wrong in its column
 module _ {C A : Type 0} (R : C → Data → A → Type 0) where
   pub IsRow-none : (cs : List C) (c : C) (key : List ℕ) (rule : Data) (vs : List Entry) (v : Entry) (k : ℕ) → array_at key rule ≡ Some (items_view vs) → length vs ≡ length cs → c ≡ get_or cs k c → k < length vs → v ≡ get_or vs k v
       → ((x : A) → ¬ R c (view v) x) → (xs : List A) → ¬ IsRow R cs key rule xs
@@ -67,14 +67,14 @@ module _ {C A : Type 0} (R : C → Data → A → Type 0) where
   pub IsRow-length : (cs : List C) (key : List ℕ) (rule : Data) (n : ℕ) → n ≡ length cs → ((ds : Items) → array_at key rule ≡ Some ds → item_count ds ≡ n → ⊥) → (xs : List A) → ¬ IsRow R cs key rule xs
   IsRow-length cs key rule n columns none xs h = none h.entries h.written (EachUnder-count R cs h.entries xs h.each ∙ sym columns)
 
--- a table whose parts leave none
+-- a table with a part that is wrong
 pub IsTable-no_outputs : (names : List InputData) (earlier : List (List SeenOutput)) (d : Data) (hit : Hit) → IsHit (get (codes "hit") d) hit
     → ((os : List Output) → ¬ AreOutputs hit (taken_names names earlier) d os) → (t : Table) → ¬ IsTable names earlier d t
 IsTable-no_outputs names earlier d hit word none t h =
     let hits : t.hit ≡ hit = IsHit-same (get (codes "hit") d) t.hit hit h.hit word in
     none t.outputs (rw hits at h.outputs)
 
--- what is read of a table before its rules
+-- the parts of a table that are read before its rules
 pub record HasColumns (names : List InputData) (earlier : List (List SeenOutput)) (d : Data) (hit : Hit) (is : List Input) (os : List Output) : Type 0 where
   pub word : IsHit (get (codes "hit") d) hit
   pub inputs : AreInputs names earlier d is
@@ -100,7 +100,7 @@ module _ (once_value : SpellsOneValue) where
       let inputs : t.inputs ≡ is = AreInputs-same once_cell names earlier d t.inputs is h.inputs k.inputs in
       none t.rules (rw (inputs, outputs) at h.rules)
 
-  -- an entry that is no table behind those in front of it leaves no tables
+  -- an entry that is not a table, in view of the tables before it, leaves no tables
   pub AreTables-none : (names : List InputData) (vs : List Entry) (k : ℕ) (v : Entry) (ts us : List Table) → k < length vs → v ≡ get_or vs k v
       → EachBehind seen_of (IsTable names) [] (items_view (take k vs)) ts → ((t : Table) → ¬ IsTable names (map seen_of ts) (view v) t) → ¬ AreTables names (items_view vs) us
   AreTables-none names vs k v ts us within here before none h =

@@ -1,4 +1,4 @@
--- That each input of each table finds a value is that every name which a table reads has one.
+-- Each input of each table has a value if and only if every name that a table reads has one.
 use Rattle.std.proofs.Common.{◌≡◌, ℕ, ◌↔◌, true, inl, inr, List, [], ◌∷◌, is_some, refl, subst}
 use Rattle.std.specs.List.{list_all, list_any}
 use Rattle.std.proofs.lemmas.Bool.{false≢true, eqb-true, eq-eqb, and_parts, and_from, or_cases, or_left, or_right}

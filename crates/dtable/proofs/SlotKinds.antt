@@ -1,4 +1,4 @@
--- The kinds of places stay where one takes a value of its kind.
+-- The kinds of the slots do not change if a slot is set to a value of its kind.
 use Rattle.std.proofs.Common.{◌≡◌, ℕ, zero, suc, List, [], ◌∷◌, map, set, get_or, refl, ap, ◌∙◌}
 use Rattle.feel_tests.specs.declared.kind.Kind.{Kind}
 use Rattle.dtable.specs.declared.inputs.Slot.{Slot}

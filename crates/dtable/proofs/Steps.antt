@@ -1,4 +1,4 @@
--- Steps of the loops: a list's function, one item on.
+-- Steps of the loops: the function of a list, extended by one item.
 use Rattle.std.proofs.Common.{◌≡◌, ℕ, ◌+◌, ◌*◌, ◌<◌, ◌≤◌, ℤ, pos, neg_ℤ, ◌+ℤ◌, ◌≤ℤ◌, arith, List, [], ◌∷◌, ◌++◌, length, get_or, take, fold, append-nil, Option, Some, None, refl, ap, ◌∙◌}
 use Rattle.std.specs.List.{filter_map, reduce, cons_option}
 use Rattle.std.specs.Option.{option_to_list, IfSome}
@@ -12,12 +12,12 @@ use Rattle.feel_tests.specs.declared.value.Value.{Value}
 use Rattle.dtable.specs.declared.environment.Answer.TheVariants.{One}
 use Rattle.dtable.specs.HitPolicy.{joined, ones}
 
--- a list that one item was put behind is what is wanted of one more
+-- a list after a push is the expected list with one more item
 pub pushed_more : {A : Type 0} (before after wanted next : List A) (item made : A) → after ≡ before ++ item ∷ [] → before ≡ wanted → item ≡ made
     → next ≡ wanted ++ made ∷ [] → after ≡ next
 pushed_more before after wanted next item made pushed so_far is step = cc
 
--- what `filter_map` keeps of one item
+-- `filter_map` of a list of one item
 filter_map-one : {X Y : Type 0} (h : X → Option Y) (x : X) → filter_map h (x ∷ []) ≡ option_to_list (h x)
 filter_map-one h x = elim (h x) as (λ o. cons_option o [] ≡ option_to_list o) [ None ↦ refl | Some y ↦ refl ]
 
@@ -26,7 +26,7 @@ pub filter_map_more : {X Y : Type 0} (h : X → Option Y) (xs : List X) (i : ℕ
 filter_map_more h xs i d below =
     ap (filter_map h) (take_more xs i d below) ∙ filter_map-append h (take i xs) (get_or xs i d ∷ []) ∙ ap (λ ys. filter_map h (take i xs) ++ ys) (filter_map-one h (get_or xs i d))
 
--- the aggregate of numbers and what comes behind them
+-- the aggregate of a concatenation
 reduce-more : (join : ℤ → ℤ → ℤ) (xs : List ℤ) (o : Option ℤ) → reduce join (xs ++ option_to_list o) ≡ joined join (reduce join xs) o
 reduce-more join [] None = refl
 reduce-more join [] (Some x) = refl
@@ -38,18 +38,18 @@ pub numbers_more : (join : ℤ → ℤ → ℤ) (h : ℕ → Option ℤ) (xs : L
 numbers_more join h xs i d below =
     ap (reduce join) (filter_map_more h xs i d below) ∙ reduce-more join (filter_map h (take i xs)) (h (get_or xs i d))
 
--- a number is what is wanted of one more
+-- an aggregate after one more number is the expected aggregate
 pub joined_more : (join : ℤ → ℤ → ℤ) (before after wanted next one made : Option ℤ) → after ≡ joined join before one → before ≡ wanted → one ≡ made
     → next ≡ joined join wanted made → after ≡ next
 joined_more join before after wanted next one made with_one so_far is step = cc
 
--- one value more for the outputs
+-- the values of the outputs, extended by one
 pub ones_more : {X : Type 0} (h : X → Option Value) (xs : List X) (i : ℕ) (d : X) → i < length xs
     → ones (filter_map h (take (i + 1) xs)) ≡ ones (filter_map h (take i xs)) ++ ones (option_to_list (h (get_or xs i d)))
 ones_more h xs i d below =
     ap ones (filter_map_more h xs i d below) ∙ map-append (λ v. One v) (filter_map h (take i xs)) (option_to_list (h (get_or xs i d)))
 
--- a number's units lie between the bounds of the number range
+-- the units of a number lie between the bounds of its range
 above_least : (m : ℕ) (units : ℤ) → unsigned_abs units ≤ m → neg_ℤ (pos m) ≤ℤ units
 above_least m (ℤ.pos n) e = omega (arith, ints)
 above_least m (ℤ.negsuc n) e = omega (arith, ints)
@@ -58,7 +58,7 @@ below_greatest : (m : ℕ) (units : ℤ) → unsigned_abs units ≤ m → units 
 below_greatest m (ℤ.pos n) e = omega (arith, ints)
 below_greatest m (ℤ.negsuc n) e = omega (arith, ints)
 
--- a sum of so many numbers is no farther from zero than they can be
+-- a sum of n numbers is at most n times as far from zero as a number can be
 pub low_more : (n : ℕ) (sum units : Option ℤ) → IfSome sum (λ s. neg_ℤ (pos (greatest_units * n)) ≤ℤ s) → IfSome units IsInRange
     → IfSome (joined ◌+ℤ◌ sum units) (λ s. neg_ℤ (pos (greatest_units * (n + 1))) ≤ℤ s)
 low_more n None None low range = tt

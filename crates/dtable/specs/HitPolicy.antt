@@ -1,4 +1,5 @@
--- The value of a table by its hit policy, from the rules that match (DMN 1.4, hit policies). Rules count from 0, tables from 1.
+-- The value of a table by its hit policy, from the rules that match (DMN 1.4, hit policies). Rules
+-- are numbered from 0, tables from 1.
 use Rattle.std.specs.Prelude.{◌≡◌, ◌≢◌, MatchResult, ℕ, nat_le, ℤ, pos, neg_ℤ, ◌≤ℤ◌, ◌^◌, ◌+ℤ◌, ◌*◌, Bool, List, [], ◌∷◌, length, map, Option, Some, None, is_some, slice_get, Result, Ok, Err, if◌then◌else◌}
 use Rattle.std.specs.List.{list_all, filter_map, range_with_len, reduce}
 use Rattle.std.specs.Option.{option_and_then}
@@ -18,11 +19,11 @@ use Rattle.dtable.specs.declared.hit.Hit.TheVariants as hits
 use Rattle.dtable.specs.declared.table.Table.{Table}
 use Rattle.dtable.specs.Priority.{entries_of, highest, in_priority_order}
 
--- a fault other than want of memory is the one of this result
+-- unless memory ran out, the fault is the expected one
 abbrev pub IsFaultOf : {X : Type 0} → Result X Fault → Fault → Type 0
 IsFaultOf expected fault = fault ≢ OutOfMemory → expected ≡ Err fault
 
--- an answer for each output of a table, or why there is none
+-- an answer for each output of a table, or the fault
 abbrev pub TableValue : Type 0
 TableValue = Result (List Answer) Fault
 
@@ -30,20 +31,20 @@ TableValue = Result (List Answer) Fault
 abbrev pub ones : List Value → List Answer
 ones values = map (λ value. One value) values
 
--- the entries of these rules in one column of outputs
+-- the entries of these rules for one output
 abbrev pub column_of : Table → List ℕ → ℕ → List Value
 column_of t rules column = filter_map (λ rule. slice_get (entries_of t rule) column) rules
 
--- for each output the list of the entries of these rules
+-- for each output, the list of the entries of these rules
 abbrev pub lists : Table → List ℕ → List Answer
 lists t rules = map (λ column. Many (column_of t rules column)) (range_with_len 0 (length t.outputs))
 
--- no rule matches: the defaults where every output has one, and no value where not
+-- no rule matches: the defaults if every output has one, and otherwise a fault
 abbrev pub unmatched : ℕ → Table → TableValue
 unmatched number t =
     if list_all (λ o. is_some o.fallback) t.outputs then Ok (ones (filter_map (λ o. o.fallback) t.outputs)) else Err (NoRule number)
 
--- Unique: the entries of the one match; two or more clash
+-- Unique: the entries of the only match; two or more matches clash
 abbrev pub unique : ℕ → Table → List ℕ → TableValue
 unique number t [] = unmatched number t
 unique number t (rule ∷ []) = Ok (ones (entries_of t rule))
@@ -53,7 +54,7 @@ unique number t (rule ∷ other ∷ others) = Err (Clash number)
 abbrev pub agree : Table → ℕ → ℕ → Bool
 agree t rule other = pointwise is_equal (entries_of t rule) (entries_of t other)
 
--- Any: the entries of the matches where all agree; matches that disagree clash
+-- Any: the entries of the matches if all agree; matches that disagree clash
 abbrev pub any : ℕ → Table → List ℕ → TableValue
 any number t [] = unmatched number t
 any number t (rule ∷ others) = if list_all (agree t rule) others then Ok (ones (entries_of t rule)) else Err (Clash number)
@@ -72,38 +73,38 @@ abbrev pub units_of : Value → Option ℤ
 units_of (Number units) = Some units
 units_of _ = None
 
--- the units of a rule's entry in the first output
+-- the units of a rule's entry for the first output
 abbrev pub number_in : Table → ℕ → Option ℤ
 number_in t rule = option_and_then units_of (slice_get (entries_of t rule) 0)
 
--- the units of these rules' entries in the first output
+-- the units of these rules' entries for the first output
 abbrev pub numbers_of : Table → List ℕ → List ℤ
 numbers_of t rules = filter_map (number_in t) rules
 
--- a number as the one answer, if it is in the number range
+-- a number as the only answer, if it is in range
 abbrev pub number_answer : ℕ → ℤ → TableValue
 number_answer number units = if nat_le (unsigned_abs units) greatest_units then Ok (One (Number units) ∷ []) else Err (Range number)
 
--- what an aggregator makes of what it has so far and one number more, where there is one
+-- an aggregate with one more number, if there is one
 abbrev pub joined : (ℤ → ℤ → ℤ) → Option ℤ → Option ℤ → Option ℤ
 joined join so_far None = so_far
 joined join None (Some units) = Some units
 joined join (Some so_far) (Some units) = Some (join so_far units)
 
--- a sum to which a number can be added in 128 bits
+-- a sum to which any number can be added within 128 bits
 abbrev pub IsFarFromOverflow : ℤ → Type 0
 IsFarFromOverflow sum = (neg_ℤ (pos (2 ^ 126)) ≤ℤ sum) × (sum ≤ℤ pos (2 ^ 126))
 
--- what an aggregator makes of the matches' numbers, if there are any
+-- the aggregate of the matches' numbers; without any, no rule matches
 abbrev pub aggregated : ℕ → Table → Option ℤ → TableValue
 aggregated number t None = unmatched number t
 aggregated number t (Some units) = number_answer number units
 
--- how many units a count has
+-- the units of a count
 abbrev pub count_units : ℕ → ℤ
 count_units count = pos (count * 10000)
 
--- `C#`: how many rules match
+-- `C#`: the number of matching rules
 abbrev pub counted : ℕ → Table → List ℕ → TableValue
 counted number t [] = unmatched number t
 counted number t (rule ∷ others) = number_answer number (count_units (length (rule ∷ others)))
@@ -122,6 +123,6 @@ by_hit hits.Min number t rules = aggregated number t (reduce int_min (numbers_of
 by_hit hits.Max number t rules = aggregated number t (reduce int_max (numbers_of t rules))
 by_hit hits.Count number t rules = counted number t rules
 
--- a result is this one, want of memory aside
+-- unless memory ran out, the result is the expected one
 abbrev pub Gives : {X : Type 0} → Result X Fault → Result X Fault → Type 0
 Gives expected result = MatchResult result (λ x. expected ≡ Ok x) (IsFaultOf expected)

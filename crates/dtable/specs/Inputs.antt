@@ -1,4 +1,4 @@
--- What is given for the names that tables read.
+-- The values of the names that tables read.
 use Rattle.std.specs.Prelude.{◌≡◌, ℕ, Bool, true, false, ◌==◌, List, map, Option, Some, None, slice_get, slice_set, IsTrue, IsSome, is_some}
 use Rattle.std.specs.List.{list_any, list_all}
 use Rattle.std.specs.Option.{option_and_then, option_map}
@@ -11,36 +11,36 @@ use Rattle.dtable.specs.declared.table.Origin.{Origin}
 use Rattle.dtable.specs.declared.table.Origin.TheVariants.{Given, Earlier}
 use Rattle.dtable.specs.declared.table.Table.{Table}
 
--- the value that is given for the name at a place, if there is one
+-- the value of the name at an index, if it is set
 abbrev pub value_at : List Slot → ℕ → Option Value
 value_at given place = option_and_then (λ s. s.value) (slice_get given place)
 
--- a place for each name, with its kind and no value
+-- a slot for each name, with its kind and without a value
 abbrev pub empty_slots : List InputData → List Slot
 empty_slots names = map (λ d. record { kind = d.kind; value = None }) names
 
--- the kind of the name at a place, if there is one
+-- the kind of the name at an index, if there is one
 abbrev pub kind_at : List Slot → ℕ → Option Kind
 kind_at given place = option_map (λ s. s.kind) (slice_get given place)
 
--- the place takes values of this kind
+-- the slot at this index takes values of this kind
 abbrev pub Takes : List Slot → ℕ → Kind → Type 0
 Takes given place kind = kind_at given place ≡ Some kind
 
--- what is given once the place has this value
+-- the slots after the one at this index is set to a value
 abbrev pub filled : List Slot → ℕ → Value → List Slot
 filled given place value = slice_set given place (record { kind = kind_of value; value = Some value })
 
--- what is given once the place, of this kind, has no value
+-- the slots after the one at this index, of this kind, loses its value
 abbrev pub emptied : List Slot → ℕ → Kind → List Slot
 emptied given place kind = slice_set given place (record { kind = kind; value = None })
 
--- the input reads the name at the place
+-- the input reads the name at this index
 abbrev pub reads : ℕ → Origin → Bool
 reads place (Given p) = p == place
 reads place (Earlier table column) = false
 
--- some table reads the name at the place
+-- some table reads the name at this index
 abbrev pub needs : List Table → ℕ → Bool
 needs tables place = list_any (λ t. list_any (λ i. reads place i.origin) t.inputs) tables
 

@@ -1,34 +1,34 @@
 -- The limits of a plan.
 use Rattle.std.specs.Prelude.{ℕ}
 
--- how many bytes a plan's text has at most
+-- the greatest length of a plan's text, in bytes
 abbrev pub plan_limit_bytes : ℕ
 plan_limit_bytes = 1048576
 
--- how many fields a plan has at most
+-- the greatest number of fields in a plan
 abbrev pub fields_limit : ℕ
 fields_limit = 32
 
--- how many tables a plan has at most
+-- the greatest number of tables in a plan
 abbrev pub tables_limit : ℕ
 tables_limit = 32
 
--- how many inputs a table has at most
+-- the greatest number of inputs in a table
 abbrev pub inputs_limit : ℕ
 inputs_limit = 16
 
--- how many outputs a table has at most
+-- the greatest number of outputs in a table
 abbrev pub outputs_limit : ℕ
 outputs_limit = 16
 
--- how many rules a table has at most
+-- the greatest number of rules in a table
 abbrev pub rules_limit : ℕ
 rules_limit = 256
 
--- how many values a priority list has at most
+-- the greatest number of values in a priority list
 abbrev pub priority_limit : ℕ
 priority_limit = 64
 
--- how many bytes a name has at most
+-- the greatest length of a name, in bytes
 abbrev pub name_limit_bytes : ℕ
 name_limit_bytes = 64

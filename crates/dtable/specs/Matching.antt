@@ -1,4 +1,5 @@
--- The rules of a table that match (DMN 1.4, decision tables). Tables, rules and columns count from 0 here.
+-- The rules of a table that match (DMN 1.4, decision tables). Tables, rules and columns are
+-- numbered from 0 here.
 use Rattle.std.specs.Prelude.{ℕ, Bool, false, not, List, length, filter, position, Option, Some, None, slice_get}
 use Rattle.std.specs.List.{list_all, zip, range_with_len}
 use Rattle.std.specs.Option.{option_and_then, option_map_or}
@@ -14,7 +15,7 @@ use Rattle.dtable.specs.declared.table.Input.{Input}
 use Rattle.dtable.specs.declared.table.Table.{Table}
 use Rattle.dtable.specs.Inputs.{value_at}
 
--- the value of an answer that isn't a list
+-- the value of an answer that is not a list
 abbrev pub single : Answer → Option Value
 single (One value) = Some value
 single (Many values) = None
@@ -23,17 +24,17 @@ single (Many values) = None
 abbrev pub earlier_value : List (List Answer) → ℕ → ℕ → Option Value
 earlier_value earlier table column = option_and_then (λ answers. option_and_then single (slice_get answers column)) (slice_get earlier table)
 
--- the value that an input reads, of what is given and of the answers of the tables before its own
+-- the value that an input reads, from the given values or from the answers of earlier tables
 abbrev pub value_read : List Slot → List (List Answer) → Origin → Option Value
 value_read given earlier (Given place) = value_at given place
 value_read given earlier (Earlier table column) = earlier_value earlier table column
 
--- the cell holds of the value, and of no missing one
+-- the cell holds for the value; it does not hold for a missing value
 abbrev pub holds_of : Option Value → Cell → Bool
 holds_of None cell = false
 holds_of (Some value) cell = holds cell value
 
--- each cell holds of the value that its input reads
+-- each cell holds for the value that its input reads
 abbrev pub cells_hold : List Slot → List (List Answer) → List Input → List Cell → Bool
 cells_hold given earlier inputs cells = list_all (λ p. holds_of (value_read given earlier p.0.origin) p.1) (zip inputs cells)
 
@@ -45,7 +46,7 @@ rule_matches given earlier t rule = option_map_or (λ r. cells_hold given earlie
 abbrev pub matching : List Slot → List (List Answer) → Table → List ℕ
 matching given earlier t = filter (rule_matches given earlier t) (range_with_len 0 (length t.rules))
 
--- the input has allowed values, and the value that it reads is none of them
+-- the input has allowed values, and the value that it reads is not among them
 abbrev pub is_outside : List Slot → List (List Answer) → Input → Bool
 is_outside given earlier input = option_map_or (λ allowed. not (holds_of (value_read given earlier input.origin) allowed)) input.values false
 

@@ -9,21 +9,21 @@ abbrev pub has_name_form : List ℕ → Bool
 has_name_form [] = false
 has_name_form (byte ∷ bytes) = is_name_start byte && list_all is_name_byte bytes
 
--- the names that are taken from the start: a claim's own columns, a member's accumulators, and the words of cells
+-- the reserved names: a claim's own columns, a member's accumulators, and the words of cells
 unfoldable pub reserved_names : List (List ℕ)
 reserved_names =
     codes "claim" ∷ codes "member" ∷ codes "service" ∷ codes "billed" ∷ codes "met" ∷ codes "oop" ∷ codes "paid"
     ∷ codes "true" ∷ codes "false" ∷ codes "not" ∷ codes "date" ∷ []
 
--- the names that are taken beside them where families are kept
+-- the names that are reserved in addition if accumulators are kept for families
 unfoldable pub family_names : List (List ℕ)
 family_names = codes "family" ∷ codes "fmet" ∷ codes "foop" ∷ []
 
--- the names that are taken from the start, where families are kept or not
+-- the reserved names of a plan that keeps accumulators for families, or of one that does not
 abbrev pub names_taken : Bool → List (List ℕ)
 names_taken false = reserved_names
 names_taken true = family_names ++ reserved_names
 
--- the name stands among the names
+-- the name is among the names
 abbrev pub is_among : List ℕ → List (List ℕ) → Bool
 is_among name names = list_any (λ other. bytes_eq other name) names

@@ -1,5 +1,5 @@
--- The names that tables may read from outside: those of every claim, the plan's fields, and a member's accumulators. A plan that
--- keeps families has three names more.
+-- The names that tables may read from outside: those of every claim, the plan's fields, and a
+-- member's accumulators. A plan that keeps accumulators for families has three more names.
 use Rattle.std.specs.Prelude.{ℕ, Bool, true, false, List, [], ◌∷◌, ◌++◌, codes}
 use Rattle.feel_tests.specs.declared.kind.Kind.{Kind}
 use Rattle.feel_tests.specs.declared.kind.Kind.TheVariants.{Number, Text, Day}
@@ -9,22 +9,23 @@ use Rattle.dtable.specs.declared.table.InputData.{InputData}
 abbrev pub named : List ℕ → Kind → InputData
 named name kind = record { name = name; kind = kind }
 
--- what each claim has: its number, its member's family, where families are kept, its member, the day of service and the amount
--- that is billed
+-- the names of every claim: its number, its member's family if the plan has families, its member,
+-- the day of service and the billed amount
 abbrev pub claim_names : Bool → List InputData
 claim_names false = named (codes "claim") Text ∷ named (codes "member") Text ∷ named (codes "service") Day ∷ named (codes "billed") Number ∷ []
 claim_names true =
     named (codes "claim") Text ∷ named (codes "family") Text ∷ named (codes "member") Text ∷ named (codes "service") Day
     ∷ named (codes "billed") Number ∷ []
 
--- what is kept for each member: what was met of the deductible, paid out of pocket, and paid by the plan; where families are kept,
--- what the family has met of its deductible and paid out of pocket, too
+-- the names of a member's accumulators: the deductible met, the amount paid out of pocket, and the
+-- amount paid by the plan; if the plan has families, also the family's deductible met and its
+-- amount paid out of pocket
 abbrev pub accumulator_names : Bool → List InputData
 accumulator_names false = named (codes "met") Number ∷ named (codes "oop") Number ∷ named (codes "paid") Number ∷ []
 accumulator_names true =
     named (codes "met") Number ∷ named (codes "oop") Number ∷ named (codes "paid") Number ∷ named (codes "fmet") Number
     ∷ named (codes "foop") Number ∷ []
 
--- all names of a plan with these fields, in order, where families are kept or not
+-- all names of a plan with these fields, in order
 abbrev pub names_of : Bool → List InputData → List InputData
 names_of families fields = claim_names families ++ (fields ++ accumulator_names families)

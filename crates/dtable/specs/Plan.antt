@@ -1,4 +1,4 @@
--- What contracts see of a plan, and what holds of every plan.
+-- Plans as contracts see them, and what holds for every plan.
 use Rattle.std.specs.Prelude.{◌≡◌, ◌≢◌, ◌≤◌, ◌⊎◌, ℕ, Bool, true, false, not, ◌&&◌, ◌==◌, nat_lt, List, [], ◌∷◌, ◌++◌, length, map, flat_map, All, AllPairs, IfSome, Option, Some, None, is_some, slice_get, IsTrue}
 use Rattle.std.specs.List.{list_all, list_any, zip}
 use Rattle.std.specs.Option.{option_map_or}
@@ -23,31 +23,32 @@ use Rattle.dtable.specs.declared.roles.Roles.{Roles}
 use Rattle.dtable.specs.Limits.{fields_limit, tables_limit, inputs_limit, outputs_limit, rules_limit, priority_limit}
 use Rattle.dtable.specs.Names.{names_of}
 
--- what contracts see of a plan: the version of its format, the names that tables may read from outside, the tables in order, and
--- the roles
+-- a plan as contracts see it: the version of its format, the names that tables may read from
+-- outside, the tables in order, and the roles
 pub record PlanParts : Type 0 where
   pub version : ℕ
   pub names : List InputData
   pub tables : List Table
   pub roles : Option Roles
 
--- the versions of the format: in the second one accumulators are kept by the benefit year, in the third one for families, too
+-- the versions of the format: version 2 keeps accumulators by benefit year, and version 3 also for
+-- families
 abbrev pub IsVersion : ℕ → Type 0
 IsVersion version = (version ≡ 1) ⊎ ((version ≡ 2) ⊎ (version ≡ 3))
 
--- under this version accumulators are kept by the benefit year, the calendar year of service
+-- this version keeps accumulators by benefit year, which is the calendar year of the service
 abbrev pub has_years : ℕ → Bool
 has_years version = not (version == 1)
 
--- under this version they are kept for families, too
+-- this version also keeps accumulators for families
 abbrev pub has_families : ℕ → Bool
 has_families version = version == 3
 
--- accumulators are kept by the benefit year
+-- the plan keeps accumulators by benefit year
 abbrev pub keeps_years : PlanParts → Bool
 keeps_years plan = has_years plan.version
 
--- they are kept for families, too
+-- the plan also keeps accumulators for families
 abbrev pub keeps_families : PlanParts → Bool
 keeps_families plan = has_families plan.version
 
@@ -59,29 +60,30 @@ same_kind kinds.Flag kinds.Flag = true
 same_kind kinds.Day kinds.Day = true
 same_kind _ _ = false
 
--- a value of the kind
+-- the value is of the kind
 abbrev pub has_kind : Kind → Value → Bool
 has_kind kind value = same_kind kind (kind_of value)
 
--- the outputs of a table with this policy have one value each, and no list
+-- each output of a table with this hit policy has a single value and not a list
 abbrev pub gives_one : Hit → Bool
 gives_one O = false
 gives_one R = false
 gives_one C = false
 gives_one _ = true
 
--- the kind of the values that later tables and roles see in an output of this written kind: a number where rules are counted
+-- the kind of the values that later tables and roles see in an output of the declared kind: a
+-- number if rules are counted
 abbrev pub seen_kind : Hit → Kind → Kind
 seen_kind Count written = kinds.Number
 seen_kind _ written = written
 
--- the origin is one of the names, or an output of an earlier table with one value
+-- the origin is one of the names, or an output of an earlier table with a single value
 abbrev pub is_known : List InputData → List Table → Origin → Bool
 is_known names earlier (Given place) = nat_lt place (length names)
 is_known names earlier (Earlier table column) =
     option_map_or (λ t. gives_one t.hit && nat_lt column (length t.outputs)) (slice_get earlier table) false
 
--- each input of each table has a known origin, where these tables come before
+-- each input of each table has a known origin, given the tables before it
 abbrev pub are_known : List InputData → List Table → List Table → Bool
 are_known names earlier [] = true
 are_known names earlier (t ∷ ts) = list_all (λ i. is_known names earlier i.origin) t.inputs && are_known names (earlier ++ t ∷ []) ts
@@ -91,16 +93,17 @@ abbrev pub is_ranked : Option (List Value) → Value → Bool
 is_ranked None value = true
 is_ranked (Some list) value = list_any (λ listed. is_equal listed value) list
 
--- the entry has its output's kind, and is in its priority list
+-- the entry is of its output's kind and in its priority list
 abbrev pub entry_fits : TableOutput → Value → Bool
 entry_fits output entry = has_kind output.kind entry && is_ranked output.priority entry
 
--- a cell for each input, and a fitting entry for each output
+-- the rule has a cell for each input and a fitting entry for each output
 abbrev pub rule_fits : Table → Rule → Bool
 rule_fits t r =
     (length r.cells == length t.inputs) && ((length r.entries == length t.outputs) && list_all (λ p. entry_fits p.0 p.1) (zip t.outputs r.entries))
 
--- what a policy asks of the outputs: `P` and `O` a priority list, the aggregators one output, and all but `C#` of numbers
+-- the constraints of a hit policy on the outputs: `P` and `O` need a priority list, an aggregator
+-- needs exactly one output, and all aggregators but `C#` need numbers
 abbrev pub meets_demands : Hit → List TableOutput → Bool
 meets_demands P outputs = list_any (λ o. is_some o.priority) outputs
 meets_demands O outputs = list_any (λ o. is_some o.priority) outputs
@@ -110,26 +113,28 @@ meets_demands Max outputs = (length outputs == 1) && list_all (λ o. same_kind o
 meets_demands Count outputs = length outputs == 1
 meets_demands _ outputs = true
 
--- the default, if there is one, has the kind that is seen of its output
+-- the default, if there is one, is of the kind that later tables see in its output
 abbrev pub default_fits : Hit → TableOutput → Bool
 default_fits hit output = option_map_or (has_kind (seen_kind hit output.kind)) output.fallback true
 
--- some output of some table has the name, and passes the test
+-- an output of a table has the name and passes the test
 abbrev pub some_output : (Hit → TableOutput → Bool) → List Table → List ℕ → Bool
 some_output test tables name = list_any (λ t. list_any (λ o. bytes_eq o.name name && test t.hit o) t.outputs) tables
 
--- the source gives a value of the kind: a literal, one of the names, or an output with one value
+-- the source gives a value of the kind: it is a literal, one of the names, or an output with a
+-- single value
 abbrev pub source_fits : List InputData → List Table → Kind → Source → Bool
 source_fits names tables kind (Literal value) = has_kind kind value
 source_fits names tables kind (Input place) = option_map_or (λ d. same_kind kind d.kind) (slice_get names place) false
 source_fits names tables kind (Output name) = some_output (λ hit o. gives_one hit && same_kind kind (seen_kind hit o.kind)) tables name
 
--- an output that lists texts has the name, if there is one
+-- the name of the remarks, if there is one, is that of an output that lists texts
 abbrev pub remarks_fit : List Table → Option (List ℕ) → Bool
 remarks_fit tables None = true
 remarks_fit tables (Some name) = some_output (λ hit o. not (gives_one hit) && same_kind kinds.Text o.kind) tables name
 
--- each of the family's limits has a source of its kind where families are kept, and there are none where they aren't
+-- the family's limits have sources of their kinds if the plan has families, and are absent
+-- otherwise
 abbrev pub family_roles_fit : PlanParts → Option FamilyRoles → Bool
 family_roles_fit p None = not (keeps_families p)
 family_roles_fit p (Some limits) =
@@ -143,28 +148,29 @@ roles_fit p roles =
     && source_fits p.names p.tables kinds.Number roles.rate && source_fits p.names p.tables kinds.Number roles.oop_max
     && remarks_fit p.tables roles.remarks && family_roles_fit p roles.family
 
--- a table is within the limits: so many inputs, outputs and rules, and so many values in each priority list
+-- the inputs, outputs, rules and priority lists of a table are within the limits
 pub record IsTableWithin (t : Table) : Type 0 where
   pub inputs : length t.inputs ≤ inputs_limit
   pub outputs : length t.outputs ≤ outputs_limit
   pub rules : length t.rules ≤ rules_limit
   pub priorities : All (λ o. IfSome o.priority (λ list. length list ≤ priority_limit)) t.outputs
 
--- a plan of these fields and tables is within the limits
+-- the fields and tables of a plan are within the limits
 pub record IsWithin (fields : List InputData) (tables : List Table) : Type 0 where
   pub few_fields : length fields ≤ fields_limit
   pub few_tables : length tables ≤ tables_limit
   pub each_table : All IsTableWithin tables
 
--- all names of a plan: those that tables may read from outside, and those of the outputs
+-- all names of a plan: the names that tables may read from outside, and the names of the outputs
 abbrev pub plan_names : PlanParts → List (List ℕ)
 plan_names p = map (λ d. d.name) p.names ++ flat_map (λ t. map (λ o. o.name) t.outputs) p.tables
 
--- no name stands twice
+-- the names are pairwise distinct
 abbrev pub AreDistinct : List (List ℕ) → Type 0
 AreDistinct names = AllPairs (λ a b. a ≢ b) names
 
--- what holds of every plan; each of its names is a `Name`, which has at most `name_limit_bytes`
+-- what holds for every plan; in addition, each of its names is a `Name` of at most
+-- `name_limit_bytes` bytes
 pub record IsPlan (p : PlanParts) : Type 0 where
   pub version : IsVersion p.version
   pub fields : List InputData

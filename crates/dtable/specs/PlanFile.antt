@@ -1,4 +1,4 @@
--- The plan that a plan's text spells, key by key of the document that `toml` reads from it.
+-- The plan that a text denotes, key by key of the document that `toml` reads from it.
 use Rattle.std.specs.Prelude.{◌≡◌, ℕ, ◌<◌, ◌≤◌, pos, Bool, false, List, [], length, map, codes, Option, Some, None, IsUtf8, IsTrue}
 use Rattle.toml.specs.Data.{Data, Items, Members, table, integer, string, get, as_array}
 use Rattle.toml.specs.Parse.{parse_document}
@@ -45,51 +45,52 @@ hit_word Min = codes "C<"
 hit_word Max = codes "C>"
 hit_word Count = codes "C#"
 
--- the key `name` of an entry holds this name, which has a name's form and length
+-- the key `name` of an entry has this name, of the form and length of a name
 pub record IsNamed (entry : Data) (name : List ℕ) : Type 0 where
   pub written : string_at (codes "name") entry ≡ Some name
   pub form : IsTrue (has_name_form name)
   pub short : length name ≤ name_limit_bytes
 
--- the key `name` holds a name that is not taken yet
+-- the key `name` has a name that is not in use yet
 pub record IsNewlyNamed (taken : List (List ℕ)) (entry : Data) (name : List ℕ) : Type 0 where
   pub named : IsNamed entry name
   pub new : is_among name taken ≡ false
 
--- the key `kind` of an entry holds the word of the kind
+-- the key `kind` of an entry has the word of the kind
 abbrev pub IsOfKind : Data → Kind → Type 0
 IsOfKind entry kind = string_at (codes "kind") entry ≡ Some (kind_word kind)
 
--- a string that spells a literal of the kind
+-- the string denotes a literal of the kind
 pub record IsLiteral (kind : Kind) (entry : Data) (value : Value) : Type 0 where
   pub text : List ℕ
   pub written : entry ≡ string text
   pub spelled : SpellsValue kind text value
   pub of_kind : kind_of value ≡ kind
 
--- a string that spells a cell for values of the kind
+-- the string denotes a cell for values of the kind
 pub record IsCellOf (kind : Kind) (entry : Data) (cell : Cell) : Type 0 where
   pub text : List ℕ
   pub written : entry ≡ string text
   pub spelled : SpellsCell kind text cell
 
--- a string that spells a cell for the values from there
+-- the string denotes a cell for the values from this origin
 pub record IsCell (names : List InputData) (earlier : List (List SeenOutput)) (origin : Origin) (entry : Data) (cell : Cell) : Type 0 where
   pub kind : Kind
   pub known : kind_at names earlier origin ≡ Some kind
   pub spelled : IsCellOf kind entry cell
 
--- an entry of `fields`, where some names are taken: a new name, and a kind
+-- an entry of `fields`: a name that is not in use yet, and a kind
 pub record IsField (taken : List (List ℕ)) (entry : Data) (field : InputData) : Type 0 where
   pub name : IsNewlyNamed taken entry field.name
   pub kind : IsOfKind entry field.kind
 
--- entries of `fields`, where families are kept or not: not too many, and no name stands twice
+-- the entries of `fields`: their number is within the limit, and their names are distinct
 pub record AreFields (families : Bool) (entries : Items) (fields : List InputData) : Type 0 where
   pub within : item_count entries ≤ fields_limit
   pub each : EachBehind (λ f. f.name) IsField (names_taken families) entries fields
 
--- an entry of `inputs`: the name of a single value that is known there, and its allowed values, if they are restricted
+-- an entry of `inputs`: the name of a single value that is known before the table, and its allowed
+-- values if they are restricted
 pub record IsInput (names : List InputData) (earlier : List (List SeenOutput)) (entry : Data) (input : Input) : Type 0 where
   pub name : IsNamed entry input.name
   pub known : origin_of names earlier input.name ≡ Some input.origin
@@ -99,12 +100,12 @@ pub record IsInput (names : List InputData) (earlier : List (List SeenOutput)) (
 abbrev pub is_listed : List Value → Value → Bool
 is_listed list value = is_ranked (Some list) value
 
--- an entry of `priority`, behind these: a literal of the kind with another value
+-- an entry of `priority`: a literal of the kind that is not among the entries before it
 pub record IsPriority (kind : Kind) (front : List Value) (entry : Data) (value : Value) : Type 0 where
   pub literal : IsLiteral kind entry value
   pub new : is_listed front value ≡ false
 
--- entries of `priority`: literals of the kind, highest first, not too many, and no value twice
+-- the entries of `priority`: distinct literals of the kind, highest first, within the limit
 pub record ArePriorityEntries (kind : Kind) (entries : Items) (list : List Value) : Type 0 where
   pub within : item_count entries ≤ priority_limit
   pub each : EachBehind (λ v. v) (IsPriority kind) [] entries list
@@ -115,24 +116,25 @@ pub record ArePriorities (kind : Kind) (array : Data) (list : List Value) : Type
   pub written : as_array array ≡ Some entries
   pub spelled : ArePriorityEntries kind entries list
 
--- an entry of `outputs`, where some names are taken: a new name, a kind, the priority list and the default, if there are any;
--- the default of an output that counts rules is a number
+-- an entry of `outputs`: a name that is not in use yet, a kind, and the priority list and the
+-- default, if any; the default of an output that counts rules is a number
 pub record IsOutput (hit : Hit) (taken : List (List ℕ)) (entry : Data) (output : Output) : Type 0 where
   pub name : IsNewlyNamed taken entry output.name
   pub kind : IsOfKind entry output.kind
   pub priority : Optionally (ArePriorities output.kind) (get (codes "priority") entry) output.priority
   pub fallback : Optionally (IsLiteral (seen_kind hit output.kind)) (get (codes "default") entry) output.fallback
 
--- an entry of `then` under its output: a literal of the written kind, which is in the priority list, if there is one
+-- an entry of `then` for its output: a literal of the declared kind, in the priority list if there
+-- is one
 pub record IsEntry (output : Output) (entry : Data) (value : Value) : Type 0 where
   pub literal : IsLiteral output.kind entry value
   pub listed : IsTrue (is_ranked output.priority value)
 
--- an entry of `when` under its input: a cell
+-- an entry of `when` for its input: a cell
 abbrev pub IsCellUnder : List InputData → List (List SeenOutput) → Input → Data → Cell → Type 0
 IsCellUnder names earlier input entry cell = IsCell names earlier input.origin entry cell
 
--- the array at a key of a rule spells a row of elements, one under each column
+-- the array at a key of a rule has one element for each column
 pub record IsRow {Column Element : Type 0} (Spells : Column → Data → Element → Type 0) (columns : List Column) (key : List ℕ) (rule : Data) (elements : List Element) : Type 0 where
   pub entries : Items
   pub written : array_at key rule ≡ Some entries
@@ -147,12 +149,12 @@ pub record IsRule (names : List InputData) (earlier : List (List SeenOutput)) (i
 abbrev pub IsHitWord : Data → Hit → Type 0
 IsHitWord value hit = value ≡ string (hit_word hit)
 
--- the hit policy, by its word; Unique where it is left out
+-- the hit policy by its word, or Unique if the key is missing
 abbrev pub IsHit : Option Data → Hit → Type 0
 IsHit None hit = hit ≡ U
 IsHit (Some value) hit = IsHitWord value hit
 
--- the array `inputs`: one or more, not too many
+-- the array `inputs`: at least one, within the limit
 pub record AreInputs (names : List InputData) (earlier : List (List SeenOutput)) (entry : Data) (inputs : List Input) : Type 0 where
   pub entries : Items
   pub written : array_at (codes "inputs") entry ≡ Some entries
@@ -160,7 +162,7 @@ pub record AreInputs (names : List InputData) (earlier : List (List SeenOutput))
   pub within : item_count entries ≤ inputs_limit
   pub each : Each (IsInput names earlier) entries inputs
 
--- the array `outputs`: one or more, not too many, and no name stands twice
+-- the array `outputs`: at least one, within the limit, with distinct names
 pub record AreOutputs (hit : Hit) (taken : List (List ℕ)) (entry : Data) (outputs : List Output) : Type 0 where
   pub entries : Items
   pub written : array_at (codes "outputs") entry ≡ Some entries
@@ -168,14 +170,14 @@ pub record AreOutputs (hit : Hit) (taken : List (List ℕ)) (entry : Data) (outp
   pub within : item_count entries ≤ outputs_limit
   pub each : EachBehind (λ o. o.name) (IsOutput hit) taken entries outputs
 
--- the array `rules`: not too many
+-- the array `rules`: within the limit
 pub record AreRules (names : List InputData) (earlier : List (List SeenOutput)) (inputs : List Input) (outputs : List Output) (entry : Data) (rules : List Rule) : Type 0 where
   pub entries : Items
   pub written : array_at (codes "rules") entry ≡ Some entries
   pub within : item_count entries ≤ rules_limit
   pub each : Each (IsRule names earlier inputs outputs) entries rules
 
--- an entry of `tables`, where these names and what is seen of these tables are known
+-- an entry of `tables`, by the names and the tables before it
 pub record IsTable (names : List InputData) (earlier : List (List SeenOutput)) (entry : Data) (t : Table) : Type 0 where
   pub hit : IsHit (get (codes "hit") entry) t.hit
   pub inputs : AreInputs names earlier entry t.inputs
@@ -183,12 +185,12 @@ pub record IsTable (names : List InputData) (earlier : List (List SeenOutput)) (
   pub demands : IsTrue (meets_demands t.hit t.outputs)
   pub rules : AreRules names earlier t.inputs t.outputs entry t.rules
 
--- entries of `tables`, each behind those in front of it; not too many
+-- the entries of `tables`, each by the tables before it, within the limit
 pub record AreTables (names : List InputData) (entries : Items) (tables : List Table) : Type 0 where
   pub within : item_count entries ≤ tables_limit
   pub each : EachBehind seen_of (IsTable names) [] entries tables
 
--- the key `fields` of a document, which may be left out, and the names of a plan with these fields, where families are kept or not
+-- the names of a plan by the optional key `fields` of its document
 pub record AreNames (families : Bool) (document : Data) (names : List InputData) : Type 0 where
   pub entries : Items
   pub written : optional_array_at (codes "fields") document ≡ Some entries
@@ -196,25 +198,25 @@ pub record AreNames (families : Bool) (document : Data) (names : List InputData)
   pub spelled : AreFields families entries fields
   pub named : names ≡ names_of families fields
 
--- the key `tables` of a document, which may be left out
+-- the optional key `tables` of a document
 pub record AreTablesOf (names : List InputData) (document : Data) (tables : List Table) : Type 0 where
   pub entries : Items
   pub written : optional_array_at (codes "tables") document ≡ Some entries
   pub spelled : AreTables names entries tables
 
--- the key `version` of a document holds this version
+-- the key `version` of a document has this version
 pub record IsVersionOf (document : Data) (version : ℕ) : Type 0 where
   pub written : get (codes "version") document ≡ Some (integer (pos version))
   pub known : IsVersion version
 
--- a document spells this plan
+-- the document denotes this plan
 pub record IsPlanDocument (document : Data) (plan : PlanParts) : Type 0 where
   pub version : IsVersionOf document plan.version
   pub names : AreNames (keeps_families plan) document plan.names
   pub tables : AreTablesOf plan.names document plan.tables
   pub roles : Optionally (AreRoles (keeps_families plan) plan.names (map seen_of plan.tables)) (get (codes "roles") document) plan.roles
 
--- a text spells this plan
+-- the text denotes this plan
 pub record IsPlanText (text : List ℕ) (plan : PlanParts) : Type 0 where
   pub within : length text ≤ plan_limit_bytes
   pub utf8 : IsUtf8 text
@@ -222,6 +224,6 @@ pub record IsPlanText (text : List ℕ) (plan : PlanParts) : Type 0 where
   pub read : parse_document text ≡ Some members
   pub spelled : IsPlanDocument (table members) plan
 
--- a text spells one plan at most
+-- a text denotes at most one plan
 abbrev pub SpellsOnePlan : Type 0
 SpellsOnePlan = (text : List ℕ) (one other : PlanParts) → IsPlanText text one → IsPlanText text other → one ≡ other

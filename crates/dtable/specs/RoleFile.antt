@@ -1,4 +1,4 @@
--- The roles that the key `roles` of a plan's document spells.
+-- The roles that the key `roles` of a plan's document denotes.
 use Rattle.std.specs.Prelude.{◌≡◌, ℕ, Bool, true, false, not, ◌&&◌, List, codes, Option, Some, None, IsTrue}
 use Rattle.std.specs.List.{list_any}
 use Rattle.std.specs.Str.{bytes_eq}
@@ -22,31 +22,31 @@ use Rattle.dtable.specs.Document.{string_at, Optionally}
 use Rattle.dtable.specs.Plan.{same_kind}
 use Rattle.dtable.specs.Scope.{SeenOutput, origin_of, kind_at}
 
--- the kind of what is asked
+-- the kind of a required value
 abbrev pub asked_kind : Asked → Kind
 asked_kind Flag = kinds.Flag
 asked_kind Money = kinds.Number
 asked_kind Rate = kinds.Number
 
--- a value is what is asked: any flag, an amount of money, or a rate
+-- the value meets the requirement: any flag, an amount of money, or a rate
 abbrev pub Meets : Asked → Value → Type 0
 Meets Flag value = Unit {0}
 Meets Money (values.Number units) = IsMoney units
 Meets Rate (values.Number units) = IsRate units
 Meets _ _ = ⊥
 
--- a literal of what is asked
+-- the text denotes a literal that meets the requirement
 pub record IsLiteralSource (asked : Asked) (text : List ℕ) (value : Value) : Type 0 where
   pub spelled : SpellsValue (asked_kind asked) text value
   pub of_kind : kind_of value ≡ asked_kind asked
   pub meets : Meets asked value
 
--- the name of input data of the kind
+-- the text is the name of input data of the kind
 pub record IsInputSource (names : List InputData) (earlier : List (List SeenOutput)) (kind : Kind) (text : List ℕ) (place : ℕ) : Type 0 where
   pub known : origin_of names earlier text ≡ Some (Given place)
   pub of_kind : kind_at names earlier (Given place) ≡ Some kind
 
--- the name of an output of the kind with one value
+-- the text is the name of an output of the kind with a single value
 pub record IsOutputSource (names : List InputData) (earlier : List (List SeenOutput)) (kind : Kind) (text name : List ℕ) : Type 0 where
   pub same : name ≡ text
   pub table : ℕ
@@ -54,29 +54,30 @@ pub record IsOutputSource (names : List InputData) (earlier : List (List SeenOut
   pub known : origin_of names earlier text ≡ Some (Earlier table column)
   pub of_kind : kind_at names earlier (Earlier table column) ≡ Some kind
 
--- the name of a single value of the kind
+-- the text is the name of a single value of the kind
 abbrev pub IsNamedSource : List InputData → List (List SeenOutput) → Kind → List ℕ → Source → Type 0
 IsNamedSource names earlier kind text (Literal value) = ⊥
 IsNamedSource names earlier kind text (Input place) = IsInputSource names earlier kind text place
 IsNamedSource names earlier kind text (Output name) = IsOutputSource names earlier kind text name
 
--- no literal of the kind
+-- the text does not denote a literal of the kind
 abbrev pub SpellsNone : Kind → List ℕ → Type 0
 SpellsNone kind text = (value : Value) → ¬ SpellsValue kind text value
 
--- a role's string: a literal of what is asked, or else the name of a single value of that kind
+-- a role's string: a literal that meets the requirement, or otherwise the name of a single value of
+-- that kind
 abbrev pub IsSource : List InputData → List (List SeenOutput) → Asked → List ℕ → Source → Type 0
 IsSource names earlier asked text (Literal value) = IsLiteralSource asked text value
 IsSource names earlier asked text (Input place) = SpellsNone (asked_kind asked) text × IsNamedSource names earlier (asked_kind asked) text (Input place)
 IsSource names earlier asked text (Output name) = SpellsNone (asked_kind asked) text × IsNamedSource names earlier (asked_kind asked) text (Output name)
 
--- the string at a role's key spells this source
+-- the string at a role's key denotes this source
 pub record IsRole (names : List InputData) (earlier : List (List SeenOutput)) (asked : Asked) (key : List ℕ) (roles : Data) (source : Source) : Type 0 where
   pub text : List ℕ
   pub written : string_at key roles ≡ Some text
   pub spelled : IsSource names earlier asked text source
 
--- some output that lists texts has the name
+-- an output with this name lists texts
 abbrev pub lists_texts : List (List SeenOutput) → List ℕ → Bool
 lists_texts earlier name = list_any (λ os. list_any (λ o. bytes_eq o.name name && (not o.is_single && same_kind kinds.Text o.kind)) os) earlier
 
@@ -85,32 +86,33 @@ pub record AreRemarks (earlier : List (List SeenOutput)) (entry : Data) (name : 
   pub written : entry ≡ string name
   pub lists : IsTrue (lists_texts earlier name)
 
--- the roles of what a claim is covered for: a flag, and two amounts of money
+-- the roles for the coverage of a claim: a flag and two amounts of money
 pub record AreBenefits (names : List InputData) (earlier : List (List SeenOutput)) (entry : Data) (its_cover its_fee its_deductible : Source) : Type 0 where
   pub cover : IsRole names earlier Flag (codes "cover") entry its_cover
   pub fee : IsRole names earlier Money (codes "fee") entry its_fee
   pub deductible : IsRole names earlier Money (codes "deductible") entry its_deductible
 
--- the roles of what a member shares: an amount of money, a rate, and the limit of all of it
+-- the roles for the cost share of a member: an amount of money, a rate, and the out-of-pocket
+-- maximum
 pub record AreShares (names : List InputData) (earlier : List (List SeenOutput)) (entry : Data) (its_copay its_rate its_oop_max : Source) : Type 0 where
   pub copay : IsRole names earlier Money (codes "copay") entry its_copay
   pub rate : IsRole names earlier Rate (codes "rate") entry its_rate
   pub oop_max : IsRole names earlier Money (codes "oop_max") entry its_oop_max
 
--- the limits of the family: amounts of money
+-- the limits of the family: two amounts of money
 pub record AreLimits (names : List InputData) (earlier : List (List SeenOutput)) (entry : Data) (limits : FamilyRoles) : Type 0 where
   pub deductible : IsRole names earlier Money (codes "family_deductible") entry limits.deductible
   pub oop_max : IsRole names earlier Money (codes "family_oop_max") entry limits.oop_max
 
--- so where families are kept; where they aren't there are none, whatever the keys hold
+-- the limits of the family if the plan has families, and none otherwise, whatever the keys are
 abbrev pub AreFamilyRoles : Bool → List InputData → List (List SeenOutput) → Data → Option FamilyRoles → Type 0
 AreFamilyRoles false names earlier entry None = Unit {0}
 AreFamilyRoles false names earlier entry (Some limits) = ⊥
 AreFamilyRoles true names earlier entry None = ⊥
 AreFamilyRoles true names earlier entry (Some limits) = AreLimits names earlier entry limits
 
--- the table `roles`: a flag, amounts of money and a rate, the output of the remarks, if there is one, and the limits of the family,
--- where families are kept
+-- the table `roles`: a flag, amounts of money and a rate, the output of the remarks, if any, and
+-- the limits of the family if the plan has families
 pub record AreRoles (families : Bool) (names : List InputData) (earlier : List (List SeenOutput)) (entry : Data) (roles : Roles) : Type 0 where
   pub cover : IsRole names earlier Flag (codes "cover") entry roles.cover
   pub fee : IsRole names earlier Money (codes "fee") entry roles.fee

@@ -1,4 +1,4 @@
-//! The answers of tables: lent by what keeps them, or made for one evaluation.
+//! The answers of tables, either borrowed from a compiled plan or owned by one evaluation.
 ghost use Rattle.std.specs.Prelude.{◌≡◌, ◌++◌, [], ◌∷◌, OnOk, OnErr};
 
 use crate::environment::Answer;
@@ -7,10 +7,10 @@ use smallvec::SmallVec;
 use std::alloc::{AllocError, Global};
 use std::marker::Model;
 
-/// Of how many tables the answers are listed without memory of their own.
+/// The number of tables whose answers are listed without an allocation.
 const INLINE_TABLES: usize = 5;
 
-/// The answers of a table, one for each output, which contracts see as their list.
+/// The answers of a table, one for each output. Contracts see them as a list.
 pub struct Answers<'a> {
     held: Held<'a>,
 }
@@ -22,12 +22,12 @@ impl Drop for Answers<'_> {
     }
 }
 
-/// Where a table's answers are.
+/// The place where a table's answers are stored.
 #[derive(Drop)]
 enum Held<'a> {
-    /// In what keeps them for many evaluations.
+    /// The answers belong to a value that serves many evaluations.
     Lent(&'a [Answer]),
-    /// In memory of their own.
+    /// The answers were made for this evaluation.
     Made(Sequence<Answer>),
 }
 
@@ -42,7 +42,7 @@ impl<'a> Model for Answers<'a> {
 }
 
 impl<'a> Default for Answers<'a> {
-    /// No answers.
+    /// Returns an empty list of answers.
     fn default() -> Answers<'a> {
         Answers {
             held: Held::Lent(&[]),
@@ -51,7 +51,7 @@ impl<'a> Default for Answers<'a> {
 }
 
 impl<'a> Answers<'a> {
-    /// Answers that something else keeps.
+    /// Wraps answers that another value owns.
     pub fn lent(answers: &'a [Answer]) -> Answers<'a>
         ensures { result ≡ answers.now }
     {
@@ -60,7 +60,7 @@ impl<'a> Answers<'a> {
         }
     }
 
-    /// Answers that were made.
+    /// Wraps answers that were made for this evaluation.
     pub fn made(answers: Sequence<Answer>) -> Answers<'a>
         ensures { result ≡ answers }
     {
@@ -69,7 +69,7 @@ impl<'a> Answers<'a> {
         }
     }
 
-    /// The answers as a slice.
+    /// Returns the answers as a slice.
     pub fn as_slice(&self) -> &[Answer]
         ensures { result.now ≡ self.now }
     {
@@ -80,7 +80,7 @@ impl<'a> Answers<'a> {
     }
 }
 
-/// The answers of tables in order, which contracts see as the list of each table's.
+/// The answers of tables in order. Contracts see them as a list of each table's answers.
 pub struct AnswersByTable<'a> {
     tables: SmallVec<Answers<'a>, INLINE_TABLES>,
 }
@@ -102,7 +102,7 @@ impl<'a> Model for AnswersByTable<'a> {
 }
 
 impl<'a> AnswersByTable<'a> {
-    /// No table's answers.
+    /// Returns the answers of no table.
     pub fn new(alloc: Global) -> AnswersByTable<'a>
         ensures { result ≡ [] }
     {
@@ -111,7 +111,7 @@ impl<'a> AnswersByTable<'a> {
         }
     }
 
-    /// Puts the next table's answers behind the others.
+    /// Appends the answers of the next table.
     #[inline(always)]
     pub fn push(&mut self, answers: Answers<'a>) -> Result<(), AllocError>
         ensures ok { OnOk result (self.new ≡ self.old ++ answers.entry ∷ []) }
@@ -121,7 +121,7 @@ impl<'a> AnswersByTable<'a> {
         Ok(())
     }
 
-    /// The answers, table by table.
+    /// Returns the answers, table by table.
     pub fn as_slice(&self) -> &[Answers<'a>]
         ensures { result.now ≡ self.now }
     {

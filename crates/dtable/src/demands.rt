@@ -1,4 +1,4 @@
-//! What a plan asks of outputs and of the rules' entries.
+//! The constraints of a plan on its outputs and on the entries of its rules.
 ghost use Rattle.std.specs.Prelude.{◌≡◌, is_some};
 ghost use Rattle.std.specs.List.{list_all, list_any};
 ghost use Rattle.feel_tests.specs.Holds.{is_equal};
@@ -9,7 +9,7 @@ use crate::hit::Hit;
 use crate::table::Output;
 use feel_tests::{Kind, Sequence, Value};
 
-/// Whether the outputs are what the policy asks for.
+/// Returns whether the outputs satisfy the constraints of the hit policy.
 pub fn meets_demands(hit: Hit, outputs: &[Output]) -> bool
     ensures { result ≡ meets_demands hit outputs.now }
 {
@@ -47,14 +47,14 @@ fn same_kind(one: Kind, other: Kind) -> bool
     }
 }
 
-/// Whether the value is of the kind.
+/// Returns whether the value is of the kind.
 pub fn has_kind(kind: Kind, value: &Value) -> bool
     ensures { result ≡ has_kind kind value.now }
 {
     same_kind(kind, value.kind())
 }
 
-/// Whether the entry is in the priority list, if there is one.
+/// Returns whether the entry is in the priority list; without a list, every entry is.
 pub fn is_ranked(priority: &Option<Sequence<Value>>, entry: &Value) -> bool
     ensures { result ≡ is_ranked priority.now entry.now }
 {
@@ -64,7 +64,6 @@ pub fn is_ranked(priority: &Option<Sequence<Value>>, entry: &Value) -> bool
     }
 }
 
-/// Whether the entry is in the list.
 pub fn is_listed(list: &[Value], entry: &Value) -> bool
     ensures { result ≡ list_any (λ listed. is_equal listed entry.now) list.now }
 {

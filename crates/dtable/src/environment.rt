@@ -10,11 +10,11 @@ use crate::table::{Output, Table};
 use feel_tests::{Sequence, Value};
 use std::marker::Model;
 
-/// What a table answers for one output.
+/// The answer of a table for one output.
 pub enum Answer {
-    /// Its one value.
+    /// The single value of the output.
     One(Value),
-    /// The list of its values, under a policy that lists all matches.
+    /// The list of its values, under a hit policy that lists all matches.
     Many(Sequence<Value>),
 }
 
@@ -53,21 +53,21 @@ impl<'a> Model for Env<'a> {
 }
 
 impl<'a> Env<'a> {
-    /// These answers, table by table and output by output.
+    /// Combines tables with their answers, table by table and output by output.
     pub fn new(tables: &'a [Table], answers: AnswersByTable<'a>) -> Env<'a>
         ensures { result ≡ record { tables = tables.now; answers = answers.entry } }
     {
         Env { tables, answers }
     }
 
-    /// The answer of the output with this name.
+    /// Returns the answer of the output with this name, or `None` if there is no such output.
     pub fn get(&self, name: &str) -> Option<&Answer>
         ensures { option_copied result ≡ answer_of self.now.tables self.now.answers name.now }
     {
         find_answer(self.tables, self.answers.as_slice(), name)
     }
 
-    /// The answer of the output at the place.
+    /// Returns the answer of the output at this place.
     pub fn at(&self, place: OutputPlace) -> Option<&Answer>
         ensures { option_copied result ≡ answer_at self.now.answers place }
     {
@@ -76,7 +76,6 @@ impl<'a> Env<'a> {
     }
 }
 
-// The answer of the first output with this name.
 fn find_answer<'a>(tables: &[Table], answers: &'a [Answers<'_>], name: &str) -> Option<&'a Answer>
     ensures { option_copied result ≡ answer_of tables.now answers.now name.now }
 {
@@ -89,14 +88,15 @@ fn find_answer<'a>(tables: &[Table], answers: &'a [Answers<'_>], name: &str) -> 
     None
 }
 
-// The answer of the output with this name, where it is one of the table at the place.
+// Returns the answer of the output with this name, if the table at the index has such an output.
 fn answer_at<'a>(
     tables: &[Table],
     place: usize,
     answers: &'a [Answer],
     name: &str,
 ) -> Option<&'a Answer>
-    ensures { option_copied result ≡ option_and_then (λ t. answer_in t.outputs answers.now name.now) (slice_get tables.now place) }
+    ensures { option_copied result ≡ option_and_then
+        (λ t. answer_in t.outputs answers.now name.now) (slice_get tables.now place) }
 {
     match tables.get(place) {
         Some(table) => answer_in(table.outputs.as_slice(), answers, name),
@@ -104,7 +104,6 @@ fn answer_at<'a>(
     }
 }
 
-// The answer of the first of these outputs that has the name.
 fn answer_in<'a>(outputs: &[Output], answers: &'a [Answer], name: &str) -> Option<&'a Answer>
     ensures { option_copied result ≡ answer_in outputs.now answers.now name.now }
 {
@@ -114,7 +113,7 @@ fn answer_in<'a>(outputs: &[Output], answers: &'a [Answer], name: &str) -> Optio
     }
 }
 
-/// The place of the first output that has the name.
+/// Returns the index of the first output with this name.
 pub fn place_of(outputs: &[Output], name: &str) -> Option<usize>
     ensures { result ≡ position (λ o. bytes_eq o.name name.now) outputs.now }
 {

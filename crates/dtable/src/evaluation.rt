@@ -26,7 +26,7 @@ use std::alloc::Global;
 impl Valuer for Plan {
     ghost plan_of = { λ plan. plan };
 
-    // A plan that isn't compiled tells no zones.
+    // A plan that is not compiled has no zones.
     ghost in_zone = { λ plan given zone. ⊥ };
 
     fn plan(&self) -> &Plan {
@@ -43,7 +43,7 @@ impl Valuer for Plan {
     }
 }
 
-// The answers of tables in order, or the first fault.
+// Returns the answers of the tables in order, or the first fault.
 fn answers_of<'a>(
     alloc: Global,
     given: &Inputs,
@@ -59,7 +59,7 @@ fn answers_of<'a>(
     Ok(answers)
 }
 
-/// The answers of a table that stands behind the tables with these answers.
+/// Returns the answers of the table that follows the tables with the `earlier` answers.
 pub fn table_value(
     alloc: Global,
     given: &Inputs,
@@ -79,8 +79,8 @@ pub fn table_value(
     answers_by_hit(alloc, number, table, rules.as_slice())
 }
 
-/// The answers of a table by its hit policy, where these rules match, in rule order, from 0. The table's number, from 1,
-/// is what a fault tells.
+/// Applies the hit policy of the table to the matching rules, which are given in rule order and
+/// numbered from 0. A fault names the table by `number`, from 1.
 pub fn answers_by_hit(
     alloc: Global,
     number: usize,

@@ -4,42 +4,44 @@ ghost use Rattle.dtable.specs.Plan.{gives_one, seen_kind};
 
 use feel_tests::Kind;
 
-/// A hit policy: what a table's value is where several rules match (DMN 1.4, hit policies).
+/// A hit policy: it determines the value of a table if several rules match (DMN 1.4, hit policies).
 #[derive(Clone, Copy, PartialEq, Eq)]
 pub enum Hit {
-    /// Unique: one rule matches.
+    /// Unique: at most one rule may match.
     U,
-    /// Any: the rules that match agree.
+    /// Any: all matching rules must have the same outputs.
     A,
-    /// Priority: the match of highest priority.
+    /// Priority: the match with the highest priority decides.
     P,
-    /// First: the first match.
+    /// First: the first match decides.
     F,
-    /// Output order: all matches, in falling priority.
+    /// Output order: all matches are listed, in decreasing priority.
     O,
-    /// Rule order: all matches, in rule order.
+    /// Rule order: all matches are listed, in rule order.
     R,
-    /// Collect: all matches; this profile lists them in rule order.
+    /// Collect: all matches are listed. This profile lists them in rule order.
     C,
-    /// Collect, `C+`: the sum of the matches' entries.
+    /// Collect, `C+`: the result is the sum of the matches' entries.
     Sum,
-    /// Collect, `C<`: the least of the matches' entries.
+    /// Collect, `C<`: the result is the least of the matches' entries.
     Min,
-    /// Collect, `C>`: the greatest of the matches' entries.
+    /// Collect, `C>`: the result is the greatest of the matches' entries.
     Max,
-    /// Collect, `C#`: how many rules match.
+    /// Collect, `C#`: the result is the number of matching rules.
     Count,
 }
 
 impl Hit {
-    /// Whether the outputs of a table with this policy have one value each, and no list.
+    /// Returns whether each output of a table with this hit policy has a single value and not a
+    /// list.
     pub fn gives_one(self) -> bool
         ensures { result ≡ gives_one self }
     {
         !matches!(self, Hit::O | Hit::R | Hit::C)
     }
 
-    /// The kind of the values that are seen of an output of this written kind.
+    /// Returns the kind of the values that later tables and roles see in an output of the declared
+    /// kind.
     pub fn seen_kind(self, written: Kind) -> Kind
         ensures { result ≡ seen_kind self written }
     {

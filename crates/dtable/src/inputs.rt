@@ -1,4 +1,4 @@
-//! What is given for the names that tables read.
+//! The values of the names that tables read.
 ghost use Rattle.std.specs.Prelude.{◌≡◌, map, Some, None, IfOk, OnErr, OnOk};
 ghost use Rattle.std.specs.Option.{option_copied};
 ghost use Rattle.feel_tests.specs.declared.kind.Kind.TheVariants as kinds;
@@ -11,7 +11,7 @@ use feel_tests::{Kind, Text, Value};
 use std::alloc::{AllocError, Global};
 use std::marker::Model;
 
-/// The place of one name: the kind of its value, and the value, once it is given.
+/// A name's slot: the kind of its values, and its value once it is set.
 pub struct Slot {
     pub kind: Kind,
     pub value: Option<Value>,
@@ -24,7 +24,8 @@ impl Drop for Slot {
 }
 
 impl Slot {
-    // Its value is this text then, in the memory of the text that stands there, if one does. Where memory is refused it has none.
+    // Sets the value to this text and reuses the memory of an earlier text. If memory runs out, the
+    // slot has no value.
     fn set_text(&mut self, alloc: Global, text: &Text) -> Result<(), AllocError>
         ensures set { OnOk result (self.new.value ≡ Some (values.Text text.now)) }
         ensures refused { OnErr result (self.new.value ≡ None) }
@@ -37,7 +38,7 @@ impl Slot {
         copied
     }
 
-    // The same, but that where memory is refused some value or none stands there.
+    // Does the same as `set_text`, but leaves an unspecified value if memory runs out.
     fn copy_text(&mut self, alloc: Global, text: &Text) -> Result<(), AllocError>
         ensures set { OnOk result (self.new.value ≡ Some (values.Text text.now)) }
         ensures kind { self.new.kind ≡ self.old.kind }
@@ -50,7 +51,7 @@ impl Slot {
     }
 }
 
-/// A place for each name of a plan, in order.
+/// A slot for each name of a plan, in order.
 pub struct Inputs {
     slots: Vec<Slot>,
 }
@@ -71,7 +72,7 @@ impl Model for Inputs {
 }
 
 impl Inputs {
-    /// No name of the plan has a value yet.
+    /// Makes an empty slot for each name of the plan.
     pub fn new(alloc: Global, plan: &Plan) -> Result<Inputs, AllocError>
         ensures { IfOk result (λ inputs. inputs ≡ empty_slots plan.now.names) }
     {
@@ -86,7 +87,7 @@ impl Inputs {
         Ok(Inputs { slots })
     }
 
-    /// The kind of the name at the place, from 0, if there is one.
+    /// Returns the kind of the name at an index from 0, or `None` if there is no such name.
     pub fn kind_at(&self, place: usize) -> Option<Kind>
         ensures { result ≡ kind_at self.now place }
     {
@@ -96,7 +97,7 @@ impl Inputs {
         }
     }
 
-    /// Gives the name at the place its value, in place of an earlier one. Places count from 0.
+    /// Sets the value of the name at an index from 0. An earlier value is replaced.
     pub fn set(&mut self, place: usize, value: Value)
         requires { Takes self.old place (kind_of value) }
         ensures { self.new ≡ filled self.old place value }
@@ -108,8 +109,9 @@ impl Inputs {
         };
     }
 
-    /// Gives the name at the place this text, in the memory of the text that stands there, if one does. Where memory is refused,
-    /// that name has no value then, and the others are as they were.
+    /// Sets the value of the name at an index from 0 to this text, and reuses the memory of an
+    /// earlier text. If memory runs out, that name has no value afterwards, and the others are
+    /// unchanged.
     pub fn set_text(&mut self, alloc: Global, place: usize, text: &Text) -> Result<(), AllocError>
         requires { Takes self.old place kinds.Text }
         ensures set { OnOk result (self.new ≡ filled self.old place (values.Text text.now)) }
@@ -119,7 +121,7 @@ impl Inputs {
         self.slots[place].set_text(alloc, text)
     }
 
-    /// The value of the name at the place, if it is given.
+    /// Returns the value of the name at an index from 0, if it is set.
     pub fn get(&self, place: usize) -> Option<&Value>
         ensures { option_copied result ≡ value_at self.now place }
     {

@@ -1,13 +1,16 @@
 //! Decision tables of DMN 1.4: plans, the eleven hit policies, and chains of tables.
 //!
-//! A `Plan` names the input data of a claim and holds `Table`s in order of evaluation. `Inputs` takes a value for
-//! each name that a table reads. `Plan::value` evaluates the tables: it gives an `Env`, which has the answer of each
-//! output by its name, or the first `Fault`. `Valuer` is what any other evaluator of a plan promises as well.
-//! Cells and values come from `feel_tests`, faults from `faults`, numbers from `fixpoint`, the list of tables' answers from `smallvec`.
+//! A `Plan` names the input data of a claim and has `Table`s in order of evaluation. `Inputs` takes
+//! a value for each name that a table reads. `Plan::value` evaluates the tables and returns an
+//! `Env`, which has the answer of each output by its name, or the first `Fault`. `Valuer` is the
+//! contract of every evaluator of a plan. Cells and values come from `feel_tests`, faults from
+//! `faults`, numbers from `fixpoint`, the reader of TOML from `toml`, and the list of the
+//! tables' answers from `smallvec`.
 //!
-//! Begin with `specs/Plan.antt`, which says what holds of every plan, and go on with `specs/Matching.antt`,
-//! `specs/HitPolicy.antt` and `specs/Environment.antt`, which say what the tables' value is; then read
-//! `valuer.rt`, whose `value` carries the promise, and the files of `evaluation/`, one for each group of policies.
+//! Begin with `specs/Plan.antt`, which states what holds for every plan, and go on with
+//! `specs/Matching.antt`, `specs/HitPolicy.antt` and `specs/Environment.antt`, which define the
+//! value of the tables. Then read `valuer.rt`, which has the contract of `value`, and the files of
+//! `evaluation/`, one for each group of hit policies.
 #![tactic(auto)]
 
 mod answers;

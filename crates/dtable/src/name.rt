@@ -5,10 +5,11 @@ ghost use Rattle.dtable.specs.Limits.{name_limit_bytes};
 use std::alloc::{AllocError, Global};
 use std::marker::Model;
 
-/// How many bytes a name has at most.
+/// The greatest length of a name, in bytes.
 pub const NAME_LIMIT_BYTES: usize = 64;
 
-/// The name of input data or of an output, of at most `NAME_LIMIT_BYTES`, which contracts see as its bytes.
+/// The name of input data or of an output, of at most `NAME_LIMIT_BYTES` bytes. Contracts see it as
+/// its bytes.
 #[derive(Debug)]
 pub struct Name {
     text: String,
@@ -32,7 +33,7 @@ impl Model for Name {
 }
 
 impl Name {
-    /// The name of these bytes.
+    /// Copies a name of at most `NAME_LIMIT_BYTES` bytes.
     pub fn new(alloc: Global, text: &str) -> Result<Name, AllocError>
         requires { length text.now ≤ name_limit_bytes }
         ensures { IfOk result (λ name. name ≡ text.now) }
@@ -42,7 +43,7 @@ impl Name {
         })
     }
 
-    /// The name as text.
+    /// Returns the name as a string slice.
     pub fn as_str(&self) -> &str
         ensures text { result.now ≡ self.now }
         ensures short { length self.now ≤ name_limit_bytes }

@@ -19,7 +19,8 @@ use feel_tests::{Kind, Sequence};
 use std::alloc::{AllocError, Global};
 use std::marker::Model;
 
-/// A plan. Contracts see its version, its names, its tables and its roles; `IsPlan` holds of every one.
+/// A plan. Contracts see its version, its names, its tables and its roles, and every plan satisfies
+/// `IsPlan`.
 pub struct Plan {
     version: u8,
     names: Sequence<InputData>,
@@ -43,21 +44,25 @@ impl Model for Plan {
 
     ghost Value = { PlanParts };
 
-    ghost view = { λ p. record { version = p.version; names = p.names; tables = p.tables; roles = p.roles } };
+    ghost view = { λ p.
+        record { version = p.version; names = p.names; tables = p.tables; roles = p.roles } };
 
-    ghost invariant = { λ p. IsPlan (record { version = p.version; names = p.names; tables = p.tables; roles = p.roles }) };
+    ghost invariant = { λ p. IsPlan
+        (record { version = p.version; names = p.names; tables = p.tables; roles = p.roles }) };
 }
 
 impl Plan {
-    /// The plan of these parts.
+    /// Combines the parts of a plan, which must satisfy `IsPlan`.
     pub fn new(
         version: u8,
         names: Sequence<InputData>,
         tables: Sequence<Table>,
         roles: Option<Roles>,
     ) -> Plan
-        requires { IsPlan (record { version = version; names = names; tables = tables; roles = roles }) }
-        ensures { result ≡ record { version = version; names = names; tables = tables; roles = roles } }
+        requires { IsPlan
+            (record { version = version; names = names; tables = tables; roles = roles }) }
+        ensures { result
+            ≡ record { version = version; names = names; tables = tables; roles = roles } }
     {
         Plan {
             version,
@@ -67,8 +72,8 @@ impl Plan {
         }
     }
 
-    /// The version of the plan's format: 1, or 2 where accumulators are kept by the benefit year, or 3 where they are kept so and for
-    /// families, too.
+    /// Returns the version of the plan's format. Version 2 keeps accumulators by benefit year, and
+    /// version 3 keeps them by benefit year and also for families.
     pub fn version(&self) -> u8
         ensures version { result ≡ self.now.version }
         ensures sound { IsPlan self.now }
@@ -76,22 +81,24 @@ impl Plan {
         self.version
     }
 
-    /// Whether accumulators are kept by the benefit year, the calendar year of service.
+    /// Returns whether accumulators are kept by benefit year, which is the calendar year of the
+    /// service.
     pub fn keeps_years(&self) -> bool
         ensures { result ≡ keeps_years self.now }
     {
         has_years(self.version)
     }
 
-    /// Whether accumulators are kept for families, too.
+    /// Returns whether accumulators are also kept for families.
     pub fn keeps_families(&self) -> bool
         ensures { result ≡ keeps_families self.now }
     {
         has_families(self.version)
     }
 
-    /// The names that tables may read from outside: claim, member, service, billed, the fields in order, and the
-    /// accumulators met, oop and paid; where families are kept, family in front of member, and fmet and foop behind paid.
+    /// Returns the names that tables may read from outside: claim, member, service, billed, the
+    /// fields in order, and the accumulators met, oop and paid. If accumulators are kept for
+    /// families, family precedes member, and fmet and foop follow paid.
     pub fn names(&self) -> &[InputData]
         ensures names { result.now ≡ self.now.names }
         ensures sound { IsPlan self.now }
@@ -99,7 +106,7 @@ impl Plan {
         self.names.as_slice()
     }
 
-    /// The tables, in order of evaluation.
+    /// Returns the tables, in order of evaluation.
     pub fn tables(&self) -> &[Table]
         ensures tables { result.now ≡ self.now.tables }
         ensures sound { IsPlan self.now }
@@ -107,7 +114,7 @@ impl Plan {
         self.tables.as_slice()
     }
 
-    /// The roles, if the plan settles claims.
+    /// Returns the roles, if the plan has any. Only a plan with roles settles claims.
     pub fn roles(&self) -> Option<&Roles>
         ensures roles { option_copied result ≡ self.now.roles }
         ensures sound { IsPlan self.now }
@@ -115,22 +122,24 @@ impl Plan {
         self.roles.as_ref()
     }
 
-    /// Where the output with this name is answered, if there is one: the answer there is that by the name, whatever the
-    /// tables answer.
+    /// Returns the place of the output with this name. The answer at that place is the answer by
+    /// the name in every evaluation.
     pub fn output_place(&self, name: &str) -> Option<OutputPlace>
-        ensures { (answers : List (List Answer)) → answer_of self.now.tables answers name.now ≡ option_and_then (answer_at answers) result }
+        ensures { (answers : List (List Answer))
+            → answer_of self.now.tables answers name.now
+            ≡ option_and_then (answer_at answers) result }
     {
         place_named(self.tables.as_slice(), name)
     }
 
-    /// Whether some table reads the name at the place, from 0.
+    /// Returns whether some table reads the name at this index, from 0.
     pub fn needs(&self, place: usize) -> bool
         ensures { result ≡ needs self.now.tables place }
     {
         self.tables.iter().any(|table| table.reads(place))
     }
 
-    /// Whether every name that a table reads has a value.
+    /// Returns whether every name that a table reads has a value.
     pub fn ready(&self, inputs: &Inputs) -> bool
         ensures { IsTrue result ↔ IsReady self.now.tables inputs.now }
     {
@@ -138,22 +147,21 @@ impl Plan {
     }
 }
 
-/// Whether accumulators are kept by the benefit year under a version of the format.
+/// Returns whether plans of this version keep accumulators by benefit year.
 pub fn has_years(version: u8) -> bool
     ensures { result ≡ has_years version }
 {
     version != 1
 }
 
-/// Whether accumulators are kept for families, too, under a version of the format.
+/// Returns whether plans of this version also keep accumulators for families.
 pub fn has_families(version: u8) -> bool
     ensures { result ≡ has_families version }
 {
     version == 3
 }
 
-/// All names of a plan with these fields: claim, member, service and billed, the fields, then met, oop and paid; where families are
-/// kept, those of families among them.
+/// Returns all names of a plan with these fields, in the order of `Plan::names`.
 pub fn all_names(
     alloc: Global,
     families: bool,
@@ -200,7 +208,6 @@ fn for_claim(
     put_first(alloc, "claim", Kind::Text, names)
 }
 
-// Puts the name of a number behind the others.
 fn push_number(alloc: Global, name: &str, names: &mut Sequence<InputData>) -> Result<(), AllocError>
     requires { length name.now ≤ name_limit_bytes }
     ensures { OnOk result (names.new ≡ names.old ++ named name.now kinds.Number ∷ []) }
@@ -208,7 +215,6 @@ fn push_number(alloc: Global, name: &str, names: &mut Sequence<InputData>) -> Re
     names.push(named(alloc, name, Kind::Number)?)
 }
 
-// Puts a name in front of the others.
 fn put_first(
     alloc: Global,
     name: &str,
@@ -231,7 +237,6 @@ fn named(alloc: Global, name: &str, kind: Kind) -> Result<InputData, AllocError>
     })
 }
 
-// Whether each name that one of these tables reads has a value.
 fn are_served(tables: &[Table], inputs: &Inputs) -> bool
     ensures { result ≡ list_all (is_served inputs.now) tables.now }
 {

@@ -1,9 +1,11 @@
-//! The reader of a plan's text. Faults are sought in one order, and the first is answered: the length of the text, its
-//! document, `version`, `fields`, then each table with its hit policy, inputs, outputs and rules, then `roles`.
+//! The reader of a plan's text. Faults are searched for in a fixed order, and the first is
+//! returned: the length of the text, its document, `version`, `fields`, then each table with its
+//! hit policy, inputs, outputs and rules, then `roles`.
 //!
-//! `document` finds what the TOML holds at a key, `place` says where a fault stands, `limits` has the limits of a plan,
-//! and `scope` finds what a name stands for. The keys are read by `names`, `inputs`, `outputs`, `rules`, `tables` and
-//! `roles`, each with `literals` where a string is a cell or a literal.
+//! `document` looks up keys in the TOML, `place` has the location of a fault, `limits` has the
+//! limits of a plan, and `scope` finds the meaning of a name. `names`, `inputs`, `outputs`,
+//! `rules`, `tables` and `roles` read the keys, and `literals` reads the strings that are cells or
+//! literals.
 ghost use Rattle.std.specs.Prelude.{◌≡◌, ◌≢◌, ◌≤◌, length, IfOk, IfErr};
 ghost use Rattle.toml.specs.View.{view};
 ghost use Rattle.dtable.specs.Plan.{PlanParts};
@@ -34,11 +36,17 @@ use std::alloc::Global;
 use tables::read_tables;
 use toml::Value;
 
-/// Reads a plan's text: TOML in UTF-8, of at most `PLAN_LIMIT_BYTES` bytes, with the keys of a plan. Where it spells none, the fault has the first cause that is met,
-/// in the order of the plan's keys, and the table, rule and column where it stands.
+/// Reads a plan's text: TOML in UTF-8, of at most `PLAN_LIMIT_BYTES` bytes, with the keys of a
+/// plan.
+///
+/// # Errors
+///
+/// Returns the first fault in the order of the plan's keys, with its table, rule and column. If
+/// memory runs out, the cause is `OutOfMemory`.
 pub fn read_plan(alloc: Global, text: &[u8]) -> Result<Plan, PlanFault>
     ensures plan { IfOk result (λ plan. IsPlanText text.now plan) }
-    ensures refused { IfErr result (λ fault. fault.cause ≢ PlanCause.OutOfMemory → (plan : PlanParts) → ¬ IsPlanText text.now plan) }
+    ensures refused { IfErr result (λ fault. fault.cause ≢ PlanCause.OutOfMemory
+        → (plan : PlanParts) → ¬ IsPlanText text.now plan) }
 {
     if text.len() > PLAN_LIMIT_BYTES {
         return Err(Place::TEXT.fault(PlanCause::Limit));
@@ -47,21 +55,20 @@ pub fn read_plan(alloc: Global, text: &[u8]) -> Result<Plan, PlanFault>
     plan_of(alloc, &document)
 }
 
-/// A text spells at most one plan.
+/// A text denotes at most one plan.
 pub fn text_spells_at_most_one_plan()
     ensures { SpellsOnePlan }
 {
-    // Known from here: a text spells one value or cell at most, so that what was refused spells none.
+    // proof: a text denotes at most one cell and at most one value, so it denotes at most one plan
     text_spells_at_most_one_cell();
     text_spells_at_most_one_value();
 }
 
-/// Reads the plan that a document spells.
 fn plan_of(alloc: Global, document: &Value) -> Result<Plan, PlanFault>
     ensures { Reads (IsPlanDocument (view document.now)) result }
 {
     let version = read_version(document)?;
-    // Known from here: a text spells one value or cell at most, so that what was refused spells none.
+    // proof: a text denotes at most one value, so a refused text denotes none
     text_spells_at_most_one_value();
     let families = has_families(version);
     let names = read_names(alloc, document, families)?;

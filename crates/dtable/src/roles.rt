@@ -3,13 +3,13 @@
 use crate::name::Name;
 use feel_tests::Value;
 
-/// Where a role's value comes from.
+/// The source of a role's value.
 pub enum Source {
-    /// This value.
+    /// The value is this literal.
     Literal(Value),
-    /// The input data at this place in the plan's names, from 0.
+    /// The value is the input data at this index in the plan's names, from 0.
     Input(usize),
-    /// The single value of the output with this name.
+    /// The value is the single value of the output with this name.
     Output(Name),
 }
 
@@ -23,11 +23,11 @@ impl Drop for Source {
     }
 }
 
-/// The limits of a family, which stand beside those of its members.
+/// The limits of a family, which apply in addition to the limits of its members.
 pub struct FamilyRoles {
-    /// A number: what the family pays before the plan does for all its members.
+    /// A number: the deductible of the family.
     pub deductible: Source,
-    /// A number: the most that the family pays in all.
+    /// A number: the out-of-pocket maximum of the family.
     pub oop_max: Source,
 }
 
@@ -40,23 +40,24 @@ impl Drop for FamilyRoles {
     }
 }
 
-/// What settles a claim: whether it is covered, the amounts and the rate, the output that lists remarks, and the family's limits.
+/// The sources of the values that settle a claim: whether it is covered, the amounts and the rate,
+/// the remarks, and the family's limits.
 pub struct Roles {
     /// A flag: whether the service is covered.
     pub cover: Source,
-    /// A number: the most that is allowed for the service.
+    /// A number: the allowed amount of the service.
     pub fee: Source,
-    /// A number: what the member pays before the plan does.
+    /// A number: the deductible of the member.
     pub deductible: Source,
-    /// A number: what the member pays for each claim.
+    /// A number: the copay of the member for each claim.
     pub copay: Source,
-    /// A number: the member's part of the rest, from 0 to 1.
+    /// A number: the coinsurance of the member, a rate from 0 to 1.
     pub rate: Source,
-    /// A number: the most that the member pays in all.
+    /// A number: the out-of-pocket maximum of the member.
     pub oop_max: Source,
     /// The name of an output of kind text that lists its values.
     pub remarks: Option<Name>,
-    /// The family's limits, where the plan keeps families.
+    /// The family's limits, if the plan keeps accumulators for families.
     pub family: Option<FamilyRoles>,
 }
 

@@ -23,16 +23,17 @@ impl Drop for InputData {
     }
 }
 
-/// Where an input's value comes from. Places count from 0.
+/// The origin of an input's value, by indices from 0 (DMN 1.4, input expression).
 #[derive(Clone, Copy)]
 pub enum Origin {
-    /// The input data at this place in the plan's names.
+    /// The value is the input data at this index in the plan's names.
     Given(usize),
-    /// An output of an earlier table with a single value: the table's place in the plan, the output's in the table.
+    /// The value is the single value of an output of an earlier table: the table's index in the
+    /// plan, and the output's index in the table.
     Earlier { table: usize, column: usize },
 }
 
-/// An input of a table (input clause), with its allowed values, if they are restricted.
+/// An input of a table (DMN 1.4, input clause), with its allowed values if they are restricted.
 pub struct Input {
     pub name: Name,
     pub origin: Origin,
@@ -49,7 +50,8 @@ impl Drop for Input {
     }
 }
 
-/// An output of a table (output clause), with its priority list, highest first, and its default, if it has them.
+/// An output of a table (DMN 1.4, output clause), with its priority list, highest value first, and
+/// its default, if it has them.
 pub struct Output {
     pub name: Name,
     pub kind: Kind,
@@ -68,7 +70,7 @@ impl Drop for Output {
     }
 }
 
-/// A rule of a table (decision rule): a cell for each input, and an entry for each output.
+/// A rule of a table (DMN 1.4, decision rule): a cell for each input, and an entry for each output.
 pub struct Rule {
     pub cells: Sequence<Cell>,
     pub entries: Sequence<Value>,
@@ -103,14 +105,14 @@ impl Drop for Table {
 }
 
 impl Table {
-    /// Whether an input reads the input data at the place.
+    /// Returns whether an input reads the input data at this index.
     pub fn reads(&self, place: usize) -> bool
         ensures { result ≡ list_any (λ i. reads place i.origin) self.now.inputs }
     {
         self.inputs.iter().any(|input| input.origin.reads(place))
     }
 
-    /// Whether each input that reads input data finds a value there.
+    /// Returns whether all input data that the table reads have a value.
     pub fn is_served(&self, inputs: &Inputs) -> bool
         ensures { result ≡ is_served inputs.now self.now }
     {
@@ -119,7 +121,8 @@ impl Table {
             .all(|input| input.origin.is_served(inputs))
     }
 
-    /// The entries of the rule at the place, from 0; none where there is no such rule.
+    /// Returns the entries of the rule at an index from 0, or an empty slice if there is no such
+    /// rule.
     pub fn entries(&self, rule: usize) -> &[Value]
         ensures { result.now ≡ entries_of self.now rule }
     {
@@ -129,7 +132,8 @@ impl Table {
         }
     }
 
-    /// The rule's entry in a column of outputs, if there is one. Both count from 0.
+    /// Returns the rule's entry for an output, if there is one. Rules and outputs are counted from
+    /// 0.
     pub fn entry(&self, rule: usize, column: usize) -> Option<&Value>
         ensures { option_copied result ≡ slice_get (entries_of self.now rule) column }
     {
@@ -138,7 +142,7 @@ impl Table {
 }
 
 impl Origin {
-    /// Whether it is the name at the place.
+    /// Returns whether the origin is the input data at this index.
     pub fn reads(self, place: usize) -> bool
         ensures { result ≡ reads place self }
     {

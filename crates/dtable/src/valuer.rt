@@ -1,4 +1,4 @@
-//! What every evaluator of a plan promises.
+//! The contract of every evaluator of a plan.
 ghost use Rattle.std.specs.Prelude.{◌≡◌, ℕ, List, Ok, IfOk, IfErr, IfSome};
 ghost use Rattle.dtable.specs.Environment.{env};
 ghost use Rattle.dtable.specs.HitPolicy.{IsFaultOf};
@@ -14,24 +14,27 @@ use std::alloc::Global;
 
 /// An evaluator of a plan's tables.
 pub trait Valuer {
-    /// The plan.
+    /// The plan that is evaluated.
     ghost plan_of: { Self → PlanParts };
 
-    /// The inputs lie in the zone of this number.
+    /// The inputs lie in the zone with this number.
     ghost in_zone: { Self → List Slot → ℕ → Type 0 };
 
-    /// The plan.
+    /// Returns the plan.
     fn plan(&self) -> &Plan
         ensures { result.now ≡ plan_of self.now };
 
-    /// The value of the plan's tables at these inputs, or their first fault.
+    /// Returns the value of the plan's tables for these inputs, or their first fault.
     fn value<'a>(&'a self, alloc: Global, inputs: &Inputs) -> Result<Env<'a>, Fault>
         requires { IsReady (plan_of self.now).tables inputs.now }
-        ensures value { IfOk result (λ environment. env (plan_of self.now) inputs.now ≡ Ok environment) }
+        ensures value { IfOk result (λ environment. env (plan_of self.now) inputs.now
+            ≡ Ok environment) }
         ensures fault { IfErr result (IsFaultOf (env (plan_of self.now) inputs.now)) };
 
-    /// The zone in which the inputs lie, by its number, if one is known: the tables have one value wherever inputs lie in it.
+    /// Returns the number of the zone that contains the inputs, if it is known. A zone is a class
+    /// of inputs for which the tables have the same value.
     fn zone(&self, inputs: &Inputs) -> Option<u64>
         ensures inside { IfSome result (in_zone self.now inputs.now) }
-        ensures alike { IfSome result (λ zone. (other : List Slot) → in_zone self.now other zone → env (plan_of self.now) other ≡ env (plan_of self.now) inputs.now) };
+        ensures alike { IfSome result (λ zone. (other : List Slot) → in_zone self.now other zone
+            → env (plan_of self.now) other ≡ env (plan_of self.now) inputs.now) };
 }

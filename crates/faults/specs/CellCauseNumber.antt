@@ -1,9 +1,9 @@
--- Why a text is no cell and no literal.
+-- The causes of errors in a cell or a literal, by number.
 use Rattle.std.specs.Prelude.{ℕ}
 use Rattle.faults.specs.declared.cell_fault.CellCause.{CellCause}
 use Rattle.faults.specs.declared.cell_fault.CellCause.TheVariants.{Token, Literal, WrongKind, BadEscape, BadDate, TooMany, Trailing, OutOfMemory}
 
--- the cause's number in a program's messages
+-- the number that messages print for a cause
 abbrev pub number_of : CellCause → ℕ
 number_of Token = 1
 number_of Literal = 2

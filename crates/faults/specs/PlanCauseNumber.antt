@@ -1,9 +1,9 @@
--- The numbers of a plan's faults in a program's messages.
+-- The causes of errors in a plan, by number.
 use Rattle.std.specs.Prelude.{ℕ}
 use Rattle.faults.specs.declared.plan_fault.PlanCause.{PlanCause}
 use Rattle.faults.specs.declared.plan_fault.PlanCause.TheVariants.{Toml, Missing, Unknown, Duplicate, Kind, Hit, Priority, Role, Money, Limit, Cell, OutOfMemory}
 
--- the number of a cause
+-- the number that messages print for a cause
 abbrev pub number_of : PlanCause → ℕ
 number_of Toml = 1
 number_of Missing = 2

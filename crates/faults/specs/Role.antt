@@ -1,9 +1,9 @@
--- The number roles in a program's messages.
+-- The roles with numbers as values, by number.
 use Rattle.std.specs.Prelude.{ℕ}
 use Rattle.faults.specs.declared.role.Role.{Role}
 use Rattle.faults.specs.declared.role.Role.TheVariants.{Fee, Deductible, Copay, Rate, OopMax, FamilyDeductible, FamilyOopMax}
 
--- the number of a role in a program's messages
+-- the number that messages print for a role
 abbrev pub number_of : Role → ℕ
 number_of Fee = 2
 number_of Deductible = 3

@@ -1,40 +1,42 @@
-//! Why a cell or a literal could not be read.
+//! The reasons why a cell or a literal cannot be read.
 ghost use Rattle.std.specs.Prelude.{◌≡◌};
 ghost use Rattle.faults.specs.CellCauseNumber.{number_of};
 
 use thiserror::Error;
 
-/// What is wrong with the text of a cell or a literal.
+/// An error in the text of a cell or of a literal.
 #[derive(Clone, Copy, Debug, PartialEq, Eq, Drop, Error)]
 pub enum CellCause {
-    /// No token, one that can't stand here, or the end too early: also a string without its end.
+    /// The text has no token here, a token that is not allowed here, or ends too early. A string
+    /// without its closing quote is one such case.
     #[error("unexpected token")]
     Token,
-    /// A number out of range or too fine, or a text that is too long.
+    /// A number is out of range or has too many decimals, or a text is too long.
     #[error("literal out of range")]
     Literal,
-    /// A literal of another kind, or a comparison or interval of values without an order.
+    /// A literal is not of the column's kind, or a comparison or an interval uses values without an
+    /// order.
     #[error("wrong kind")]
     WrongKind,
-    /// A backslash that begins no escape.
+    /// A backslash does not begin an escape sequence.
     #[error("bad escape")]
     BadEscape,
-    /// A date that the calendar hasn't.
+    /// A date does not exist in the calendar.
     #[error("bad date")]
     BadDate,
-    /// More tests than a cell has.
+    /// The cell has more tests than a cell may have.
     #[error("too many tests")]
     TooMany,
-    /// Bytes behind the end of the cell.
+    /// Bytes follow the end of the cell.
     #[error("trailing bytes")]
     Trailing,
-    /// No memory.
+    /// Memory ran out.
     #[error("out of memory")]
     OutOfMemory,
 }
 
 impl CellCause {
-    /// The cause's number in a program's messages.
+    /// Returns the number that messages print for the cause, from 1 to 8.
     pub fn number(self) -> u8
         ensures { result ≡ number_of self }
     {
@@ -51,12 +53,12 @@ impl CellCause {
     }
 }
 
-/// The first fault of a text, with the offset in bytes of where it is.
+/// The first error in a text, with its position.
 #[derive(Clone, Copy, Debug, PartialEq, Eq, Drop, Error)]
 #[error("{cause} at byte {at}")]
 pub struct CellFault {
-    /// The offset of the byte, from 0; for want of memory it tells nothing.
+    /// The offset of the error in bytes, from 0. It has no meaning if memory ran out.
     pub at: usize,
-    /// What is wrong there.
+    /// The error at that offset.
     pub cause: CellCause,
 }

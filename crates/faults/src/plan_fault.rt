@@ -1,4 +1,4 @@
-//! Why a text is no plan, and where.
+//! The reasons why a text is not a plan, with their positions.
 ghost use Rattle.std.specs.Prelude.{◌≡◌};
 ghost use Rattle.faults.specs.PlanCauseNumber.{number_of};
 
@@ -6,49 +6,50 @@ use crate::cell_fault::CellFault;
 use std::alloc::AllocError;
 use thiserror::Error;
 
-/// What is wrong with a plan's text.
+/// An error in a plan's text.
 #[derive(Clone, Copy, Debug, PartialEq, Eq, Drop, Error)]
 pub enum PlanCause {
-    /// The text is no TOML document.
+    /// The text is not a TOML document.
     #[error("the text is no TOML document")]
     Toml,
-    /// A required key isn't there.
+    /// A required key is missing.
     #[error("a key is missing")]
     Missing,
-    /// The version is another one, or an input's name is no single value that is known at its place.
+    /// The version is not supported, or an input does not name a single value that is known before
+    /// its table.
     #[error("a version or a name is not known here")]
     Unknown,
-    /// A name is taken.
+    /// A name is used twice.
     #[error("a name is taken")]
     Duplicate,
-    /// A value is of another type, form or length, or a word is none of its list.
+    /// A value has the wrong type, form or length, or a word is not in its list.
     #[error("a value is of another type, form or length")]
     Kind,
-    /// The hit policy is unknown, or its outputs are not what it asks for.
+    /// The hit policy is unknown, or the outputs violate its constraints.
     #[error("a hit policy is unknown or doesn't fit its outputs")]
     Hit,
-    /// A priority list is missing, has a value twice, or lacks a rule's value.
+    /// A priority list is missing, repeats a value, or lacks a value of a rule.
     #[error("a priority list is missing, has a value twice, or lacks one")]
     Priority,
-    /// A role is missing, is no string, or names what it may not.
+    /// A role is missing, is not a string, or names an output or a field that it may not name.
     #[error("a role is missing or names what it may not")]
     Role,
-    /// A role's number is no amount of money, or no rate from 0 to 1.
+    /// A number for a role is not an amount of money, or is not a rate from 0 to 1.
     #[error("a role's number is no money or no rate")]
     Money,
     /// The text, a name or an array is too long.
     #[error("the text, a name or an array is too long")]
     Limit,
-    /// A cell or a literal can't be read.
+    /// A cell or a literal cannot be read.
     #[error("a cell or a literal can't be read: {0}")]
     Cell(CellFault),
-    /// No memory.
+    /// Memory ran out.
     #[error("out of memory")]
     OutOfMemory,
 }
 
 impl PlanCause {
-    /// The cause's number in a program's messages.
+    /// Returns the number that messages print for the cause, from 1 to 12.
     pub fn number(self) -> u8
         ensures { result ≡ number_of self }
     {
@@ -69,7 +70,8 @@ impl PlanCause {
     }
 }
 
-/// The first fault of a plan's text: tables, rules and columns count from 1, and 0 says none.
+/// The first error in a plan's text, with its position. Tables, rules and columns are numbered from
+/// 1; 0 means that the error is in none.
 #[derive(Clone, Copy, Debug, PartialEq, Eq, Drop, Error)]
 #[error("table {table} rule {rule} column {column}: {cause}")]
 pub struct PlanFault {
@@ -77,9 +79,10 @@ pub struct PlanFault {
     pub table: usize,
     /// The rule's number in its table.
     pub rule: usize,
-    /// The column's number: an input's, behind those an output's, or outside tables a field's or a role's.
+    /// The column's number: inputs first, then outputs. Outside the tables, it is the number of a
+    /// field or of a role.
     pub column: usize,
-    /// What is wrong there.
+    /// The error at that position.
     pub cause: PlanCause,
 }
 

@@ -1,4 +1,4 @@
-//! Why claims wait.
+//! The reasons why claims are pended.
 ghost use Rattle.std.specs.Prelude.{◌≡◌, ◌≤◌, length};
 ghost use Rattle.faults.specs.Reason.{reason_of};
 ghost use Rattle.faults.specs.ReasonText.{column_of, place_of, word_of};
@@ -6,23 +6,25 @@ ghost use Rattle.faults.specs.ReasonText.{column_of, place_of, word_of};
 use crate::fault::Fault;
 use crate::role::Role;
 
-/// Why a claim waits. Tables and columns count from 1.
+/// The reason why a claim is pended. Tables and columns are numbered from 1.
 #[derive(Clone, Copy, Debug, PartialEq, Eq, Drop)]
 pub enum Reason {
-    /// The value of an input is none of its column's allowed values.
+    /// The value of an input is not among the allowed values of its column.
     Outside { table: usize, column: usize },
-    /// No rule of the table matches, and some output has no default.
+    /// No rule of the table matches, and at least one output has no default.
     NoRule { table: usize },
-    /// The rules of the table that match don't agree, or are more than one where one may match.
+    /// The matching rules of the table disagree, or several match where the hit policy allows one.
     Clash { table: usize },
-    /// The number of the table is beyond the number range; table 0 is for the member's accumulators.
+    /// A number of the table is outside the range of numbers. Table 0 means the member's
+    /// accumulators.
     Range { table: usize },
-    /// The role's value isn't what it must be.
+    /// The value for the role is not an amount of money, or not a rate from 0 to 1.
     Term(Role),
 }
 
 impl Reason {
-    /// Why a fault of the tables makes a claim wait; none for want of memory.
+    /// Returns the reason for which a fault of the tables pends a claim, or `None` if memory ran
+    /// out.
     pub fn of(fault: Fault) -> Option<Reason>
         ensures { result ≡ reason_of fault }
     {
@@ -35,7 +37,7 @@ impl Reason {
         }
     }
 
-    /// The word for the kind of the reason, in reports and in a program's lines.
+    /// Returns the word for the kind of the reason, as reports and messages print it.
     pub fn word(self) -> &'static str
         ensures word { result.now ≡ word_of self }
         ensures short { length result.now ≤ 7 }
@@ -49,7 +51,7 @@ impl Reason {
         }
     }
 
-    /// The number of the table, or of the role.
+    /// Returns the number of the table, or of the role.
     pub fn place(self) -> usize
         ensures { result ≡ place_of self }
     {
@@ -62,7 +64,7 @@ impl Reason {
         }
     }
 
-    /// The number of the column, where the reason is in one.
+    /// Returns the number of the column, if the reason is in a column.
     pub fn column(self) -> Option<usize>
         ensures { result ≡ column_of self }
     {

@@ -1,28 +1,28 @@
-//! The number roles of a plan.
+//! The roles of a plan that have numbers as values.
 ghost use Rattle.std.specs.Prelude.{◌≡◌};
 ghost use Rattle.faults.specs.Role.{number_of};
 
-/// A role that gives a number, where a claim's one may not be what it must be.
+/// A role with a number as its value, which can be invalid for a claim.
 #[derive(Clone, Copy, Debug, PartialEq, Eq, Drop)]
 pub enum Role {
-    /// The most that is allowed for the service: money.
+    /// The allowed amount of the service, as money.
     Fee,
-    /// What the member pays before the plan does: money.
+    /// The deductible of the member, as money.
     Deductible,
-    /// What the member pays for each claim: money.
+    /// The copay of the member for each claim, as money.
     Copay,
-    /// The member's part of the rest: from 0 to 1.
+    /// The member's coinsurance, a rate from 0 to 1.
     Rate,
-    /// The most that the member pays in all: money.
+    /// The out-of-pocket maximum of the member, as money.
     OopMax,
-    /// What the family pays before the plan does for all its members: money.
+    /// The deductible of the family, as money.
     FamilyDeductible,
-    /// The most that the family pays in all: money.
+    /// The out-of-pocket maximum of the family, as money.
     FamilyOopMax,
 }
 
 impl Role {
-    /// The role's number in a program's messages, from 2 to 6, or 8 or 9.
+    /// Returns the number that messages print for the role, from 2 to 6, 8 or 9.
     pub fn number(self) -> u8
         ensures { result ≡ number_of self }
     {

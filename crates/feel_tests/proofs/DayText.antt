@@ -1,4 +1,4 @@
--- The date of a day number: the year and the month that have begun by it, and its place in the month.
+-- The date of a day number: its year, its month and its day of the month.
 use Rattle.std.proofs.Common.{◌≡◌, ℕ, zero, suc, ◌+◌, ◌-◌, ◌<◌, ◌≤◌, inl, inr, Bool, true, false, cond, refl, sym, ap, subst, ◌∙◌, arith, ℤ, pos, negsuc, ◌+ℤ◌, ◌-ℤ◌, ◌<ℤ◌, ◌≤ℤ◌, unsigned_abs}
 use Rattle.std.specs.Prelude.{int_le, count_by}
 use Rattle.std.specs.List.{range_with_len}
@@ -72,7 +72,7 @@ before_first y m d h range lt =
     let less = day_count-lt_year y m d (pos 1) 1 1 h (omega arith) lt in
     omega (arith, signed_arith, less, first_is, days_from_civil-day_count y m d, range.0)
 
--- a day of a number in range has a year from 1 on
+-- a day number in range has a year of at least 1
 pub year_low : (y : ℤ) (m d : ℕ) → IsCivilDate y m d → IsDayNumber (days_from_civil y m d) → (year : ℕ) × (y ≡ pos year) × (1 ≤ year) × (year ≤ 9999)
 year_low (pos zero) m d h range = absurd (before_first (pos zero) m d h range (omega (arith, ints)))
 year_low (pos (suc n)) m d h range = (suc n, refl, omega arith, omega (arith, ints, h.0.1))
@@ -98,7 +98,7 @@ year_begun : (year m d k : ℕ) → IsCivilDate (pos year) m d → year ≤ 9999
 year_begun year m d k h most low high =
     test_true (days_from_civil (pos k) 1 1) (days_from_civil (pos year) m d) (days_le (pos k) 1 1 (pos year) m d (year_starts year m d k h most low high))
 
--- a date of the years 1 to 9999 has a number in range
+-- a date of the years 1 to 9999 has a day number in range
 pub number_in : (year m d : ℕ) → IsCivilDate (pos year) m d → 1 ≤ year → year ≤ 9999 → IsDayNumber (days_from_civil (pos year) m d)
 number_in year m d h low most =
     let count = days_from_civil-day_count (pos year) m d in
@@ -149,7 +149,7 @@ place_is year m d h low most =
     rw (year_is year m d h low most, month_is year m d h low most)
     (abs_gap (days_from_civil (pos year) m d) (days_from_civil (pos year) m 1) d (days_from_civil-day (pos year) m d 1 h.2.0 (omega arith)) h.2.0)
 
--- the text of a date is that of its day number
+-- the text of a date is the text of its day number
 pub text_is : (year m d : ℕ) → IsCivilDate (pos year) m d → 1 ≤ year → year ≤ 9999 → day_text (days_from_civil (pos year) m d) ≡ ymd_text year m d
 text_is year m d h low most = rw (year_is year m d h low most, month_is year m d h low most, place_is year m d h low most) refl
 
@@ -159,7 +159,7 @@ civil_text d year e = rw e refl
 pub at_year : (y : ℤ) (m p year : ℕ) → y ≡ pos year → IsCivilDate y m p → IsCivilDate (pos year) m p
 at_year y m p year e h = subst (λ (z : ℤ). IsCivilDate z m p) e h
 
--- what the calendar writes of a date is the text of its day number
+-- the calendar's text of a date is the text of its day number
 pub date_text_is : (d : Date) (number : ℤ) → epoch_day d ≡ number → IsDayNumber number → date_text d ≡ day_text number
 date_text_is d number e range =
     let h = civil d in
@@ -168,7 +168,7 @@ date_text_is d number e range =
     let same : days_from_civil (pos low.0) d.month d.day ≡ number = ap (λ (y : ℤ). days_from_civil y d.month d.day) (sym low.1) ∙ e in
     civil_text d low.0 low.1 ∙ sym (text_is low.0 d.month d.day there low.2 low.3) ∙ ap day_text same
 
--- a date and its day number have one year
+-- a date and its day number have the same year
 dated : (d : Date) (number : ℤ) → epoch_day d ≡ number → IsDayNumber number → (year : ℕ) × (d.year ≡ pos year) × (year_of number ≡ year) × IsInRange 1 9999 year
 dated d number e range =
     let h = civil d in
@@ -176,13 +176,13 @@ dated d number e range =
     let same : days_from_civil (pos year) d.month d.day ≡ number = ap (λ (y : ℤ). days_from_civil y d.month d.day) (sym is) ∙ e in
     (year, is, sym (ap year_of same) ∙ year_is year d.month d.day (at_year d.year d.month d.day year is h) low most, (low, most))
 
--- the year of a date is that of its day number
+-- the year of a date is the year of its day number
 pub date_year_is : (d : Date) (number : ℤ) → epoch_day d ≡ number → IsDayNumber number → d.year ≡ pos (year_of number)
 date_year_is d number e range =
     let (year, of_date, of_number, within) = dated d number e range in
     of_date ∙ ap pos (sym of_number)
 
--- and one of the years 1 to 9999
+-- the year of a date in range is one of the years 1 to 9999
 pub year_within : (d : Date) (number : ℤ) → epoch_day d ≡ number → IsDayNumber number → IsInRange 1 9999 (unsigned_abs d.year)
 year_within d number e range =
     let (year, of_date, of_number, within) = dated d number e range in

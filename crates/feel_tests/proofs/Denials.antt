@@ -1,4 +1,4 @@
--- Where a part of a test can't be read, no test stands there.
+-- If a part of a test cannot be read, the text does not begin with a test.
 use Rattle.std.proofs.Common.{◌≡◌, ℕ, ◌<◌, ℤ, Bool, true, false, List, ◌∷◌, length, Some, None, refl, sym, ap, subst, ◌∙◌, arith}
 use Rattle.std.specs.Prelude.{codes}
 use Rattle.fixpoint.specs.NumberText.{Denotes}
@@ -35,7 +35,7 @@ number_denied kind text digits after b none (Number units) rest h =
     none units (subst (λ (d : List ℕ). Denotes d units) (one_number text h.1 rest digits after h.2 b).0 h.3)
 number_denied kind text digits after b none value rest h = omega (arith, literal_tag kind text value rest (Digits digits) after b h)
 
--- a literal of another kind
+-- the text does not begin with a literal if the literal is of another kind
 pub kind_denied : (kind : Kind) (text : List ℕ) (word : Word) (after : List ℕ) → Begins text word after → (kind ≡ kind_with (word_tag word) → ⊥) → (value : Value) (rest : List ℕ) → IsLiteral kind text value rest → ⊥
 kind_denied kind text word after b wrong value rest h = wrong (literal_kind kind text value rest word after b h)
 
@@ -77,7 +77,7 @@ date_no_open text behind_word b none day rest h =
     let words = one_name text date_word h.behind_word date_word behind_word h.word b in
     none h.behind_open (subst (λ (t : List ℕ). Begins t (Sign symbols.OpenRound) h.behind_open) words.1 h.opens)
 
--- the string of a date, where the word and the bracket are read
+-- the text is not a date if no string follows the word and the parenthesis
 date_string : (text behind_word behind_open : List ℕ) → Begins text (Name date_word) behind_word → Begins behind_word (Sign symbols.OpenRound) behind_open → (day : ℤ) (rest : List ℕ) (h : IsDate text day rest) → Begins behind_open (Quoted h.date) h.behind_string
 date_string text behind_word behind_open b o day rest h =
     let words = one_name text date_word h.behind_word date_word behind_word h.word b in

@@ -1,4 +1,4 @@
--- The first word of a text: that it is the one which the reader splits off, and that there is only one.
+-- The first word of a text: the reader splits off a word, and the text begins with only one.
 use Rattle.std.proofs.Common.{◌≡◌, ℕ, ◌<◌, ◌≤◌, List, [], ◌++◌, length, take, drop, Some, None, refl, sym, ap, subst, ◌∙◌, arith, Bool, true, false, cond, eqb, append_assoc, get_or, ◌≢◌, ◌+◌, ◌∷◌}
 use Rattle.std.specs.Prelude.{find, nat_eq}
 use Rattle.std.specs.List.{starts_with}
@@ -19,7 +19,7 @@ use Rattle.feel_tests.proofs.QuoteFront.{escaped_one}
 use Rattle.feel_tests.proofs.NumberFront.{number_most, number_is, number_some}
 use Rattle.feel_tests.proofs.SymbolFront.{symbol_found, symbol_longest, symbol_none, symbol_one, some_bytes}
 
--- a symbol is no longer than a number at the same place
+-- at one position, a symbol is not longer than a number
 sign_shorter : (s : Symbol) (after : List ℕ) → 0 < number_len (symbol_text s ++ after) → length (symbol_text s) ≤ number_len (symbol_text s ++ after)
 sign_shorter Less after h = h
 sign_shorter AtMost after h = absurd (omega (arith, h))
@@ -33,7 +33,7 @@ sign_shorter Dots after h = absurd (omega (arith, h))
 sign_shorter Comma after h = h
 sign_shorter Dash after h = omega (arith, h)
 
--- no symbol is a number
+-- a symbol is not a number
 sign_no_number : (s : Symbol) → number_len (symbol_text s ++ []) ≡ 0
 sign_no_number Less = refl
 sign_no_number AtMost = refl
@@ -47,7 +47,7 @@ sign_no_number Dots = refl
 sign_no_number Comma = refl
 sign_no_number Dash = refl
 
--- what the first byte tells of the word: a quote, the start of a name, or neither
+-- the class of a word by its first byte: a quote, the start of a name, or neither
 abbrev pub first_class : List ℕ → ℕ
 first_class [] = 0
 first_class (b ∷ bs) = cond (eqb b 34) 1 (cond (is_name_start b) 2 0)
@@ -102,7 +102,7 @@ class_front front after (Digits digits) e = digit_class front after e.1
 class_front front after (Quoted text) e = rw e refl
 class_front front after (Name letters) e = name_class front after e.1
 
--- words at one place are of one class
+-- words at one position have the same class
 same_class : (bytes front rest : List ℕ) (word : Word) (other after : List ℕ) (longer : Word) → bytes ≡ front ++ rest → Spells front word → bytes ≡ other ++ after → Spells other longer → class_of word ≡ class_of longer
 same_class bytes front rest word other after longer e spelled f also =
     sym (class_front front rest word spelled) ∙ ap first_class (sym e ∙ f) ∙ class_front other after longer also
@@ -176,7 +176,7 @@ begins_name text bytes skipped some within =
       longest = λ other after longer e spelled. rw len (over_name bytes other after longer some (skipped ∙ e) spelled);
     }
 
--- a string's bytes and what follows it
+-- the bytes of a string, and the text after it
 string_joined : (text rest : List ℕ) → quoted text ++ rest ≡ 34 ∷ (escaped text ++ 34 ∷ rest)
 string_joined text rest = ap (λ (t : List ℕ). 34 ∷ t) (append_assoc (escaped text) (34 ∷ []) rest)
 
@@ -206,7 +206,7 @@ begins_quoted text inside bytes rest skipped is = record {
   longest = λ other after longer e spelled. over_string inside bytes rest other after longer is (sym skipped ∙ e) spelled;
 }
 
--- behind a quote only a string can stand
+-- after a quote, only a string is possible
 pub quoted_inside : (text inside bytes rest : List ℕ) → skip_white text ≡ 34 ∷ inside → Begins text (Quoted bytes) rest → inside ≡ escaped bytes ++ 34 ∷ rest
 quoted_inside text inside bytes rest skipped b =
     tail_is 34 34 inside (escaped bytes ++ 34 ∷ rest) (sym skipped ∙ b.joined ∙ ap (λ (o : List ℕ). o ++ rest) b.spelled ∙ string_joined bytes rest)
@@ -257,7 +257,7 @@ same_word front one other e f =
     let same : class_of one ≡ class_of other = same_class (front ++ []) front [] one front [] other refl e refl f in
     absurd (omega (arith, same))
 
--- a text begins with one word at most
+-- a text begins with at most one word
 pub begins_one : (text : List ℕ) (one : Word) (after : List ℕ) (other : Word) (behind : List ℕ) → Begins text one after → Begins text other behind → (one ≡ other) × (after ≡ behind)
 begins_one text one after other behind b c =
     let less : length b.front ≤ length c.front = c.longest b.front after one b.joined b.spelled in
@@ -267,7 +267,7 @@ begins_one text one after other behind b c =
     let rests : after ≡ behind = sym (drop_at b.front after (length c.front) len) ∙ ap (λ (t : List ℕ). drop (length c.front) t) (sym b.joined ∙ c.joined) ∙ drop_at c.front behind (length c.front) refl in
     (same_word b.front one other b.spelled (subst (λ (f : List ℕ). Spells f other) (sym fronts) c.spelled), rests)
 
--- a word has a byte
+-- a word is not empty
 some_front : (front : List ℕ) (word : Word) → Spells front word → 0 < length front
 some_front front (Digits digits) spelled = number_some front spelled.1
 some_front front (Sign symbol) spelled = rw spelled (some_bytes symbol)

@@ -1,4 +1,4 @@
--- How many bytes of a text are a name: they are one, and no longer front is.
+-- The length of the leading name: these bytes are a name, and no longer start of the text is one.
 use Rattle.std.proofs.Common.{◌≡◌, ℕ, suc, ◌+◌, ◌<◌, ◌≤◌, Bool, true, false, cond, List, [], ◌∷◌, ◌++◌, length, take, refl, arith}
 use Rattle.std.specs.List.{prefix_len, list_all}
 use Rattle.std.proofs.lemmas.Bool.{and_parts}
@@ -35,7 +35,7 @@ pub name_is : (bytes : List ℕ) → 0 < name_len bytes → IsName (take (name_l
 name_is [] h = absurd (omega arith)
 name_is (b ∷ bs) h = name_is_at b bs (is_name_start b) refl h
 
--- a name isn't empty
+-- a name is not empty
 pub name_some : (other : List ℕ) → IsName other → 0 < length other
 name_some [] h = absurd h
 name_some (b ∷ bs) h = omega arith

@@ -1,4 +1,5 @@
--- How many bytes of a text are a number: they are one, and no longer front is.
+-- The length of the leading number: these bytes are a number text, and no longer start of the text
+-- is one.
 use Rattle.std.proofs.Common.{◌≡◌, ℕ, suc, ◌+◌, ◌<◌, ◌≤◌, Bool, true, false, cond, ◌&&◌, eqb, ltb, List, [], ◌∷◌, ◌++◌, length, take, drop, refl, sym, ap, subst, append_assoc, arith, inl, inr}
 use Rattle.std.specs.Char.{digit_value, is_ascii_digit}
 use Rattle.std.specs.Fmt.{sign_text}
@@ -13,7 +14,7 @@ use Rattle.std.proofs.lemmas.List.Folds.{length-prefix_len}
 use Rattle.fixpoint.specs.NumberText.{IsNumberText, dot_text}
 use Rattle.feel_tests.specs.Fronts.{digits_len, fraction_len, unsigned_len, number_len}
 
--- a digit by its value and by its code
+-- a byte with the value of a digit has the code of a digit
 pub digit_passes : (b : ℕ) → digit_value b < 10 → is_ascii_digit b ≡ true
 digit_passes b h =
     let range = digit_from_value b h in
@@ -27,14 +28,14 @@ passes_digit b e =
     let high : b ≤ 57 = grind (arith, nat_tests) in
     omega (arith, digit_value_digit b (low, high))
 
--- digits in front are counted, and then those behind them
+-- leading digits are counted first, and then the digits after them
 pub digits_len-append : (ds ys : List ℕ) → AllDigits 10 ds → digits_len (ds ++ ys) ≡ length ds + digits_len ys
 digits_len-append [] ys h = omega arith
 digits_len-append (d ∷ ds) ys h =
     let more = digits_len-append ds ys h.1 in
     rw (digit_passes d h.0) (omega arith)
 
--- the bytes that are counted are digits
+-- the counted bytes are digits
 digits_take_at : (b : ℕ) (bs : List ℕ) (t : Bool) → is_ascii_digit b ≡ t → AllDigits 10 (take (digits_len bs) bs) → AllDigits 10 (take (cond t (1 + digits_len bs) 0) (b ∷ bs))
 digits_take_at b bs true e h = let k : 1 + digits_len bs ≡ suc (digits_len bs) = omega arith in rw k (passes_digit b e, h)
 digits_take_at b bs false e h = tt
@@ -43,7 +44,7 @@ pub digits_take : (bs : List ℕ) → AllDigits 10 (take (digits_len bs) bs)
 digits_take [] = tt
 digits_take (b ∷ bs) = digits_take_at b bs (is_ascii_digit b) refl (digits_take bs)
 
--- ---- no front that is a number is longer
+-- ---- no longer start of the text is a number
 
 unsigned_len_is : (bytes rest : List ℕ) (w f : ℕ) → digits_len bytes ≡ w → drop w bytes ≡ rest → fraction_len rest ≡ f → unsigned_len bytes ≡ w + f
 unsigned_len_is bytes rest w f whole behind fraction = rw (whole, behind, fraction) refl
@@ -97,11 +98,11 @@ number_some_at : (negative : Bool) (rest : List ℕ) → 0 < length rest → 0 <
 number_some_at true rest h = omega arith
 number_some_at false rest h = h
 
--- a number text isn't empty
+-- a number text is not empty
 pub number_some : (other : List ℕ) → IsNumberText other → 0 < length other
 number_some other h = subst (λ (o : List ℕ). 0 < length o) (sym h.spelled) (number_some_at h.negative (h.whole ++ dot_text h.fraction) (unsigned_some h.whole h.fraction h.has_digit))
 
--- ---- what is counted is a number
+-- ---- the counted bytes are a number
 
 record FractionOf (n : ℕ) (rest : List ℕ) : Type 0 where
   fraction : List ℕ

@@ -1,4 +1,4 @@
--- Lists and whole cells: a text spells one at most, and where a part can't be read, none.
+-- Lists and whole cells: a text denotes at most one, and none if a part of it cannot be read.
 use Rattle.std.proofs.Common.{◌≡◌, ℕ, ◌+◌, ◌<◌, List, [], ◌∷◌, ◌++◌, length, refl, sym, ap, subst, ◌∙◌, ◌⊎◌, inl, inr, arith}
 use Rattle.fixpoint.specs.NumberText.{DenotesAtMostOne}
 use Rattle.feel_tests.specs.Words.{Word, Sign, Name, Begins, IsBlank}
@@ -22,7 +22,7 @@ use Rattle.feel_tests.proofs.Denials.{sign_denied}
 abbrev Ends : List ℕ → Type 0
 Ends rest = (after : List ℕ) → ¬ Begins rest (Sign symbols.Comma) after
 
--- no word begins a blank text
+-- a blank text does not begin with a word
 pub blank_no_word : (text : List ℕ) (word : Word) (rest : List ℕ) → IsBlank text → Begins text word rest → ⊥
 blank_no_word text word rest blank b = blank_no_front b.front rest word (sym b.joined ∙ blank) b.spelled
 
@@ -34,7 +34,7 @@ closed_ends text rest c after b = let e : symbols.CloseRound ≡ symbols.Comma =
 
 -- ---- lists
 
--- a list goes on behind the comma that follows its first tests
+-- a list continues after the comma that follows its first tests
 pub record GoesOn (kind : Kind) (behind_comma : List ℕ) (front : ℕ) (tests : List Test) (end : List ℕ) : Type 0 where
   pub more : List Test
   pub count : length tests ≡ front + length more
@@ -44,7 +44,7 @@ test_ends : (kind : Kind) (text : List ℕ) (test : Test) (rest behind_comma : L
 test_ends kind text test rest behind_comma other end h b k ends =
     ends behind_comma (subst (λ (t : List ℕ). Begins t (Sign symbols.Comma) behind_comma) (test_rest kind text test rest other end h k) b)
 
--- the texts behind the first comma are one
+-- the text after the first comma is unique
 comma_one : (kind : Kind) (text : List ℕ) (test : Test) (rest behind : List ℕ) (other : Test) (after follow : List ℕ) → IsTest kind text test rest → Begins rest (Sign symbols.Comma) behind → IsTest kind text other after → Begins after (Sign symbols.Comma) follow → behind ≡ follow
 comma_one kind text test rest behind other after follow h b k c =
     (one_sign rest symbols.Comma behind symbols.Comma follow b (subst (λ (t : List ℕ). Begins t (Sign symbols.Comma) follow) (sym (test_rest kind text test rest other after h k)) c)).1
@@ -64,7 +64,7 @@ list_longer kind text (t ∷ n ∷ more) rest behind_comma (u ∷ v ∷ vs) end 
     let count = on.count in
     record { more = on.more; count = omega (arith, count); list = on.list }
 
--- one more test behind the comma
+-- a list with one more test after the comma
 pub list_more : (kind : Kind) (text : List ℕ) (tests : List Test) (rest behind_comma : List ℕ) (test : Test) (end : List ℕ) → IsList kind text tests rest → Begins rest (Sign symbols.Comma) behind_comma → IsTest kind behind_comma test end → IsList kind text (tests ++ test ∷ []) end
 list_more kind text [] rest behind_comma test end h b k = absurd h
 list_more kind text (t ∷ []) rest behind_comma test end h b k = (rest, behind_comma, h, b, k)
@@ -95,7 +95,7 @@ list_too_long kind text tests rest behind_comma l b full others end h =
     let few = h.1 in
     omega (arith, some, count, few, full)
 
--- what follows a list
+-- the text after a list is unique
 pub list_rest : (kind : Kind) (text : List ℕ) (tests : List Test) (rest : List ℕ) (others : List Test) (end : List ℕ) → IsList kind text tests rest → Ends rest → IsList kind text others end → Ends end → rest ≡ end
 list_rest kind text [] rest others end h stops k ends = absurd h
 list_rest kind text (t ∷ ts) rest [] end h stops k ends = absurd k
@@ -106,7 +106,7 @@ list_rest kind text (t ∷ n ∷ more) rest (u ∷ v ∷ vs) end h stops k ends 
     let same = comma_one kind text t h.0 h.1 u k.0 k.1 h.2 h.3 k.2 k.3 in
     list_rest kind h.1 (n ∷ more) rest (v ∷ vs) end h.4 stops (subst (λ (x : List ℕ). IsList kind x (v ∷ vs) end) (sym same) k.4) ends
 
--- the tests of a list
+-- the tests of a list are unique
 list_value : DenotesAtMostOne → (kind : Kind) (text : List ℕ) (tests : List Test) (rest : List ℕ) (others : List Test) (end : List ℕ) → IsList kind text tests rest → Ends rest → IsList kind text others end → Ends end → tests ≡ others
 list_value law kind text [] rest others end h stops k ends = absurd h
 list_value law kind text (t ∷ ts) rest [] end h stops k ends = absurd k
@@ -150,7 +150,7 @@ no_dash_not kind text tests (inr is) h = sign_name text symbols.Dash is.0 not_wo
 no_list_not : (kind : Kind) (text : List ℕ) (tests : List Test) (rest : List ℕ) (others : List Test) → IsList kind text tests rest → IsNegation kind text others → ⊥
 no_list_not kind text tests rest others h k = list_first kind text tests rest ⊥ h (not_no_test kind text k.behind_word k.word)
 
--- the texts inside the brackets are one
+-- the text in the parentheses is unique
 inside_one : (text word inner words opens : List ℕ) → Begins text (Name not_word) word → Begins word (Sign symbols.OpenRound) inner → Begins text (Name not_word) words → Begins words (Sign symbols.OpenRound) opens → inner ≡ opens
 inside_one text word inner words opens b o c p =
     let same = (one_name text not_word word not_word words b c).1 in
@@ -171,7 +171,7 @@ cell_one law kind text (NoneOf tests) (NoneOf others) h k =
     let there = subst (λ (t : List ℕ). IsList kind t others k.behind_list) (sym same) k.list in
     ap NoneOf (list_value law kind h.behind_open tests h.behind_list others k.behind_list h.list (closed_ends h.behind_list h.rest h.closes) there (closed_ends k.behind_list k.rest k.closes))
 
--- ---- where a part of a cell can't be read
+-- ---- a part of a cell that cannot be read
 
 pub dash_trailing : (kind : Kind) (text after : List ℕ) (f : Refusal) → ¬ IsBlank text → Begins text (Sign symbols.Dash) after → ¬ IsBlank after → Denies (SpellsCell kind text) f
 dash_trailing kind text after f some b more memory Dash (inl blank) = some blank
@@ -193,7 +193,7 @@ list_trailing kind text tests rest f some dash negated l more memory (OneOf othe
     more (subst (λ (r : List ℕ). IsBlank r) (list_rest kind text others h.0 tests rest h.1 (blank_ends h.0 h.3) l.0 l.2) h.3)
 list_trailing kind text tests rest f some dash negated l more memory (NoneOf others) h = negated h.behind_word h.word
 
--- behind `not` only a negation can stand
+-- after `not`, only a negation is possible
 not_denied : (kind : Kind) (text behind_word : List ℕ) → Begins text (Name not_word) behind_word → ((tests : List Test) → ¬ IsNegation kind text tests) → (cell : Cell) → SpellsCell kind text cell → ⊥
 not_denied kind text behind_word b none Dash (inl blank) = blank_no_word text (Name not_word) behind_word blank b
 not_denied kind text behind_word b none Dash (inr is) = sign_name text symbols.Dash is.0 not_word behind_word is.1 b
@@ -208,7 +208,7 @@ pub not_no_list : (kind : Kind) (text behind_word behind_open : List ℕ) (f : R
 not_no_list kind text behind_word behind_open f b o d memory =
     not_denied kind text behind_word b (λ tests h. d memory tests h.behind_list (subst (λ (t : List ℕ). IsList kind t tests h.behind_list) (inside_one text h.behind_word h.behind_open behind_word behind_open h.word h.opens b o) h.list, h.few, closed_ends h.behind_list h.rest h.closes))
 
--- what follows the list inside the brackets
+-- the text after the list in the parentheses
 list_end : (kind : Kind) (text behind_word behind_open : List ℕ) (tests : List Test) (behind_list : List ℕ) (others : List Test) → Begins text (Name not_word) behind_word → Begins behind_word (Sign symbols.OpenRound) behind_open → IsWholeList kind behind_open tests behind_list → (h : IsNegation kind text others) → h.behind_list ≡ behind_list
 list_end kind text behind_word behind_open tests behind_list others b o l h =
     let there = subst (λ (t : List ℕ). IsList kind t others h.behind_list) (inside_one text h.behind_word h.behind_open behind_word behind_open h.word h.opens b o) h.list in

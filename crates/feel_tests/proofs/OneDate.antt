@@ -1,4 +1,4 @@
--- A text is the date of one day at most.
+-- A text is the date of at most one day.
 use Rattle.std.proofs.Common.{◌≡◌, ℕ, ◌+◌, ◌*◌, ◌/◌, ◌%◌, ◌<◌, ◌≤◌, ℤ, pos, List, length, get_or, Option, Some, None, refl, sym, ap, subst, ◌∙◌, arith}
 use Rattle.std.specs.Prelude.{IfSome, IfNone, SomeIff}
 use Rattle.std.proofs.lemmas.Int.{ints}
@@ -18,7 +18,7 @@ hundred_one a b e f = omega arith
 read_at : (xs ys : List ℕ) (k : ℕ) → xs ≡ ys → get_or xs k 0 ≡ get_or ys k 0
 read_at xs ys k e = ap (λ (t : List ℕ). get_or t k 0) e
 
--- a text has one year, month and day
+-- a text has at most one year, month and day
 pub ymd_one : (year month place years months places : ℕ) → ymd_text year month place ≡ ymd_text years months places → (year ≡ years) × (month ≡ months) × (place ≡ places)
 ymd_one year month place years months places e =
     let xs = ymd_text year month place in
@@ -90,12 +90,12 @@ date_found text year month place y m p number e low high years months places h i
     there : (y : ℤ) (m p : ℕ) (years : ℤ) (months places : ℕ) → y ≡ years → m ≡ months → p ≡ places → IsCivilDate y m p → IsCivilDate years months places
     there y m p years months places e f g h = rw (← e, ← f, ← g) h
 
--- an answer of a day number
+-- a day number in range is found
 pub found_day : (text : List ℕ) (found : Option ℤ) (number : ℤ) → SomeIff found (IsDayNumber number) number → IsDateText text number → IfSome found (IsDateText text)
 found_day text None number h is = tt
 found_day text (Some day) number h is = subst (λ (n : ℤ). IsDateText text n) (sym h.1) is
 
--- a number of no day
+-- a day number out of range is not found
 pub lost_day : (text : List ℕ) (year month place : ℕ) (y : ℤ) (m p : ℕ) (number : ℤ) → text ≡ ymd_text year month place → y ≡ pos year → pos m ≡ pos month → pos p ≡ pos place → number ≡ days_from_civil y m p → ¬ IsDayNumber number → (day : ℤ) → ¬ IsDateText text day
 lost_day text year month place y m p number e years months places is none day h =
     let one = ymd_one year month place h.year h.month h.place (sym e ∙ h.spelled) in

@@ -1,4 +1,4 @@
--- A field, as a whole, spells one value of a kind at most.
+-- A whole field denotes at most one value of a kind.
 use Rattle.std.proofs.Common.{◌≡◌, ℕ, Bool, true, false, List, length, refl, sym, ap, ◌∙◌, arith}
 use Rattle.fixpoint.specs.NumberText.{DenotesAtMostOne}
 use Rattle.feel_tests.specs.Plain.{SpellsPlain}

@@ -1,4 +1,4 @@
--- A text begins with one literal at most, and with one test.
+-- A text begins with at most one literal, and with at most one test.
 use Rattle.std.proofs.Common.{◌≡◌, ℕ, ℤ, ◌<◌, ◌≤◌, Bool, true, false, cond, eqb, List, Some, None, refl, sym, ap, subst, ◌∙◌, arith, length, ◌||◌}
 use Rattle.std.specs.Prelude.{codes}
 use Rattle.std.specs.Str.{bytes_eq}
@@ -25,7 +25,7 @@ use Rattle.feel_tests.proofs.OneDate.{date_one}
 some_is : {X : Type 0} (x y : X) → Some x ≡ Some y → x ≡ y
 some_is x y e = cc
 
--- which kind of value a word begins: a number 0, a text 1, a flag 2, a day 3
+-- the kind of value that a word begins: 0 a number, 1 a text, 2 a flag, 3 a day
 abbrev pub word_tag : Word → ℕ
 word_tag (Digits digits) = 0
 word_tag (Quoted bytes) = 1
@@ -66,7 +66,7 @@ kind_at kind text (Text bytes) rest h = h.0
 kind_at kind text (Flag flag) rest h = h.0
 kind_at kind text (Day day) rest h = h.0
 
--- the kind of a literal by the word in front
+-- the first word of a literal determines its kind
 pub literal_kind : (kind : Kind) (text : List ℕ) (value : Value) (rest : List ℕ) (word : Word) (after : List ℕ) → Begins text word after → IsLiteral kind text value rest → kind ≡ kind_with (word_tag word)
 literal_kind kind text value rest word after b h = kind_at kind text value rest h ∙ ap kind_with (sym (literal_tag kind text value rest word after b h))
 
@@ -83,7 +83,7 @@ literal_no_word kind text value rest word after more b h = omega (arith, literal
 pub literal_no_sign : (kind : Kind) (text : List ℕ) (value : Value) (rest : List ℕ) (s : Symbol) (after : List ℕ) → Begins text (Sign s) after → IsLiteral kind text value rest → ⊥
 literal_no_sign kind text value rest s after b h = literal_no_word kind text value rest (Sign s) after (omega arith) b h
 
--- the date in a text, and what follows it
+-- the date of a text and the text after it are unique
 pub one_date : (text : List ℕ) (day other : ℤ) (after behind : List ℕ) (h : IsDate text day after) (k : IsDate text other behind) → (h.date ≡ k.date) × (after ≡ behind)
 one_date text day other after behind h k =
     let words = one_name text date_word h.behind_word date_word k.behind_word h.word k.word in
@@ -104,7 +104,7 @@ rest_at kind text (Flag a) after (Flag b) behind e h k = (one_name text (flag_te
 rest_at kind text (Day a) after (Day b) behind e h k = (one_date text a b after behind h.1 k.1).1
 rest_at kind text one after other behind e h k = absurd (omega (arith, e))
 
--- what follows a literal
+-- the text after a literal is unique
 pub literal_rest : (kind : Kind) (text : List ℕ) (one : Value) (after : List ℕ) (other : Value) (behind : List ℕ) → IsLiteral kind text one after → IsLiteral kind text other behind → after ≡ behind
 literal_rest kind text one after other behind h k = rest_at kind text one after other behind (same_tags kind text one after other behind h k) h k
 
@@ -125,18 +125,18 @@ value_at law kind text (Day a) after (Day b) behind e h k =
     ap Day (date_one k.1.date a b (subst (λ (t : List ℕ). IsDateText t a) same h.1.is_date) k.1.is_date)
 value_at law kind text one after other behind e h k = absurd (omega (arith, e))
 
--- the value of a literal
+-- the value of a literal is unique
 pub literal_value : DenotesAtMostOne → (kind : Kind) (text : List ℕ) (one : Value) (after : List ℕ) (other : Value) (behind : List ℕ) → IsLiteral kind text one after → IsLiteral kind text other behind → one ≡ other
 literal_value law kind text one after other behind h k = value_at law kind text one after other behind (same_tags kind text one after other behind h k) h k
 
--- no operator is a bracket
+-- an operator is not a bracket
 pub no_bracket : (op : Op) (s : Symbol) (low_in : Bool) → op_symbol op ≡ s → start_in s ≡ Some low_in → ⊥
 no_bracket Less s low_in e h = let n : start_in s ≡ None = subst (λ z. start_in z ≡ None) e refl in cc
 no_bracket AtMost s low_in e h = let n : start_in s ≡ None = subst (λ z. start_in z ≡ None) e refl in cc
 no_bracket More s low_in e h = let n : start_in s ≡ None = subst (λ z. start_in z ≡ None) e refl in cc
 no_bracket AtLeast s low_in e h = let n : start_in s ≡ None = subst (λ z. start_in z ≡ None) e refl in cc
 
--- what follows a span
+-- the text after a span is unique
 pub span_rest : (kind : Kind) (text : List ℕ) (low : Value) (high : Value) (high_in : Bool) (after : List ℕ) (from : Value) (to : Value) (to_in : Bool) (behind : List ℕ) → IsSpan kind text low high high_in after → IsSpan kind text from to to_in behind → after ≡ behind
 span_rest kind text low high high_in after from to to_in behind h k =
     let lows = literal_rest kind text low h.behind_low from k.behind_low h.has_low k.has_low in
@@ -144,7 +144,7 @@ span_rest kind text low high high_in after from to to_in behind h k =
     let highs = literal_rest kind h.behind_dots high h.behind_high to k.behind_high h.has_high (subst (λ (t : List ℕ). IsLiteral kind t to k.behind_high) (sym dots.1) k.has_high) in
     (one_sign h.behind_high h.bracket after k.bracket behind h.closes (subst (λ (t : List ℕ). Begins t (Sign k.bracket) behind) (sym highs) k.closes)).1
 
--- what follows a test
+-- the text after a test is unique
 pub test_rest : (kind : Kind) (text : List ℕ) (one : Test) (after : List ℕ) (other : Test) (behind : List ℕ) → IsTest kind text one after → IsTest kind text other behind → after ≡ behind
 test_rest kind text (Equal a) after (Equal b) behind h k = literal_rest kind text a after b behind h k
 test_rest kind text (Equal a) after (Compare op b) behind h k = absurd (literal_no_sign kind text a after (op_symbol op) k.literal k.operator h)
@@ -162,7 +162,7 @@ test_rest kind text (Between low low_in high high_in) after (Between from from_i
     let one = one_sign text h.bracket h.span k.bracket k.span h.opens k.opens in
     span_rest kind h.span low high high_in after from to to_in behind h.has_span (subst (λ (t : List ℕ). IsSpan kind t from to to_in behind) (sym one.1) k.has_span)
 
--- an operator is that of one comparison
+-- an operator belongs to one comparison
 pub op_one : (op po : Op) → op_symbol op ≡ op_symbol po → op ≡ po
 op_one op po e = some_is op po (sym (op_back op) ∙ ap op_of e ∙ op_back po)
   where
@@ -181,7 +181,7 @@ span_value law kind text low high high_in after from to to_in behind h k =
     let ends = one_sign h.behind_high h.bracket after k.bracket behind h.closes (subst (λ (t : List ℕ). Begins t (Sign k.bracket) behind) (sym highs) k.closes) in
     (literal_value law kind text low h.behind_low from k.behind_low h.has_low k.has_low, literal_value law kind h.behind_dots high h.behind_high to k.behind_high h.has_high to_there, some_is high_in to_in (sym h.end_is ∙ ap end_in ends.0 ∙ k.end_is))
 
--- a text begins with one test at most
+-- a text begins with at most one test
 pub test_value : DenotesAtMostOne → (kind : Kind) (text : List ℕ) (one : Test) (after : List ℕ) (other : Test) (behind : List ℕ) → IsTest kind text one after → IsTest kind text other behind → one ≡ other
 test_value law kind text (Equal a) after (Equal b) behind h k = ap Equal (literal_value law kind text a after b behind h k)
 test_value law kind text (Equal a) after (Compare op b) behind h k = absurd (literal_no_sign kind text a after (op_symbol op) k.literal k.operator h)

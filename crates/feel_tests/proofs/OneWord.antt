@@ -1,4 +1,4 @@
--- Words of a kind at one place are the same, and so is what follows them.
+-- Two words of the same sort at one position are equal, and so is the text after them.
 use Rattle.std.proofs.Common.{◌≡◌, ℕ, List}
 use Rattle.feel_tests.specs.Words.{Sign, Digits, Quoted, Name, Begins}
 use Rattle.feel_tests.specs.declared.symbol.Symbol.{Symbol}
@@ -16,42 +16,42 @@ quoted_is s t e = cc
 name_is : (s t : List ℕ) → Name s ≡ Name t → s ≡ t
 name_is s t e = cc
 
--- the symbol in front, and what follows it
+-- the first symbol and the text after it are unique
 pub one_sign : (text : List ℕ) (s : Symbol) (after : List ℕ) (t : Symbol) (behind : List ℕ) → Begins text (Sign s) after → Begins text (Sign t) behind → (s ≡ t) × (after ≡ behind)
 one_sign text s after t behind b c = let one = begins_one text (Sign s) after (Sign t) behind b c in (sign_is s t one.0, one.1)
 
--- the number in front
+-- the first number and the text after it are unique
 pub one_number : (text digits after others behind : List ℕ) → Begins text (Digits digits) after → Begins text (Digits others) behind → (digits ≡ others) × (after ≡ behind)
 one_number text digits after others behind b c = let one = begins_one text (Digits digits) after (Digits others) behind b c in (digits_is digits others one.0, one.1)
 
--- the string in front
+-- the first string and the text after it are unique
 pub one_string : (text bytes after others behind : List ℕ) → Begins text (Quoted bytes) after → Begins text (Quoted others) behind → (bytes ≡ others) × (after ≡ behind)
 one_string text bytes after others behind b c = let one = begins_one text (Quoted bytes) after (Quoted others) behind b c in (quoted_is bytes others one.0, one.1)
 
--- the name in front
+-- the first name and the text after it are unique
 pub one_name : (text letters after others behind : List ℕ) → Begins text (Name letters) after → Begins text (Name others) behind → (letters ≡ others) × (after ≡ behind)
 one_name text letters after others behind b c = let one = begins_one text (Name letters) after (Name others) behind b c in (name_is letters others one.0, one.1)
 
--- no symbol is a number
+-- a symbol is not a number
 pub sign_number : (text : List ℕ) (s : Symbol) (after digits behind : List ℕ) → Begins text (Sign s) after → Begins text (Digits digits) behind → ⊥
 sign_number text s after digits behind b c = let one : Sign s ≡ Digits digits = (begins_one text (Sign s) after (Digits digits) behind b c).0 in cc
 
--- no symbol is a string
+-- a symbol is not a string
 pub sign_string : (text : List ℕ) (s : Symbol) (after bytes behind : List ℕ) → Begins text (Sign s) after → Begins text (Quoted bytes) behind → ⊥
 sign_string text s after bytes behind b c = let one : Sign s ≡ Quoted bytes = (begins_one text (Sign s) after (Quoted bytes) behind b c).0 in cc
 
--- no symbol is a name
+-- a symbol is not a name
 pub sign_name : (text : List ℕ) (s : Symbol) (after letters behind : List ℕ) → Begins text (Sign s) after → Begins text (Name letters) behind → ⊥
 sign_name text s after letters behind b c = let one : Sign s ≡ Name letters = (begins_one text (Sign s) after (Name letters) behind b c).0 in cc
 
--- no number is a string
+-- a number is not a string
 pub number_string : (text digits after bytes behind : List ℕ) → Begins text (Digits digits) after → Begins text (Quoted bytes) behind → ⊥
 number_string text digits after bytes behind b c = let one : Digits digits ≡ Quoted bytes = (begins_one text (Digits digits) after (Quoted bytes) behind b c).0 in cc
 
--- no number is a name
+-- a number is not a name
 pub number_name : (text digits after letters behind : List ℕ) → Begins text (Digits digits) after → Begins text (Name letters) behind → ⊥
 number_name text digits after letters behind b c = let one : Digits digits ≡ Name letters = (begins_one text (Digits digits) after (Name letters) behind b c).0 in cc
 
--- no string is a name
+-- a string is not a name
 pub string_name : (text bytes after letters behind : List ℕ) → Begins text (Quoted bytes) after → Begins text (Name letters) behind → ⊥
 string_name text bytes after letters behind b c = let one : Quoted bytes ≡ Name letters = (begins_one text (Quoted bytes) after (Name letters) behind b c).0 in cc

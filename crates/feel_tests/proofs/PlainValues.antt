@@ -1,4 +1,4 @@
--- Where a field is no plain value of its kind.
+-- Fields that are not a plain value of their kind.
 use Rattle.std.proofs.Common.{◌≡◌, ℕ, ◌<◌, ℤ, true, false, List, length, arith}
 use Rattle.std.specs.Prelude.{codes}
 use Rattle.fixpoint.specs.NumberText.{Denotes}

@@ -1,4 +1,4 @@
--- Strings: the bytes between quotes stand for one text, and what follows the string is one.
+-- Strings: the bytes between quotes denote one text, and the text after the string is unique.
 use Rattle.std.proofs.Common.{◌≡◌, ℕ, true, false, ◌||◌, eqb, List, [], ◌∷◌, ◌++◌, refl, sym, ap, subst, ◌∙◌, append_assoc, ◌⊎◌, inl, inr, arith, suc, ◌<◌, ◌≢◌, length, drop, get_or}
 use Rattle.std.proofs.lemmas.Bool.{or_cases, or_from, or_left, or_right, eqb-true, eq-eqb, ne_eqb, cases_Bool, false≢true}
 use Rattle.std.proofs.lemmas.List.{append-nil}
@@ -7,7 +7,7 @@ use Rattle.feel_tests.specs.Words.{escaped_byte, escaped}
 heads : (a b : ℕ) (xs ys : List ℕ) → a ∷ xs ≡ b ∷ ys → (a ≡ b) × (xs ≡ ys)
 heads a b xs ys e = (cc, cc)
 
--- a byte that is written as it is, or behind a backslash
+-- a byte that is written plainly, or after a backslash
 pub data Written (b : ℕ) : Type 0 where
   bare : (eqb b 34 || eqb b 92) ≡ false → Written b
   slashed : (eqb b 34 || eqb b 92) ≡ true → Written b
@@ -27,7 +27,7 @@ bare_no_quote b e is = let x : (eqb 34 34 || eqb 34 92) ≡ false = subst (λ (z
 bare_no_backslash : (b : ℕ) → (eqb b 34 || eqb b 92) ≡ false → b ≡ 92 → ⊥
 bare_no_backslash b e is = let x : (eqb 92 34 || eqb 92 92) ≡ false = subst (λ (z : ℕ). (eqb z 34 || eqb z 92) ≡ false) is e in false≢true (sym x)
 
--- the first byte of two texts is the same, and what is behind it
+-- two texts with equal encodings have the same first byte and the same rest
 byte_one : (x y : ℕ) (xs ys : List ℕ) → Written x → Written y → escaped_byte x ++ xs ≡ escaped_byte y ++ ys → (x ≡ y) × (xs ≡ ys)
 byte_one x y xs ys (bare p) (bare q) e =
     let f : x ∷ xs ≡ y ∷ ys = sym (ap (λ (t : List ℕ). t ++ xs) (byte_bare x p)) ∙ e ∙ ap (λ (t : List ℕ). t ++ ys) (byte_bare y q) in
@@ -45,7 +45,7 @@ byte_one x y xs ys (slashed p) (slashed q) e =
 two_marks : (a : ℕ) → a ≡ 92 → a ≡ 34 → ⊥
 two_marks a e f = omega arith
 
--- no byte begins with the closing quote
+-- an encoded byte does not begin with the closing quote
 pub byte_no_quote : (x : ℕ) (xs rest : List ℕ) → Written x → escaped_byte x ++ xs ≡ 34 ∷ rest → ⊥
 byte_no_quote x xs rest (bare p) e =
     let f : x ∷ xs ≡ 34 ∷ rest = sym (ap (λ (t : List ℕ). t ++ xs) (byte_bare x p)) ∙ e in
@@ -54,7 +54,7 @@ byte_no_quote x xs rest (slashed p) e =
     let f : 92 ∷ x ∷ xs ≡ 34 ∷ rest = sym (ap (λ (t : List ℕ). t ++ xs) (byte_behind x p)) ∙ e in
     two_marks 92 refl (heads 92 34 (x ∷ xs) rest f).0
 
--- one text stands between the quotes
+-- the bytes between the quotes denote one text
 pub escaped_one : (xs ys after behind : List ℕ) → escaped xs ++ 34 ∷ after ≡ escaped ys ++ 34 ∷ behind → (xs ≡ ys) × (after ≡ behind)
 escaped_one [] [] after behind e = (refl, (heads 34 34 after behind e).1)
 escaped_one [] (y ∷ ys) after behind e =
@@ -70,7 +70,7 @@ escaped_one (x ∷ xs) (y ∷ ys) after behind e =
     ap2 : {a b : ℕ} {s t : List ℕ} → a ≡ b → s ≡ t → a ∷ s ≡ b ∷ t
     ap2 p q = cc
 
--- what was read so far is the front of what stands there
+-- the bytes read so far are a prefix of the text between the quotes
 pub escaped_front : (xs ys rest behind : List ℕ) → escaped xs ++ rest ≡ escaped ys ++ 34 ∷ behind → (zs : List ℕ) × (rest ≡ escaped zs ++ 34 ∷ behind)
 escaped_front [] ys rest behind e = (ys, e)
 escaped_front (x ∷ xs) [] rest behind e =
@@ -80,7 +80,7 @@ escaped_front (x ∷ xs) (y ∷ ys) rest behind e =
     let one = byte_one x y (escaped xs ++ rest) (escaped ys ++ 34 ∷ behind) (written x) (written y) f in
     escaped_front xs ys rest behind one.1
 
--- the next byte of a text between quotes is none that stands there
+-- if the rest does not begin with a byte of a string, the quotes contain no text
 pub front_no_piece : (bytes ys rest behind : List ℕ) → ((b : ℕ) (after : List ℕ) → ¬ (rest ≡ escaped_byte b ++ after)) → ((after : List ℕ) → ¬ (rest ≡ 34 ∷ after)) → escaped bytes ++ rest ≡ escaped ys ++ 34 ∷ behind → ⊥
 front_no_piece bytes ys rest behind no_byte no_quote e =
     let front = escaped_front bytes ys rest behind e in
@@ -90,7 +90,7 @@ front_no_piece bytes ys rest behind no_byte no_quote e =
     no_piece rest [] behind no_byte no_quote e = no_quote behind e
     no_piece rest (z ∷ zs) behind no_byte no_quote e = no_byte z (escaped zs ++ 34 ∷ behind) (e ∙ append_assoc (escaped_byte z) (escaped zs) (34 ∷ behind))
 
--- one more byte was read
+-- the bytes read so far, extended by one byte
 pub escaped_more : (bytes : List ℕ) (b : ℕ) (behind rest inside : List ℕ) → inside ≡ escaped bytes ++ rest → rest ≡ escaped_byte b ++ behind → inside ≡ escaped (bytes ++ b ∷ []) ++ behind
 escaped_more bytes b behind rest inside e f =
     e ∙ ap (λ (t : List ℕ). escaped bytes ++ t) f ∙ sym (append_assoc (escaped bytes) (escaped_byte b) behind) ∙ ap (λ (t : List ℕ). t ++ behind) (escaped_push bytes b)
@@ -138,7 +138,7 @@ empty_no_quote rest none after e = let l : length rest ≡ suc (length after) = 
 pub slash_no_quote : (rest : List ℕ) → get_or rest 0 0 ≡ 92 → (after : List ℕ) → ¬ (rest ≡ 34 ∷ after)
 slash_no_quote rest s after e = two_marks (get_or rest 0 0) s (ap (λ (t : List ℕ). get_or t 0 0) e)
 
--- a backslash that no quote and no backslash follows
+-- a backslash that neither a quote nor a backslash follows
 pub slash_no_byte : (rest : List ℕ) → get_or rest 0 0 ≡ 92 → get_or rest 1 0 ≢ 34 → get_or rest 1 0 ≢ 92 → (b : ℕ) (after : List ℕ) → ¬ (rest ≡ escaped_byte b ++ after)
 slash_no_byte rest s q t b after e = at_byte rest s q t b after e (written b)
   where

@@ -1,4 +1,4 @@
--- Which symbol a text begins with: the longest of those that it does.
+-- The symbol at the start of a text: the longest that the text begins with.
 use Rattle.std.proofs.Common.{◌≡◌, ℕ, ◌≤◌, Bool, true, false, cond, List, [], ◌∷◌, ◌++◌, length, drop, Option, Some, None, refl, sym, ap, subst, ◌∙◌, ◌⊎◌, inl, inr, arith}
 use Rattle.std.specs.Prelude.{find, nat_eq}
 use Rattle.std.specs.List.{starts_with, AllByRecursion}
@@ -39,7 +39,7 @@ symbol_found bytes symbol e =
     let passed = find_passes (λ s. starts_with nat_eq bytes (symbol_text s)) symbols symbol e in
     (starts_is Decides-eqb bytes (symbol_text symbol) (starts_with nat_eq bytes (symbol_text symbol)) refl).0 passed
 
--- a symbol has a byte
+-- a symbol is not empty
 pub some_bytes : (symbol : Symbol) → 1 ≤ length (symbol_text symbol)
 some_bytes Less = omega arith
 some_bytes AtMost = omega arith
@@ -113,6 +113,6 @@ symbol_back Dots = refl
 symbol_back Comma = refl
 symbol_back Dash = refl
 
--- symbols of the same bytes are the same
+-- symbols with equal bytes are equal
 pub symbol_one : (s t : Symbol) → symbol_text s ≡ symbol_text t → s ≡ t
 symbol_one s t e = some_is s t (sym (symbol_back s) ∙ ap symbol_with e ∙ symbol_back t)

@@ -5,19 +5,19 @@ use Rattle.std.specs.Int.{IsInRange}
 use Rattle.fixpoint.specs.Money.{two_digits}
 use Rattle.jiff_core.specs.Calendar.{days_from_civil, IsCivilDate}
 
--- how many of the years from 1 to the last have begun by the day
+-- the number of years, from year 1 to the given last one, that begin on the day or before it
 unfoldable pub years_begun : ℕ → ℤ → ℕ
 years_begun last day = count_by (λ year. int_le (days_from_civil (pos year) 1 1) day) (range_with_len 1 last)
 
--- the day's year: how many of the years 1 to 9999 have begun
+-- the year of the day: the number of years from 1 to 9999 that begin on the day or before it
 unfoldable pub year_of : ℤ → ℕ
 year_of day = years_begun 9999 day
 
--- how many months of its year have begun by the day: its month
+-- the month of the day: the number of months of its year that begin on the day or before it
 unfoldable pub month_of : ℤ → ℕ
 month_of day = count_by (λ month. int_le (days_from_civil (pos (year_of day)) month 1) day) (range_with_len 1 12)
 
--- the day's place in its month, from 1
+-- the day of the month, from 1
 unfoldable pub day_of : ℤ → ℕ
 day_of day = unsigned_abs (day -ℤ days_from_civil (pos (year_of day)) (month_of day) 1) + 1
 
@@ -25,7 +25,7 @@ day_of day = unsigned_abs (day -ℤ days_from_civil (pos (year_of day)) (month_o
 abbrev pub year_text : ℕ → List ℕ
 year_text year = two_digits (year / 100) ++ two_digits (year % 100)
 
--- four digits that are this year, 0001 to 9999
+-- the text is this year, 0001 to 9999, in four digits
 pub record IsYearText (text : List ℕ) (year : ℕ) : Type 0 where
   pub spelled : text ≡ year_text year
   pub year_in : IsInRange 1 9999 year
@@ -39,7 +39,7 @@ ymd_text year month day =
 abbrev pub day_text : ℤ → List ℕ
 day_text day = ymd_text (year_of day) (month_of day) (day_of day)
 
--- ten bytes `YYYY-MM-DD` that are the day of this number: a date of the calendar in the years 1 to 9999
+-- the text is the date `YYYY-MM-DD` of the day with this number, in the years 1 to 9999
 pub record IsDateText (text : List ℕ) (day : ℤ) : Type 0 where
   pub year : ℕ
   pub month : ℕ

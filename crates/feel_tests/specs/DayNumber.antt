@@ -1,4 +1,4 @@
--- Days as contracts see them: their number, counted from 1 January 1970.
+-- Days as contracts see them: day numbers, counted from 1 January 1970.
 use Rattle.std.specs.Prelude.{ℤ, pos, neg_ℤ, ◌≤ℤ◌}
 
 -- the number of 1 January of the year 1
@@ -9,6 +9,6 @@ first_day = neg_ℤ (pos 719162)
 abbrev pub last_day : ℤ
 last_day = pos 2932896
 
--- the number is that of a day of the years 1 to 9999
+-- the number is of a day in the years 1 to 9999
 abbrev pub IsDayNumber : ℤ → Type 0
 IsDayNumber number = (first_day ≤ℤ number) × (number ≤ℤ last_day)

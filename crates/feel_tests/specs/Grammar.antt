@@ -1,5 +1,5 @@
--- The grammar of cells over words (DMN 1.4, S-FEEL, unary tests): which text begins with a literal, a
--- test or a list of tests, and what rest follows it.
+-- The grammar of cells over words (DMN 1.4, S-FEEL, unary tests): which texts begin with a literal,
+-- a test or a list of tests, and which rest follows.
 use Rattle.std.specs.Prelude.{◌≡◌, ℕ, ℤ, Bool, true, false, List, [], ◌∷◌, Option, Some, None, codes}
 use Rattle.fixpoint.specs.NumberText.{Denotes}
 use Rattle.feel_tests.specs.TextBytes.{IsText}
@@ -25,7 +25,7 @@ date_word = codes "date"
 abbrev pub not_word : List ℕ
 not_word = codes "not"
 
--- the values of the kind have an order: numbers and days
+-- values of the kind are ordered: numbers and days
 abbrev pub HasOrder : Kind → Type 0
 HasOrder kinds.Number = Unit {0}
 HasOrder kinds.Text = ⊥
@@ -39,21 +39,21 @@ op_symbol AtMost = symbols.AtMost
 op_symbol More = symbols.More
 op_symbol AtLeast = symbols.AtLeast
 
--- the brackets that start an interval, with whether its low end is in
+-- the brackets that open an interval, with whether the low end belongs to it
 abbrev pub start_in : Symbol → Option Bool
 start_in symbols.OpenSquare = Some true
 start_in symbols.OpenRound = Some false
 start_in symbols.CloseSquare = Some false
 start_in _ = None
 
--- the brackets that end an interval, with whether its high end is in
+-- the brackets that close an interval, with whether the high end belongs to it
 abbrev pub end_in : Symbol → Option Bool
 end_in symbols.CloseSquare = Some true
 end_in symbols.CloseRound = Some false
 end_in symbols.OpenSquare = Some false
 end_in _ = None
 
--- the text begins with `date`, a date in a string between round brackets
+-- the text begins with `date` and a date as a string in parentheses
 pub record IsDate (text : List ℕ) (day : ℤ) (rest : List ℕ) : Type 0 where
   pub behind_word : List ℕ
   pub behind_open : List ℕ
@@ -72,7 +72,8 @@ IsLiteral kind text (Text bytes) rest = (kind ≡ kinds.Text) × Begins text (Qu
 IsLiteral kind text (Flag flag) rest = (kind ≡ kinds.Flag) × Begins text (Name (flag_text flag)) rest
 IsLiteral kind text (Day day) rest = (kind ≡ kinds.Day) × IsDate text day rest
 
--- the text begins with a literal, `..`, a literal and a bracket that ends an interval; the ends are so in or out
+-- the text begins with a literal, `..`, a literal and a closing bracket, which says whether the
+-- high end belongs to the interval
 pub record IsSpan (kind : Kind) (text : List ℕ) (low : Value) (high : Value) (high_in : Bool) (rest : List ℕ) : Type 0 where
   pub behind_low : List ℕ
   pub behind_dots : List ℕ
@@ -84,14 +85,14 @@ pub record IsSpan (kind : Kind) (text : List ℕ) (low : Value) (high : Value) (
   pub closes : Begins behind_high (Sign bracket) rest
   pub end_is : end_in bracket ≡ Some high_in
 
--- the text begins with an operator and a literal
+-- the text begins with an operator and a literal of an ordered kind
 pub record IsComparison (kind : Kind) (text : List ℕ) (op : Op) (value : Value) (rest : List ℕ) : Type 0 where
   pub ordered : HasOrder kind
   pub literal : List ℕ
   pub operator : Begins text (Sign (op_symbol op)) literal
   pub has_literal : IsLiteral kind literal value rest
 
--- the text begins with an interval: a bracket that starts it, and what the bracket spans
+-- the text begins with an interval of an ordered kind: an opening bracket, and the span after it
 pub record IsInterval (kind : Kind) (text : List ℕ) (low : Value) (low_in : Bool) (high : Value) (high_in : Bool) (rest : List ℕ) : Type 0 where
   pub ordered : HasOrder kind
   pub bracket : Symbol
@@ -106,7 +107,7 @@ IsTest kind text (Equal value) rest = IsLiteral kind text value rest
 IsTest kind text (Compare op value) rest = IsComparison kind text op value rest
 IsTest kind text (Between low low_in high high_in) rest = IsInterval kind text low low_in high high_in rest
 
--- the text begins with this list of tests, with commas between them
+-- the text begins with this list of tests, separated by commas
 abbrev pub IsList : Kind → List ℕ → List Test → List ℕ → Type 0
 IsList kind text [] rest = ⊥
 IsList kind text (test ∷ []) rest = IsTest kind text test rest

@@ -1,4 +1,4 @@
--- Plain values: what the whole field of a CSV record spells.
+-- Plain values: the meaning of a whole field of a CSV record.
 use Rattle.std.specs.Prelude.{◌≡◌, ◌≢◌, ℕ, List}
 use Rattle.fixpoint.specs.NumberText.{Denotes}
 use Rattle.feel_tests.specs.TextBytes.{IsShort}
@@ -11,22 +11,22 @@ use Rattle.feel_tests.specs.declared.value.Value.TheVariants.{Number, Text, Flag
 use Rattle.feel_tests.specs.declared.plain.PlainFault.{PlainFault}
 use Rattle.feel_tests.specs.declared.plain.PlainFault.TheVariants.{Bad, OutOfMemory}
 
--- the whole text is a number text, a text within the limit as it is, `true` or `false`, or a date
+-- the whole field is a number text, a text within the limit, `true` or `false`, or a date
 abbrev pub SpellsPlain : Kind → List ℕ → Value → Type 0
 SpellsPlain kind text (Number units) = (kind ≡ kinds.Number) × Denotes text units
 SpellsPlain kind text (Text bytes) = (kind ≡ kinds.Text) × (bytes ≡ text) × IsShort text
 SpellsPlain kind text (Flag flag) = (kind ≡ kinds.Flag) × (text ≡ flag_text flag)
 SpellsPlain kind text (Day day) = (kind ≡ kinds.Day) × IsDateText text day
 
--- a text spells at most one plain value of a kind
+-- a field denotes at most one plain value of a kind
 abbrev pub SpellsOnePlain : Type 0
 SpellsOnePlain = (kind : Kind) (text : List ℕ) (one other : Value) → SpellsPlain kind text one → SpellsPlain kind text other → one ≡ other
 
--- a fault other than want of memory comes only where nothing is spelled
+-- unless memory ran out, the field denotes no value
 abbrev pub RefusesPlain : (Value → Type 0) → PlainFault → Type 0
 RefusesPlain P fault = fault ≢ OutOfMemory → (value : Value) → ¬ P value
 
--- the fault's number in a program's messages
+-- the number that messages print for the fault
 abbrev pub plain_number_of : PlainFault → ℕ
 plain_number_of Bad = 1
 plain_number_of OutOfMemory = 2

@@ -1,11 +1,11 @@
--- What the private functions over symbols compute.
+-- Results of the private functions over symbols.
 use Rattle.std.specs.Prelude.{List, [], ◌∷◌, Option, Some, None}
 use Rattle.feel_tests.specs.declared.symbol.Symbol.{Symbol}
 use Rattle.feel_tests.specs.declared.symbol.Symbol.TheVariants.{Less, AtMost, More, AtLeast, OpenRound, CloseRound, OpenSquare, CloseSquare, Dots, Comma, Dash}
 use Rattle.feel_tests.specs.declared.cell.Op.{Op}
 use Rattle.feel_tests.specs.declared.cell.Op.TheVariants as ops
 
--- all symbols, those of two bytes in front
+-- all symbols, the ones of two bytes first
 abbrev pub symbols : List Symbol
 symbols = AtMost ∷ AtLeast ∷ Dots ∷ Less ∷ More ∷ OpenRound ∷ CloseRound ∷ OpenSquare ∷ CloseSquare ∷ Comma ∷ Dash ∷ []
 

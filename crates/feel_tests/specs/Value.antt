@@ -1,4 +1,4 @@
--- Values: their kinds, and the literals that write them (DMN 1.4, S-FEEL).
+-- Values: their kinds and their literals (DMN 1.4, S-FEEL).
 use Rattle.std.specs.Prelude.{ℕ, ℤ, Bool, true, false, List, ◌++◌, codes}
 use Rattle.fixpoint.specs.NumberText.{shortest_text}
 use Rattle.feel_tests.specs.Words.{quoted}
@@ -24,7 +24,8 @@ flag_text false = codes "false"
 abbrev pub date_literal : ℤ → List ℕ
 date_literal day = codes "date(\"" ++ day_text day ++ codes "\")"
 
--- the literal of a value: a number in its shortest text, a text in double quotes, `true` or `false`, or `date("YYYY-MM-DD")`
+-- the literal of a value: a number's shortest text, a text in double quotes, `true` or `false`, or
+-- `date("YYYY-MM-DD")`
 abbrev pub literal_text : Value → List ℕ
 literal_text (Number n) = shortest_text n
 literal_text (Text t) = quoted t

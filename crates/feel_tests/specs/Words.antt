@@ -1,5 +1,5 @@
--- The words of a cell's text (DMN 1.4, S-FEEL, the grammar's terminals): white space stands between
--- them, and each is the longest that can stand at its place.
+-- The words of a cell's text (DMN 1.4, S-FEEL, the grammar's terminals). White space separates
+-- them, and each word is the longest that the text begins with.
 use Rattle.std.specs.Prelude.{◌≡◌, ℕ, ◌≤◌, Bool, ◌==◌, ◌||◌, if◌then◌else◌, List, [], ◌∷◌, ◌++◌, length, codes, flat_map, IsTrue}
 use Rattle.std.specs.List.{list_all}
 use Rattle.std.specs.Char.{is_ascii_alphabetic, is_ascii_alphanumeric}
@@ -7,16 +7,16 @@ use Rattle.fixpoint.specs.NumberText.{IsNumberText}
 use Rattle.feel_tests.specs.declared.symbol.Symbol.{Symbol}
 use Rattle.feel_tests.specs.declared.symbol.Symbol.TheVariants.{Less, AtMost, More, AtLeast, OpenRound, CloseRound, OpenSquare, CloseSquare, Dots, Comma, Dash}
 
--- space, tab, carriage return and line feed
+-- a space, tab, carriage return or line feed
 abbrev pub is_white : ℕ → Bool
 is_white b = (b == 32) || (b == 9) || (b == 13) || (b == 10)
 
--- a text without the white space in front
+-- the text without leading white space
 abbrev pub skip_white : List ℕ → List ℕ
 skip_white [] = []
 skip_white (b ∷ bs) = if is_white b then skip_white bs else b ∷ bs
 
--- white space alone
+-- the text consists of white space alone
 abbrev pub IsBlank : List ℕ → Type 0
 IsBlank text = skip_white text ≡ []
 
@@ -42,16 +42,16 @@ is_name_start b = is_ascii_alphabetic b || (b == 95)
 abbrev pub is_name_byte : ℕ → Bool
 is_name_byte b = is_ascii_alphanumeric b || (b == 95)
 
--- a name: a letter or `_`, and then letters, digits and `_`
+-- a name: a letter or `_`, followed by letters, digits and `_`
 abbrev pub IsName : List ℕ → Type 0
 IsName [] = ⊥
 IsName (b ∷ bs) = IsTrue (is_name_start b) × IsTrue (list_all is_name_byte bs)
 
--- a byte between quotes: a quote and a backslash have a backslash before them
+-- a byte between quotes: a backslash precedes a quote and a backslash
 abbrev pub escaped_byte : ℕ → List ℕ
 escaped_byte b = if (b == 34) || (b == 92) then 92 ∷ b ∷ [] else b ∷ []
 
--- bytes between quotes
+-- the bytes between the quotes of a string
 abbrev pub escaped : List ℕ → List ℕ
 escaped bytes = flat_map escaped_byte bytes
 
@@ -59,7 +59,7 @@ escaped bytes = flat_map escaped_byte bytes
 abbrev pub quoted : List ℕ → List ℕ
 quoted bytes = 34 ∷ (escaped bytes ++ 34 ∷ [])
 
--- a word: a symbol, a number by its bytes, a string by the text that it stands for, or a name
+-- a word: a symbol, a number by its bytes, a string by the text that it denotes, or a name
 pub data Word : Type 0 where
   Sign : Symbol → Word
   Digits : List ℕ → Word
@@ -73,7 +73,8 @@ Spells bytes (Digits digits) = (bytes ≡ digits) × IsNumberText bytes
 Spells bytes (Quoted text) = bytes ≡ quoted text
 Spells bytes (Name letters) = (bytes ≡ letters) × IsName bytes
 
--- behind white space the text begins with the word, then comes the rest; no longer word can stand there
+-- after white space, the text begins with the word, and no longer word is possible there; then the
+-- rest follows
 pub record Begins (text : List ℕ) (word : Word) (rest : List ℕ) : Type 0 where
   pub front : List ℕ
   pub joined : skip_white text ≡ front ++ rest

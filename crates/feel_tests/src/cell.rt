@@ -1,4 +1,4 @@
-//! Cells: the unary tests that one entry of a decision table asks of a value.
+//! Cells: the unary tests that one entry of a decision table applies to a value.
 ghost use Rattle.std.specs.Prelude.{◌≡◌, [], ◌∷◌, ◌++◌, OnOk};
 ghost use Rattle.feel_tests.specs.Holds.{holds, passes, is_less, is_at_most, is_below, one_passes};
 
@@ -7,10 +7,10 @@ use smallvec::SmallVec;
 use std::alloc::{AllocError, Global};
 use std::marker::Model;
 
-/// The most tests that a cell has.
+/// The greatest number of tests in a cell.
 pub const TEST_LIMIT: usize = 64;
 
-/// How a value is compared with a literal.
+/// A comparison operator between a value and a literal.
 #[derive(Clone, Copy, PartialEq, Eq)]
 pub enum Op {
     /// `<`
@@ -23,13 +23,13 @@ pub enum Op {
     AtLeast,
 }
 
-/// One question about a value.
+/// A unary test of a value.
 pub enum Test {
-    /// It equals this one.
+    /// The value equals this literal.
     Equal(Value),
-    /// It stands so to this one.
+    /// The comparison of the value with this literal is true.
     Compare(Op, Value),
-    /// It lies between these two; a bracket says whether an end itself is in.
+    /// The value lies in this interval. The flags say whether each end belongs to the interval.
     Between {
         low: Value,
         low_in: bool,
@@ -53,7 +53,7 @@ impl Drop for Test {
     }
 }
 
-/// The default is a question like any other. It takes no memory.
+/// The default is an arbitrary test that allocates no memory.
 impl Default for Test {
     fn default() -> Test {
         Test::Equal(Value::Flag(false))
@@ -81,7 +81,8 @@ impl Model for Tests {
 }
 
 impl Tests {
-    // A list of one test, which takes no memory.
+    // Makes a list of one test. It allocates no memory, since the list has room for two tests
+    // inline.
     pub(crate) fn one(alloc: Global, test: Test) -> Tests
         ensures { result ≡ test ∷ [] }
     {
@@ -90,7 +91,6 @@ impl Tests {
         Tests { items }
     }
 
-    // Appends a test.
     pub(crate) fn push(&mut self, test: Test) -> Result<(), AllocError>
         ensures ok { OnOk result (self.new ≡ self.old ++ test ∷ []) }
     {
@@ -98,7 +98,7 @@ impl Tests {
         Ok(())
     }
 
-    /// The tests.
+    /// Returns the tests as a slice.
     pub fn as_slice(&self) -> &[Test]
         ensures { result.now ≡ self.now }
     {
@@ -106,13 +106,13 @@ impl Tests {
     }
 }
 
-/// What one entry of a table asks of a value.
+/// The condition that one entry of a table puts on a value.
 pub enum Cell {
-    /// Nothing: every value is good.
+    /// The entry accepts every value.
     Dash,
-    /// One of the tests is to hold.
+    /// The entry accepts a value if at least one of the tests holds.
     OneOf(Tests),
-    /// None of the tests is to hold.
+    /// The entry accepts a value if none of the tests holds.
     NoneOf(Tests),
 }
 
@@ -127,7 +127,8 @@ impl Drop for Cell {
 }
 
 impl Cell {
-    /// Whether the cell holds of the value. Values of different kinds are neither equal nor ordered.
+    /// Returns whether the cell accepts the value (DMN 1.4, S-FEEL, unary tests). Values of
+    /// different kinds are neither equal nor ordered.
     pub fn holds(&self, value: &Value) -> bool
         ensures { result ≡ holds self.now value.now }
     {
@@ -166,7 +167,6 @@ impl Test {
 }
 
 impl Value {
-    // Whether this value comes before the other, or is it and the end is in.
     fn is_below(&self, end_in: bool, other: &Value) -> bool
         ensures { result ≡ is_below end_in self.now other.now }
     {

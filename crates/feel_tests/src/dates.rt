@@ -1,4 +1,4 @@
-//! Dates as text: `YYYY-MM-DD` on the Gregorian calendar of `jiff`.
+//! Dates as text: `YYYY-MM-DD` in the Gregorian calendar of `jiff`.
 ghost use Rattle.std.specs.Prelude.{◌≡◌, ℕ, ℤ, pos, ◌+◌, ◌/◌, ◌%◌, ◌<◌, IfOk, IfSome, IfNone, string_bytes};
 ghost use Rattle.std.specs.Int.{IsInRange};
 ghost use Rattle.jiff_core.specs.Date.{epoch_day};
@@ -10,13 +10,14 @@ use jiff::civil::Date;
 use jiff_core::civil;
 use std::alloc::{AllocError, Global};
 
-/// The day that a text of ten bytes, `YYYY-MM-DD`, is.
+/// Returns the day that the text denotes, or `None` if it is not a date `YYYY-MM-DD` of the years
+/// 0001 to 9999.
 pub fn day_of(text: &[u8]) -> Option<Day>
     ensures some { IfSome result (IsDateText text.now) }
     ensures none { IfNone result ((day : ℤ) → ¬ IsDateText text.now day) }
 {
     let (year, month, place) = ymd_of(text)?;
-    // The calendar has a year 0, a literal has none.
+    // The calendar of `jiff` has a year 0, but literals do not.
     if year == 0 {
         return None;
     }
@@ -26,7 +27,7 @@ pub fn day_of(text: &[u8]) -> Option<Day>
     }
 }
 
-/// The text of a day, `YYYY-MM-DD`.
+/// Returns the text of a day, `YYYY-MM-DD`.
 pub fn text_of(alloc: Global, day: Day) -> Result<String, AllocError>
     ensures { IfOk result (λ text. string_bytes text ≡ day_text day) }
 {
@@ -34,7 +35,7 @@ pub fn text_of(alloc: Global, day: Day) -> Result<String, AllocError>
     date.to_string(alloc)
 }
 
-/// The date of a day.
+/// Converts a day to a date of `jiff`.
 pub fn date_of(day: Day) -> Date
     ensures date { epoch_day result ≡ day }
     ensures in_range { IsDayNumber day }
@@ -45,7 +46,7 @@ pub fn date_of(day: Day) -> Date
     }
 }
 
-/// The year of a day by its number, which counts from 1 January 1970.
+/// Returns the year, 1 to 9999, of a day that is given by its number of days since 1 January 1970.
 #[tactic(auto, using(crate::proofs::DayText::date_year_is, crate::proofs::DayText::year_within))]
 pub fn day_year(number: i32) -> u16
     requires { IsDayNumber number }
@@ -58,7 +59,8 @@ pub fn day_year(number: i32) -> u16
     }
 }
 
-/// The year that a text of four digits is, `0001` to `9999`.
+/// Returns the year that a text of four digits denotes, or `None` if it is not from `0001` to
+/// `9999`.
 pub fn year_in(text: &[u8]) -> Option<u16>
     ensures some { IfSome result (IsYearText text.now) }
     ensures none { IfNone result ((year : ℕ) → ¬ IsYearText text.now year) }
@@ -74,7 +76,7 @@ pub fn year_in(text: &[u8]) -> Option<u16>
     Some(century as u16 * 100 + rest as u16)
 }
 
-/// The text of a year, in four digits.
+/// Returns a year below 10,000 in four digits.
 pub fn year_text(year: u16) -> [u8; 4]
     requires { year < 10000 }
     ensures { result ≡ year_text year }
@@ -84,10 +86,13 @@ pub fn year_text(year: u16) -> [u8; 4]
     [y3, y2, y1, y0]
 }
 
-// The three numbers of a text of this form, on the calendar or not.
+// Splits a text of the form `YYYY-MM-DD` into year, month and day. They need not be a date of the
+// calendar.
 fn ymd_of(text: &[u8]) -> Option<(u16, u8, u8)>
-    ensures some { IfSome result (λ ymd. (text.now ≡ ymd_text ymd.0 ymd.1 ymd.2) × (ymd.0 < 10000) × (ymd.1 < 100) × (ymd.2 < 100)) }
-    ensures none { IfNone result ((year month place : ℕ) → year < 10000 → month < 100 → place < 100 → ¬ (text.now ≡ ymd_text year month place)) }
+    ensures some { IfSome result (λ ymd. (text.now ≡ ymd_text ymd.0 ymd.1 ymd.2)
+        × (ymd.0 < 10000) × (ymd.1 < 100) × (ymd.2 < 100)) }
+    ensures none { IfNone result ((year month place : ℕ) → year < 10000
+        → month < 100 → place < 100 → ¬ (text.now ≡ ymd_text year month place)) }
 {
     let [y3, y2, y1, y0, dash, m1, m0, hyphen, d1, d0] = text else {
         return None;
@@ -102,10 +107,10 @@ fn ymd_of(text: &[u8]) -> Option<(u16, u8, u8)>
     Some((century as u16 * 100 + year as u16, month, place))
 }
 
-// The number below 100 that two digits write.
 fn two_digits(tens: u8, ones: u8) -> Option<u8>
     ensures some { IfSome result (λ n. (n < 100) × (tens ≡ 48 + n / 10) × (ones ≡ 48 + n % 10)) }
-    ensures none { IfNone result ((n : ℕ) → n < 100 → ¬ ((tens ≡ 48 + n / 10) × (ones ≡ 48 + n % 10))) }
+    ensures none { IfNone result ((n : ℕ) → n < 100
+        → ¬ ((tens ≡ 48 + n / 10) × (ones ≡ 48 + n % 10))) }
 {
     if !tens.is_ascii_digit() || !ones.is_ascii_digit() {
         return None;
@@ -113,7 +118,6 @@ fn two_digits(tens: u8, ones: u8) -> Option<u8>
     Some((tens - b'0') * 10 + (ones - b'0'))
 }
 
-// The two digits of a number below 100.
 fn digits_of(number: u8) -> (u8, u8)
     requires { number < 100 }
     ensures { (result.0 ≡ 48 + number / 10) × (result.1 ≡ 48 + number % 10) }

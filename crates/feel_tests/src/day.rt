@@ -1,11 +1,12 @@
-//! Days of the Gregorian calendar, held as their number.
+//! Days of the Gregorian calendar, stored as day numbers.
 ghost use Rattle.std.specs.Prelude.{◌≡◌};
 ghost use Rattle.std.specs.Option.{SomeIff};
 ghost use Rattle.feel_tests.specs.DayNumber.{IsDayNumber};
 
 use std::marker::Model;
 
-/// A Gregorian civil date of the years 0001 to 9999, as the days since 1 January 1970.
+/// A Gregorian civil date of the years 0001 to 9999, stored as the number of days since 1 January
+/// 1970.
 #[derive(Clone, Copy, PartialEq, Eq, PartialOrd, Ord)]
 pub struct Day {
     epoch_day: i32,
@@ -24,14 +25,15 @@ impl Model for Day {
     ghost inverse = { λ number. record { epoch_day = number } };
 }
 
-/// The number of 1 January of the year 1, counted from 1 January 1970.
+/// The day number of 1 January 0001, counted from 1 January 1970.
 pub const FIRST_DAY: i32 = -719_162;
 
-/// The number of 31 December of the year 9999.
+/// The day number of 31 December 9999, counted from 1 January 1970.
 const LAST_DAY: i32 = 2_932_896;
 
 impl Day {
-    /// The day of this number, which counts from 1 January 1970 (0), if it is one of the years 0001 to 9999.
+    /// Returns the day with this number, counted from 1 January 1970 as day 0, or `None` if it is
+    /// outside the years 0001 to 9999.
     pub fn from_epoch_day(number: i32) -> Option<Day>
         ensures { SomeIff result (IsDayNumber number) number }
     {
@@ -42,7 +44,7 @@ impl Day {
         }
     }
 
-    /// The day's number, which counts from 1 January 1970.
+    /// Returns the number of days since 1 January 1970.
     pub fn epoch_day(self) -> i32
         ensures value { result ≡ self }
         ensures in_range { IsDayNumber result }

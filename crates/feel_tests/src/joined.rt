@@ -1,4 +1,4 @@
-//! Texts in a row, with a mark between two of them.
+//! Texts of several items, joined with a separator.
 
 ghost use Rattle.std.specs.Prelude.{◌≡◌, ◌++◌, ℕ, List, OnOk, flat_map};
 ghost use Rattle.std.specs.List.{join_by};
@@ -8,7 +8,7 @@ use crate::text::Text;
 use crate::value::Value;
 use std::alloc::AllocError;
 
-/// A way to write items.
+/// A way to write an item as text.
 pub trait Spelling<T> {
     /// The text of an item.
     ghost text_of: { T → List ℕ };
@@ -18,7 +18,7 @@ pub trait Spelling<T> {
         ensures { OnOk result (text.new.items ≡ text.old.items ++ text_of item.now) };
 }
 
-/// Values as their literals.
+/// Writes values as literals.
 pub struct Literals;
 
 impl Spelling<Value> for Literals {
@@ -29,7 +29,7 @@ impl Spelling<Value> for Literals {
     }
 }
 
-/// Texts as they stand.
+/// Writes texts unchanged.
 pub struct Bytes;
 
 impl Spelling<Text> for Bytes {
@@ -40,13 +40,14 @@ impl Spelling<Text> for Bytes {
     }
 }
 
-/// Appends the texts of items, with a mark between two of them.
+/// Appends the texts of the items, with the separator between each two of them.
 pub fn append_joined<T, S: Spelling<T>>(
     text: &mut Vec<u8>,
     mark: &str,
     items: &[T],
 ) -> Result<(), AllocError>
-    ensures { OnOk result (text.new.items ≡ text.old.items ++ join_by S.text_of mark.now items.now) }
+    ensures { OnOk result (text.new.items
+        ≡ text.old.items ++ join_by S.text_of mark.now items.now) }
 {
     match items {
         [] => Ok(()),
@@ -57,13 +58,14 @@ pub fn append_joined<T, S: Spelling<T>>(
     }
 }
 
-// The texts of items, with the mark in front of each.
+// Appends the texts of the items, each after a separator.
 fn append_others<T, S: Spelling<T>>(
     text: &mut Vec<u8>,
     mark: &str,
     items: &[T],
 ) -> Result<(), AllocError>
-    ensures { OnOk result (text.new.items ≡ text.old.items ++ flat_map (λ item. mark.now ++ S.text_of item) items.now) }
+    ensures { OnOk result (text.new.items
+        ≡ text.old.items ++ flat_map (λ item. mark.now ++ S.text_of item) items.now) }
 {
     for item in items {
         text.extend_from_slice(mark.as_bytes())?;

@@ -1,8 +1,8 @@
-//! The four kinds of value that a table's columns have.
+//! The four kinds of values that the columns of a table have.
 ghost use Rattle.std.specs.Prelude.{◌↔◌, IsTrue};
 ghost use Rattle.feel_tests.specs.Grammar.{HasOrder};
 
-/// A kind of value.
+/// A kind of values.
 #[derive(Clone, Copy, PartialEq, Eq, PartialOrd, Ord)]
 pub enum Kind {
     /// A decimal number with four places.
@@ -16,7 +16,8 @@ pub enum Kind {
 }
 
 impl Kind {
-    /// Whether its values can be compared and lie in intervals.
+    /// Returns whether values of the kind are ordered: only then do comparisons and intervals
+    /// apply.
     pub(crate) fn has_order(self) -> bool
         ensures { IsTrue result ↔ HasOrder self }
     {

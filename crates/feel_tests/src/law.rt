@@ -1,4 +1,4 @@
-//! Laws of literals and cells, for proofs that stand on them. Each call does nothing.
+//! Laws of literals and cells, to be cited by other proofs. The calls have no effect.
 ghost use Rattle.std.specs.Prelude.{◌≤◌, length};
 ghost use Rattle.fixpoint.specs.NumberText.{shortest_text};
 ghost use Rattle.feel_tests.specs.Words.{quoted};
@@ -14,28 +14,29 @@ use crate::day::Day;
 use crate::value::Value;
 use fixpoint::Fixed;
 
-/// A text spells at most one cell of a kind.
+/// A text denotes at most one cell of a kind.
 pub fn text_spells_at_most_one_cell()
     ensures { SpellsOneCell }
 {
     fixpoint::text_denotes_at_most_one();
 }
 
-/// A text spells at most one value of a kind.
+/// A text denotes at most one value of a kind.
 pub fn text_spells_at_most_one_value()
     ensures { SpellsOneValue }
 {
     fixpoint::text_denotes_at_most_one();
 }
 
-/// A field, as a whole, spells at most one value of a kind.
+/// A whole field of a CSV record denotes at most one value of a kind.
 pub fn field_spells_at_most_one_value()
     ensures { SpellsOnePlain }
 {
     fixpoint::text_denotes_at_most_one();
 }
 
-/// The literal of a value spells that value: what `write_text` writes, `read_value` reads back.
+/// The literal of a value denotes that value: `read_value` returns the value from the text that
+/// `write_text` writes.
 pub fn literal_spells_its_value(value: &Value)
     ensures { SpellsValue (kind_of value.now) (literal_text value.now) value.now }
 {
@@ -51,7 +52,7 @@ fn number_spells(number: Fixed)
     ensures { SpellsValue kinds.Number (shortest_text number) (values.Number number) }
 {
     fixpoint::shortest_text_denotes();
-    // Known from here: the number is in its range.
+    // proof: the number is in its range
     let _units = number.units();
 }
 
@@ -59,7 +60,7 @@ fn text_spells(text: &str)
     requires { length text.now ≤ text_limit_bytes }
     ensures { SpellsValue kinds.Text (quoted text.now) (values.Text text.now) }
 {
-    // Known from here: the text is UTF-8 within its limit.
+    // proof: the text is UTF-8 within its limit
     let _bytes = text.as_bytes();
 }
 

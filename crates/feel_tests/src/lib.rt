@@ -1,12 +1,13 @@
-//! The unary tests of a decision table's cells, and the literals in them: DMN 1.4, S-FEEL.
+//! The unary tests of a decision table's cells, and the literals in them (DMN 1.4, S-FEEL).
 //!
-//! A `Value` is a number, a text, a flag or a day. A `Cell` is what one entry of a table asks of a
-//! value: nothing, one of a list of tests, or none of them. `read_cell` and `read_value` read their
-//! texts, `Cell::holds` asks the question, `Value::write_text` writes a value as a literal.
-//! Numbers come from `fixpoint`, faults from `faults`, the calendar from `jiff`, the list of a cell's tests from `smallvec`.
+//! A `Value` is a number, a text, a flag or a day. A `Cell` is the condition that one entry of a
+//! table puts on a value: none, a list of tests of which one must hold, or a list of tests of which
+//! none may hold. `read_cell` and `read_value` read their texts, `Cell::holds` applies a cell to a
+//! value, and `Value::write_text` writes a value as a literal. Numbers come from `fixpoint`, faults
+//! from `faults`, the calendar from `jiff`, and the list of a cell's tests from `smallvec`.
 //!
-//! Begin with `specs/Words.antt` and `specs/Grammar.antt`, which say what a text spells, and
-//! `specs/Holds.antt`, which says what a cell holds of; then read `cell.rt` and `reading.rt`.
+//! Begin with `specs/Words.antt` and `specs/Grammar.antt`, which define what a text denotes, and
+//! `specs/Holds.antt`, which defines when a cell holds; then read `cell.rt` and `reading.rt`.
 #![tactic(auto)]
 
 mod cell;

@@ -1,4 +1,4 @@
-//! Writing a value as the literal that a cell would have for it.
+//! Literals of values, as cells have them.
 ghost use Rattle.std.specs.Prelude.{◌≡◌, ◌++◌, IfOk, OnOk, OnErr};
 ghost use Rattle.feel_tests.specs.Value.{date_literal, literal_text};
 ghost use Rattle.feel_tests.specs.Words.{quoted, escaped_byte};
@@ -11,8 +11,8 @@ use fixpoint::Fixed;
 use std::alloc::{AllocError, Global};
 
 impl Value {
-    /// Appends the literal that writes the value (DMN 1.4, S-FEEL). Where memory is refused, the
-    /// vector is as it was.
+    /// Appends the literal of the value (DMN 1.4, S-FEEL). If memory runs out, the vector is
+    /// unchanged.
     pub fn write_text(&self, out: &mut Vec<u8>) -> Result<(), AllocError>
         ensures ok { OnOk result (out.new.items ≡ out.old.items ++ literal_text self.now) }
         ensures err { OnErr result (out.new.items ≡ out.old.items) }
@@ -44,7 +44,6 @@ fn write_quoted(bytes: &[u8], out: &mut Vec<u8>) -> Result<(), AllocError>
     out.extend_from_slice(&literal)
 }
 
-// The bytes between quotes, with a backslash before each quote and backslash.
 fn quoted(alloc: Global, bytes: &[u8]) -> Result<Vec<u8>, AllocError>
     ensures { IfOk result (λ literal. literal.items ≡ quoted bytes.now) }
 {
@@ -57,7 +56,6 @@ fn quoted(alloc: Global, bytes: &[u8]) -> Result<Vec<u8>, AllocError>
     Ok(literal)
 }
 
-// A byte, with a backslash before it where the literal of a text needs one.
 fn push_escaped(byte: u8, literal: &mut Vec<u8>) -> Result<(), AllocError>
     ensures { OnOk result (literal.new.items ≡ literal.old.items ++ escaped_byte byte) }
 {

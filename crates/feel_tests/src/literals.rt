@@ -1,4 +1,4 @@
-//! Literals: a number, a string, `true`, `false` or a date, read off the front of a text.
+//! Literals at the start of a text: a number, a string, `true`, `false` or a date.
 ghost use Rattle.std.specs.Prelude.{IfOk, IfErr};
 ghost use Rattle.feel_tests.specs.Value.{flag_text};
 ghost use Rattle.feel_tests.specs.Words.{Digits, Name, Begins};
@@ -17,7 +17,7 @@ use faults::CellCause;
 use fixpoint::Fixed;
 use std::alloc::Global;
 
-/// Reads one literal.
+/// Reads one literal of the kind and returns it with the rest of the text.
 pub fn literal_at(alloc: Global, kind: Kind, text: &[u8]) -> Result<(Value, &[u8]), Refusal>
     ensures ok { IfOk result (λ found. IsLiteral kind text.now found.0 found.1.now) }
     ensures refused { IfErr result (DeniesPart (IsLiteral kind text.now)) }
@@ -31,7 +31,7 @@ pub fn literal_at(alloc: Global, kind: Kind, text: &[u8]) -> Result<(Value, &[u8
     }
 }
 
-// A literal of a text that begins with a number.
+// Reads a literal from a text that begins with a number.
 fn number_at<'a>(
     kind: Kind,
     text: &[u8],
@@ -51,7 +51,7 @@ fn number_at<'a>(
     }
 }
 
-// A literal of a text that begins with a quote.
+// Reads a literal from a text that begins with a quote.
 fn text_at(alloc: Global, kind: Kind, text: &[u8]) -> Result<(Value, &[u8]), Refusal>
     requires { IsQuoteFirst text.now }
     ensures ok { IfOk result (λ found. IsLiteral kind text.now found.0 found.1.now) }
@@ -67,7 +67,7 @@ fn text_at(alloc: Global, kind: Kind, text: &[u8]) -> Result<(Value, &[u8]), Ref
     }
 }
 
-// A literal of a text that begins with a name.
+// Reads a literal from a text that begins with a name.
 fn named_at<'a>(
     alloc: Global,
     kind: Kind,
@@ -90,7 +90,7 @@ fn named_at<'a>(
     }
 }
 
-// A literal of a text that begins with `true` or `false`.
+// Reads a literal from a text that begins with `true` or `false`.
 fn flag_at<'a>(
     kind: Kind,
     text: &[u8],
@@ -107,7 +107,8 @@ fn flag_at<'a>(
     Ok((Value::Flag(flag), rest))
 }
 
-// A literal of a text that begins with `date`, which the brackets follow.
+// Reads a literal from a text that begins with `date`; the text after that word must begin with a
+// string in parentheses.
 fn date_at<'a>(
     alloc: Global,
     kind: Kind,

@@ -1,4 +1,4 @@
-//! Plain values: the whole field of a CSV record, with no quotes and no white space round it.
+//! Plain values: whole fields of a CSV record, without quotes or surrounding white space.
 ghost use Rattle.std.specs.Prelude.{◌≡◌, IfOk, IfErr};
 ghost use Rattle.feel_tests.specs.Value.{kind_of};
 ghost use Rattle.feel_tests.specs.Plain.{SpellsPlain, RefusesPlain, plain_number_of};
@@ -12,19 +12,19 @@ use fixpoint::Fixed;
 use std::alloc::Global;
 use thiserror::Error;
 
-/// Why a field is no value of its kind.
+/// The reason why a field is not a value of its kind.
 #[derive(Clone, Copy, Debug, PartialEq, Eq, Drop, Error)]
 pub enum PlainFault {
-    /// It is none.
+    /// The field does not have the form of a value of its kind.
     #[error("bad value")]
     Bad,
-    /// No memory.
+    /// Memory ran out.
     #[error("out of memory")]
     OutOfMemory,
 }
 
 impl PlainFault {
-    /// The fault's number in a program's messages.
+    /// Returns the number that messages print for the fault, 1 or 2.
     pub fn number(self) -> u8
         ensures { result ≡ plain_number_of self }
     {
@@ -36,7 +36,12 @@ impl PlainFault {
 }
 
 /// Reads a whole field of a CSV record (RFC 4180) as a value: a number text, a text of at most 256
-/// bytes as it is, `true` or `false`, or a date `YYYY-MM-DD`. All else is `PlainFault::Bad`.
+/// bytes, which is taken unchanged, `true` or `false`, or a date `YYYY-MM-DD`.
+///
+/// # Errors
+///
+/// Returns `PlainFault::Bad` for every other field, and `PlainFault::OutOfMemory` if memory runs
+/// out.
 #[inline(always)]
 pub fn read_plain(alloc: Global, kind: Kind, text: &str) -> Result<Value, PlainFault>
     ensures ok { IfOk result (SpellsPlain kind text.now) }

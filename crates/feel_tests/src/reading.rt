@@ -1,5 +1,5 @@
-//! Reading cells and literals, from left to right: each function reads one part off the front of a
-//! text, and gives what it read with the rest.
+//! Readers of cells and literals. Each function reads one part from the start of a text and returns
+//! it with the rest, so that a text is read once, from left to right.
 ghost use Rattle.std.specs.Prelude.{◌≡◌, ℕ, ◌≤◌, List, length, IfOk, IfErr, IfSome, IfNone, OnOk, OnErr};
 ghost use Rattle.feel_tests.specs.Value.{kind_of};
 ghost use Rattle.feel_tests.specs.Words.{IsBlank, Name, Begins};
@@ -19,8 +19,11 @@ use faults::{CellCause, CellFault};
 use std::alloc::Global;
 
 /// Reads the whole text of a cell of a column of this kind (DMN 1.4, S-FEEL, unary tests).
-/// The text is read once, from left to right, and its first fault is answered; or
-/// `CellCause::OutOfMemory`, wherever memory is refused.
+///
+/// # Errors
+///
+/// Returns the first fault of the text, read from left to right, with its offset in bytes, or
+/// `CellCause::OutOfMemory` if memory runs out anywhere.
 pub fn read_cell(alloc: Global, kind: Kind, text: &str) -> Result<Cell, CellFault>
     ensures ok { IfOk result (SpellsCell kind text.now) }
     ensures refused { IfErr result (Refuses (SpellsCell kind text.now)) }
@@ -32,8 +35,12 @@ pub fn read_cell(alloc: Global, kind: Kind, text: &str) -> Result<Cell, CellFaul
     }
 }
 
-/// Reads the whole text of one literal of this kind, with white space round it or none. Its first
-/// fault is answered, or `CellCause::OutOfMemory`, wherever memory is refused.
+/// Reads the whole text of one literal of this kind. White space may surround the literal.
+///
+/// # Errors
+///
+/// Returns the first fault of the text with its offset in bytes, or `CellCause::OutOfMemory` if
+/// memory runs out anywhere.
 pub fn read_value(alloc: Global, kind: Kind, text: &str) -> Result<Value, CellFault>
     ensures ok { IfOk result (SpellsValue kind text.now) }
     ensures kind { IfOk result (λ value. kind_of value ≡ kind) }
@@ -65,7 +72,8 @@ fn cell_of(alloc: Global, kind: Kind, text: &[u8]) -> Result<Cell, Refusal>
     Ok(Cell::OneOf(tests))
 }
 
-// A cell of a text that begins with `not`, which the brackets follow.
+// Reads a cell from a text that begins with `not`; the text after that word must be a list in
+// parentheses.
 fn negation_of(alloc: Global, kind: Kind, text: &[u8], behind_word: &[u8]) -> Result<Cell, Refusal>
     requires { Begins text.now (Name not_word) behind_word.now }
     ensures ok { IfOk result (SpellsCell kind text.now) }
@@ -78,7 +86,7 @@ fn negation_of(alloc: Global, kind: Kind, text: &[u8], behind_word: &[u8]) -> Re
     Ok(Cell::NoneOf(tests))
 }
 
-// What follows `not`, where the text begins with it.
+// Returns the text after `not`, or `None` if the text does not begin with that word.
 fn after_not(text: &[u8]) -> Option<&[u8]>
     ensures some { IfSome result (λ rest. Begins text.now (Name not_word) rest.now) }
     ensures none { IfNone result ((rest : List ℕ) → ¬ Begins text.now (Name not_word) rest) }
@@ -98,7 +106,7 @@ fn after_not(text: &[u8]) -> Option<&[u8]>
     }
 }
 
-// The tests up to the first that no comma follows.
+// Reads tests until one is not followed by a comma.
 fn list_at(alloc: Global, kind: Kind, text: &[u8]) -> Result<(Tests, &[u8]), Refusal>
     ensures ok { IfOk result (λ found. IsWholeList kind text.now found.0 found.1.now) }
     ensures refused { IfErr result (DeniesPart (IsWholeList kind text.now)) }
@@ -119,7 +127,7 @@ fn list_at(alloc: Global, kind: Kind, text: &[u8]) -> Result<(Tests, &[u8]), Ref
     }
 }
 
-// At the end of the text there is no test too many, but one too few.
+// If the text ends after the comma, a test is missing, and there is not one too many.
 fn too_many(text: &[u8]) -> Refusal {
     if is_blank(text) {
         Refusal::at(text, CellCause::Token)

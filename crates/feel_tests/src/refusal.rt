@@ -1,4 +1,4 @@
-//! Why a part of a text could not be read, while it is read.
+//! Faults while a text is read, before their offset in the whole text is known.
 ghost use Rattle.std.specs.Prelude.{◌≡◌, ℕ, ◌-◌, List, length, IfOk, OnErr};
 ghost use Rattle.feel_tests.specs.Words.{Sign, Begins, skip_white};
 ghost use Rattle.faults.specs.declared.cell_fault.CellCause.TheVariants.{OutOfMemory};
@@ -8,7 +8,7 @@ use crate::word::{after_symbol, skip_white};
 use faults::{CellCause, CellFault};
 use std::alloc::{AllocError, AllocFailed};
 
-/// A fault, placed by how much of the text is left there.
+/// A fault with its position, as the number of bytes from there to the end of the text.
 #[derive(Clone, Copy, Drop)]
 pub struct Refusal {
     pub left: usize,
@@ -16,7 +16,7 @@ pub struct Refusal {
 }
 
 impl Refusal {
-    /// At the first byte of the text that isn't white space, or at its end.
+    /// Makes a fault at the first byte of the text that is not white space, or at its end.
     pub fn at(text: &[u8], cause: CellCause) -> Refusal
         ensures cause { result.cause ≡ cause }
         ensures left { result.left ≡ length (skip_white text.now) }
@@ -27,7 +27,7 @@ impl Refusal {
         }
     }
 
-    /// The fault with its offset in the whole text.
+    /// Returns the fault with its offset in the whole text.
     pub fn fault_in(self, whole: &str) -> CellFault
         ensures cause { result.cause ≡ self.cause }
         ensures at { result.at ≡ length whole.now - self.left }
@@ -61,7 +61,7 @@ impl<T: Drop> From<AllocFailed<T>> for Refusal {
     }
 }
 
-/// What follows the symbol, which has to stand here.
+/// Requires the symbol at the start of the text and returns the rest.
 pub fn symbol_at(text: &[u8], symbol: Symbol) -> Result<&[u8], Refusal>
     ensures ok { IfOk result (λ rest. Begins text.now (Sign symbol) rest.now) }
     ensures refused { OnErr result ((rest : List ℕ) → ¬ Begins text.now (Sign symbol) rest) }

@@ -8,7 +8,7 @@ use std::alloc::{AllocError, Global};
 use std::marker::Model;
 use std::slice;
 
-/// Items in order.
+/// A list of items in order.
 #[derive(Drop)]
 pub struct Sequence<T> {
     items: Vec<T>,
@@ -21,7 +21,7 @@ impl<T> Model for Sequence<T> {
 }
 
 impl<T> Sequence<T> {
-    /// No items.
+    /// Returns an empty list, which allocates no memory.
     pub fn new(alloc: Global) -> Self
         ensures { result ≡ [] }
     {
@@ -30,7 +30,7 @@ impl<T> Sequence<T> {
         }
     }
 
-    /// No items, and room for so many.
+    /// Returns an empty list with room for `room` items.
     pub fn with_capacity(alloc: Global, room: usize) -> Result<Self, AllocError>
         ensures { IfOk result (λ list. list ≡ []) }
     {
@@ -39,28 +39,28 @@ impl<T> Sequence<T> {
         })
     }
 
-    /// The items as a slice.
+    /// Returns the items as a slice.
     pub fn as_slice(&self) -> &[T]
         ensures { result.now ≡ self.now }
     {
         self.items.as_slice()
     }
 
-    /// How many items there are.
+    /// Returns the number of items.
     pub fn len(&self) -> usize
         ensures { result ≡ length self.now }
     {
         self.items.len()
     }
 
-    /// Whether there is none.
+    /// Returns whether the list is empty.
     pub fn is_empty(&self) -> bool
         ensures { result ≡ (length self.now == 0) }
     {
         self.items.is_empty()
     }
 
-    /// The items, one after another.
+    /// Iterates over the items in order.
     pub fn iter(&self) -> slice::Iter<'_, T>
         ensures { iter_rest result ≡ self.now }
     {
@@ -81,7 +81,7 @@ impl<'a, T> IntoIterator for &'a Sequence<T> {
 }
 
 impl<T: Drop> Sequence<T> {
-    /// Puts an item behind the last.
+    /// Appends an item.
     pub fn push(&mut self, item: T) -> Result<(), AllocError>
         ensures ok { OnOk result (self.new ≡ self.old ++ item ∷ []) }
         ensures err { OnErr result (self.new ≡ self.old) }
@@ -90,7 +90,7 @@ impl<T: Drop> Sequence<T> {
         Ok(())
     }
 
-    /// Puts an item at a place, in front of what stood there.
+    /// Inserts an item at an index, before the item that is there.
     pub fn insert(&mut self, place: usize, item: T) -> Result<(), AllocError>
         requires { place ≤ length self.old }
         ensures ok { OnOk result (self.new ≡ insert self.old place item) }
@@ -101,7 +101,7 @@ impl<T: Drop> Sequence<T> {
     }
 }
 
-/// Copies of values, in order.
+/// Returns copies of the values, in order.
 pub fn duplicates(alloc: Global, values: &[Value]) -> Result<Sequence<Value>, AllocError>
     ensures { IfOk result (λ copies. copies ≡ values.now) }
 {

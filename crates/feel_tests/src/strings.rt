@@ -1,4 +1,5 @@
-//! Strings: the text between double quotes, with a backslash before each quote and backslash in it.
+//! Strings: text between double quotes, in which a backslash precedes each quote and each
+//! backslash.
 ghost use Rattle.std.specs.Prelude.{◌≡◌, ◌∷◌, IfOk, IfErr};
 ghost use Rattle.feel_tests.specs.Words.{skip_white, Quoted, Begins};
 ghost use Rattle.feel_tests.specs.Parts.{DeniesPart};
@@ -9,7 +10,7 @@ use crate::word::{Token, first_token};
 use faults::CellCause;
 use std::alloc::Global;
 
-/// Reads a string, of any length: the bytes that it stands for.
+/// Reads a string of any length and returns the bytes that it denotes.
 pub fn quoted_at(alloc: Global, text: &[u8]) -> Result<(Vec<u8>, &[u8]), Refusal>
     ensures ok { IfOk result (λ found. Begins text.now (Quoted found.0.items) found.1.now) }
     ensures refused { IfErr result (DeniesPart (λ bytes. Begins text.now (Quoted bytes))) }
@@ -23,7 +24,7 @@ pub fn quoted_at(alloc: Global, text: &[u8]) -> Result<(Vec<u8>, &[u8]), Refusal
     }
 }
 
-// A string of a text that begins with a quote, by what stands behind it.
+// Reads the string of a text that begins with a quote, from the text after the quote.
 fn inside_at<'a>(
     alloc: Global,
     text: &[u8],
@@ -48,16 +49,16 @@ fn inside_at<'a>(
     }
 }
 
-/// What stands next in a string, with what follows it.
+/// The next part of a string, with the text after it.
 #[derive(Clone, Copy)]
 pub enum Piece<'a> {
     /// The closing quote.
     Close(&'a [u8]),
-    /// A byte of the text, as it is or behind a backslash.
+    /// A byte of the text, written plainly or after a backslash.
     Byte(u8, &'a [u8]),
-    /// A backslash that begins no escape.
+    /// A backslash that does not begin an escape sequence.
     BadEscape,
-    /// The end, also behind a backslash.
+    /// The end of the text, which may follow a backslash.
     End,
 }
 
@@ -72,7 +73,7 @@ fn first_piece(rest: &[u8]) -> Piece<'_>
     }
 }
 
-// What a backslash with these bytes behind it is.
+// Returns the part that begins with a backslash, from the text after the backslash.
 fn escape(behind: &[u8]) -> Piece<'_>
     ensures { IsPiece (92 ∷ behind.now) result }
 {

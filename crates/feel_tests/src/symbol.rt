@@ -1,4 +1,4 @@
-//! The symbols among a cell's words.
+//! The symbols among the words of a cell.
 ghost use Rattle.std.specs.Prelude.{◌≡◌, find, nat_eq};
 ghost use Rattle.std.specs.List.{starts_with};
 ghost use Rattle.feel_tests.specs.Words.{symbol_text};
@@ -34,7 +34,8 @@ pub enum Symbol {
     Dash,
 }
 
-// The symbols of two bytes stand in front of those that they begin with.
+// The symbols of two bytes precede the ones of one byte that they begin with, so that the longest
+// symbol is found first.
 const SYMBOLS: [Symbol; 11] = [
     Symbol::AtMost,
     Symbol::AtLeast,
@@ -50,9 +51,10 @@ const SYMBOLS: [Symbol; 11] = [
 ];
 
 impl Symbol {
-    /// The longest symbol that the bytes begin with.
+    /// Returns the longest symbol at the start of the bytes.
     pub fn at_front(bytes: &[u8]) -> Option<Symbol>
-        ensures { result ≡ find (λ symbol. starts_with nat_eq bytes.now (symbol_text symbol)) symbols }
+        ensures { result
+            ≡ find (λ symbol. starts_with nat_eq bytes.now (symbol_text symbol)) symbols }
     {
         SYMBOLS
             .iter()
@@ -60,7 +62,7 @@ impl Symbol {
             .find(|symbol| bytes.starts_with(symbol.text()))
     }
 
-    /// Its bytes.
+    /// Returns the bytes of the symbol.
     pub fn text(self) -> &'static [u8]
         ensures { result.now ≡ symbol_text self }
     {
@@ -79,7 +81,7 @@ impl Symbol {
         }
     }
 
-    /// The comparison that it is the operator of.
+    /// Returns the comparison with this operator, or `None` if the symbol is not an operator.
     pub fn op(self) -> Option<Op>
         ensures { result ≡ op_of self }
     {
@@ -92,7 +94,7 @@ impl Symbol {
         }
     }
 
-    /// For a bracket that starts an interval, whether the low end is in.
+    /// Returns, for a bracket that opens an interval, whether the low end belongs to the interval.
     pub fn start_in(self) -> Option<bool>
         ensures { result ≡ start_in self }
     {
@@ -104,7 +106,8 @@ impl Symbol {
         }
     }
 
-    /// For a bracket that ends an interval, whether the high end is in.
+    /// Returns, for a bracket that closes an interval, whether the high end belongs to the
+    /// interval.
     pub fn end_in(self) -> Option<bool>
         ensures { result ≡ end_in self }
     {

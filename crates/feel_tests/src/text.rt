@@ -1,4 +1,4 @@
-//! Texts as values: UTF-8 of a limited length, equal where their bytes are.
+//! Texts as values: UTF-8 of a limited length, equal if their bytes are equal.
 ghost use Rattle.std.specs.Prelude.{◌≡◌, ◌≤◌, [], length, IfOk, IfSome, IfNone, OnOk, OnErr, OnSome};
 ghost use Rattle.feel_tests.specs.TextBytes.{IsText};
 ghost use Rattle.feel_tests.specs.Limits.{text_limit_bytes};
@@ -9,13 +9,13 @@ use std::cmp::Ordering;
 use std::marker::Model;
 use std::str;
 
-/// The most bytes that a text has.
+/// The greatest length of a text, in bytes.
 pub const TEXT_LIMIT_BYTES: usize = 256;
 
-/// The most bytes of a text that takes no memory of its own.
+/// The greatest length of a text that is stored inline, in bytes.
 const INLINE_BYTES: usize = 24;
 
-/// A text, compared by its bytes. A short one stands in its place, a longer one in memory of its own.
+/// A text, compared by its bytes. A short text is stored inline, and a longer one on the heap.
 pub struct Text {
     bytes: SmallVec<u8, INLINE_BYTES>,
 }
@@ -39,7 +39,7 @@ impl Model for Text {
 }
 
 impl Text {
-    /// The text of these bytes.
+    /// Copies a text of at most 256 bytes.
     #[inline(always)]
     pub fn new(alloc: Global, text: &str) -> Result<Text, AllocError>
         requires { length text.now ≤ text_limit_bytes }
@@ -50,7 +50,7 @@ impl Text {
         })
     }
 
-    /// The text of these bytes, where they are one.
+    /// Returns the text of these bytes, or `None` if they are not UTF-8 or exceed the limit.
     pub(crate) fn from_bytes(bytes: Vec<u8>) -> Option<Text>
         ensures value { IfSome result (λ made. made ≡ bytes.items) }
         ensures some { OnSome result (IsText bytes.items) }
@@ -64,7 +64,8 @@ impl Text {
         Some(Text { bytes })
     }
 
-    /// Becomes a copy of another text, in the memory that it has where that is enough. Where memory is refused it is empty.
+    /// Replaces the text with a copy of another one, and reuses its memory if that suffices. If
+    /// memory runs out, the text is empty afterwards.
     pub fn copy_from(&mut self, other: &Text) -> Result<(), AllocError>
         ensures copied { OnOk result (self.new ≡ other.now) }
         ensures emptied { OnErr result (self.new ≡ []) }
@@ -73,16 +74,16 @@ impl Text {
         self.bytes.extend_from_slice(other.as_str().as_bytes())
     }
 
-    /// The text as a slice.
+    /// Returns the text as a string slice.
     pub fn as_str(&self) -> &str
         ensures value { result.now ≡ self.now }
         ensures fits { length self.now ≤ text_limit_bytes }
     {
-        // SAFETY: they are UTF-8, as the invariant says.
+        // SAFETY: the bytes are UTF-8 by the invariant.
         unsafe { str::from_utf8_unchecked(self.bytes.as_slice()) }
     }
 
-    /// Its bytes.
+    /// Returns the bytes of the text.
     pub fn as_bytes(&self) -> &[u8]
         ensures value { result.now ≡ self.now }
         ensures fits { length self.now ≤ text_limit_bytes }

@@ -1,4 +1,4 @@
-//! Unary tests: an equality, a comparison or an interval, read off the front of a text.
+//! Unary tests at the start of a text: an equality, a comparison or an interval.
 ghost use Rattle.std.specs.Prelude.{ℕ, Bool, List, IfOk, IfErr, OnErr};
 ghost use Rattle.feel_tests.specs.Words.{Sign, Begins};
 ghost use Rattle.feel_tests.specs.Grammar.{op_symbol, IsTest};
@@ -13,7 +13,7 @@ use crate::word::first_symbol;
 use faults::CellCause;
 use std::alloc::Global;
 
-/// Reads one test.
+/// Reads one test and returns it with the rest of the text.
 pub fn test_at(alloc: Global, kind: Kind, text: &[u8]) -> Result<(Test, &[u8]), Refusal>
     ensures ok { IfOk result (λ found. IsTest kind text.now found.0 found.1.now) }
     ensures refused { IfErr result (DeniesPart (IsTest kind text.now)) }
@@ -27,7 +27,7 @@ pub fn test_at(alloc: Global, kind: Kind, text: &[u8]) -> Result<(Test, &[u8]), 
     }
 }
 
-// A test of a text that begins with a symbol.
+// Reads a test from a text that begins with a symbol.
 fn signed_test_at<'a>(
     alloc: Global,
     kind: Kind,
@@ -48,7 +48,8 @@ fn signed_test_at<'a>(
     Err(Refusal::at(text, CellCause::Token))
 }
 
-// A test of a text that begins with an operator, which the literal follows.
+// Reads a test from a text that begins with an operator; the text after it must begin with a
+// literal.
 fn comparison_at<'a>(
     alloc: Global,
     kind: Kind,
@@ -67,7 +68,8 @@ fn comparison_at<'a>(
     Ok((Test::Compare(op, value), rest))
 }
 
-// A test of a text that begins with a bracket, which the span follows.
+// Reads a test from a text that begins with a bracket; the text after it must begin with the ends
+// of the interval.
 fn interval_at<'a>(
     alloc: Global,
     kind: Kind,
@@ -85,7 +87,7 @@ fn interval_at<'a>(
     span_at(alloc, kind, low_in, span)
 }
 
-// The two ends of an interval and the bracket behind them.
+// Reads the two ends of an interval and the closing bracket.
 fn span_at(alloc: Global, kind: Kind, low_in: bool, text: &[u8]) -> Result<(Test, &[u8]), Refusal>
     ensures ok { IfOk result (λ found. IsSpanTest kind low_in text.now found.0 found.1.now) }
     ensures refused { IfErr result (DeniesPart (IsSpanTest kind low_in text.now)) }
@@ -105,7 +107,8 @@ fn span_at(alloc: Global, kind: Kind, low_in: bool, text: &[u8]) -> Result<(Test
 
 fn end_at(text: &[u8]) -> Result<(bool, &[u8]), Refusal>
     ensures ok { IfOk result (λ found. IsEnd text.now found.0 found.1.now) }
-    ensures refused { OnErr result ((high_in : Bool) (rest : List ℕ) → ¬ IsEnd text.now high_in rest) }
+    ensures refused { OnErr result ((high_in : Bool) (rest : List ℕ)
+        → ¬ IsEnd text.now high_in rest) }
 {
     let Some((symbol, rest)) = first_symbol(text) else {
         return Err(Refusal::at(text, CellCause::Token));

@@ -1,4 +1,4 @@
-//! Values of the four kinds: what a literal denotes and a test asks about.
+//! Values of the four kinds: a literal denotes one, and a test is applied to one.
 ghost use Rattle.std.specs.Prelude.{◌≡◌, IfOk};
 ghost use Rattle.feel_tests.specs.Value.{kind_of};
 
@@ -13,16 +13,16 @@ use std::alloc::{AllocError, Global};
 pub enum Value {
     /// A decimal number with four places.
     Number(Fixed),
-    /// A text.
+    /// A text of at most 256 bytes.
     Text(Text),
     /// True or false.
     Flag(bool),
-    /// A day of the calendar.
+    /// A day of the Gregorian calendar.
     Day(Day),
 }
 
 impl Value {
-    /// The value's kind.
+    /// Returns the kind of the value.
     pub fn kind(&self) -> Kind
         ensures { result ≡ kind_of self.now }
     {
@@ -34,7 +34,7 @@ impl Value {
         }
     }
 
-    /// A copy, whose text is in memory of its own.
+    /// Returns a copy of the value, with its own memory for a text.
     pub fn duplicate(&self, alloc: Global) -> Result<Value, AllocError>
         ensures { IfOk result (λ copy. copy ≡ self.now) }
     {

@@ -1,4 +1,4 @@
-//! The words of a cell's text: one is split off the front at a time.
+//! The words of a cell's text, split off one at a time from the start.
 ghost use Rattle.std.specs.Prelude.{◌≡◌, ℕ, ◌≤◌, List, ◌∷◌, length, IsTrue, IfSome, IfNone, ◌↔◌};
 ghost use Rattle.feel_tests.specs.Words.{is_white, skip_white, is_name_start, is_name_byte, IsBlank, Sign, Begins};
 ghost use Rattle.std.specs.List.{prefix_len};
@@ -7,19 +7,19 @@ ghost use Rattle.feel_tests.specs.Fronts.{digits_len, fraction_len, unsigned_len
 
 use crate::symbol::Symbol;
 
-/// The word at the front of a text, with what follows it.
+/// The word at the start of a text, with the text after it.
 #[derive(Clone, Copy)]
 pub enum Token<'a> {
     Sign(Symbol, &'a [u8]),
     Number(&'a [u8], &'a [u8]),
     Name(&'a [u8], &'a [u8]),
-    /// The opening quote of a string, whose end wasn't looked for.
+    /// The opening quote of a string. Its end has not been searched for.
     Quote(&'a [u8]),
-    /// No word can stand here, or the text ends.
+    /// The text does not begin with a word, or is empty.
     Nothing,
 }
 
-/// Splits the first word off, behind white space.
+/// Skips white space and splits off the first word.
 pub fn first_token(text: &[u8]) -> Token<'_>
     ensures { IsToken text.now result }
 {
@@ -53,10 +53,11 @@ fn behind_quote(bytes: &[u8]) -> Option<&[u8]>
     }
 }
 
-/// The symbol that the text begins with, with what follows it.
+/// Returns the symbol at the start of the text, with the text after it.
 pub fn first_symbol(text: &[u8]) -> Option<(Symbol, &[u8])>
     ensures some { IfSome result (λ found. Begins text.now (Sign found.0) found.1.now) }
-    ensures none { IfNone result ((symbol : Symbol) (rest : List ℕ) → ¬ Begins text.now (Sign symbol) rest) }
+    ensures none { IfNone result ((symbol : Symbol) (rest : List ℕ)
+        → ¬ Begins text.now (Sign symbol) rest) }
 {
     match first_token(text) {
         Token::Sign(symbol, rest) => Some((symbol, rest)),
@@ -67,7 +68,7 @@ pub fn first_symbol(text: &[u8]) -> Option<(Symbol, &[u8])>
     }
 }
 
-/// What follows the symbol, where the text begins with it.
+/// Returns the text after the symbol, or `None` if the text does not begin with it.
 pub fn after_symbol(text: &[u8], symbol: Symbol) -> Option<&[u8]>
     ensures some { IfSome result (λ rest. Begins text.now (Sign symbol) rest.now) }
     ensures none { IfNone result ((rest : List ℕ) → ¬ Begins text.now (Sign symbol) rest) }
@@ -76,7 +77,7 @@ pub fn after_symbol(text: &[u8], symbol: Symbol) -> Option<&[u8]>
     if found == symbol { Some(rest) } else { None }
 }
 
-/// The text without the white space in front.
+/// Returns the text without leading white space.
 pub fn skip_white(text: &[u8]) -> &[u8]
     ensures { result.now ≡ skip_white text.now }
 {
@@ -90,7 +91,7 @@ pub fn skip_white(text: &[u8]) -> &[u8]
     rest
 }
 
-/// Whether the text is white space alone.
+/// Returns whether the text consists of white space alone.
 pub fn is_blank(text: &[u8]) -> bool
     ensures { IsTrue result ↔ IsBlank text.now }
 {
@@ -169,14 +170,14 @@ fn name_bytes_len(bytes: &[u8]) -> usize
     len
 }
 
-/// Whether a name may begin with the byte: an ASCII letter or `_`.
+/// Returns whether a name may begin with the byte: an ASCII letter or `_`.
 pub fn is_name_start(byte: u8) -> bool
     ensures { result ≡ is_name_start byte }
 {
     byte.is_ascii_alphabetic() || byte == b'_'
 }
 
-/// Whether a name may go on with the byte: an ASCII letter, a digit or `_`.
+/// Returns whether a name may contain the byte after its first: an ASCII letter, a digit or `_`.
 pub fn is_name_byte(byte: u8) -> bool
     ensures { result ≡ is_name_byte byte }
 {

@@ -1,4 +1,4 @@
--- How many ten-thousandths digits write.
+-- The count of ten-thousandths that digits denote.
 use Rattle.std.proofs.Common.{◌≡◌, ◌≢◌, inl, inr, ℕ, ◌+◌, ◌-◌, ◌*◌, ◌^◌, ◌<◌, ◌≤◌, min, List, [], ◌∷◌, ◌++◌, length, replicate, sym, ap, ◌∙◌, subst, append_assoc, length-append, arith}
 use Rattle.std.proofs.Math.Nat.{mul_assoc, mul_comm, mul-lt-mul_of_pos_right, le-mul_of_pos_right}
 use Rattle.std.proofs.lemmas.Nat.{pow-add}
@@ -10,11 +10,11 @@ use Rattle.std.specs.Str.Parse.{AllDigits, digits_value}
 use Rattle.fixpoint.specs.NumberText.{IsCountOf, without_end_zeros}
 use Rattle.fixpoint.proofs.Digits.{same_factor, pow_ten_pos, digits_value-append, digits_value-zeros, zeros_at_end, EndsBare, without_end_zeros_ends_bare, AllDigits-without_end_zeros, value_of_digit}
 
--- the digits write at most one count
+-- digits denote at most one count
 pub same_count : (whole fraction : List ℕ) (a b : ℕ) → IsCountOf whole fraction a → IsCountOf whole fraction b → a ≡ b
 same_count whole fraction a b p q = same_factor a b (10 ^ length fraction) (pow_ten_pos (length fraction)) (p ∙ sym q)
 
--- ---- zeros at the end change no count
+-- ---- trailing zeros do not change the count
 
 value_with_zeros : (whole kept : List ℕ) (n : ℕ) → digits_value 10 (whole ++ (kept ++ replicate n 48)) ≡ digits_value 10 (whole ++ kept) * 10 ^ n
 value_with_zeros whole kept n =
@@ -58,7 +58,7 @@ count_to_kept whole fraction count h =
     let zeros = zeros_at_end fraction in
     zeros_less whole (without_end_zeros fraction) zeros.0 count (subst (λ l. IsCountOf whole l count) zeros.1 h)
 
--- ---- up to four decimals
+-- ---- at most four decimals
 
 joined_count : (w f p q : ℕ) → q * p ≡ 10000 → (w * 10000 + f * q) * p ≡ (w * p + f) * 10000
 joined_count w f p q e =
@@ -74,7 +74,7 @@ count_of_kept whole kept h =
     joined_count (digits_value 10 whole) (digits_value 10 kept) (10 ^ length kept) (10 ^ (4 - length kept)) (powers_of_four (length kept) h)
     ∙ ap (λ x. x * 10000) (sym (digits_value-append whole kept))
 
--- four decimals are below one
+-- four decimals are less than one
 pub decimals_below_one : (kept : List ℕ) → AllDigits 10 kept → length kept ≤ 4 → digits_value 10 kept * 10 ^ (4 - length kept) < 10000
 decimals_below_one kept digits h =
     subst (λ x. digits_value 10 kept * 10 ^ (4 - length kept) < x) (mul_comm (10 ^ length kept) (10 ^ (4 - length kept)) ∙ powers_of_four (length kept) h)
@@ -115,7 +115,7 @@ no_count_after whole kept digits long (inr (ys, d, bare, last)) count h =
     let below = AllDigits-last ys d (subst (AllDigits 10) last digits) in
     no_count_at whole ys d (length kept) long (last_digit d bare below) below count (h ∙ ap (λ l. digits_value 10 (whole ++ l) * 10000) last)
 
--- more than four decimals, the last of them not `0`, write no count
+-- more than four decimals, the last of them not `0`, denote no count
 pub no_count : (whole fraction : List ℕ) → AllDigits 10 fraction → 4 < length (without_end_zeros fraction) → (count : ℕ) → ¬ IsCountOf whole fraction count
 no_count whole fraction digits long count h =
     no_count_after whole (without_end_zeros fraction) (AllDigits-without_end_zeros fraction digits) long (without_end_zeros_ends_bare fraction) count
@@ -123,7 +123,7 @@ no_count whole fraction digits long count h =
 
 -- ---- the count from a capped whole part
 
--- what the code computes of at most four decimals
+-- the code's value of at most four decimals
 pub rest_is : (fraction kept : List ℕ) (value power : ℕ) → AllDigits 10 fraction → kept ≡ without_end_zeros fraction → length kept ≤ 4
     → value ≡ min (digits_value 10 kept) 100000000000 → power ≡ 10 ^ (4 - length kept)
     → (value * power ≡ digits_value 10 kept * 10 ^ (4 - length kept)) × (value * power < 10000)
@@ -136,7 +136,7 @@ rest_is fraction kept value power digits is_kept few capped raised =
     let same : value * power ≡ digits_value 10 kept * 10 ^ (4 - length kept) = ap (λ x. x * power) exact ∙ ap (λ x. digits_value 10 kept * x) raised in
     (same, omega arith)
 
--- the count of the digits, of which at most four decimals are kept
+-- the count of the digits if at most four decimals are left without trailing zeros
 pub whole_count : (whole fraction kept : List ℕ) → kept ≡ without_end_zeros fraction → length kept ≤ 4
     → IsCountOf whole fraction (digits_value 10 whole * 10000 + digits_value 10 kept * 10 ^ (4 - length kept))
 whole_count whole fraction kept is_kept few =

@@ -1,4 +1,4 @@
--- The value of digits, and the zeros at their end.
+-- The value of digits, and trailing zeros.
 use Rattle.std.proofs.Common.{eq-eqb, ◌≡◌, ◌≢◌, ◌⊎◌, inl, inr, ℕ, ◌+◌, ◌-◌, ◌*◌, ◌/◌, ◌^◌, ◌<◌, ◌≤◌, zero, suc, Bool, true, false, cond, ◌&&◌, eqb, List, [], ◌∷◌, ◌++◌, length, get_or, take, replicate, refl, sym, ap, ◌∙◌, subst, decimal, arith, rules, tests}
 use Rattle.std.proofs.Math.Nat.{pow-suc, one-le-pow, mul-div_cancel}
 use Rattle.std.proofs.lemmas.List.{take_more}
@@ -9,7 +9,7 @@ use Rattle.std.specs.Char.{digit_value}
 use Rattle.std.specs.Str.Parse.{AllDigits, digits_value, digits_value_after}
 use Rattle.fixpoint.specs.NumberText.{is_zeros, without_end_zeros}
 
--- equal products with a factor that isn't zero
+-- a common factor that is not zero can be cancelled
 pub same_factor : (a b n : ℕ) → 0 < n → a * n ≡ b * n → a ≡ b
 same_factor a b n some e = sym (mul-div_cancel a some) ∙ ap (λ x. x / n) e ∙ mul-div_cancel b some
 
@@ -19,7 +19,7 @@ pow_ten_pos n = one-le-pow n 10 (omega arith)
 one_more : (n d p v : ℕ) → (n * 10 + d) * p + v ≡ n * (p * 10) + ((0 * 10 + d) * p + v)
 one_more n d p v = omega arith
 
--- the value of digits that follow those of n
+-- the value of digits that follow digits of value n
 pub digits_value_after_is : (n : ℕ) (ds : List ℕ) → digits_value_after 10 n ds ≡ n * 10 ^ length ds + digits_value 10 ds
 digits_value_after_is n [] = omega arith
 digits_value_after_is n (c ∷ cs) =
@@ -45,7 +45,7 @@ pub AllDigits-append : (xs ys : List ℕ) → AllDigits 10 xs → AllDigits 10 y
 AllDigits-append [] ys p q = q
 AllDigits-append (x ∷ xs) ys p q = (p.0, AllDigits-append xs ys p.1 q)
 
--- ---- zeros at the end
+-- ---- trailing zeros
 
 pub digits_value-zeros : (n : ℕ) → digits_value 10 (replicate n 48) ≡ 0
 digits_value-zeros zero = refl
@@ -75,7 +75,7 @@ without_end_zeros-bare (x ∷ xs) d bare =
     ap (λ b. cond b [] (x ∷ without_end_zeros (xs ++ d ∷ []))) (is_zeros-bare (x ∷ xs) d bare)
     ∙ ap (λ l. x ∷ l) (without_end_zeros-bare xs d bare)
 
--- a `0` that is the last of n digits goes
+-- if the last of n digits is `0`, it is removed
 pub without_end_zeros_less : (xs : List ℕ) (n : ℕ) → 0 < n → n ≤ length xs → get_or xs (n - 1) 0 ≡ 48
     → without_end_zeros (take (n - 1) xs) ≡ without_end_zeros (take n xs)
 without_end_zeros_less xs n some within zero_last =
@@ -86,7 +86,7 @@ without_end_zeros_less xs n some within zero_last =
     ∙ ap without_end_zeros (sym parts)
     ∙ ap (λ m. without_end_zeros (take m xs)) k
 
--- n digits stay where the last isn't `0`
+-- if the last of n digits is not `0`, all n remain
 pub without_end_zeros_stop : (xs : List ℕ) (n : ℕ) → 0 < n → n ≤ length xs → get_or xs (n - 1) 0 ≢ 48
     → without_end_zeros (take n xs) ≡ take n xs
 without_end_zeros_stop xs n some within bare =
@@ -106,12 +106,12 @@ zeros_after : (x : ℕ) (xs : List ℕ) (b : Bool) → is_zeros (x ∷ xs) ≡ b
 zeros_after x xs true e rest = (length (x ∷ xs), zeros_are (x ∷ xs) e)
 zeros_after x xs false e rest = (rest.0, ap (λ l. x ∷ l) rest.1)
 
--- digits are those without the zeros at their end, and then zeros
+-- digits are the digits without trailing zeros, followed by zeros
 pub zeros_at_end : (xs : List ℕ) → (n : ℕ) × (xs ≡ without_end_zeros xs ++ replicate n 48)
 zeros_at_end [] = (0, refl)
 zeros_at_end (x ∷ xs) = zeros_after x xs (is_zeros (x ∷ xs)) refl (zeros_at_end xs)
 
--- the last digit isn't `0`, where there is one
+-- the last digit, if any, is not `0`
 abbrev pub EndsBare : List ℕ → Type 0
 EndsBare xs = (xs ≡ []) ⊎ ((ys : List ℕ) × (d : ℕ) × (d ≢ 48) × (xs ≡ ys ++ d ∷ []))
 

@@ -1,4 +1,4 @@
--- The money text of whole cents denotes them.
+-- The money text of whole cents denotes these cents.
 use Rattle.std.proofs.Common.{◌≡◌, ℕ, ℤ, unsigned_abs, ◌/◌, ◌%◌, ◌<◌, ◌≤◌, decimal, refl, arith}
 use Rattle.std.proofs.lemmas.Fmt.{decimal_is_IsNumeral}
 use Rattle.std.specs.Str.Parse.{AllDigits, digits_value}

@@ -10,7 +10,7 @@ use Rattle.fixpoint.specs.Number.{signed, is_negative}
 use Rattle.fixpoint.proofs.Numbers.{unsigned_abs-signed}
 use Rattle.fixpoint.proofs.ShortestText.{units_are_signed}
 
--- ---- nearest, by half of a whole one
+-- ---- the nearest whole number is at most a half away
 
 nearest_within_half : (z c other : ℤ) → 2 * distance z c ≤ 1000000 → distance z c ≤ distance z other
 nearest_within_half z c other half = omega (arith, ints)
@@ -48,7 +48,7 @@ same_nearest z a b p q =
     by_lt_z a b (λ below. absurd (no_two_nearest z a b p q below))
     (λ above. by_lt_z b a (λ below. absurd (no_two_nearest z b a q p below)) (λ also. omega (arith, ints)))
 
--- ---- `half_even` gives it
+-- ---- `half_even` is the nearest
 
 pub half_even_high : (n : ℕ) → 2 * (half_even n * 1000000) ≤ 2 * n + 1000000
 half_even_high n = grind (arith, nat_tests)
@@ -119,7 +119,7 @@ cents_negative one other p n h is_product is_size is_half sign =
     ap (λ b. signed b (half_even (unsigned_abs (one *ℤ other)) * 100)) (negative (one *ℤ other) (subst (λ z. z <ℤ pos 0) is_product sign))
     ∙ ap (λ k. neg_ℤ (pos (k * 100))) sizes
 
--- a product of two counts of 64 bits fits 128
+-- a product of two 64-bit counts fits 128 bits
 pub product_fits : (one other : ℤ) → FitsSigned w64 one → FitsSigned w64 other → FitsSigned w128 (one *ℤ other)
 product_fits one other p q = fits_signed_mul w128 one other (2 ^ 63) (2 ^ 63) (omega (arith, ints)) (omega (arith, ints)) (omega arith)
 

@@ -1,4 +1,4 @@
--- Which number a text denotes.
+-- The number that a text denotes.
 use Rattle.std.proofs.Common.{◌≡◌, ℕ, ℤ, unsigned_abs, ◌≤◌, zero, suc, Bool, true, false, List, Ok, Err, refl, sym, ap, ◌∙◌, subst, arith}
 use Rattle.fixpoint.specs.declared.fault.NumFault.{NumFault}
 use Rattle.fixpoint.specs.declared.fault.NumFault.TheVariants.{NotNumber, TooFine, TooLarge}
@@ -16,7 +16,7 @@ unsigned_abs-signed true (suc count) = refl
 same_count_parts : (whole fraction whole' fraction' : List ℕ) (count : ℕ) → whole ≡ whole' → fraction ≡ fraction' → IsCountOf whole fraction count → IsCountOf whole' fraction' count
 same_count_parts whole fraction whole' fraction' count p q h = subst (λ l. IsCountOf l fraction' count) p (subst (λ l. IsCountOf whole l count) q h)
 
--- a text is worth at most one count of units
+-- a text has at most one value in units
 pub same_worth : (bytes : List ℕ) (one other : ℤ) → IsWorth bytes one → IsWorth bytes other → one ≡ other
 same_worth bytes one other p q =
     let same = same_parts bytes p.text q.text in
@@ -24,7 +24,7 @@ same_worth bytes one other p q =
     (same_count_parts p.text.whole p.text.fraction q.text.whole q.text.fraction p.count same.1 same.2 p.counted) q.counted in
     p.is_signed ∙ ap (λ b. signed b p.count) same.0 ∙ ap (signed q.text.negative) counts ∙ sym q.is_signed
 
--- the parts that were read have the count of any worth of the text
+-- the parts that were read have the count of any value of the text
 count_of_worth : (bytes : List ℕ) (negative : Bool) (whole fraction : List ℕ) → HasParts bytes negative whole fraction
     → (units : ℤ) (worth : IsWorth bytes units) → IsCountOf whole fraction worth.count
 count_of_worth bytes negative whole fraction parts units worth =
@@ -48,7 +48,7 @@ Denotes-from_count bytes negative whole fraction parts count h units e = record 
   in_range = subst IsInRange (sym e) (subst (λ n. n ≤ greatest_units) (sym (unsigned_abs-signed negative count)) h.1);
 }
 
--- a fault of the count is one of the text
+-- an error of the count is an error of the text
 pub IsAnswer-from_count : (bytes : List ℕ) (negative : Bool) (whole fraction : List ℕ) → HasParts bytes negative whole fraction
     → (fault : NumFault) → IsCountAnswer whole fraction (Err fault) → IsAnswer bytes (Err fault)
 IsAnswer-from_count bytes negative whole fraction parts NotNumber h = absurd h
@@ -62,7 +62,7 @@ IsAnswer-from_count bytes negative whole fraction parts TooLarge h = record {
   beyond = λ inside. omega (arith, unsigned_abs-signed negative h.0, h.2, inside);
 }
 
--- where a fault is answered no number is denoted
+-- if the result is an error, the text denotes no number
 pub no_number_from_fault : (bytes : List ℕ) (fault : NumFault) → IsAnswer bytes (Err fault) → (units : ℤ) → ¬ Denotes bytes units
 no_number_from_fault bytes NotNumber h units d = h d.worth.text
 no_number_from_fault bytes TooFine h units d = h.no_units units d.worth

@@ -10,7 +10,7 @@ use Rattle.std.specs.Str.Parse.{AllDigits}
 use Rattle.fixpoint.specs.NumberText.{dot_text, IsNumberText}
 use Rattle.fixpoint.specs.Reading.{BeginsWithDigits, HasParts, IsDotTextOf, IsNoDotText}
 
--- no digit stands at the front
+-- the bytes do not begin with a digit
 abbrev pub StartsNoDigit : List ℕ → Type 0
 StartsNoDigit [] = ⊤
 StartsNoDigit (c ∷ cs) = ¬ (digit_value c < 10)
@@ -41,7 +41,7 @@ no_dash [] [] p = λ e. omega arith
 no_dash [] (d ∷ ds) p = λ e. omega arith
 no_dash (c ∷ cs) fraction p = let digit = digit_from_value c p.0 in λ e. omega (arith, digit)
 
--- the front of the text is its sign and its whole part, and what stands behind is its fraction with the dot
+-- the text begins with its sign and its whole part, and the rest is its fraction with the dot
 pub same_front : (bytes : List ℕ) (negative : Bool) (whole rest : List ℕ)
     → bytes ≡ sign_text negative ++ (whole ++ rest) → (negative ≡ false → get_or bytes 0 0 ≢ 45)
     → AllDigits 10 whole → StartsNoDigit rest
@@ -67,9 +67,9 @@ same_parts bytes t u =
     u.whole_digits (StartsNoDigit-dot_text u.fraction) t in
     (front.0, front.1, same_from_dot_text t.fraction u.fraction front.2)
 
--- ---- what the steps of reading say
+-- ---- results of the steps of reading
 
--- no digit follows the digits at the front
+-- no digit follows the leading digits
 pub stops_after : (bytes : List ℕ) (n : ℕ) → BeginsWithDigits bytes n → StartsNoDigit (drop n bytes)
 stops_after bytes n h = elim (cases_lt n (length bytes)) [
   | inl below ↦
@@ -88,7 +88,7 @@ digit_within [] n h p = absurd (omega arith)
 digit_within (d ∷ ds) zero h p = h.0
 digit_within (d ∷ ds) (suc n) h p = digit_within ds n h.1 (omega arith)
 
--- a text that isn't empty is no fraction with its dot where one of the three tests fails
+-- a text that is not empty is not a fraction with its dot if one of the three tests fails
 pub IsNoDotText-from_first : (bytes : List ℕ) → 0 < length bytes → get_or bytes 0 0 ≢ 46 → IsNoDotText bytes
 IsNoDotText-from_first bytes some other fraction digits e = other (no_dot_text bytes fraction some digits e).0
 
@@ -100,7 +100,7 @@ IsNoDotText-from_rest bytes n some begins short fraction digits e =
     let inside : n < length (drop 1 bytes) = omega (arith, begins.within, short) in
     begins.stops inside (digit_within (drop 1 bytes) n (no_dot_text bytes fraction some digits e).2 inside)
 
--- ---- the text as a sign, digits and what stands behind them
+-- ---- a text as a sign, digits and a rest
 
 read_front : (bytes : List ℕ) (negative : Bool) (digits : List ℕ) (n : ℕ) → bytes ≡ sign_text negative ++ digits → (negative ≡ false → get_or bytes 0 0 ≢ 45)
     → BeginsWithDigits digits n → (t : IsNumberText bytes) → (t.negative ≡ negative) × (t.whole ≡ take n digits) × (dot_text t.fraction ≡ drop n digits)
@@ -108,7 +108,7 @@ read_front bytes negative digits n joined dash begins =
     same_front bytes negative (take n digits) (drop n digits) (joined ∙ ap (λ l. sign_text negative ++ l) (sym (take-append-drop n digits))) dash
     begins.digits (stops_after digits n begins)
 
--- no number text without a fraction or the end behind the digits
+-- a text is not a number text if its rest after the digits is neither empty nor a fraction
 pub no_text-from_rest : (bytes : List ℕ) (negative : Bool) (digits : List ℕ) (n : ℕ) → bytes ≡ sign_text negative ++ digits → (negative ≡ false → get_or bytes 0 0 ≢ 45)
     → BeginsWithDigits digits n → IsNoDotText (drop n digits) → ¬ IsNumberText bytes
 no_text-from_rest bytes negative digits n joined dash begins none t =

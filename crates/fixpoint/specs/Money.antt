@@ -8,11 +8,11 @@ use Rattle.fixpoint.specs.NumberText.{Denotes}
 abbrev pub IsCents : ℤ → Type 0
 IsCents units = unsigned_abs units % 100 ≡ 0
 
--- the units are money: whole cents, and not below zero
+-- the units are money: whole cents that are not negative
 abbrev pub IsMoney : ℤ → Type 0
 IsMoney units = IsCents units × (pos 0 ≤ℤ units)
 
--- the same as a test
+-- `IsMoney` as a test
 abbrev pub is_money : ℤ → Bool
 is_money units = (unsigned_abs units % 100 == 0) && int_le (pos 0) units
 
@@ -20,40 +20,40 @@ is_money units = (unsigned_abs units % 100 == 0) && int_le (pos 0) units
 abbrev pub is_rate : ℤ → Bool
 is_rate units = int_le (pos 0) units && int_le units (pos 10000)
 
--- the number is a rate
+-- `is_rate` as a proposition
 abbrev pub IsRate : ℤ → Type 0
 IsRate units = IsTrue (is_rate units)
 
--- how far so many whole ones are from so many millionths
+-- the distance between a count of millionths and a count of whole ones, in millionths
 abbrev pub distance : ℤ → ℤ → ℕ
 distance millionths whole = unsigned_abs (millionths -ℤ whole *ℤ pos 1000000)
 
--- the whole number nearest to so many millionths, the even one where two are as near
+-- the whole number is nearest to the count of millionths; of two nearest, it is the even one
 pub record IsNearest (millionths whole : ℤ) : Type 0 where
   pub nearest : (other : ℤ) → distance millionths whole ≤ distance millionths other
   pub even_of_two : (other : ℤ) → other ≢ whole → distance millionths other ≡ distance millionths whole → unsigned_abs whole % 2 ≡ 0
 
--- the units of the product of two numbers, rounded once to whole cents:
--- the product of their units counts millionths of a cent
+-- the units are the product of two numbers, rounded once to whole cents: the product of two counts
+-- of units is a count of millionths of a cent
 pub record IsCentsOfProduct (one other units : ℤ) : Type 0 where
   pub cents : ℤ
   pub rounded : IsNearest (one *ℤ other) cents
   pub of_cents : units ≡ cents *ℤ pos 100
 
--- so many millionths, rounded to a whole number, half to even
+-- a count of millionths, rounded to a whole number, half to even
 abbrev pub half_even : ℕ → ℕ
 half_even n =
     let whole = n / 1000000 in
     let rest = n % 1000000 in
     if nat_lt (2 * rest) 1000000 then whole else (if nat_lt 1000000 (2 * rest) then whole + 1 else whole + whole % 2)
 
--- the units of the product of two numbers, rounded once to whole cents
+-- the product of two numbers, rounded once to whole cents, in units
 abbrev pub cents_of_product : ℤ → ℤ → ℤ
 cents_of_product one other =
     let product = one *ℤ other in
     signed (is_negative product) (half_even (unsigned_abs product) * 100)
 
--- `cents_of_product` is the product rounded to whole cents, and nothing else is
+-- `cents_of_product` is the product rounded to whole cents, and no other count is
 pub record ProductsAreRounded : Type 0 where
   pub rounded : (one other : ℤ) → IsCentsOfProduct one other (cents_of_product one other)
   pub only : (one other units : ℤ) → IsCentsOfProduct one other units → units ≡ cents_of_product one other
@@ -68,6 +68,6 @@ money_text units =
     let count = unsigned_abs units in
     sign_text (is_negative units) ++ (decimal (count / 10000) ++ 46 ∷ two_digits (count % 10000 / 100))
 
--- the text of whole cents denotes them
+-- the text of whole cents denotes these cents
 abbrev pub MoneyTextDenotes : Type 0
 MoneyTextDenotes = (units : ℤ) → IsInRange units → IsCents units → Denotes (money_text units) units

@@ -1,22 +1,23 @@
--- What contracts see of an `Out`: its writer, and whether it has failed; and of a text that is held.
+-- What contracts see of an `Out`, which is its writer and whether a write has failed, and of a
+-- `BoundedBuffer`.
 use Rattle.std.specs.Prelude.{◌<◌, ℕ, Bool, List, length, take, Option}
 use Rattle.std.specs.Io.KnownBytes.{Appends}
 use Rattle.fixpoint.specs.declared.held_text.HeldText.{HeldText}
 use Rattle.fixpoint.specs.declared.out.Out.{Out}
 
--- the writer
+-- the writer of an `Out`
 abbrev pub writer_of : {W : Type 0} → Out W → W
 writer_of out = out.writer
 
--- whether a write has failed
+-- whether a write of an `Out` has failed
 abbrev pub has_failed : {W : Type 0} → Out W → Bool
 has_failed out = out.failed
 
--- the bytes that a text holds
+-- the bytes in a bounded buffer
 abbrev pub held_in : HeldText → List ℕ
 held_in held = held.text.items
 
--- the writer got so many first bytes of the text, and not all of them
+-- the writer took this number of bytes from the start of the text, and not all of them
 pub record PutsFront (text : List ℕ) (written : ℕ) (old new : Option (List ℕ)) : Type 0 where
   pub cut : written < length text
   pub appended : Appends old new (take written text)

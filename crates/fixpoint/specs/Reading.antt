@@ -1,4 +1,4 @@
--- What the steps of reading a number text say of its parts.
+-- Results of the steps that read a number text.
 use Rattle.std.specs.Prelude.{◌≡◌, ◌≢◌, ℕ, ◌<◌, ◌≤◌, Bool, List, length, take, slice_index, Result, Ok, Err}
 use Rattle.std.specs.Char.{digit_value}
 use Rattle.std.specs.Str.Parse.{AllDigits}
@@ -7,17 +7,17 @@ use Rattle.fixpoint.specs.NumberText.{dot_text, IsNumberText, IsCountOf}
 use Rattle.fixpoint.specs.declared.fault.NumFault.{NumFault}
 use Rattle.fixpoint.specs.declared.fault.NumFault.TheVariants.{NotNumber, TooFine, TooLarge}
 
--- so many digits stand at the front, and no digit follows
+-- the bytes begin with this number of digits, and the next byte, if any, is not a digit
 pub record BeginsWithDigits (bytes : List ℕ) (count : ℕ) : Type 0 where
   pub within : count ≤ length bytes
   pub digits : AllDigits 10 (take count bytes)
   pub stops : count < length bytes → ¬ (digit_value (slice_index bytes count) < 10)
 
--- the bytes are no fraction with its dot, and not empty either
+-- the bytes are neither empty nor a dot and digits
 abbrev pub IsNoDotText : List ℕ → Type 0
 IsNoDotText bytes = (fraction : List ℕ) → AllDigits 10 fraction → bytes ≢ dot_text fraction
 
--- the bytes are a fraction with its dot, or both are empty
+-- the bytes are a dot and this fraction, or both are empty
 pub record IsDotTextOf (bytes fraction : List ℕ) : Type 0 where
   pub digits : AllDigits 10 fraction
   pub spelled : bytes ≡ dot_text fraction
@@ -29,7 +29,8 @@ pub record HasParts (bytes : List ℕ) (negative : Bool) (whole fraction : List 
   pub its_whole : text.whole ≡ whole
   pub its_fraction : text.fraction ≡ fraction
 
--- how many ten-thousandths the digits write, by the answer
+-- the result is right: the count of ten-thousandths that the digits denote, or the error that
+-- applies to them
 abbrev pub IsCountAnswer : List ℕ → List ℕ → Result ℕ NumFault → Type 0
 IsCountAnswer whole fraction (Ok count) = IsCountOf whole fraction count × (count ≤ greatest_units)
 IsCountAnswer whole fraction (Err NotNumber) = ⊥

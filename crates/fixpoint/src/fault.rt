@@ -1,16 +1,16 @@
-//! Why a text is no number.
+//! The reasons why a text is not a number.
 use thiserror::Error;
 
-/// Why a text is no number. The first that applies is answered.
+/// The reason why a text is not a number. If several apply, the first in this order is returned.
 #[derive(Clone, Copy, Debug, PartialEq, Eq, Error)]
 pub enum NumFault {
-    /// The text is not of a number's form.
+    /// The text does not have the form of a number.
     #[error("not a number")]
     NotNumber,
-    /// A decimal beyond the fourth is not zero.
+    /// A digit after the fourth decimal is not zero.
     #[error("more than four decimals")]
     TooFine,
-    /// The number is greater than 99999999999.9999, or less than its opposite.
+    /// The number is greater than 99999999999.9999 or less than -99999999999.9999.
     #[error("beyond 99999999999.9999")]
     TooLarge,
 }

@@ -1,4 +1,4 @@
-//! Decimals with four places, held as a whole count of ten-thousandths.
+//! Decimals with four places, stored as a whole count of ten-thousandths.
 ghost use Rattle.std.specs.Prelude.{◌≡◌, ◌≤◌, ◌↔◌, ℤ, ◌+ℤ◌, ◌-ℤ◌, take, IsTrue, IfSome, OnErr};
 ghost use Rattle.std.specs.Int.{int_max, int_min};
 ghost use Rattle.std.specs.Option.{SomeIff};
@@ -11,10 +11,10 @@ use crate::rounding::cents_of_product;
 use crate::{reading, writing};
 use std::marker::Model;
 
-/// How many units one is.
+/// The number of units in one: a unit is a ten-thousandth.
 pub const UNITS_PER_ONE: i64 = 10_000;
 
-/// The greatest count of units, on either side of zero.
+/// The greatest absolute value of a number, in units.
 pub const MAX_UNITS: i64 = 999_999_999_999_999;
 
 /// A decimal with four places, from -99,999,999,999.9999 to 99,999,999,999.9999.
@@ -34,8 +34,13 @@ impl Model for Fixed {
 }
 
 impl Fixed {
-    /// Reads a whole text: an optional `-`, then digits, with an optional `.` and digits behind it, or a `.` and digits alone. Decimals beyond the fourth are to be
-    /// zero. Each other text is refused as `NotNumber`, `TooFine` or `TooLarge`, the first of these that applies.
+    /// Reads a whole text as a number: an optional `-`, then digits that an optional `.` and more
+    /// digits may follow, or a `.` and digits alone.
+    ///
+    /// # Errors
+    ///
+    /// Returns `NotNumber`, `TooFine` (a digit after the fourth decimal is not zero) or `TooLarge`
+    /// for every other text, whichever of these comes first.
     pub fn parse(text: &[u8]) -> Result<Fixed, NumFault>
         ensures answers { IsAnswer text.now result }
         ensures refused { OnErr result ((units : ℤ) → ¬ Denotes text.now units) }
@@ -47,7 +52,8 @@ impl Fixed {
         Ok(Fixed { units })
     }
 
-    /// The number of so many ten-thousandths, unless these are more than 999,999,999,999,999 above or below zero.
+    /// Returns the number of `units` ten-thousandths, or `None` if their absolute value exceeds
+    /// 999,999,999,999,999.
     pub fn from_units(units: i64) -> Option<Fixed>
         ensures { SomeIff result (IsInRange units) units }
     {
@@ -58,7 +64,7 @@ impl Fixed {
         }
     }
 
-    /// How many ten-thousandths the number is.
+    /// Returns the number as a count of ten-thousandths.
     pub fn units(self) -> i64
         ensures value { result ≡ self }
         ensures in_range { IsInRange result }
@@ -67,7 +73,8 @@ impl Fixed {
         units
     }
 
-    /// Writes the shortest text to the buffer's front, and returns its length.
+    /// Writes the number's shortest text at the start of the buffer and returns its length in
+    /// bytes.
     pub fn write_into(self, buffer: &mut [u8; 24]) -> usize
         ensures fits { result ≤ 24 }
         ensures written { take result buffer.new ≡ shortest_text self }
@@ -75,21 +82,22 @@ impl Fixed {
         writing::shortest(self.units, buffer)
     }
 
-    /// The sum, where it is in the range.
+    /// Returns the exact sum, or `None` if it is out of range.
     pub fn add(self, other: Fixed) -> Option<Fixed>
         ensures { SomeIff result (IsInRange (self +ℤ other)) (self +ℤ other) }
     {
         Fixed::from_units(self.units + other.units)
     }
 
-    /// The difference, where it is in the range.
+    /// Returns the exact difference, or `None` if it is out of range.
     pub fn sub(self, other: Fixed) -> Option<Fixed>
         ensures { SomeIff result (IsInRange (self -ℤ other)) (self -ℤ other) }
     {
         Fixed::from_units(self.units - other.units)
     }
 
-    /// The product, rounded once to whole cents, half to even, where that is in the range.
+    /// Returns the product, rounded once to whole cents, half to even, or `None` if it is out of
+    /// range.
     pub fn mul_cents(self, rate: Fixed) -> Option<Fixed>
         ensures exact { SomeIff result (IsInRange (cents_of_product self rate))
             (cents_of_product self rate) }
@@ -99,14 +107,14 @@ impl Fixed {
         Fixed::from_units(i64::try_from(units).ok()?)
     }
 
-    /// Whether the number is a whole count of cents.
+    /// Returns whether the number is a whole count of cents.
     pub fn is_cents(self) -> bool
         ensures { IsTrue result ↔ IsCents self }
     {
         self.units.unsigned_abs() % 100 == 0
     }
 
-    /// Whether the number is a whole count of cents and not below zero.
+    /// Returns whether the number is a whole count of cents and not negative.
     pub fn is_money(self) -> bool
         ensures money { IsTrue result ↔ IsMoney self }
         ensures value { result ≡ is_money self }
@@ -114,28 +122,29 @@ impl Fixed {
         self.is_cents() && self.units >= 0
     }
 
-    /// Whether the number is one from 0 to 1.
+    /// Returns whether the number is from 0 to 1.
     pub fn is_rate(self) -> bool
         ensures { result ≡ is_rate self }
     {
         0 <= self.units && self.units <= UNITS_PER_ONE
     }
 
-    /// The smaller of the two.
+    /// Returns the smaller of the two numbers.
     pub fn min(self, other: Fixed) -> Fixed
         ensures { result ≡ int_min self other }
     {
         if other < self { other } else { self }
     }
 
-    /// The greater of the two.
+    /// Returns the greater of the two numbers.
     pub fn max(self, other: Fixed) -> Fixed
         ensures { result ≡ int_max self other }
     {
         if other < self { self } else { other }
     }
 
-    /// Writes the text with exactly two decimals to the buffer's front, and returns its length.
+    /// Writes the number's text with exactly two decimals at the start of the buffer and returns
+    /// its length in bytes.
     pub fn write_money(self, buffer: &mut [u8; 24]) -> usize
         requires { IsCents self }
         ensures fits { result ≤ 24 }

@@ -1,4 +1,4 @@
-//! Texts in memory that aren't longer than they may be.
+//! A writer into memory with a limit on its length.
 ghost use Rattle.std.specs.Prelude.{◌≡◌, [], Some};
 ghost use Rattle.fixpoint.specs.Out.{held_in};
 
@@ -6,7 +6,8 @@ use std::alloc::Global;
 use std::io;
 use std::io::{ErrorKind, Write};
 
-/// A text that takes bytes as long as it isn't longer than it may be.
+/// A text in memory that grows up to a limit in bytes. A write that would exceed the limit fails
+/// and leaves the text unchanged.
 #[derive(Drop)]
 pub struct HeldText {
     text: Vec<u8>,
@@ -14,7 +15,7 @@ pub struct HeldText {
 }
 
 impl HeldText {
-    /// An empty text of at most so many bytes.
+    /// Returns an empty buffer that takes at most `most` bytes.
     pub fn new(alloc: Global, most: usize) -> HeldText
         ensures { held_in result ≡ [] }
     {
@@ -24,7 +25,7 @@ impl HeldText {
         }
     }
 
-    /// The text.
+    /// Returns the bytes written so far.
     pub fn into_text(self) -> Vec<u8>
         ensures { result.items ≡ held_in self }
     {

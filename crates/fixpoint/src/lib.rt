@@ -1,14 +1,15 @@
 //! Fixed-point decimals with four places, money, and a writer that remembers a failure.
 //!
-//! A `Fixed` is a whole count of ten-thousandths, called its units, of at most fifteen digits, and
-//! contracts see it as that count. `Fixed::parse` reads a number text, `write_into` writes the
-//! shortest one and `write_money` the one with two decimals. Sums are exact, products are rounded
-//! once to whole cents. `Out` passes pieces of bytes to a writer, one write a piece, and
-//! `put_all` a whole text; `HeldText` is a writer into memory that takes no more than it may.
-//! The digits come from `itoa`, the messages of the faults from `thiserror`. Nothing but `HeldText` allocates.
+//! A `Fixed` is a whole count of ten-thousandths, called its units, of at most fifteen digits.
+//! Contracts see a `Fixed` as that count. `Fixed::parse` reads a number text, `write_into` writes
+//! the shortest text and `write_money` the text with two decimals. Sums are exact, and products are
+//! rounded once to whole cents. `Out` passes bytes to a writer, one write a call, and `put_all`
+//! passes a whole text; `BoundedBuffer` is a writer into memory with a limit on its length. The
+//! digits come from `itoa` and the messages of the errors from `thiserror`. Only `BoundedBuffer`
+//! allocates.
 //!
-//! Begin with `specs/Number.antt`, `specs/NumberText.antt` and `specs/Money.antt`, which say what
-//! numbers, their texts and money are; then read `fixed.rt`, and `out.rt` with `specs/Out.antt`.
+//! Begin with `specs/Number.antt`, `specs/NumberText.antt` and `specs/Money.antt`, which define
+//! numbers, their texts and money; then read `fixed.rt`, and `out.rt` with `specs/Out.antt`.
 #![tactic(auto)]
 
 mod fault;

@@ -1,13 +1,13 @@
-//! A writer that takes one piece of bytes a write, and writes no more once that failed.
+//! A writer that makes one write a call, and none after a failed one.
 use std::io::Write;
 use thiserror::Error;
 
-/// The writer took nothing, now or earlier.
+/// A write failed, in this call or in an earlier one.
 #[derive(Clone, Copy, Debug, PartialEq, Eq, Error)]
 #[error("the writer takes no more bytes")]
 pub struct Failed;
 
-/// Passes pieces of bytes to a writer until one fails.
+/// Passes bytes to a writer until one write fails.
 #[derive(Drop)]
 pub struct Out<W> {
     writer: W,
@@ -19,7 +19,7 @@ impl<W: Write> Out<W> {
     ghost use Rattle.std.specs.Io.KnownBytes.{Appends, Keeps};
     ghost use Rattle.fixpoint.specs.Out.{writer_of, has_failed};
 
-    /// An `Out` that has not failed.
+    /// Wraps a writer; no write has failed yet.
     pub fn new(writer: W) -> Out<W>
         ensures writer { writer_of result ≡ writer }
         ensures failed { has_failed result ≡ false }
@@ -30,21 +30,26 @@ impl<W: Write> Out<W> {
         }
     }
 
-    /// The writer.
+    /// Returns the writer.
     pub fn into_inner(self) -> W
         ensures { result ≡ writer_of self }
     {
         self.writer
     }
 
-    /// Whether a `put` has failed.
+    /// Returns whether a `put` has failed.
     pub fn failed(&self) -> bool
         ensures { result ≡ has_failed self.now }
     {
         self.failed
     }
 
-    /// Hands the piece to the writer in one write, and returns how many of its bytes went out.
+    /// Passes the bytes to the writer in one write, and returns how many of them it took, at least
+    /// one.
+    ///
+    /// # Errors
+    ///
+    /// Returns `Failed` if the write fails, or if an earlier one has failed.
     pub fn put(&mut self, piece: &[u8]) -> Result<usize, Failed>
         requires { 0 < length piece.now }
         ensures wrote { IfOk result (λ count. (1 ≤ count) × (count ≤ length piece.now)) }

@@ -1,4 +1,4 @@
-//! The parts of a number text, and the count of ten-thousandths that they write.
+//! The parts of a number text, and the count of ten-thousandths that they denote.
 ghost use Rattle.std.specs.Prelude.{◌≡◌, ◌≢◌, ◌≤◌, ◌-◌, ◌^◌, ◌++◌, false, min, slice_index, MatchOption};
 ghost use Rattle.std.specs.Fmt.{sign_text};
 ghost use Rattle.std.specs.Str.Parse.{AllDigits, digits_value};
@@ -8,10 +8,11 @@ ghost use Rattle.fixpoint.specs.Reading.{BeginsWithDigits, HasParts, IsCountAnsw
 use crate::fault::NumFault;
 use crate::fixed::{MAX_UNITS, UNITS_PER_ONE};
 
-/// One beyond the greatest whole part.
+/// The smallest whole part that is too large.
 const WHOLE_LIMIT: u64 = 100_000_000_000;
 
-/// The sign, the digits before the dot and the digits behind it.
+/// Splits a number text into its sign, its whole digits and its decimals. The result is `None` if
+/// the text does not have the form of a number.
 pub fn parts(text: &[u8]) -> Option<(bool, &[u8], &[u8])>
     ensures { MatchOption result (¬ IsNumberText text.now)
         (λ parts. HasParts text.now parts.0 parts.1.now parts.2.now) }
@@ -25,7 +26,6 @@ pub fn parts(text: &[u8]) -> Option<(bool, &[u8], &[u8])>
     Some((negative, whole, fraction))
 }
 
-/// Whether the text begins with `-`, and the text behind that.
 fn without_sign(text: &[u8]) -> (bool, &[u8])
     ensures joined { text.now ≡ sign_text result.0 ++ result.1.now }
     ensures signed { result.0 ≡ false → slice_index text.now 0 ≢ 45 }
@@ -37,7 +37,6 @@ fn without_sign(text: &[u8]) -> (bool, &[u8])
     }
 }
 
-/// How many digits the text begins with.
 fn leading_digits(text: &[u8]) -> usize
     ensures { BeginsWithDigits text.now result }
 {
@@ -49,7 +48,8 @@ fn leading_digits(text: &[u8]) -> usize
     text.len()
 }
 
-/// The digits behind the dot, where the text is nothing else.
+/// Returns the decimals, which are empty if the text is. The result is `None` if the text is not a
+/// `.` and digits.
 fn fraction_digits(text: &[u8]) -> Option<&[u8]>
     ensures { MatchOption result (IsNoDotText text.now)
         (λ fraction. IsDotTextOf text.now fraction.now) }
@@ -65,7 +65,7 @@ fn fraction_digits(text: &[u8]) -> Option<&[u8]>
     }
 }
 
-/// How many ten-thousandths the digits write.
+/// Returns the count of ten-thousandths that the digits denote.
 pub fn ten_thousandths(whole: &[u8], fraction: &[u8]) -> Result<u64, NumFault>
     requires whole { AllDigits 10 whole.now }
     requires fraction { AllDigits 10 fraction.now }
@@ -85,7 +85,7 @@ pub fn ten_thousandths(whole: &[u8], fraction: &[u8]) -> Result<u64, NumFault>
     }
 }
 
-/// How many ten-thousandths one of the last digit is worth, of so many behind the dot.
+/// Returns the worth of the last of `decimals` decimals, in ten-thousandths.
 fn unit_of_last(decimals: usize) -> u64
     requires { decimals ≤ 4 }
     ensures { result ≡ 10 ^ (4 - decimals) }
@@ -99,7 +99,7 @@ fn unit_of_last(decimals: usize) -> u64
     }
 }
 
-/// The digits without the zeros at their end.
+/// Returns the digits without their trailing zeros.
 pub fn without_end_zeros(digits: &[u8]) -> &[u8]
     ensures { result.now ≡ without_end_zeros digits.now }
 {
@@ -110,7 +110,8 @@ pub fn without_end_zeros(digits: &[u8]) -> &[u8]
     &digits[..len]
 }
 
-/// The number that the digits write, or `WHOLE_LIMIT` where it is greater.
+/// Returns the value of the digits, at most `WHOLE_LIMIT`. The cap excludes an overflow, whatever
+/// the number of digits.
 fn capped_value(digits: &[u8]) -> u64
     requires { AllDigits 10 digits.now }
     ensures { result ≡ min (digits_value 10 digits.now) WHOLE_LIMIT }

@@ -2,10 +2,9 @@
 ghost use Rattle.std.specs.Prelude.{◌≡◌};
 ghost use Rattle.fixpoint.specs.Money.{cents_of_product, half_even};
 
-/// How many millionths one is.
 const MILLION: u128 = 1_000_000;
 
-/// The units of the product of two counts of units, rounded once to whole cents.
+/// Returns the product of two counts of units, rounded once to whole cents, in units.
 pub fn cents_of_product(one: i64, other: i64) -> i128
     ensures { result ≡ cents_of_product one other }
 {
@@ -14,7 +13,7 @@ pub fn cents_of_product(one: i64, other: i64) -> i128
     if product < 0 { -units } else { units }
 }
 
-/// So many millionths, rounded to the nearest whole number, the even one at a tie.
+/// Rounds a count of millionths to the nearest whole number, to the even one at a tie.
 fn half_even(millionths: u128) -> u128
     ensures { result ≡ half_even millionths }
 {

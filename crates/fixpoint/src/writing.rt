@@ -1,4 +1,4 @@
-//! A number's shortest text, and its text as money.
+//! The shortest text of a number, and its text as money.
 ghost use Rattle.std.specs.Prelude.{◌≡◌, ◌+◌, ◌/◌, ◌<◌, ◌≤◌, ◌++◌, length, take, decimal, unsigned_abs};
 ghost use Rattle.fixpoint.specs.Money.{money_text, two_digits, IsCents};
 ghost use Rattle.fixpoint.specs.NumberText.{shortest_text, four_digits, dot_text, without_end_zeros};
@@ -8,7 +8,7 @@ ghost use Rattle.std.specs.Fmt.{sign_text};
 use crate::reading::without_end_zeros;
 use itoa::Buffer;
 
-/// Writes the shortest text of so many units, and returns its length.
+/// Writes the shortest text of the number with these units and returns its length.
 pub fn shortest(units: i64, buffer: &mut [u8; 24]) -> usize
     requires { IsInRange units }
     ensures fits { result ≤ 24 }
@@ -18,7 +18,7 @@ pub fn shortest(units: i64, buffer: &mut [u8; 24]) -> usize
     put_fraction(buffer, at, units.unsigned_abs() % 10_000)
 }
 
-/// Writes the text of so many units, which are whole cents, with two decimals, and returns its length.
+/// Writes the text of whole cents, given in units, with two decimals and returns its length.
 pub fn money(units: i64, buffer: &mut [u8; 24]) -> usize
     requires in_range { IsInRange units }
     requires cents { IsCents units }
@@ -30,7 +30,7 @@ pub fn money(units: i64, buffer: &mut [u8; 24]) -> usize
     put(buffer, at, &[b'.', digit(cents / 10), digit(cents % 10)])
 }
 
-/// Writes the sign and the whole part, and returns where they end.
+/// Writes the sign and the whole part and returns where they end.
 fn put_whole(units: i64, buffer: &mut [u8; 24]) -> usize
     requires { IsInRange units }
     ensures fits { result ≤ 12 }
@@ -42,7 +42,8 @@ fn put_whole(units: i64, buffer: &mut [u8; 24]) -> usize
     put(buffer, at, Buffer::new().format(whole).as_bytes())
 }
 
-/// Writes a fraction of so many ten-thousandths at `at`, and returns where it ends.
+/// Writes a fraction of `units` ten-thousandths at `at` and returns where it ends. A fraction of
+/// zero has no text, and no dot either.
 fn put_fraction(buffer: &mut [u8; 24], at: usize, units: u64) -> usize
     requires room { at + 5 ≤ 24 }
     requires fraction { units < 10000 }
@@ -64,7 +65,6 @@ fn put_fraction(buffer: &mut [u8; 24], at: usize, units: u64) -> usize
     put(buffer, at, decimals)
 }
 
-/// The byte of a digit.
 fn digit(value: u64) -> u8
     requires { value < 10 }
     ensures { result ≡ 48 + value }
@@ -72,7 +72,7 @@ fn digit(value: u64) -> u8
     b'0' + value as u8
 }
 
-/// Writes the bytes at `at`, and returns where they end.
+/// Writes the bytes at `at` and returns where they end.
 fn put(buffer: &mut [u8; 24], at: usize, bytes: &[u8]) -> usize
     requires { at + length bytes.now ≤ 24 }
     ensures end { result ≡ at + length bytes.now }

@@ -1,7 +1,9 @@
-//! Tests: texts of cells with their answers, values and their literals, and the limits of a cell. A call that is refused memory is
-//! made once more, so that whichever allocation is refused, nothing else is answered in its place.
+//! Tests of the texts of cells with their results, of values with their literals, and of the limits
+//! of a cell. A call that runs out of memory is repeated, so a refused allocation must not lead to
+//! any other result.
 //!
-//! What a text has for an answer is asked by one small function each, so that the loops over the tables hold no values.
+//! Small functions return the result of one text each, so that the loops over the tables own no
+//! values. This keeps the proofs of the loops small.
 mod examples;
 mod limits;
 mod lists;
@@ -15,12 +17,12 @@ use feel_tests::{
 use std::alloc::Global;
 use std::process::Abort;
 
-// What one reading of a cell's text tells of its fault.
+// Reads the cell once, and returns its fault.
 fn told_of(alloc: Global, kind: Kind, text: &str) -> Option<CellFault> {
     read_cell(alloc, kind, text).err()
 }
 
-// The fault of a text that is no cell of the kind.
+// Returns the fault of a text that is not a cell of the kind, even if one allocation is refused.
 fn fault_of(alloc: Global, kind: Kind, text: &str) -> Option<CellFault> {
     match told_of(alloc, kind, text) {
         Some(fault) if fault.cause == CellCause::OutOfMemory => told_of(alloc, kind, text),
@@ -28,12 +30,10 @@ fn fault_of(alloc: Global, kind: Kind, text: &str) -> Option<CellFault> {
     }
 }
 
-// The fault of a text that is no literal of the kind.
 fn literal_fault_of(alloc: Global, kind: Kind, text: &str) -> Option<CellFault> {
     read_value(alloc, kind, text).err()
 }
 
-// The fault of a field that is no value of the kind.
 fn field_fault_of(alloc: Global, kind: Kind, field: &str) -> Option<PlainFault> {
     read_plain(alloc, kind, field).err()
 }
@@ -45,7 +45,7 @@ fn cell_of(rt: &impl Abort, alloc: Global, kind: Kind, text: &str) -> Cell {
     cell
 }
 
-// The value that a literal spells.
+// Reads a literal, even if one allocation is refused.
 fn value_of(rt: &impl Abort, alloc: Global, kind: Kind, literal: &str) -> Value {
     if let Ok(value) = read_value(alloc, kind, literal) {
         return value;
@@ -56,7 +56,7 @@ fn value_of(rt: &impl Abort, alloc: Global, kind: Kind, literal: &str) -> Value 
     value
 }
 
-// The value that a plain field is.
+// Reads a plain field, even if one allocation is refused.
 fn plain_of(rt: &impl Abort, alloc: Global, kind: Kind, field: &str) -> Value {
     if let Ok(value) = read_plain(alloc, kind, field) {
         return value;
@@ -72,14 +72,14 @@ fn text_of(rt: &impl Abort, alloc: Global, text: &str) -> Text {
     Text::new(alloc, text).expect(rt, "memory for a text")
 }
 
-// Whether a cell of the kind holds of the value that a plain field is.
+// Returns whether a cell of the kind holds for the value of a plain field of the kind `of`.
 fn holds(rt: &impl Abort, alloc: Global, kind: Kind, text: &str, of: Kind, field: &str) -> bool {
     let cell = cell_of(rt, alloc, kind, text);
     let value = plain_of(rt, alloc, of, field);
     cell.holds(&value)
 }
 
-// The texts are cells of the kind.
+// Requires that the texts are cells of the kind.
 fn are_cells(rt: &impl Abort, alloc: Global, kind: Kind, texts: &[&str]) {
     for text in texts {
         let text: &str = text;
@@ -87,7 +87,7 @@ fn are_cells(rt: &impl Abort, alloc: Global, kind: Kind, texts: &[&str]) {
     }
 }
 
-// Each text is no cell of the kind: its fault has this cause and names this byte.
+// Requires that each text is not a cell of the kind, with a fault of this cause at this byte.
 fn are_refused(rt: &impl Abort, alloc: Global, kind: Kind, rows: &[(&str, CellCause, usize)]) {
     for row in rows {
         let (text, cause, at) = *row;
@@ -96,7 +96,7 @@ fn are_refused(rt: &impl Abort, alloc: Global, kind: Kind, rows: &[(&str, CellCa
     }
 }
 
-// Each text is no literal of the kind: its fault has this cause and names this byte.
+// Requires that each text is not a literal of the kind, with a fault of this cause at this byte.
 fn are_no_literals(rt: &impl Abort, alloc: Global, kind: Kind, rows: &[(&str, CellCause, usize)]) {
     for row in rows {
         let (text, cause, at) = *row;
@@ -105,7 +105,7 @@ fn are_no_literals(rt: &impl Abort, alloc: Global, kind: Kind, rows: &[(&str, Ce
     }
 }
 
-// Each cell holds of the value that the plain field beside it is, or doesn't.
+// Requires that each cell holds, or does not hold, for the value of the plain field in its row.
 fn hold(rt: &impl Abort, alloc: Global, kind: Kind, rows: &[(&str, &str, bool)]) {
     for row in rows {
         let (text, field, wanted) = *row;
@@ -114,7 +114,7 @@ fn hold(rt: &impl Abort, alloc: Global, kind: Kind, rows: &[(&str, &str, bool)])
     }
 }
 
-// So many copies of a piece between a front and a back.
+// Returns `times` copies of a piece between a front and a back.
 fn repeated(
     rt: &impl Abort,
     alloc: Global,

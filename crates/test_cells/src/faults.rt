@@ -1,4 +1,4 @@
-//! Faults by worked examples.
+//! Tests of the faults: their numbers, and the faults made from a refused allocation.
 use crate::ending::expects;
 use faults::{CellCause, CellFault, Fault, PlanCause, PlanFault};
 use std::alloc::AllocError;

@@ -1,5 +1,6 @@
-//! Tests by worked examples of `fixpoint`, `faults` and `feel_tests`. They stand apart from these, since the tests of a crate are proved
-//! together with all of its code, and in one crate, since each program of tests costs the gate the reading of what it stands on.
+//! Tests of `fixpoint`, `faults` and `feel_tests` by worked examples. They are outside these
+//! crates, because the tests of a crate are proved together with all of its code, and they share
+//! one crate, because each test program costs the time to read the libraries that it uses.
 #![tactic(auto)]
 
 #[cfg(test)]

@@ -1,5 +1,5 @@
-//! Worked values, and what no clause says of an `Out`: that it succeeds where its writer does, and
-//! makes one write a piece.
+//! Worked values, and two facts about an `Out` that no clause states: it succeeds if its writer
+//! does, and it makes one write for each piece.
 use crate::ending::expects;
 use fixpoint::{
     Cut, Failed, Fixed, MAX_UNITS, NumFault, money_text_denotes, products_are_rounded,
@@ -15,7 +15,8 @@ fn number(rt: &impl Abort, text: &str) -> Fixed {
     Fixed::parse(text.as_bytes()).expect(rt, "a number")
 }
 
-// The text is of this number, whose shortest text is the other one.
+// Requires that the text denotes the number with these units, and that its shortest text is
+// `shortest`.
 fn reads(rt: &impl Abort, text: &str, units: i64, shortest: &str) {
     let number = number(rt, text);
     let mut buffer = [0; 24];
@@ -72,8 +73,8 @@ fn orders_numbers(rt: HostRuntime) {
     let least = Fixed::from_units(-MAX_UNITS);
     let greatest = Fixed::from_units(MAX_UNITS);
     expects(&rt, least < greatest, "the least before the greatest");
-    let behind = Fixed::from_units(MAX_UNITS + 1);
-    expects(&rt, behind.is_none(), "none behind");
+    let after = Fixed::from_units(MAX_UNITS + 1);
+    expects(&rt, after.is_none(), "none after");
     let before = Fixed::from_units(-MAX_UNITS - 1);
     expects(&rt, before.is_none(), "none before");
 }
@@ -83,7 +84,6 @@ fn rounds(rt: &impl Abort, one: &str, rate: &str, cents: &str) {
     expects(rt, product == Some(number(rt, cents)), cents);
 }
 
-// The product is out of the range.
 fn leaves_the_range(rt: &impl Abort, one: &str, rate: &str) {
     let product = number(rt, one).mul_cents(number(rt, rate));
     expects(rt, product.is_none(), "no product");
@@ -127,7 +127,7 @@ fn has_no_difference(one: Fixed, other: Fixed) -> bool {
     one.sub(other).is_none()
 }
 
-// A number less itself is 0.
+// A number minus itself is 0.
 fn cancels(rt: &impl Abort, one: Fixed) {
     let zero = number(rt, "-0");
     expects(rt, one.sub(one) == Some(zero), "the difference");
@@ -177,7 +177,6 @@ fn writes_money(rt: HostRuntime) {
     money_text_denotes();
 }
 
-// What is shown has this text.
 fn says(rt: &impl Abort, alloc: Global, shown: &impl Display, message: &str) {
     let text = format!(in alloc; "{shown}").expect(rt, "memory for a message");
     expects(rt, text.as_str() == message, message);

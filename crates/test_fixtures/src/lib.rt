@@ -1,6 +1,7 @@
-//! The example that the tests of several crates share: a plan, two providers' files, and the remittance of both.
+//! The example that the tests of several crates share: a plan, the files of two providers, and the
+//! remittance of both.
 //!
-//! Each text is what a function returns, so that whoever calls it is proved without the text.
+//! Each text is the result of a function, so that a caller is proved without the text.
 #![tactic(auto)]
 
 const HEALTH_PLAN: &str = r#"version = 1
@@ -34,8 +35,9 @@ rules = [
 ]
 "#;
 
-/// A plan with a deductible of 50.00, a copay of 10.00, a coinsurance of a fifth and a limit of 60.00. It covers the codes A
-/// and B up to their fees, and X not at all, and lists remarks.
+/// A plan with a deductible of 50.00, a copay of 10.00, a coinsurance of 20 % and an out-of-pocket
+/// maximum of 60.00. It covers the codes A and B up to their fees, does not cover X, and lists
+/// remarks.
 pub fn health_plan() -> &'static str {
     HEALTH_PLAN
 }
@@ -73,8 +75,8 @@ rules = [
 ]
 "#;
 
-/// The same plan for families: beside its member's limits each claim has those of its family, a deductible of 80.00 and a limit of
-/// 100.00.
+/// The health plan with families: a claim is also subject to its family's deductible of 80.00 and
+/// out-of-pocket maximum of 100.00.
 pub fn family_plan() -> &'static str {
     FAMILY_PLAN
 }
@@ -86,7 +88,7 @@ c3,M1,2024-02-02,40.00,Z
 c4,M1,2024-03-01,100.00,A
 ";
 
-/// Four claims of one member, the third with a code that the plan doesn't know.
+/// Four claims of one member. The plan has no rule for the code of the third.
 pub fn first_file() -> &'static [u8] {
     FIRST_FILE
 }
@@ -97,7 +99,8 @@ d2,M2,2024-01-10,9.999,B
 d3,M2,2024-01-11,10.00,X
 ";
 
-/// Three records of another member. The second is refused: it isn't in whole cents.
+/// Three records of another member. The second is refused, because its amount is not in whole
+/// cents.
 pub fn second_file() -> &'static [u8] {
     SECOND_FILE
 }
@@ -109,14 +112,15 @@ e3,F1,M3,2024-03-01,100.00,A
 e4,F2,M1,2024-03-02,30.00,B
 ";
 
-/// Claims of three members of one family, and of one of another, whose number is that of a member of the first.
+/// Claims of three members of one family, and of a member of another family who has the same number
+/// as a member of the first.
 pub fn family_file() -> &'static [u8] {
     FAMILY_FILE
 }
 
 const FILES: &[&[u8]] = &[FIRST_FILE, SECOND_FILE];
 
-/// Both files, in order.
+/// The two files, in order.
 pub fn both_files() -> &'static [&'static [u8]] {
     FILES
 }
@@ -130,7 +134,7 @@ pub fn header() -> &'static [u8] {
 
 const BALANCES: &[u8] = b"member,met,oop,paid\nM1,50.00,10.00,5.00\n";
 
-/// What the first file's member begins with.
+/// The opening balances of the first file's member.
 pub fn balances() -> &'static [u8] {
     BALANCES
 }
@@ -147,7 +151,7 @@ const REMITTANCE: &str =
 total,6,,,,,270.00,80.00,30.00,32.00,90.00,180.00,\r
 ";
 
-/// The remittance of both files, from members who begin with nothing.
+/// The remittance of the two files without opening balances.
 pub fn remittance() -> &'static str {
     REMITTANCE
 }
@@ -161,7 +165,7 @@ const FAMILY_REMITTANCE: &str =
 total,4,,,,,,,330.00,110.00,30.00,38.00,130.00,200.00,\r
 ";
 
-/// Its remittance, from families that begin with nothing.
+/// The remittance of the family file without opening balances.
 pub fn family_remittance() -> &'static str {
     FAMILY_REMITTANCE
 }
@@ -178,7 +182,7 @@ const LATE: &str =
 total,0,,,,,0.00,0.00,0.00,0.00,0.00,0.00,\r
 ";
 
-/// The remittance of both files where no claim is accepted.
+/// The remittance of the two files if no claim is accepted.
 pub fn late_remittance() -> &'static str {
     LATE
 }

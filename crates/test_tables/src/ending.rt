@@ -1,18 +1,20 @@
-//! How a test ends where it fails. A call of these takes its caller's proof less than a `panic!` or an `assert!` there, which puts a message
-//! together in the caller, at each way out. Each crate of tests has them itself: no library may end the process.
+//! Exits of a failed test. A call of these functions makes the caller's proof smaller than a
+//! `panic!` or an `assert!`, which formats its message in the caller at each exit. Each crate of
+//! tests has its own copy, since a library may not end the process.
 use std::process::Abort;
 
-/// Ends the test.
+/// Ends the test with a message that names what is missing.
 pub fn fail(rt: &impl Abort, wanted: &str) -> ! {
     panic!(rt; "not there: {wanted}")
 }
 
-/// Ends the test where this doesn't hold.
+/// Ends the test if the condition is false.
 pub fn expects(rt: &impl Abort, holds: bool, wanted: &str) {
     assert!(rt; holds, "not there: {wanted}");
 }
 
-/// The same; a number tells which.
+/// Ends the test if the condition is false, with a message that gives the number of the failed
+/// case.
 pub fn expects_at(rt: &impl Abort, holds: bool, number: usize) {
     assert!(rt; holds, "not at {number}");
 }

@@ -1,4 +1,4 @@
-//! Policies that list all matches (DMN 1.4, hit policies Rule order, Output order and Collect).
+//! Hit policies that list all matches (DMN 1.4, hit policies Rule order, Output order and Collect).
 ghost use Rattle.std.specs.Prelude.{◌≡◌, ◌++◌, Ok, IfOk, OnOk, slice_get};
 ghost use Rattle.std.specs.Option.{option_to_list};
 ghost use Rattle.dtable.specs.HitPolicy.{Gives, lists, column_of};
@@ -11,7 +11,8 @@ use faults::Fault;
 use feel_tests::{Sequence, Value};
 use std::alloc::{AllocError, Global};
 
-/// Rule order, and Collect in this profile: for each output its entries, in rule order.
+/// Applies Rule order, or Collect, which this profile lists in rule order: the entries of the
+/// matches for each output.
 pub fn in_rule_order(
     alloc: Global,
     table: &Table,
@@ -22,7 +23,7 @@ pub fn in_rule_order(
     Ok(lists_of(alloc, table, rules)?)
 }
 
-/// Output order: for each output its entries, in falling priority.
+/// Applies Output order: the entries of the matches for each output, in decreasing priority.
 pub fn in_output_order(
     alloc: Global,
     table: &Table,
@@ -34,7 +35,7 @@ pub fn in_output_order(
     Ok(lists_of(alloc, table, ordered.as_slice())?)
 }
 
-/// For each output the list of the entries of these rules, in this order.
+/// Returns, for each output, the list of the entries of these rules, in the given order.
 pub fn lists_of(
     alloc: Global,
     table: &Table,
@@ -49,7 +50,6 @@ pub fn lists_of(
     Ok(answers)
 }
 
-// The entries of the rules in one column of outputs.
 fn column_of(
     alloc: Global,
     table: &Table,
@@ -65,7 +65,6 @@ fn column_of(
     Ok(values)
 }
 
-// Puts the rule's entry in the column behind other values, if there is one.
 fn push_entry(
     alloc: Global,
     table: &Table,
@@ -73,7 +72,8 @@ fn push_entry(
     column: usize,
     values: &mut Sequence<Value>,
 ) -> Result<(), AllocError>
-    ensures { OnOk result (values.new ≡ values.old ++ option_to_list (slice_get (entries_of table.now rule) column)) }
+    ensures { OnOk result (values.new
+        ≡ values.old ++ option_to_list (slice_get (entries_of table.now rule) column)) }
 {
     match table.entry(rule, column) {
         Some(value) => values.push(value.duplicate(alloc)?),

@@ -10,7 +10,7 @@ use crate::table::{Input, Origin, Table};
 use feel_tests::{Cell, Sequence, Value};
 use std::alloc::{AllocError, Global};
 
-/// The places of the rules that match, in rule order, from 0.
+/// Returns the indices of the matching rules, from 0, in rule order.
 pub fn matching(
     alloc: Global,
     given: &Inputs,
@@ -33,7 +33,8 @@ pub fn matching(
     Ok(found)
 }
 
-// Whether each cell holds of what its input reads. The first that doesn't ends the search.
+// Returns whether each cell holds for the value of its input. The first cell that does not hold
+// ends the test.
 fn cells_hold(given: &Inputs, earlier: &[Answers<'_>], inputs: &[Input], cells: &[Cell]) -> bool
     ensures { result ≡ cells_hold given.now earlier.now inputs.now cells.now }
 {
@@ -43,7 +44,7 @@ fn cells_hold(given: &Inputs, earlier: &[Answers<'_>], inputs: &[Input], cells: 
     ))
 }
 
-/// The first column, from 0, whose value is none of its allowed values.
+/// Returns the first column, from 0, whose value is not among its allowed values.
 pub fn first_outside(given: &Inputs, earlier: &[Answers<'_>], table: &Table) -> Option<usize>
     ensures value { result ≡ first_outside given.now earlier.now table.now }
     ensures countable { IfSome result (λ column. column + 1 < 2 ^ 64) }
@@ -63,7 +64,7 @@ fn is_outside(given: &Inputs, earlier: &[Answers<'_>], input: &Input) -> bool
     }
 }
 
-/// The value that an input reads, of what is given and of the answers of the tables before its own.
+/// Returns the value that an input reads: a given value, or an answer of an earlier table.
 pub fn value_read<'a>(
     given: &'a Inputs,
     earlier: &'a [Answers<'_>],
@@ -77,7 +78,6 @@ pub fn value_read<'a>(
     }
 }
 
-// The single value of an output of an earlier table.
 fn earlier_value<'a>(earlier: &'a [Answers<'_>], table: usize, column: usize) -> Option<&'a Value>
     ensures { option_copied result ≡ earlier_value earlier.now table column }
 {
@@ -87,7 +87,7 @@ fn earlier_value<'a>(earlier: &'a [Answers<'_>], table: usize, column: usize) ->
     }
 }
 
-// Whether the cell holds of the value. It holds of no missing one.
+// A cell does not hold for a missing value.
 fn holds_of(value: Option<&Value>, cell: &Cell) -> bool
     ensures { result ≡ holds_of (option_copied value.entry) cell.now }
 {

@@ -1,4 +1,5 @@
-//! Policies that make one number of all matches (DMN 1.4, hit policy Collect with an aggregator).
+//! Hit policies that aggregate the matches into one number (DMN 1.4, hit policy Collect with an
+//! aggregator).
 ghost use Rattle.std.specs.Prelude.{◌≡◌, ◌+ℤ◌, IfSome};
 ghost use Rattle.std.specs.List.{reduce};
 ghost use Rattle.std.specs.Option.{SomeIff, ForSome};
@@ -14,38 +15,42 @@ use feel_tests::{Sequence, Value};
 use fixpoint::{Fixed, UNITS_PER_ONE};
 use std::alloc::Global;
 
-/// `C+`: the sum. It is formed whole before its range is looked at.
+/// Applies `C+`: the sum. Partial sums may exceed the range of numbers; only the final sum must be
+/// in range.
 pub fn sum(
     alloc: Global,
     number: usize,
     table: &Table,
     rules: &[usize],
 ) -> Result<Sequence<Answer>, Fault>
-    ensures { Gives (aggregated number table.now (reduce ◌+ℤ◌ (numbers_of table.now rules.now))) result }
+    ensures { Gives (aggregated number table.now
+        (reduce ◌+ℤ◌ (numbers_of table.now rules.now))) result }
 {
     aggregated(alloc, number, table, sum_of(table, rules))
 }
 
-/// `C<`: the least number.
+/// Applies `C<`: the least number.
 pub fn least(
     alloc: Global,
     number: usize,
     table: &Table,
     rules: &[usize],
 ) -> Result<Sequence<Answer>, Fault>
-    ensures { Gives (aggregated number table.now (reduce int_min (numbers_of table.now rules.now))) result }
+    ensures { Gives (aggregated number table.now
+        (reduce int_min (numbers_of table.now rules.now))) result }
 {
     aggregated(alloc, number, table, least_of(table, rules).map(i128::from))
 }
 
-/// `C>`: the greatest number.
+/// Applies `C>`: the greatest number.
 pub fn greatest(
     alloc: Global,
     number: usize,
     table: &Table,
     rules: &[usize],
 ) -> Result<Sequence<Answer>, Fault>
-    ensures { Gives (aggregated number table.now (reduce int_max (numbers_of table.now rules.now))) result }
+    ensures { Gives (aggregated number table.now
+        (reduce int_max (numbers_of table.now rules.now))) result }
 {
     aggregated(
         alloc,
@@ -55,7 +60,7 @@ pub fn greatest(
     )
 }
 
-/// `C#`: how many rules match.
+/// Applies `C#`: the number of matching rules.
 pub fn counted(
     alloc: Global,
     number: usize,
@@ -84,7 +89,7 @@ fn aggregated(
     }
 }
 
-// The number of so many units as the one answer.
+// Returns the number with these units as the only answer, or a `Range` fault if it is out of range.
 fn number_answer(alloc: Global, number: usize, units: i128) -> Result<Sequence<Answer>, Fault>
     ensures { Gives (number_answer number units) result }
 {
@@ -98,7 +103,6 @@ fn number_answer(alloc: Global, number: usize, units: i128) -> Result<Sequence<A
     }
 }
 
-// The number of so many units, if it is in the number range.
 fn fixed(units: i128) -> Option<Fixed>
     ensures { SomeIff result (IsInRange units) units }
 {
@@ -176,7 +180,6 @@ fn greater(greatest: Option<i64>, units: Option<i64>) -> Option<i64>
     }
 }
 
-// The units of the rule's entry in the first output.
 fn number_in(table: &Table, rule: usize) -> Option<i64>
     ensures value { result ≡ number_in table.now rule }
     ensures in_range { IfSome result IsInRange }

@@ -1,4 +1,5 @@
-//! Policies that give each output one value (DMN 1.4, hit policies Unique, Any, Priority and First).
+//! Hit policies that give each output one value (DMN 1.4, hit policies Unique, Any, Priority and
+//! First).
 ghost use Rattle.std.specs.Prelude.{◌≡◌, ◌++◌, IfOk, OnOk, is_some};
 ghost use Rattle.std.specs.List.{list_all};
 ghost use Rattle.std.specs.Option.{option_to_list};
@@ -10,7 +11,8 @@ use faults::Fault;
 use feel_tests::{Sequence, Value};
 use std::alloc::{AllocError, Global};
 
-/// The value where no rule matches: the defaults, where every output has one.
+/// Returns the answers if no rule matches: the defaults, or a `NoRule` fault if an output has no
+/// default.
 pub fn unmatched(alloc: Global, number: usize, table: &Table) -> Result<Sequence<Answer>, Fault>
     ensures { Gives (unmatched number table.now) result }
 {
@@ -25,7 +27,6 @@ pub fn unmatched(alloc: Global, number: usize, table: &Table) -> Result<Sequence
     Ok(answers)
 }
 
-// Puts the output's default behind other answers, if it has one.
 fn push_default(
     alloc: Global,
     output: &Output,
@@ -39,14 +40,13 @@ fn push_default(
     }
 }
 
-// Whether every output has a default.
 fn have_defaults(outputs: &[Output]) -> bool
     ensures { result ≡ list_all (λ o. is_some o.fallback) outputs.now }
 {
     outputs.iter().all(|output| output.fallback.is_some())
 }
 
-/// Unique: the entries of the one match.
+/// Applies Unique: the entries of the only match.
 pub fn unique(
     alloc: Global,
     number: usize,
@@ -62,7 +62,7 @@ pub fn unique(
     }
 }
 
-/// Any: the entries of the matches, where all agree.
+/// Applies Any: the entries of the matches if they all agree.
 pub fn any(
     alloc: Global,
     number: usize,
@@ -83,7 +83,7 @@ pub fn any(
     }
 }
 
-/// Whether these rules have the entries of the first one.
+/// Returns whether the other rules have the same entries as `rule`.
 pub fn rules_agree(table: &Table, rule: usize, others: &[usize]) -> bool
     ensures { result ≡ list_all (agree table.now rule) others.now }
 {
@@ -96,7 +96,7 @@ fn agree(table: &Table, rule: usize, other: usize) -> bool
     table.entries(rule) == table.entries(other)
 }
 
-/// The entries of one rule; no rule matches where there is none.
+/// Returns the entries of one rule. `None` means that no rule matches.
 pub fn of_rule(
     alloc: Global,
     number: usize,
@@ -111,7 +111,6 @@ pub fn of_rule(
     }
 }
 
-// One value for each output.
 fn ones(alloc: Global, values: &[Value]) -> Result<Sequence<Answer>, AllocError>
     ensures { IfOk result (λ answers. answers ≡ ones values.now) }
 {

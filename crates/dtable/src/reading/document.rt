@@ -1,4 +1,4 @@
-//! What a plan's document holds at a key, or the fault where that isn't there or is of another type.
+//! Lookups in a plan's document, which fail if a key is missing or its value has the wrong type.
 ghost use Rattle.std.specs.Prelude.{◌≡◌, ◌≢◌, ◌≤◌, Some, None, length, option_map, IsUtf8, IfOk, IfErr, OnOk, OnErr};
 ghost use Rattle.toml.specs.Data.{table, get, as_str};
 ghost use Rattle.toml.specs.Parse.{parse_document};
@@ -10,11 +10,13 @@ use faults::{PlanCause, PlanFault};
 use std::alloc::Global;
 use toml::Value;
 
-/// Reads the document of a text, which has to be UTF-8.
+/// Parses the text as a TOML document in UTF-8.
 pub fn read_document(alloc: Global, text: &[u8]) -> Result<Value, PlanFault>
     ensures utf8 { IfOk result (λ _. IsUtf8 text.now) }
-    ensures document { IfOk result (λ document. option_map table (parse_document text.now) ≡ Some (view document)) }
-    ensures refused { IfErr result (λ fault. fault.cause ≢ PlanCause.OutOfMemory → IsUtf8 text.now → parse_document text.now ≡ None) }
+    ensures document { IfOk result (λ document. option_map table (parse_document text.now)
+        ≡ Some (view document)) }
+    ensures refused { IfErr result (λ fault. fault.cause ≢ PlanCause.OutOfMemory → IsUtf8 text.now
+        → parse_document text.now ≡ None) }
 {
     match toml::table_from_slice(alloc, text) {
         Ok(members) => Ok(Value::Table(members)),
@@ -23,7 +25,7 @@ pub fn read_document(alloc: Global, text: &[u8]) -> Result<Value, PlanFault>
     }
 }
 
-/// The value at a key that has to be there. An entry that is no table is of another type.
+/// Returns the value at a required key. An entry that is not a table has the wrong type.
 pub fn required<'a>(entry: &'a Value, key: &str, place: Place) -> Result<&'a Value, PlanFault>
     ensures ok { IfOk result (λ value. get key.now (view entry.now) ≡ Some (view value.now)) }
     ensures refused { OnErr result (get key.now (view entry.now) ≡ None) }
@@ -35,7 +37,7 @@ pub fn required<'a>(entry: &'a Value, key: &str, place: Place) -> Result<&'a Val
     }
 }
 
-/// The string at a key that has to be there.
+/// Returns the string at a required key.
 pub fn required_text<'a>(entry: &'a Value, key: &str, place: Place) -> Result<&'a str, PlanFault>
     ensures ok { IfOk result (λ text. string_at key.now (view entry.now) ≡ Some text.now) }
     ensures refused { OnErr result (string_at key.now (view entry.now) ≡ None) }
@@ -44,7 +46,7 @@ pub fn required_text<'a>(entry: &'a Value, key: &str, place: Place) -> Result<&'
     text_of(value, place)
 }
 
-/// The text of a value that has to be a string.
+/// Returns the text of a value that must be a string.
 pub fn text_of(value: &Value, place: Place) -> Result<&str, PlanFault>
     ensures ok { IfOk result (λ text. as_str (view value.now) ≡ Some text.now) }
     ensures refused { OnErr result (as_str (view value.now) ≡ None) }
@@ -55,13 +57,14 @@ pub fn text_of(value: &Value, place: Place) -> Result<&str, PlanFault>
     }
 }
 
-/// The items of the array at a key that has to be there.
+/// Returns the items of the array at a required key.
 pub fn required_array<'a>(
     entry: &'a Value,
     key: &str,
     place: Place,
 ) -> Result<&'a [Value], PlanFault>
-    ensures ok { IfOk result (λ items. array_at key.now (view entry.now) ≡ Some (items_view items.now)) }
+    ensures ok { IfOk result (λ items. array_at key.now (view entry.now)
+        ≡ Some (items_view items.now)) }
     ensures refused { OnErr result (array_at key.now (view entry.now) ≡ None) }
 {
     let value = required(entry, key, place)?;
@@ -71,9 +74,11 @@ pub fn required_array<'a>(
     }
 }
 
-/// The items of an array of the document that may be left out.
+/// Returns the items of the array at an optional key of the document, or none if the key is
+/// missing.
 pub fn optional_array<'a>(document: &'a Value, key: &str) -> Result<&'a [Value], PlanFault>
-    ensures ok { IfOk result (λ items. optional_array_at key.now (view document.now) ≡ Some (items_view items.now)) }
+    ensures ok { IfOk result (λ items. optional_array_at key.now (view document.now)
+        ≡ Some (items_view items.now)) }
     ensures refused { OnErr result (optional_array_at key.now (view document.now) ≡ None) }
 {
     match document.get(key) {
@@ -85,7 +90,7 @@ pub fn optional_array<'a>(document: &'a Value, key: &str) -> Result<&'a [Value],
     }
 }
 
-/// There are no more items than the limit; the place is that of the first item too many.
+/// Requires at most `limit` items; `place` is the location of the first item over the limit.
 pub fn check_count(items: &[Value], limit: usize, place: Place) -> Result<(), PlanFault>
     ensures ok { OnOk result (item_count (items_view items.now) ≤ limit) }
     ensures refused { OnErr result (¬ (item_count (items_view items.now) ≤ limit)) }

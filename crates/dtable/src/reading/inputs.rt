@@ -1,4 +1,4 @@
-//! Reads the inputs of a table.
+//! The reader of a table's inputs.
 ghost use Rattle.std.specs.Prelude.{◌≡◌, codes, map};
 ghost use Rattle.toml.specs.Data.{get};
 ghost use Rattle.toml.specs.View.{view, items_view};
@@ -19,7 +19,7 @@ use feel_tests::{Cell, Sequence};
 use std::alloc::Global;
 use toml::Value;
 
-/// Reads the inputs of a table, each of which names a value that is known there.
+/// Reads the inputs of a table. Each must name a value that is known before the table.
 pub fn read_inputs(
     alloc: Global,
     table: &Value,
@@ -63,7 +63,6 @@ fn read_input(
     })
 }
 
-/// Reads the allowed values of an input, if they are restricted.
 fn read_values(
     alloc: Global,
     entry: &Value,
@@ -72,7 +71,8 @@ fn read_values(
     origin: Origin,
     place: Place,
 ) -> Result<Option<Cell>, PlanFault>
-    ensures { Reads (Optionally (IsCell names.now (map seen_of tables.now) origin) (get (codes "values") (view entry.now))) result }
+    ensures { Reads (Optionally (IsCell names.now (map seen_of tables.now) origin)
+        (get (codes "values") (view entry.now))) result }
 {
     match entry.get("values") {
         None => Ok(None),
@@ -83,7 +83,7 @@ fn read_values(
     }
 }
 
-/// Reads a cell for the values that come from there.
+/// Reads a cell for the values that an input reads.
 pub fn read_input_cell(
     alloc: Global,
     entry: &Value,

@@ -1,22 +1,22 @@
 //! The limits of a plan.
 
-/// How many bytes a plan's text has at most.
+/// The greatest length of a plan's text, in bytes.
 pub const PLAN_LIMIT_BYTES: usize = 1_048_576;
 
-/// How many fields a plan has at most.
+/// The greatest number of fields in a plan.
 pub const FIELDS_LIMIT: usize = 32;
 
-/// How many tables a plan has at most.
+/// The greatest number of tables in a plan.
 pub const TABLES_LIMIT: usize = 32;
 
-/// How many inputs a table has at most.
+/// The greatest number of inputs in a table.
 pub const INPUTS_LIMIT: usize = 16;
 
-/// How many outputs a table has at most.
+/// The greatest number of outputs in a table.
 pub const OUTPUTS_LIMIT: usize = 16;
 
-/// How many rules a table has at most.
+/// The greatest number of rules in a table.
 pub const RULES_LIMIT: usize = 256;
 
-/// How many values a priority list has at most.
+/// The greatest number of values in a priority list.
 pub const PRIORITY_LIMIT: usize = 64;

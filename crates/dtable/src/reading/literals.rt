@@ -1,4 +1,4 @@
-//! Reads the strings of a plan that are cells or literals.
+//! The reader of the strings of a plan that are cells or literals.
 ghost use Rattle.std.specs.Prelude.{◌≡◌, Some, None};
 ghost use Rattle.toml.specs.View.{view};
 ghost use Rattle.dtable.specs.PlanFile.{IsCellOf, IsLiteral};

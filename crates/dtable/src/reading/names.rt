@@ -1,4 +1,4 @@
-//! Reads the names and kinds of a plan's columns, and its fields.
+//! The reader of the names and kinds of a plan's columns, and of its fields.
 ghost use Rattle.std.specs.Prelude.{◌≡◌, ◌++◌};
 ghost use Rattle.toml.specs.View.{view, items_view};
 ghost use Rattle.dtable.specs.NameForm.{family_names, has_name_form, is_among, names_taken, reserved_names};
@@ -18,15 +18,16 @@ use feel_tests::{Kind, Sequence, is_name_byte, is_name_start};
 use std::alloc::Global;
 use toml::Value;
 
-/// The names that are taken from the start: a claim's own columns, a member's accumulators, and the words of cells.
+/// The reserved names: a claim's own columns, a member's accumulators, and the words of cells.
 const RESERVED_NAMES: [&str; 11] = [
     "claim", "member", "service", "billed", "met", "oop", "paid", "true", "false", "not", "date",
 ];
 
-/// The names that are taken beside them where families are kept.
+/// The names that are reserved in addition if accumulators are kept for families.
 const FAMILY_NAMES: [&str; 3] = ["family", "fmet", "foop"];
 
-/// Reads the fields of a document, and puts them among the names that every plan has, or every plan that keeps families.
+/// Reads the fields of a document and returns all names of the plan, including the names that every
+/// plan has.
 pub fn read_names(
     alloc: Global,
     document: &Value,
@@ -40,7 +41,6 @@ pub fn read_names(
     Ok(names)
 }
 
-/// Reads the entries of `fields`.
 fn read_fields(
     alloc: Global,
     families: bool,
@@ -74,7 +74,8 @@ fn read_field(
     front: &[InputData],
     place: Place,
 ) -> Result<InputData, PlanFault>
-    ensures { Reads (IsField (names_taken families ++ data_names front.now) (view entry.now)) result }
+    ensures { Reads (IsField (names_taken families ++ data_names front.now)
+        (view entry.now)) result }
 {
     let name = read_field_name(alloc, families, entry, front, place)?;
     let kind = read_kind(entry, place)?;
@@ -88,7 +89,8 @@ fn read_field_name(
     front: &[InputData],
     place: Place,
 ) -> Result<Name, PlanFault>
-    ensures { Reads (IsNewlyNamed (names_taken families ++ data_names front.now) (view entry.now)) result }
+    ensures { Reads (IsNewlyNamed (names_taken families ++ data_names front.now)
+        (view entry.now)) result }
 {
     let name = read_name(alloc, entry, place)?;
     if is_taken_field(families, front, name.as_str()) {
@@ -124,7 +126,8 @@ pub fn read_kind(entry: &Value, place: Place) -> Result<Kind, PlanFault>
     }
 }
 
-/// Whether a text has the form of a name, however long it is: an ASCII letter or `_`, then letters, digits or `_`.
+/// Returns whether the text has the form of a name: an ASCII letter or `_`, then letters, digits or
+/// `_`. Its length is tested elsewhere, since it is another fault.
 fn has_name_form(text: &str) -> bool
     ensures { result ≡ has_name_form text.now }
 {
@@ -134,14 +137,15 @@ fn has_name_form(text: &str) -> bool
     }
 }
 
-/// Whether a name is taken from the start, whatever is kept.
+/// Returns whether the name is reserved in every plan.
 pub fn is_reserved(name: &str) -> bool
     ensures { result ≡ is_among name.now reserved_names }
 {
     RESERVED_NAMES.iter().any(|reserved| *reserved == name)
 }
 
-/// Whether a name is taken from the start, where families are kept or not.
+/// Returns whether the name is reserved in a plan that keeps accumulators for families, or in one
+/// that does not.
 #[tactic(auto, using(crate::proofs::ReadNames::among_taken_with_families, crate::proofs::ReadNames::among_taken_without))]
 pub fn is_taken_from_start(families: bool, name: &str) -> bool
     ensures { result ≡ is_among name.now (names_taken families) }

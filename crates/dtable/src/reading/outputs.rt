@@ -1,4 +1,4 @@
-//! Reads the outputs of a table, with their priority lists and defaults.
+//! The reader of a table's outputs, with their priority lists and defaults.
 ghost use Rattle.std.specs.Prelude.{◌≡◌, ◌++◌, codes, map};
 ghost use Rattle.toml.specs.Data.{get};
 ghost use Rattle.toml.specs.View.{view, items_view};
@@ -22,7 +22,7 @@ use feel_tests::{Kind, Sequence, Value as Literal, text_spells_at_most_one_value
 use std::alloc::Global;
 use toml::Value;
 
-/// Reads the outputs of a table, whose columns stand behind those of its inputs.
+/// Reads the outputs of a table. Their column numbers follow those of the inputs.
 pub fn read_outputs(
     alloc: Global,
     table: &Value,
@@ -32,7 +32,8 @@ pub fn read_outputs(
     inputs: &[Input],
     place: Place,
 ) -> Result<Sequence<Output>, PlanFault>
-    ensures { Reads (AreOutputs hit (taken_names names.now (map seen_of tables.now)) (view table.now)) result }
+    ensures { Reads (AreOutputs hit (taken_names names.now (map seen_of tables.now))
+        (view table.now)) result }
 {
     let entries = required_array(table, "outputs", place)?;
     if entries.is_empty() {
@@ -61,7 +62,8 @@ fn read_output(
     front: &[Output],
     place: Place,
 ) -> Result<Output, PlanFault>
-    ensures { Reads (IsOutput hit (taken_names names.now (map seen_of tables.now) ++ output_names front.now) (view entry.now)) result }
+    ensures { Reads (IsOutput hit (taken_names names.now (map seen_of tables.now)
+        ++ output_names front.now) (view entry.now)) result }
 {
     let name = read_new_name(alloc, entry, names, tables, front, place)?;
     let kind = read_kind(entry, place)?;
@@ -83,7 +85,8 @@ fn read_new_name(
     front: &[Output],
     place: Place,
 ) -> Result<Name, PlanFault>
-    ensures { Reads (IsNewlyNamed (taken_names names.now (map seen_of tables.now) ++ output_names front.now) (view entry.now)) result }
+    ensures { Reads (IsNewlyNamed (taken_names names.now (map seen_of tables.now)
+        ++ output_names front.now) (view entry.now)) result }
 {
     let name = read_name(alloc, entry, place)?;
     if is_taken_output(names, tables, front, name.as_str()) {
@@ -115,7 +118,8 @@ fn read_priority(
     kind: Kind,
     place: Place,
 ) -> Result<Option<Sequence<Literal>>, PlanFault>
-    ensures { Reads (Optionally (ArePriorities kind) (get (codes "priority") (view entry.now))) result }
+    ensures { Reads (Optionally (ArePriorities kind)
+        (get (codes "priority") (view entry.now))) result }
 {
     match entry.get("priority") {
         None => Ok(None),
@@ -149,7 +153,7 @@ fn read_priority_entries(
     ensures { Reads (ArePriorityEntries kind (items_view entries.now)) result }
 {
     check_count(entries, PRIORITY_LIMIT, place)?;
-    // Known from here: a text spells one value or cell at most, so that what was refused spells none.
+    // proof: a text denotes at most one value, so a refused text denotes none
     text_spells_at_most_one_value();
     let mut list = Sequence::new(alloc);
     for entry in entries {
@@ -168,7 +172,7 @@ fn read_priority_entry(
 ) -> Result<Literal, PlanFault>
     ensures { Reads (IsPriority kind front.now (view entry.now)) result }
 {
-    // Known from here: a text spells one value or cell at most, so that what was refused spells none.
+    // proof: a text denotes at most one value, so a refused text denotes none
     text_spells_at_most_one_value();
     let value = read_literal_entry(alloc, entry, kind, place)?;
     if is_listed(front, &value) {

@@ -1,11 +1,12 @@
-//! Where a fault of a plan's text stands.
+//! The location of a fault in a plan's text.
 ghost use Rattle.std.specs.Prelude.{◌≡◌, ◌≢◌};
 
 use faults::{PlanCause, PlanFault};
 use feel_tests::{CellCause, CellFault};
 use std::alloc::AllocError;
 
-/// Where a fault stands: tables, rules and columns count from 1, and 0 says none.
+/// The location of a fault. Tables, rules and columns are numbered from 1, and 0 means that the
+/// fault is in none.
 #[derive(Clone, Copy)]
 pub struct Place {
     pub table: usize,
@@ -14,7 +15,7 @@ pub struct Place {
 }
 
 impl Place {
-    /// The text, and what stands in it as a whole.
+    /// The location of a fault that is in no table, rule or column.
     pub const TEXT: Place = Place {
         table: 0,
         rule: 0,
@@ -40,7 +41,8 @@ impl Place {
     }
 
     pub fn fault(self, cause: PlanCause) -> PlanFault
-        ensures { result ≡ record { table = self.table; rule = self.rule; column = self.column; cause = cause } }
+        ensures { result
+            ≡ record { table = self.table; rule = self.rule; column = self.column; cause = cause } }
     {
         PlanFault {
             table: self.table,
@@ -50,10 +52,16 @@ impl Place {
         }
     }
 
-    /// The fault of a cell or a literal that stands here; want of memory has no place.
+    /// Returns the fault of a cell or a literal at this location. A lack of memory has no location.
     pub fn cell_fault(self, fault: CellFault) -> PlanFault
-        ensures memory { fault.cause ≡ CellCause.OutOfMemory → result.cause ≡ PlanCause.OutOfMemory }
-        ensures other { result.cause ≢ PlanCause.OutOfMemory → result ≡ record { table = self.table; rule = self.rule; column = self.column; cause = PlanCause.Cell fault } }
+        ensures memory { fault.cause ≡ CellCause.OutOfMemory
+            → result.cause ≡ PlanCause.OutOfMemory }
+        ensures other { result.cause ≢ PlanCause.OutOfMemory → result ≡ record {
+          table = self.table;
+          rule = self.rule;
+          column = self.column;
+          cause = PlanCause.Cell fault;
+        } }
     {
         match fault.cause {
             CellCause::OutOfMemory => PlanFault::from(AllocError),

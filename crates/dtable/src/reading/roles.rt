@@ -1,4 +1,4 @@
-//! Reads the roles of a plan.
+//! The reader of a plan's roles.
 ghost use Rattle.std.specs.Prelude.{◌≡◌, ◌↔◌, ◌≢◌, ◌≤◌, codes, map, length, not, ◌&&◌, Some, option_map, IsTrue, IfOk, OnOk, OnErr};
 ghost use Rattle.std.specs.Bool.{OnTrue};
 ghost use Rattle.std.specs.List.{list_any};
@@ -23,18 +23,19 @@ use feel_tests::{CellCause, Kind, Value as Literal, read_value, text_spells_at_m
 use std::alloc::{AllocError, Global};
 use toml::Value;
 
-/// What is asked of a role's value.
+/// The requirement on a role's value.
 #[derive(Clone, Copy)]
 pub enum Asked {
-    /// A flag.
+    /// The value must be a flag.
     Flag,
-    /// An amount of money, which isn't negative.
+    /// The value must be an amount of money, which is not negative.
     Money,
-    /// A number from 0 to 1.
+    /// The value must be a number from 0 to 1.
     Rate,
 }
 
-/// Reads the roles of a document, if it has any; where families are kept, with the family's limits.
+/// Reads the roles of a document, if it has any. The family's limits are among them if the plan
+/// keeps accumulators for families.
 pub fn read_roles(
     alloc: Global,
     document: &Value,
@@ -42,7 +43,8 @@ pub fn read_roles(
     names: &[InputData],
     tables: &[Table],
 ) -> Result<Option<Roles>, PlanFault>
-    ensures { Reads (Optionally (AreRoles families names.now (map seen_of tables.now)) (get (codes "roles") (view document.now))) result }
+    ensures { Reads (Optionally (AreRoles families names.now (map seen_of tables.now))
+        (get (codes "roles") (view document.now))) result }
 {
     match document.get("roles") {
         None => Ok(None),
@@ -86,9 +88,9 @@ fn read_role_table(
     })
 }
 
-/// Reads the cover, the fee and the deductible.
 fn read_benefits(alloc: Global, table: &RoleTable) -> Result<(Source, Source, Source), PlanFault>
-    ensures { Reads (λ read. AreBenefits table.now.names.now (map seen_of table.now.tables.now) (view table.now.roles.now) read.0 read.1 read.2) result }
+    ensures { Reads (λ read. AreBenefits table.now.names.now (map seen_of table.now.tables.now)
+        (view table.now.roles.now) read.0 read.1 read.2) result }
 {
     let cover = table.read(alloc, "cover", Asked::Flag, 1)?;
     let fee = table.read(alloc, "fee", Asked::Money, 2)?;
@@ -96,9 +98,9 @@ fn read_benefits(alloc: Global, table: &RoleTable) -> Result<(Source, Source, So
     Ok((cover, fee, deductible))
 }
 
-/// Reads the copay, the rate of the coinsurance and the limit of what is paid out of pocket.
 fn read_shares(alloc: Global, table: &RoleTable) -> Result<(Source, Source, Source), PlanFault>
-    ensures { Reads (λ read. AreShares table.now.names.now (map seen_of table.now.tables.now) (view table.now.roles.now) read.0 read.1 read.2) result }
+    ensures { Reads (λ read. AreShares table.now.names.now (map seen_of table.now.tables.now)
+        (view table.now.roles.now) read.0 read.1 read.2) result }
 {
     let copay = table.read(alloc, "copay", Asked::Money, 4)?;
     let rate = table.read(alloc, "rate", Asked::Rate, 5)?;
@@ -106,13 +108,15 @@ fn read_shares(alloc: Global, table: &RoleTable) -> Result<(Source, Source, Sour
     Ok((copay, rate, oop_max))
 }
 
-/// Reads the family's limits where families are kept; where they aren't, the keys are none of the plan's.
+/// If the plan does not keep accumulators for families, the keys of the family's limits are not
+/// keys of the plan, and are ignored.
 fn read_family_roles(
     alloc: Global,
     table: &RoleTable,
     families: bool,
 ) -> Result<Option<FamilyRoles>, PlanFault>
-    ensures { Reads (AreFamilyRoles families table.now.names.now (map seen_of table.now.tables.now) (view table.now.roles.now)) result }
+    ensures { Reads (AreFamilyRoles families table.now.names.now (map seen_of table.now.tables.now)
+        (view table.now.roles.now)) result }
 {
     if !families {
         return Ok(None);
@@ -122,7 +126,8 @@ fn read_family_roles(
 }
 
 fn read_limits(alloc: Global, table: &RoleTable) -> Result<FamilyRoles, PlanFault>
-    ensures { Reads (AreLimits table.now.names.now (map seen_of table.now.tables.now) (view table.now.roles.now)) result }
+    ensures { Reads (AreLimits table.now.names.now (map seen_of table.now.tables.now)
+        (view table.now.roles.now)) result }
 {
     let deductible = table.read(alloc, "family_deductible", Asked::Money, 8)?;
     let oop_max = table.read(alloc, "family_oop_max", Asked::Money, 9)?;
@@ -132,7 +137,7 @@ fn read_limits(alloc: Global, table: &RoleTable) -> Result<FamilyRoles, PlanFaul
     })
 }
 
-/// The table `roles`, behind the names and the tables whose values its strings can name.
+/// The table `roles`, with the names and the tables whose values its strings may name.
 #[derive(Drop)]
 struct RoleTable<'a> {
     roles: &'a Value,
@@ -141,7 +146,7 @@ struct RoleTable<'a> {
 }
 
 impl RoleTable<'_> {
-    /// Reads the role at a key, which is told as the column of a fault.
+    /// Reads the role at a key. A fault reports `column` as the number of the role.
     fn read(
         &self,
         alloc: Global,
@@ -149,7 +154,8 @@ impl RoleTable<'_> {
         asked: Asked,
         column: usize,
     ) -> Result<Source, PlanFault>
-        ensures { Reads (IsRole self.now.names.now (map seen_of self.now.tables.now) asked key.now (view self.now.roles.now)) result }
+        ensures { Reads (IsRole self.now.names.now (map seen_of self.now.tables.now) asked key.now
+            (view self.now.roles.now)) result }
     {
         let place = Place::TEXT.in_column(column);
         match text_at(self.roles, key) {
@@ -159,7 +165,6 @@ impl RoleTable<'_> {
     }
 }
 
-/// The string at a key, if there is one.
 fn text_at<'a>(entry: &'a Value, key: &str) -> Option<&'a str>
     ensures { option_map (λ text. text.now) result ≡ string_at key.now (view entry.now) }
 {
@@ -169,7 +174,7 @@ fn text_at<'a>(entry: &'a Value, key: &str) -> Option<&'a str>
     }
 }
 
-/// Reads a role's string: a literal, or else a name.
+/// Reads a role's string: as a literal if it is one, and as a name otherwise.
 fn read_source(
     alloc: Global,
     text: &str,
@@ -180,7 +185,7 @@ fn read_source(
 ) -> Result<Source, PlanFault>
     ensures { Reads (IsSource names.now (map seen_of tables.now) asked text.now) result }
 {
-    // Known from here: a text spells one value or cell at most, so that what was refused spells none.
+    // proof: a text denotes at most one value, so a refused text denotes none
     text_spells_at_most_one_value();
     match read_value(alloc, asked.kind(), text) {
         Ok(value) => literal_source(value, asked, place),
@@ -191,7 +196,7 @@ fn read_source(
     }
 }
 
-/// The literal as a source, where it is what is asked.
+/// Returns the literal as a source if it meets the requirement.
 fn literal_source(value: Literal, asked: Asked, place: Place) -> Result<Source, PlanFault>
     ensures ok { IfOk result (λ source. source ≡ Source.Literal value) }
     ensures meets { OnOk result (Meets asked value) }
@@ -236,14 +241,15 @@ fn is_of_kind(found: Option<Kind>, kind: Kind) -> bool
     found == Some(kind)
 }
 
-/// Reads the name of the output that lists remarks, if there is one.
+/// Reads the name of the output that lists remarks, if the key is there.
 fn read_remarks(
     alloc: Global,
     roles: &Value,
     tables: &[Table],
     place: Place,
 ) -> Result<Option<Name>, PlanFault>
-    ensures { Reads (Optionally (AreRemarks (map seen_of tables.now)) (get (codes "remarks") (view roles.now))) result }
+    ensures { Reads (Optionally (AreRemarks (map seen_of tables.now))
+        (get (codes "remarks") (view roles.now))) result }
 {
     match roles.get("remarks") {
         None => Ok(None),
@@ -271,7 +277,7 @@ fn read_remarks_name(
     Ok(Name::new(alloc, text)?)
 }
 
-/// Whether some output that lists texts has the name.
+/// Returns whether an output with this name lists texts.
 fn lists_texts(tables: &[Table], name: &str) -> bool
     ensures listed { result ≡ lists_texts (map seen_of tables.now) name.now }
     ensures short { OnTrue result (length name.now ≤ name_limit_bytes) }
@@ -280,14 +286,16 @@ fn lists_texts(tables: &[Table], name: &str) -> bool
 }
 
 fn table_lists_texts(table: &Table, name: &str) -> bool
-    ensures listed { result ≡ list_any (λ o. bytes_eq o.name name.now && (not o.is_single && same_kind kinds.Text o.kind)) (seen_of table.now) }
+    ensures listed { result ≡ list_any (λ o. bytes_eq o.name name.now
+        && (not o.is_single && same_kind kinds.Text o.kind)) (seen_of table.now) }
     ensures short { OnTrue result (length name.now ≤ name_limit_bytes) }
 {
     !table.hit.gives_one() && some_text(table.outputs.as_slice(), name)
 }
 
 fn some_text(outputs: &[Output], name: &str) -> bool
-    ensures listed { result ≡ list_any (λ o. bytes_eq o.name name.now && same_kind kinds.Text o.kind) outputs.now }
+    ensures listed { result ≡ list_any (λ o. bytes_eq o.name name.now
+        && same_kind kinds.Text o.kind) outputs.now }
     ensures short { OnTrue result (length name.now ≤ name_limit_bytes) }
 {
     outputs.iter().any(|output| output.name.as_str() == name && is_text(output.kind))

@@ -1,4 +1,4 @@
-//! Reads the rules of a table: a cell for each input, and a literal for each output.
+//! The reader of a table's rules: a cell for each input, and a literal for each output.
 ghost use Rattle.std.specs.Prelude.{◌≡◌, ◌≢◌, Some, length, codes, map, IfOk, OnErr};
 ghost use Rattle.toml.specs.Data.{Items};
 ghost use Rattle.toml.specs.View.{view, items_view};
@@ -29,7 +29,8 @@ pub fn read_rules(
     outputs: &[Output],
     place: Place,
 ) -> Result<Sequence<Rule>, PlanFault>
-    ensures { Reads (AreRules names.now (map seen_of tables.now) inputs.now outputs.now (view table.now)) result }
+    ensures { Reads (AreRules names.now (map seen_of tables.now) inputs.now outputs.now
+        (view table.now)) result }
 {
     let entries = required_array(table, "rules", place)?;
     check_count(entries, RULES_LIMIT, place.in_rule(RULES_LIMIT + 1))?;
@@ -58,14 +59,14 @@ fn read_rule(
     outputs: &[Output],
     place: Place,
 ) -> Result<Rule, PlanFault>
-    ensures { Reads (IsRule names.now (map seen_of tables.now) inputs.now outputs.now (view entry.now)) result }
+    ensures { Reads (IsRule names.now (map seen_of tables.now) inputs.now outputs.now
+        (view entry.now)) result }
 {
     let cells = read_when(alloc, entry, names, tables, inputs, place)?;
     let entries = read_then(alloc, entry, inputs, outputs, place)?;
     Ok(Rule { cells, entries })
 }
 
-/// Reads the cells of a rule, one for each input.
 fn read_when(
     alloc: Global,
     rule: &Value,
@@ -74,7 +75,8 @@ fn read_when(
     inputs: &[Input],
     place: Place,
 ) -> Result<Sequence<Cell>, PlanFault>
-    ensures { Reads (IsRow (IsCellUnder names.now (map seen_of tables.now)) inputs.now (codes "when") (view rule.now)) result }
+    ensures { Reads (IsRow (IsCellUnder names.now (map seen_of tables.now)) inputs.now
+        (codes "when") (view rule.now)) result }
 {
     let entries = required_row(rule, "when", inputs.len(), place)?;
     let mut cells = Sequence::new(alloc);
@@ -93,7 +95,8 @@ fn read_when(
     Ok(cells)
 }
 
-/// Reads the literals of a rule, one for each output; their columns stand behind those of the inputs.
+/// Reads the literals of a rule, one for each output. Their column numbers follow those of the
+/// inputs.
 fn read_then(
     alloc: Global,
     rule: &Value,
@@ -113,16 +116,18 @@ fn read_then(
     Ok(literals)
 }
 
-/// The items of the array at a key that has as many as there are columns.
+/// Returns the items of the array at a required key, one for each column.
 fn required_row<'a>(
     rule: &'a Value,
     key: &str,
     columns: usize,
     place: Place,
 ) -> Result<&'a [Value], PlanFault>
-    ensures ok { IfOk result (λ items. array_at key.now (view rule.now) ≡ Some (items_view items.now)) }
+    ensures ok { IfOk result (λ items. array_at key.now (view rule.now)
+        ≡ Some (items_view items.now)) }
     ensures columns { IfOk result (λ items. length items.now ≡ columns) }
-    ensures refused { OnErr result ((items : Items) → array_at key.now (view rule.now) ≡ Some items → item_count items ≢ columns) }
+    ensures refused { OnErr result ((items : Items) → array_at key.now (view rule.now) ≡ Some items
+        → item_count items ≢ columns) }
 {
     let items = required_array(rule, key, place)?;
     if items.len() != columns {
@@ -139,7 +144,7 @@ fn read_then_entry(
 ) -> Result<Literal, PlanFault>
     ensures { Reads (IsEntry output.now (view entry.now)) result }
 {
-    // Known from here: a text spells one value or cell at most, so that what was refused spells none.
+    // proof: a text denotes at most one value, so a refused text denotes none
     text_spells_at_most_one_value();
     let value = read_literal_entry(alloc, entry, output.kind, place)?;
     if !is_ranked(&output.priority, &value) {

@@ -1,4 +1,4 @@
-//! What a name stands for behind some names and tables.
+//! The meaning of a name after some names and tables.
 ghost use Rattle.std.specs.Prelude.{◌≡◌, ◌++◌, map, position, slice_get, option_map};
 ghost use Rattle.std.specs.Str.{bytes_eq};
 ghost use Rattle.dtable.specs.NameForm.{is_among, names_taken};
@@ -8,7 +8,8 @@ use super::names::{is_reserved, is_taken_from_start};
 use crate::table::{InputData, Origin, Output, Table};
 use feel_tests::Kind;
 
-/// Where the value of a name comes from: from the input data, or else from an output of an earlier table with one value.
+/// Returns where the value of a name comes from: from the input data, or otherwise from an output
+/// of an earlier table that has a single value.
 pub fn origin_of(names: &[InputData], tables: &[Table], name: &str) -> Option<Origin>
     ensures { result ≡ origin_of names.now (map seen_of tables.now) name.now }
 {
@@ -29,7 +30,6 @@ fn earlier_origin(tables: &[Table], name: &str) -> Option<Origin>
     None
 }
 
-/// The column of the output with this name and one value, from 0.
 fn single_column(table: &Table, name: &str) -> Option<usize>
     ensures { result ≡ position (is_single_of name.now) (seen_of table.now) }
 {
@@ -42,7 +42,7 @@ fn single_column(table: &Table, name: &str) -> Option<usize>
         .position(|output| output.name.as_str() == name)
 }
 
-/// The kind of the value that comes from there.
+/// Returns the kind of the value from this origin.
 pub fn kind_at(names: &[InputData], tables: &[Table], origin: Origin) -> Option<Kind>
     ensures { result ≡ kind_at names.now (map seen_of tables.now) origin }
 {
@@ -67,35 +67,33 @@ fn column_kind(table: &Table, column: usize) -> Option<Kind>
     }
 }
 
-/// Whether a name is taken behind these names and the outputs of these tables.
 fn is_taken(names: &[InputData], tables: &[Table], name: &str) -> bool
     ensures { result ≡ is_among name.now (taken_names names.now (map seen_of tables.now)) }
 {
     is_reserved(name) || (is_data(names, name) || is_output_of(tables, name))
 }
 
-/// Whether a name is taken behind these names, these tables and these outputs.
+/// Returns whether the name is reserved, or used by the names, the tables or the outputs before.
 pub fn is_taken_output(names: &[InputData], tables: &[Table], front: &[Output], name: &str) -> bool
-    ensures { result ≡ is_among name.now (taken_names names.now (map seen_of tables.now) ++ output_names front.now) }
+    ensures { result ≡ is_among name.now (taken_names names.now (map seen_of tables.now)
+        ++ output_names front.now) }
 {
     is_taken(names, tables, name) || is_output(front, name)
 }
 
-/// Whether a name is taken behind these fields, where families are kept or not.
+/// Returns whether the name is reserved, or used by the fields before.
 pub fn is_taken_field(families: bool, front: &[InputData], name: &str) -> bool
     ensures { result ≡ is_among name.now (names_taken families ++ data_names front.now) }
 {
     is_taken_from_start(families, name) || is_data(front, name)
 }
 
-/// Whether input data has the name.
 fn is_data(names: &[InputData], name: &str) -> bool
     ensures { result ≡ is_among name.now (data_names names.now) }
 {
     names.iter().any(|data| data.name.as_str() == name)
 }
 
-/// Whether one of the outputs has the name.
 fn is_output(outputs: &[Output], name: &str) -> bool
     ensures { result ≡ is_among name.now (output_names outputs.now) }
 {

@@ -1,4 +1,4 @@
-//! Reads the tables of a plan.
+//! The reader of a plan's tables.
 ghost use Rattle.std.specs.Prelude.{◌≡◌, ◌≢◌, codes, map, IfNone, IfSome};
 ghost use Rattle.toml.specs.Data.{get};
 ghost use Rattle.toml.specs.View.{view, items_view};
@@ -32,7 +32,6 @@ pub fn read_tables(
     read_table_entries(alloc, entries, names)
 }
 
-/// Reads the entries of `tables`, in order.
 fn read_table_entries(
     alloc: Global,
     entries: &[Value],
@@ -45,7 +44,7 @@ fn read_table_entries(
         TABLES_LIMIT,
         Place::TEXT.in_table(TABLES_LIMIT + 1),
     )?;
-    // Known from here: a text spells one value or cell at most, so that what was refused spells none.
+    // proof: a text denotes at most one value, so a refused text denotes none
     text_spells_at_most_one_value();
     let mut tables = Sequence::new(alloc);
     for (index, entry) in entries.iter().enumerate() {
@@ -70,7 +69,7 @@ fn read_table(
 ) -> Result<Table, PlanFault>
     ensures { Reads (IsTable names.now (map seen_of front.now) (view entry.now)) result }
 {
-    // Known from here: a text spells one value or cell at most, so that what was refused spells none.
+    // proof: a text denotes at most one cell and at most one value, so a refused text denotes none
     text_spells_at_most_one_cell();
     text_spells_at_most_one_value();
     let hit = read_hit(entry, place)?;
@@ -114,7 +113,6 @@ fn read_hit_word(word: &Value, place: Place) -> Result<Hit, PlanFault>
     }
 }
 
-/// The hit policy of a word.
 fn hit_of(word: &str) -> Option<Hit>
     ensures named { IfSome result (λ hit. word.now ≡ hit_word hit) }
     ensures none { IfNone result ((hit : Hit) → word.now ≢ hit_word hit) }
@@ -135,7 +133,7 @@ fn hit_of(word: &str) -> Option<Hit>
     }
 }
 
-/// What is wrong where the outputs are not what the policy asks for.
+/// Returns the cause of the fault if the outputs violate the constraints of the hit policy.
 fn unmet(hit: Hit) -> PlanCause {
     match hit {
         Hit::P | Hit::O => PlanCause::Priority,

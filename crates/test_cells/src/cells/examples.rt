@@ -1,4 +1,5 @@
-//! Cells and the values of which they hold, values and their literals, and each public call once with ample memory.
+//! Cells and the values for which they hold, values and their literals, and one call of each public
+//! function with ample memory.
 use super::{cell_of, field_fault_of, hold, holds, plain_of, text_of, value_of};
 use crate::ending::{expects, expects_at};
 use feel_tests::{
@@ -38,7 +39,7 @@ const NUMBER_CELLS: [(&str, &str, bool); 29] = [
     ("1,3,[5..7[", "7", false),
     ("not(1,3,[5..7[)", "3", false),
     ("not(1,3,[5..7[)", "7", true),
-    // A dot belongs to a number where a digit follows.
+    // A dot belongs to a number if a digit follows it.
     ("[0...5]", "0.5", true),
     ("[0...5]", "0.6", false),
 ];
@@ -52,7 +53,7 @@ const TEXT_CELLS: [(&str, &str, bool); 11] = [
     ("\"a\\\"b\\\\\"", "a\"b\\", true),
     ("\"\"", "", true),
     ("\"\"", " ", false),
-    // White space and control bytes stand in a string as they are.
+    // White space and control bytes in a string are taken unchanged.
     ("\"a\nb\"", "a\nb", true),
     ("\"\t\x01\r\"", "\t\x01\r", true),
     ("\" a \"", "a", false),
@@ -93,7 +94,7 @@ fn cells_hold(rt: HostRuntime) {
     hold(&rt, rt.alloc(), Kind::Day, &DAY_CELLS);
 }
 
-// A cell of numbers holds of a field of this kind, or doesn't.
+// Tests whether a cell of numbers holds for a field of another kind.
 fn asks_another(rt: &impl Abort, alloc: Global, cell: &str, kind: Kind, field: &str, wanted: bool) {
     let held = holds(rt, alloc, Kind::Number, cell, kind, field);
     expects(rt, held == wanted, field);
@@ -122,14 +123,14 @@ fn has_three_tests(cell: Cell) -> bool {
     }
 }
 
-// Whether the literal is read as the value.
 fn is_read_as(rt: &impl Abort, alloc: Global, kind: Kind, literal: &str, value: Value) -> bool {
     literal_spells_its_value(&value);
     let read = value_of(rt, alloc, kind, literal);
     read == value
 }
 
-// Whether the literal of a value is written behind a text. Where memory is refused, the text is as it was.
+// Returns whether the literal of a value is appended to a text. If memory runs out, the text must
+// be unchanged, and the call is repeated.
 fn is_written(rt: &impl Abort, alloc: Global, value: &Value, wanted: &str) -> bool {
     let mut out = begun(rt, alloc);
     if value.write_text(&mut out).is_err() {
@@ -183,8 +184,8 @@ const LITERALS: [(Kind, &str, &str); 18] = [
     (Kind::Number, "1.5", "1.5"),
 ];
 
-// What is written for a literal is read back as the same value. The gate runs it once for each of its allocations, with that one
-// refused.
+// A literal that is written must be read back as the same value. `./check` runs this test once for
+// each of its allocations, with that allocation refused.
 #[test]
 fn literals_are_written_and_read_back_though_memory_is_refused(rt: HostRuntime) {
     for row in &LITERALS {
@@ -239,7 +240,7 @@ fn texts_are_shown_and_copied(rt: HostRuntime) {
     expects(&rt, same, "the text as a literal");
 }
 
-// The field is the day of this number, in this year.
+// Requires that the field is the day with this number, in this year.
 fn is_day(rt: &impl Abort, alloc: Global, field: &str, number: i32, year: u16) {
     let day = Day::from_epoch_day(number).expect(rt, "a day");
     expects(rt, day_year(day.epoch_day()) == year, field);
@@ -256,8 +257,8 @@ fn days_are_those_of_the_years_1_to_9999(rt: HostRuntime) {
     is_day(&rt, rt.alloc(), "9999-12-31", 2_932_896, 9999);
     let before = Day::from_epoch_day(-719_163);
     expects(&rt, before.is_none(), "no day before");
-    let behind = Day::from_epoch_day(2_932_897);
-    expects(&rt, behind.is_none(), "no day behind");
+    let after = Day::from_epoch_day(2_932_897);
+    expects(&rt, after.is_none(), "no day after");
 }
 
 const YEARS: [(&str, u16); 4] = [("0001", 1), ("0970", 970), ("2024", 2024), ("9999", 9999)];
@@ -309,7 +310,7 @@ const BAD_FIELDS: [(Kind, &str); 13] = [
     (Kind::Day, ""),
 ];
 
-// The gate runs it once for each of its allocations, with that one refused.
+// `./check` runs this test once for each of its allocations, with that allocation refused.
 #[test]
 fn plain_fields_are_values_though_memory_is_refused(rt: HostRuntime) {
     for row in &FIELDS {

@@ -1,5 +1,6 @@
-//! Long texts: strings and lists at their limits and beyond, and the longest cell, `not(`, 64 strings of 256 bytes with
-//! commas between them, and `)`. Each of its fronts is read too: those shorter than `not(` stand in the table of cells.
+//! Long texts: strings and lists at their limits and beyond, and the longest cell, which is `not(`,
+//! 64 strings of 256 bytes with commas between them, and `)`. Each prefix of the longest cell is
+//! read too; the prefixes shorter than `not(` are in the table of cells.
 use super::{cell_of, fault_of, field_fault_of, plain_of, repeated};
 use crate::ending::{expects, expects_at};
 use feel_tests::CellCause::{BadEscape, Literal, Token, TooMany, Trailing, WrongKind};
@@ -9,7 +10,7 @@ use feel_tests::{
 use std::alloc::Global;
 use std::process::Abort;
 
-// The fault of a cell's text: so many copies of a piece between a front and a back.
+// Returns the fault of a cell's text that repeats a piece between a front and a back.
 fn long_fault_of(
     rt: &impl Abort,
     alloc: Global,
@@ -23,7 +24,7 @@ fn long_fault_of(
     fault_of(alloc, kind, text.as_str())
 }
 
-// Round 63 tests that follow the front's.
+// Each row has the text before and after 63 further tests.
 const LISTS: [(&str, &str, CellCause, usize); 9] = [
     ("1", ",", Token, 128),
     ("1", ", ", Token, 129),
@@ -47,7 +48,7 @@ fn after_64_tests_and_a_comma(rt: HostRuntime) {
     expects(&rt, fault.is_none(), "a cell");
 }
 
-// Round a string of 257 bytes, which is refused at its quote.
+// Each row has the kind, and the text before and after 257 bytes of a string.
 const STRINGS: [(Kind, &str, &str, CellCause, usize); 9] = [
     (Kind::Text, "\"", "\"", Literal, 0),
     (Kind::Text, " \"", "\"", Literal, 1),
@@ -91,7 +92,8 @@ fn a_field_has_at_most_256_bytes(rt: HostRuntime) {
     expects(&rt, fault == Some(PlainFault::Bad), "no value");
 }
 
-// The bytes of a string and of what follows it: two quotes, and a comma or the bracket.
+// The length of a string of the longest cell with the byte after it: two quotes, and a comma or the
+// parenthesis.
 const STEP_BYTES: usize = TEXT_LIMIT_BYTES + 3;
 
 fn longest_cell(rt: &impl Abort, alloc: Global) -> String {
@@ -125,11 +127,11 @@ fn holds_of_one(cell: Cell, held: Value, other: Value) -> bool {
     cell.holds(&held) && !cell.holds(&other)
 }
 
-// Where a front of the longest cell ends too early: at the quote of the string that it cuts, or
-// at its own end.
+// A prefix of the longest cell ends too early at the quote of the string that it cuts, or at its
+// own end.
 fn early_end(len: usize) -> usize {
-    let behind_open = len.saturating_sub(4);
-    let inside = behind_open % STEP_BYTES;
+    let after_open = len.saturating_sub(4);
+    let inside = after_open % STEP_BYTES;
     if 0 < inside && inside < STEP_BYTES - 1 {
         len.saturating_sub(inside)
     } else {

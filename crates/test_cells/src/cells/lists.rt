@@ -1,4 +1,4 @@
-//! Lists: what they hold, and their texts in a row.
+//! Lists: their items, and their texts joined by a separator.
 use super::text_of;
 use crate::ending::expects;
 use feel_tests::{Bytes, Literals, Sequence, Text, Value, append_joined, duplicates};
@@ -26,7 +26,7 @@ fn are_two_with_three(days: Sequence<u64>) -> bool {
     !days.is_empty() && days.len() == 2 && days.iter().any(|day| *day == 3)
 }
 
-// A flag and a text, and copies of them.
+// Returns copies of a flag and of a text.
 fn copied_values(rt: &impl Abort, alloc: Global) -> Sequence<Value> {
     let mut values = Sequence::new(alloc);
     values.push(Value::Flag(true)).expect(rt, "memory");

@@ -1,5 +1,6 @@
-//! Cell texts with the answers that the format gives them: which are cells of a kind, and where the
-//! others have which fault; and the same of literals alone. The gate runs tests once for each of their allocations, with that one refused.
+//! Texts of cells and of literals with their expected results: the texts that are cells of a kind,
+//! and the first fault of each other text. `./check` runs the tests whose names end in
+//! `though_memory_is_refused` once for each of their allocations, with that allocation refused.
 use super::{are_cells, are_no_literals, are_refused};
 use feel_tests::CellCause::{BadDate, BadEscape, Literal, Token, Trailing, WrongKind};
 use feel_tests::{CellCause, Kind};
@@ -134,28 +135,28 @@ const NUMBER_FAULTS: [(&str, CellCause, usize); 82] = [
     ("_", Token, 0),
     ("+1", Token, 0),
     ("1e5", Trailing, 1),
-    // A token out of place comes before the fault inside it.
+    // A token that is not allowed is reported before a fault inside it.
     ("not(1 \"\\q\")", Token, 6),
     ("[1 \"\\q\"", Token, 3),
     ("[1..2 100000000000", Token, 6),
-    // An early end counts the white space.
+    // If the text ends too early, the offset includes trailing white space.
     ("1,\t\r\n", Token, 5),
     ("< ", Token, 2),
     ("[1.. ", Token, 5),
     ("[1..2 ", Token, 6),
     ("not( ", Token, 5),
-    // The kind is tried between shape and value.
+    // The kind is tested after the form of a literal and before its value.
     ("date(\"2023-02-29\")", WrongKind, 0),
-    // Operators that can't stand are tokens.
+    // An operator that is not allowed is a `Token` fault.
     ("not(1<2)", Token, 5),
     ("<<1", Token, 1),
     ("<=[1..2]", Token, 2),
     ("1<2", Trailing, 1),
-    // A dot belongs to a number where a digit follows.
+    // A dot belongs to a number if a digit follows it.
     ("not(1.5.2)", Token, 7),
     ("[1..5.]", Token, 5),
     ("[1....5]", Token, 4),
-    // Bytes that begin no token.
+    // These bytes do not begin a token.
     ("not(=", Token, 4),
     ("not(1\u{e9})", Token, 5),
     ("1=", Trailing, 1),
@@ -203,10 +204,10 @@ const TEXT_FAULTS: [(&str, CellCause, usize); 30] = [
     ("A", Token, 0),
     ("not(\"A\")x", Trailing, 8),
     ("\"\\\"", Token, 0),
-    // No list stands behind `not` or a dash.
+    // A list may not follow a negation or a dash.
     ("not(\"A\"),\"B\"", Trailing, 8),
     ("-,\"A\"", Trailing, 1),
-    // The kind is tried between shape and value.
+    // The kind is tested after the form of a literal and before its value.
     ("100000000000", WrongKind, 0),
     // Offsets count bytes.
     ("\"\u{e9}\",1", WrongKind, 5),
@@ -239,11 +240,11 @@ const FLAG_FAULTS: [(&str, CellCause, usize); 16] = [
     ("nottrue", Token, 0),
     ("true,", Token, 5),
     ("_true", Token, 0),
-    // A name is a letter or `_` with all letters, digits and `_` behind it.
+    // A name is a letter or `_` with all letters, digits and `_` that follow.
     ("true_", Token, 0),
     ("not(falsey)", Token, 4),
     ("true\u{e9}", Trailing, 4),
-    // Operators that can't stand are tokens.
+    // An operator that is not allowed is a `Token` fault.
     ("not(true<", Token, 8),
 ];
 
@@ -296,19 +297,20 @@ const DAY_FAULTS: [(&str, CellCause, usize); 39] = [
     ("date(\"2023-02-29\"]", Token, 17),
     ("dates", Token, 0),
     ("[date(\"2024-02-29\")]", Token, 19),
-    // Names are read whole.
+    // A name is never split.
     ("dates(\"2024-01-01\")", Token, 0),
     ("da te(\"2024-01-01\")", Token, 0),
-    // A token out of place comes before the fault inside it, and an early end counts the white space.
+    // A token that is not allowed is reported before a fault inside it, and if the text ends too
+    // early, the offset includes trailing white space.
     ("date \"\\q\"", Token, 5),
     ("date( ", Token, 6),
-    // White space and escapes in a date's string.
+    // The string of a date may not have white space, and its escapes are read first.
     ("date(\"2024-01-0\\1\")", BadEscape, 15),
     ("date(\"2024-01-01\\\"\")", BadDate, 0),
     ("date(\" 2024-01-01\")", BadDate, 0),
 ];
 
-// A literal alone knows no comparison.
+// A literal has no comparison operators.
 const FAULTS_OF_LITERALS: [(&str, CellCause, usize); 10] = [
     ("", Token, 0),
     ("  ", Token, 2),

@@ -8,14 +8,14 @@ use std::io;
 use std::io::{ErrorKind, Write};
 use std::process::Abort;
 
-/// What a writer of the tests does once it is full.
+/// The behaviour of a full writer.
 #[derive(Clone, Copy)]
 enum WhenFull {
     Fails,
     TakesNothing,
 }
 
-/// A writer that takes so many bytes in all, and counts the writes that it was asked for.
+/// A writer that takes at most `room` bytes and counts its calls of `write`.
 #[derive(Drop)]
 struct Limited {
     taken: Vec<u8>,
@@ -53,7 +53,7 @@ impl Write for Limited {
     }
 }
 
-// The writer has got these bytes, in three writes.
+// Requires that the writer has taken these bytes in three writes.
 fn has_taken(rt: &impl Abort, out: Out<Limited>, bytes: &[u8]) {
     expects(rt, is_as_far(out.into_inner(), bytes), "three writes");
 }
@@ -62,7 +62,7 @@ fn is_as_far(writer: Limited, bytes: &[u8]) -> bool {
     writer.taken.as_slice() == bytes && writer.writes == 3
 }
 
-// A piece is taken so far, or refused; and the writer has failed by then, or hasn't.
+// Tests one `put` against its expected result, and whether the writer has failed afterwards.
 fn puts(
     rt: &impl Abort,
     out: &mut Out<Limited>,
@@ -72,7 +72,7 @@ fn puts(
 )
     requires { 0 < length piece.now }
 {
-    expects(rt, out.put(piece) == wanted, "so many bytes or a failure");
+    expects(rt, out.put(piece) == wanted, "a count or a failure");
     expects(rt, out.failed() == failed, "the failure or none");
 }
 
@@ -92,7 +92,8 @@ fn puts_until_the_writer_is_full(rt: HostRuntime) {
     put_until_full(&rt, rt.alloc(), WhenFull::TakesNothing);
 }
 
-// A text is taken whole, or cut; and the writer has failed by then, or hasn't.
+// Tests one call of `put_all` against its expected result, and whether the writer has failed
+// afterwards.
 fn puts_text(
     rt: &impl Abort,
     out: &mut Out<Limited>,
@@ -120,13 +121,10 @@ fn puts_a_text_until_the_writer_is_full(rt: HostRuntime) {
     put_texts_until_full(&rt, rt.alloc(), WhenFull::TakesNothing);
 }
 
-// So many bytes are taken, or the text is refused.
+// Tests one write into a bounded buffer: the number of bytes that it takes, or `None` if it takes
+// none.
 fn takes(rt: &impl Abort, held: &mut HeldText, piece: &[u8], wanted: Option<usize>) {
-    expects(
-        rt,
-        held.write(piece).ok() == wanted,
-        "so many bytes or none",
-    );
+    expects(rt, held.write(piece).ok() == wanted, "a count or none");
 }
 
 #[test]

@@ -3,7 +3,7 @@ use Rattle.std.specs.Io.KnownBytes.{Appends}
 use Rattle.fixpoint.specs.Out.{writer_of, has_failed}
 use Rattle.fixpoint.proofs.whole_text.put_all.Given as goal
 
--- so many bytes of the text went out, and the writer hasn't failed
+-- the writer took this number of bytes of the text and has not failed
 abbrev pub invariant-loop-written : goal.invariant-loop-written
 invariant-loop-written g l =
     let contents = g.W.Write.contents in

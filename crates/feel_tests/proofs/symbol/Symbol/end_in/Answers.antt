@@ -4,7 +4,7 @@ use Rattle.feel_tests.specs.declared.symbol.Symbol.{Symbol}
 use Rattle.feel_tests.specs.declared.symbol.Symbol.TheVariants.{Less, AtMost, More, AtLeast, OpenRound, CloseRound, OpenSquare, CloseSquare, Dots, Comma, Dash}
 use Rattle.feel_tests.proofs.symbol.Symbol.end_in.Goals as goal
 
--- the other symbols end no interval
+-- the other symbols do not close an interval
 no_end : (s : Symbol) → ¬ (s ≡ CloseSquare) → ¬ (s ≡ CloseRound) → ¬ (s ≡ OpenSquare) → None ≡ end_in s
 no_end Less a b c = refl
 no_end AtMost a b c = refl

@@ -4,7 +4,7 @@ use Rattle.feel_tests.specs.declared.symbol.Symbol.{Symbol}
 use Rattle.feel_tests.specs.declared.symbol.Symbol.TheVariants.{Less, AtMost, More, AtLeast, OpenRound, CloseRound, OpenSquare, CloseSquare, Dots, Comma, Dash}
 use Rattle.feel_tests.proofs.symbol.Symbol.op.Goals as goal
 
--- the other symbols are no operators
+-- the other symbols are not operators
 no_operator : (s : Symbol) → ¬ (s ≡ Less) → ¬ (s ≡ AtMost) → ¬ (s ≡ More) → ¬ (s ≡ AtLeast) → None ≡ op_of s
 no_operator Less a b c d = absurd (a refl)
 no_operator AtMost a b c d = absurd (b refl)

@@ -4,7 +4,7 @@ use Rattle.feel_tests.specs.declared.symbol.Symbol.{Symbol}
 use Rattle.feel_tests.specs.declared.symbol.Symbol.TheVariants.{Less, AtMost, More, AtLeast, OpenRound, CloseRound, OpenSquare, CloseSquare, Dots, Comma, Dash}
 use Rattle.feel_tests.proofs.symbol.Symbol.start_in.Goals as goal
 
--- the other symbols start no interval
+-- the other symbols do not open an interval
 no_start : (s : Symbol) → ¬ (s ≡ OpenSquare) → ¬ (s ≡ OpenRound) → ¬ (s ≡ CloseSquare) → None ≡ start_in s
 no_start Less a b c = refl
 no_start AtMost a b c = refl
