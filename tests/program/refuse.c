@@ -1,6 +1,5 @@
-// A library to preload: it counts the program's allocations, those of all its threads in the order in which they come, refuses
-// the one whose number REFUSED_ALLOCATION gives (from 1), and writes the count to the file that ALLOCATION_COUNT names when the
-// program ends.
+// A library to preload. It counts the allocations of all threads of the program in their order, refuses the one whose number,
+// from 1, is REFUSED_ALLOCATION, and writes the count to the file ALLOCATION_COUNT when the program ends.
 #define _GNU_SOURCE
 #include <dlfcn.h>
 #include <errno.h>
@@ -33,7 +32,7 @@ void *realloc(void *old, size_t size) {
   return is_refused() ? NULL : next(old, size);
 }
 
-__attribute__((destructor)) static void tell(void) {
+__attribute__((destructor)) static void write_count(void) {
   const char *path = getenv("ALLOCATION_COUNT");
   if (path == NULL) return;
   int file = open(path, O_WRONLY | O_CREAT | O_TRUNC, 0600);
@@ -44,7 +43,7 @@ __attribute__((destructor)) static void tell(void) {
 
 // A program that ends by `_exit` runs no destructor.
 void _exit(int status) {
-  tell();
+  write_count();
   syscall(SYS_exit_group, status);
   __builtin_unreachable();
 }

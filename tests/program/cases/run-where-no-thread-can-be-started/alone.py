@@ -1,5 +1,5 @@
-# Starts the program with the words behind the first, as a user who may have so many processes and threads, by the first word. Nobody else has this
-# user's number where the case is run by root, whom no such limit binds.
+# Usage: alone.py LIMIT ARGUMENT.. Starts the program with the arguments, as a user with at most LIMIT processes and threads. If root runs the case,
+# which has no such limit, the program runs under a user number of its own.
 import os
 import resource
 import shutil
