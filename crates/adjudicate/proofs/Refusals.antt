@@ -1,4 +1,4 @@
--- What becomes of a refusal on its way to the caller, by the lemmas of `valuation`.
+-- What becomes of a refusal on its way to the caller, by the lemmas of `evaluation`.
 use Rattle.std.proofs.Common.{◌≢◌, ℕ, List, Option, Result, IfErr, OnOk}
 use Rattle.std.specs.Io.KnownBytes.{Appends}
 use Rattle.faults.specs.declared.plan_fault.PlanCause.TheVariants as cause

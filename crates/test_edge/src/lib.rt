@@ -1,4 +1,5 @@
-//! Tests by worked examples of `diagnostics`, `console` and `summary`. They stand apart from these, since the tests of a crate are proved together with all of its code.
+//! Tests by worked examples of `diagnostics`, `console` and `summary`. They stand apart from these, since the tests of a crate are
+//! proved together with all of its code.
 #![tactic(auto)]
 
 #[cfg(test)]
