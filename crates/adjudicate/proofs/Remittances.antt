@@ -1,5 +1,5 @@
 -- The remittance of a run, from the journal of its batch and the bytes of its report, and what becomes of it at a refusal.
-use Rattle.std.proofs.Common.{◌≡◌, ◌≢◌, ◌↔◌, ℕ, Bool, List, [], ◌∷◌, map, Option, Result, IfErr, OnOk, inl, inr, refl, sym, subst}
+use Rattle.std.proofs.Common.{◌≡◌, ◌≢◌, ◌↔◌, ℕ, Bool, List, [], ◌∷◌, map, Option, Some, None, Result, IfErr, IfSome, OnOk, inl, inr, refl, sym, subst}
 use Rattle.std.proofs.KnownBytes.{Keeps-refl}
 use Rattle.std.proofs.lemmas.Result.{on_ok_weaker, IfErr-weaker}
 use Rattle.std.specs.List.{AllZip}
@@ -28,7 +28,7 @@ use Rattle.evaluation.specs.Stop.{WritesText}
 use Rattle.evaluation.specs.declared.stop.ValueStop.TheVariants as value
 use Rattle.adjudicate.specs.declared.stop.Stop.{Stop}
 use Rattle.adjudicate.specs.declared.stop.Stop.TheVariants as stop
-use Rattle.adjudicate.specs.RunText.{AreTermsOfTexts, IsRemittance, IsRemittanceOf, RunTexts, WritesRemittanceFront}
+use Rattle.adjudicate.specs.RunText.{AreTermsOfTexts, IsCountedRemittance, IsRemittance, IsRemittanceOf, RunTexts, WritesCounted, WritesRemittanceFront}
 use Rattle.adjudicate.specs.RunStop.{IsRunReason, IsStopOfRun, IsStopOfTerms, IsStopOfWrite, StopsRemittance, WritesRemittanceUntil}
 use Rattle.adjudicate.specs.Stop.{IsStopOfPlan, failed_after}
 
@@ -138,11 +138,25 @@ failed_by_terms failed fault (stop.Terms same) made = refl
 failed_by_terms failed fault (stop.Value value.NoMemory) made = refl
 failed_by_terms failed fault _ made = absurd made
 
+-- counts of the run whose report is written
+pub counts_written : (parts : TermsParts) (J : List Event) → IsFinishedOver parts J → (old new : Option (List ℕ)) (counts : Option RunCounts) → WritesReport parts J old new
+    → IfSome counts (AreRunCounts parts J) → IfSome counts (WritesCounted parts old new)
+counts_written parts J finished old new None report counted = tt
+counts_written parts J finished old new (Some counts) report counted = record { journal = J; finished = finished; report = report; counted = counted }
+
 -- what is written for the terms of the texts is written for the texts
 module _ (texts : RunTexts) (parts : TermsParts) (over : AreTermsOfTexts texts parts) (old new : Option (List ℕ)) where
   pub whole_over : {X E : Type 0} (r : Result X E) → OnOk r (WritesText (IsRemittanceOf parts) old new) → OnOk r (WritesText (IsRemittance texts) old new)
   whole_over r h =
       on_ok_weaker r (λ w. record { text = w.text; is_text = record { parts = parts; over = over; is_remittance = w.is_text }; appended = w.appended }) h
+
+  IfSome-over : (counts : Option RunCounts) → IfSome counts (WritesCounted parts old new) → IfSome counts (IsCountedRemittance texts old new)
+  IfSome-over None h = tt
+  IfSome-over (Some counts) h = record { parts = parts; over = over; writes = h }
+
+  pub counted_over : {X E : Type 0} (counts : Option RunCounts) (r : Result X E) → OnOk r (IfSome counts (WritesCounted parts old new))
+      → OnOk r (IfSome counts (IsCountedRemittance texts old new))
+  counted_over counts r h = on_ok_weaker r (IfSome-over counts) h
 
   front_over : (workers : ℕ) (s : Stop) → StopsRemittance parts workers old new s → WritesRemittanceUntil texts old new s
   front_over workers (stop.Run fault) h = h.1

@@ -8,6 +8,8 @@ use Rattle.journal.specs.Lawful.{Finished}
 use Rattle.journal.specs.Terms.{Terms}
 use Rattle.claim_gate.specs.Terms.{AreTermsOf, IsFinishedOver, IsTermsOf, TermsParts, text_in, texts_of}
 use Rattle.remit.specs.Report.{IsReport}
+use Rattle.remit.specs.Writing.{WritesReport}
+use Rattle.remit.specs.declared.counts.RunCounts.{RunCounts}
 use Rattle.adjudicate.specs.declared.run.RunInput.{RunInput}
 
 -- what the remittance of a run is made from: the text of the plan, that of the balances, if there is one, those of the providers'
@@ -67,3 +69,16 @@ pub record WritesFrontOver (texts : RunTexts) (old new : Option (List ℕ)) (wri
   pub parts : TermsParts
   pub over : AreTermsOfTexts texts parts
   pub writes : WritesRemittanceFront parts old new written
+
+-- the writer has got the report of a journal that is finished over these terms, and the counts are those of that journal
+pub record WritesCounted (parts : TermsParts) (old new : Option (List ℕ)) (counts : RunCounts) : Type 0 where
+  pub journal : List Event
+  pub finished : IsFinishedOver parts journal
+  pub report : WritesReport parts journal old new
+  pub counted : AreRunCounts parts journal counts
+
+-- the writer has got a remittance of the texts, and the counts are those of its journal
+pub record IsCountedRemittance (texts : RunTexts) (old new : Option (List ℕ)) (counts : RunCounts) : Type 0 where
+  pub parts : TermsParts
+  pub over : AreTermsOfTexts texts parts
+  pub writes : WritesCounted parts old new counts

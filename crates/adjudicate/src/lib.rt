@@ -15,16 +15,19 @@
 #![tactic(auto)]
 
 mod check;
+mod counting;
 mod run;
 mod stop;
 mod value;
 
 pub use check::told::Telling;
 pub use check::{do_check, do_harmful_check, do_telling_check};
+pub use counting::Counting;
 pub use crew::WORKERS_LIMIT;
 pub use dtable::{Name, PLAN_LIMIT_BYTES};
 pub use evaluation::{ArgumentFault, LINE_LIMIT_BYTES, ValueStop};
 pub use intake_csv::FILE_LIMIT_BYTES;
-pub use run::{RunInput, do_run};
+pub use remit::{FileCounts, RecordCounts, RefusalCount, RunCounts};
+pub use run::{RunInput, do_counted_run, do_run};
 pub use stop::Stop;
 pub use value::do_value;

@@ -1,6 +1,6 @@
 //! The command `run`: claims of providers' files, settled by a plan's tables, and the remittance of what was decided.
 
-ghost use Rattle.std.specs.Prelude.{◌≡◌, IfOk, IfErr, OnOk};
+ghost use Rattle.std.specs.Prelude.{◌≡◌, IfOk, IfErr, IfSome, OnOk};
 ghost use Rattle.fixpoint.specs.Out.{writer_of, has_failed};
 ghost use Rattle.crew.specs.Workers.{IsWorkerCount};
 ghost use Rattle.dtable.specs.PlanFile.{IsPlanText};
@@ -9,6 +9,7 @@ ghost use Rattle.adjudicate.specs.RunText.{IsRemittance, IsRemittanceOf, run_tex
 ghost use Rattle.adjudicate.specs.RunStop.{IsRunReason, StopsRemittance, WritesRemittanceUntil};
 ghost use Rattle.adjudicate.specs.Stop.{failed_after};
 
+use crate::counting::Counting;
 use crate::stop::Stop;
 use claim_gate::{Terms, terms_are_seen};
 use dtable::{Plan, read_plan};
@@ -58,8 +59,31 @@ pub fn do_run<R: Threads + Wait + Sync + AllocGlobal, W: Write>(
     ensures ok_failed { OnOk result (has_failed out.new ≡ has_failed out.old) }
     ensures failed { IfErr result (λ stop. has_failed out.new ≡ failed_after (has_failed out.old) stop) }
 {
+    do_counted_run(rt, input, out, &mut Counting::unwanted())
+}
+
+/// Settles the claims as `do_run` does, and counts the records of the remittance where the caller wants it. Counts are missing
+/// where there was no memory for them.
+pub fn do_counted_run<R: Threads + Wait + Sync + AllocGlobal, W: Write>(
+    rt: &R,
+    input: RunInput,
+    out: &mut Out<W>,
+    counting: &mut Counting,
+) -> Result<(), Stop>
+    ensures written { OnOk result (WritesText (IsRemittance (run_texts input.entry))
+        (W.contents (writer_of out.old)) (W.contents (writer_of out.new))) }
+    ensures counted { OnOk result (IfSome counting.new.counts
+        (IsCountedRemittance (run_texts input.entry)
+        (W.contents (writer_of out.old)) (W.contents (writer_of out.new)))) }
+    ensures workers { OnOk result (IsWorkerCount input.entry.workers) }
+    ensures reason { IfErr result (IsRunReason (run_texts input.entry) input.entry.workers) }
+    ensures stopped { IfErr result (WritesRemittanceUntil (run_texts input.entry)
+        (W.contents (writer_of out.old)) (W.contents (writer_of out.new))) }
+    ensures ok_failed { OnOk result (has_failed out.new ≡ has_failed out.old) }
+    ensures failed { IfErr result (λ stop. has_failed out.new ≡ failed_after (has_failed out.old) stop) }
+{
     let plan = read_plan(rt.alloc(), input.plan)?;
-    let done = run_plan(rt, &plan, input, out);
+    let done = run_plan(rt, &plan, input, out, counting);
     drop(plan);
     done
 }
@@ -70,10 +94,14 @@ fn run_plan<R: Threads + Wait + Sync + AllocGlobal, W: Write>(
     plan: &Plan,
     input: RunInput,
     out: &mut Out<W>,
+    counting: &mut Counting,
 ) -> Result<(), Stop>
     requires spelled { IsPlanText (run_texts input).plan plan.now }
     ensures written { OnOk result (WritesText (IsRemittance (run_texts input.entry))
         (W.contents (writer_of out.old)) (W.contents (writer_of out.new))) }
+    ensures counted { OnOk result (IfSome counting.new.counts
+        (IsCountedRemittance (run_texts input.entry)
+        (W.contents (writer_of out.old)) (W.contents (writer_of out.new)))) }
     ensures workers { OnOk result (IsWorkerCount input.entry.workers) }
     ensures reason { IfErr result (IsRunReason (run_texts input.entry) input.entry.workers) }
     ensures stopped { IfErr result (WritesRemittanceUntil (run_texts input.entry)
@@ -82,7 +110,7 @@ fn run_plan<R: Threads + Wait + Sync + AllocGlobal, W: Write>(
     ensures failed { IfErr result (λ stop. has_failed out.new ≡ failed_after (has_failed out.old) stop) }
 {
     let terms = Terms::new(rt.alloc(), plan, input.files, input.balances, input.cutoff)?;
-    let done = write_remittance(rt, &terms, input.workers, out);
+    let done = write_remittance(rt, &terms, input.workers, out, counting);
     drop(terms);
     done
 }
@@ -93,9 +121,12 @@ fn write_remittance<R: Threads + Wait + Sync + AllocGlobal, W: Write>(
     terms: &Terms,
     workers: usize,
     out: &mut Out<W>,
+    counting: &mut Counting,
 ) -> Result<(), Stop>
     ensures written { OnOk result (WritesText (IsRemittanceOf terms.now)
         (W.contents (writer_of out.old)) (W.contents (writer_of out.new))) }
+    ensures counted { OnOk result (IfSome counting.new.counts (WritesCounted terms.now
+        (W.contents (writer_of out.old)) (W.contents (writer_of out.new)))) }
     ensures workers { OnOk result (IsWorkerCount workers) }
     ensures stopped { IfErr result (StopsRemittance terms.now workers
         (W.contents (writer_of out.old)) (W.contents (writer_of out.new))) }
@@ -106,5 +137,6 @@ fn write_remittance<R: Threads + Wait + Sync + AllocGlobal, W: Write>(
     terms_are_seen(terms);
     let batch = crew::run(rt, rt.alloc(), terms, workers)?;
     write_report_by_threads(rt, rt.alloc(), terms, &batch, out)?;
+    counting.count(rt.alloc(), terms, &batch);
     Ok(())
 }

@@ -10,6 +10,7 @@ mod commands;
 mod explaining;
 mod run;
 mod strict;
+mod summary;
 mod words;
 
 pub use commands::{matched_status, status};

@@ -14,8 +14,9 @@ ghost use Rattle.commands.specs.Words.{IsStrict};
 
 use crate::explaining::{AboutFiles, explain_refusal};
 use crate::strict::unread;
+use crate::summary::summary_of;
 use crate::words::{cutoff_of, is_strict, workers_of};
-use adjudicate::{FILE_LIMIT_BYTES, RunInput, do_run};
+use adjudicate::{Counting, FILE_LIMIT_BYTES, RunInput, do_counted_run};
 use clap::ArgMatches;
 use console::names::{BALANCES, FILE, SUMMARY};
 use console::{
@@ -28,7 +29,6 @@ use std::rt::Files;
 use std::sync::Wait;
 use std::thread::Threads;
 use std::time::Clock;
-use summary::{Stream, Tallied};
 use value_command::{About, ended, output_of, placed, plan_of, read_or_tell, unwritable};
 
 /// The texts of a run, in the order in which they are read.
@@ -141,74 +141,92 @@ where
     run_anywhere(rt, &texts.about(explains, matches), input, has_summary)
 }
 
-/// Runs to where the words say, and tells what became of the records where that is wanted.
+/// Runs into the file of `--output` or to standard output, and reports the counts of the records where they are wanted.
 fn run_anywhere<R>(rt: &R, about: &AboutFiles, input: RunInput, has_summary: bool) -> u8
 where
     R: Files + Print + Eprint + AllocGlobal + Threads + Wait + Sync,
     ensures known { result ≤ RESOURCE }
     ensures done { result ≡ DONE → HasText (IsRemittance (run_texts input.entry)) }
-    ensures refused { result ≢ DONE → IsStatusOfRefusal (IsRunReason (run_texts input.entry) input.entry.workers) result }
+    ensures refused { result ≢ DONE
+        → IsStatusOfRefusal (IsRunReason (run_texts input.entry) input.entry.workers) result }
 {
-    match output_of(rt, &about.plan) {
-        Ok(Some(file)) if has_summary => run_tallied(rt, about, input, file),
-        Ok(Some(mut file)) => run_into(rt, about, input, &mut file),
-        Ok(None) if has_summary => run_tallied(rt, about, input, Stream::new(rt)),
-        Ok(None) => run(rt, about, input),
-        Err(status) => status,
-    }
-}
-
-/// Runs into a place, and tells what became of the records.
-#[tactic(auto, using(crate::proofs::Ends::put_is_text))]
-fn run_tallied<R, P: Place + Drop>(rt: &R, about: &AboutFiles, input: RunInput, place: P) -> u8
-where
-    R: Eprint + AllocGlobal + Threads + Wait + Sync,
-    ensures known { result ≤ RESOURCE }
-    ensures done { result ≡ DONE → HasText (IsRemittance (run_texts input.entry)) }
-    ensures refused { result ≢ DONE → IsStatusOfRefusal (IsRunReason (run_texts input.entry) input.entry.workers) result }
-{
-    let mut tallied = Tallied::new(rt.alloc(), place);
-    let status = run_into(rt, about, input, &mut tallied);
+    let mut counting = if has_summary {
+        Counting::wanted()
+    } else {
+        Counting::unwanted()
+    };
+    let status = run_to_output(rt, about, input, &mut counting);
     if status == DONE {
-        // Where there is no memory for the lines, the remittance stands all the same.
-        if let Ok(lines) = tallied.tally().lines(rt.alloc()) {
-            let _ = rt.eprint(lines.as_str());
-        }
+        report_counts(rt, &counting);
     }
     status
 }
 
+#[tactic(auto, using(crate::proofs::Ends::put_is_text))]
+fn run_to_output<R>(rt: &R, about: &AboutFiles, input: RunInput, counting: &mut Counting) -> u8
+where
+    R: Files + Print + Eprint + AllocGlobal + Threads + Wait + Sync,
+    ensures known { result ≤ RESOURCE }
+    ensures done { result ≡ DONE → HasText (IsRemittance (run_texts input.entry)) }
+    ensures refused { result ≢ DONE
+        → IsStatusOfRefusal (IsRunReason (run_texts input.entry) input.entry.workers) result }
+{
+    match output_of(rt, &about.plan) {
+        Ok(Some(mut file)) => run_into(rt, about, input, &mut file, counting),
+        Ok(None) => run(rt, about, input, counting),
+        Err(status) => status,
+    }
+}
+
+// Where there is no memory for the lines, they are left out.
+fn report_counts<R: Eprint + AllocGlobal>(rt: &R, counting: &Counting) {
+    if let Some(counts) = counting.counts()
+        && let Ok(lines) = summary_of(rt.alloc(), counts)
+    {
+        let _ = rt.eprint(lines.as_str());
+    }
+}
+
 /// The command `run` over its texts.
-fn run<R>(rt: &R, about: &AboutFiles, input: RunInput) -> u8
+fn run<R>(rt: &R, about: &AboutFiles, input: RunInput, counting: &mut Counting) -> u8
 where
     R: Print + Eprint + AllocGlobal + Threads + Wait + Sync,
     ensures known { result ≤ RESOURCE }
     ensures done { result ≡ DONE → HasText (IsRemittance (run_texts input.entry)) }
-    ensures refused { result ≢ DONE → IsStatusOfRefusal (IsRunReason (run_texts input.entry) input.entry.workers) result }
+    ensures refused { result ≢ DONE
+        → IsStatusOfRefusal (IsRunReason (run_texts input.entry) input.entry.workers) result }
 {
     let mut out = Out::new(io::writer(rt));
-    let answer = do_run(rt, input, &mut out);
+    let answer = do_counted_run(rt, input, &mut out, counting);
     let status = ended(rt, &answer);
     explain_refusal(rt, about, &answer);
     status
 }
 
-/// The same into a place, which has the whole remittance then or what stood there before.
+/// Runs into a place, which then has the whole remittance, or what it had before.
 #[tactic(auto, using(crate::proofs::Ends::placed_done, crate::proofs::Ends::kept_twice))]
-fn run_into<R, P: Place>(rt: &R, about: &AboutFiles, input: RunInput, place: &mut P) -> u8
+fn run_into<R, P: Place>(
+    rt: &R,
+    about: &AboutFiles,
+    input: RunInput,
+    place: &mut P,
+    counting: &mut Counting,
+) -> u8
 where
     R: Eprint + AllocGlobal + Threads + Wait + Sync,
     ensures known { result ≤ RESOURCE }
-    ensures done { result ≡ DONE → PutsText (IsRemittance (run_texts input.entry)) (P.stands place.old) (P.stands place.new) }
+    ensures done { result ≡ DONE → PutsText (IsRemittance (run_texts input.entry))
+        (P.stands place.old) (P.stands place.new) }
     ensures kept { result ≢ DONE → Keeps (P.stands place.old) (P.stands place.new) }
-    ensures refused { result ≢ DONE → IsStatusOfRefusal (IsRunReason (run_texts input.entry) input.entry.workers) result }
+    ensures refused { result ≢ DONE
+        → IsStatusOfRefusal (IsRunReason (run_texts input.entry) input.entry.workers) result }
 {
     let text = match place.begin() {
         Ok(text) => text,
         Err(fault) => return unwritable(rt, &about.plan, &fault),
     };
     let mut out = Out::new(text);
-    let outcome = do_run(rt, input, &mut out);
+    let outcome = do_counted_run(rt, input, &mut out, counting);
     let status = placed(rt, &about.plan, place, out.into_inner(), &outcome);
     explain_refusal(rt, about, &outcome);
     status

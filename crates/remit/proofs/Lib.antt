@@ -8,3 +8,4 @@ pub mod Filing
 pub mod Looking
 pub mod Reporting
 pub mod Parting
+pub mod Counting

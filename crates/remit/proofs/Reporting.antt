@@ -39,10 +39,10 @@ claims-beside names (t ∷ texts) [] h = absurd h
 claims-beside names (t ∷ texts) (f ∷ files) h = (record { rows = f; are_rows = h.0; claims_are = refl }, claims-beside names texts files h.1)
 
 -- these parts as journals see them, by the rows of their files
-abbrev terms-by : TermsParts → List (List Row) → Terms
+abbrev pub terms-by : TermsParts → List (List Row) → Terms
 terms-by parts files = record { plan = parts.plan; files = map claims_among files; balances = accounts_of parts.balances; cutoff = parts.cutoff }
 
-are-terms : (parts : TermsParts) (files : List (List Row)) → AllZip (AreRowsOf parts.plan.names) parts.files files → IsTermsOf parts (terms-by parts files)
+pub are-terms : (parts : TermsParts) (files : List (List Row)) → AllZip (AreRowsOf parts.plan.names) parts.files files → IsTermsOf parts (terms-by parts files)
 are-terms parts files are = record {
   plan = refl;
   files = claims-beside parts.plan.names parts.files files are;
@@ -51,7 +51,7 @@ are-terms parts files are = record {
 }
 
 -- what records are told by
-abbrev told : ℕ → (ℕ → ℕ → Option Outcome) → Deciding
+abbrev pub told : ℕ → (ℕ → ℕ → Option Outcome) → Deciding
 told version decided = record { version = version; decided = decided }
 
 -- what is decided alike is told alike

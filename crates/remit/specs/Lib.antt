@@ -8,3 +8,4 @@ pub mod Held
 pub mod Looked
 pub mod Rows
 pub mod Parts
+pub mod Counts

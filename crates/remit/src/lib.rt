@@ -8,6 +8,7 @@
 #![tactic(auto)]
 
 mod amount;
+mod counts;
 mod decisions;
 mod parts;
 mod record;

@@ -1,7 +1,10 @@
 //! The sums over a journal's paid claims.
-ghost use Rattle.std.specs.Prelude.{◌≡◌, ◌≤◌, ◌<◌, ◌+◌, ◌^◌, pos, ◌+ℤ◌, [], ◌∷◌, length};
+ghost use Rattle.std.specs.Prelude.{◌≡◌, ◌≤◌, ◌<◌, ◌+◌, ◌^◌, pos, ◌+ℤ◌, ℕ, List, [], ◌∷◌, length};
 ghost use Rattle.fixpoint.specs.Number.{greatest_units};
-ghost use Rattle.remit.specs.Decided.{paid_by, paid_in};
+ghost use Rattle.remit.specs.Decided.{paid_by, paid_in, paid_outcomes, sum_of};
+ghost use Rattle.journal.specs.declared.event.Event.{Event as AnyEvent};
+ghost use Rattle.remit.specs.Amounts.{amount_of};
+ghost use Rattle.remit.specs.declared.amount.Amount.TheVariants.{Paid};
 ghost use Rattle.remit.specs.Looked.{AreGrown, AreSums, HaveRoom};
 
 use crate::amount::AMOUNTS;
@@ -33,6 +36,14 @@ impl Sums {
         ensures { result.now ≡ self.now.units }
     {
         &self.units
+    }
+
+    /// The sum of what the plan pays.
+    pub fn paid(&self) -> u128
+        ensures { (J : List AnyEvent) (count : ℕ) → AreSums J count self.now
+            → pos result ≡ sum_of (amount_of Paid) (paid_outcomes J) }
+    {
+        self.units[AMOUNTS.len() - 1]
     }
 
     // With the amounts of what the event decides, if that is paid.

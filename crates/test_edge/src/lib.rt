@@ -13,6 +13,4 @@ mod places;
 #[cfg(test)]
 mod shown_text;
 #[cfg(test)]
-mod summaries;
-#[cfg(test)]
 mod whole_text;

@@ -5,6 +5,8 @@
 #[cfg(test)]
 mod check;
 #[cfg(test)]
+mod counts;
+#[cfg(test)]
 mod reports;
 #[cfg(test)]
 mod run;

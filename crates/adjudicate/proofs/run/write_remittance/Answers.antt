@@ -1,5 +1,5 @@
 use Rattle.std.proofs.lemmas.Result.{err_from_is_err_and}
-use Rattle.adjudicate.proofs.Remittances.{stops_by_run, stops_by_write, writes_remittance}
+use Rattle.adjudicate.proofs.Remittances.{counts_written, stops_by_run, stops_by_write, writes_remittance}
 use Rattle.adjudicate.proofs.run.write_remittance.Goals as goal
 
 pub returns-in_err-batch-clause-stopped : goal.returns-in_err-batch-clause-stopped
@@ -14,3 +14,7 @@ returns-in_err-write_report_by_threads-clause-stopped g c =
 
 pub returns-clause-written : goal.returns-clause-written
 returns-clause-written g c = writes_remittance c.args.terms.now _ c.in_ok-batch.ensures.finished _ _ c.in_ok-write_report_by_threads.ensures.written
+
+pub returns-clause-counted : goal.returns-clause-counted
+returns-clause-counted g c =
+    counts_written c.args.terms.now _ c.in_ok-batch.ensures.finished _ _ _ c.in_ok-write_report_by_threads.ensures.written c.count.ensures

@@ -1,7 +1,7 @@
 use Rattle.std.proofs.lemmas.Result.{err_from_is_err_and}
 use Rattle.adjudicate.specs.RunText.{run_texts}
 use Rattle.adjudicate.proofs.Remittances.{reason_of_plan}
-use Rattle.adjudicate.proofs.run.do_run.Goals as goal
+use Rattle.adjudicate.proofs.run.do_counted_run.Goals as goal
 
 pub returns-in_err-plan-clause-reason : goal.returns-in_err-plan-clause-reason
 returns-in_err-plan-clause-reason g c =
