@@ -2,8 +2,7 @@
 ghost use Rattle.std.specs.Prelude.{◌≡◌, IfSome};
 ghost use Rattle.remit.specs.Counts.{AreRunCounts};
 
-use claim_gate::Batch;
-use claim_gate::Terms;
+use claim_gate::{Batch, Terms};
 use remit::{RunCounts, count_run};
 use std::alloc::Global;
 

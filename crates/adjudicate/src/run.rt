@@ -5,7 +5,7 @@ ghost use Rattle.fixpoint.specs.Out.{writer_of, has_failed};
 ghost use Rattle.crew.specs.Workers.{IsWorkerCount};
 ghost use Rattle.dtable.specs.PlanFile.{IsPlanText};
 ghost use Rattle.evaluation.specs.Stop.{WritesText};
-ghost use Rattle.adjudicate.specs.RunText.{IsRemittance, IsRemittanceOf, run_texts};
+ghost use Rattle.adjudicate.specs.RunText.{IsCountedRemittance, IsRemittance, IsRemittanceOf, WritesCounted, run_texts};
 ghost use Rattle.adjudicate.specs.RunStop.{IsRunReason, StopsRemittance, WritesRemittanceUntil};
 ghost use Rattle.adjudicate.specs.Stop.{failed_after};
 
