@@ -21,6 +21,8 @@ use Rattle.faults.specs.declared.terms_fault.TermsFault.TheVariants as terms
 use Rattle.crew.specs.Workers.{IsWorkerCount}
 use Rattle.faults.specs.declared.run_fault.RunFault.{RunFault}
 use Rattle.faults.specs.declared.run_fault.RunFault.TheVariants as run
+use Rattle.remit.specs.Counts.{AreRunCounts}
+use Rattle.remit.specs.declared.counts.RunCounts.{RunCounts}
 use Rattle.remit.specs.Report.{IsReport, report_records, text_of}
 use Rattle.remit.specs.Writing.{WritesFront, WritesReport}
 use Rattle.faults.specs.declared.write_fault.WriteFault.{WriteFault}

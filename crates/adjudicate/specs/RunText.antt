@@ -7,6 +7,7 @@ use Rattle.journal.specs.declared.event.Event.{Event}
 use Rattle.journal.specs.Lawful.{Finished}
 use Rattle.journal.specs.Terms.{Terms}
 use Rattle.claim_gate.specs.Terms.{AreTermsOf, IsFinishedOver, IsTermsOf, TermsParts, text_in, texts_of}
+use Rattle.remit.specs.Counts.{AreRunCounts}
 use Rattle.remit.specs.Report.{IsReport}
 use Rattle.remit.specs.Writing.{WritesReport}
 use Rattle.remit.specs.declared.counts.RunCounts.{RunCounts}
