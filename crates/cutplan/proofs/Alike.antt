@@ -1,4 +1,4 @@
--- Values between which no literal of a cell stands: the cell holds of both, or of neither.
+-- A cell holds for both or neither of two values that no literal of the cell separates.
 use Rattle.std.proofs.Common.{◌≡◌, ◌&&◌, ◌||◌, ◌⊎◌, inl, inr, ℤ, subst, Bool, true, false, not, List, [], ◌∷◌, ◌++◌, refl, ap, sym, ◌∙◌}
 use Rattle.std.specs.List.{flat_map}
 use Rattle.feel_tests.specs.Holds.{is_equal, is_less, is_at_most, is_below, passes, one_passes, holds}
@@ -17,7 +17,7 @@ abbrev pub Each : {X : Type 0} → (X → Type 0) → List X → Type 0
 Each P [] = Unit {0}
 Each P (x ∷ xs) = P x × Each P xs
 
--- the item stands in the list
+-- the item is in the list
 abbrev pub Among : {X : Type 0} → X → List X → Type 0
 Among x [] = ⊥
 Among x (y ∷ ys) = (y ≡ x) ⊎ Among x ys
@@ -40,7 +40,7 @@ pub among_right : {X : Type 0} (x : X) (xs ys : List X) → Among x ys → Among
 among_right x [] ys at = at
 among_right x (z ∷ zs) ys at = inr (among_right x zs ys at)
 
--- two values stand alike to a literal
+-- the two values compare in the same way with the literal
 pub record Alike (v w l : Value) : Type 0 where
   pub equal : is_equal v l ≡ is_equal w l
   pub less : is_less v l ≡ is_less w l
@@ -48,7 +48,7 @@ pub record Alike (v w l : Value) : Type 0 where
   pub at_most : is_at_most v l ≡ is_at_most w l
   pub at_least : is_at_most l v ≡ is_at_most l w
 
--- a value has nothing to do with a literal: no test of it holds
+-- no test of the literal holds for the value
 pub record Apart (v l : Value) : Type 0 where
   pub equal : is_equal v l ≡ false
   pub less : is_less v l ≡ false
@@ -111,7 +111,7 @@ one_passes_alike v w (test ∷ tests) all =
     ap (λ x. x || one_passes tests v) (passes_alike v w test (each_left (Alike v w) (test_literals test) (flat_map test_literals tests) all))
     ∙ ap (λ y. passes test w || y) (one_passes_alike v w tests (each_right (Alike v w) (test_literals test) (flat_map test_literals tests) all))
 
--- a cell holds alike of values that stand alike to its literals
+-- a cell holds alike for two values that compare in the same way with all its literals
 pub holds_alike : (v w : Value) (cell : Cell) → Each (Alike v w) (literals cell) → holds cell v ≡ holds cell w
 holds_alike v w Dash all = refl
 holds_alike v w (OneOf tests) all = one_passes_alike v w tests all
@@ -135,7 +135,8 @@ one_passes_apart v (test ∷ tests) all =
     ap (λ x. x || one_passes tests v) (passes_apart v test (each_left (Apart v) (test_literals test) (flat_map test_literals tests) all))
     ∙ one_passes_apart v tests (each_right (Apart v) (test_literals test) (flat_map test_literals tests) all)
 
--- a cell holds of a value that none of its literals has to do with as of one that no test names
+-- if no test of a literal of the cell holds for a value, the cell holds for it as for a value that
+-- no test names
 pub holds_apart : (v : Value) (cell : Cell) → Each (Apart v) (literals cell) → holds cell v ≡ is_open cell
 holds_apart v Dash all = refl
 holds_apart v (OneOf tests) all = one_passes_apart v tests all

@@ -1,4 +1,4 @@
--- The mask of a region, by asking the rules' cells of its column.
+-- The mask of a region, from the rules' cells of its column.
 use Rattle.std.proofs.Common.{◌≡◌, ℕ, zero, suc, ◌+◌, ◌<◌, ◌≤◌, ◌==◌, ◌&&◌, ◌||◌, inl, inr, Bool, true, false, List, [], ◌∷◌, length, get_or, map, Option, refl, ap, sym, ◌∙◌, arith}
 use Rattle.std.specs.Prelude.{nat_lt}
 use Rattle.std.specs.List.{slice_get}
@@ -12,13 +12,13 @@ use Rattle.cutplan.specs.Regions.{holds_in}
 use Rattle.cutplan.specs.Masks.{has_rule, is_marked, AreMasks, Marks}
 use Rattle.cutplan.specs.Parts.{cell_holds_in, column_cells, holds_among, AreMasksBy}
 
--- the cell at a place
+-- the cell at an index is among the cells
 pub among_at : (cells : List (Option Cell)) (region : Region) (place : ℕ) (cell : Option Cell) → place < length cells → cell ≡ get_or cells place cell → holds_among cells region place ≡ cell_holds_in cell region
 among_at [] region place cell below is = absurd (omega (arith, below))
 among_at (c ∷ cs) region zero cell below is = ap (λ x. cell_holds_in x region) (sym is)
 among_at (c ∷ cs) region (suc n) cell below is = among_at cs region n cell (omega (arith, below)) is
 
--- those of the first places, and one more
+-- a test of the first indices, extended by one more
 one_more : (H : ℕ → Bool) (place other : ℕ) → ((nat_lt other place && H other) || (H place && (other == place))) ≡ (nat_lt other (place + 1) && H other)
 one_more H place other = elim (cases_lt other place) [
   | inl less ↦
@@ -45,7 +45,7 @@ one_more H place other = elim (cases_lt other place) [
   and_all true = refl
   and_all false = refl
 
--- what a mask has of the first places, and what it has with one more
+-- the rules of a mask among the first ones, and the same with one more rule
 abbrev pub HasFirst : List ℕ → ℕ → (ℕ → Bool) → Type 0
 HasFirst mask count H = (place : ℕ) → place < 256 → has_rule mask place ≡ (nat_lt place count && H place)
 
@@ -59,7 +59,7 @@ none_behind [] region place above = refl
 none_behind (c ∷ cs) region zero above = absurd (omega (arith, above))
 none_behind (c ∷ cs) region (suc n) above = none_behind cs region n (omega (arith, above))
 
--- the mask of all places
+-- the mask of all rules
 pub has_all : (mask : List ℕ) (count : ℕ) (cells : List (Option Cell)) (region : Region) → length cells ≤ count → length mask ≡ 4 → HasFirst mask count (holds_among cells region) → Marks (holds_among cells region) mask
 has_all mask count cells region end words all = record {
   words = words;

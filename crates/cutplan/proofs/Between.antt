@@ -1,4 +1,4 @@
--- Between two of its own literals that stand side by side a cell holds of all values or of none.
+-- Between two adjacent literals of its own, a cell holds for all values or for none.
 use Rattle.std.proofs.Common.{◌≡◌, ℕ, zero, suc, ◌-◌, ◌≤◌, ◌<◌, ◌&&◌, ◌||◌, ◌==◌, ℤ, inl, inr, Bool, true, false, List, [], ◌∷◌, length, filter, Option, Some, None, refl, ap, sym, ◌∙◌, subst, arith}
 use Rattle.std.specs.Prelude.{nat_le}
 use Rattle.std.specs.List.{slice_get}
@@ -23,7 +23,7 @@ use Rattle.cutplan.proofs.Regionwise.{number_is, day_is, text_is, cut_of, number
 use Rattle.cutplan.proofs.Holding.{among_passes}
 use Rattle.cutplan.proofs.Sought.{OfKind, front_apart, behind_apart, item_at}
 
--- two values behind a literal
+-- two values above a literal
 behind_number : (a c : ℤ) → is_before (Number c) (Number a) ≡ true → (w : Value) → is_before (Number c) w ≡ true → Alike (Number a) w (Number c)
 behind_number a c h (Number b) k = alike_number a b c (beside_above a b c (lt_from c a h) (lt_from c b k))
 behind_number a c h (Text t) k = absurd (both_ways false refl k)
@@ -60,7 +60,7 @@ behind_alike (Day c) (Text t) w h k = absurd (both_ways false refl h)
 behind_alike (Day c) (Flag f) w h k = absurd (both_ways false refl h)
 behind_alike (Day c) (Day a) w h k = behind_day a c h w k
 
--- two values in front of a literal
+-- two values below a literal
 front_number : (a c : ℤ) → is_before (Number a) (Number c) ≡ true → (w : Value) → is_before w (Number c) ≡ true → Alike (Number a) w (Number c)
 front_number a c h (Number b) k = alike_number a b c (beside_below a b c (lt_from a c h) (lt_from b c k))
 front_number a c h (Text t) k = absurd (both_ways false refl k)
@@ -97,7 +97,7 @@ front_alike (Text c) (Day a) w h k = absurd (both_ways false refl h)
 front_alike (Flag c) (Day a) w h k = absurd (both_ways false refl h)
 front_alike (Day c) (Day a) w h k = front_day a c h w k
 
--- values have nothing to do with a literal of another kind
+-- no test of a literal of another kind holds for the value
 kinds_apart : (kind : Kind) (v l : Value) → can_be_sorted kind ≡ true → has_kind kind v ≡ true → has_kind kind l ≡ false → Apart v l
 kinds_apart kinds.Number v (Number c) ordered is other = absurd (both_ways true other refl)
 kinds_apart kinds.Number v (Text t) ordered is other = let of = number_is v is in subst (λ x. Apart x (Text t)) (sym of.1) (number_text of.0 t)
@@ -123,14 +123,14 @@ index_within [] k x at = absurd (none-some x at)
 index_within (y ∷ ys) zero x at = omega arith
 index_within (y ∷ ys) (suc k) x at = let more = index_within ys k x at in omega (arith, more)
 
--- the cut in front of the place stands before the value
+-- the cut before the index is before the value
 cut_in_front : (cs : List Value) (place j : ℕ) (c v : Value) → suc j ≡ place → slice_get cs j ≡ Some c → (place == 0 || option_map_or (λ x. is_before x v) (slice_get cs (place - 1)) true) ≡ true → is_before c v ≡ true
 cut_in_front cs place j c v e at side =
     let there : place - 1 ≡ j = omega (arith, e) in
     ap (λ found. option_map_or (λ x. is_before x v) found true) (sym at) ∙ ap (λ n. option_map_or (λ x. is_before x v) (slice_get cs n) true) (sym there)
     ∙ sym (ap (λ b. b || option_map_or (λ x. is_before x v) (slice_get cs (place - 1)) true) (ne_eqb place 0 (λ none. omega (arith, e, none)))) ∙ side
 
--- cuts of one kind with an order
+-- the cuts are of one kind that has an order, and they are increasing
 record Ordered {K : Type 0} (mk : K → Value) (cs : List Value) : Type 0 where
   line : Lined mk
   made : (c : Value) → Among c cs → Of mk c
@@ -141,7 +141,7 @@ among_slot [] n x e = absurd (none-some x e)
 among_slot (y ∷ ys) zero x e = inl (same_Some y x e)
 among_slot (y ∷ ys) (suc n) x e = inr (among_slot ys n x e)
 
--- a cut in front of the place that a value has stands before the value
+-- every cut before the index of a value is before the value
 earlier_cut : {K : Type 0} {mk : K → Value} (cs : List Value) (place j : ℕ) (l v : Value) → Ordered mk cs → Of mk v → place ≤ length cs → fits_at cs place v ≡ true → slice_get cs j ≡ Some l → j < place → is_before l v ≡ true
 earlier_cut {K} {mk} cs zero j l v o is within fit at less = absurd (omega (arith, less))
 earlier_cut {K} {mk} cs (suc n) j l v o is within fit at less =
@@ -154,7 +154,7 @@ earlier_cut {K} {mk} cs (suc n) j l v o is within fit at less =
       | inr most ↦ (let here : j ≡ n = omega (arith, less, most) in subst (λ x. is_before x v ≡ true) (same_Some last.0 l (sym last.1 ∙ ap (slice_get cs) (sym here) ∙ at)) before)
     ]
 
--- the value stands before the cuts from the place on
+-- the value is before every cut from its index on
 later_cut : {K : Type 0} {mk : K → Value} (cs : List Value) (place j : ℕ) (l v : Value) → Ordered mk cs → Of mk v → fits_at cs place v ≡ true → slice_get cs j ≡ Some l → place ≤ j → is_before v l ≡ true
 later_cut {K} {mk} cs place j l v o is fit at most =
     let sides = and_parts (option_map_or (λ c. is_before v c) (slice_get cs place) true) (place == 0 || option_map_or (λ c. is_before c v) (slice_get cs (place - 1)) true) fit in
@@ -167,7 +167,7 @@ later_cut {K} {mk} cs place j l v o is fit at most =
       | inr least ↦ (let here : place ≡ j = omega (arith, least, most) in subst (λ x. is_before v x ≡ true) (same_Some first.0 l (sym first.1 ∙ ap (slice_get cs) here ∙ at)) before)
     ]
 
--- two values at one place stand alike to each cut
+-- two values at the same index compare in the same way with each cut
 cut_alike : {K : Type 0} {mk : K → Value} (cs : List Value) (place : ℕ) (v w : Value) → Ordered mk cs → Of mk v → Of mk w → place ≤ length cs → fits_at cs place v ≡ true → fits_at cs place w ≡ true → (l : Value) → Among l cs → Alike v w l
 cut_alike cs place v w o v_is w_is within fit_v fit_w l at =
     let index = among_index cs l at in
@@ -176,7 +176,7 @@ cut_alike cs place v w o v_is w_is within fit_v fit_w l at =
       | inr most ↦ front_alike l v w (later_cut cs place index.0 l v o v_is fit_v index.1 most) (later_cut cs place index.0 l w o w_is fit_w index.1 most)
     ]
 
--- the literals of a kind
+-- the cuts of a kind among literals
 abbrev cuts_in : Kind → List Value → List Value
 cuts_in kind lits = rising (filter (has_kind kind) lits)
 
@@ -197,7 +197,7 @@ kind_cuts_alike kinds.Flag lits place v w ordered v_is w_is within fit_v fit_w l
 kind_cuts_alike kinds.Day lits place v w ordered v_is w_is within fit_v fit_w l at =
     cut_alike (cuts_in kinds.Day lits) place v w (ordered_cuts kinds.Day lits day_lined day_is (cuts_of_kind kinds.Day lits (λ e. both_ways (can_be_sorted kinds.Day) (ap can_be_sorted e) refl))) (day_is v v_is) (day_is w w_is) within fit_v fit_w l at
 
--- the four parts of standing at a place
+-- the four conditions for a value to be at an index
 record AtPlace (kind : Kind) (cs : List Value) (place : ℕ) (v : Value) : Type 0 where
   ordered : can_be_sorted kind ≡ true
   is : has_kind kind v ≡ true
@@ -211,7 +211,8 @@ at_place kind cs place v e =
     let first = and_parts (can_be_sorted kind) (has_kind kind v) front.0 in
     record { ordered = first.0; is = first.1; within = leb-true place (length cs) front.1; fit = all.1 }
 
--- two values at one place among the literals of a cell stand alike to each of them
+-- two values at the same index among the literals of a cell compare in the same way with each of
+-- them
 literal_alike : (kind : Kind) (lits : List Value) (place : ℕ) (v w : Value) → stands_at kind (cuts_in kind lits) place v ≡ true → stands_at kind (cuts_in kind lits) place w ≡ true → (l : Value) → Among l lits → Alike v w l
 literal_alike kind lits place v w at_v at_w l at =
     let one = at_place kind (cuts_in kind lits) place v at_v in
@@ -221,7 +222,7 @@ literal_alike kind lits place v w at_v at_w l at =
       | false ↦ λ e. alike_apart (kinds_apart kind v l one.ordered one.is e) (kinds_apart kind w l one.ordered other.is e)
     ] refl
 
--- so that the cell holds of both or of neither
+-- so the cell holds for both values or for neither
 between_alike : (kind : Kind) (rule : Rule) (column place : ℕ) (v w : Value) → stands_at kind (own_cuts kind column rule) place v ≡ true → stands_at kind (own_cuts kind column rule) place w ≡ true
     → cell_holds (slice_get rule.cells column) v ≡ cell_holds (slice_get rule.cells column) w
 between_alike kind rule column place v w at_v at_w = by_cell (slice_get rule.cells column) at_v at_w where
@@ -229,11 +230,11 @@ between_alike kind rule column place v w at_v at_w = by_cell (slice_get rule.cel
   by_cell None at_v at_w = refl
   by_cell (Some cell) at_v at_w = holds_alike v w cell (each_from (Alike v w) (literals cell) (literal_alike kind (literals cell) place v w at_v at_w))
 
--- nothing is asked yet
+-- a new probe has no answer
 pub none_asked : (rule : Rule) (column : ℕ) (kind : Kind) (cuts : List Value) (place : ℕ) → cuts ≡ own_cuts kind column rule → IsAsked rule column kind cuts place None
 none_asked rule column kind cuts place own = record { own = own; known = λ found none. absurd (none-some found none) }
 
--- what was asked of a value at a place
+-- the answer for a value at an index is correct for all values there
 pub asked_at : (rule : Rule) (column : ℕ) (kind : Kind) (cuts : List Value) (place : ℕ) (v : Value) (answer : Bool) → cuts ≡ own_cuts kind column rule → stands_at kind cuts place v ≡ true → answer ≡ cell_holds (slice_get rule.cells column) v
     → IsAsked rule column kind cuts place (Some answer)
 asked_at rule column kind cuts place v answer own at is = record {

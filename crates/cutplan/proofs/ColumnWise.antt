@@ -1,4 +1,4 @@
--- The columns of a table, and that a rule's cell has no literal but the column's.
+-- The columns of a table. The literals of a rule's cell are literals of its column.
 use Rattle.std.proofs.Common.{◌≡◌, ℕ, zero, suc, ◌+◌, ◌<◌, inl, inr, Bool, true, false, cond, List, [], ◌∷◌, length, get_or, filter, Some, Contains, refl, ap, sym, ◌∙◌, subst, arith}
 use Rattle.std.specs.List.{flat_map, slice_get}
 use Rattle.std.specs.Option.{option_map_or}
@@ -55,14 +55,14 @@ column_at p t first (i ∷ is) (suc place) column e =
     let here : first + suc place ≡ (first + 1) + place = omega arith in
     (rest.0, ap (λ k. column_of p t k rest.0) here ∙ rest.1)
 
--- a cell whose literals are the column's holds alike in a region
+-- a cell holds alike for all values of a region if its literals are literals of the column
 pub cell_alike : (p : PlanParts) (t : Table) (place : ℕ) (input : Input) (r : Region) → Among r (stretches (kind_read p input.origin) (column_of p t place input).cuts) → (cell : Cell)
     → ((l : Value) → Among l (literals cell) → Among l (column_literals t place input.values)) → (v w : Value) → has_kind (kind_read p input.origin) v ≡ true → has_kind (kind_read p input.origin) w ≡ true
     → is_in r v ≡ true → is_in r w ≡ true → holds cell v ≡ holds cell w
 cell_alike p t place input r at cell inside v w value_v value_w in_v in_w =
     holds_alike v w cell (each_from (Alike v w) (literals cell) (λ l l_at. region_alike (kind_read p input.origin) (column_literals t place input.values) r at v w value_v value_w in_v in_w l (inside l l_at)))
 
--- a value of a kind has it
+-- a value in the range of a kind is of the kind
 pub value_kind : (kind : Kind) (v : Value) → is_value kind v ≡ true → has_kind kind v ≡ true
 value_kind kinds.Number (Number a) e = refl
 value_kind kinds.Number (Text a) e = e

@@ -1,4 +1,4 @@
--- The regions of a table's columns, one column on.
+-- The regions of a table's columns, extended by one column.
 use Rattle.std.proofs.Common.{◌≡◌, ℕ, suc, ◌+◌, ◌<◌, List, [], ◌∷◌, ◌++◌, length, get_or, take, map, ap, sym, ◌∙◌, arith}
 use Rattle.std.proofs.lemmas.List.{take_more, length-take-le}
 use Rattle.dtable.specs.declared.table.Input.{Input}

@@ -1,4 +1,4 @@
--- How many cells columns have.
+-- The number of cells of columns.
 use Rattle.std.proofs.Common.{◌≡◌, ℕ, zero, suc, ◌+◌, ◌*◌, ◌≤◌, ◌<◌, inl, inr, List, [], ◌∷◌, ◌++◌, length, get_or, take, map, min, ap, sym, ◌∙◌, length-append, arith}
 use Rattle.std.specs.List.{flat_map}
 use Rattle.std.proofs.lemmas.List.{take_more, take_all, length-map}
@@ -6,7 +6,7 @@ use Rattle.std.proofs.lemmas.Bool.{cases_lt}
 use Rattle.cutplan.specs.declared.region.Region.{Region}
 use Rattle.cutplan.specs.Check.{cells}
 
--- each region stands in front of each cell of the rest
+-- each region is put before each cell of the other columns
 length_put : (rs : List Region) (rest : List (List Region)) → length (flat_map (λ r. map (λ cell. r ∷ cell) rest) rs) ≡ length rs * length rest
 length_put [] rest = omega arith
 length_put (r ∷ rs) rest =
@@ -15,7 +15,7 @@ length_put (r ∷ rs) rest =
     let more = length_put rs rest in
     omega (arith, split, one, more)
 
--- one column more multiplies the cells
+-- one more column multiplies the number of cells
 length_push : (columns : List (List Region)) (last : List Region) → length (cells (columns ++ last ∷ [])) ≡ length (cells columns) * length last
 length_push [] last = length_put last ([] ∷ []) ∙ omega arith
 length_push (c ∷ cs) last =
@@ -33,7 +33,7 @@ capped_product a (suc b) limit =
       | inr most ↦ (let same : min a limit ≡ limit = omega (arith, most) in ap (λ k. min (k * suc b) limit) same ∙ omega (arith, most))
     ]
 
--- the capped number of cells, one column on
+-- the capped number of cells, extended by one column
 pub count_more : (columns : List (List Region)) (i : ℕ) (item : List Region) (count factor limit : ℕ) → i < length columns → item ≡ get_or columns i item → factor ≡ length item
     → count ≡ min (length (cells (take i columns))) limit → min (count * factor) limit ≡ min (length (cells (take (i + 1) columns))) limit
 count_more columns i item count factor limit below standing factor_is count_is =

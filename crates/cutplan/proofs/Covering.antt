@@ -1,4 +1,4 @@
--- Which rules cover a cell, region by region.
+-- The rules that cover a cell, region by region.
 use Rattle.std.proofs.Common.{◌≡◌, ℕ, zero, suc, ◌+◌, ◌<◌, ◌&&◌, ◌||◌, Bool, true, not, cond, eqb, List, [], ◌∷◌, ◌++◌, length, get_or, take, drop, map, filter, refl, ap, sym, ◌∙◌, add-one, arith}
 use Rattle.std.specs.List.{flat_map, list_any, range_with_len, slice_get}
 use Rattle.std.specs.Option.{option_map_or}
@@ -13,7 +13,8 @@ use Rattle.cutplan.specs.Check.{covers, cells, holds_at, rule_cells}
 use Rattle.cutplan.specs.Parts.{uncovered, alive_in}
 use Rattle.cutplan.proofs.Steps.{flat_more, filter_map_cons, any_kept, any_agrees, first_of_rest, rest_of_rest}
 
--- a rule covers a cell from a column on where it holds in the first region and covers the rest from the next on
+-- a rule covers a cell from a column on if and only if it holds in the first region and covers the
+-- others from the next column on
 pub covers_from : (rule : List Cell) (column : ℕ) (r : Region) (cell : List Region)
     → covers (drop column rule) (r ∷ cell) ≡ (option_map_or (λ c. holds_in c r) (slice_get rule column) true && covers (drop (suc column) rule) cell)
 covers_from [] zero r cell = refl
@@ -21,12 +22,13 @@ covers_from [] (suc column) r cell = refl
 covers_from (c ∷ cs) zero r cell = refl
 covers_from (c ∷ cs) (suc column) r cell = covers_from cs column r cell
 
--- every rule covers no regions
+-- every rule covers the cell without regions
 covers_none : (rule : List Cell) → covers rule [] ≡ true
 covers_none [] = refl
 covers_none (c ∷ cs) = refl
 
--- a cell is uncovered where the rest is by the rules that hold in its first region
+-- a cell is uncovered if and only if its other regions are uncovered by the rules that hold in its
+-- first region
 pub uncovered_step : (t : Table) (column : ℕ) (rules : List ℕ) (r : Region) (cell : List Region)
     → uncovered t column rules (r ∷ cell) ≡ uncovered t (column + 1) (alive_in t column r rules) cell
 uncovered_step t column rules r cell =
@@ -35,7 +37,7 @@ uncovered_step t column rules r cell =
     ap not (any_agrees (λ rule. covers (drop column (rule_cells t rule)) (r ∷ cell)) (λ rule. holds_at t rule column r && covers (drop (column + 1) (rule_cells t rule)) cell) here rules
     ∙ any_kept (λ rule. holds_at t rule column r) (λ rule. covers (drop (column + 1) (rule_cells t rule)) cell) rules)
 
--- the uncovered cells of one region more
+-- the uncovered cells, extended by one region
 pub uncovered_more : (t : Table) (column : ℕ) (rules : List ℕ) (regions : List Region) (more : List (List Region)) (i : ℕ) (r : Region) → i < length regions → r ≡ get_or regions i r
     → filter (uncovered t column rules) (flat_map (λ x. map (λ cell. x ∷ cell) (cells more)) (take (i + 1) regions))
     ≡ filter (uncovered t column rules) (flat_map (λ x. map (λ cell. x ∷ cell) (cells more)) (take i regions)) ++ map (λ cell. r ∷ cell) (filter (uncovered t (column + 1) (alive_in t column r rules)) (cells more))
@@ -48,12 +50,12 @@ uncovered_more t column rules regions more i r below standing =
     ∙ filter-append (uncovered t column rules) front (put r)
     ∙ ap (λ last. filter (uncovered t column rules) front ++ last) (filter_map_cons (uncovered t column rules) r (cells more) ∙ ap (λ kept. map (λ cell. r ∷ cell) kept) agree)
 
--- the cell of no column is uncovered where there is no rule
+-- the cell without regions is uncovered if and only if there is no rule
 pub uncovered_end : (t : Table) (column : ℕ) (rules : List ℕ) → uncovered t column rules [] ≡ eqb (length rules) 0
 uncovered_end t column [] = refl
 uncovered_end t column (rule ∷ rules) = ap (λ b. not (b || list_any (λ x. covers (drop column (rule_cells t x)) []) rules)) (covers_none (drop column (rule_cells t rule))) ∙ sym (ne_eqb (suc (length rules)) 0 (λ e. absurd (omega (arith, e))))
 
--- rules by their places, and one by one
+-- the rules by index and the rules one by one
 any_by_place : (f : List Cell → Bool) (t : Table) (k : ℕ) (rules : List Rule) → drop k t.rules ≡ rules → list_any (λ place. f (rule_cells t place)) (range_with_len k (length rules)) ≡ list_any (λ r. f r.cells) rules
 any_by_place f t k [] e = refl
 any_by_place f t k (r ∷ rules) e =
@@ -61,16 +63,16 @@ any_by_place f t k (r ∷ rules) e =
     let rest = any_by_place f t (k + 1) rules (ap (λ n. drop n t.rules) (add-one k) ∙ rest_of_rest t.rules k r rules e) in
     ap (λ b. b || list_any (λ place. f (rule_cells t place)) (range_with_len (k + 1) (length rules))) here ∙ ap (λ b. f r.cells || b) rest
 
--- the cell of no column
+-- the uncovered cells of no columns
 pub end_is : (t : Table) (column : ℕ) (rules : List ℕ) (columns : List (List Region)) → length columns ≡ 0 → filter (uncovered t column rules) (cells columns) ≡ cond (eqb (length rules) 0) ([] ∷ []) []
 end_is t column rules [] e = ap (λ b. cond b ([] ∷ []) []) (uncovered_end t column rules)
 end_is t column rules (c ∷ cs) e = absurd (omega (arith, e))
 
--- none of all rules covers a cell from the first column on exactly where no rule covers it
+-- a cell is uncovered by all rules from the first column on if and only if no rule covers it
 pub gap_is : (t : Table) (cell : List Region) → uncovered t 0 (range_with_len 0 (length t.rules)) cell ≡ not (list_any (λ r. covers r.cells cell) t.rules)
 gap_is t cell = ap not (any_by_place (λ rule. covers rule cell) t 0 t.rules refl)
 
--- the cells that no rule covers are those that none of all rules covers from the first column on
+-- the cells that no rule covers are those that all rules leave uncovered from the first column on
 pub gaps_are : (t : Table) (columns : List (List Region)) → filter (uncovered t 0 (range_with_len 0 (length t.rules))) (cells columns) ≡ filter (λ cell. not (list_any (λ r. covers r.cells cell) t.rules)) (cells columns)
 gaps_are t columns =
     filter_agree (uncovered t 0 (range_with_len 0 (length t.rules))) (λ cell. not (list_any (λ r. covers r.cells cell) t.rules))

@@ -1,4 +1,4 @@
--- How many rules a mask has, word by word.
+-- The number of rules in a mask, word by word.
 use Rattle.std.proofs.Common.{◌≡◌, ℕ, ◌+◌, ◌-◌, ◌*◌, ◌^◌, ◌<◌, ◌≤◌, ◌%◌, false, List, [], ◌∷◌, ◌++◌, get_or, filter, refl, ap, sym, subst, ◌∙◌, append-nil, arith, w64}
 use Rattle.std.specs.Prelude.{bit_and}
 use Rattle.std.specs.Int.{bit_not, trailing_zeros}
@@ -9,11 +9,11 @@ use Rattle.cutplan.specs.Masks.{has_rule, rules_in}
 use Rattle.cutplan.specs.Found.{IsFew, places_set}
 use Rattle.cutplan.proofs.MaskLists.{all_rules, lowest_set, more_rules, none_set}
 
--- so many rules are in the first words
+-- the count describes the rules in the first words
 abbrev pub AreFirstFew : List ℕ → ℕ → Few → Type 0
 AreFirstFew mask words found = (count : ℕ) → count ≡ 64 * words → IsFew found (filter (has_rule mask) (range_with_len 0 count))
 
--- and in one word more
+-- the count for one more word
 pub few_more : (mask : List ℕ) (found next : Few) (words : ℕ) → AreFirstFew mask words found
     → ((width : ℕ) (before : List ℕ) → width ≡ 64 → IsFew found before → IsFew next (before ++ places_set (get_or mask words 0) (64 * words) width)) → AreFirstFew mask (words + 1) next
 few_more mask found next words all step count is =
@@ -28,7 +28,7 @@ few_more mask found next words all step count is =
     (λ w e. ap (λ k. before ++ places_set (get_or mask words 0) first k) (wide ∙ sym e)) count is in
     subst (λ xs. IsFew next xs) are told
 
--- in all four words
+-- the count for all four words
 pub few_in_all : (mask : List ℕ) (found : Few) (words count : ℕ) → words ≡ 4 → count ≤ 256 → ((place : ℕ) → count ≤ place → place < 256 → has_rule mask place ≡ false) → AreFirstFew mask words found
     → IsFew found (rules_in count mask)
 few_in_all mask found words count four few none all =
@@ -41,11 +41,11 @@ pub few_stay : (found : Few) (word first width : ℕ) (before : List ℕ) → wo
 few_stay found word first width before zero are =
     subst (λ xs. IsFew found xs) (sym (ap (λ more. before ++ more) (none_set word first width zero) ∙ append-nil before)) are
 
--- behind no rule there are those of the word
+-- if there are no rules so far, the rules are those of the word
 pub few_behind_none : (next : Few) (places before : List ℕ) → before ≡ [] → IsFew next places → IsFew next (before ++ places)
 few_behind_none next places before none are = rw none are
 
--- a word of which nothing is left without its lowest bit has one rule
+-- a word has exactly one rule if it is zero without its lowest bit
 pub one_set : (word first width : ℕ) → width ≡ 64 → (word ≡ 0 → ⊥) → word < 2 ^ 64 → bit_and word (bit_not w64 (1 * 2 ^ trailing_zeros w64 word % 2 ^ 64)) ≡ 0
     → IsFew (few.One (first + trailing_zeros w64 word)) (places_set word first width)
 one_set word first width wide some small left =

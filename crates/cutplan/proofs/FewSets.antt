@@ -1,4 +1,4 @@
--- The answers of each set of a table's rules, where they are few.
+-- The answers of every subset of a table's rules, if the table has few rules.
 use Rattle.std.proofs.Common.{◌≡◌, ℕ, ◌+◌, ◌/◌, ◌%◌, ◌<◌, ◌≤◌, true, false, cond, List, [], ◌∷◌, ◌++◌, length, filter, Option, Some, get_or, slice_get, Ok, ap, sym, ◌∙◌, append-nil, arith}
 use Rattle.std.specs.Prelude.{◌==◌, nat_lt}
 use Rattle.std.specs.Int.{bit_at}
@@ -17,21 +17,21 @@ use Rattle.cutplan.proofs.Lending.{as_answered, mapped_number}
 use Rattle.cutplan.proofs.MaskLists.{filter_alike}
 use Rattle.cutplan.proofs.MaskRules.{filter_numbers}
 
--- only few rules have sets
+-- only tables with few rules have precomputed subsets
 pub few_have_sets : (rules set : ℕ) → set < set_count rules → rules ≤ 6
 few_have_sets rules set below = grind (arith, nat_tests)
 
--- one rule more that a mask has
+-- the rules of a mask, extended by a rule that the mask has
 pub with_rule : (mask : List ℕ) (rule : ℕ) (rules new : List ℕ) → rules ≡ filter (has_rule mask) (range_with_len 0 rule) → has_rule mask rule ≡ true → new ≡ rules ++ rule ∷ [] → new ≡ filter (has_rule mask) (range_with_len 0 (rule + 1))
 with_rule mask rule rules new are has pushed =
     pushed ∙ ap (λ xs. xs ++ rule ∷ []) are ∙ sym (filter_numbers (has_rule mask) rule ∙ ap (λ b. filter (has_rule mask) (range_with_len 0 rule) ++ cond b (rule ∷ []) []) has)
 
--- and one that it has not
+-- the rules of a mask, extended by a rule that the mask does not have
 pub without_rule : (mask : List ℕ) (rule : ℕ) (rules : List ℕ) → rules ≡ filter (has_rule mask) (range_with_len 0 rule) → has_rule mask rule ≡ false → rules ≡ filter (has_rule mask) (range_with_len 0 (rule + 1))
 without_rule mask rule rules are has =
     are ∙ sym (filter_numbers (has_rule mask) rule ∙ ap (λ b. filter (has_rule mask) (range_with_len 0 rule) ++ cond b (rule ∷ []) []) has ∙ append-nil (filter (has_rule mask) (range_with_len 0 rule)))
 
--- of few rules a mask has those of its first word
+-- the rules of a mask are those of its first word if there are few rules
 first_word : (mask : List ℕ) (count set : ℕ) → count ≤ 6 → get_or mask 0 0 ≡ set → rules_in count mask ≡ rules_in count (set ∷ 0 ∷ 0 ∷ 0 ∷ [])
 first_word mask count set few is =
     filter_alike (has_rule mask) (has_rule (set ∷ 0 ∷ 0 ∷ 0 ∷ [])) 0 count
@@ -39,7 +39,7 @@ first_word mask count set few is =
     let first : k / 64 ≡ 0 = omega (arith, few, high) in
     ap (λ i. bit_at (get_or mask i 0) (k % 64) == 1) first ∙ ap (λ word. bit_at word (k % 64) == 1) is ∙ sym (ap (λ i. bit_at (get_or (set ∷ 0 ∷ 0 ∷ 0 ∷ []) i 0) (k % 64) == 1) first))
 
--- the answers that are kept of a mask's set
+-- the precomputed answers for the subset of a mask are those of its rules
 pub set_answered : (t : Table) (kept : KeptAnswers) (mask : List ℕ) (set : ℕ) (listed : List (Option (List Answer))) (found : Option (List Answer)) (answers : List Answer) → kept ≡ kept_answers t → get_or mask 0 0 ≡ set
     → listed ≡ kept.sets → true ≡ nat_lt set (length listed) → found ≡ get_or listed set found → found ≡ Some answers → (number : ℕ) → by_hit t.hit number t (rules_in (length t.rules) mask) ≡ Ok answers
 set_answered t kept mask set listed found answers is set_is listed_is below found_is at number =

@@ -1,4 +1,4 @@
--- Each region of a column holds an allowed value.
+-- Each region of a column contains an allowed value.
 use Rattle.std.proofs.Common.{◌≡◌, ℕ, ℤ, suc, pos, ◌+◌, ◌<◌, ◌<ℤ◌, ◌+ℤ◌, inl, inr, Bool, true, false, not, cond, List, [], ◌∷◌, length, replicate, map, filter, Option, Some, None, refl, ap, sym, ◌∙◌, subst, arith}
 use Rattle.std.specs.List.{list_any, flat_map}
 use Rattle.std.specs.Option.{option_map_or}
@@ -43,7 +43,7 @@ among_passes p x (y ∷ ys) at =
       | false ↦ λ e at. among_passes p x ys at
     ] refl at
 
--- the first value behind a cut, where there is one
+-- the value after a cut, if there is one
 next_holder : {kind : Kind} {mk : ℤ → Value} → (s : Spanned kind mk) → (c : ℤ) (P : Value → Bool) → option_map_or P (next (mk c)) false ≡ true
     → (is_value kind (mk (int_max s.least (c +ℤ pos 1))) ≡ true) × (P (mk (int_max s.least (c +ℤ pos 1))) ≡ true)
 next_holder {kind} {mk} s c P has =
@@ -83,7 +83,7 @@ spanned_holder {kind} {mk} s lits r at has =
     let all : Among r (ordered (map mk cuts.numbers)) = subst (λ cs. Among r (ordered cs)) cuts.made (subst (λ rs. Among r rs) (s.stretch (rising (filter (has_kind kind) lits))) at) in
     span_holder s cuts.numbers r (each_at (Shape mk cuts.numbers) (ordered (map mk cuts.numbers)) r (shapes mk cuts.numbers) all) has
 
--- a text longer than all names together
+-- a text that is longer than all named texts together
 together : List Value → ℕ
 together [] = 0
 together (Text t ∷ vs) = length t + together vs
@@ -108,7 +108,7 @@ other_holder names =
     let long : together names < length f = let size = length-replicate {A = ℕ} (suc (together names)) 120 in omega (arith, size) in
     record { held = Text f; value = refl; inside = ap not (longer_is_none names f long) }
 
--- each name is a text
+-- each named value is a text
 named_text : (lits : List Value) (u : Value) → Among u (rising (filter (has_kind kinds.Text) lits)) → is_value kinds.Text u ≡ true
 named_text lits u at = text_value u (among_passes (has_kind kinds.Text) u lits (rising_only (filter (has_kind kinds.Text) lits) u at)) where
   text_value : (v : Value) → has_kind kinds.Text v ≡ true → is_value kinds.Text v ≡ true

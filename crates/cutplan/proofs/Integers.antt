@@ -1,4 +1,4 @@
--- Tests of whole numbers.
+-- Comparisons of whole numbers.
 use Rattle.std.proofs.Common.{◌≡◌, ℤ, pos, negsuc, ◌≤ℤ◌, ◌<ℤ◌, Bool, true, false, not, cond, Less, Equal, Greater, refl, ap, sym, ◌∙◌, arith}
 use Rattle.std.specs.Prelude.{int_lt, int_le}
 use Rattle.std.specs.Ordering.{is_eq, int_eq}
@@ -27,11 +27,11 @@ le_from a b e = by_lt_z a b (λ h. absurd (both_ways (int_lt a b) e (lt_true a b
 pub le_is : (a b : ℤ) → int_le a b ≡ not (int_lt b a)
 le_is a b = by_lt_z b a (λ h. grind (arith, ints)) (λ h. grind (arith, ints))
 
--- equality by the order alone
+-- equality, computed from the order
 abbrev from_order : Bool → Bool → Bool
 from_order less more = is_eq (cond less Less (cond more Greater Equal))
 
--- two numbers lie alike to a third
+-- two numbers compare in the same way with a third
 pub record Beside (a b c : ℤ) : Type 0 where
   pub less : int_lt a c ≡ int_lt b c
   pub more : int_lt c a ≡ int_lt c b

@@ -1,4 +1,5 @@
--- Masks are kept one by one: of regions, of columns, of tables; and each is found at its place.
+-- Compilation one step at a time: regions, columns, tables. Each compiled part has the index of its
+-- source.
 use Rattle.std.proofs.Common.{◌≡◌, ℕ, zero, suc, ◌+◌, ◌-◌, ◌<◌, ◌≤◌, List, [], ◌∷◌, ◌++◌, length, get_or, take, map, Option, Some, None, refl, ap, sym, ◌∙◌, subst, arith}
 use Rattle.std.specs.List.{All, AllZip, enumerate_from, slice_get}
 use Rattle.std.specs.Option.{OnSome, option_map_or}
@@ -27,13 +28,13 @@ all_long R [] (w ∷ ws) all = absurd all
 all_long R (z ∷ zs) [] all = absurd all
 all_long R (z ∷ zs) (w ∷ ws) all = ap suc (all_long R zs ws all.1)
 
--- one thing more on either side
+-- two related lists, each extended by one element
 pub one_more : {X Y : Type 0} (R : X → Y → Type 0) (xs : List X) (ys new : List Y) (i : ℕ) (x : X) (y : Y) → i < length xs → x ≡ get_or xs i x → AllZip R (take i xs) ys → R x y → new ≡ ys ++ y ∷ [] → AllZip R (take (i + 1) xs) new
 one_more R xs ys new i x y below is all r pushed =
     let front = take_more xs i x below ∙ ap (λ z. take i xs ++ z ∷ []) (sym is) in
     subst (λ zs. AllZip R (take (i + 1) xs) zs) (sym pushed) (subst (λ zs. AllZip R zs (ys ++ y ∷ [])) (sym front) (all_push R (take i xs) ys x y all r))
 
--- the masks of one region more
+-- the masks, extended by one region
 pub more_regions : (cells : List (Option Cell)) (regions : List Region) (masks new : List (List ℕ)) (i : ℕ) (region : Region) (mask : List ℕ) → i < length regions → region ≡ get_or regions i region
     → AreMasksBy cells (take i regions) masks → Marks (holds_among cells region) mask → new ≡ masks ++ mask ∷ [] → AreMasksBy cells (take (i + 1) regions) new
 more_regions cells regions masks new i region mask below is all marks pushed =
@@ -42,28 +43,28 @@ more_regions cells regions masks new i region mask below is all marks pushed =
 abbrev pub at_number : {X : Type 0} → ℕ → X → ℕ × X
 at_number n x = (n, x)
 
--- a column with its place
+-- a column with its index
 pub placed_column : {X : Type 0} (xs : List X) (i : ℕ) (x : X) → i < length xs → x ≡ get_or xs i x → at_number i x ≡ get_or (enumerate_from 0 xs) i (at_number i x)
 placed_column xs i x below is =
     let zero_more : 0 + i ≡ i = omega arith in
     sym (get_or-enumerate_from 0 xs i (at_number i x) below ∙ ap (λ n. at_number n (get_or xs i x)) zero_more ∙ ap (at_number i) (sym is))
 
--- the first columns of a table, each with its place
+-- the masks of the first columns of a table
 abbrev pub AreFirstMasks : Table → ℕ → List (List Region) → List (List (List ℕ)) → Type 0
 AreFirstMasks t i columns masks = AllZip (λ (c : ℕ × List Region) (kept : List (List ℕ)). AreMasks t c.0 c.1 kept) (take i (enumerate_from 0 columns)) masks
 
--- the masks of one column more
+-- the masks, extended by one column
 pub more_columns : (t : Table) (columns : List (List Region)) (masks new : List (List (List ℕ))) (i : ℕ) (regions : List Region) (kept : List (List ℕ)) → i < length columns → regions ≡ get_or columns i regions
     → AreFirstMasks t i columns masks → AreMasks t i regions kept → new ≡ masks ++ kept ∷ [] → AreFirstMasks t (i + 1) columns new
 more_columns t columns masks new i regions kept below is all here pushed =
     one_more (λ (c : ℕ × List Region) (kept : List (List ℕ)). AreMasks t c.0 c.1 kept) (enumerate_from 0 columns) masks new i (at_number i regions) kept
     (subst (λ n. i < n) (sym (length-enumerate_from 0 columns)) below) (placed_column columns i regions below is) all here pushed
 
--- the first columns kept of a table
+-- the compiled columns of the first inputs of a table
 abbrev pub AreFirstKept : PlanParts → Table → ℕ → List KeptColumn → Type 0
 AreFirstKept p t i kept = AllZip (λ (input : ℕ × Input) (column : KeptColumn). IsKeptColumn p t input.0 input.1 column) (take i (enumerate_from 0 t.inputs)) kept
 
--- one column more
+-- the compiled columns, extended by one input
 pub more_kept : (p : PlanParts) (t : Table) (inputs : List Input) (kept new : List KeptColumn) (i : ℕ) (input : Input) (column : KeptColumn) → inputs ≡ t.inputs → i < length inputs → input ≡ get_or inputs i input
     → AreFirstKept p t i kept → IsKeptColumn p t i input column → new ≡ kept ++ column ∷ [] → AreFirstKept p t (i + 1) new
 more_kept p t inputs kept new i input column same below is all here pushed =
@@ -72,32 +73,32 @@ more_kept p t inputs kept new i input column same below is all here pushed =
     one_more (λ (input : ℕ × Input) (column : KeptColumn). IsKeptColumn p t input.0 input.1 column) (enumerate_from 0 t.inputs) kept new i (at_number i input) column
     (subst (λ n. i < n) (sym (length-enumerate_from 0 t.inputs)) within) (placed_column t.inputs i input within standing) all here pushed
 
--- all columns of a table
+-- the compiled columns of all inputs of a table
 pub all_kept : (p : PlanParts) (t : Table) (inputs : List Input) (i : ℕ) (kept : List KeptColumn) → inputs ≡ t.inputs → length inputs ≤ i → AreFirstKept p t i kept → AreKeptColumns p t kept
 all_kept p t inputs i kept same last all =
     let long = length-enumerate_from 0 t.inputs in
     let end : length t.inputs ≤ i = subst (λ xs. length xs ≤ i) same last in
     subst (λ is. AllZip (λ (input : ℕ × Input) (column : KeptColumn). IsKeptColumn p t input.0 input.1 column) is kept) (take_all i (enumerate_from 0 t.inputs) (omega (arith, long, end))) all
 
--- those of one table more
+-- the compiled tables, extended by one table
 pub more_tables : (p : PlanParts) (tables : List Table) (kept new : List (List KeptColumn)) (i : ℕ) (t : Table) (columns : List KeptColumn) → i < length tables → t ≡ get_or tables i t
     → AllZip (AreKeptColumns p) (take i tables) kept → AreKeptColumns p t columns → new ≡ kept ++ columns ∷ [] → AllZip (AreKeptColumns p) (take (i + 1) tables) new
 more_tables p tables kept new i t columns below is all here pushed = one_more (AreKeptColumns p) tables kept new i t columns below is all here pushed
 
--- what a function makes of one thing more
+-- a mapped list, extended by one element
 pub more_mapped : {X Y : Type 0} (f : X → Y) (xs : List X) (ys new : List Y) (i : ℕ) (x : X) (y : Y) → i < length xs → x ≡ get_or xs i x → ys ≡ map f (take i xs) → y ≡ f x → new ≡ ys ++ y ∷ [] → new ≡ map f (take (i + 1) xs)
 more_mapped f xs ys new i x y below is all at pushed =
     pushed ∙ ap (λ zs. zs ++ y ∷ []) all ∙ ap (λ z. map f (take i xs) ++ z ∷ []) at ∙ sym (map-append f (take i xs) (x ∷ []))
     ∙ ap (map f) (sym (take_more xs i x below ∙ ap (λ z. take i xs ++ z ∷ []) (sym is)))
 
--- what stands at a place on one side has its other at that place
+-- an element of one list has a related element at the same index of the other list
 other_at : {X Y : Type 0} (R : X → Y → Type 0) (xs : List X) (ys : List Y) (i : ℕ) (x : X) (y : Y) → AllZip R xs ys → slice_get xs i ≡ Some x → y ≡ get_or ys i y → R x y
 other_at R [] ys i x y all at is = absurd (none-some x at)
 other_at R (z ∷ zs) [] i x y all at is = absurd all
 other_at R (z ∷ zs) (w ∷ ws) zero x y all at is = subst (λ a. R a y) (same_Some z x at) (subst (λ b. R z b) (sym is) all.0)
 other_at R (z ∷ zs) (w ∷ ws) (suc i) x y all at is = other_at R zs ws i x y all.1 at is
 
--- there is something at each place
+-- each index within a list has an element
 pub at_place : {X : Type 0} (xs : List X) (n : ℕ) → n < length xs → (x : X) × (slice_get xs n ≡ Some x)
 at_place [] n below = absurd (omega (arith, below))
 at_place (y ∷ ys) zero below = (y, refl)
@@ -118,7 +119,7 @@ has_few p number all = few_at p.tables (number - 1) all
 pub few_of : (tables : List Table) (k : ℕ) (t : Table) → All (λ t. length t.rules ≤ 256) tables → slice_get tables k ≡ Some t → length t.rules ≤ 256
 few_of tables k t all at = subst (λ found. option_map_or (λ x. length x.rules) found 0 ≤ 256) at (few_at tables k all)
 
--- what holds in any case holds on an answer
+-- a proposition that holds anyway also holds for the content of an option
 pub on_some : {X : Type 0} (o : Option X) (P : Type 0) → P → OnSome o P
 on_some (Some x) P holds = holds
 on_some None P holds = tt
@@ -127,22 +128,22 @@ on_some None P holds = tt
 pub few_rules : (p : PlanParts) → IsPlan p → All (λ t. length t.rules ≤ 256) p.tables
 few_rules p plan k d below = (plan.limits.each_table k d below).rules
 
--- what is kept of a plan
+-- the compiled columns of a plan
 pub cut_of : (p : PlanParts) (kept : List (List KeptColumn)) → AllZip (AreKeptColumns p) p.tables kept → IsPlan p → IsCut p kept
 cut_of p kept columns plan = record { columns = columns; few = few_rules p plan }
 
--- what is kept of a table stands at its place
+-- the compiled columns of a table exist at its index
 pub table_within : (p : PlanParts) (kept : List (List KeptColumn)) (number : ℕ) → AllZip (AreKeptColumns p) p.tables kept → 1 ≤ number → number ≤ length p.tables → number - 1 < length kept
 table_within p kept number all low high =
     let long = all_long (AreKeptColumns p) p.tables kept all in
     omega (arith, long, low, high)
 
--- it is kept of that table
+-- the compiled columns at the index of a table are those of the table
 pub table_kept : (p : PlanParts) (kept : List (List KeptColumn)) (place : ℕ) (columns : List KeptColumn) (t : Table) → AllZip (AreKeptColumns p) p.tables kept → columns ≡ get_or kept place columns
     → slice_get p.tables place ≡ Some t → AreKeptColumns p t columns
 table_kept p kept place columns t all is at = other_at (AreKeptColumns p) p.tables kept place t columns all at is
 
--- what stands at a place, with its place
+-- the element at an index, with its number
 pub numbered_at : {X : Type 0} (n : ℕ) (xs : List X) (i : ℕ) (x : X) → slice_get xs i ≡ Some x → slice_get (enumerate_from n xs) i ≡ Some (at_number (n + i) x)
 numbered_at n [] i x at = absurd (none-some x at)
 numbered_at n (y ∷ ys) zero x at =
@@ -152,11 +153,11 @@ numbered_at n (y ∷ ys) (suc i) x at =
     let there : (n + 1) + i ≡ n + suc i = omega arith in
     numbered_at (n + 1) ys i x at ∙ ap (λ k. Some (at_number k x)) there
 
--- a table has as many columns kept as inputs
+-- a table has as many compiled columns as inputs
 pub kept_long : (p : PlanParts) (t : Table) (kept : List KeptColumn) → AreKeptColumns p t kept → length t.inputs ≡ length kept
 kept_long p t kept all = sym (length-enumerate_from 0 t.inputs) ∙ all_long (λ (input : ℕ × Input) (column : KeptColumn). IsKeptColumn p t input.0 input.1 column) (enumerate_from 0 t.inputs) kept all
 
--- what is kept of a column stands at its place
+-- the compiled column at the index of an input is that of the input
 pub column_kept : (p : PlanParts) (t : Table) (kept : List KeptColumn) (i : ℕ) (input : Input) (column : KeptColumn) → AreKeptColumns p t kept → slice_get t.inputs i ≡ Some input → column ≡ get_or kept i column
     → IsKeptColumn p t i input column
 column_kept p t kept i input column all at is =
@@ -164,7 +165,7 @@ column_kept p t kept i input column all at is =
     other_at (λ (input : ℕ × Input) (column : KeptColumn). IsKeptColumn p t input.0 input.1 column) (enumerate_from 0 t.inputs) kept i (at_number i input) column all
     (numbered_at 0 t.inputs i input at ∙ ap (λ n. Some (at_number n input)) zero_more) is
 
--- a column of this number has its place
+-- a column number has a compiled column
 pub column_within : (p : PlanParts) (number column : ℕ) (t : Table) (kept : List KeptColumn) → AreKeptColumns p t kept → slice_get p.tables (number - 1) ≡ Some t → IsColumnNumber p number column → column - 1 < length kept
 column_within p number column t kept all at place =
     let long = kept_long p t kept all in

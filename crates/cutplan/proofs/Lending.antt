@@ -1,4 +1,4 @@
--- Answers that are kept are those that a table gives, whatever its number.
+-- Precomputed answers are those of the table, whatever its number.
 use Rattle.std.proofs.Common.{◌≡◌, ℕ, zero, suc, ◌+◌, Bool, true, false, List, [], ◌∷◌, length, map, Option, Some, None, get_or, slice_get, Ok, Err, refl, ap, sym, ◌∙◌, arith}
 use Rattle.std.specs.Prelude.{ℤ, ◌==◌, nat_le, nat_lt, ◌+ℤ◌, is_some}
 use Rattle.std.specs.List.{list_all, range_with_len, reduce}
@@ -17,7 +17,7 @@ use Rattle.cutplan.specs.declared.lent.KeptAnswers.{KeptAnswers}
 use Rattle.cutplan.specs.Lent.{answers_in, answered, kept_answers}
 use Rattle.cutplan.proofs.ByMasks.{found_at}
 
--- two outcomes have the same answers, and are alike but for a fault's number
+-- two values have the same answers, or faults that differ at most in the table's number
 abbrev AreAlike : TableValue → TableValue → Type 0
 AreAlike one other = answers_in one ≡ answers_in other
 
@@ -54,7 +54,7 @@ counted_alike : (n m : ℕ) (t : Table) (rules : List ℕ) → AreAlike (counted
 counted_alike n m t [] = unmatched_alike n m t (list_all (λ o. is_some o.fallback) t.outputs) refl
 counted_alike n m t (rule ∷ others) = let units = count_units (length (rule ∷ others)) in number_alike n m units (nat_le (unsigned_abs units) greatest_units) refl
 
--- a table's number is told in faults alone
+-- only faults contain the number of a table
 hit_alike : (hit : Hit) (n m : ℕ) (t : Table) (rules : List ℕ) → AreAlike (by_hit hit n t rules) (by_hit hit m t rules)
 hit_alike hits.U n m t rules = unique_alike n m t rules
 hit_alike hits.A n m t rules = any_alike n m t rules
@@ -72,7 +72,7 @@ answers_are : (outcome : TableValue) (answers : List Answer) → answers_in outc
 answers_are (Ok made) answers is = ap (λ a. Ok a) (same_Some made answers is)
 answers_are (Err fault) answers is = absurd (none-some answers is)
 
--- kept answers are the table's, whatever its number
+-- the precomputed answers for some rules are the table's answers for any table number
 pub as_answered : (t : Table) (rules : List ℕ) (answers : List Answer) → answered t rules ≡ Some answers → (number : ℕ) → by_hit t.hit number t rules ≡ Ok answers
 as_answered t rules answers is number = answers_are (by_hit t.hit number t rules) answers (hit_alike t.hit number 1 t rules ∙ is)
 
@@ -83,7 +83,7 @@ mapped_number f from (suc n) (suc i) x at =
     let there : from + suc i ≡ (from + 1) + i = omega arith in
     ap f there ∙ mapped_number f (from + 1) n i x at
 
--- what is kept for a rule that stands alone
+-- the precomputed answers of a single rule
 alone_answered : (t : Table) (kept : KeptAnswers) (rule : ℕ) (found : Option (List Answer)) → kept ≡ kept_answers t → slice_get kept.alone rule ≡ Some found → answered t (rule ∷ []) ≡ found
 alone_answered t kept rule found is at =
     let here : rule ≡ 0 + rule = omega arith in
@@ -94,13 +94,13 @@ is_none : (rules : List ℕ) → (length rules == 0) ≡ true → rules ≡ []
 is_none [] none = refl
 is_none (rule ∷ rules) none = let zero_long = eqb-true (length (rule ∷ rules)) 0 none in absurd (omega (arith, zero_long))
 
--- the answers that are kept where no rule matches
+-- the precomputed answers if no rule matches
 pub lent_unmatched : (t : Table) (kept : KeptAnswers) (rules : List ℕ) (answers : List Answer) → kept ≡ kept_answers t → (length rules == 0) ≡ true → kept.unmatched ≡ Some answers
     → (number : ℕ) → by_hit t.hit number t rules ≡ Ok answers
 lent_unmatched t kept rules answers is none at number =
     ap (by_hit t.hit number t) (is_none rules none) ∙ as_answered t [] answers (ap (λ (k : KeptAnswers). k.unmatched) (sym is) ∙ at) number
 
--- and those that are kept for a rule which stands for these
+-- the precomputed answers of a rule that decides the matching rules
 pub lent_alone : (t : Table) (kept : KeptAnswers) (rules : List ℕ) (rule : ℕ) (listed : List (Option (List Answer))) (found : Option (List Answer)) (answers : List Answer) → kept ≡ kept_answers t
     → ((number : ℕ) → by_hit t.hit number t rules ≡ by_hit t.hit number t (rule ∷ [])) → listed ≡ kept.alone → true ≡ nat_lt rule (length listed) → found ≡ get_or listed rule found → found ≡ Some answers
     → (number : ℕ) → by_hit t.hit number t rules ≡ Ok answers

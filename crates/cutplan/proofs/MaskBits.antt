@@ -11,14 +11,14 @@ or_none : (b : Bool) → (b || false) ≡ b
 or_none true = refl
 or_none false = refl
 
--- tests of equal things
+-- two comparisons agree if each equality implies the other
 same_test : (a b c d : ℕ) → (a ≡ b → c ≡ d) → (c ≡ d → a ≡ b) → (a == b) ≡ (c == d)
 same_test a b c d there back = elim (cases_eq a b) [
   | inl e ↦ eq-eqb a b e ∙ sym (eq-eqb c d (there e))
   | inr ne ↦ ne_eqb a b ne ∙ sym (ne_eqb c d (λ f. ne (back f)))
 ]
 
--- a word with one bit more
+-- a word with one more bit
 word_set : (word k j : ℕ) → k < 64 → (bit_at (bit_or word (1 * 2 ^ k % 2 ^ 64)) j == 1) ≡ ((bit_at word j == 1) || (j == k))
 word_set word k j within = elim (cases_eq j k) [
   | inl same ↦
@@ -29,7 +29,7 @@ word_set word k j within = elim (cases_eq j k) [
       ∙ sym (ap (λ b. (bit_at word j == 1) || b) (ne_eqb j k other) ∙ or_none (bit_at word j == 1))
 ]
 
--- a mask with one rule more
+-- a mask with one more rule
 pub inserted : (mask new : List ℕ) (place other : ℕ) → length mask ≡ 4 → place < 256
     → new ≡ set mask (place / 64) (bit_or (get_or mask (place / 64) 0) (1 * 2 ^ (place % 64) % 2 ^ 64))
     → other < 256 → has_rule new other ≡ (has_rule mask other || (other == place))
@@ -59,7 +59,7 @@ least_bit (suc zero) (suc zero) a b = refl
 least_bit (suc zero) (suc (suc y)) a b = absurd (omega (arith, b))
 least_bit (suc (suc x)) y a b = absurd (omega (arith, a))
 
--- a list of four, by a function
+-- a list of four elements, given by a function
 pub four : (f : ℕ → ℕ) (k : ℕ) → k < 4 → get_or (f 0 ∷ f 1 ∷ f 2 ∷ f 3 ∷ []) k 0 ≡ f k
 four f zero small = refl
 four f (suc zero) small = refl
@@ -67,7 +67,7 @@ four f (suc (suc zero)) small = refl
 four f (suc (suc (suc zero))) small = refl
 four f (suc (suc (suc (suc k)))) small = absurd (omega (arith, small))
 
--- what two masks have both
+-- the intersection of two masks
 pub met : (a b new : List ℕ) (place : ℕ) → place < 256
     → new ≡ bit_and (get_or a 0 0) (get_or b 0 0) ∷ bit_and (get_or a 1 0) (get_or b 1 0) ∷ bit_and (get_or a 2 0) (get_or b 2 0) ∷ bit_and (get_or a 3 0) (get_or b 3 0) ∷ []
     → has_rule new place ≡ (has_rule a place && has_rule b place)

@@ -1,4 +1,4 @@
--- The rules of a mask, word by word, from the lowest bit that is set to the next.
+-- The rules of a mask, listed word by word from the lowest set bit upwards.
 use Rattle.std.proofs.Common.{◌≡◌, ℕ, zero, suc, ◌+◌, ◌-◌, ◌*◌, ◌/◌, ◌%◌, ◌^◌, ◌<◌, ◌≤◌, Bool, true, false, cond, List, [], ◌∷◌, ◌++◌, get_or, filter, inl, inr, refl, ap, sym, ◌∙◌, append_assoc, arith, w64}
 use Rattle.std.proofs.lemmas.Bool.{cases_eq}
 use Rattle.std.proofs.lemmas.List.Elements.{filter-append}
@@ -11,11 +11,11 @@ use Rattle.cutplan.specs.Masks.{has_rule, rules_in}
 use Rattle.cutplan.specs.Found.{places_set}
 use Rattle.cutplan.proofs.MaskRules.{filter_within}
 
--- two tests that agree on some numbers keep the same
+-- two tests that agree on a range filter it alike
 pub filter_alike : (f g : ℕ → Bool) (a n : ℕ) → ((k : ℕ) → a ≤ k → k < a + n → f k ≡ g k) → filter f (range_with_len a n) ≡ filter g (range_with_len a n)
 filter_alike f g a n same = filter_within f g a n n (omega arith) same (λ k low high. absurd (omega (arith, low, high)))
 
--- what a test keeps, with the first number that it keeps in front of the rest
+-- a filtered range begins with the first number that passes
 first_kept : (f g : ℕ → Bool) (a n b : ℕ) → a ≤ b → b < a + n → ((k : ℕ) → a ≤ k → k < b → f k ≡ false) → f b ≡ true → g b ≡ false → ((k : ℕ) → a ≤ k → k < a + n → (k ≡ b → ⊥) → g k ≡ f k)
     → filter f (range_with_len a n) ≡ b ∷ filter g (range_with_len a n)
 first_kept f g a zero b low high none here gone same = absurd (omega (arith, low, high))
@@ -36,17 +36,17 @@ first_kept f g a (suc n) b low high none here gone same = elim (cases_eq a b) [
       ∙ ap (λ x. b ∷ cond x (a ∷ filter g (range_with_len (a + 1) n)) (filter g (range_with_len (a + 1) n))) (sym before_too))
 ]
 
--- a bit is 1 or not
+-- a bit that is 0 is not 1
 no_one : (n : ℕ) → n ≡ 0 → (n == 1) ≡ false
 no_one n e = ap (λ x. x == 1) e
 
--- no place in a word without bits
+-- a word without bits has no indices
 pub none_set : (word first width : ℕ) → word ≡ 0 → places_set word first width ≡ []
 none_set word first width e =
     filter_within (λ place. bit_at word (place - first) == 1) (λ place. true) first 0 width (omega arith) (λ k low high. absurd (omega (arith, low, high)))
     (λ k low high. no_one (bit_at word (k - first)) (ap (λ w. bit_at w (k - first)) e ∙ bit_at-zero (k - first)))
 
--- the lowest bit's place, and those of the others
+-- the index of the lowest set bit, followed by those of the others
 pub lowest_set : (word first width : ℕ) → width ≡ 64 → (word ≡ 0 → ⊥) → word < 2 ^ 64
     → places_set word first width ≡ (first + trailing_zeros w64 word) ∷ places_set (bit_and word (bit_not w64 (1 * 2 ^ trailing_zeros w64 word % 2 ^ 64))) first width
 lowest_set word first width wide some small =
@@ -61,7 +61,7 @@ lowest_set word first width wide some small =
     (ap (λ i. bit_at left i == 1) there ∙ no_one (bit_at left bit) (bit_at_clear_same w64 word bit within))
     (λ k low high other. ap (λ x. x == 1) (bit_at_clear_other w64 word bit within (k - first) (omega (arith, low, high, wide)) (λ e. other (omega (arith, low, e)))))
 
--- without its lowest bit a word is smaller
+-- a word without its lowest set bit is smaller
 pub smaller : (word : ℕ) → (word ≡ 0 → ⊥) → word < 2 ^ 64 → bit_and word (bit_not w64 (1 * 2 ^ trailing_zeros w64 word % 2 ^ 64)) < word
 smaller word some small =
     let bit = trailing_zeros w64 word in
@@ -73,7 +73,7 @@ smaller word some small =
       | inr other ↦ omega (arith, other, and_le_l word (bit_not w64 (1 * 2 ^ bit % 2 ^ 64)))
     ]
 
--- the lowest bit's place is put behind those found: what is found and what is left stay the same together
+-- moving the index of the lowest set bit from the word to the list keeps the whole list the same
 pub joined_places : (found new before : List ℕ) (word left first width : ℕ) → width ≡ 64 → (left ≡ 0 → ⊥) → left < 2 ^ 64 → new ≡ found ++ (first + trailing_zeros w64 left) ∷ []
     → found ++ places_set left first width ≡ before ++ places_set word first width
     → new ++ places_set (bit_and left (bit_not w64 (1 * 2 ^ trailing_zeros w64 left % 2 ^ 64))) first width ≡ before ++ places_set word first width
@@ -82,7 +82,7 @@ joined_places found new before word left first width wide some small pushed is =
     let others = places_set (bit_and left (bit_not w64 (1 * 2 ^ trailing_zeros w64 left % 2 ^ 64))) first width in
     ap (λ xs. xs ++ others) pushed ∙ append_assoc found (bit ∷ []) others ∙ ap (λ xs. found ++ xs) (sym (lowest_set left first width wide some small)) ∙ is
 
--- the first numbers and those behind them
+-- a range splits into its first numbers and the others
 range_parts : (a m n : ℕ) → range_with_len a (m + n) ≡ range_with_len a m ++ range_with_len (a + m) n
 range_parts a zero n =
     let here : a ≡ a + 0 = omega arith in
@@ -93,7 +93,7 @@ range_parts a (suc m) n =
     let more : suc m + n ≡ suc (m + n) = omega arith in
     ap (range_with_len a) more ∙ ap (λ xs. a ∷ xs) (range_parts (a + 1) m n ∙ ap (λ k. range_with_len (a + 1) m ++ range_with_len k n) there)
 
--- the rules of a word of a mask
+-- the rules of one word of a mask
 word_rules : (mask : List ℕ) (word width : ℕ) → width ≡ 64 → filter (has_rule mask) (range_with_len (64 * word) width) ≡ places_set (get_or mask word 0) (64 * word) width
 word_rules mask word width wide =
     filter_alike (has_rule mask) (λ place. bit_at (get_or mask word 0) (place - 64 * word) == 1) (64 * word) width
@@ -106,7 +106,7 @@ word_rules mask word width wide =
 abbrev pub AreFirstRules : List ℕ → ℕ → List ℕ → Type 0
 AreFirstRules mask words found = (count : ℕ) → count ≡ 64 * words → found ≡ filter (has_rule mask) (range_with_len 0 count)
 
--- of one word more
+-- the rules of one more word
 pub more_rules : (mask found new : List ℕ) (words : ℕ) → AreFirstRules mask words found → ((width : ℕ) → width ≡ 64 → new ≡ found ++ places_set (get_or mask words 0) (64 * words) width) → AreFirstRules mask (words + 1) new
 more_rules mask found new words all next count is =
     let before : ℕ = 64 * words in
@@ -120,7 +120,7 @@ more_rules mask found new words all next count is =
     ∙ ap (λ k. filter (has_rule mask) (range_with_len 0 before ++ range_with_len k width)) (sym zero_more)
     ∙ ap (filter (has_rule mask)) (sym (range_parts 0 before width)) ∙ ap (λ n. filter (has_rule mask) (range_with_len 0 n)) parts
 
--- of all four words
+-- the rules of all four words
 pub all_rules : (mask found : List ℕ) (words count : ℕ) → words ≡ 4 → count ≤ 256 → ((place : ℕ) → count ≤ place → place < 256 → has_rule mask place ≡ false) → AreFirstRules mask words found → found ≡ rules_in count mask
 all_rules mask found words count four few none all =
     let total : ℕ = 64 * words in

@@ -1,4 +1,5 @@
--- What fits a tuple that is read, matches; what is allowed is inside; and so gaps and overlaps speak of what matches.
+-- A rule that fits the values that are read matches, and allowed values are inside. So gaps and
+-- overlaps are statements about matches.
 use Rattle.std.proofs.Common.{◌≡◌, ℕ, zero, suc, ◌+◌, ◌-◌, ◌≤◌, ◌<◌, ◌&&◌, ◌||◌, inl, inr, Bool, true, false, not, cond, List, [], ◌∷◌, length, map, filter, Option, Some, None, Contains, refl, ap, sym, ◌∙◌, subst, arith}
 use Rattle.std.specs.Prelude.{nat_lt}
 use Rattle.std.specs.List.{flat_map, list_any, range_with_len, slice_get, position, position_or_len}
@@ -26,7 +27,7 @@ use Rattle.cutplan.proofs.Overlapping.{any_from, any_at, among_range, among_kept
 use Rattle.cutplan.proofs.Standing.{stands}
 use Rattle.cutplan.proofs.Telling.{among_front, fits_none, not_so, tells_gaps}
 
--- a rule's cells hold of what is read where they fit it
+-- a rule's cells hold for what is read if and only if they fit it
 hold_alike : (given : List Slot) (earlier : List (List Answer)) (inputs : List Input) (cells : List Cell) (tuple : List Value)
     → map (λ i. value_read given earlier i.origin) inputs ≡ map (λ v. Some v) tuple → cells_hold given earlier inputs cells ≡ fits cells tuple
 hold_alike given earlier [] cells [] e = sym (fits_none cells)
@@ -38,19 +39,19 @@ hold_alike given earlier (i ∷ is) (c ∷ cs) (v ∷ vs) e =
     let rest : map (λ x. value_read given earlier x.origin) is ≡ map (λ x. Some x) vs = cc in
     ap (λ found. holds_of found c && cells_hold given earlier is cs) here ∙ ap (λ b. holds c v && b) (hold_alike given earlier is cs vs rest)
 
--- there is something at each place
+-- each index within a list has an element
 at_place : {X : Type 0} (xs : List X) (n : ℕ) → n < length xs → (x : X) × (slice_get xs n ≡ Some x) × Among x xs
 at_place [] n below = absurd (omega (arith, below))
 at_place (y ∷ ys) zero below = (y, refl, inl refl)
 at_place (y ∷ ys) (suc n) below = let more = at_place ys n (omega (arith, below)) in (more.0, more.1, inr more.2)
 
--- and each thing has a place
+-- each element has an index
 place_of : {X : Type 0} (xs : List X) (x : X) → Among x xs → (n : ℕ) × (n < length xs) × (slice_get xs n ≡ Some x)
 place_of [] x at = absurd at
 place_of (y ∷ ys) x (inl e) = (0, omega arith, ap Some e)
 place_of (y ∷ ys) x (inr at) = let more = place_of ys x at in (suc more.0, omega (arith, more.1), more.2)
 
--- a rule matches what is read where it fits it
+-- a rule matches what is read if and only if it fits it
 matches_alike : (given : List Slot) (earlier : List (List Answer)) (t : Table) (tuple : List Value) → ReadsTuple given earlier t tuple → (place : ℕ) → place < length t.rules
     → rule_matches given earlier t place ≡ fits (rule_cells t place) tuple
 matches_alike given earlier t tuple reads place below =
@@ -67,7 +68,7 @@ fits_are_matches given earlier t tuple reads place below =
       λ found. sym same ∙ among_passes (rule_matches given earlier t) place places (among_contained (matching given earlier t) place found),
     )
 
--- the first that passes a test, where one does
+-- the index of the first element that passes a test is within the list if some element passes
 first_below : {X : Type 0} (p : X → Bool) (xs : List X) → list_any p xs ≡ true → position_or_len p xs < length xs
 first_below p [] e = absurd (both_ways false refl e)
 first_below p (x ∷ xs) e =
@@ -110,7 +111,7 @@ pub inside_alike : (values : Option Cell) (v : Value) → option_map_or (λ cell
 inside_alike None v = refl
 inside_alike (Some cell) v = sym (not_not (holds cell v))
 
--- what is read is allowed where none of it is outside
+-- values that are read are allowed if and only if none is outside
 allowed_alike : (p : PlanParts) (given : List Slot) (earlier : List (List Answer)) (t : Table) (k : ℕ) (inputs : List Input) (tuple : List Value)
     → map (λ i. value_read given earlier i.origin) inputs ≡ map (λ v. Some v) tuple → are_values (columns_from p t k inputs) tuple ≡ true
     → is_allowed_tuple (columns_from p t k inputs) tuple ≡ not (list_any (is_outside given earlier) inputs)
@@ -135,7 +136,7 @@ allowed_are_inside p given earlier t tuple reads values =
       λ none. alike ∙ ap not (no_first (is_outside given earlier) t.inputs none),
     )
 
--- a value of the kind in a region that is listed is allowed
+-- a value of the kind that lies in a listed region is allowed
 pub listed_allowed : (kind : Kind) (lits : List Value) (values : Option Cell) → ((l : Value) → Among l (option_map_or literals values []) → Among l lits) → (v : Value) → is_value kind v ≡ true
     → (r : Region) → Among r (filter (is_listed values) (stretches kind (rising (filter (has_kind kind) lits)))) → is_in r v ≡ true → option_map_or (λ cell. holds cell v) values true ≡ true
 listed_allowed kind lits None inside v value r at in_v = refl
@@ -166,7 +167,7 @@ cell_allowed p t k (i ∷ is) cell tuple at values lies =
           and_from (is_allowed (column_of p t k i) v) (is_allowed_tuple (columns_from p t (k + 1) is) vs)
           (and_from (is_value kind v) (option_map_or (λ cell. holds cell v) i.values true) parts.0 here) (more vs parts.1 there.1)
 
--- nothing is kept where nothing passes
+-- a test that no number passes filters all of them out
 none_kept : (f : ℕ → Bool) (a n : ℕ) → ((k : ℕ) → a ≤ k → k < a + n → f k ≡ false) → filter f (range_with_len a n) ≡ []
 none_kept f a zero none = refl
 none_kept f a (suc n) none =
@@ -176,7 +177,7 @@ none_kept f a (suc n) none =
 none_at : {X : Type 0} (q : X → Bool) (xs : List X) (x : X) → list_any q xs ≡ false → Among x xs → q x ≡ false
 none_at q xs x none at = false_from_ne_true (q x) (λ yes. both_ways (list_any q xs) none (any_at q xs x at yes))
 
--- no rule matches what is read where none fits it
+-- no rule matches what is read if and only if no rule fits it
 none_match : (given : List Slot) (earlier : List (List Answer)) (t : Table) (tuple : List Value) → ReadsTuple given earlier t tuple → list_any (λ r. fits r.cells tuple) t.rules ≡ false
     → matching given earlier t ≡ []
 none_match given earlier t tuple reads none =

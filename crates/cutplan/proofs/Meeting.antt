@@ -1,4 +1,4 @@
--- The rules of masks that are met column by column.
+-- The rules in the intersection of masks, column by column.
 use Rattle.std.proofs.Common.{◌≡◌, ℕ, zero, suc, ◌+◌, ◌*◌, ◌/◌, ◌%◌, ◌^◌, ◌<◌, ◌≤◌, ◌==◌, ◌&&◌, inl, inr, Bool, true, false, cond, List, [], ◌∷◌, length, get_or, filter, Some, refl, ap, sym, ◌∙◌, subst, arith, w64}
 use Rattle.std.specs.Prelude.{nat_lt}
 use Rattle.std.specs.List.{AllZip, enumerate_from, range_with_len, slice_get}
@@ -16,7 +16,7 @@ use Rattle.cutplan.proofs.MaskLists.{filter_alike}
 use Rattle.cutplan.proofs.MaskRules.{filter_none}
 use Rattle.cutplan.proofs.Overlapping.{among_kept, among_range}
 
--- two tests one after another
+-- two filters, one after the other
 filter_both : {X : Type 0} (f g : X → Bool) (xs : List X) → filter (λ x. f x && g x) xs ≡ filter g (filter f xs)
 filter_both f g [] = refl
 filter_both f g (x ∷ xs) =
@@ -29,11 +29,11 @@ filter_each : {X : Type 0} (xs : List X) → filter (λ x. true) xs ≡ xs
 filter_each [] = refl
 filter_each (x ∷ xs) = ap (λ rest. x ∷ rest) (filter_each xs)
 
--- what the meeting of two masks has
+-- the rules of the intersection of two masks
 abbrev pub IsMet : List ℕ → List ℕ → List ℕ → Type 0
 IsMet mask other met = (place : ℕ) → place < 256 → has_rule met place ≡ (has_rule mask place && has_rule other place)
 
--- the rules that hold in a region too
+-- the remaining rules that also hold in a region
 pub alive_are : (t : Table) (column : ℕ) (region : Region) (mask other met : List ℕ) → length t.rules ≤ 256 → Marks (is_marked t column region) other → IsMet mask other met
     → rules_in (length t.rules) met ≡ alive_in t column region (rules_in (length t.rules) mask)
 alive_are t column region mask other met few marks has =
@@ -49,7 +49,7 @@ alive_rules count mask other met rules words has = record {
   within = λ place behind low. has place low ∙ ap (λ b. b && has_rule other place) (rules.within place behind low);
 }
 
--- all rules
+-- the mask of the first rules
 pub first_rules : (count : ℕ) (mask : List ℕ) → Marks (λ place. nat_lt place count) mask → AreRules count mask
 first_rules count mask marks = record { words = marks.words; within = λ place behind low. marks.has place low ∙ le-ltb place count behind }
 
@@ -57,7 +57,7 @@ pub first_are : (count : ℕ) (mask : List ℕ) → count ≤ 256 → Marks (λ 
 first_are count mask few marks =
     filter_alike (has_rule mask) (λ k. true) 0 count (λ k low high. marks.has k (omega (arith, few, high)) ∙ lt-ltb k count (omega (arith, high))) ∙ filter_each (range_with_len 0 count)
 
--- words without a bit have no rule
+-- a mask has no rule if all its words are zero
 none_from : (count : ℕ) (mask : List ℕ) → count ≤ 256 → ((word : ℕ) → word < 4 → get_or mask word 0 ≡ 0) → rules_in count mask ≡ []
 none_from count mask few zeros =
     filter_none (has_rule mask) 0 count
@@ -67,7 +67,7 @@ among_long : {X : Type 0} (x : X) (xs : List X) → Among x xs → (length xs ==
 among_long x [] at = absurd at
 among_long x (y ∷ ys) at = ne_eqb (suc (length ys)) 0 (λ e. omega (arith, e))
 
--- a word with a bit has a rule
+-- a mask has a rule if one of its words is not zero
 some_from : (count : ℕ) (mask : List ℕ) (word : ℕ) → AreRules count mask → word < 4 → get_or mask word 0 < 2 ^ 64 → (get_or mask word 0 ≡ 0 → ⊥) → (length (rules_in count mask) == 0) ≡ false
 some_from count mask word rules low small some =
     let bits : ℕ = get_or mask word 0 in
@@ -83,7 +83,7 @@ some_from count mask word rules low small some =
       | inr most ↦ absurd (both_ways (has_rule mask place) (rules.within place most (omega (arith, low, within))) has)
     ]
 
--- whether a mask has a rule
+-- whether a mask has no rule
 pub none_is : (count : ℕ) (mask : List ℕ) → count ≤ 256 → AreRules count mask → ((word : ℕ) → get_or mask word 0 < 2 ^ 64)
     → (((get_or mask 0 0 == 0 && get_or mask 1 0 == 0) && get_or mask 2 0 == 0) && get_or mask 3 0 == 0) ≡ (length (rules_in count mask) == 0)
 none_is count mask few rules small =
@@ -111,7 +111,7 @@ none_is count mask few rules small =
       zeros a b c d (suc (suc (suc zero))) low = d
       zeros a b c d (suc (suc (suc (suc n)))) low = absurd (omega (arith, low))
 
--- the masks of columns, found by their places
+-- the masks of columns by index
 numbered_masks : (t : Table) (n : ℕ) (columns : List (List Region)) (masks : List (List (List ℕ))) → AllZip (λ (c : ℕ × List Region) (kept : List (List ℕ)). AreMasks t c.0 c.1 kept) (enumerate_from n columns) masks
     → (i : ℕ) (regions : List Region) → slice_get columns i ≡ Some regions → (kept : List (List ℕ)) × (slice_get masks i ≡ Some kept) × AreMasks t (n + i) regions kept
 numbered_masks t n [] masks all i regions at = absurd (none-some regions at)
@@ -135,7 +135,7 @@ got_at [] n x d at = absurd (none-some x at)
 got_at (y ∷ ys) zero x d at = (omega arith, same_Some y x at)
 got_at (y ∷ ys) (suc n) x d at = let more = got_at ys n x d at in (omega (arith, more.0), more.1)
 
--- the first column's masks
+-- the masks of the first column
 pub masks_there : (t : Table) (place : ℕ) (columns : List (List Region)) (masks : List (List (List ℕ))) (regions : List Region) (more : List (List Region)) → columns ≡ regions ∷ more → HasMasksFrom t place columns masks → place < length masks
 masks_there t place columns masks regions more is has =
     let found = has 0 regions (ap (λ cs. slice_get cs 0) is) in
@@ -149,14 +149,14 @@ masks_here t place columns masks regions more kept is has at =
     let here : place + 0 ≡ place = omega arith in
     subst (λ k. AreMasks t k regions kept) here (subst (λ m. AreMasks t (place + 0) regions m) (sym (got_at masks (place + 0) found.0 kept found.1).1 ∙ ap (λ k. get_or masks k kept) here ∙ sym at) found.2)
 
--- and those of the others
+-- the masks of the other columns
 pub masks_later : (t : Table) (place : ℕ) (columns : List (List Region)) (masks : List (List (List ℕ))) (regions : List Region) (more : List (List Region)) → columns ≡ regions ∷ more → HasMasksFrom t place columns masks → HasMasksFrom t (place + 1) more masks
 masks_later t place columns masks regions more is has i rs at =
     let found = has (suc i) rs (ap (λ cs. slice_get cs (suc i)) is ∙ at) in
     let there : place + suc i ≡ (place + 1) + i = omega arith in
     (found.0, ap (slice_get masks) (sym there) ∙ found.1, subst (λ k. AreMasks t k rs found.0) there found.2)
 
--- a region's mask
+-- the mask of a region
 pub mask_there : (t : Table) (column : ℕ) (regions : List Region) (kept : List (List ℕ)) (i : ℕ) → AreMasks t column regions kept → i < length regions → i < length kept
 mask_there t column [] kept i all below = absurd (omega (arith, below))
 mask_there t column (r ∷ rs) [] i all below = absurd all

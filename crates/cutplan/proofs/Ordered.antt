@@ -1,4 +1,5 @@
--- The regions of numbers or days: which values lie in which, and on which side of each cut.
+-- The regions of numbers or days, by the values that they contain and the side of each cut that
+-- they are on.
 use Rattle.std.proofs.Common.{◌≡◌, ℕ, ◌+◌, ℤ, ◌≤ℤ◌, ◌<ℤ◌, inl, inr, ◌&&◌, Bool, true, false, cond, List, [], ◌∷◌, map, refl, ap, sym, ◌∙◌, subst, arith}
 use Rattle.std.specs.Prelude.{int_lt, count_by}
 use Rattle.std.specs.Ordering.{int_eq}
@@ -13,17 +14,17 @@ use Rattle.cutplan.specs.Regions.{ordered, from_cut, is_in}
 use Rattle.cutplan.proofs.Integers.{Beside, beside_same, beside_below, beside_above, lt_true, lt_false, lt_from, same_from, eq_true, eq_below, eq_above}
 use Rattle.cutplan.proofs.Alike.{Each, Among}
 
--- numbers or days: values made of whole numbers, compared as they are
+-- numbers or days: values made of whole numbers, with the order of the numbers
 pub record Ranked (mk : ℤ → Value) : Type 0 where
   pub less : (a b : ℤ) → is_less (mk a) (mk b) ≡ int_lt a b
   pub equal : (a b : ℤ) → is_equal (mk a) (mk b) ≡ int_eq a b
 
--- each stands above the one before, and the first above this
+-- the list is increasing, and its first number is greater than the number before it
 abbrev pub Rising : ℤ → List ℤ → Type 0
 Rising low [] = Unit {0}
 Rising low (z ∷ zs) = (low <ℤ z) × Rising z zs
 
--- one for a test that holds
+-- 1 for a test that holds, otherwise 0
 abbrev pub counted : Bool → ℕ
 counted t = cond t 1 0
 
@@ -33,7 +34,7 @@ none_if t e = rw e refl
 pub one_if : (t : Bool) → t ≡ true → counted t ≡ 1
 one_if t e = rw e refl
 
--- one more in a count
+-- the count for a list with one more element
 count_cons : {X : Type 0} (p : X → Bool) (x : X) (xs : List X) → count_by p (x ∷ xs) ≡ counted (p x) + count_by p xs
 count_cons p x xs = sum_by-cons (λ y. cond (p y) 1 0) x xs
 
@@ -49,7 +50,7 @@ count_yes p x xs n hit rest =
     let here = one_if (p x) hit in
     omega (arith, all, here, rest)
 
--- a value between, and not
+-- whether a value lies between two cuts
 between_no_low : {mk : ℤ → Value} → Ranked mk → (low high x : ℤ) → x ≤ℤ low → is_in (Between (mk low) (mk high)) (mk x) ≡ false
 between_no_low {mk} r low high x h = ap (λ b. b && is_less (mk x) (mk high)) (r.less low x ∙ lt_false low x h)
 
@@ -59,7 +60,7 @@ between_no_high {mk} r low high x h k = ap (λ b. b && is_less (mk x) (mk high))
 between_yes : {mk : ℤ → Value} → Ranked mk → (low high x : ℤ) → low <ℤ x → x <ℤ high → is_in (Between (mk low) (mk high)) (mk x) ≡ true
 between_yes {mk} r low high x h k = ap (λ b. b && is_less (mk x) (mk high)) (r.less low x ∙ lt_true low x h) ∙ (r.less x high ∙ lt_true x high k)
 
--- no region from a cut on has a value below the cut
+-- a value below a cut lies in no region from the cut upwards
 none_below : {mk : ℤ → Value} → Ranked mk → (low : ℤ) (more : List ℤ) (x : ℤ) → Rising low more → x <ℤ low → count_by (λ r. is_in r (mk x)) (from_cut (mk low) (map mk more)) ≡ 0
 none_below {mk} r low [] x rising h =
     count_no (λ s. is_in s (mk x)) (At (mk low)) (Above (mk low) ∷ []) 0 (r.equal x low ∙ eq_below x low h)
@@ -69,7 +70,7 @@ none_below {mk} r low (high ∷ more) x rising h =
     (count_no (λ s. is_in s (mk x)) (Between (mk low) (mk high)) (from_cut (mk high) (map mk more)) 0 (between_no_low r low high x (omega (arith, ints)))
     (none_below r high more x rising.1 (omega (arith, ints, h, rising.0))))
 
--- one region from a cut on has a value from the cut on
+-- a value at or above a cut lies in one region from the cut upwards
 one_above : {mk : ℤ → Value} → Ranked mk → (low : ℤ) (more : List ℤ) (x : ℤ) → Rising low more → low ≤ℤ x → count_by (λ r. is_in r (mk x)) (from_cut (mk low) (map mk more)) ≡ 1
 one_above {mk} r low [] x rising h =
     by_lt_z low x
@@ -87,12 +88,12 @@ one_above {mk} r low (high ∷ more) x rising h =
     (count_no (λ s. is_in s (mk x)) (Between (mk low) (mk high)) (from_cut (mk high) (map mk more)) 0 (between_no_low r low high x most)
     (none_below r high more x rising.1 (omega (arith, ints, most, rising.0)))))
 
--- the cuts rise
+-- the cuts are increasing
 abbrev pub Cuts : List ℤ → Type 0
 Cuts [] = Unit {0}
 Cuts (z ∷ zs) = Rising z zs
 
--- each value lies in one region
+-- each value lies in exactly one region
 pub one_region : {mk : ℤ → Value} → Ranked mk → (cuts : List ℤ) (x : ℤ) → Cuts cuts → count_by (λ r. is_in r (mk x)) (ordered (map mk cuts)) ≡ 1
 one_region {mk} r [] x rising = refl
 one_region {mk} r (low ∷ more) x rising =
@@ -100,7 +101,7 @@ one_region {mk} r (low ∷ more) x rising =
     (λ less. count_yes (λ s. is_in s (mk x)) (Below (mk low)) (from_cut (mk low) (map mk more)) 0 (r.less x low ∙ lt_true x low less) (none_below r low more x rising less))
     (λ most. count_no (λ s. is_in s (mk x)) (Below (mk low)) (from_cut (mk low) (map mk more)) 1 (r.less x low ∙ lt_false x low most) (one_above r low more x rising most))
 
--- all values of a region lie alike to a cut
+-- all values of the region are on the same side of the cut
 abbrev pub OneSide : (ℤ → Value) → ℤ → Region → Type 0
 OneSide mk c region = (a b : ℤ) → is_in region (mk a) ≡ true → is_in region (mk b) ≡ true → Beside a b c
 
@@ -125,7 +126,7 @@ between_high_side {mk} r low high c h a b in_a in_b =
     let two = lt_from b high (sym (r.less b high) ∙ (and_parts (is_less (mk low) (mk b)) (is_less (mk b) (mk high)) in_b).1) in
     beside_below a b c (omega (arith, ints, one, h)) (omega (arith, ints, two, h))
 
--- the regions from a cut on lie above each earlier cut, and that one
+-- the regions from a cut upwards are on one side of each earlier cut and of the cut itself
 from_low : {mk : ℤ → Value} → Ranked mk → (low : ℤ) (more : List ℤ) (c : ℤ) → Rising low more → c ≤ℤ low → Each (OneSide mk c) (from_cut (mk low) (map mk more))
 from_low r low [] c rising h = (at_side r low c, (above_side r low c h, tt))
 from_low r low (high ∷ more) c rising h = (at_side r low c, (between_low_side r low high c h, from_low r high more c rising.1 (omega (arith, ints, h, rising.0))))
@@ -136,7 +137,7 @@ later low [] c rising at = absurd at
 later low (high ∷ more) c rising (inl e) = subst (λ x. low <ℤ x) e rising.0
 later low (high ∷ more) c rising (inr at) = let more_than = later high more c rising.1 at in let first = rising.0 in omega (arith, ints, more_than, first)
 
--- each region from a cut on lies on one side of each later cut
+-- each region from a cut upwards is on one side of each later cut
 from_high : {mk : ℤ → Value} → Ranked mk → (low : ℤ) (more : List ℤ) (c : ℤ) → Rising low more → Among c more → Each (OneSide mk c) (from_cut (mk low) (map mk more))
 from_high r low [] c rising at = absurd at
 from_high {mk} r low (high ∷ more) c rising (inl e) =
@@ -154,7 +155,7 @@ below_side r high c h a b in_a in_b =
     let two = lt_from b high (sym (r.less b high) ∙ in_b) in
     beside_below a b c (omega (arith, ints, one, h)) (omega (arith, ints, two, h))
 
--- each region lies on one side of each cut
+-- each region is on one side of each cut
 pub sides : {mk : ℤ → Value} → Ranked mk → (cuts : List ℤ) (c : ℤ) → Cuts cuts → Among c cuts → Each (OneSide mk c) (ordered (map mk cuts))
 sides r [] c rising at = absurd at
 sides {mk} r (low ∷ more) c rising (inl e) =

@@ -1,4 +1,4 @@
--- A pair of rules shares an allowed tuple exactly where it is listed.
+-- A pair of rules shares an allowed tuple if and only if it is listed.
 use Rattle.std.proofs.Common.{◌≡◌, ℕ, zero, suc, ◌+◌, ◌-◌, ◌≤◌, ◌<◌, inl, inr, ◌&&◌, ◌||◌, Bool, true, false, cond, List, [], ◌∷◌, length, drop, map, filter, Option, Some, None, Contains, refl, ap, sym, ◌∙◌, subst, add-one, arith}
 use Rattle.std.specs.List.{flat_map, list_any, list_all, range_with_len, enumerate_from, slice_get}
 use Rattle.std.specs.Option.{option_map_or}
@@ -20,24 +20,24 @@ use Rattle.cutplan.proofs.Parting.{part_of_column}
 use Rattle.cutplan.proofs.Telling.{found_once, fits_from, fits_none, asks_alike}
 use Rattle.cutplan.proofs.Holding.{allowed_holder, among_passes}
 
--- what is asked of a value by a rule's cell in a column, if it has one
+-- the rule's cell in a column holds for a value; a missing cell holds for every value
 abbrev asks_of : Table → ℕ → ℕ → Value → Bool
 asks_of t place column v = option_map_or (λ c. holds c v) (slice_get (rule_cells t place) column) true
 
--- what stands at a place is among them
+-- the element at an index is in the list
 pub among_place : {X : Type 0} (xs : List X) (n : ℕ) (x : X) → slice_get xs n ≡ Some x → Among x xs
 among_place [] n x e = absurd cc
 among_place (y ∷ ys) zero x e = (let same : y ≡ x = cc in inl same)
 among_place (y ∷ ys) (suc n) x e = inr (among_place ys n x e)
 
--- a rule's cell answers in a region as for each value there
+-- a rule's cell holds in a region as for each value there
 holds_alike_at : (p : PlanParts) (t : Table) (k : ℕ) (i : Input) (place : ℕ) (r : Region) (v : Value) → Among r (regions (column_of p t k i)) → is_allowed (column_of p t k i) v ≡ true → is_in r v ≡ true → holds_at t place k r ≡ asks_of t place k v
 holds_alike_at p t k i place r v at allowed inside = by_rule (slice_get t.rules place) refl where
   by_rule : (found : Option Rule) → slice_get t.rules place ≡ found → option_map_or (λ c. holds_in c r) (slice_get (option_map_or (λ x. x.cells) found []) k) true ≡ option_map_or (λ c. holds c v) (slice_get (option_map_or (λ x. x.cells) found []) k) true
   by_rule None e = refl
   by_rule (Some rule) e = asks_alike p t k i rule r v (among_place t.rules place rule e) at allowed inside
 
--- what a test finds
+-- a test that some element passes has such an element
 pub any_from : {X : Type 0} (q : X → Bool) (xs : List X) → list_any q xs ≡ true → (x : X) × Among x xs × (q x ≡ true)
 any_from q [] e = absurd (both_ways false refl e)
 any_from q (x ∷ xs) e =
@@ -103,7 +103,7 @@ meets_by p t a b k (i ∷ is) (v ∷ vs) allowed first second =
     and_from (meet_in t a b k (regions (column_of p t k i))) (list_all (λ (c : ℕ × List Region). meet_in t a b c.0 c.1) (enumerate_from (k + 1) (map regions (columns_from p t (k + 1) is)))) here
     (meets_by p t a b (k + 1) is vs parts.1 one.1 two.1)
 
--- a pair of rules, the smaller first, is among the pairs
+-- each pair of rules, the smaller number first, is among the pairs
 pub among_range : (a n x : ℕ) → a ≤ x → x < a + n → Among x (range_with_len a n)
 among_range a zero x low high = absurd (omega (arith, low, high))
 among_range a (suc n) x low high =

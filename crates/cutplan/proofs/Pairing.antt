@@ -1,4 +1,4 @@
--- Pairs of rules, one on.
+-- The pairs of rules, extended one by one.
 use Rattle.std.proofs.Common.{◌≡◌, ℕ, suc, ◌+◌, ◌-◌, ◌<◌, ◌≤◌, ◌&&◌, Bool, true, false, cond, List, [], ◌∷◌, ◌++◌, length, get_or, take, map, filter, refl, ap, sym, ◌∙◌, append-nil, add-one, arith}
 use Rattle.std.specs.List.{flat_map, list_all, range_with_len, enumerate_from}
 use Rattle.std.proofs.lemmas.List.{take_more}
@@ -16,7 +16,7 @@ and_true : (b : Bool) → (b && true) ≡ b
 and_true true = refl
 and_true false = refl
 
--- the pairs with one more smaller rule
+-- the pairs, extended by one smaller rule
 pub pairs_more : (n first : ℕ) → flat_map (pairs_with n) (range_with_len 1 (first + 1)) ≡ flat_map (pairs_with n) (range_with_len 1 first) ++ pairs_with n (first + 1)
 pairs_more n first =
     let here : 1 + first ≡ first + 1 = omega arith in
@@ -25,14 +25,14 @@ pairs_more n first =
     ∙ flat_map-append (pairs_with n) (range_with_len 1 first) ((first + 1) ∷ [])
     ∙ ap (λ last. flat_map (pairs_with n) (range_with_len 1 first) ++ last) (append-nil (pairs_with n (first + 1)))
 
--- columns with their places, one more
+-- numbered columns, extended by one column
 enumerate_push : (k : ℕ) (columns : List (List Region)) (last : List Region) → enumerate_from k (columns ++ last ∷ []) ≡ enumerate_from k columns ++ (k + length columns, last) ∷ []
 enumerate_push k [] last = let here : k ≡ k + 0 = omega arith in ap (λ n. (n, last) ∷ []) here
 enumerate_push k (c ∷ cs) last =
     let here : (k + 1) + length cs ≡ k + suc (length cs) = omega arith in
     ap (λ rest. (k, c) ∷ rest) (enumerate_push (k + 1) cs last ∙ ap (λ n. enumerate_from (k + 1) cs ++ (n, last) ∷ []) here)
 
--- the pairs of one smaller rule, with one more larger rule
+-- the pairs of one smaller rule, extended by one larger rule
 pub pair_more : (first second : ℕ) → first + 1 ≤ second
     → map {B = ℕ × ℕ} (λ s. (first + 1, s)) (range_with_len (first + 1 + 1) (second + 1 - (first + 1)))
     ≡ map {B = ℕ × ℕ} (λ s. (first + 1, s)) (range_with_len (first + 1 + 1) (second - (first + 1))) ++ (first + 1, second + 1) ∷ []
@@ -44,7 +44,7 @@ pair_more first second below =
     ap (λ k. map put (range_with_len (first + 1 + 1) k)) longer
     ∙ map-range_with_len_more put (first + 1 + 1) n (second + 1) last
 
--- whether two rules meet in one column more
+-- whether two rules meet, extended by one column
 pub meet_more : (columns : List (List Region)) (t : Table) (first second i : ℕ) (item : List Region) → i < length columns → item ≡ get_or columns i item
     → meet (take (i + 1) columns) t first second ≡ (meet (take i columns) t first second && meet_in t first second i item)
 meet_more columns t first second i item below standing =
@@ -55,12 +55,12 @@ meet_more columns t first second i item below standing =
     ∙ list_all-append test (enumerate_from 0 (take i columns)) ((i, item) ∷ [])
     ∙ ap (λ last. meet (take i columns) t first second && last) (and_true (meet_in t first second i item))
 
--- all pairs meet in no column
+-- all pairs meet if there are no columns
 pub all_meet : (t : Table) (pairs : List (ℕ × ℕ)) → pairs ≡ filter (λ pair. meet [] t (pair.0 - 1) (pair.1 - 1)) pairs
 all_meet t [] = refl
 all_meet t (pair ∷ pairs) = ap (λ rest. pair ∷ rest) (all_meet t pairs)
 
--- what passes one test, and then another, passes both
+-- two filters, one after the other, are one filter by both tests
 pub both_kept : {X : Type 0} (p q : X → Bool) (xs : List X) → filter q (filter p xs) ≡ filter (λ x. p x && q x) xs
 both_kept p q [] = refl
 both_kept p q (x ∷ xs) =
@@ -69,7 +69,7 @@ both_kept p q (x ∷ xs) =
       | false ↦ both_kept p q xs
     ]
 
--- the pairs that meet in one column more
+-- the pairs that meet, extended by one column
 pub meeting_more : (columns : List (List Region)) (t : Table) (i : ℕ) (item : List Region) (pairs : List (ℕ × ℕ)) → i < length columns → item ≡ get_or columns i item
     → filter (λ pair. meet_in t (pair.0 - 1) (pair.1 - 1) i item) (filter (λ pair. meet (take i columns) t (pair.0 - 1) (pair.1 - 1)) pairs)
     ≡ filter (λ pair. meet (take (i + 1) columns) t (pair.0 - 1) (pair.1 - 1)) pairs

@@ -25,7 +25,7 @@ use Rattle.cutplan.proofs.Regionwise.{numbers, days, number_is, day_is, text_is,
 use Rattle.cutplan.proofs.ColumnWise.{column_at, value_kind}
 use Rattle.cutplan.proofs.Standing.{stands}
 
--- what a count finds passes the filter
+-- a filter keeps the number of elements that pass a stronger test
 count_kept : (p q : Region → Bool) (xs : List Region) → Each (λ x. q x ≡ true → p x ≡ true) xs → count_by q (filter p xs) ≡ count_by q xs
 count_kept p q [] all = refl
 count_kept p q (x ∷ xs) all =
@@ -76,7 +76,7 @@ named_count t (c ∷ cs) all =
           omega (arith, all_of, here)
     ] refl
 
--- each value of the kind lies in one region, with those that hold no allowed value among them
+-- each value of the kind lies in one region, counting also those without allowed values
 stretch_count : (kind : Kind) (lits : List Value) (v : Value) → has_kind kind v ≡ true → count_by (λ r. is_in r v) (stretches kind (rising (filter (has_kind kind) lits))) ≡ 1
 stretch_count kinds.Number lits v kinded =
     let a = number_is v kinded in

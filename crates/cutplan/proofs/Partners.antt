@@ -1,4 +1,4 @@
--- The rules that share a region of each column, by masks.
+-- The rules that share a region of every column, by masks.
 use Rattle.std.proofs.Common.{◌≡◌, ℕ, zero, suc, ◌+◌, ◌-◌, ◌/◌, ◌%◌, ◌<◌, ◌≤◌, ◌&&◌, ◌||◌, Bool, true, false, cond, List, [], ◌∷◌, ◌++◌, length, get_or, map, filter, Some, refl, ap, sym, ◌∙◌, arith}
 use Rattle.std.specs.Prelude.{bit_or, max, nat_lt, ◌==◌}
 use Rattle.std.specs.Int.{bit_at}
@@ -25,7 +25,7 @@ greatest_bit (suc zero) (suc zero) a b = refl
 greatest_bit (suc zero) (suc (suc y)) a b = absurd (omega (arith, b))
 greatest_bit (suc (suc x)) y a b = absurd (omega (arith, a))
 
--- what one of two masks has
+-- the union of two masks
 pub joined : (a b new : List ℕ) (place : ℕ) → place < 256
     → new ≡ bit_or (get_or a 0 0) (get_or b 0 0) ∷ bit_or (get_or a 1 0) (get_or b 1 0) ∷ bit_or (get_or a 2 0) (get_or b 2 0) ∷ bit_or (get_or a 3 0) (get_or b 3 0) ∷ []
     → has_rule new place ≡ (has_rule a place || has_rule b place)
@@ -45,15 +45,15 @@ and_true : (b : Bool) → (b && true) ≡ b
 and_true true = refl
 and_true false = refl
 
--- before the first column
+-- without columns, every rule is shared
 pub share_none : (rule : ℕ) (mask : List ℕ) → Marks (λ place. nat_lt place 256) mask → Marks (share_all [] rule) mask
 share_none rule mask marks = record { words = marks.words; has = λ place within. marks.has place within ∙ lt-ltb place 256 within }
 
--- a pair of places
+-- a pair of indices
 abbrev pub pair_at : ℕ → ℕ → ℕ × ℕ
 pair_at first second = (first, second)
 
--- the pairs of one smaller rule, with one more larger rule, those that pass
+-- the pairs of one smaller rule that pass a test, extended by one larger rule
 pub pair_kept : (others : List ℕ) (first second : ℕ) → first + 1 ≤ second
     → filter (λ (pair : ℕ × ℕ). has_rule others (pair.1 - 1)) (map {B = ℕ × ℕ} (λ s. (first + 1, s)) (range_with_len (first + 1 + 1) (second + 1 - (first + 1))))
     ≡ filter (λ (pair : ℕ × ℕ). has_rule others (pair.1 - 1)) (map {B = ℕ × ℕ} (λ s. (first + 1, s)) (range_with_len (first + 1 + 1) (second - (first + 1)))) ++ cond (has_rule others second) (pair_at (first + 1) (second + 1) ∷ []) []
@@ -64,7 +64,7 @@ pair_kept others first second below =
     ap (filter test) (pair_more first second below) ∙ filter-append test front (pair_at (first + 1) (second + 1) ∷ [])
     ∙ ap (λ s. filter test front ++ cond (has_rule others s) (pair_at (first + 1) (second + 1) ∷ []) []) back
 
--- the pairs of one smaller rule, by two tests that agree on them
+-- two tests that agree on the pairs of one smaller rule filter them alike
 range_kept : (p q : ℕ × ℕ → Bool) (first a n : ℕ) → ((s : ℕ) → a ≤ s → s < a + n → p (first, s) ≡ q (first, s))
     → filter p (map {B = ℕ × ℕ} (λ s. (first, s)) (range_with_len a n)) ≡ filter q (map {B = ℕ × ℕ} (λ s. (first, s)) (range_with_len a n))
 range_kept p q first a zero agree = refl
@@ -73,7 +73,7 @@ range_kept p q first a (suc n) agree =
     ap (λ b. cond b (pair_at first a ∷ filter p rest) (filter p rest)) (agree a (omega arith) (omega arith))
     ∙ ap (λ xs. cond (q (first, a)) (pair_at first a ∷ xs) xs) (range_kept p q first (a + 1) n (λ s low high. agree s (omega (arith, low)) (omega (arith, high))))
 
--- those of one smaller rule more
+-- the pairs that pass, extended by one smaller rule
 pub pairs_kept : (columns : List (List (List ℕ))) (count first : ℕ) (others : List ℕ) → first < count → count ≤ 256 → Marks (share_all columns first) others
     → filter (λ (pair : ℕ × ℕ). share_all columns (pair.0 - 1) (pair.1 - 1)) (flat_map (pairs_with count) (range_with_len 1 first)) ++ filter (λ (pair : ℕ × ℕ). has_rule others (pair.1 - 1)) (pairs_with count (first + 1))
     ≡ filter (λ (pair : ℕ × ℕ). share_all columns (pair.0 - 1) (pair.1 - 1)) (flat_map (pairs_with count) (range_with_len 1 (first + 1)))
@@ -86,7 +86,7 @@ pairs_kept columns count first others below few marks =
     (λ s low high. marks.has (s - 1) (omega (arith, low, high, few)) ∙ ap (λ k. share_all columns k (s - 1)) (sym back)))
     ∙ sym (filter-append test front (pairs_with count (first + 1))) ∙ ap (filter test) (sym (pairs_more count first))
 
--- two rules have a mask of a column in common exactly where they hold in one of its regions
+-- two rules have a mask of a column in common if and only if both hold in one of its regions
 shared_is : (t : Table) (first second column : ℕ) (regions : List Region) (masks : List (List ℕ)) → length t.rules ≤ 256 → first < length t.rules → second < length t.rules → AreMasks t column regions masks
     → share masks first second ≡ meet_in t first second column regions
 shared_is t first second column [] [] few one other all = refl
@@ -107,7 +107,7 @@ all_shared t first second (c ∷ cs) (m ∷ ms) few one other all =
     ap (λ b. b && share_all ms first second) (shared_is t first second c.0 c.1 m few one other all.0)
     ∙ ap (λ b. meet_in t first second c.0 c.1 && b) (all_shared t first second cs ms few one other all.1)
 
--- all pairs of rules, by two tests that agree on them
+-- two tests that agree on all pairs of rules filter them alike
 each_kept : (p q : ℕ × ℕ → Bool) (n a k : ℕ) → 1 ≤ a → ((first second : ℕ) → 1 ≤ first → first < second → second ≤ n → p (first, second) ≡ q (first, second)) → a + k ≤ n + 1
     → filter p (flat_map (pairs_with n) (range_with_len a k)) ≡ filter q (flat_map (pairs_with n) (range_with_len a k))
 each_kept p q n a zero low agree high = refl
@@ -118,14 +118,14 @@ each_kept p q n a (suc k) low agree high =
     ∙ ap (λ last. filter q (pairs_with n a) ++ last) (each_kept p q n (a + 1) k (omega (arith, low)) agree (omega (arith, high)))
     ∙ sym (filter-append q (pairs_with n a) rest)
 
--- the pairs that have masks in common are those that meet
+-- the pairs that have masks of all columns in common are those that meet
 pub shared_meet : (t : Table) (columns : List (List Region)) (masks : List (List (List ℕ))) → length t.rules ≤ 256 → AreTableMasks t columns masks
     → filter (λ (pair : ℕ × ℕ). share_all masks (pair.0 - 1) (pair.1 - 1)) (pairs (length t.rules)) ≡ filter (λ (pair : ℕ × ℕ). meet columns t (pair.0 - 1) (pair.1 - 1)) (pairs (length t.rules))
 shared_meet t columns masks few all =
     each_kept (λ (pair : ℕ × ℕ). share_all masks (pair.0 - 1) (pair.1 - 1)) (λ (pair : ℕ × ℕ). meet columns t (pair.0 - 1) (pair.1 - 1)) (length t.rules) 1 (length t.rules) (omega arith)
     (λ first second low less high. all_shared t (first - 1) (second - 1) (enumerate_from 0 columns) masks few (omega (arith, low, less, high)) (omega (arith, low, less, high)) all) (omega arith)
 
--- masks are of four words
+-- the masks have four words
 whole_masks : (t : Table) (column : ℕ) (regions : List Region) (masks : List (List ℕ)) → AreMasks t column regions masks → are_whole masks ≡ true
 whole_masks t column [] [] all = refl
 whole_masks t column [] (m ∷ ms) all = absurd all
@@ -138,7 +138,7 @@ all_whole t [] (m ∷ ms) all = absurd all
 all_whole t (c ∷ cs) [] all = absurd all
 all_whole t (c ∷ cs) (m ∷ ms) all = ap (λ b. b && list_all are_whole ms) (whole_masks t c.0 c.1 m all.0) ∙ all_whole t cs ms all.1
 
--- what stands at a place, by either word
+-- the element at an index, by either lookup
 got : {X : Type 0} (xs : List X) (i : ℕ) (x : X) → slice_get xs i ≡ Some x → get_or xs i x ≡ x
 got [] i x at = refl
 got (y ∷ ys) zero x at = same_Some y x at

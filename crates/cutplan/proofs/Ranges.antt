@@ -1,4 +1,4 @@
--- The number or day right behind one.
+-- The next number or day.
 use Rattle.std.proofs.Common.{◌≡◌, ℤ, pos, neg_ℤ, ◌≤ℤ◌, ◌+ℤ◌, ◌&&◌, Bool, false, cond, leb, Some, None, ap, sym, ◌∙◌, arith}
 use Rattle.std.specs.Prelude.{int_le, int_lt}
 use Rattle.std.specs.Int.{int_max}
@@ -11,7 +11,7 @@ use Rattle.feel_tests.specs.declared.value.Value.TheVariants.{Number, Day}
 use Rattle.cutplan.specs.Regions.{next, in_range}
 use Rattle.cutplan.proofs.Integers.{lt_false, le_true, le_so}
 
--- the greater of two, where the second is not less
+-- the greater of two numbers, if the second is not less
 max_second : (low z : ℤ) → low ≤ℤ z → int_max low z ≡ z
 max_second low z h = max_by (int_lt z low) (lt_false z low h) where
   max_by : (b : Bool) → b ≡ false → cond b low z ≡ z

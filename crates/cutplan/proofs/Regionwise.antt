@@ -1,4 +1,4 @@
--- Within a region no literal of the column tells two values apart.
+-- No literal of a column separates two values of one region.
 use Rattle.std.proofs.Common.{◌≡◌, ℕ, ℤ, ◌⊎◌, inl, inr, Bool, true, false, cond, List, [], ◌∷◌, ◌++◌, map, filter, refl, ap, sym, ◌∙◌, subst}
 use Rattle.std.specs.List.{list_any}
 use Rattle.std.proofs.lemmas.Bool.{both_ways, not-true, or_parts}
@@ -76,7 +76,7 @@ number_cuts lits = rising_cuts numbers_placed (filter (has_kind kinds.Number) li
 pub day_cuts : (lits : List Value) → RisingCuts Day (rising (filter (has_kind kinds.Day) lits))
 day_cuts lits = rising_cuts days_placed (filter (has_kind kinds.Day) lits) (each_filter (has_kind kinds.Day) (Made Day) day_is lits)
 
--- a value has nothing to do with a literal of another kind
+-- no test of a literal of another kind holds for a value
 pub number_text : (a : ℤ) (t : List ℕ) → Apart (Number a) (Text t)
 number_text a t = record { equal = refl; less = refl; more = refl; at_most = refl; at_least = refl }
 
@@ -152,20 +152,20 @@ day_alike lits r at a b in_a in_b (Day c) l_at =
     let region : Among r (ordered (map Day cuts.numbers)) = subst (λ cs. Among r (ordered cs)) cuts.made at in
     alike_day a b c (each_at (OneSide Day c) (ordered (map Day cuts.numbers)) r (sides days cuts.numbers c cuts.rising (day_among c cuts.numbers cut)) region a b in_a in_b)
 
--- a text that is no name has nothing to do with a literal
+-- no test of a literal holds for a text that is not named
 not_named : (t : List ℕ) (names : List Value) (l : Value) → list_any (λ name. is_equal (Text t) name) names ≡ false → Among l names → is_equal (Text t) l ≡ false
 not_named t [] l out at = absurd at
 not_named t (name ∷ names) l out (inl e) = ap (λ x. is_equal (Text t) x) (sym e) ∙ (or_parts (is_equal (Text t) name) (list_any (λ x. is_equal (Text t) x) names) out).0
 not_named t (name ∷ names) l out (inr at) = not_named t names l (or_parts (is_equal (Text t) name) (list_any (λ x. is_equal (Text t) x) names) out).1 at
 
--- a text of the last region of a column of texts and a literal
+-- no test of a literal of the column holds for a text in the region of other texts
 pub unnamed_apart : (lits : List Value) (t : List ℕ) → list_any (λ name. is_equal (Text t) name) (rising (filter (has_kind kinds.Text) lits)) ≡ false → (l : Value) → Among l lits → Apart (Text t) l
 unnamed_apart lits t out (Number c) at = text_number t c
 unnamed_apart lits t out (Flag f) at = text_flag t f
 unnamed_apart lits t out (Day d) at = text_day t d
 unnamed_apart lits t out (Text u) at = text_text t u (not_named t (rising (filter (has_kind kinds.Text) lits)) (Text u) out (cut_of kinds.Text lits (Text u) at refl))
 
--- one value alone
+-- a region of a single value
 at_alike : (u v w l : Value) → is_equal v u ≡ true → is_equal w u ≡ true → Alike v w l
 at_alike u v w l in_v in_w = alike_same v w l (equal_same v u in_v ∙ sym (equal_same w u in_w))
 

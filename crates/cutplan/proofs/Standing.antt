@@ -1,4 +1,5 @@
--- A region that has a value of the column's kind is found to have one, and its cells are asked rightly.
+-- A region with a value of the column's kind is listed as such, and cells are evaluated in it at a
+-- correct value.
 use Rattle.std.proofs.Common.{◌≡◌, ℕ, ℤ, pos, neg_ℤ, ◌≤◌, ◌<◌, ◌≤ℤ◌, ◌<ℤ◌, ◌+ℤ◌, inl, inr, true, false, cond, List, [], ◌∷◌, map, filter, Option, Some, None, refl, ap, sym, ◌∙◌, subst, arith}
 use Rattle.std.specs.Prelude.{int_le}
 use Rattle.std.specs.Int.{int_max}
@@ -27,7 +28,7 @@ use Rattle.cutplan.proofs.Ordered.{Ranked}
 use Rattle.cutplan.proofs.CutLists.{RisingCuts, Made, equal_same}
 use Rattle.cutplan.proofs.Regionwise.{numbers, days, number_is, day_is, text_is, number_cuts, day_cuts, cut_of, region_alike, unnamed_apart, among_at, among_split, number_text, number_flag, number_day, day_number, day_text, day_flag}
 
--- what the regions of numbers or days are made of
+-- the shape of the regions of numbers or days
 abbrev pub Shape : (ℤ → Value) → List ℤ → Region → Type 0
 Shape mk zs (Below u) = (c : ℤ) × (u ≡ mk c) × Among c zs
 Shape mk zs (At u) = (c : ℤ) × (u ≡ mk c) × Among c zs
@@ -45,12 +46,12 @@ pub shapes : (mk : ℤ → Value) (zs : List ℤ) → Each (Shape mk zs) (ordere
 shapes mk [] = (refl, tt)
 shapes mk (low ∷ more) = ((low, refl, inl refl), from_shapes mk (low ∷ more) low more (inl refl) (λ c c_at. inr c_at))
 
--- a region has a value, and its cells are asked as at this one
+-- the region contains a value, and cells hold in it as they do for this value
 pub record Stands (lits : List Value) (r : Region) (v : Value) : Type 0 where
   pub has : has_value r ≡ true
   pub asked : (cell : Cell) → ((l : Value) → Among l (literals cell) → Among l lits) → holds_in cell r ≡ holds cell v
 
--- the values of numbers or of days: those of a range, one after another
+-- the numbers or the days: consecutive values of a range
 pub record Spanned (kind : Kind) (mk : ℤ → Value) : Type 0 where
   pub least : ℤ
   pub greatest : ℤ
@@ -68,7 +69,7 @@ pub record Spanned (kind : Kind) (mk : ℤ → Value) : Type 0 where
   pub of_kind : (z : ℤ) → kind_of (mk z) ≡ kind
   pub beyond : (z : ℤ) → greatest <ℤ int_max least (z +ℤ pos 1) → next (mk z) ≡ None
 
--- the greater of two
+-- the greater of two numbers
 pub max_low : (a b : ℤ) → a ≤ℤ int_max a b
 max_low a b = by_lt_z b a (λ less. let e : int_max a b ≡ a = ap (λ x. cond x a b) (lt_true b a less) in omega (arith, ints, e)) (λ most. let e : int_max a b ≡ b = ap (λ x. cond x a b) (lt_false b a most) in omega (arith, ints, e, most))
 
@@ -78,13 +79,13 @@ max_high a b = by_lt_z b a (λ less. let e : int_max a b ≡ a = ap (λ x. cond 
 max_within : (a b c : ℤ) → a ≤ℤ c → b ≤ℤ c → int_max a b ≤ℤ c
 max_within a b c h k = by_lt_z b a (λ less. let e : int_max a b ≡ a = ap (λ x. cond x a b) (lt_true b a less) in omega (arith, ints, e, h)) (λ most. let e : int_max a b ≡ b = ap (λ x. cond x a b) (lt_false b a most) in omega (arith, ints, e, k))
 
--- the cells of a region are asked at one of its values
+-- the cells hold in a region as for each of its values
 asked_at : (kind : Kind) (lits : List Value) (r : Region) → Among r (stretches kind (rising (filter (has_kind kind) lits))) → (v w : Value) → has_kind kind v ≡ true → has_kind kind w ≡ true → is_in r v ≡ true → is_in r w ≡ true
     → (found : Option Value) → found ≡ Some w → (cell : Cell) → ((l : Value) → Among l (literals cell) → Among l lits) → holds_of cell found ≡ holds cell v
 asked_at kind lits r at v w kind_v kind_w in_v in_w found e cell inside =
     ap (holds_of cell) e ∙ holds_alike w v cell (each_from (Alike w v) (literals cell) (λ l l_at. region_alike kind lits r at w v kind_w kind_v in_w in_v l (inside l l_at)))
 
--- a region of one value
+-- a region of a single value
 at_stands : (lits : List Value) (u v : Value) → is_equal v u ≡ true → is_value (kind_of v) v ≡ true → Stands lits (At u) v
 at_stands lits u v e value =
     let same = sym (equal_same v u e) in
@@ -243,7 +244,7 @@ day_spanned = record {
       (and_right (int_le first_day (int_max first_day (z +ℤ pos 1))) (int_le (int_max first_day (z +ℤ pos 1)) last_day) (le_not (int_max first_day (z +ℤ pos 1)) last_day over));
 }
 
--- a value of any such kind in its region
+-- a number or a day in any region of its kind
 spanned_stands : {kind : Kind} {mk : ℤ → Value} → Spanned kind mk → (lits : List Value) (r : Region) → Among r (stretches kind (rising (filter (has_kind kind) lits))) → (v : Value) → has_kind kind v ≡ true → is_value kind v ≡ true → is_in r v ≡ true → Stands lits r v
 spanned_stands {kind} {mk} s lits r at v kinded value in_v =
     let a = s.made v kinded in

@@ -5,17 +5,17 @@ use Rattle.std.proofs.lemmas.List.{take_more}
 use Rattle.std.proofs.lemmas.List.Concat.{flat_map-append}
 use Rattle.std.proofs.lemmas.List.Sums.{fold-append}
 
--- a list that one item was put behind is what is wanted of one more
+-- a list after a push is the expected list with one more item
 pub pushed_more : {A : Type 0} (before after wanted next : List A) (item made : A) → after ≡ before ++ item ∷ [] → before ≡ wanted → item ≡ made
     → next ≡ wanted ++ made ∷ [] → after ≡ next
 pushed_more before after wanted next item made pushed so_far is step = cc
 
--- a flat map over one item more
+-- a flat map, extended by one item
 pub flat_more : {X A : Type 0} (f : X → List A) (xs : List X) (i : ℕ) (d : X) → i < length xs → flat_map f (take (i + 1) xs) ≡ flat_map f (take i xs) ++ f (get_or xs i d)
 flat_more f xs i d below =
     ap (flat_map f) (take_more xs i d below) ∙ flat_map-append f (take i xs) (get_or xs i d ∷ []) ∙ ap (λ last. flat_map f (take i xs) ++ last) (append-nil (f (get_or xs i d)))
 
--- a fold over a flat map, over one item more
+-- a fold over a flat map, extended by one item
 pub fold_flat_more : {X A B : Type 0} (g : B → A → B) (f : X → List A) (a : B) (xs : List X) (i : ℕ) (d : X) → i < length xs → fold g a (flat_map f (take (i + 1) xs)) ≡ fold g (fold g a (flat_map f (take i xs))) (f (get_or xs i d))
 fold_flat_more g f a xs i d below = ap (fold g a) (flat_more f xs i d below) ∙ fold-append g a (flat_map f (take i xs)) (f (get_or xs i d))
 
@@ -28,7 +28,7 @@ filter_map_cons {X} q x (xs ∷ xss) =
       | false ↦ filter_map_cons q x xss
     ]
 
--- one passes both tests where one that the first keeps passes the second
+-- some element passes both tests if and only if some element of the filtered list passes the second
 pub any_kept : {X : Type 0} (p q : X → Bool) (xs : List X) → list_any (λ x. p x && q x) xs ≡ list_any q (filter p xs)
 any_kept p q [] = refl
 any_kept p q (x ∷ xs) =
@@ -37,19 +37,19 @@ any_kept p q (x ∷ xs) =
       | false ↦ any_kept p q xs
     ]
 
--- tests that agree find alike
+-- tests that agree give the same result for a list
 pub any_agrees : {X : Type 0} (p q : X → Bool) → ((x : X) → p x ≡ q x) → (xs : List X) → list_any p xs ≡ list_any q xs
 any_agrees p q agree [] = refl
 any_agrees p q agree (x ∷ xs) = ap (λ b. b || list_any p xs) (agree x) ∙ ap (λ rest. q x || rest) (any_agrees p q agree xs)
 
--- a range one longer
+-- a range, extended by one number
 pub range_more : (a n : ℕ) → range_with_len a (suc n) ≡ range_with_len a n ++ (a + n) ∷ []
 range_more a zero = let here : a ≡ a + 0 = omega arith in ap (λ k. k ∷ []) here
 range_more a (suc n) =
     let there : (a + 1) + n ≡ a + suc n = omega arith in
     ap (λ rest. a ∷ rest) (range_more (a + 1) n ∙ ap (λ k. range_with_len (a + 1) n ++ k ∷ []) there)
 
--- what stands at the front of the rest stands at its place
+-- the first element after n dropped ones is the element at the index n
 pub first_of_rest : {X : Type 0} (xs : List X) (n : ℕ) (x : X) (rest : List X) → drop n xs ≡ x ∷ rest → slice_get xs n ≡ Some x
 first_of_rest [] zero x rest e = absurd cc
 first_of_rest [] (suc n) x rest e = absurd cc

@@ -1,4 +1,4 @@
--- An allowed tuple is a gap exactly where its cell is listed.
+-- An allowed tuple is a gap if and only if its cell is listed.
 use Rattle.std.proofs.Common.{◌≡◌, ℕ, zero, suc, ◌+◌, ◌⊎◌, inl, inr, ◌&&◌, ◌||◌, Bool, true, false, not, cond, List, [], ◌∷◌, ◌++◌, drop, map, filter, Option, Some, None, refl, ap, sym, ◌∙◌, add-one, arith}
 use Rattle.std.specs.Prelude.{count_by}
 use Rattle.std.specs.List.{flat_map, list_any, slice_get}
@@ -24,14 +24,14 @@ use Rattle.cutplan.proofs.ColumnWise.{among_unfilter, literal_of_rule, value_kin
 use Rattle.cutplan.proofs.Standing.{stands}
 use Rattle.cutplan.proofs.Parting.{part_of_column}
 
--- what is counted once is found
+-- an element that is counted once exists
 pub found_once : {X : Type 0} (p : X → Bool) (xs : List X) → count_by p xs ≡ 1 → list_any p xs ≡ true
 found_once p xs e = true_from_ne_false (list_any p xs) (λ none. let zero_of = count_none p xs none in absurd (omega (arith, e, zero_of))) where
   count_none : {X : Type 0} (p : X → Bool) (xs : List X) → list_any p xs ≡ false → count_by p xs ≡ 0
   count_none p [] none = refl
   count_none p (x ∷ xs) none = let parts = or_parts (p x) (list_any p xs) none in count_no p x xs 0 parts.0 (count_none p xs parts.1)
 
--- which cells with a region in front have a tuple
+-- which cells that begin with a region contain a tuple
 any_in_front : (r : Region) (v : Value) (vs : List Value) (cs : List (List Region)) → list_any (λ cell. lies_in cell (v ∷ vs)) (map (λ cell. r ∷ cell) cs) ≡ (is_in r v && list_any (λ cell. lies_in cell vs) cs)
 any_in_front r v vs [] =
     elim (is_in r v) as (λ b. false ≡ (b && false)) [
@@ -59,7 +59,7 @@ any_put (r ∷ rs) v vs cs =
       joined true false false = refl
       joined false b c = refl
 
--- an allowed tuple lies in a cell
+-- an allowed tuple lies in some cell
 has_cell : (p : PlanParts) (t : Table) (k : ℕ) (inputs : List Input) (vs : List Value) → is_allowed_tuple (columns_from p t k inputs) vs ≡ true → list_any (λ cell. lies_in cell vs) (cells (map regions (columns_from p t k inputs))) ≡ true
 has_cell p t k [] [] e = refl
 has_cell p t k [] (v ∷ vs) e = absurd (both_ways false refl e)
@@ -85,7 +85,7 @@ covers_none : (rule : List Cell) → covers rule [] ≡ true
 covers_none [] = refl
 covers_none (c ∷ cs) = refl
 
--- a cell's first region and its rest
+-- the first region of a cell and its other regions
 pub among_front : (x : List Region) (rs : List Region) (cs : List (List Region)) → Among x (flat_map (λ r. map (λ cell. r ∷ cell) cs) rs) → (r : Region) × (rest : List Region) × (r ∷ rest ≡ x) × Among r rs × Among rest cs
 among_front x [] cs at = absurd at
 among_front x (r ∷ rs) cs at =
@@ -103,7 +103,7 @@ among_front x (r ∷ rs) cs at =
       inner (c ∷ cs) (inl e) = (c, e, inl refl)
       inner (c ∷ cs) (inr at) = let more = inner cs at in (more.0, more.1, inr more.2)
 
--- a rule's cell answers in a region as for each value there
+-- a rule's cell holds in a region as for each value there
 pub asks_alike : (p : PlanParts) (t : Table) (k : ℕ) (i : Input) (rule : Rule) (r : Region) (v : Value) → Among rule t.rules → Among r (regions (column_of p t k i)) → is_allowed (column_of p t k i) v ≡ true → is_in r v ≡ true
     → option_map_or (λ c. holds_in c r) (slice_get rule.cells k) true ≡ option_map_or (λ c. holds c v) (slice_get rule.cells k) true
 asks_alike p t k i rule r v at r_at allowed in_v = by_cell (slice_get rule.cells k) refl where
@@ -116,7 +116,7 @@ asks_alike p t k i rule r v at r_at allowed in_v = by_cell (slice_get rule.cells
       (stands kind (column_literals t k i.values) r all v (value_kind kind v parts.0) parts.0 in_v).asked cell
       (λ l l_at. among_left l (flat_map (rule_literals k) t.rules) (option_map_or literals i.values []) (literal_of_rule t.rules k rule cell l at e l_at))
 
--- a rule covers the cell of a tuple where it fits the tuple
+-- a rule covers the cell of a tuple if and only if it fits the tuple
 covers_alike : (p : PlanParts) (t : Table) (k : ℕ) (inputs : List Input) (rule : Rule) (cell : List Region) (vs : List Value) → Among rule t.rules → Among cell (cells (map regions (columns_from p t k inputs)))
     → is_allowed_tuple (columns_from p t k inputs) vs ≡ true → lies_in cell vs ≡ true → covers (drop k rule.cells) cell ≡ fits (drop k rule.cells) vs
 covers_alike p t k [] rule cell [] at (inl e) allowed lies = ap (covers (drop k rule.cells)) (sym e) ∙ covers_none (drop k rule.cells) ∙ sym (fits_none (drop k rule.cells))
@@ -136,12 +136,12 @@ covers_alike p t k (i ∷ is) rule cell (v ∷ vs) at cell_at allowed lies =
     ∙ ap (λ b. option_map_or (λ c. holds c v) (slice_get rule.cells k) true && b) next
     ∙ sym (fits_from rule.cells k v vs)
 
--- tests that agree on these find alike
+-- tests that agree on the elements of a list give the same result for it
 any_alike : {X : Type 0} (f g : X → Bool) (xs : List X) → ((x : X) → Among x xs → f x ≡ g x) → list_any f xs ≡ list_any g xs
 any_alike f g [] agree = refl
 any_alike f g (x ∷ xs) agree = ap (λ b. b || list_any f xs) (agree x (inl refl)) ∙ ap (λ b. g x || b) (any_alike f g xs (λ y at. agree y (inr at)))
 
--- a filter that answers alike for all that a test finds
+-- a filter that gives the same result for all elements that pass a test
 any_filtered : {X : Type 0} (test keep : X → Bool) (b : Bool) (xs : List X) → ((x : X) → Among x xs → test x ≡ true → keep x ≡ b) → list_any test (filter keep xs) ≡ (b && list_any test xs)
 any_filtered test keep true [] agree = refl
 any_filtered test keep false [] agree = refl

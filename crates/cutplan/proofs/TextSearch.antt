@@ -1,4 +1,5 @@
--- Any other text: what a search by halves in the named texts says, since they stand in rising order.
+-- The region of other texts: the meaning of a binary search in the named texts, which are in
+-- increasing order.
 use Rattle.std.proofs.Common.{◌≡◌, ℕ, zero, suc, ◌+◌, ◌<◌, ◌≤◌, ◌||◌, ◌⊎◌, inl, inr, Bool, true, false, List, [], ◌∷◌, ◌++◌, length, get_or, map, filter, Some, None, Contains, refl, ap, sym, ◌∙◌, subst, arith}
 use Rattle.std.specs.Prelude.{nat_lt, Result, Ok, Err}
 use Rattle.std.specs.List.{list_any, slice_get}
@@ -33,13 +34,13 @@ use Rattle.cutplan.proofs.Holding.{among_passes}
 use Rattle.cutplan.proofs.Overlapping.{among_place, any_at, contained_among}
 use Rattle.cutplan.proofs.Regionwise.{text_is}
 
--- what stands at a place, whatever is given for lists that are shorter
+-- the element at an index does not depend on the default for shorter lists
 at_or : {X : Type 0} (xs : List X) (i : ℕ) (d : X) → i < length xs → slice_get xs i ≡ Some (get_or xs i d)
 at_or [] i d below = absurd (omega (arith, below))
 at_or (x ∷ xs) zero d below = refl
 at_or (x ∷ xs) (suc i) d below = at_or xs i d (omega (arith, below))
 
--- a text is equal to another where their order says so
+-- two texts are equal if and only if their comparison says so
 equal_text : (text : List ℕ) (name : Value) → has_kind kinds.Text name ≡ true → is_equal (Text text) name ≡ is_eq (slice_cmp nat_cmp (bytes_of name) text)
 equal_text text name kind =
     let is = text_is name kind in
@@ -55,18 +56,18 @@ none_any : {X : Type 0} (q : X → Bool) (xs : List X) → ((x : X) → Among x 
 none_any q [] none = refl
 none_any q (x ∷ xs) none = ap (λ b. b || list_any q xs) (none x (inl refl)) ∙ none_any q xs (λ y at. none y (inr at))
 
--- each thing among others has a place
+-- each element has an index
 place_in : {X : Type 0} (xs : List X) (x : X) → Among x xs → (n : ℕ) × (n < length xs) × ((d : X) → get_or xs n d ≡ x)
 place_in [] x at = absurd at
 place_in (y ∷ ys) x (inl e) = (0, omega arith, λ d. e)
 place_in (y ∷ ys) x (inr at) = let more = place_in ys x at in (suc more.0, omega (arith, more.1), more.2)
 
--- the search found something
+-- the search succeeded
 abbrev pub has_found : Result ℕ ℕ → Bool
 has_found (Ok place) = true
 has_found (Err place) = false
 
--- a search by halves in texts that rise finds a text exactly where one of them is it
+-- a binary search in increasing texts succeeds if and only if the text is among them
 pub text_sought : (names : List Value) (text : List ℕ) (r : Result ℕ ℕ) → AreRisingTexts names → IsSearchInRange r (length names) → IsBinarySearchResult (λ name. slice_cmp nat_cmp (bytes_of name) text) names r
     → has_found r ≡ list_any (λ name. is_equal (Text text) name) names
 text_sought names text (Ok place) rise within found =
@@ -95,7 +96,7 @@ text_sought names text (Err place) rise within found =
         | inr more ↦ ap is_eq (high k (Flag true) more below)
       ]
 
--- texts that rise are sorted by their bytes
+-- increasing texts are sorted by their bytes
 rising_texts : (names : List Value) → Rises names → ((name : Value) → Among name names → has_kind kinds.Text name ≡ true) → AreRisingTexts names
 rising_texts names rises texts = record { texts = λ name has. texts name (among_contained names name has); rise = λ k d low high. by_two k d high } where
   by_two : (k : ℕ) (d : Value) → k + 1 < length names → is_lt (slice_cmp nat_cmp (bytes_of (get_or names (k + 1) d)) (bytes_of (get_or names k d))) ≡ false
@@ -111,7 +112,7 @@ rising_texts names rises texts = record { texts = λ name has. texts name (among
       ap (λ v. is_lt (slice_cmp nat_cmp (bytes_of v) (bytes_of one))) b.1 ∙ ap (λ v. is_lt (slice_cmp nat_cmp b.0 (bytes_of v))) a.1
       ∙ ap is_lt (nat_list_cmp_total.antisymm b.0 a.0 ∙ ap ordering_reverse (is_less_so (slice_cmp nat_cmp a.0 b.0) less))
 
--- no region of numbers or days is any other text
+-- no region of numbers or days is a region of other texts
 no_other_from : (low : Value) (more names : List Value) → Among (Other names) (from_cut low more) → ⊥
 no_other_from low [] names (inl e) = absurd cc
 no_other_from low [] names (inr (inl e)) = absurd cc
@@ -126,7 +127,7 @@ no_other_ordered [] names (inr none) = none
 no_other_ordered (c ∷ cs) names (inl e) = absurd cc
 no_other_ordered (c ∷ cs) names (inr at) = no_other_from c cs names at
 
--- any other text than the cuts
+-- the region of other texts excludes exactly the cuts
 other_named : (cuts all names : List Value) → Among (Other names) (map At cuts ++ Other all ∷ []) → all ≡ names
 other_named [] all names (inl e) = cc
 other_named [] all names (inr none) = absurd none
@@ -138,7 +139,7 @@ other_in_named [] names (inl e) = absurd cc
 other_in_named [] names (inr none) = absurd none
 other_in_named (c ∷ cs) names at = other_named (c ∷ cs) (c ∷ cs) names at
 
--- wherever a column has any other text, its cuts rise
+-- if a column has a region of other texts, its cuts are increasing
 pub others_of : (kind : Kind) (lits names : List Value) → Among (Other names) (stretches kind (rising (filter (has_kind kind) lits))) → AreRisingTexts names
 others_of kinds.Number lits names at = absurd (no_other_ordered (rising (filter (has_kind kinds.Number) lits)) names at)
 others_of kinds.Day lits names at = absurd (no_other_ordered (rising (filter (has_kind kinds.Day) lits)) names at)
@@ -150,18 +151,18 @@ others_of kinds.Text lits names at =
     subst AreRisingTexts (other_in_named cuts names at)
     (rising_texts cuts (cuts_of_kind kinds.Text lits (λ e. absurd cc)) (λ name there. among_passes (has_kind kinds.Text) name lits (rising_only (filter (has_kind kinds.Text) lits) name there)))
 
--- a region at a place is one of them
+-- the region at an index is one of the regions
 pub other_at : (regions : List Region) (place : ℕ) (r : Region) (names : List Value) → true ≡ nat_lt place (length regions) → r ≡ get_or regions place r → r ≡ Other names → Contains regions (Other names)
 other_at regions place r names below is other = contained_among regions (Other names) (subst (λ x. Among x regions) other (among_place regions place r (found_at regions place r below is)))
 
--- beyond the last there is nothing
+-- an index after the last one has no element
 pub nothing_at : {X : Type 0} (xs : List X) (place : ℕ) → false ≡ nat_lt place (length xs) → slice_get xs place ≡ None
 nothing_at [] place none = refl
 nothing_at (x ∷ xs) zero none = absurd (both_ways false refl (none ∙ lt-ltb 0 (length (x ∷ xs)) (omega arith)))
 nothing_at (x ∷ xs) (suc place) none =
     nothing_at xs place (none ∙ less_alike (suc place) (suc (length xs)) place (length xs) (λ less. omega (arith, less)) (λ more. omega (arith, more)))
 
--- so in each column that is kept
+-- this holds for each compiled column
 pub column_others : (t : Table) (kept : List KeptColumn) (i : ℕ) (column : KeptColumn) → AreKept t kept → i < length kept → column ≡ get_or kept i column → OthersRise column.regions
 column_others t kept i column all below is names has =
     let p = all.plan in

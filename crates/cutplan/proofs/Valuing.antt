@@ -1,4 +1,4 @@
--- The tables of a plan, one after another: the answers of one more, or its fault.
+-- The tables of a plan, one after another: the answers of the next table, or its fault.
 use Rattle.std.proofs.Common.{◌≡◌, ◌≢◌, ℕ, ◌+◌, ◌<◌, List, [], ◌∷◌, ◌++◌, length, get_or, drop, Result, Ok, Err, ap, sym, ◌∙◌}
 use Rattle.std.proofs.lemmas.List.{drop_more}
 use Rattle.dtable.specs.declared.environment.Answer.{Answer}

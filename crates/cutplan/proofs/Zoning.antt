@@ -1,4 +1,4 @@
--- What is kept of the names that tables read, name by name, and the zone of what is given, place by place.
+-- The compiled names that tables read, name by name, and the input class, digit by digit.
 use Rattle.std.proofs.Common.{◌≡◌, ℕ, zero, suc, ◌+◌, ◌*◌, ◌<◌, ◌≤◌, ◌++◌, Bool, true, false, cond, List, [], ◌∷◌, length, get_or, take, filter, fold, map, Option, Some, refl, ap, sym, ◌∙◌, subst, arith}
 use Rattle.std.specs.List.{range_with_len, zip, AllZip}
 use Rattle.std.specs.Option.{IfSome}
@@ -21,7 +21,7 @@ use Rattle.cutplan.proofs.Keeping.{all_long, one_more}
 use Rattle.cutplan.proofs.Steps.{range_more}
 use Rattle.cutplan.proofs.TextSearch.{others_of}
 
--- what passes a test, of a range one longer
+-- the filtered numbers of a range, extended by one number
 filter_more : (q : ℕ → Bool) (n : ℕ) → filter q (range_with_len 0 (n + 1)) ≡ filter q (range_with_len 0 n) ++ cond (q n) (n ∷ []) []
 filter_more q n =
     let next : n + 1 ≡ suc n = omega arith in
@@ -37,7 +37,7 @@ pub none_kept : (q : ℕ → Bool) (n : ℕ) (ns : List ℕ) → ns ≡ filter q
 none_kept q n ns are left =
     are ∙ sym (filter_more q n ∙ ap (λ b. filter q (range_with_len 0 n) ++ cond b (n ∷ []) []) left ∙ append-nil (filter q (range_with_len 0 n)))
 
--- what stands over there at a place has its other here at that place
+-- an element of one list has a related element at the same index of the other list
 record Partner {X Y : Type 0} (R : X → Y → Type 0) (xs : List X) (i : ℕ) (y : Y) : Type 0 where
   one : X
   at : (d : X) → get_or xs i d ≡ one
@@ -52,14 +52,14 @@ partner_at R (z ∷ zs) (w ∷ ws) (suc i) y all below is =
     let more = partner_at R zs ws i y all.1 (omega (arith, below)) is in
     record { one = more.one; at = more.at; so = more.so }
 
--- what is kept of one name more
+-- the compiled names, extended by one name
 pub one_name : (p : PlanParts) (places : List ℕ) (kept new : List KeptName) (i : ℕ) (name : KeptName) → i < length places → AllZip (IsKeptName p) (take i places) kept → IsKeptName p (get_or places i 0) name
     → new ≡ kept ++ name ∷ [] → AllZip (IsKeptName p) (take (i + 1) places) new
 one_name p places kept new i name below all here pushed =
     let place = get_or places i 0 in
     one_more (IsKeptName p) places kept new i place name below (get_or_default places i 0 place below) all here pushed
 
--- the texts of any other region of a name rise
+-- the texts that a region of other texts of a name excludes are increasing
 pub name_others : (p : PlanParts) (place : ℕ) (name : KeptName) → IsKeptName p place name → OthersRise name.regions.items
 name_others p place name is names has =
     let there = subst (λ rs. Among (Other names) rs) is.regions (among_contained name.regions.items (Other names) has) in
@@ -70,7 +70,7 @@ names_others p kept i name all below is =
     let partner = partner_at (IsKeptName p) (names_read p) kept i name all below is in
     name_others p partner.one name partner.so
 
--- one place more
+-- the mixed-radix number, extended by one digit
 zip_more : (counts places : List ℕ) (count place : ℕ) → length counts ≡ length places → fold with_place 0 (zip (counts ++ count ∷ []) (places ++ place ∷ [])) ≡ with_place (fold with_place 0 (zip counts places)) (count, place)
 zip_more counts places count place long = from counts places 0 long where
   from : (counts places : List ℕ) (a : ℕ) → length counts ≡ length places → fold with_place a (zip (counts ++ count ∷ []) (places ++ place ∷ [])) ≡ with_place (fold with_place a (zip counts places)) (count, place)
@@ -79,11 +79,11 @@ zip_more counts places count place long = from counts places 0 long where
   from (c ∷ cs) [] a long = absurd (omega (arith, long))
   from (c ∷ cs) (p ∷ ps) a long = from cs ps (with_place a (c, p)) (omega (arith, long))
 
--- how many regions these names have
+-- the number of regions of each of these names
 abbrev counts_of : PlanParts → List ℕ → List ℕ
 counts_of p names = map (λ place. length (name_regions p place)) names
 
--- the zone as far as the first names tell it
+-- the number of the input class, computed for the first names
 pub record IsZoneOf (p : PlanParts) (given : List Slot) (i zone : ℕ) : Type 0 where
   pub places : List ℕ
   pub lie : AllZip (LiesIn p given) (take i (names_read p)) places
@@ -100,7 +100,7 @@ lies_in p given n name place is at = record {
   inside = subst (λ rs. has_at rs place at.value ≡ true) is.regions at.inside;
 }
 
--- one name more
+-- the number, extended by one name
 pub more_names : (p : PlanParts) (given : List Slot) (kept : List KeptName) (i zone place next : ℕ) (name : KeptName) → AreKeptNames p kept → i < length kept → name ≡ get_or kept i name
     → IsZoneOf p given i zone → IsPlaceIn name given place → next ≡ with_place zone (length name.regions.items, place) → IsZoneOf p given (i + 1) next
 more_names p given kept i zone place next name all below is so_far at stepped =
@@ -122,7 +122,7 @@ more_names p given kept i zone place next name all below is so_far at stepped =
           ∙ ap (λ number. number * length (name_regions p n) + place) so_far.number ∙ ap (λ c. zone * c + place) (sym count) ∙ sym stepped;
     }
 
--- all names
+-- the number for all names
 pub all_names : (p : PlanParts) (given : List Slot) (kept : List KeptName) (i zone : ℕ) → AreKeptNames p kept → length kept ≤ i → IsZoneOf p given i zone → IsZone p given zone
 all_names p given kept i zone all last so_far =
     let names = names_read p in
@@ -134,11 +134,11 @@ all_names p given kept i zone all last so_far =
       number = ap (λ ns. number_of (counts_of p ns) so_far.places) (sym whole) ∙ so_far.number;
     }
 
--- tables of a plan read no name that there isn't
+-- the tables of a plan read only names that exist
 pub reads_its_names : (p : PlanParts) → IsPlan p → ReadsItsNames p
 reads_its_names p plan place needed = within_names p place plan needed
 
--- wherever else the inputs of a zone may lie in it, the tables have one value
+-- all inputs in the class of the given inputs have the same value
 pub alike_in : (p q : PlanParts) (given : List Slot) (zone : Option ℕ) → ZonesAnswerAlike → p ≡ q → ReadsItsNames p → IfSome zone (IsZone p given) → IfSome zone (λ z. (other : List Slot) → IsZone q other z → env q other ≡ env q given)
 alike_in p q given zone law same within found =
     subst (λ r. IfSome zone (λ z. (other : List Slot) → IsZone r other z → env r other ≡ env r given)) same

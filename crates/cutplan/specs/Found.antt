@@ -1,4 +1,5 @@
--- What is found of a table's rules by the masks of its columns. Tables, rules, columns and regions count from 0 here.
+-- The search for the matching rules by the masks of a table's columns. Tables, rules, columns and
+-- regions are numbered from 0 here.
 use Rattle.std.specs.Prelude.{◌≡◌, ℕ, ◌-◌, ◌==◌, nat_lt, Bool, false, ◌&&◌, List, length, [], ◌∷◌, filter, None, Contains, slice_get, IsTrue}
 use Rattle.std.specs.List.{range_with_len}
 use Rattle.std.specs.Int.{bit_at}
@@ -21,34 +22,36 @@ use Rattle.cutplan.specs.declared.region.Region.TheVariants.{Other}
 use Rattle.cutplan.specs.Regions.{is_in}
 use Rattle.cutplan.specs.Masks.{Marks}
 
--- there is a region at this place, and it has the value
+-- the region at this index exists and contains the value
 abbrev pub has_at : List Region → ℕ → Value → Bool
 has_at regions place v = option_map_or (λ r. is_in r v) (slice_get regions place) false
 
--- the bytes of a text, and none of any other value
+-- the bytes of a text; any other value has none
 abbrev pub bytes_of : Value → List ℕ
 bytes_of (Text bytes) = bytes
 bytes_of _ = []
 
--- texts, of which none stands before the one in front of it, by their bytes
+-- the values are texts in increasing byte order
 pub record AreRisingTexts (names : List Value) : Type 0 where
   pub texts : (name : Value) → Contains names name → IsTrue (has_kind kinds.Text name)
   pub rise : IsSortedBy (λ a b. is_lt (slice_cmp nat_cmp (bytes_of a) (bytes_of b))) names
 
--- where one of these regions is any other text, the texts that it names rise
+-- if one of the regions consists of all other texts, the texts that it excludes are in increasing
+-- order
 abbrev pub OthersRise : List Region → Type 0
 OthersRise regions = (names : List Value) → Contains regions (Other names) → AreRisingTexts names
 
--- what a table reads is allowed, and these are the rules that match
+-- the values that the table reads are allowed, and the mask has exactly the matching rules
 pub record IsMatchingMask (given : List Slot) (earlier : List (List Answer)) (t : Table) (mask : List ℕ) : Type 0 where
   pub inside : first_outside given earlier t ≡ None
   pub marks : Marks (λ place. nat_lt place (length t.rules) && rule_matches given earlier t place) mask
 
--- the places, from the first on, of the bits of a word that are set, of so many bits
+-- the indices of the bits that are set among the lowest `width` bits of a word, where the lowest
+-- bit has the index `first`
 abbrev pub places_set : ℕ → ℕ → ℕ → List ℕ
 places_set word first width = filter (λ place. bit_at word (place - first) == 1) (range_with_len first width)
 
--- these are no rules, this one alone, or more, of which nothing is said
+-- the count describes the rules: none, exactly this one, or more, which says nothing
 abbrev pub IsFew : Few → List ℕ → Type 0
 IsFew few.None rules = rules ≡ []
 IsFew (few.One rule) rules = rules ≡ rule ∷ []

@@ -1,4 +1,4 @@
--- What a cut plan keeps of the input columns of tables. Columns and regions count from 0 here.
+-- The compiled input columns of tables. Columns and regions are numbered from 0 here.
 use Rattle.std.specs.Prelude.{◌≡◌, ℕ, ◌≤◌, List, length, Some, slice_get, All, IsTrue}
 use Rattle.std.specs.List.{enumerate_from, AllZip}
 use Rattle.feel_tests.specs.declared.value.Value.{Value}
@@ -14,36 +14,38 @@ use Rattle.cutplan.specs.Regions.{column_of, regions}
 use Rattle.cutplan.specs.Masks.{AreMasks}
 use Rattle.cutplan.specs.Found.{has_at}
 
--- what is kept of the column at a place, whose input this is: what it reads, its regions, and their masks
+-- the compiled column of an input: its input expression, the kind of its values, its regions, and
+-- their masks
 pub record IsKeptColumn (p : PlanParts) (t : Table) (place : ℕ) (input : Input) (kept : KeptColumn) : Type 0 where
   pub origin : kept.origin ≡ input.origin
   pub kind : kept.kind ≡ kind_read p input.origin
   pub listed : kept.regions ≡ regions (column_of p t place input)
   pub masks : AreMasks t place kept.regions kept.masks
 
--- what is kept of the columns of a table of a plan, in order
+-- the compiled columns of a table of a plan, in order
 abbrev pub AreKeptColumns : PlanParts → Table → List KeptColumn → Type 0
 AreKeptColumns p t kept = AllZip (λ (input : ℕ × Input) (column : KeptColumn). IsKeptColumn p t input.0 input.1 column) (enumerate_from 0 t.inputs) kept
 
--- the same of a table of some plan
+-- the compiled columns of a table of some plan
 pub record AreKept (t : Table) (kept : List KeptColumn) : Type 0 where
   pub plan : PlanParts
   pub columns : AreKeptColumns plan t kept
 
--- the value is of the column's kind, and this is the mask of a region of the column that has it
+-- the value is of the column's kind, and the mask is that of a region of the column that contains
+-- it
 pub record IsMaskOf (column : KeptColumn) (v : Value) (mask : List ℕ) : Type 0 where
   pub place : ℕ
   pub of_kind : IsTrue (is_value column.kind v)
   pub inside : IsTrue (has_at column.regions place v)
   pub mask_at : slice_get column.masks place ≡ Some mask
 
--- this is the mask of the region in which the value lies that the column reads
+-- the mask is that of the region that contains the value that the column reads
 pub record IsMaskRead (given : List Slot) (earlier : List (List Answer)) (column : KeptColumn) (mask : List ℕ) : Type 0 where
   pub value : Value
   pub read : value_read given earlier column.origin ≡ Some value
   pub is : IsMaskOf column value mask
 
--- what a cut plan keeps: of each column of each table; no table has more rules than a mask has bits
+-- the compiled columns of each table of a plan; no table has more rules than a mask has bits
 pub record IsCut (p : PlanParts) (kept : List (List KeptColumn)) : Type 0 where
   pub columns : AllZip (AreKeptColumns p) p.tables kept
   pub few : All (λ t. length t.rules ≤ 256) p.tables

@@ -1,4 +1,4 @@
--- Laws that tie the regions of a column, gaps and overlaps to values.
+-- Theorems that relate the regions of a column, the gaps and the overlaps to values.
 use Rattle.std.specs.Prelude.{◌≡◌, ◌≢◌, ℕ, ◌-◌, ◌≤◌, ◌<◌, ◌↔◌, Bool, List, [], length, map, filter, Some, None, slice_get, IsTrue, Contains, count_by}
 use Rattle.std.specs.List.{list_any, list_all, zip}
 use Rattle.feel_tests.specs.Holds.{holds}
@@ -21,67 +21,71 @@ abbrev pub RegionsPartValues : Type 0
 RegionsPartValues = (p : PlanParts) (t : Table) (place : ℕ) (column : Column) → slice_get (columns p t) place ≡ Some column
     → (v : Value) → IsTrue (is_allowed column v) → count_by (λ r. is_in r v) (regions column) ≡ 1
 
--- each region of a column holds an allowed value
+-- each region of a column contains an allowed value
 abbrev pub RegionsHoldValues : Type 0
 RegionsHoldValues = (p : PlanParts) (t : Table) (place : ℕ) (column : Column) → slice_get (columns p t) place ≡ Some column
     → (r : Region) → Contains (regions column) r → (v : Value) × IsTrue (is_allowed column v) × IsTrue (is_in r v)
 
--- a rule's cell holds of all values of a region, or of none
+-- a rule's cell holds for all values of a region or for none
 abbrev pub CellsHoldAlike : Type 0
 CellsHoldAlike = (p : PlanParts) (t : Table) (place : ℕ) (column : Column) → slice_get (columns p t) place ≡ Some column
     → (rule : Rule) (cell : Cell) → Contains t.rules rule → slice_get rule.cells place ≡ Some cell
     → (r : Region) (v w : Value) → Contains (regions column) r → IsTrue (is_value column.kind v) → IsTrue (is_value column.kind w)
     → IsTrue (is_in r v) → IsTrue (is_in r w) → holds cell v ≡ holds cell w
 
--- an allowed tuple is a gap exactly where its cell is listed
+-- an allowed tuple is a gap if and only if its cell is listed
 abbrev pub TellsGaps : PlanParts → Table → List (List Region) → Type 0
 TellsGaps p t found = (tuple : List Value) → IsTrue (is_allowed_tuple (columns p t) tuple)
     → IsGap p t tuple ↔ IsTrue (list_any (λ cell. lies_in cell tuple) found)
 
--- so for the gaps of each table
+-- for each table, an allowed tuple lies in a listed gap if and only if no rule matches it
 abbrev pub GapsAreTold : Type 0
 GapsAreTold = (p : PlanParts) (t : Table) → TellsGaps p t (gaps p t)
 
--- a pair of rules, the smaller first, is an overlap exactly where it is listed
+-- a pair of rules, smaller number first, is an overlap if and only if it is listed
 abbrev pub TellsOverlaps : PlanParts → Table → List (ℕ × ℕ) → Type 0
 TellsOverlaps p t found = (first second : ℕ) → 1 ≤ first → first < second → second ≤ length t.rules
     → IsOverlap p t (first, second) ↔ Contains found (first, second)
 
--- so for the overlaps of each table
+-- for each table, a pair of rules is listed as an overlap if and only if both match some allowed
+-- tuple
 abbrev pub OverlapsAreTold : Type 0
 OverlapsAreTold = (p : PlanParts) (t : Table) → TellsOverlaps p t (overlaps p t)
 
--- the inputs of a table read these values, of what is given and of the answers of the tables before it
+-- the inputs of the table read these values, from the given inputs and the answers of earlier
+-- tables
 abbrev pub ReadsTuple : List Slot → List (List Answer) → Table → List Value → Type 0
 ReadsTuple given earlier t tuple = map (λ i. value_read given earlier i.origin) t.inputs ≡ map (λ v. Some v) tuple
 
--- each value of a tuple is of its column's kind, and in the range of that kind
+-- each value of the tuple is of its column's kind and in the range of that kind
 abbrev pub are_values : List Column → List Value → Bool
 are_values columns tuple = list_all (λ c. is_value c.0.kind c.1) (zip columns tuple)
 
--- a rule fits the values that are read exactly where it is among those that match
+-- a rule fits the values that are read if and only if it is among the matching rules
 abbrev pub FitsAreMatches : Type 0
 FitsAreMatches = (given : List Slot) (earlier : List (List Answer)) (t : Table) (tuple : List Value) → ReadsTuple given earlier t tuple
     → (place : ℕ) → place < length t.rules → IsTrue (fits (rule_cells t place) tuple) ↔ Contains (matching given earlier t) place
 
--- values of the columns' kinds that are read are allowed exactly where none is outside
+-- values of the columns' kinds that are read are allowed if and only if none is outside
 abbrev pub AllowedAreInside : Type 0
 AllowedAreInside = (p : PlanParts) (given : List Slot) (earlier : List (List Answer)) (t : Table) (tuple : List Value) → ReadsTuple given earlier t tuple
     → IsTrue (are_values (columns p t) tuple) → IsTrue (is_allowed_tuple (columns p t) tuple) ↔ (first_outside given earlier t ≡ None)
 
--- values of the columns' kinds that are read lie in a cell among the gaps exactly where none of them is outside, and no rule matches
+-- values of the columns' kinds that are read lie in a cell among the gaps if and only if none of
+-- them is outside and no rule matches
 abbrev pub GapsMatchNothing : Type 0
 GapsMatchNothing = (p : PlanParts) (given : List Slot) (earlier : List (List Answer)) (t : Table) (tuple : List Value) → ReadsTuple given earlier t tuple
     → IsTrue (are_values (columns p t) tuple) → IsTrue (list_any (λ cell. lies_in cell tuple) (gaps p t)) ↔ ((first_outside given earlier t ≡ None) × (matching given earlier t ≡ []))
 
--- nothing that is read is outside, and both rules, numbered from 1, match
+-- no value that is read is outside, and both rules, numbered from 1, match
 pub record MatchTogether (given : List Slot) (earlier : List (List Answer)) (t : Table) (first second : ℕ) : Type 0 where
   pub inside : first_outside given earlier t ≡ None
   pub one : Contains (matching given earlier t) (first - 1)
   pub other : Contains (matching given earlier t) (second - 1)
 
--- what the overlaps tell of a pair of rules: it is among them where both rules match what is read, of values of the columns' kinds, and where it
--- is among them there is an allowed tuple such that both rules match wherever that tuple is read
+-- a pair of rules is among the overlaps if both match what is read, by values of the columns'
+-- kinds; conversely, for a pair among the overlaps there is an allowed tuple that both match
+-- whenever it is read
 pub record TellsMatches (p : PlanParts) (t : Table) (first second : ℕ) : Type 0 where
   pub listed : (given : List Slot) (earlier : List (List Answer)) (tuple : List Value) → ReadsTuple given earlier t tuple → IsTrue (are_values (columns p t) tuple)
       → MatchTogether given earlier t first second → Contains (overlaps p t) (first, second)
@@ -89,16 +93,17 @@ pub record TellsMatches (p : PlanParts) (t : Table) (first second : ℕ) : Type 
       → (tuple : List Value) × IsTrue (is_allowed_tuple (columns p t) tuple)
       × ((given : List Slot) (earlier : List (List Answer)) → ReadsTuple given earlier t tuple → MatchTogether given earlier t first second)
 
--- so for each pair of a table's rules, the smaller first
+-- this holds for each pair of a table's rules, the smaller number first
 abbrev pub OverlapsMatchTogether : Type 0
 OverlapsMatchTogether = (p : PlanParts) (t : Table) (first second : ℕ) → 1 ≤ first → first < second → second ≤ length t.rules → TellsMatches p t first second
 
--- of two cuts of a column of numbers, days or texts, the one in front is the smaller, texts by their bytes
+-- the cuts of a column of numbers, days or texts are strictly increasing; texts are in byte order
 abbrev pub CutsRise : Type 0
 CutsRise = (p : PlanParts) (t : Table) (place : ℕ) (column : Column) → slice_get (columns p t) place ≡ Some column → column.kind ≢ kinds.Flag
     → (i j : ℕ) (v w : Value) → i < j → slice_get column.cuts i ≡ Some v → slice_get column.cuts j ≡ Some w → IsTrue (is_before v w)
 
--- the cuts of a column are the literals of its kind, in its rules' cells and in its allowed values
+-- the cuts of a column are the literals of its kind in the cells of its rules and in its allowed
+-- values
 abbrev pub CutsAreLiterals : Type 0
 CutsAreLiterals = (p : PlanParts) (t : Table) (place : ℕ) (column : Column) → slice_get (columns p t) place ≡ Some column
     → (v : Value) → Contains column.cuts v ↔ Contains (filter (has_kind column.kind) (column_literals t place column.values)) v

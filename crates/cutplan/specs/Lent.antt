@@ -1,4 +1,4 @@
--- What a cut plan keeps of the answers of its tables, to lend them.
+-- The precomputed answers of a plan's tables.
 use Rattle.std.specs.Prelude.{◌≡◌, ℕ, ◌^◌, nat_lt, nat_le, if◌then◌else◌, Bool, ◌&&◌, List, [], ◌∷◌, length, map, Option, Some, None, Ok, Err}
 use Rattle.std.specs.List.{range_with_len}
 use Rattle.dtable.specs.declared.environment.Answer.{Answer}
@@ -15,37 +15,40 @@ use Rattle.cutplan.specs.Kept.{IsCut}
 use Rattle.cutplan.specs.Masks.{has_rule, rules_in}
 use Rattle.cutplan.specs.Zones.{AreKeptNames, ReadsItsNames}
 
--- the answers of an outcome that is no fault
+-- the answers of a table's value, unless it is a fault
 abbrev pub answers_in : TableValue → Option (List Answer)
 answers_in (Ok answers) = Some answers
 answers_in (Err fault) = None
 
--- the answers of a table where these rules match, unless that is a fault; the table's number is told in faults alone
+-- the answers of a table for these matching rules, unless they give a fault; the table's number is
+-- arbitrary, because only faults contain it
 abbrev pub answered : Table → List ℕ → Option (List Answer)
 answered t rules = answers_in (by_hit t.hit 1 t rules)
 
--- all rules in falling priority, where the policy ranks them; none elsewhere
+-- all rules in decreasing priority if the hit policy ranks rules, and no rules otherwise
 abbrev pub ordered_by : Hit → Table → List ℕ
 ordered_by P t = all_ranked t
 ordered_by O t = all_ranked t
 ordered_by _ t = []
 
+-- the ranking of all rules of the table, if its hit policy ranks rules
 abbrev pub ordered : Table → List ℕ
 ordered t = ordered_by t.hit t
 
--- how many sets so many rules have, where they are few
+-- the number of subsets of the rules if there are few rules, and zero otherwise
 abbrev pub set_count : ℕ → ℕ
 set_count rules = if nat_le rules 6 then 2 ^ rules else 0
 
--- the answers where the rules of a set match, whose number has their bits
+-- the answers if exactly the rules of a subset match; the bits of its index are its rules
 abbrev pub answers_of_set : Table → ℕ → Option (List Answer)
 answers_of_set t set = answered t (rules_in (length t.rules) (set ∷ 0 ∷ 0 ∷ 0 ∷ []))
 
--- the answers of each set of a table's rules, where they are few
+-- the answers for every subset of the rules, if the table has few rules
 abbrev pub sets_of : Table → List (Option (List Answer))
 sets_of t = map (answers_of_set t) (range_with_len 0 (set_count (length t.rules)))
 
--- what is kept of a table: the answers where no rule matches, those of each rule where it alone does, how rules are ranked, and the answers of each set of few
+-- the precomputed answers of a table: for no match, for each rule as the only match, and for every
+-- subset of few rules; and the ranking of its rules
 abbrev pub kept_answers : Table → KeptAnswers
 kept_answers t = record { unmatched = answered t []; alone = map (λ rule. answered t (rule ∷ [])) (range_with_len 0 (length t.rules)); order = ordered t; sets = sets_of t }
 
@@ -53,7 +56,8 @@ kept_answers t = record { unmatched = answered t []; alone = map (λ rule. answe
 abbrev pub is_in_mask : List ℕ → ℕ → Bool
 is_in_mask mask rule = nat_lt rule 256 && has_rule mask rule
 
--- what a cut plan keeps: the columns of each table, its answers, and the names that tables read, of which each is one of the plan's
+-- the parts of a compiled plan: the columns of each table, the answers of each table, and the names
+-- that tables read; tables read only names that exist
 pub record IsLending (p : PlanParts) (columns_kept : List (List KeptColumn)) (answers_kept : List KeptAnswers) (names_kept : List KeptName) : Type 0 where
   pub cut : IsCut p columns_kept
   pub answers : answers_kept ≡ map kept_answers p.tables

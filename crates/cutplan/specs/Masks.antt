@@ -1,4 +1,4 @@
--- Masks: the rules of a table as 256 bits in four words. Rules count from 0 here.
+-- Masks: sets of the rules of a table, as 256 bits in four words. Rules are numbered from 0 here.
 use Rattle.std.specs.Prelude.{◌≡◌, ℕ, ◌-◌, ◌/◌, ◌%◌, ◌<◌, ◌≤◌, ◌==◌, nat_lt, Bool, ◌&&◌, List, length, filter, Some, slice_get, slice_index}
 use Rattle.std.specs.List.{range_with_len, enumerate_from, AllZip}
 use Rattle.std.specs.Option.{option_map_or}
@@ -12,28 +12,28 @@ use Rattle.cutplan.specs.declared.region.Region.{Region}
 use Rattle.cutplan.specs.Regions.{table_regions}
 use Rattle.cutplan.specs.Check.{holds_at}
 
--- the mask has the rule at this place: a bit of one of its words is set
+-- the bit of the rule is set in the mask
 abbrev pub has_rule : List ℕ → ℕ → Bool
 has_rule mask place = bit_at (slice_index mask (place / 64)) (place % 64) == 1
 
--- those of the first so many rules that a mask has, in order
+-- those of the first `count` rules that are in the mask, in order
 abbrev pub rules_in : ℕ → List ℕ → List ℕ
 rules_in count mask = filter (has_rule mask) (range_with_len 0 count)
 
--- four words, which have exactly the rules that pass the test
+-- the mask has four words and exactly the rules that pass the test
 pub record Marks (test : ℕ → Bool) (mask : List ℕ) : Type 0 where
   pub words : length mask ≡ 4
   pub has : (place : ℕ) → place < 256 → has_rule mask place ≡ test place
 
--- the table has a rule at this place, and its cell in the column holds in the region
+-- the rule exists, and its cell in the column holds in the region
 abbrev pub is_marked : Table → ℕ → Region → ℕ → Bool
 is_marked t column region place = nat_lt place (length t.rules) && holds_at t place column region
 
--- the masks of a column, one for each of its regions, in their order
+-- the masks of a column, one for each of its regions, in the order of the regions
 abbrev pub AreMasks : Table → ℕ → List Region → List (List ℕ) → Type 0
 AreMasks t column regions masks = AllZip (λ region mask. Marks (is_marked t column region) mask) regions masks
 
--- a mask with exactly the rules that match lists them
+-- a mask with exactly the matching rules lists them
 abbrev pub MasksListMatches : Type 0
 MasksListMatches = (mask : List ℕ) (given : List Slot) (earlier : List (List Answer)) (t : Table) → length t.rules ≤ 256
     → ((place : ℕ) → place < 256 → has_rule mask place ≡ (nat_lt place (length t.rules) && rule_matches given earlier t place))
@@ -43,11 +43,12 @@ MasksListMatches = (mask : List ℕ) (given : List Slot) (earlier : List (List A
 abbrev pub AreTableMasks : Table → List (List Region) → List (List (List ℕ)) → Type 0
 AreTableMasks t columns masks = AllZip (λ (c : ℕ × List Region) (kept : List (List ℕ)). AreMasks t c.0 c.1 kept) (enumerate_from 0 columns) masks
 
--- the table of this number has an input column of this number, from 1
+-- the table of this number has an input column of this number, both from 1
 abbrev pub IsColumnNumber : PlanParts → ℕ → ℕ → Type 0
 IsColumnNumber p table column = (1 ≤ column) × (column ≤ option_map_or (λ t. length t.inputs) (slice_get p.tables (table - 1)) 0)
 
--- the masks of the column of this number of the table of this number, one for each of its regions, in their order
+-- the masks of a column, one for each of its regions, by the numbers of the table and the column,
+-- both from 1
 abbrev pub AreMasksOf : PlanParts → ℕ → ℕ → List (List ℕ) → Type 0
 AreMasksOf p table column masks = (t : Table) (regions : List Region) → slice_get p.tables (table - 1) ≡ Some t → slice_get (table_regions p t) (column - 1) ≡ Some regions
     → AreMasks t (column - 1) regions masks

@@ -1,4 +1,4 @@
--- The check of a table by its number in the plan, from 1.
+-- The check of a table by the table's number in the plan, from 1.
 use Rattle.std.specs.Prelude.{◌≡◌, ℕ, ◌-◌, ◌≤◌, ◌<◌, List, [], length, slice_get}
 use Rattle.std.specs.Option.{option_map_or}
 use Rattle.dtable.specs.Plan.{PlanParts}
@@ -8,7 +8,7 @@ use Rattle.cutplan.specs.declared.region.Region.{Region}
 use Rattle.cutplan.specs.Regions.{table_regions}
 use Rattle.cutplan.specs.Check.{cells, gaps, overlaps}
 
--- the most cells that a check has
+-- the greatest number of cells in a check
 abbrev pub cell_limit : ℕ
 cell_limit = 65536
 
@@ -20,7 +20,7 @@ IsTableNumber p number = (1 ≤ number) × (number ≤ length p.tables)
 abbrev pub cells_of : PlanParts → ℕ → List (List Region)
 cells_of p number = option_map_or (λ t. cells (table_regions p t)) (slice_get p.tables (number - 1)) []
 
--- those that no rule covers
+-- the cells of the table's check that no rule covers
 abbrev pub gaps_of : PlanParts → ℕ → List (List Region)
 gaps_of p number = option_map_or (gaps p) (slice_get p.tables (number - 1)) []
 
@@ -28,6 +28,6 @@ gaps_of p number = option_map_or (gaps p) (slice_get p.tables (number - 1)) []
 abbrev pub overlaps_of : PlanParts → ℕ → List (ℕ × ℕ)
 overlaps_of p number = option_map_or (overlaps p) (slice_get p.tables (number - 1)) []
 
--- a refusal for width comes only above the limit
+-- the check fails as too wide only if it has more cells than the limit
 abbrev pub IsWide : ℕ → CheckFault → Type 0
 IsWide count fault = fault ≡ TooWide → cell_limit < count

@@ -1,4 +1,5 @@
--- The gaps of a table by their places among the cells of its check. Cells count from 0 here, tables from 1.
+-- The gaps of a table as indices among the cells of its check. Cells are numbered from 0 here, and
+-- tables from 1.
 use Rattle.std.specs.Prelude.{◌≡◌, ℕ, ◌-◌, ◌≤◌, ◌<◌, Bool, true, not, List, [], length, map, filter, Option, Some, None, slice_get}
 use Rattle.std.specs.Global.{Vec}
 use Rattle.std.specs.List.{list_any, enumerate_from}
@@ -10,7 +11,7 @@ use Rattle.cutplan.specs.Check.{covers}
 use Rattle.cutplan.specs.Numbered.{cell_limit}
 use Rattle.cutplan.specs.Regions.{table_regions}
 
--- the places of those that pass a test, where the first has this place
+-- the indices of the items that pass a test, where the first item has the index `first`
 abbrev pub places : {X : Type 0} → (X → Bool) → ℕ → List X → List ℕ
 places {X} test first xs = map (λ (p : ℕ × X). p.0) (filter (λ (p : ℕ × X). test p.1) (enumerate_from first xs))
 
@@ -18,15 +19,15 @@ places {X} test first xs = map (λ (p : ℕ × X). p.0) (filter (λ (p : ℕ × 
 abbrev pub is_gap : Table → List Region → Bool
 is_gap t cell = not (list_any (λ r. covers r.cells cell) t.rules)
 
--- so of the table of this number
+-- no rule of the table of this number covers the cell
 abbrev pub is_gap_of : PlanParts → ℕ → List Region → Bool
 is_gap_of p number cell = option_map_or (λ t. is_gap t cell) (slice_get p.tables (number - 1)) true
 
--- the regions of each of its columns
+-- the regions of each column of the table of this number
 abbrev pub regions_of : PlanParts → ℕ → List (List Region)
 regions_of p number = option_map_or (table_regions p) (slice_get p.tables (number - 1)) []
 
--- the places of the cells that pass the test; none are listed where there are more cells than the limit
+-- the indices of the cells that pass the test, or nothing if there are more cells than the limit
 abbrev pub ArePlaces : List (List Region) → (List Region → Bool) → Option (Vec ℕ) → Type 0
 ArePlaces cells test (Some found) = (length cells ≤ cell_limit) × (found.items ≡ places test 0 cells)
 ArePlaces cells test None = cell_limit < length cells

@@ -40,11 +40,12 @@ literals (NoneOf tests) = flat_map test_literals tests
 abbrev pub rule_literals : ℕ → Rule → List Value
 rule_literals column rule = option_map_or literals (slice_get rule.cells column) []
 
--- all literals of a column: those of its rules' cells and of its allowed values
+-- all literals of a column: those in the cells of its rules and in its allowed values
 abbrev pub column_literals : Table → ℕ → Option Cell → List Value
 column_literals t column values = flat_map (rule_literals column) t.rules ++ option_map_or literals values []
 
--- a column: the kind of its values, its cuts in rising order, and its allowed values, if they are restricted
+-- a column: the kind of its values, its cuts in increasing order, and its allowed values if they
+-- are restricted
 pub record Column : Type 0 where
   pub kind : Kind
   pub cuts : List Value
@@ -58,7 +59,7 @@ column_of p t column input = record {
   values = input.values;
 }
 
--- the columns of inputs, of which the first has this place in the table
+-- the columns of these inputs; the first input has the index `place` in the table
 abbrev pub columns_from : PlanParts → Table → ℕ → List Input → List Column
 columns_from p t place [] = []
 columns_from p t place (i ∷ is) = column_of p t place i ∷ columns_from p t (place + 1) is
@@ -67,26 +68,28 @@ columns_from p t place (i ∷ is) = column_of p t place i ∷ columns_from p t (
 abbrev pub columns : PlanParts → Table → List Column
 columns p t = columns_from p t 0 t.inputs
 
--- the value is of the column's kind, and lies in its allowed values
+-- the value is of the column's kind and among its allowed values
 abbrev pub is_allowed : Column → Value → Bool
 is_allowed column v = is_value column.kind v && option_map_or (λ cell. holds cell v) column.values true
 
--- a cut, and the stretch to the next, and so on; above the last
+-- the regions from a cut upwards: each cut, the values between two adjacent cuts, and the values
+-- above the last cut
 abbrev pub from_cut : Value → List Value → List Region
 from_cut low [] = At low ∷ Above low ∷ []
 from_cut low (high ∷ more) = At low ∷ Between low high ∷ from_cut high more
 
--- numbers or days by their cuts: below the first, the first, the stretch to the next, .., above the last
+-- the regions of numbers or days: the values below the first cut, and the regions from the first
+-- cut upwards; without cuts, all values are one region
 abbrev pub ordered : List Value → List Region
 ordered [] = Every ∷ []
 ordered (c ∷ cs) = Below c ∷ from_cut c cs
 
--- texts: one by one those that are named, then any other
+-- the regions of texts: each named text, and all other texts
 abbrev pub named : List Value → List Region
 named [] = Every ∷ []
 named (c ∷ cs) = map At (c ∷ cs) ++ Other (c ∷ cs) ∷ []
 
--- all regions of a kind by the cuts, also those that hold no value
+-- all regions of the kind for these cuts, including regions that contain no value
 abbrev pub stretches : Kind → List Value → List Region
 stretches kinds.Number cuts = ordered cuts
 stretches kinds.Text cuts = named cuts
@@ -102,35 +105,36 @@ is_in (Above cut) v = is_less cut v
 is_in (Other names) v = not (list_any (λ name. is_equal v name) names)
 is_in Every v = true
 
--- the least number or day
+-- the least number or day in the range of its kind
 abbrev pub least_like : Value → Option Value
 least_like (Number units) = Some (Number (neg_ℤ (pos greatest_units)))
 least_like (Day day) = Some (Day first_day)
 least_like _ = None
 
--- the value, if it is a number or a day of their ranges
+-- the value, if it is a number or day in the range of its kind
 abbrev pub in_range : Value → Option Value
 in_range (Number units) = if nat_le (unsigned_abs units) greatest_units then Some (Number units) else None
 in_range (Day day) = if int_le first_day day && int_le day last_day then Some (Day day) else None
 in_range _ = None
 
--- the first number or day of the range that stands behind, if there is one
+-- the next number or day, if it is in the range of its kind
 abbrev pub next : Value → Option Value
 next (Number units) = in_range (Number (int_max (neg_ℤ (pos greatest_units)) (units +ℤ pos 1)))
 next (Day day) = in_range (Day (int_max first_day (day +ℤ pos 1)))
 next _ = None
 
--- the cell holds of a value that none of its tests names
+-- the cell holds for a value that none of its tests names
 abbrev pub is_open : Cell → Bool
 is_open Dash = true
 is_open (OneOf tests) = false
 is_open (NoneOf tests) = true
 
--- the cell holds of the value, and of no missing one
+-- the cell holds for the value; it does not hold for a missing value
 abbrev pub holds_of : Cell → Option Value → Bool
 holds_of cell found = option_map_or (holds cell) found false
 
--- the cell holds of the region's values: of the first of them, or of one that no test names
+-- the cell holds for the values of the region; the first of them is tested, or a value that no test
+-- names
 abbrev pub holds_in : Cell → Region → Bool
 holds_in cell (Below cut) = holds_of cell (least_like cut)
 holds_in cell (At v) = holds cell v
@@ -139,7 +143,7 @@ holds_in cell (Above cut) = holds_of cell (next cut)
 holds_in cell (Other names) = is_open cell
 holds_in cell Every = is_open cell
 
--- the region holds a value
+-- the region contains a value
 abbrev pub has_value : Region → Bool
 has_value (Below cut) = option_map_or (λ v. is_less v cut) (least_like cut) false
 has_value (At v) = is_value (kind_of v) v
@@ -148,11 +152,11 @@ has_value (Above cut) = option_map_or (λ v. true) (next cut) false
 has_value (Other names) = true
 has_value Every = true
 
--- the region holds a value that is allowed
+-- the region contains an allowed value
 abbrev pub is_listed : Option Cell → Region → Bool
 is_listed values region = has_value region && option_map_or (λ cell. holds_in cell region) values true
 
--- the regions of a column, in order
+-- the regions of a column that contain an allowed value, in order
 abbrev pub regions : Column → List Region
 regions column = filter (is_listed column.values) (stretches column.kind column.cuts)
 

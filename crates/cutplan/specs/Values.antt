@@ -1,4 +1,4 @@
--- The values that a column of a table can have, and how they are ordered. A text may have any length here.
+-- The values that a column of a table can have, and their order. A text may have any length here.
 use Rattle.std.specs.Prelude.{ℕ, Bool, true, false, ◌&&◌, nat_le, List, [], ◌∷◌, slice_get, int_lt, int_le, if◌then◌else◌, fold}
 use Rattle.std.specs.List.{list_any}
 use Rattle.std.specs.Int.RustNames.{unsigned_abs}
@@ -17,7 +17,8 @@ use Rattle.dtable.specs.declared.table.Origin.TheVariants.{Given, Earlier}
 use Rattle.dtable.specs.declared.table.Table.{Table}
 use Rattle.dtable.specs.Plan.{PlanParts, seen_kind}
 
--- the kind of the values of an output of an earlier table; each input of a plan reads one that there is
+-- the kind of the values of an output of an earlier table; each input of a plan reads an output
+-- that exists
 abbrev pub kind_of_output : List Table → ℕ → ℕ → Kind
 kind_of_output tables table column = option_map_or (λ t. option_map_or (λ o. seen_kind t.hit o.kind) (slice_get t.outputs column) kinds.Number) (slice_get tables table) kinds.Number
 
@@ -26,7 +27,7 @@ abbrev pub kind_read : PlanParts → Origin → Kind
 kind_read p (Given place) = option_map_or (λ d. d.kind) (slice_get p.names place) kinds.Number
 kind_read p (Earlier table column) = kind_of_output p.tables table column
 
--- a value of the kind: a number or a day of their ranges, any text, a flag
+-- the value is of the kind: a number or day in the range of its kind, any text, or a flag
 abbrev pub is_value : Kind → Value → Bool
 is_value kinds.Number (Number units) = nat_le (unsigned_abs units) greatest_units
 is_value kinds.Text (Text bytes) = true
@@ -41,15 +42,15 @@ is_before (Text a) (Text b) = is_lt (slice_cmp nat_cmp a b)
 is_before (Day a) (Day b) = int_lt a b
 is_before _ _ = false
 
--- a value in its place: in front of the first that it stands before
+-- the list with the value inserted before the first greater value
 abbrev pub placed : Value → List Value → List Value
 placed v [] = v ∷ []
 placed v (c ∷ cs) = if is_before v c then v ∷ c ∷ cs else c ∷ placed v cs
 
--- one value more in its place, unless it is there
+-- the cuts with one more value, unless it is already among them
 abbrev pub with_value : List Value → Value → List Value
 with_value cuts v = if list_any (λ c. is_equal c v) cuts then cuts else placed v cuts
 
--- the values in rising order, without repeats
+-- the values in increasing order, without repeats
 abbrev pub rising : List Value → List Value
 rising values = fold with_value [] values

@@ -1,4 +1,5 @@
--- Zones: wherever what is given lies in the same regions, tables answer alike. Tables, columns, names and regions count from 0 here.
+-- Input classes: all inputs whose values lie in the same regions have the same answers. Tables,
+-- columns, names and regions are numbered from 0 here.
 use Rattle.std.specs.Prelude.{◌≡◌, ℕ, ◌<◌, List, [], length, ◌+◌, ◌*◌, flat_map, filter, fold, map, Some, IsTrue, if◌then◌else◌}
 use Rattle.std.specs.List.{range_with_len, enumerate_from, zip, AllZip}
 use Rattle.feel_tests.specs.declared.kind.Kind.{Kind}
@@ -16,15 +17,15 @@ use Rattle.cutplan.specs.Values.{is_value, kind_read, rising}
 use Rattle.cutplan.specs.Regions.{column_literals, stretches}
 use Rattle.cutplan.specs.Found.{has_at}
 
--- the literals of a table's column, where its input reads the name at a place
+-- the literals of a table's column, if its input reads the name
 abbrev pub input_literals : ℕ → Table → ℕ × Input → List Value
 input_literals place t input = if reads place input.1.origin then column_literals t input.0 input.1.values else []
 
--- those of all its columns that read the name
+-- the literals of all columns of a table that read the name
 abbrev pub table_literals : ℕ → Table → List Value
 table_literals place t = flat_map (input_literals place t) (enumerate_from 0 t.inputs)
 
--- and of all tables
+-- the literals of all columns of all tables that read the name
 abbrev pub name_literals : List Table → ℕ → List Value
 name_literals tables place = flat_map (table_literals place) tables
 
@@ -36,7 +37,7 @@ name_kind p place = kind_read p (Given place)
 abbrev pub name_regions : PlanParts → ℕ → List Region
 name_regions p place = stretches (name_kind p place) (rising (filter (has_kind (name_kind p place)) (name_literals p.tables place)))
 
--- the name at a place has a value of its kind, which lies in this region of the name
+-- the name has a value of its kind that lies in this region of the name
 pub record LiesIn (p : PlanParts) (given : List Slot) (place region : ℕ) : Type 0 where
   pub value : Value
   pub is : value_at given place ≡ Some value
@@ -47,43 +48,44 @@ pub record LiesIn (p : PlanParts) (given : List Slot) (place region : ℕ) : Typ
 abbrev pub names_read : PlanParts → List ℕ
 names_read p = filter (needs p.tables) (range_with_len 0 (length p.names))
 
--- a number with one place more, of so many
+-- one more digit of a mixed-radix number: a radix and a digit
 abbrev pub with_place : ℕ → ℕ × ℕ → ℕ
 with_place number place = number * place.0 + place.1
 
--- the number of places, each of so many
+-- the mixed-radix number with these radices and digits
 abbrev pub number_of : List ℕ → List ℕ → ℕ
 number_of counts places = fold with_place 0 (zip counts places)
 
--- how many regions each name has that tables read
+-- the number of regions of each name that tables read
 abbrev pub region_counts : PlanParts → List ℕ
 region_counts p = map (λ place. length (name_regions p place)) (names_read p)
 
--- this is the zone of what is given: the number of the regions in which the names that tables read have their values
+-- the input class of the inputs: the mixed-radix number of the regions that contain the values of
+-- the names that tables read
 pub record IsZone (p : PlanParts) (given : List Slot) (zone : ℕ) : Type 0 where
   pub places : List ℕ
   pub lie : AllZip (LiesIn p given) (names_read p) places
   pub number : number_of (region_counts p) places ≡ zone
 
--- tables read no name that there isn't
+-- tables read only names that exist
 abbrev pub ReadsItsNames : PlanParts → Type 0
 ReadsItsNames p = (place : ℕ) → IsTrue (needs p.tables place) → place < length p.names
 
--- what lies in one zone has one value
+-- all inputs in one input class have the same value
 abbrev pub ZonesAnswerAlike : Type 0
 ZonesAnswerAlike = (p : PlanParts) (one other : List Slot) (zone : ℕ) → ReadsItsNames p → IsZone p one zone → IsZone p other zone → env p one ≡ env p other
 
--- what is kept of the name at a place: the kind of its values, and its regions
+-- a compiled name: its index, the kind of its values, and its regions
 pub record IsKeptName (p : PlanParts) (place : ℕ) (kept : KeptName) : Type 0 where
   pub at : kept.place ≡ place
   pub kind : kept.kind ≡ name_kind p place
   pub regions : kept.regions.items ≡ name_regions p place
 
--- what is kept of the names that tables read, in order
+-- the compiled names that tables read, in order
 abbrev pub AreKeptNames : PlanParts → List KeptName → Type 0
 AreKeptNames p kept = AllZip (IsKeptName p) (names_read p) kept
 
--- the name has a value of its kind, which lies in the region at this place
+-- the name has a value of its kind that lies in the region at this index
 pub record IsPlaceIn (name : KeptName) (given : List Slot) (region : ℕ) : Type 0 where
   pub value : Value
   pub is : value_at given name.place ≡ Some value

@@ -1,8 +1,9 @@
-//! The rules' cells of a column, asked of one value after another.
+//! Evaluation of the rules' cells of a column for one value after another.
 //!
-//! Between two of its own literals that stand side by side a cell holds of all values or of none. So there it is asked
-//! once, and its answer is kept for the values that follow: of a column's regions, which rise, each cell is asked about
-//! those of its own literals, and about one between two of them.
+//! Between two adjacent literals of its own, a cell holds for all values or for none, so it is
+//! evaluated there only once, and its answer is reused for the values that follow. The regions of a
+//! column are in increasing order. Each cell is therefore evaluated once for each of its own
+//! literals and once between two of them, and not once for each region.
 ghost use Rattle.std.specs.Prelude.{◌≡◌, IfOk, IfSome, false, slice_get, true};
 ghost use Rattle.std.specs.Option.{option_map_or};
 ghost use Rattle.cutplan.specs.Regions.{holds_of, is_open};
@@ -16,8 +17,9 @@ use feel_tests::{Kind, Value};
 use std::alloc::{AllocError, Global};
 use std::marker::Model;
 
-/// A rule's cell in a column, which contracts see as that cell, if the rule has one. It keeps the cell's literals of the
-/// column's kind in rising order, and what was answered of a value that stood in front of the literal at the place.
+/// A rule's cell in a column, with the last answer. Contracts see it as the cell, if the rule has
+/// one. `cuts` are the sorted literals of the cell that have the column's kind. `answer` is the
+/// answer for the values that lie between the cuts before and at the index `place`.
 #[derive(Drop)]
 pub struct Asked<'a> {
     rule: &'a Rule,
@@ -41,7 +43,8 @@ impl<'a> Model for Asked<'a> {
 }
 
 impl<'a> Asked<'a> {
-    /// The rule's cell in the column, whose values are of the kind; nothing is asked yet.
+    /// Makes a probe of the rule's cell in the column, which has values of this kind. No answer is
+    /// known yet.
     #[tactic(auto, using(crate::proofs::Between::none_asked))]
     pub fn new(
         alloc: Global,
@@ -62,7 +65,8 @@ impl<'a> Asked<'a> {
         })
     }
 
-    /// Whether the cell, if there is one, holds in the region, of which this is the first value.
+    /// Returns whether the cell holds in the region, of which `first` is the first value. A missing
+    /// cell holds everywhere.
     pub fn holds_in(&mut self, region: &Region, first: &Option<Value>) -> bool
         requires { first.now ≡ first_value region.now }
         ensures answer { result ≡ cell_holds_in self.old region.now }
@@ -106,7 +110,8 @@ impl<'a> Asked<'a> {
         }
     }
 
-    // Whether the cell holds of the value: as it did of the last one, if no literal stands between the two.
+    // Returns whether the cell holds for the value. The last answer is reused if no literal of the
+    // cell lies between this value and the last one.
     fn holds(&mut self, value: &Value) -> bool
         ensures answer { result ≡ cell_holds self.old value.now }
         ensures same { self.new ≡ self.old }
@@ -117,7 +122,7 @@ impl<'a> Asked<'a> {
         }
     }
 
-    // What is kept, if the value stands where that was asked.
+    // Returns the last answer if it applies to the value.
     fn kept(&self, value: &Value) -> Option<bool>
         ensures { IfSome result (λ answer. answer ≡ cell_holds self.now value.now) }
     {
@@ -129,7 +134,8 @@ impl<'a> Asked<'a> {
         }
     }
 
-    // Asks the cell, and keeps what it answers of a value that is none of its literals.
+    // Evaluates the cell. The answer is stored unless the value is a literal of the cell, because
+    // the answer then applies to that value alone.
     #[tactic(auto, using(crate::proofs::Between::asked_at))]
     fn ask(&mut self, value: &Value) -> bool
         ensures answer { result ≡ cell_holds self.old value.now }
@@ -145,7 +151,8 @@ impl<'a> Asked<'a> {
     }
 }
 
-// Whether the rule's cell in the column, if it has one, holds of the value.
+// Returns whether the rule's cell in the column holds for the value. A missing cell holds for every
+// value.
 fn holds(rule: &Rule, column: usize, value: &Value) -> bool
     ensures { result ≡ cell_holds (slice_get rule.now.cells column) value.now }
 {
@@ -155,7 +162,8 @@ fn holds(rule: &Rule, column: usize, value: &Value) -> bool
     }
 }
 
-/// The cells of a table's rules in the column, whose values are of the kind.
+/// Returns a probe for the cell of each rule of the table in the column, which has values of this
+/// kind.
 pub fn asked_rules<'a>(
     alloc: Global,
     kind: Kind,
@@ -171,7 +179,7 @@ pub fn asked_rules<'a>(
     Ok(asked)
 }
 
-/// The first value of a region, but of one of other texts, or of all values.
+/// Returns the first value of the region. A region of other texts or of all values has none.
 pub fn first_value(alloc: Global, region: &Region) -> Result<Option<Value>, AllocError>
     ensures { IfOk result (λ first. first ≡ first_value region.now) }
 {

@@ -1,4 +1,4 @@
-//! The columns of a table, each as the list of its regions.
+//! The regions of the columns of a table.
 ghost use Rattle.std.specs.Prelude.{◌≡◌, IfOk, map, slice_get};
 ghost use Rattle.cutplan.specs.Values.{kind_read, kind_of_output};
 ghost use Rattle.cutplan.specs.Regions.{column_of, regions, table_regions};
@@ -13,7 +13,7 @@ use dtable::{Input, Origin, Plan, Sequence, Table};
 use feel_tests::Kind;
 use std::alloc::{AllocError, Global};
 
-/// The regions of each column of a table.
+/// Returns the regions of each column of a table.
 pub fn table_regions(
     alloc: Global,
     plan: &Plan,
@@ -28,7 +28,7 @@ pub fn table_regions(
     Ok(columns)
 }
 
-/// The regions of the column at a place, whose input this is.
+/// Returns the regions of the column at the index `place`, whose input is `input`.
 pub fn column_regions(
     alloc: Global,
     plan: &Plan,
@@ -36,7 +36,8 @@ pub fn column_regions(
     place: usize,
     input: &Input,
 ) -> Result<Sequence<Region>, AllocError>
-    ensures { IfOk result (λ found. found ≡ regions (column_of plan.now table.now place input.now)) }
+    ensures { IfOk result (λ found. found
+        ≡ regions (column_of plan.now table.now place input.now)) }
 {
     let kind = kind_read(plan, input.origin);
     let cuts = cuts_of(alloc, kind, table, place, &input.values)?;
@@ -44,7 +45,8 @@ pub fn column_regions(
     listed(alloc, &input.values, all)
 }
 
-/// The kind of the values that an input reads. Each input of a plan reads a name or an output that there is.
+/// Returns the kind of the values that an input reads. In a plan, every input reads a name or an
+/// output that exists; for any other input the kind is `Kind::Number`.
 pub fn kind_read(plan: &Plan, origin: Origin) -> Kind
     ensures { result ≡ kind_read plan.now origin }
 {
@@ -67,7 +69,8 @@ fn kind_of_output(tables: &[Table], table: usize, column: usize) -> Kind
 }
 
 fn kind_in(table: &Table, column: usize) -> Kind
-    ensures { result ≡ option_map_or (λ o. seen_kind table.now.hit o.kind) (slice_get table.now.outputs column) kinds.Number }
+    ensures { result ≡ option_map_or (λ o. seen_kind table.now.hit o.kind)
+        (slice_get table.now.outputs column) kinds.Number }
 {
     match table.outputs.as_slice().get(column) {
         Some(output) => table.hit.seen_kind(output.kind),

@@ -1,4 +1,4 @@
-//! A plan that can be checked, and is valued by masks.
+//! A compiled plan, which can be checked and which evaluates its tables by rule masks.
 ghost use Rattle.std.specs.Prelude.{◌≡◌, ◌≤◌, ◌<◌, ◌-◌, ◌+◌, ◌^◌, ℕ, [], false, Ok, Some, IfOk, IfErr, IfSome, OnOk, OnSome, length, slice_get};
 ghost use Rattle.dtable.specs.Environment.{answers_of, table_value};
 ghost use Rattle.dtable.specs.HitPolicy.{Gives, IsFaultOf, by_hit, lists};
@@ -30,9 +30,10 @@ use smallvec::SmallVec;
 use std::alloc::{AllocError, Global};
 use std::marker::Model;
 
-/// A plan that can be checked, which contracts see as the plan. It borrows the plan, and keeps the regions of its columns
-/// with their masks, answers of its tables, which it lends, and the regions of the names that tables read, by which it tells
-/// zones. A check of a table cuts its columns anew.
+/// A plan that is compiled for checks and for evaluation by masks. Contracts see it as the plan. It
+/// borrows the plan and owns the regions of its columns with their masks, the precomputed answers
+/// of its tables, and the regions of the names that the tables read, which determine input classes.
+/// The check of a table computes the regions of its columns again.
 pub struct CutPlan<'a> {
     plan: &'a Plan,
     columns: Sequence<Sequence<KeptColumn>>,
@@ -62,7 +63,8 @@ impl<'a> Model for CutPlan<'a> {
     ghost invariant = { λ c. IsLending c.plan.now c.columns c.answers c.names };
 }
 
-/// Makes the plan ready for its check and for values by masks.
+/// Compiles the plan for its check and for evaluation by masks. The only error is that memory runs
+/// out.
 #[tactic(auto, using(crate::proofs::Keeping::few_rules))]
 pub fn compile(alloc: Global, plan: &Plan) -> Result<CutPlan<'_>, AllocError>
     ensures { IfOk result (λ made. made ≡ plan.now) }
@@ -94,15 +96,15 @@ impl<'a> Valuer for CutPlan<'a> {
     }
 
     fn zone(&self, inputs: &Inputs) -> Option<u64> {
-        // Known from here: what lies in one zone has one value.
+        // proof: all inputs in one input class have the same value
         zones_answer_alike();
         zone_of(self.plan, self.names.as_slice(), inputs)
     }
 }
 
 impl<'a> CutPlan<'a> {
-    /// The pairs of rules of a table that share an allowed input: the smaller first, in order, each once. Tables and
-    /// rules are numbered from 1.
+    /// Returns the pairs of rules of a table that share an allowed input. Tables and rules are
+    /// numbered from 1. The smaller rule comes first, and the pairs are in order, each once.
     pub fn overlaps(&self, alloc: Global, table: usize) -> Result<Vec<(usize, usize)>, AllocError>
         requires { IsTableNumber self.now table }
         ensures { IfOk result (λ found. found.items ≡ overlaps_of self.now table) }
@@ -110,8 +112,9 @@ impl<'a> CutPlan<'a> {
         overlaps_of(alloc, self.plan, &self.plan.tables()[table - 1])
     }
 
-    /// The cells of a table's check that no rule covers, in order: column by column from the left, the last changing
-    /// fastest. Tables are numbered from 1.
+    /// Returns the cells of a table's check that no rule covers. Tables are numbered from 1. The
+    /// cells are ordered by their regions column by column from the left, so that the last column
+    /// changes fastest. Fails with `TooWide` if the check has more than `CELL_LIMIT` cells.
     pub fn gaps(&self, alloc: Global, table: usize) -> Result<Vec<Sequence<Region>>, CheckFault>
         requires { IsTableNumber self.now table }
         ensures listed { IfOk result (λ found. found.items ≡ gaps_of self.now table) }
@@ -121,9 +124,9 @@ impl<'a> CutPlan<'a> {
         gaps_of(alloc, self.plan, &self.plan.tables()[table - 1])
     }
 
-    /// The masks of an input column, one for each of its regions, in their order: the bit `(rule - 1) % 64` of the word
-    /// `(rule - 1) / 64` is set where the rule's cell holds of the region's values. Tables, columns and rules are
-    /// numbered from 1.
+    /// Returns the masks of an input column, one for each of its regions, in the order of the
+    /// regions. Bit `(rule - 1) % 64` of word `(rule - 1) / 64` is set if the rule's cell holds for
+    /// the values of the region. Tables, columns and rules are numbered from 1.
     pub fn masks(&self, table: usize, column: usize) -> &[[u64; 4]]
         requires table { IsTableNumber self.now table }
         requires column { IsColumnNumber self.now table column }
@@ -133,7 +136,8 @@ impl<'a> CutPlan<'a> {
         columns.as_slice()[column - 1].masks.as_slice()
     }
 
-    // Puts the answers of the plan's tables in order where there are none yet, or tells the first fault.
+    // Appends the answers of the plan's tables to the empty list `answers`, in order, or returns
+    // the first fault.
     fn push_answers<'b>(
         &'b self,
         alloc: Global,
@@ -153,8 +157,9 @@ impl<'a> CutPlan<'a> {
         Ok(())
     }
 
-    // The answers of the table at the place, behind the tables with these answers: by masks, where they tell, and else as
-    // `dtable` values it. They don't where a value is missing, of another kind, or not allowed.
+    // Returns the answers of the table at the index `place`, which follows the tables with the
+    // `earlier` answers. Masks decide nothing if a value is missing, of another kind, or not
+    // allowed; `dtable` then evaluates the table.
     fn table_value<'b>(
         &'b self,
         alloc: Global,
@@ -175,7 +180,6 @@ impl<'a> CutPlan<'a> {
         }
     }
 
-    // The kept answers of the table at the place.
     fn kept_answers(&self, place: usize, table: &Table) -> &KeptAnswers
         requires { slice_get self.now.tables place ≡ Some table.now }
         ensures { result.now ≡ kept_answers table.now }
@@ -183,7 +187,8 @@ impl<'a> CutPlan<'a> {
         &self.answers.as_slice()[place]
     }
 
-    /// The rules of the table at the place that match, where its masks tell.
+    /// Returns the matching rules of the table at the index `place`, or `None` if its masks do not
+    /// decide them.
     pub fn matching_mask(
         &self,
         given: &Inputs,
@@ -200,7 +205,7 @@ impl<'a> CutPlan<'a> {
     }
 }
 
-// The answers of a table with this number, where a mask has the rules that match.
+// Returns the answers of the table with this number if the rules of the mask match.
 fn value_of_mask<'k>(
     alloc: Global,
     number: usize,
@@ -211,8 +216,10 @@ fn value_of_mask<'k>(
     requires kept { kept.now ≡ kept_answers table.now }
     requires words { length mask.now ≡ 4 }
     requires few { length table.now.rules ≤ MASK_RULES }
-    requires within { (place : ℕ) → length table.now.rules ≤ place → place < 256 → has_rule mask.now place ≡ false }
-    ensures { Gives (by_hit table.now.hit number table.now (rules_in (length table.now.rules) mask.now)) result }
+    requires within { (place : ℕ) → length table.now.rules ≤ place → place < 256
+        → has_rule mask.now place ≡ false }
+    ensures { Gives (by_hit table.now.hit number table.now
+        (rules_in (length table.now.rules) mask.now)) result }
 {
     if let Some(answers) = lent_by_set(table, kept, mask) {
         return Ok(Answers::lent(answers));
@@ -228,7 +235,8 @@ fn value_of_mask<'k>(
     }
 }
 
-// The same of the rules that the mask has: lent, where they are kept.
+// Returns the answers of the table for these matching rules, which are those of the mask.
+// Precomputed answers are borrowed.
 #[inline(always)]
 fn value_of_rules<'k>(
     alloc: Global,
@@ -242,7 +250,8 @@ fn value_of_rules<'k>(
     requires words { length mask.now ≡ 4 }
     requires few { length table.now.rules ≤ MASK_RULES }
     requires rules { rules.now ≡ rules_in (length table.now.rules) mask.now }
-    ensures { Gives (by_hit table.now.hit number table.now (rules_in (length table.now.rules) mask.now)) result }
+    ensures { Gives (by_hit table.now.hit number table.now
+        (rules_in (length table.now.rules) mask.now)) result }
 {
     if let Some(answers) = lent(table, kept, mask, rules) {
         return Ok(Answers::lent(answers));
@@ -254,7 +263,8 @@ fn value_of_rules<'k>(
     Ok(Answers::made(answers))
 }
 
-// The lists of a table's entries in falling priority, of the rules that a mask has. This is the order of all.
+// Returns the answers of the table under Output order, if the rules of the mask match. `order` is
+// the ranking of all rules of the table.
 fn in_output_order(
     alloc: Global,
     table: &Table,
@@ -264,7 +274,8 @@ fn in_output_order(
     requires ranked { order.now ≡ all_ranked table.now }
     requires few { length table.now.rules ≤ MASK_RULES }
     requires words { length mask.now ≡ 4 }
-    ensures { IfOk result (λ answers. answers ≡ lists table.now (in_priority_order table.now (rules_in (length table.now.rules) mask.now))) }
+    ensures { IfOk result (λ answers. answers ≡ lists table.now
+        (in_priority_order table.now (rules_in (length table.now.rules) mask.now))) }
 {
     let ranked = ranked_in(alloc, table, order, mask)?;
     lists_of(alloc, table, ranked.as_slice())

@@ -1,11 +1,11 @@
-//! Why a table isn't checked for gaps.
+//! The fault of a check that cannot list the gaps of a table.
 ghost use Rattle.std.specs.Prelude.{◌≡◌};
 ghost use Rattle.cutplan.specs.declared.fault.CheckFault.TheVariants.{OutOfMemory};
 
 use std::alloc::AllocError;
 use thiserror::Error;
 
-/// Why the gaps of a table aren't listed.
+/// The reason why the gaps of a table cannot be listed.
 #[derive(Clone, Copy, Debug, PartialEq, Eq, Error)]
 pub enum CheckFault {
     /// The check has more than `CELL_LIMIT` cells.

@@ -1,4 +1,5 @@
-//! The rules of a mask where they are one at most, as in most tables: no list is made of them.
+//! The number of rules in a mask, as far as it matters: most masks have one rule at most, and then
+//! no list of rules is needed.
 ghost use Rattle.std.specs.Prelude.{◌≡◌, ◌≢◌, ◌<◌, ◌≤◌, ◌++◌, ℕ, List, length, false};
 ghost use Rattle.cutplan.specs.Found.{IsFew, places_set};
 ghost use Rattle.cutplan.specs.Masks.{has_rule, rules_in};
@@ -6,17 +7,17 @@ ghost use Rattle.cutplan.specs.declared.mask.TheConstants.{MASK_RULES};
 
 use crate::mask::MASK_RULES;
 
-/// How many rules a mask has.
+/// The number of rules in a mask: none, one, or more.
 pub enum Few {
-    /// No rule.
+    /// The mask has no rule.
     None,
-    /// The rule at this place alone.
+    /// The mask has exactly the rule at this index.
     One(usize),
-    /// More than one.
+    /// The mask has more than one rule.
     More,
 }
 
-/// How many rules a mask has, which has none behind so many.
+/// Returns the number of rules in the mask, which has no rule at the index `count` or after it.
 pub fn few_of(mask: &[u64; 4], count: usize) -> Few
     requires words { length mask.now ≡ 4 }
     requires few { count ≤ MASK_RULES }
@@ -30,10 +31,12 @@ pub fn few_of(mask: &[u64; 4], count: usize) -> Few
     found
 }
 
-// How many rules there are with those of a word behind these: the places count on from the first bit's.
+// Returns the number of rules in `found` and in the word together. The lowest bit of the word has
+// the index `first`.
 fn with_word(found: Few, word: u64, first: usize) -> Few
     requires { first < MASK_RULES }
-    ensures { (width : ℕ) (before : List ℕ) → width ≡ 64 → IsFew found before → IsFew result (before ++ places_set word first width) }
+    ensures { (width : ℕ) (before : List ℕ) → width ≡ 64 → IsFew found before
+        → IsFew result (before ++ places_set word first width) }
 {
     if word == 0 {
         return found;
@@ -45,7 +48,6 @@ fn with_word(found: Few, word: u64, first: usize) -> Few
     }
 }
 
-// How many rules a word has that has some.
 fn of_word(word: u64, first: usize) -> Few
     requires some { word ≢ 0 }
     requires small { first < MASK_RULES }

@@ -1,4 +1,4 @@
-//! The rules of a table that match, found by the masks of its columns.
+//! The search for the matching rules of a table by the masks of its columns.
 ghost use Rattle.std.specs.Prelude.{◌≤◌, IfSome, length};
 ghost use Rattle.cutplan.specs.Found.{IsMatchingMask, OthersRise};
 ghost use Rattle.cutplan.specs.Kept.{AreKept, IsMaskRead};
@@ -9,8 +9,8 @@ use crate::lookup::mask_of;
 use crate::mask::{MASK_RULES, first_rules, meet};
 use dtable::{Answers, Inputs, Table, value_read};
 
-/// The rules of a table that match, where each of its inputs reads a value of its column's kind that lies in a region.
-/// These are the columns kept of it.
+/// Returns the rules of the table that match, if each of its inputs reads a value that is of its
+/// column's kind and lies in one of the regions. `columns` are the compiled columns of the table.
 pub fn matching_mask(
     given: &Inputs,
     earlier: &[Answers<'_>],
@@ -29,7 +29,7 @@ pub fn matching_mask(
     Some(mask)
 }
 
-// The mask of the region in which the value lies that the column reads.
+// Returns the mask of the region that contains the value that the column reads.
 fn mask_read<'m>(
     given: &Inputs,
     earlier: &[Answers<'_>],

@@ -1,4 +1,5 @@
-//! Gaps: cells of the check that no rule covers, and their places among the cells.
+//! The gaps of a check: the cells that no rule covers, either as cells or as indices among all
+//! cells.
 ghost use Rattle.std.specs.Prelude.{◌≡◌, ◌+◌, ◌*◌, ◌≤◌, ◌<◌, ◌^◌, ◌++◌, ◌∷◌, IfOk, OnOk, filter, map, min, length, not, [], ◌==◌, if◌then◌else◌};
 ghost use Rattle.std.specs.Bool.{OnTrue, OnFalse};
 ghost use Rattle.std.specs.List.{list_any};
@@ -14,10 +15,10 @@ use crate::region::Region;
 use dtable::{Sequence, Table};
 use std::alloc::{AllocError, Global};
 
-/// The most cells that a check has.
+/// The greatest number of cells in a check.
 pub const CELL_LIMIT: usize = 65_536;
 
-/// Whether the check of these columns has more cells than the limit.
+/// Returns whether the check of these columns has more cells than the limit.
 pub fn is_wide(columns: &[Sequence<Region>]) -> bool
     ensures wide { OnTrue result (cell_limit < length (cells columns.now)) }
     ensures narrow { OnFalse result (length (cells columns.now) ≤ cell_limit) }
@@ -25,7 +26,7 @@ pub fn is_wide(columns: &[Sequence<Region>]) -> bool
     cell_count(columns) > CELL_LIMIT
 }
 
-/// The number of cells of the columns, or one more than the limit where it is larger.
+/// Returns the number of cells of the columns, or the limit plus one if there are more.
 pub fn cell_count(columns: &[Sequence<Region>]) -> usize
     ensures { result ≡ min (length (cells columns.now)) (cell_limit + 1) }
 {
@@ -36,8 +37,9 @@ pub fn cell_count(columns: &[Sequence<Region>]) -> usize
     count
 }
 
-// Whether there is no cell, since a column has no region. Then no walk begins: one would go through each tuple of regions of
-// the columns in front of that one, and these may be any number.
+// Returns whether there is no cell, which is so if a column has no region. Such a check must not
+// start a walk, because the walk would visit every tuple of regions of the columns before that
+// column, and their number has no limit.
 fn has_no_cell(columns: &[Sequence<Region>]) -> bool
     ensures none { OnTrue result (length (cells columns.now) ≡ 0) }
     ensures some { OnFalse result (0 < length (cells columns.now)) }
@@ -45,14 +47,15 @@ fn has_no_cell(columns: &[Sequence<Region>]) -> bool
     cell_count(columns) == 0
 }
 
-// The product, or one more than the limit where it is larger.
+// Returns the product, or the limit plus one if the product is greater.
 fn capped(count: usize, factor: usize) -> usize
     ensures { result ≡ min (count * factor) (cell_limit + 1) }
 {
     count.saturating_mul(factor).min(CELL_LIMIT + 1)
 }
 
-/// The cells of the columns, in order, that no rule of the table covers. These are the masks of the columns.
+/// Returns the cells of the columns that no rule of the table covers, in order. `masks` are the
+/// masks of the columns.
 pub fn gaps(
     alloc: Global,
     table: &Table,
@@ -62,7 +65,9 @@ pub fn gaps(
     requires far { length columns.now < 2 ^ 59 }
     requires few { length table.now.rules ≤ MASK_RULES }
     requires masks { AreTableMasks table.now columns.now masks.now }
-    ensures { IfOk result (λ found. found.items ≡ filter (λ cell. not (list_any (λ r. covers r.cells cell) table.now.rules)) (cells columns.now)) }
+    ensures { IfOk result (λ found. found.items
+        ≡ filter (λ cell. not (list_any (λ r. covers r.cells cell) table.now.rules))
+        (cells columns.now)) }
 {
     if has_no_cell(columns) {
         return Ok(Vec::new(alloc));
@@ -71,7 +76,8 @@ pub fn gaps(
     uncovered(alloc, table, 0, columns, masks, &rules)
 }
 
-// The cells of the columns from a place on, in order, that none of these rules covers there. The masks are those of all
+// Returns the cells of these columns that none of the remaining `rules` covers, in order. `columns`
+// are the columns of the table from the index `place` on, and `masks` are the masks of all its
 // columns.
 fn uncovered(
     alloc: Global,
@@ -85,7 +91,9 @@ fn uncovered(
     requires few { length table.now.rules ≤ MASK_RULES }
     requires masks { HasMasksFrom table.now place columns.now masks.now }
     requires rules { AreRules (length table.now.rules) rules.now }
-    ensures { IfOk result (λ found. found.items ≡ filter (uncovered table.now place (rules_in (length table.now.rules) rules.now)) (cells columns.now)) }
+    ensures { IfOk result (λ found. found.items
+        ≡ filter (uncovered table.now place (rules_in (length table.now.rules) rules.now))
+        (cells columns.now)) }
 {
     match columns.split_first() {
         Some((regions, more)) => {
@@ -102,7 +110,7 @@ fn uncovered(
     }
 }
 
-// The cell of no column, unless there is a rule among the first so many, which covers it.
+// With no columns left, the empty cell is uncovered if no rule remains.
 fn uncovered_end(
     alloc: Global,
     count: usize,
@@ -110,7 +118,8 @@ fn uncovered_end(
 ) -> Result<Vec<Sequence<Region>>, AllocError>
     requires few { count ≤ MASK_RULES }
     requires rules { AreRules count rules.now }
-    ensures { IfOk result (λ found. found.items ≡ (if length (rules_in count rules.now) == 0 then [] ∷ [] else [])) }
+    ensures { IfOk result (λ found. found.items
+        ≡ (if length (rules_in count rules.now) == 0 then [] ∷ [] else [])) }
 {
     let mut found = Vec::new(alloc);
     if is_none(count, rules) {
@@ -119,7 +128,7 @@ fn uncovered_end(
     Ok(found)
 }
 
-// Whether the mask has no rule, of the first so many.
+// Returns whether the mask has none of the first `count` rules.
 #[tactic(auto, using(crate::proofs::Meeting::none_is))]
 fn is_none(count: usize, rules: &[u64; 4]) -> bool
     requires few { count ≤ MASK_RULES }
@@ -129,14 +138,15 @@ fn is_none(count: usize, rules: &[u64; 4]) -> bool
     (rules[0] == 0) & (rules[1] == 0) & (rules[2] == 0) & (rules[3] == 0)
 }
 
-// Appends the cells that have this region in front of these.
+// Appends these cells, each with the region put before it.
 fn put_behind(
     alloc: Global,
     region: &Region,
     behind: Vec<Sequence<Region>>,
     found: &mut Vec<Sequence<Region>>,
 ) -> Result<(), AllocError>
-    ensures { OnOk result (found.new.items ≡ found.old.items ++ map (λ cell. region.now ∷ cell) behind.items) }
+    ensures { OnOk result (found.new.items
+        ≡ found.old.items ++ map (λ cell. region.now ∷ cell) behind.items) }
 {
     for cell in behind {
         let mut whole = cell;
@@ -146,8 +156,8 @@ fn put_behind(
     Ok(())
 }
 
-/// The places of the gaps among the cells of the columns, from 0, in order; none are listed where there are more cells than
-/// the limit. These are the masks of the columns.
+/// Returns the indices of the gaps among the cells of the columns, from 0, in increasing order, or
+/// `None` if there are more cells than the limit. `masks` are the masks of the columns.
 pub fn gap_places(
     alloc: Global,
     table: &Table,
@@ -174,15 +184,17 @@ pub fn gap_places(
     Ok(Some(walk.found))
 }
 
-/// A walk over cells: the places of the gaps among those that it has passed, and how many these are.
+/// The state of a walk over the cells: the indices of the gaps so far, and the number of cells
+/// passed.
 #[derive(Drop)]
 struct Walk {
     found: Vec<u32>,
     passed: u32,
 }
 
-// Walks over the cells of the columns from a place on, in order, and finds those that none of these rules covers there. The
-// masks are those of all columns.
+// Walks over the cells of these columns, in order, and records those that none of the remaining
+// `rules` covers. `columns` are the columns of the table from the index `place` on, and `masks` are
+// the masks of all its columns.
 fn walk_cells(
     table: &Table,
     place: usize,
@@ -197,7 +209,8 @@ fn walk_cells(
     requires rules { AreRules (length table.now.rules) rules.now }
     requires room { walk.old.passed + length (cells columns.now) ≤ cell_limit }
     ensures found { OnOk result (walk.new.found.items ≡ walk.old.found.items
-        ++ places (uncovered table.now place (rules_in (length table.now.rules) rules.now)) walk.old.passed (cells columns.now)) }
+        ++ places (uncovered table.now place (rules_in (length table.now.rules) rules.now))
+        walk.old.passed (cells columns.now)) }
     ensures passed { OnOk result (walk.new.passed ≡ walk.old.passed + length (cells columns.now)) }
 {
     match columns.split_first() {
@@ -213,7 +226,7 @@ fn walk_cells(
     }
 }
 
-// Passes the cell of no column, which is a gap unless there is a rule among the first so many.
+// With no columns left, the cell is a gap if no rule remains.
 fn walk_end(count: usize, rules: &[u64; 4], walk: &mut Walk) -> Result<(), AllocError>
     requires few { count ≤ MASK_RULES }
     requires rules { AreRules count rules.now }

@@ -1,4 +1,5 @@
-//! What a compiled plan keeps of its tables' input columns: regions, and a mask for each.
+//! The compiled input columns of a plan's tables: the regions of each column, with a mask for each
+//! region.
 ghost use Rattle.std.specs.Prelude.{◌≡◌, ◌≤◌, All, IfOk, length};
 ghost use Rattle.std.specs.List.{AllZip};
 ghost use Rattle.cutplan.specs.Kept.{AreKeptColumns, IsKeptColumn};
@@ -15,7 +16,8 @@ use dtable::{Input, Origin, Plan, Sequence, Table};
 use feel_tests::Kind;
 use std::alloc::{AllocError, Global};
 
-/// What is kept of an input column: what it reads, its regions, their masks, and the keys by which they are sought.
+/// A compiled input column: the input expression, the kind of its values, the regions with their
+/// masks, and the keys for the search of a region.
 pub struct KeptColumn {
     pub origin: Origin,
     pub kind: Kind,
@@ -36,7 +38,7 @@ impl Drop for KeptColumn {
     }
 }
 
-/// What is kept of the columns of these tables of a plan, in order.
+/// Compiles the columns of these tables of a plan, in order.
 pub fn columns_of_tables(
     alloc: Global,
     plan: &Plan,
@@ -67,7 +69,6 @@ fn kept_columns(
     Ok(kept)
 }
 
-// What is kept of the column at a place, whose input this is.
 fn kept_column(
     alloc: Global,
     plan: &Plan,
@@ -91,7 +92,7 @@ fn kept_column(
     })
 }
 
-/// The masks of a table's columns.
+/// Returns the masks of the columns of a table, one for each region in `columns`.
 pub fn masks_of_columns(
     alloc: Global,
     plan: &Plan,
@@ -109,7 +110,7 @@ pub fn masks_of_columns(
     Ok(masks)
 }
 
-// The kind of the values of a table's column. Nothing rests on it but how often a cell is asked.
+// The kind affects only how often a cell is evaluated, so this function needs no contract.
 fn kind_of_column(plan: &Plan, table: &Table, column: usize) -> Kind {
     match table.inputs.as_slice().get(column) {
         Some(input) => kind_read(plan, input.origin),
@@ -117,7 +118,7 @@ fn kind_of_column(plan: &Plan, table: &Table, column: usize) -> Kind {
     }
 }
 
-// The masks of a column, whose values are of the kind, one for each of these regions.
+// Returns the masks of a column with values of the kind, one for each of these regions.
 fn masks_of_column(
     alloc: Global,
     kind: Kind,
@@ -132,7 +133,6 @@ fn masks_of_column(
     masks_by_cells(alloc, asked.as_mut_slice(), regions)
 }
 
-// The masks of regions by the rules' cells of their column.
 fn masks_by_cells(
     alloc: Global,
     asked: &mut [Asked<'_>],

@@ -1,13 +1,15 @@
-//! Short keys of a column's regions, by which they are sought.
+//! Integer keys of a column's regions, for a fast search.
 //!
-//! They only find: what is found is asked, and so nothing is promised of them.
+//! The keys only suggest a region. The suggestion is checked before it is used, so no contract
+//! mentions the keys.
 
 use crate::region::Region;
 use dtable::Sequence;
 use feel_tests::{Text, Value};
 use std::alloc::{AllocError, Global};
 
-/// The keys of a column: one for each of its regions that has a first value, in front of any other text.
+/// Returns the keys of a column, one for each of its regions that has a first value. The region of
+/// all other texts has none and is last, so a key has the index of its region.
 pub fn keys_of_regions(alloc: Global, regions: &[Region]) -> Result<Sequence<u64>, AllocError> {
     let mut keys = Sequence::new(alloc);
     for region in regions {
@@ -18,7 +20,8 @@ pub fn keys_of_regions(alloc: Global, regions: &[Region]) -> Result<Sequence<u64
     Ok(keys)
 }
 
-// The key of a region's first value; nothing where the region is any other text, or all values of its column.
+// Returns the key of the region's first value, or nothing for a region of other texts or of all
+// values.
 fn first_key(region: &Region) -> Option<u64> {
     match region {
         Region::Below(_) => Some(0),
@@ -30,7 +33,8 @@ fn first_key(region: &Region) -> Option<u64> {
     }
 }
 
-/// The key of a value: of two values of a kind the one that stands before the other has no greater one.
+/// Returns the key of the value. The keys of two values of one kind are in the order of the values,
+/// but different values may have equal keys.
 pub fn key_of(value: &Value) -> u64 {
     match value {
         Value::Number(number) => key_of_integer(number.units()),
@@ -40,12 +44,13 @@ pub fn key_of(value: &Value) -> u64 {
     }
 }
 
-/// How far an integer stands from the least one.
+/// Returns the distance of the integer from the least one.
 pub fn key_of_integer(integer: i64) -> u64 {
     integer.abs_diff(i64::MIN)
 }
 
-/// The first bytes of a text as a number: of a shorter text its bytes, and zeros behind them.
+/// Returns the first eight bytes of the text as a big-endian number. A shorter text is padded with
+/// zeros at its end.
 pub fn key_of_text(text: &Text) -> u64 {
     match text.as_bytes() {
         [
@@ -65,7 +70,7 @@ pub fn key_of_text(text: &Text) -> u64 {
     }
 }
 
-// The bytes as a number whose first byte is the highest, where they are fewer than a number's.
+// The text has fewer than eight bytes.
 fn key_of_short(bytes: &[u8]) -> u64 {
     let mut key: u64 = 0;
     let mut left: u32 = u64::BITS;

@@ -1,4 +1,5 @@
-//! The answers of tables that a plan keeps, so that a value lends them and makes none.
+//! The precomputed answers of a plan's tables. An evaluation borrows them and makes none of its
+//! own.
 ghost use Rattle.std.specs.Prelude.{◌≡◌, ◌≤◌, ◌∷◌, [], ℕ, Ok, IfOk, IfSome, find, length, map};
 ghost use Rattle.std.specs.List.{range_with_len};
 ghost use Rattle.dtable.specs.HitPolicy.{by_hit};
@@ -16,14 +17,16 @@ use dtable::{
 };
 use std::alloc::{AllocError, Global};
 
-/// What a table answers where no rule matches, and where one rule alone does, for each rule; nothing where that is a fault. And how
-/// its rules are ranked.
+/// The precomputed answers of a table. An entry is `None` if the table has a fault instead of
+/// answers.
 pub struct KeptAnswers {
+    /// The answers if no rule matches.
     pub unmatched: Option<Sequence<Answer>>,
+    /// For each rule, the answers if it is the only match.
     pub alone: Sequence<Option<Sequence<Answer>>>,
-    /// All rules in falling priority, where the policy ranks them.
+    /// All rules in decreasing priority if the hit policy ranks rules, and no rules otherwise.
     pub order: Sequence<usize>,
-    /// What each set of the rules answers, where they are few.
+    /// The answers for every subset of the rules, or nothing if the table has too many rules.
     pub sets: Sequence<Option<Sequence<Answer>>>,
 }
 
@@ -38,7 +41,7 @@ impl Drop for KeptAnswers {
     }
 }
 
-/// The kept answers of these tables, in order.
+/// Computes the answers of these tables, in order.
 pub fn answers_of_tables(
     alloc: Global,
     tables: &[Table],
@@ -63,12 +66,13 @@ fn kept_answers(alloc: Global, table: &Table) -> Result<KeptAnswers, AllocError>
     })
 }
 
-// The answers where one rule alone matches, for each rule.
+// Returns, for each rule, the answers if it is the only match.
 fn answers_alone(
     alloc: Global,
     table: &Table,
 ) -> Result<Sequence<Option<Sequence<Answer>>>, AllocError>
-    ensures { IfOk result (λ alone. alone ≡ map (λ rule. answered table.now (rule ∷ [])) (range_with_len 0 (length table.now.rules))) }
+    ensures { IfOk result (λ alone. alone ≡ map (λ rule. answered table.now (rule ∷ []))
+        (range_with_len 0 (length table.now.rules))) }
 {
     let mut alone = Sequence::new(alloc);
     for rule in 0..table.rules.len() {
@@ -77,7 +81,8 @@ fn answers_alone(
     Ok(alone)
 }
 
-/// The answers where these rules match. A table's number is told in faults alone, so that any will do.
+/// Returns the answers of the table for these matching rules, or `None` if it has a fault. Only
+/// faults contain the number of a table, so the call passes an arbitrary one.
 pub fn answered(
     alloc: Global,
     table: &Table,
@@ -95,7 +100,7 @@ pub fn answered(
     }
 }
 
-// All rules in falling priority, where the policy ranks them; none elsewhere.
+// Returns all rules in decreasing priority, or no rules if the hit policy does not rank them.
 fn ordered(alloc: Global, table: &Table) -> Result<Sequence<usize>, AllocError>
     ensures { IfOk result (λ order. order ≡ ordered table.now) }
 {
@@ -116,7 +121,9 @@ fn all_ranked(alloc: Global, table: &Table) -> Result<Sequence<usize>, AllocErro
     in_priority_order(alloc, table, all.as_slice())
 }
 
-/// The answers of a table where these rules match, which the mask has, if they are kept: a table's number is told in faults alone.
+/// Returns the precomputed answers of the table for the matching rules, if there are such answers.
+/// `rules` are the rules of the mask. The answers do not depend on the number of the table, because
+/// only faults contain it.
 pub fn lent<'k>(
     table: &Table,
     kept: &'k KeptAnswers,
@@ -127,7 +134,8 @@ pub fn lent<'k>(
     requires few { length table.now.rules ≤ MASK_RULES }
     requires words { length mask.now ≡ 4 }
     requires rules { rules.now ≡ rules_in (length table.now.rules) mask.now }
-    ensures { IfSome result (λ answers. (number : ℕ) → by_hit table.now.hit number table.now rules.now ≡ Ok answers.now) }
+    ensures { IfSome result (λ answers. (number : ℕ)
+        → by_hit table.now.hit number table.now rules.now ≡ Ok answers.now) }
 {
     let found = if rules.is_empty() {
         &kept.unmatched
@@ -141,15 +149,19 @@ pub fn lent<'k>(
     }
 }
 
-// A rule that alone answers what these do together, if there is one. The mask has them; this is the order of all.
+// Returns a rule that alone gives the same answers as all the matching rules, if there is one: the
+// only match, the first match under First, the highest match under Priority, or any match under Any
+// if all matches agree. `order` is the ranking of all rules of the table.
 fn stand_in(table: &Table, order: &[usize], mask: &[u64; 4], rules: &[usize]) -> Option<usize>
     requires order { order.now ≡ ordered table.now }
     requires few { length table.now.rules ≤ MASK_RULES }
     requires words { length mask.now ≡ 4 }
     requires rules { rules.now ≡ rules_in (length table.now.rules) mask.now }
-    ensures { IfSome result (λ rule. (number : ℕ) → by_hit table.now.hit number table.now rules.now ≡ by_hit table.now.hit number table.now (rule ∷ [])) }
+    ensures { IfSome result (λ rule. (number : ℕ)
+        → by_hit table.now.hit number table.now rules.now
+        ≡ by_hit table.now.hit number table.now (rule ∷ [])) }
 {
-    // Known from here: those of the ranked rules that the mask has stand as they would be ranked alone.
+    // proof: the ranking of all rules, restricted to the mask, is the ranking of the mask's rules
     rules_are_ranked_once();
     match rules {
         [] => None,
@@ -169,7 +181,7 @@ fn stand_in(table: &Table, order: &[usize], mask: &[u64; 4], rules: &[usize]) ->
     }
 }
 
-// The first of these rules that the mask has.
+// Returns the first rule in `order` that is in the mask.
 fn first_in(order: &[usize], mask: &[u64; 4]) -> Option<usize>
     requires { length mask.now ≡ 4 }
     ensures { result ≡ find (is_in_mask mask.now) order.now }
@@ -182,7 +194,8 @@ fn first_in(order: &[usize], mask: &[u64; 4]) -> Option<usize>
     None
 }
 
-/// Those of all rules in falling priority that the mask has.
+/// Returns the rules of the mask in decreasing priority. `order` is the ranking of all rules of the
+/// table.
 pub fn ranked_in(
     alloc: Global,
     table: &Table,
@@ -192,9 +205,10 @@ pub fn ranked_in(
     requires ranked { order.now ≡ all_ranked table.now }
     requires few { length table.now.rules ≤ MASK_RULES }
     requires words { length mask.now ≡ 4 }
-    ensures { IfOk result (λ ranked. ranked ≡ in_priority_order table.now (rules_in (length table.now.rules) mask.now)) }
+    ensures { IfOk result (λ ranked. ranked
+        ≡ in_priority_order table.now (rules_in (length table.now.rules) mask.now)) }
 {
-    // Known from here: those of the ranked rules that the mask has stand as they would be ranked alone.
+    // proof: the ranking of all rules, restricted to the mask, is the ranking of the mask's rules
     rules_are_ranked_once();
     let mut ranked = Sequence::new(alloc);
     for rule in order {

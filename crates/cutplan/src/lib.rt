@@ -1,21 +1,31 @@
-//! The check of decision tables (DMN 1.4): which inputs no rule covers, and which pairs of rules can match together; and
-//! their value by masks.
+//! The check of decision tables (DMN 1.4), and their evaluation by rule masks. The check finds
+//! gaps, which are inputs that no rule covers, and overlaps, which are pairs of rules that can
+//! match together.
 //!
-//! `compile` makes a `CutPlan`, which borrows its plan and values it as the plan does. The literals of a column cut its
-//! values into `Region`s, within which each cell holds of all values or of none; so `gaps` tries one value of each.
-//! `overlaps` lists the pairs of rules that share an allowed input. `check_table` gives both of one table, without a compiled
-//! plan: the gaps by their places among all cells, in little memory. A region's mask has the rules whose cell holds in it:
-//! the rules of a table that match are those that the masks of the regions of what it reads have all. Tables, and their
-//! answers once the rules are known, come from `dtable`, cells and values from `feel_tests`, the list of rules from `smallvec`.
-//! The columns that read a name cut its values, too: a plan's zones are the tuples of regions of its names, and inputs that lie in
-//! one zone have one value.
+//! `compile` makes a `CutPlan`, which borrows its plan and gives the same values as the plan. The
+//! literals of a column cut its values into `Region`s. Within a region, each cell of the column
+//! holds for all values or for none, so `gaps` tests only one value of each region. `overlaps`
+//! lists the pairs of rules that share an allowed input. `check_table` finds both for one table
+//! without a compiled plan. It lists each gap by its index among all cells, which needs little
+//! memory.
 //!
-//! A gap of a table that has no value where no rule matches is a fault of the plan, and so is an overlap of rules that the hit policy doesn't
-//! let match together: `specs/Violations.antt` says which these are, and `violations.rt` decides it.
+//! The mask of a region is the set of rules whose cell holds in it. The matching rules of a table
+//! are the intersection of the masks of the regions that contain the values that it reads.
 //!
-//! Begin with `specs/Regions.antt`, which says what the regions of a column are, and `specs/Check.antt`, which says what
-//! gaps and overlaps are; `specs/Masks.antt` and `specs/Found.antt` say what masks are, and what they tell, and
-//! `specs/Zones.antt` what zones are. Then read `cut_plan.rt`, whose calls carry the promises, and `law.rt`.
+//! The literals of all columns that read a name also cut the values of the name. An input class is
+//! a tuple of such regions, one for each name, and all inputs in one class have the same value.
+//!
+//! A gap of a table that has no value where no rule matches is an error of the plan, and so is an
+//! overlap of rules that the hit policy does not let match together: `specs/Violations.antt` defines
+//! both, and `violations.rt` decides them.
+//!
+//! Tables and hit policies come from `dtable`, cells and values from `feel_tests`, and the list of
+//! matching rules from `smallvec`.
+//!
+//! Begin with `specs/Regions.antt`, which defines the regions of a column, and `specs/Check.antt`,
+//! which defines gaps and overlaps. `specs/Masks.antt` defines masks, `specs/Matching.antt` the
+//! search by masks, and `specs/InputClasses.antt` input classes. Then read `cut_plan.rt`, whose
+//! functions carry the promises, and `law.rt`.
 #![tactic(auto)]
 
 mod asked;

@@ -1,4 +1,4 @@
-//! The region of a value.
+//! The search for the region that contains a value.
 ghost use Rattle.std.specs.Prelude.{◌≡◌, List, IfSome, IsTrue};
 ghost use Rattle.std.specs.Cmp.Lexicographic.{slice_cmp};
 ghost use Rattle.std.specs.List.{list_any};
@@ -17,12 +17,11 @@ use crate::region::{Region, is_among, is_in, is_less, is_value};
 use feel_tests::{Text, Value};
 use std::cmp::Ordering;
 
-/// So many keys are looked at one by one, for which a search by halves takes longer.
+/// The greatest number of keys for which a linear search is faster than a binary search.
 const FEW_KEYS: usize = 16;
 
-/// The mask of the region of a column in which the value lies, where it is of the column's kind and lies in one. The keys of
-/// the regions tell it mostly. The regions stand in rising order, so that it is sought by halves else; what is found is asked,
-/// and so nothing rests on keys and search. Any other text is in the last.
+/// Returns the mask of the region that contains the value, if the value is of the column's kind and
+/// lies in a region.
 pub fn mask_of<'c>(column: &'c KeptColumn, value: &Value) -> Option<&'c [u64; 4]>
     requires { OthersRise column.now.regions }
     ensures { IfSome result (λ mask. IsMaskOf column.now value.now mask.now) }
@@ -35,7 +34,10 @@ pub fn mask_of<'c>(column: &'c KeptColumn, value: &Value) -> Option<&'c [u64; 4]
     Some(mask)
 }
 
-/// The place of a region that has the value, if one has it.
+/// Returns the index of a region that contains the value, if there is one. The keys of the regions
+/// usually lead to it at once. Otherwise a binary search over the regions, which are in increasing
+/// order, finds it. In both cases the region found is checked before it is returned, so no proof
+/// depends on the keys or on the search.
 #[inline(always)]
 pub fn place_of(regions: &[Region], keys: &[u64], value: &Value) -> Option<usize>
     requires { OthersRise regions.now }
@@ -47,7 +49,8 @@ pub fn place_of(regions: &[Region], keys: &[u64], value: &Value) -> Option<usize
     }
 }
 
-// The same where its key tells it, or a flag stands behind the other one.
+// Returns the index that the value's key suggests, if the region there contains the value. The
+// index for a flag is the flag itself.
 fn likely_place(regions: &[Region], keys: &[u64], value: &Value) -> Option<usize>
     requires { OthersRise regions.now }
     ensures { IfSome result (λ place. IsTrue (has_at regions.now place value.now)) }
@@ -104,7 +107,8 @@ fn place_of_text(regions: &[Region], keys: &[u64], text: &Text) -> Option<usize>
     }
 }
 
-// The place of the key; the last of so many where there is none.
+// Returns the index of the key, or the last of `count` indices if there is no such key: a text that
+// is not named lies in the last region.
 fn likely(keys: &[u64], key: u64, count: usize) -> usize {
     let place = if keys.len() > FEW_KEYS {
         keys.binary_search(&key).ok()
@@ -124,7 +128,8 @@ fn has_text_at(regions: &[Region], place: usize, text: &Text) -> bool
     }
 }
 
-// Whether the text lies in the region: of other texts, by a search, since a walk over all that are named would cost most.
+// Returns whether the text lies in the region. In a region of other texts, a binary search replaces
+// the comparison with every named text.
 fn has_text(region: &Region, text: &Text) -> bool
     requires { (names : List Value) → region.now ≡ Other names → AreRisingTexts names }
     ensures { result ≡ is_in region.now (values.Text text.now) }
@@ -148,7 +153,8 @@ fn is_text(value: &Value, text: &Text) -> bool
     }
 }
 
-// The place of a number or a day, which lies in the last region whose key is not above its own, or in the only one.
+// Returns the region of a number or day, which is the last region whose key is not greater than the
+// key of the value, or the only region.
 #[inline(always)]
 fn place_up_to(regions: &[Region], keys: &[u64], key: u64, value: &Value) -> Option<usize>
     requires { OthersRise regions.now }
@@ -162,7 +168,7 @@ fn place_up_to(regions: &[Region], keys: &[u64], key: u64, value: &Value) -> Opt
     }
 }
 
-// The place of the last of rising keys that is not above this one.
+// Returns the index of the last of the sorted keys that is not greater than `key`.
 fn last_up_to(keys: &[u64], key: u64) -> usize {
     let count = if keys.len() > FEW_KEYS {
         keys.partition_point(|other| *other <= key)
@@ -172,7 +178,8 @@ fn last_up_to(keys: &[u64], key: u64) -> usize {
     count.saturating_sub(1)
 }
 
-// The place of a region that has the value, where its key does not tell it.
+// Returns the region that a binary search finds, for a value with a key that does not lead to its
+// region.
 fn place_sought(regions: &[Region], value: &Value) -> Option<usize>
     requires { OthersRise regions.now }
     ensures { IfSome result (λ place. IsTrue (has_at regions.now place value.now)) }
@@ -185,7 +192,8 @@ fn place_sought(regions: &[Region], value: &Value) -> Option<usize>
     }
 }
 
-// Where the value is to be asked for: where the search ends, or else at the last.
+// Returns the index where the search ends, or the last index if it finds nothing. The caller checks
+// the region there.
 fn sought(regions: &[Region], value: &Value) -> usize {
     match regions.binary_search_by(|region| order(region, value)) {
         Ok(place) => place,
@@ -204,7 +212,8 @@ fn has_at(regions: &[Region], place: usize, value: &Value) -> bool
     }
 }
 
-// Whether the value lies in the region: of other texts, by a search, since a walk over all that are named would cost most.
+// Returns whether the value lies in the region. In a region of other texts, a binary search
+// replaces the comparison with every named text.
 #[inline(always)]
 fn has(region: &Region, value: &Value) -> bool
     requires { (names : List Value) → region.now ≡ Other names → AreRisingTexts names }
@@ -226,7 +235,6 @@ fn is_one_of(names: &[Value], value: &Value) -> bool
     }
 }
 
-// Whether the text is one of those named.
 fn is_named(names: &[Value], text: &Text) -> bool
     requires { AreRisingTexts names.now }
     ensures { result ≡ list_any (λ name. is_equal (values.Text text.now) name) names.now }
@@ -237,7 +245,6 @@ fn is_named(names: &[Value], text: &Text) -> bool
     }
 }
 
-// How a text that is named stands to another.
 fn order_to(name: &Value, text: &Text) -> Ordering
     ensures { result ≡ slice_cmp nat_cmp (bytes_of name.now) text.now }
 {
@@ -247,7 +254,7 @@ fn order_to(name: &Value, text: &Text) -> Ordering
     }
 }
 
-// How bytes stand to others: mostly the first ones tell.
+// The first bytes are compared before the whole texts because they usually differ.
 fn order_of_bytes(one: &[u8], other: &[u8]) -> Ordering
     ensures { result ≡ slice_cmp nat_cmp one.now other.now }
 {
@@ -257,7 +264,8 @@ fn order_of_bytes(one: &[u8], other: &[u8]) -> Ordering
     }
 }
 
-// How a region stands to a value: less where it lies below. Any other text stands behind all that are named.
+// Compares a region with a value: `Less` means that the region lies below the value. The region of
+// other texts comes after all named texts.
 fn order(region: &Region, value: &Value) -> Ordering {
     match region {
         Region::Below(cut) => or_less(is_less(value, cut)),

@@ -1,4 +1,4 @@
-//! Masks: the rules of a table as 256 bits in four words.
+//! Masks: sets of the rules of a table, as 256 bits in four words.
 ghost use Rattle.std.specs.Prelude.{◌≡◌, ◌<◌, ◌≤◌, ◌==◌, ◌&&◌, ◌||◌, ◌++◌, ℕ, [], false, length, nat_lt, OnOk};
 ghost use Rattle.std.specs.Int.{bit_at};
 ghost use Rattle.cutplan.specs.Found.{places_set};
@@ -12,13 +12,14 @@ use feel_tests::Value;
 use smallvec::SmallVec;
 use std::alloc::AllocError;
 
-/// How many rules a mask has a bit for: no table has more.
+/// The number of rules that a mask has bits for. No table has more rules.
 pub const MASK_RULES: usize = 256;
 
-/// How many rules are listed without memory of their own.
+/// The number of rules that are listed without an allocation.
 pub const INLINE_RULES: usize = 8;
 
-/// The rules whose cell holds in the region, of which this is the first value: each of the cells is that of a rule.
+/// Returns the rules whose cell holds in the region. There is one `CellProbe` for each rule, and
+/// `first` is the first value of the region.
 pub fn mask_of(asked: &mut [Asked<'_>], region: &Region, first: &Option<Value>) -> [u64; 4]
     requires few { length asked.old ≤ MASK_RULES }
     requires first { first.now ≡ first_value region.now }
@@ -34,34 +35,35 @@ pub fn mask_of(asked: &mut [Asked<'_>], region: &Region, first: &Option<Value>) 
     mask
 }
 
-// Puts a rule into a mask, if it is to be there.
 fn insert_if(mask: &mut [u64; 4], place: usize, is_wanted: bool)
     requires words { length mask.old ≡ 4 }
     requires within { place < MASK_RULES }
     ensures words { length mask.new ≡ 4 }
-    ensures has { (other : ℕ) → other < 256 → has_rule mask.new other ≡ (has_rule mask.old other || (is_wanted && (other == place))) }
+    ensures has { (other : ℕ) → other < 256 → has_rule mask.new other
+        ≡ (has_rule mask.old other || (is_wanted && (other == place))) }
 {
     if is_wanted {
         insert(mask, place);
     }
 }
 
-// Puts a rule into a mask.
 fn insert(mask: &mut [u64; 4], place: usize)
     requires words { length mask.old ≡ 4 }
     requires within { place < MASK_RULES }
     ensures words { length mask.new ≡ 4 }
-    ensures has { (other : ℕ) → other < 256 → has_rule mask.new other ≡ (has_rule mask.old other || (other == place)) }
+    ensures has { (other : ℕ) → other < 256 → has_rule mask.new other
+        ≡ (has_rule mask.old other || (other == place)) }
 {
     mask[place / 64] |= 1u64 << (place % 64);
 }
 
-/// The rules that both masks have.
+/// Returns the rules that are in both masks.
 #[tactic(auto, using(crate::proofs::MaskBits::met))]
 pub fn meet(one: &[u64; 4], other: &[u64; 4]) -> [u64; 4]
     requires words { (length one.now ≡ 4) × (length other.now ≡ 4) }
     ensures words { length result ≡ 4 }
-    ensures has { (place : ℕ) → place < 256 → has_rule result place ≡ (has_rule one.now place && has_rule other.now place) }
+    ensures has { (place : ℕ) → place < 256 → has_rule result place
+        ≡ (has_rule one.now place && has_rule other.now place) }
 {
     [
         one[0] & other[0],
@@ -71,7 +73,7 @@ pub fn meet(one: &[u64; 4], other: &[u64; 4]) -> [u64; 4]
     ]
 }
 
-/// The rules of a table that has so many.
+/// Returns the mask of the first `count` rules.
 pub fn first_rules(count: usize) -> [u64; 4]
     requires { count ≤ MASK_RULES }
     ensures { Marks (λ place. nat_lt place count) result }
@@ -87,7 +89,7 @@ pub fn first_rules(count: usize) -> [u64; 4]
     ]
 }
 
-// The word of which so many of the lowest bits are set, or all.
+// Returns a word with the lowest `count` bits set, or all bits if `count` is at least 64.
 #[tactic(auto, using(crate::proofs::FirstRules::all_set, crate::proofs::FirstRules::low_set, crate::proofs::FirstRules::no_bits))]
 fn low_bits(count: usize) -> u64
     ensures { (bit : ℕ) → bit < 64 → (bit_at result bit == 1) ≡ nat_lt bit count }
@@ -101,7 +103,8 @@ fn low_bits(count: usize) -> u64
     }
 }
 
-/// Lists the rules of a mask, in order, which has none behind so many, where none is listed yet.
+/// Appends the rules of the mask to the empty list `found`, in order. The mask has no rule at the
+/// index `count` or after it.
 pub fn list_rules(
     mask: &[u64; 4],
     count: usize,
@@ -119,14 +122,15 @@ pub fn list_rules(
     Ok(())
 }
 
-// Puts the places of the bits that are set in a word behind others: the places count on from the first bit's.
+// Appends the indices of the bits that are set in the word. The lowest bit has the index `first`.
 fn push_places(
     word: u64,
     first: usize,
     found: &mut SmallVec<usize, INLINE_RULES>,
 ) -> Result<(), AllocError>
     requires { first < MASK_RULES }
-    ensures { OnOk result ((width : ℕ) → width ≡ 64 → found.new.items ≡ found.old.items ++ places_set word first width) }
+    ensures { OnOk result ((width : ℕ) → width ≡ 64 → found.new.items
+        ≡ found.old.items ++ places_set word first width) }
 {
     let mut left = word;
     'bits: while left != 0 {

@@ -1,7 +1,8 @@
 //! Overlaps: pairs of rules that share an allowed input.
 //!
-//! Of each rule, the rules that it shares a region of a column with are those of the masks that have it. So a rule is
-//! asked of each mask once, and not each pair in each region.
+//! For each rule, the masks of a column that contain it also contain all rules that share a region
+//! of that column with it. Each mask is therefore visited once for each rule, and not once for each
+//! pair of rules.
 ghost use Rattle.std.specs.Prelude.{◌≡◌, ◌+◌, ◌-◌, ◌<◌, ◌≤◌, ◌++◌, ◌∷◌, [], IfOk, IsTrue, OnOk, filter, length, if◌then◌else◌};
 ghost use Rattle.std.specs.List.{list_all};
 ghost use Rattle.cutplan.specs.Check.{pairs, pairs_with};
@@ -13,7 +14,8 @@ use crate::sharing::{has_rule, partners};
 use dtable::Sequence;
 use std::alloc::{AllocError, Global};
 
-/// The pairs of so many rules, numbered from 1, that have a mask of each column in common: the smaller first, in order.
+/// Returns the pairs of the first `count` rules that have a mask of each column in common. Rules
+/// are numbered from 1. The smaller number comes first, and the pairs are in order.
 pub fn overlaps(
     alloc: Global,
     count: usize,
@@ -21,7 +23,8 @@ pub fn overlaps(
 ) -> Result<Vec<(usize, usize)>, AllocError>
     requires few { count ≤ MASK_RULES }
     requires whole { IsTrue (list_all are_whole columns.now) }
-    ensures { IfOk result (λ found. found.items ≡ filter (λ pair. share_all columns.now (pair.0 - 1) (pair.1 - 1)) (pairs count)) }
+    ensures { IfOk result (λ found. found.items
+        ≡ filter (λ pair. share_all columns.now (pair.0 - 1) (pair.1 - 1)) (pairs count)) }
 {
     let mut found = Vec::new(alloc);
     'rules: for first in 0..count {
@@ -31,7 +34,7 @@ pub fn overlaps(
     Ok(found)
 }
 
-// The pairs whose smaller rule is the one at this place, and whose larger rule is one of the others.
+// Appends the pairs of the rule at the index `first` with each later rule in `others`.
 fn push_pairs(
     count: usize,
     first: usize,
@@ -41,7 +44,8 @@ fn push_pairs(
     requires within { first < count }
     requires few { count ≤ MASK_RULES }
     requires words { length others.now ≡ 4 }
-    ensures { OnOk result (found.new.items ≡ found.old.items ++ filter (λ pair. has_rule others.now (pair.1 - 1)) (pairs_with count (first + 1))) }
+    ensures { OnOk result (found.new.items ≡ found.old.items
+        ++ filter (λ pair. has_rule others.now (pair.1 - 1)) (pairs_with count (first + 1))) }
 {
     'seconds: for second in first + 1..count {
         push_pair(first, second, others, found)?;
@@ -49,7 +53,6 @@ fn push_pairs(
     Ok(())
 }
 
-// The pair of the rules at these places, if the second is one of the others.
 fn push_pair(
     first: usize,
     second: usize,
@@ -58,7 +61,8 @@ fn push_pair(
 ) -> Result<(), AllocError>
     requires within { (first < MASK_RULES) × (second < MASK_RULES) }
     requires words { length others.now ≡ 4 }
-    ensures { OnOk result (found.new.items ≡ found.old.items ++ (if has_rule others.now second then (first + 1, second + 1) ∷ [] else [])) }
+    ensures { OnOk result (found.new.items ≡ found.old.items
+        ++ (if has_rule others.now second then (first + 1, second + 1) ∷ [] else [])) }
 {
     if has_rule(others, second) {
         found.push((first + 1, second + 1))?;

@@ -1,4 +1,4 @@
-//! Regions: the stretches into which the literals of a column cut its values.
+//! Regions: the parts into which the literals of a column cut its values.
 ghost use Rattle.std.specs.Prelude.{◌≡◌, IfOk};
 ghost use Rattle.std.specs.List.{list_any};
 ghost use Rattle.feel_tests.specs.Holds.{is_equal, is_less};
@@ -12,19 +12,20 @@ use feel_tests::{Cell, Day, FIRST_DAY, Kind, Sequence, Value, duplicates};
 use fixpoint::{Fixed, MAX_UNITS};
 use std::alloc::{AllocError, Global};
 
-/// Some of a column's values, of which each of its cells holds alike.
+/// A set of values of a column. Within it, each cell of the column holds for all values or for
+/// none.
 pub enum Region {
     /// The numbers or days below the first cut.
     Below(Value),
-    /// The value of a cut, a text that is named, or a flag.
+    /// The value of a cut, a named text, or a flag.
     At(Value),
-    /// The numbers or days between a cut and the next.
+    /// The numbers or days between two adjacent cuts.
     Between(Value, Value),
     /// The numbers or days above the last cut.
     Above(Value),
-    /// Any other text than these, which are all that the column names, in byte order.
+    /// All texts other than these, which are the texts that the column names, in byte order.
     Other(Sequence<Value>),
-    /// All values of a column of numbers, days or texts without a cut.
+    /// All values of a column of numbers, days or texts without cuts.
     Every,
 }
 
@@ -42,7 +43,7 @@ impl Drop for Region {
 }
 
 impl Region {
-    /// A copy, whose texts are in memory of their own.
+    /// Copies the region, including its texts.
     pub fn duplicate(&self, alloc: Global) -> Result<Region, AllocError>
         ensures { IfOk result (λ copy. copy ≡ self.now) }
     {
@@ -60,7 +61,7 @@ impl Region {
     }
 }
 
-/// Whether the value lies in the region.
+/// Returns whether the value lies in the region.
 #[inline(always)]
 pub fn is_in(region: &Region, value: &Value) -> bool
     ensures { result ≡ is_in region.now value.now }
@@ -75,14 +76,14 @@ pub fn is_in(region: &Region, value: &Value) -> bool
     }
 }
 
-/// Whether the value is one of these.
+/// Returns whether the value is among these.
 pub fn is_among(names: &[Value], value: &Value) -> bool
     ensures { result ≡ list_any (λ name. is_equal value.now name) names.now }
 {
     names.iter().any(|name| value == name)
 }
 
-/// Whether the first number or day is smaller.
+/// Returns whether the first number or day is less than the second.
 #[inline(always)]
 pub fn is_less(one: &Value, other: &Value) -> bool
     ensures { result ≡ is_less one.now other.now }
@@ -94,7 +95,7 @@ pub fn is_less(one: &Value, other: &Value) -> bool
     }
 }
 
-// Whether the cell holds of the values of a region that has one.
+// Returns whether the cell holds for the values of a region that contains a value.
 pub fn holds_in(cell: &Cell, region: &Region) -> bool
     ensures { result ≡ holds_in cell.now region.now }
 {
@@ -116,7 +117,7 @@ fn holds_of(cell: &Cell, value: &Option<Value>) -> bool
     }
 }
 
-// Whether the cell holds of a value that none of its tests names.
+// Returns whether the cell holds for a value that none of its tests names.
 pub fn is_open(cell: &Cell) -> bool
     ensures { result ≡ is_open cell.now }
 {
@@ -126,7 +127,7 @@ pub fn is_open(cell: &Cell) -> bool
     }
 }
 
-// The least number or day.
+// Returns the least number or day in the range of its kind.
 pub fn least_like(value: &Value) -> Option<Value>
     ensures { result ≡ least_like value.now }
 {
@@ -137,7 +138,7 @@ pub fn least_like(value: &Value) -> Option<Value>
     }
 }
 
-// The number or day right behind, if there is one.
+// Returns the next number or day, if it is still in the range of its kind.
 pub fn next(value: &Value) -> Option<Value>
     ensures { result ≡ next value.now }
 {
@@ -168,7 +169,7 @@ fn next_day(day: Day) -> Option<Value>
     }
 }
 
-/// Whether the value is of the kind.
+/// Returns whether the value is of the kind.
 #[inline(always)]
 pub fn is_value(kind: Kind, value: &Value) -> bool
     ensures { result ≡ is_value kind value.now }
@@ -182,7 +183,7 @@ pub fn is_value(kind: Kind, value: &Value) -> bool
     }
 }
 
-// Whether the value is in the range of its kind: each is.
+// This is true of every value. The result is computed so that its contract can say it.
 pub fn is_in_range(value: &Value) -> bool
     ensures { result ≡ is_value (kind_of value.now) value.now }
 {
@@ -196,7 +197,7 @@ pub fn is_in_range(value: &Value) -> bool
 fn is_number(number: Fixed) -> bool
     ensures { result ≡ is_value kinds.Number (values.Number number) }
 {
-    // Known from here: the number is in its range.
+    // proof: the number is in its range
     let _units = number.units();
     true
 }
@@ -204,7 +205,7 @@ fn is_number(number: Fixed) -> bool
 fn is_day(day: Day) -> bool
     ensures { result ≡ is_value kinds.Day (values.Day day) }
 {
-    // Known from here: the day is in its range.
+    // proof: the day is in its range
     let _number = day.epoch_day();
     true
 }

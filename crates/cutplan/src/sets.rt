@@ -1,4 +1,5 @@
-//! The answers of each set of a table's rules, where they are few: then a mask finds what its rules answer together.
+//! The answers of a table for every subset of its rules, if it has few rules. Then a mask is the
+//! index of the answers of its rules.
 ghost use Rattle.std.specs.Prelude.{◌≡◌, ◌≤◌, ℕ, Ok, IfOk, IfSome, length};
 ghost use Rattle.dtable.specs.HitPolicy.{by_hit};
 ghost use Rattle.cutplan.specs.Lent.{answered, kept_answers, set_count, sets_of};
@@ -11,10 +12,11 @@ use crate::sharing::has_rule;
 use dtable::{Answer, Sequence, Table};
 use std::alloc::{AllocError, Global};
 
-/// How many rules are few.
+/// The greatest number of rules for which the answers of all subsets are precomputed.
 const FEW_RULES: usize = 6;
 
-/// The answers of each set of a table's rules, where they are few; none elsewhere. The set of a number has the rules of its bits.
+/// Returns the answers for every subset of the table's rules, or an empty list if the table has too
+/// many rules. The bits of a subset's index are its rules.
 pub fn answers_of_sets(
     alloc: Global,
     table: &Table,
@@ -28,14 +30,12 @@ pub fn answers_of_sets(
     Ok(sets)
 }
 
-// How many sets so many rules have, where they are few.
 fn set_count(rules: usize) -> usize
     ensures { result ≡ set_count rules }
 {
     if rules <= FEW_RULES { 1 << rules } else { 0 }
 }
 
-// The answers where the rules match that the mask has.
 fn answers_of_mask(
     alloc: Global,
     table: &Table,
@@ -43,13 +43,14 @@ fn answers_of_mask(
 ) -> Result<Option<Sequence<Answer>>, AllocError>
     requires few { length table.now.rules ≤ MASK_RULES }
     requires words { length mask.now ≡ 4 }
-    ensures { IfOk result (λ found. found ≡ answered table.now (rules_in (length table.now.rules) mask.now)) }
+    ensures { IfOk result (λ found. found
+        ≡ answered table.now (rules_in (length table.now.rules) mask.now)) }
 {
     let rules = rules_of(alloc, mask, table.rules.len())?;
     answered(alloc, table, rules.as_slice())
 }
 
-// Those of the first so many rules that the mask has.
+// Returns those of the first `count` rules that are in the mask.
 fn rules_of(alloc: Global, mask: &[u64; 4], count: usize) -> Result<Sequence<usize>, AllocError>
     requires few { count ≤ MASK_RULES }
     requires words { length mask.now ≡ 4 }
@@ -64,7 +65,9 @@ fn rules_of(alloc: Global, mask: &[u64; 4], count: usize) -> Result<Sequence<usi
     Ok(rules)
 }
 
-/// The answers of a table where the rules match that the mask has, where they are few: a table's number is told in faults alone.
+/// Returns the precomputed answers of the table for the matching rules in the mask, if the table
+/// has few rules. The answers do not depend on the number of the table, because only faults contain
+/// it.
 pub fn lent_by_set<'k>(
     table: &Table,
     kept: &'k KeptAnswers,
@@ -72,7 +75,9 @@ pub fn lent_by_set<'k>(
 ) -> Option<&'k [Answer]>
     requires kept { kept.now ≡ kept_answers table.now }
     requires words { length mask.now ≡ 4 }
-    ensures { IfSome result (λ answers. (number : ℕ) → by_hit table.now.hit number table.now (rules_in (length table.now.rules) mask.now) ≡ Ok answers.now) }
+    ensures { IfSome result (λ answers. (number : ℕ)
+        → by_hit table.now.hit number table.now (rules_in (length table.now.rules) mask.now)
+        ≡ Ok answers.now) }
 {
     let set = mask[0] as usize;
     let found = kept.sets.as_slice().get(set)?;

@@ -1,4 +1,4 @@
-//! The rules that share a region of each column, by the columns' masks.
+//! The rules that share a region of every column with a given rule.
 ghost use Rattle.std.specs.Prelude.{◌≡◌, ◌<◌, ◌&&◌, ◌||◌, ℕ, IsTrue, length};
 ghost use Rattle.std.specs.List.{list_all};
 ghost use Rattle.cutplan.specs.Masks.{has_rule, Marks};
@@ -8,7 +8,7 @@ ghost use Rattle.cutplan.specs.declared.mask.TheConstants.{MASK_RULES};
 use crate::mask::{MASK_RULES, first_rules, meet};
 use dtable::Sequence;
 
-/// The rules that share a region of each column with the rule at the place.
+/// Returns the rules that share a region of every column with the rule at this index.
 pub fn partners(columns: &[Sequence<[u64; 4]>], rule: usize) -> [u64; 4]
     requires within { rule < MASK_RULES }
     requires whole { IsTrue (list_all are_whole columns.now) }
@@ -22,7 +22,7 @@ pub fn partners(columns: &[Sequence<[u64; 4]>], rule: usize) -> [u64; 4]
     mask
 }
 
-// The rules that have one of these masks in common with the rule at the place.
+// Returns the rules that have one of these masks in common with the rule at this index.
 fn sharing(masks: &[[u64; 4]], rule: usize) -> [u64; 4]
     requires within { rule < MASK_RULES }
     requires whole { IsTrue (are_whole masks.now) }
@@ -35,12 +35,13 @@ fn sharing(masks: &[[u64; 4]], rule: usize) -> [u64; 4]
     found
 }
 
-// These rules, and those of the mask if it has the rule at the place.
+// Returns `found`, joined with the mask if the mask has the rule.
 fn with_partners(found: &[u64; 4], mask: &[u64; 4], rule: usize) -> [u64; 4]
     requires words { (length found.now ≡ 4) × (length mask.now ≡ 4) }
     requires within { rule < MASK_RULES }
     ensures words { length result ≡ 4 }
-    ensures has { (place : ℕ) → place < 256 → has_rule result place ≡ (has_rule found.now place || (has_rule mask.now rule && has_rule mask.now place)) }
+    ensures has { (place : ℕ) → place < 256 → has_rule result place
+        ≡ (has_rule found.now place || (has_rule mask.now rule && has_rule mask.now place)) }
 {
     if has_rule(mask, rule) {
         join(found, mask)
@@ -49,11 +50,11 @@ fn with_partners(found: &[u64; 4], mask: &[u64; 4], rule: usize) -> [u64; 4]
     }
 }
 
-// The rules that one of the masks has.
 fn join(one: &[u64; 4], other: &[u64; 4]) -> [u64; 4]
     requires words { (length one.now ≡ 4) × (length other.now ≡ 4) }
     ensures words { length result ≡ 4 }
-    ensures has { (place : ℕ) → place < 256 → has_rule result place ≡ (has_rule one.now place || has_rule other.now place) }
+    ensures has { (place : ℕ) → place < 256 → has_rule result place
+        ≡ (has_rule one.now place || has_rule other.now place) }
 {
     [
         one[0] | other[0],
@@ -63,7 +64,7 @@ fn join(one: &[u64; 4], other: &[u64; 4]) -> [u64; 4]
     ]
 }
 
-/// Whether the mask has the rule at the place.
+/// Returns whether the mask has the rule at this index.
 pub fn has_rule(mask: &[u64; 4], place: usize) -> bool
     requires words { length mask.now ≡ 4 }
     requires within { place < MASK_RULES }

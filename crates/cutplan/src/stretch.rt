@@ -1,4 +1,4 @@
-//! The regions that cuts make, and which of them are listed.
+//! The regions between the cuts of a column, and the selection of those that are listed.
 ghost use Rattle.std.specs.Prelude.{◌≡◌, ◌++◌, [], ◌∷◌, IfOk, OnOk, take, map, filter};
 ghost use Rattle.cutplan.specs.Regions.{stretches, ordered, named, from_cut, has_value, is_listed};
 ghost use Rattle.cutplan.specs.declared.region.Region.TheVariants.{At, Other};
@@ -13,7 +13,7 @@ use dtable::Sequence;
 use feel_tests::{Cell, Kind, Value, duplicates};
 use std::alloc::{AllocError, Global};
 
-/// All regions of a kind by the cuts, also those that hold no value.
+/// Returns all regions of the kind for these cuts, including regions that contain no value.
 pub fn stretches(
     alloc: Global,
     kind: Kind,
@@ -37,7 +37,8 @@ fn flags(alloc: Global) -> Result<Vec<Region>, AllocError>
     Ok(found)
 }
 
-// Below the first cut, the first cut, the stretch to the next, and so on; above the last.
+// The regions are the values below the first cut, each cut, the values between two adjacent cuts,
+// and the values above the last cut.
 fn ordered(alloc: Global, cuts: &[Value]) -> Result<Vec<Region>, AllocError>
     ensures { IfOk result (λ found. found.items ≡ ordered cuts.now) }
 {
@@ -52,7 +53,7 @@ fn ordered(alloc: Global, cuts: &[Value]) -> Result<Vec<Region>, AllocError>
     Ok(found)
 }
 
-// The lowest of these cuts, the stretch to the next, and so on; above the last.
+// Appends the regions from the cut `first` upwards.
 fn from_cut(
     alloc: Global,
     first: &Value,
@@ -72,7 +73,7 @@ fn from_cut(
     Ok(())
 }
 
-// One by one the texts that are named, then any other.
+// Each named text is a region, and all other texts together are the last region.
 fn named(alloc: Global, names: &[Value]) -> Result<Vec<Region>, AllocError>
     ensures { IfOk result (λ found. found.items ≡ named names.now) }
 {
@@ -88,7 +89,7 @@ fn named(alloc: Global, names: &[Value]) -> Result<Vec<Region>, AllocError>
     Ok(found)
 }
 
-/// Those regions that hold an allowed value.
+/// Returns the regions that contain an allowed value.
 pub fn listed(
     alloc: Global,
     values: &Option<Cell>,
@@ -132,7 +133,7 @@ fn has_value(region: &Region) -> bool
     }
 }
 
-// Whether there is a number or day, and it is less than the other.
+// Returns whether there is a value and it is a number or day less than `other`.
 fn is_less(one: &Option<Value>, other: &Value) -> bool
     ensures { result ≡ option_map_or (λ v. is_less v other.now) one.now false }
 {

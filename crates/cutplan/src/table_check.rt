@@ -1,4 +1,4 @@
-//! What the check of one table finds, with no more in memory than that table's regions and masks.
+//! The check of one table. Only the regions and masks of that table are in memory.
 ghost use Rattle.std.specs.Prelude.{◌≡◌, ◌≤◌, IfOk, IfErr, OnOk, length};
 ghost use Rattle.cutplan.specs.Check.{cells, gaps, overlaps};
 ghost use Rattle.cutplan.specs.Numbered.{cell_limit as CELL_LIMIT, IsTableNumber, cells_of, overlaps_of, IsWide};
@@ -15,35 +15,38 @@ use crate::region::Region;
 use dtable::{Plan, Sequence, Table};
 use std::alloc::{AllocError, Global};
 
-/// What the check of a table finds. A cell of the check is a region of each column; cells are in order column by column from
-/// the left, the last changing fastest, and count from 0.
+/// The result of the check of a table. A cell of the check is a tuple of regions, one for each
+/// column. Cells are ordered column by column from the left, so that the last column changes
+/// fastest, and are numbered from 0.
 #[derive(Drop)]
 pub struct TableCheck {
-    /// The pairs of rules that share an allowed input: the smaller first, in order, each once. Rules are numbered from 1.
+    /// The pairs of rules that share an allowed input, in order and each once. Rules are numbered
+    /// from 1, and the smaller one comes first.
     pub overlaps: Vec<(usize, usize)>,
     /// The regions of each input column.
     pub columns: Sequence<Sequence<Region>>,
-    /// The places among the cells of those that no rule covers, in order. Where the check has more than `CELL_LIMIT` cells
-    /// there is no list.
+    /// The numbers of the cells that no rule covers, in increasing order, or `None` if the check
+    /// has more than `CELL_LIMIT` cells.
     pub gaps: Option<Vec<u32>>,
 }
 
-/// Checks a table of the plan. Tables are numbered from 1.
+/// Checks a table of the plan. Tables are numbered from 1. The only error is that memory runs out.
 pub fn check_table(alloc: Global, plan: &Plan, table: usize) -> Result<TableCheck, AllocError>
     requires { IsTableNumber plan.now table }
     ensures overlaps { IfOk result (λ check. check.overlaps.items ≡ overlaps_of plan.now table) }
     ensures columns { IfOk result (λ check. check.columns ≡ regions_of plan.now table) }
-    ensures gaps { IfOk result (λ check. ArePlaces (cells_of plan.now table) (is_gap_of plan.now table) check.gaps) }
+    ensures gaps { IfOk result (λ check. ArePlaces (cells_of plan.now table)
+        (is_gap_of plan.now table) check.gaps) }
 {
     check_of(alloc, plan, &plan.tables()[table - 1])
 }
 
-// Checks a table of the plan.
 fn check_of(alloc: Global, plan: &Plan, table: &Table) -> Result<TableCheck, AllocError>
     requires { length table.now.rules ≤ MASK_RULES }
     ensures overlaps { IfOk result (λ check. check.overlaps.items ≡ overlaps plan.now table.now) }
     ensures columns { IfOk result (λ check. check.columns ≡ table_regions plan.now table.now) }
-    ensures gaps { IfOk result (λ check. ArePlaces (cells (table_regions plan.now table.now)) (is_gap table.now) check.gaps) }
+    ensures gaps { IfOk result (λ check. ArePlaces (cells (table_regions plan.now table.now))
+        (is_gap table.now) check.gaps) }
 {
     let columns = table_regions(alloc, plan, table)?;
     let masks = masks_of_columns(alloc, plan, table, columns.as_slice())?;
@@ -56,7 +59,7 @@ fn check_of(alloc: Global, plan: &Plan, table: &Table) -> Result<TableCheck, All
     })
 }
 
-/// The pairs of rules of a table that share an allowed input.
+/// Returns the pairs of rules of the table that share an allowed input.
 pub fn overlaps_of(
     alloc: Global,
     plan: &Plan,
@@ -70,7 +73,8 @@ pub fn overlaps_of(
     overlaps(alloc, table.rules.len(), masks.as_slice())
 }
 
-/// The cells of a table's check that no rule covers.
+/// Returns the cells of the table's check that no rule covers, or `TooWide` if the check has too
+/// many cells.
 pub fn gaps_of(
     alloc: Global,
     plan: &Plan,

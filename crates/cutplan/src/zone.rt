@@ -1,4 +1,5 @@
-//! The zone of what is given: in which regions of the names that tables read it lies.
+//! The input class of the inputs: the regions that contain the values of all names that tables
+//! read.
 ghost use Rattle.std.specs.Prelude.{◌≡◌, IfOk, IfSome};
 ghost use Rattle.cutplan.specs.Found.{OthersRise};
 ghost use Rattle.cutplan.specs.Zones.{AreKeptNames, IsKeptName, IsPlaceIn, IsZone, names_read, with_place};
@@ -13,8 +14,9 @@ use dtable::{Inputs, Origin, Plan, Sequence};
 use feel_tests::Kind;
 use std::alloc::{AllocError, Global};
 
-/// What is kept of a name that tables read: its place among the plan's names, the kind of its values, the regions into which all
-/// columns that read it cut them, and the keys by which these are sought.
+/// A compiled name that tables read: its index among the plan's names, the kind of its values, the
+/// regions into which the columns that read it cut its values, and the keys for the search of a
+/// region.
 pub struct KeptName {
     pub place: usize,
     pub kind: Kind,
@@ -33,7 +35,7 @@ impl Drop for KeptName {
     }
 }
 
-/// What is kept of the names that the plan's tables read, in order.
+/// Compiles the names that the plan's tables read, in order.
 pub fn kept_names(alloc: Global, plan: &Plan) -> Result<Sequence<KeptName>, AllocError>
     ensures { IfOk result (λ kept. AreKeptNames plan.now kept) }
 {
@@ -45,7 +47,6 @@ pub fn kept_names(alloc: Global, plan: &Plan) -> Result<Sequence<KeptName>, Allo
     Ok(kept)
 }
 
-// The places of the names that tables read, in order.
 fn names_read(alloc: Global, plan: &Plan) -> Result<Sequence<usize>, AllocError>
     ensures { IfOk result (λ places. places ≡ names_read plan.now) }
 {
@@ -73,8 +74,8 @@ fn kept_name(alloc: Global, plan: &Plan, place: usize) -> Result<KeptName, Alloc
     })
 }
 
-/// The zone of what is given, by the names kept of the plan, where each has a value of its kind, and the zone's number is no greater than
-/// a `u64` holds.
+/// Returns the number of the input class of the inputs. There is none if a name has no value of its
+/// kind, or if the number does not fit in a `u64`. `names` are the compiled names of the plan.
 pub fn zone_of(plan: &Plan, names: &[KeptName], given: &Inputs) -> Option<u64>
     requires { AreKeptNames plan.now names.now }
     ensures { IfSome result (IsZone plan.now given.now) }
@@ -87,14 +88,14 @@ pub fn zone_of(plan: &Plan, names: &[KeptName], given: &Inputs) -> Option<u64>
     Some(zone)
 }
 
-// The number with one place more, of so many.
+// Appends a digit to a number in mixed radix. The digit is `place`, and its radix is `count`.
 fn with_place(number: u64, count: usize, place: usize) -> Option<u64>
     ensures { IfSome result (λ next. next ≡ with_place number (count, place)) }
 {
     number.checked_mul(count as u64)?.checked_add(place as u64)
 }
 
-// The place of the region in which the value of the name lies.
+// Returns the index of the region that contains the value of the name.
 fn place_in(name: &KeptName, given: &Inputs) -> Option<usize>
     requires { OthersRise name.now.regions.items }
     ensures { IfSome result (IsPlaceIn name.now given.now) }

@@ -1,4 +1,4 @@
--- Lists that only grow at their end: the values that the worlds and the tests here put behind a lock.
+-- Lists that grow only at their end. The locks of the examples and tests protect such lists.
 use Rattle.std.specs.Prelude.{◌≡◌, ◌⊎◌, List, [], ◌∷◌, ◌++◌}
 use Rattle.std.proofs.Common.{sym, refl, ap, ◌∙◌, inl, inr, get_or, drop, append-nil, append_assoc}
 

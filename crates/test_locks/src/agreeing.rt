@@ -1,6 +1,8 @@
-//! Two callers who come to agree. Each notes its name in a list behind a `TicketLock`, in a section of its own, and knows of
-//! the list only what it saw there. Once they have met, both have seen one list, which begins with what either had seen: so
-//! both places are places of that list, and two names stand at two places, which no section alone could tell.
+//! Two callers that reach an agreement. Each one appends its name, in a critical section of its
+//! own, to a list that a `TicketLock` protects, and knows only the list that it saw there. After
+//! they have met, both have seen one list, which begins with every list that either of them had
+//! seen. Both indices are therefore indices of that list, and different names have different
+//! indices. No critical section alone could show this.
 
 ghost use Rattle.std.specs.Prelude.{◌≡◌, ◌≢◌, ◌<◌, IfSome};
 ghost use Rattle.test_locks.specs.Lists.{GoesOn, same_list, longer_list, either_list};
@@ -11,7 +13,7 @@ use std::cmp::Ordering;
 use std::sync::Wait;
 use turn_lock::{Growing, Pass, TicketLock};
 
-/// Names, in the order in which they were noted.
+/// Names, in the order in which they were added.
 #[derive(Drop)]
 pub struct Names {
     pub noted: Vec<u64>,
@@ -27,7 +29,7 @@ impl Growing for Names {
     ghost ordered = { λ x y z. either_list x.noted.items y.noted.items z.noted.items };
 }
 
-/// A caller that has seen its name at this place of the list.
+/// A caller that has seen its name at the index `place` of the list.
 #[derive(Drop)]
 pub struct Caller {
     pub pass: Pass<Names>,
@@ -36,7 +38,8 @@ pub struct Caller {
     pub ghost noted: { HasName (pass_knows pass).seen place name },
 }
 
-/// Notes the name in one section. None where no ticket or no memory is left.
+/// Appends the name to the list in one critical section. Returns `None` if no ticket is left or
+/// memory runs out.
 pub fn note<R: Wait>(
     rt: &R,
     lock: &TicketLock<Names>,
@@ -60,7 +63,8 @@ pub fn note<R: Wait>(
     }
 }
 
-/// Makes two callers meet: each keeps its name and its place, and both have seen one list.
+/// Lets two callers meet. Each one keeps its name and its index, and both have then seen the same
+/// list.
 pub fn agree(lock: &TicketLock<Names>, one: Caller, other: Caller) -> (Caller, Caller)
     requires { IsPassOf lock.now one.pass × IsPassOf lock.now other.pass }
     ensures own { IsPassOf lock.now result.0.pass × IsPassOf lock.now result.1.pass }
@@ -82,7 +86,7 @@ pub fn agree(lock: &TicketLock<Names>, one: Caller, other: Caller) -> (Caller, C
     (first, second)
 }
 
-/// The name that was noted before the other, of two callers who have agreed.
+/// Returns the name that was added first, for two callers that have agreed.
 pub fn earlier(one: &Caller, other: &Caller) -> u64
     requires agreed { (pass_knows one.now.pass).seen ≡ (pass_knows other.now.pass).seen }
     requires apart { one.now.name ≢ other.now.name }

@@ -1,5 +1,6 @@
-//! A lock that is none: each pass works on a copy of its own of the opening value. `Section` speaks of one pass at a time, so this
-//! has its clauses too; what the second of two passes finds tells it from the locks.
+//! A type that is not a lock although it satisfies the contract of `Section`: each pass works on
+//! its own copy of the initial value. The contract speaks of one pass at a time, so only the value
+//! that a second pass finds distinguishes this type from a lock.
 
 ghost use Rattle.std.specs.Prelude.{◌≡◌, ◌≤◌, ◌<◌, ℕ};
 ghost use Rattle.test_locks.specs.Counts.{same_count, later_count, either_count};
@@ -7,7 +8,7 @@ ghost use Rattle.test_locks.specs.Counts.{same_count, later_count, either_count}
 use std::sync::Wait;
 use turn_lock::{Growing, Section, Worn};
 
-/// How many visitors have come: it never falls.
+/// The number of visitors so far. It never decreases.
 #[derive(Clone, Copy, PartialEq, Eq, Debug, Drop)]
 pub struct Visitors {
     pub count: u64,
@@ -23,13 +24,13 @@ impl Growing for Visitors {
     ghost ordered = { λ x y z. either_count x.count y.count z.count };
 }
 
-/// What can be counted.
+/// A value that counts visitors.
 pub trait Counted: Growing {
-    /// So many more have come.
+    /// Adds this number of visitors.
     fn come(&mut self, visitors: u64)
         ensures { Self.leads self.old self.new };
 
-    /// How many have come.
+    /// Returns the number of visitors.
     fn count(&self) -> u64;
 }
 
@@ -43,11 +44,11 @@ impl Counted for Visitors {
     }
 }
 
-/// What would be the lock: there is nothing to share.
+/// The type in place of a lock. Its passes share nothing.
 #[derive(Drop)]
 pub struct Copies;
 
-/// A pass with its copy.
+/// A pass with its copy of the value.
 #[derive(Drop)]
 pub struct CopyPass {
     value: Visitors,
@@ -55,7 +56,7 @@ pub struct CopyPass {
     ended: u64,
 }
 
-/// A pass in its section.
+/// A pass in its critical section.
 #[derive(Drop)]
 pub struct CopyHolder {
     found: Visitors,
@@ -63,7 +64,7 @@ pub struct CopyHolder {
 }
 
 impl CopyPass {
-    /// A first pass, with its copy.
+    /// Returns the first pass, with this value as its copy.
     pub fn new(value: Visitors) -> CopyPass
         ensures { (result.value ≡ value) × (result.found ≡ value) × (result.ended ≡ 0) }
     {
@@ -151,7 +152,8 @@ impl Section for Copies {
     }
 }
 
-/// Of two passes of one split, the second locks once the first has left: whether it finds what the first left.
+/// Splits a pass. One of the two passes changes the value in a critical section, and then the other
+/// one locks. Returns whether the other one finds the value that the first one left.
 pub fn second_finds_what_the_first_left<S: Section, R: Wait>(
     rt: &R,
     lock: &S,

@@ -1,7 +1,10 @@
-//! Two small worlds over the locks, for reading beside `turn_lock`, and the locks' tests, which need a value to put behind them.
+//! Two examples of the locks, to read together with `turn_lock`, and the tests of the locks, which
+//! need a value to protect.
 //!
-//! `agreeing` is two callers of a ticket lock who meet, and what they know of each other then that no section told them.
-//! `copies` is a lock that is none, and shows which promises `Section` makes of one pass, and what only two passes can tell.
+//! `agreeing` has two callers of a ticket lock that meet. It shows what they know of each other
+//! afterwards, which no critical section alone could show them. `copies` has a type that is not a
+//! lock although it satisfies the contract of `Section`. It shows that `Section` promises only what
+//! one pass can observe, and that the rest takes two passes.
 #![tactic(auto)]
 
 mod agreeing;

@@ -1,4 +1,4 @@
-//! What the two small worlds show when they run, and the locks themselves.
+//! Tests of the two examples and of the locks.
 mod locks;
 
 use crate::{

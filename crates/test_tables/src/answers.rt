@@ -1,15 +1,15 @@
-//! What a test begins with, and what the tables of a plan answer, as text. Where a plan, its inputs, its values or their text are refused
-//! memory, they are asked for once more.
+//! The values that a test begins with, and the answers of a plan's tables as text. A call that runs
+//! out of memory for a plan, its inputs, its values or their text is repeated once.
 //!
-//! Who holds a plan, inputs or answers ends with `drop` of them: that is one call to the prover, and the end of a scope is each of their
-//! parts.
+//! A test calls `drop` for each plan, input or answer that it owns. This is one call for the
+//! prover, whereas the end of a scope drops each of their parts.
 use crate::ending::{expects, fail};
 use dtable::{Answer, Env, Fault, Inputs, Plan, PlanFault, Valuer, read_plan};
 use feel_tests::{Kind, TEXT_LIMIT_BYTES, Text, Value, read_value};
 use std::alloc::{AllocError, Global};
 use std::process::Abort;
 
-/// The plan of a text.
+/// Reads the plan of a text.
 pub fn plan_of(rt: &impl Abort, alloc: Global, text: &[u8]) -> Plan {
     match read_plan(alloc, text) {
         Ok(plan) => plan,
@@ -20,7 +20,7 @@ pub fn plan_of(rt: &impl Abort, alloc: Global, text: &[u8]) -> Plan {
     }
 }
 
-/// The inputs of a plan, none of them given.
+/// Returns the inputs of a plan, all without a value.
 pub fn inputs_of(rt: &impl Abort, alloc: Global, plan: &Plan) -> Inputs {
     match Inputs::new(alloc, plan) {
         Ok(inputs) => inputs,
@@ -28,14 +28,14 @@ pub fn inputs_of(rt: &impl Abort, alloc: Global, plan: &Plan) -> Inputs {
     }
 }
 
-/// Gives the name at the place the value that the literal spells.
+/// Sets the name at the index `place` to the value of the literal.
 pub fn give(rt: &impl Abort, alloc: Global, inputs: &mut Inputs, place: usize, literal: &str) {
     let kind = inputs.kind_at(place).expect(rt, "a name");
     let value = read_value(alloc, kind, literal).expect(rt, "a literal");
     inputs.set(place, value);
 }
 
-/// Gives the name at the place a text, over the one that stands there.
+/// Sets the name at the index `place` to a text, which replaces an earlier text.
 pub fn give_text(rt: &impl Abort, alloc: Global, inputs: &mut Inputs, place: usize, text: &str) {
     assert!(rt; text.len() <= TEXT_LIMIT_BYTES);
     let text = Text::new(alloc, text).expect(rt, "memory for a text");
@@ -48,7 +48,7 @@ pub fn give_text(rt: &impl Abort, alloc: Global, inputs: &mut Inputs, place: usi
     }
 }
 
-/// The value of the plan's tables at these inputs.
+/// Evaluates the plan's tables for these inputs.
 pub fn value_of<'a>(rt: &impl Abort, alloc: Global, plan: &'a Plan, inputs: &Inputs) -> Env<'a> {
     assert!(rt; plan.ready(inputs));
     match plan.value(alloc, inputs) {
@@ -60,7 +60,7 @@ pub fn value_of<'a>(rt: &impl Abort, alloc: Global, plan: &'a Plan, inputs: &Inp
     }
 }
 
-/// What each of these outputs answers, a line for each.
+/// Returns the answers of these outputs, one line for each.
 pub fn shown(rt: &impl Abort, alloc: Global, values: &Env, outputs: &[&str]) -> Vec<u8> {
     let mut text = Vec::new(alloc);
     if write_shown(&mut text, values, outputs).is_err() {
@@ -78,7 +78,8 @@ fn write_shown(text: &mut Vec<u8>, values: &Env, outputs: &[&str]) -> Result<(),
     Ok(())
 }
 
-/// The same, each output found by its place in the plan.
+/// Returns the answers of these outputs, one line for each. Each output is found by its place in
+/// the plan.
 pub fn shown_by_place(
     rt: &impl Abort,
     alloc: Global,
@@ -95,7 +96,7 @@ pub fn shown_by_place(
     text
 }
 
-/// These answers of a table, a line for each.
+/// Returns these answers of a table, one line for each.
 pub fn listed(rt: &impl Abort, alloc: Global, answers: &[Answer]) -> Vec<u8> {
     let mut text = Vec::new(alloc);
     for answer in answers {
@@ -105,7 +106,7 @@ pub fn listed(rt: &impl Abort, alloc: Global, answers: &[Answer]) -> Vec<u8> {
     text
 }
 
-/// The literal of a value, if there is one.
+/// Returns the literal of a value, or an empty text if there is no value.
 pub fn literal_of(rt: &impl Abort, alloc: Global, value: Option<&Value>) -> Vec<u8> {
     let mut text = Vec::new(alloc);
     if let Some(value) = value {
@@ -115,19 +116,18 @@ pub fn literal_of(rt: &impl Abort, alloc: Global, value: Option<&Value>) -> Vec<
     text
 }
 
-/// Whether a text is the one that is wanted.
 pub fn is_text(text: Vec<u8>, wanted: &str) -> bool {
     text.as_slice() == wanted.as_bytes()
 }
 
-/// An answer and the end of its line.
+/// Writes an answer and a line end.
 pub fn write_line(text: &mut Vec<u8>, answer: Option<&Answer>) -> Result<(), AllocError> {
     write_answer(text, answer)?;
     text.push(b'\n')?;
     Ok(())
 }
 
-// A literal, or the word `list` and the literals of a list.
+// Writes a literal, or the word `list` and the literals of a list.
 fn write_answer(text: &mut Vec<u8>, answer: Option<&Answer>) -> Result<(), AllocError> {
     match answer {
         Some(Answer::One(value)) => value.write_text(text),

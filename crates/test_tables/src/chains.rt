@@ -1,4 +1,5 @@
-//! Whole plans, from their texts to their values: chains of tables, lists, and want of memory.
+//! Whole plans, from their texts to their values: chains of tables, lists, and memory that runs
+//! out.
 use crate::answers::{
     give, give_text, inputs_of, is_text, literal_of, plan_of, shown, shown_by_place, value_of,
 };
@@ -14,17 +15,18 @@ use std::alloc::Global;
 use std::process::Abort;
 use test_fixtures::health_plan;
 
-/// The places of some names in the health plan.
+/// The indices of some names of the health plan.
 const BILLED: usize = 3;
 
 const CODE: usize = 4;
 
 const MET: usize = 5;
 
-/// A claim's code, the amount that is billed and what was met; then what the health plan answers for `covered`, `fee` and `note`.
+/// A claim's code, its billed amount and the deductible met, followed by the answers of the health
+/// plan for `covered`, `fee` and `note`, one for each line.
 type Claim = (&'static str, &'static str, &'static str, &'static str);
 
-/// The inputs of a claim under the health plan.
+/// Returns the inputs of a claim for the health plan.
 fn claimed(rt: &impl Abort, alloc: Global, plan: &Plan, claim: &Claim) -> Inputs {
     let mut inputs = inputs_of(rt, alloc, plan);
     give(rt, alloc, &mut inputs, CODE, claim.0);
@@ -40,7 +42,7 @@ fn outputs_of_health() -> &'static [&'static str] {
     &["covered", "fee", "note"]
 }
 
-/// The health plan answers what is wanted for the claim.
+/// Requires that the health plan has the expected answers for the claim.
 fn is_answered(rt: &impl Abort, alloc: Global, plan: &Plan, claim: &Claim) {
     let inputs = claimed(rt, alloc, plan, claim);
     let values = value_of(rt, alloc, plan, &inputs);
@@ -75,7 +77,7 @@ fn the_health_plan_has_its_values(rt: HostRuntime) {
     drop(plan);
 }
 
-/// Texts that are given one over the other, a shorter one and a longer one in turn, and their literals.
+/// Texts that replace each other in one slot, shorter and longer ones in turn, with their literals.
 fn codes() -> &'static [(&'static str, &'static str)] {
     &[
         ("LONGER", "\"LONGER\""),
@@ -118,7 +120,7 @@ fn what_a_plan_needs(rt: HostRuntime) {
     drop(plan);
 }
 
-/// A value of `x`, and what `z` answers.
+/// Values of `x`, each with the expected answer of `z`.
 fn levels() -> &'static [(&'static str, &'static str)] {
     &[
         ("1", "\"LOW\"\n"),
@@ -142,7 +144,8 @@ fn outputs_of_chain() -> &'static [&'static str] {
     &["score", "risk", "step", "note", "points", "rules"]
 }
 
-/// What the chain answers to 120: 1.5 and 2 less 0.25 is a high score, which is called about before it is mailed about.
+/// The answers of the chain for 120. The score is 1.5 plus 2 less 0.25, which is high, so the call
+/// comes before the mail.
 fn chain_answers() -> &'static str {
     "3.25\n\"HIGH\"\nlist \"CALL\" \"MAIL\"\nlist \"OVER\" \"LOOK\"\nlist 3 1\n2\n"
 }
@@ -154,8 +157,8 @@ fn is_chain_answered(rt: &impl Abort, alloc: Global, plan: &Plan, inputs: &Input
     drop(values);
 }
 
-// The gate runs it once for each of its allocations, with that one refused: the answer says so, and is the right one when it is asked for
-// once more.
+// `./check` runs this test once for each of its allocations, with that allocation refused. The
+// evaluation then reports that memory ran out, and its repetition has the right answers.
 #[test]
 fn a_chain_has_its_values_though_memory_is_refused(rt: HostRuntime) {
     let plan = plan_of(&rt, rt.alloc(), chain_plan());
@@ -166,7 +169,7 @@ fn a_chain_has_its_values_though_memory_is_refused(rt: HostRuntime) {
     drop(plan);
 }
 
-// Whether there are eight names, and `code` stands where the first field does.
+// Returns whether there are eight names and `code` is at the index of the first field.
 fn has_code(names: Sequence<InputData>) -> bool {
     match names.as_slice().get(CODE) {
         Some(data) => names.len() == 8 && data.name.as_str() == "code",

@@ -1,5 +1,5 @@
-//! The check of tables by worked examples, on its calls. Regions of each kind stand as text in cases of the built program's
-//! `check`. What is refused memory is asked for once more.
+//! The check of tables by worked examples. The texts of the regions of each kind are tested by
+//! cases of the built program's `check`. A call that runs out of memory is repeated once.
 ghost use Rattle.std.specs.Prelude.{◌≡◌};
 ghost use Rattle.cutplan.specs.Numbered.{IsTableNumber};
 
@@ -19,7 +19,7 @@ use plans::{
 use std::alloc::{AllocError, Global};
 use std::process::Abort;
 
-// The plan, made ready for its check and for values by masks.
+// Compiles the plan, even if one allocation is refused.
 fn cut_of<'p>(rt: &impl Abort, alloc: Global, plan: &'p Plan) -> CutPlan<'p>
     ensures { result ≡ plan.now }
 {
@@ -32,7 +32,7 @@ fn cut_of<'p>(rt: &impl Abort, alloc: Global, plan: &'p Plan) -> CutPlan<'p>
     cut
 }
 
-// The gaps of a plan's first table.
+// Returns the gaps of a plan's first table, even if one allocation is refused.
 fn gaps_of(alloc: Global, cut: &CutPlan) -> Result<Vec<Sequence<Region>>, CheckFault>
     requires { IsTableNumber cut.now 1 }
 {
@@ -42,7 +42,7 @@ fn gaps_of(alloc: Global, cut: &CutPlan) -> Result<Vec<Sequence<Region>>, CheckF
     }
 }
 
-// Whether this is the one pair of these rules.
+// Returns whether the list consists of this pair.
 fn is_pair(pairs: &[(usize, usize)], first: usize, second: usize) -> bool {
     match pairs {
         [pair] => pair.0 == first && pair.1 == second,
@@ -50,7 +50,7 @@ fn is_pair(pairs: &[(usize, usize)], first: usize, second: usize) -> bool {
     }
 }
 
-// The regions of cells, a line for each cell.
+// Writes the regions of cells, one line for each cell.
 fn shown(alloc: Global, cells: &[Sequence<Region>]) -> Result<Vec<u8>, AllocError> {
     let mut text = Vec::new(alloc);
     for cell in cells {
@@ -90,21 +90,21 @@ fn write_behind(text: &mut Vec<u8>, mark: &[u8], cut: &Value) -> Result<(), Allo
     cut.write_text(text)
 }
 
-/// The gaps that are wanted of a table.
+/// The expected gaps of a table.
 #[derive(Clone, Copy)]
 enum Gaps<'a> {
-    /// These, as text.
+    /// Exactly these gaps, as text.
     Shown(&'a str),
-    /// So many.
+    /// This number of gaps.
     Count(usize),
-    /// None, since the table has too many cells.
+    /// No gaps, because the table has too many cells.
     TooWide,
 }
 
 fn check_cells(rt: &impl Abort, alloc: Global, cells: &[Sequence<Region>], wanted: Gaps<'_>) {
     match wanted {
         Gaps::Shown(wanted) => expects(rt, is_text(text_of(rt, alloc, cells), wanted), wanted),
-        Gaps::Count(count) => expects(rt, cells.len() == count, "so many gaps"),
+        Gaps::Count(count) => expects(rt, cells.len() == count, "this number of gaps"),
         Gaps::TooWide => fail(rt, "too many cells"),
     }
 }
@@ -120,7 +120,6 @@ fn is_too_wide(fault: CheckFault, wanted: Gaps<'_>) -> bool {
     fault == CheckFault::TooWide && matches!(wanted, Gaps::TooWide)
 }
 
-// These are the gaps of a plan's first table.
 fn check_gaps(rt: &impl Abort, alloc: Global, cut: &CutPlan, wanted: Gaps<'_>)
     requires { IsTableNumber cut.now 1 }
 {
@@ -130,7 +129,7 @@ fn check_gaps(rt: &impl Abort, alloc: Global, cut: &CutPlan, wanted: Gaps<'_>)
     }
 }
 
-// This is the one overlap of a plan's first table, or there is none.
+// Requires that the first table has exactly this overlap, or none.
 fn check_overlaps(rt: &impl Abort, alloc: Global, cut: &CutPlan, wanted: Option<(usize, usize)>)
     requires { IsTableNumber cut.now 1 }
 {
@@ -161,7 +160,7 @@ fn check_first(
     check_overlaps(rt, alloc, &cut, overlap);
 }
 
-// Compares the gaps of the first table of the plan that the text spells, and its one overlap.
+// Requires the gaps of the first table of a plan and its only overlap, if there is one.
 fn check(
     rt: &impl Abort,
     alloc: Global,
@@ -199,7 +198,8 @@ fn named_texts_leave_no_gap(rt: HostRuntime) {
     check(&rt, rt.alloc(), allowed_codes(), Gaps::Shown(""), None);
 }
 
-// The walk over cells ends though the columns in front have more tuples of regions than could be gone through.
+// The earlier columns have too many tuples of regions to visit, so the walk over cells must not
+// start.
 #[test]
 fn a_last_column_without_a_region_leaves_no_gap(rt: HostRuntime) {
     check(
@@ -211,7 +211,7 @@ fn a_last_column_without_a_region_leaves_no_gap(rt: HostRuntime) {
     );
 }
 
-// The gate runs it once for each of its allocations, with that one refused.
+// `./check` runs this test once for each of its allocations, with that allocation refused.
 #[test]
 fn gaps_and_overlaps_are_listed_though_memory_is_refused(rt: HostRuntime) {
     let gaps = "false;\"A\";\ntrue;none of \"A\",\"B\";\n";

@@ -1,11 +1,12 @@
-//! Worked values: tables of each kind of policy, with the gap and the overlap that their two rules leave.
+//! Gaps and overlaps that are errors. For each hit policy, two rules leave a gap and an overlap.
 use crate::answers::plan_of;
 use crate::ending::expects;
 use cutplan::{is_gap_harmful, is_overlap_harmful};
 use std::alloc::Global;
 use std::process::Abort;
 
-/// One match alone may be: the entries are the same, and still the rules clash.
+/// Only one rule may match, so the overlap is an error although both entries are the same. The gap
+/// is an error because there is no default.
 fn unique() -> &'static str {
     r#"version = 1
 fields = [{name = "x", kind = "number"}]
@@ -17,7 +18,8 @@ rules = [{when = ['[1..5]'], then = ['1']}, {when = ['[5..9]'], then = ['1']}]
 "#
 }
 
-/// All matches agree, but for the second output; each output has a default.
+/// The matches must agree, and their second outputs differ. Every output has a default, so the gap
+/// is not an error.
 fn apart() -> &'static str {
     r#"version = 1
 fields = [{name = "x", kind = "number"}]
@@ -29,7 +31,7 @@ rules = [{when = ['[1..5]'], then = ['1', '2']}, {when = ['[5..9]'], then = ['1'
 "#
 }
 
-/// All matches agree; one output alone has a default.
+/// The matches agree. One output has no default, so the gap is an error.
 fn alike() -> &'static str {
     r#"version = 1
 fields = [{name = "x", kind = "number"}]
@@ -41,7 +43,7 @@ rules = [{when = ['[1..5]'], then = ['1', '2']}, {when = ['[5..9]'], then = ['1.
 "#
 }
 
-/// The first match is taken.
+/// The first match decides, so only the gap is an error.
 fn first() -> &'static str {
     r#"version = 1
 fields = [{name = "x", kind = "number"}]
@@ -53,7 +55,7 @@ rules = [{when = ['[1..5]'], then = ['1']}, {when = ['[5..9]'], then = ['2']}]
 "#
 }
 
-/// All matches are listed, and where there are none the list is empty.
+/// All matches are listed. Without a match the list is empty, so neither is an error.
 fn listed() -> &'static str {
     r#"version = 1
 fields = [{name = "x", kind = "number"}]
@@ -65,7 +67,7 @@ rules = [{when = ['[1..5]'], then = ['1']}, {when = ['[5..9]'], then = ['2']}]
 "#
 }
 
-/// The matches are added up.
+/// The matches are added up. Without a match there is no sum, so only the gap is an error.
 fn added() -> &'static str {
     r#"version = 1
 fields = [{name = "x", kind = "number"}]
@@ -77,7 +79,8 @@ rules = [{when = ['[1..5]'], then = ['1']}, {when = ['[5..9]'], then = ['2']}]
 "#
 }
 
-// Whether the gaps of a plan's first table are harmful, and the overlap of its first two rules.
+// Requires whether the gaps of a plan's first table and the overlap of its first two rules are
+// errors.
 fn check(rt: &impl Abort, alloc: Global, text: &str, gaps: bool, overlap: bool) {
     let plan = plan_of(rt, alloc, text.as_bytes());
     assert!(rt; plan.tables().len() > 0);

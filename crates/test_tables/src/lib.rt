@@ -1,5 +1,5 @@
-//! Tests by worked examples of `dtable` and `cutplan`. They stand apart from these, since the tests of a crate are proved together with
-//! all of its code.
+//! Tests of `dtable` and `cutplan` by worked examples. They form a crate of their own because the
+//! tests of a crate are proved together with all of its code.
 #![tactic(auto)]
 
 #[cfg(test)]

@@ -1,6 +1,7 @@
-//! Plans that the tests read. Each comes from a function, since a text that a test names goes into its proof whole.
+//! Plans for the tests. Each plan is returned by a function, because the whole text of a constant
+//! would become part of the proof of every test that names it.
 
-/// A plan with every key: a priority table, a sum over it, a list, and roles.
+/// A plan with every key: a priority table, a sum that reads it, a list, and roles.
 pub fn full_plan() -> &'static str {
     r#"version = 1
 fields = [{name = "age", kind = "number"}, {name = "code", kind = "text"}]
@@ -37,7 +38,7 @@ rules = [{when = ['>100', '-'], then = ['"OVER"']}]
 "#
 }
 
-/// The plan of the formats page with one table over one field.
+/// The plan of the user documentation with one table over one field.
 pub fn score_plan() -> &'static str {
     r#"version = 1
 fields = [{name = "x", kind = "number"}]
@@ -48,7 +49,7 @@ rules = [{when = ['[0..10['], then = ['1']}, {when = ['>=10'], then = ['2.5']}]
 "#
 }
 
-/// The plan of the formats page with roles alone.
+/// The plan of the user documentation with only roles.
 pub fn roles_plan() -> &'static str {
     r#"version = 1
 [roles]
@@ -61,7 +62,8 @@ oop_max = "1000"
 "#
 }
 
-/// Tables in a chain, under five policies: a sum, the risk of highest priority, and lists that read both.
+/// A chain of tables with five hit policies: a sum, the risk of the highest priority, and lists
+/// that read both.
 pub fn chain_plan() -> &'static [u8] {
     br#"version = 1
 [[tables]]

@@ -1,4 +1,5 @@
-//! The plan reader: a plan with every key, broken plans with the fault of each, and each prefix of a plan.
+//! The plan reader: a plan with every key, broken plans with their faults, and each prefix of a
+//! plan.
 use crate::answers::plan_of;
 use crate::ending::{expects, expects_at, fail};
 use crate::plans::{full_plan, roles_plan, score_plan};
@@ -14,7 +15,7 @@ fn has_name(names: &[InputData], place: usize, name: &str, kind: Kind) -> bool {
         .is_some_and(|data| data.name.as_str() == name && data.kind == kind)
 }
 
-/// Whether these are the names, in order, and no others.
+/// Returns whether these are exactly the expected names, in order.
 fn are_names(names: &[InputData], wanted: &[(&str, Kind)]) -> bool {
     let mut as_wanted = names.len() == wanted.len();
     for (place, (name, kind)) in wanted.iter().enumerate() {
@@ -27,7 +28,7 @@ fn has_names(plan: Plan, wanted: &[(&str, Kind)]) -> bool {
     are_names(plan.names(), wanted)
 }
 
-/// The names of the plan with every key, and their kinds.
+/// The names of the plan with every key, with their kinds.
 fn plan_names() -> &'static [(&'static str, Kind)] {
     &[
         ("claim", Kind::Text),
@@ -48,7 +49,7 @@ fn a_plan_has_its_names(rt: HostRuntime) {
     expects(&rt, has_names(plan, plan_names()), "the names");
 }
 
-/// A plan that keeps families, with a field, and roles alone.
+/// A plan for families that has a field and only roles.
 fn families_plan() -> &'static str {
     r#"
 version = 3
@@ -65,7 +66,7 @@ family_oop_max = "fmet"
 "#
 }
 
-/// Its names, and their kinds.
+/// The names of the plan for families, with their kinds.
 fn family_names() -> &'static [(&'static str, Kind)] {
     &[
         ("claim", Kind::Text),
@@ -106,7 +107,8 @@ fn is_input(source: &Source, wanted: usize) -> bool {
     }
 }
 
-// Whether the family's deductible is written in the plan, and its limit is what the family has met.
+// Returns whether the family's deductible is a literal of the plan and the source of its limit is
+// the family's deductible met.
 fn are_family_limits(limits: &FamilyRoles) -> bool {
     is_literal(&limits.deductible) && is_input(&limits.oop_max, 9)
 }
@@ -128,7 +130,7 @@ fn a_plan_that_keeps_families_has_their_limits(rt: HostRuntime) {
     expects(&rt, keeps_family_limits(plan), "the family's limits");
 }
 
-/// Edits of this plan.
+/// Edits of the plan for families.
 fn family_faults() -> &'static [Edit] {
     &[
         ("family_deductible = \"80\"", "", "8 0 0 8"),
@@ -205,10 +207,11 @@ fn a_plan_has_its_roles(rt: HostRuntime) {
     expects(&rt, has_full_roles(plan), "the roles");
 }
 
-/// An edit of a plan: a part of its text and what replaces it; the fault's number and place: table, rule, column.
+/// An edit of a plan: a part of its text, the replacement, and the fault as its number, table, rule
+/// and column.
 type Edit = (&'static str, &'static str, &'static str);
 
-/// The plan with the first place of a part replaced by another.
+/// Returns the plan with the first occurrence of a part replaced.
 fn edited(rt: &impl Abort, alloc: Global, plan: &str, old: &str, new: &str) -> String {
     let Some((before, after)) = plan.split_once(old) else {
         fail(rt, "the part in the plan")
@@ -216,7 +219,7 @@ fn edited(rt: &impl Abort, alloc: Global, plan: &str, old: &str, new: &str) -> S
     format!(in alloc; "{before}{new}{after}").expect(rt, "memory for a text")
 }
 
-/// The number and the place of a text's fault; nothing where it is a plan.
+/// Returns the number and the location of a text's fault, or an empty text if it is a plan.
 fn fault_of(rt: &impl Abort, alloc: Global, text: &[u8]) -> String {
     match read_plan(alloc, text) {
         Ok(plan) => {
@@ -242,7 +245,7 @@ fn is_fault(fault: String, wanted: &str) -> bool {
     fault.as_str() == wanted
 }
 
-/// Each edit spoils the plan, with its fault.
+/// Requires that each edit breaks the plan with the expected fault.
 fn are_refused(rt: &impl Abort, alloc: Global, plan: &str, edits: &[Edit]) {
     for (old, new, wanted) in edits {
         let text = edited(rt, alloc, plan, old, new);
@@ -279,7 +282,7 @@ fn faults_of_tables(rt: HostRuntime) {
     are_refused(&rt, rt.alloc(), score_plan(), table_faults());
 }
 
-/// Edits of the plan with roles alone.
+/// Edits of the plan with only roles.
 fn role_faults() -> &'static [Edit] {
     &[
         ("fee = \"5\"", "", "8 0 0 2"),
@@ -292,9 +295,10 @@ fn faults_of_roles(rt: HostRuntime) {
     are_refused(&rt, rt.alloc(), roles_plan(), role_faults());
 }
 
-/// The prefixes of the health plan that are TOML: from this length to that one, and the number and the place of the fault; nothing where
-/// the prefix is a plan. Without tables there is no value that the first role could name, and without the second one none for the
-/// last role; a table that lacks its next array is told before the roles.
+/// The prefixes of the health plan that are TOML: the least and the greatest length, and the number
+/// and location of the fault, or an empty text if the prefix is a plan. Without tables there is no
+/// value for the first role, and without the second table there is none for the last role. A table
+/// without its next array is reported before the roles.
 fn prefixes() -> &'static [(usize, usize, &'static str)] {
     &[
         (0, 0, "2 0 0 0"),
@@ -320,7 +324,7 @@ fn prefixes() -> &'static [(usize, usize, &'static str)] {
     ]
 }
 
-/// What a prefix of so many bytes is answered: every other one is no TOML.
+/// Returns the expected fault of a prefix of this length. A prefix outside the table is not TOML.
 fn answer_to(length: usize) -> &'static str {
     for (from, to, answer) in prefixes() {
         if *from <= length && length <= *to {

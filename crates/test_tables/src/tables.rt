@@ -1,4 +1,4 @@
-//! Hit policies by worked examples: what the one table of a plan answers.
+//! Hit policies by worked examples: the answers of a plan's only table.
 use crate::answers::{give, inputs_of, is_text, listed, literal_of, plan_of, shown};
 use crate::ending::{expects, fail};
 use dtable::{
@@ -8,7 +8,7 @@ use dtable::{
 use std::alloc::Global;
 use std::process::Abort;
 
-/// The place of the field `x` among the names.
+/// The index of the field `x` among the names.
 const X: usize = 4;
 
 /// The outputs of a table.
@@ -81,7 +81,8 @@ fn back() -> &'static str {
     "{when = ['-'], then = ['99999999999.9999']}, {when = ['-'], then = ['0.0001']}, {when = ['-'], then = ['-0.0001']}"
 }
 
-/// A hit policy, the table's outputs, its rules, an output's name, and what that answers where `x` is 2.
+/// A hit policy, the outputs of the table, its rules, the name of an output, and its expected
+/// answer if `x` is 2.
 type Row = (&'static str, Outputs, Rules, &'static str, &'static str);
 
 fn two_matches() -> &'static [Row] {
@@ -187,7 +188,8 @@ fn defaults() -> &'static [Row] {
     ]
 }
 
-/// The text of a plan with the field `x` and one table over it, in front of the table's hit policy, and behind it.
+/// The text of a plan with the field `x` and one table over it, up to the table's hit policy.
+/// `after_hit` is the rest.
 fn front() -> &'static str {
     "version = 1\nfields = [{name = 'x', kind = 'number'}]\n[[tables]]\nhit = '"
 }
@@ -197,8 +199,8 @@ fn behind_hit() -> &'static str {
 }
 
 fn text_over_x(rt: &impl Abort, alloc: Global, hit: &str, outputs: &str, rules: &str) -> String {
-    let (front, behind) = (front(), behind_hit());
-    let text = format!(in alloc; "{front}{hit}{behind}{outputs}]\nrules = [{rules}]\n");
+    let (front, after) = (front(), behind_hit());
+    let text = format!(in alloc; "{front}{hit}{after}{outputs}]\nrules = [{rules}]\n");
     text.expect(rt, "memory for a text")
 }
 
@@ -207,7 +209,7 @@ fn over_x(rt: &impl Abort, alloc: Global, hit: &str, outputs: &str, rules: &str)
     plan_of(rt, alloc, text.as_bytes())
 }
 
-/// What the output answers where `x` is this literal, or the fault of the tables.
+/// Returns the answer of the output if `x` is this literal, or the fault of the tables.
 pub fn told(rt: &impl Abort, alloc: Global, plan: &Plan, x: &str, output: &str) -> Vec<u8> {
     let mut inputs = inputs_of(rt, alloc, plan);
     give(rt, alloc, &mut inputs, X, x);
@@ -231,7 +233,7 @@ fn fault_text(rt: &impl Abort, alloc: Global, fault: Fault) -> Vec<u8> {
     told.into_bytes()
 }
 
-/// A table answers what its row says.
+/// Requires that a table has the answer of its row.
 fn is_answered(rt: &impl Abort, alloc: Global, x: &str, row: &Row) {
     let (hit, outputs, rules, output, wanted) = row;
     let plan = over_x(rt, alloc, hit, outputs.text(), rules.text());
@@ -272,7 +274,7 @@ fn values_outside_and_defaults(rt: HostRuntime) {
     are_answered(&rt, rt.alloc(), defaults());
 }
 
-// The literal of what the first input of a plan's first table reads.
+// Returns the literal of the value that the first input of a plan's first table reads.
 fn first_read(
     rt: &impl Abort,
     alloc: Global,
@@ -289,12 +291,12 @@ fn first_read(
     literal_of(rt, alloc, value_read(inputs, earlier, input.origin))
 }
 
-/// A plan whose one table has two rules that match 2, of which the first one answers.
+/// Returns a plan with one table, in which two rules match 2 and the first one decides.
 fn first_of_two(rt: &impl Abort, alloc: Global) -> Plan {
     over_x(rt, alloc, "F", Outputs::Number.text(), Rules::Other.text())
 }
 
-/// Where the rules match 2, the table answers the number of the first; where the second is all that matches, its number.
+/// Requires that the table answers for the rules that match 2, the first of which decides.
 fn is_answered_for_matches(rt: &impl Abort, alloc: Global, inputs: &Inputs, plan: &Plan) {
     let earlier = AnswersByTable::new(alloc);
     let read = first_read(rt, alloc, plan, inputs, earlier.as_slice());

@@ -1,4 +1,4 @@
-//! The locks' worked values, and threads that append through each lock.
+//! Worked examples of the locks, and threads that append through each lock.
 
 ghost use Rattle.std.specs.Prelude.{◌≡◌, ◌<◌, IfOk};
 ghost use Rattle.test_locks.specs.Lists.{GoesOn, same_list, longer_list, either_list};
@@ -21,7 +21,7 @@ struct Entry {
     number: u64,
 }
 
-/// A list that grows at its end.
+/// A list that grows only at its end.
 #[derive(Drop)]
 struct Entries {
     items: Vec<Entry>,
@@ -46,7 +46,7 @@ impl Entries {
 }
 
 trait Book: Growing {
-    // False where there is no memory.
+    // Returns false if memory runs out.
     fn append(&mut self, entry: Entry) -> bool
         ensures { Self.leads self.old self.new };
 
@@ -63,7 +63,7 @@ impl Book for Entries {
     }
 }
 
-// A spin lock behind which nothing was appended. What is refused memory is asked for once more.
+// Makes a spin lock that protects an empty list. The call is repeated if one allocation is refused.
 fn spin_lock(rt: &impl Abort, alloc: Global) -> (SpinLock<Entries>, SpinPass<Entries>)
     ensures { IsSpinPassOf result.0 result.1 }
 {
@@ -82,7 +82,7 @@ fn ticket_lock(rt: &impl Abort, alloc: Global) -> (TicketLock<Entries>, Pass<Ent
     }
 }
 
-// A ticket lock whose first ticket is this one.
+// Makes a ticket lock with `first` as its first ticket.
 fn ticket_lock_at(
     rt: &impl Abort,
     alloc: Global,
@@ -98,7 +98,8 @@ fn line(number: u64) -> Entry {
     Entry { thread: 0, number }
 }
 
-// The second pass draws the ticket at which the first has looked, and the first the next one.
+// The second pass draws the ticket that the first pass has looked at, so the first pass draws the
+// next one.
 fn draw_both(
     rt: &impl Abort,
     lock: &TicketLock<Entries>,
@@ -127,7 +128,8 @@ fn draw_both(
     (a, b)
 }
 
-// Whose ticket comes first finds nothing and appends an entry, which the other finds.
+// The pass with the first ticket finds an empty list and appends an entry, which the other pass
+// finds.
 fn serve_both<R: Wait + Abort>(
     rt: &R,
     lock: &TicketLock<Entries>,
@@ -169,7 +171,7 @@ fn spin_lock_gives_the_value_left(rt: HostRuntime) {
     assert!(rt; value.entries() == [line(7)].as_slice());
 }
 
-// A look answers `Worn`, and the pass comes back.
+// A look must fail with `Worn` and return the pass.
 fn look_worn(rt: &impl Abort, lock: &TicketLock<Entries>, pass: Pass<Entries>) -> Pass<Entries>
     requires { IsPassOf lock.now pass }
     ensures { IsPassOf lock.now result }
@@ -180,7 +182,7 @@ fn look_worn(rt: &impl Abort, lock: &TicketLock<Entries>, pass: Pass<Entries>) -
     pass
 }
 
-// Each call that would draw a ticket answers `Worn`, and the pass comes back.
+// Each call that would draw a ticket must fail with `Worn` and return the pass.
 fn refused<R: Wait + Abort>(
     rt: &R,
     lock: &TicketLock<Entries>,
@@ -236,11 +238,11 @@ fn draw_the_second_ticket(rt: &impl Abort, lock: &TicketLock<Entries>, pass: Pas
     requires { IsPassOf lock.now pass }
 {
     let Ok(looked) = lock.look(pass) else {
-        panic!(rt; "no look behind a retired holder");
+        panic!(rt; "no look after a retired holder");
     };
     assert!(rt; looked.next() == 1);
     let Ok(drawn) = lock.draw(looked) else {
-        panic!(rt; "no ticket behind a retired holder");
+        panic!(rt; "no ticket after a retired holder");
     };
     assert!(rt; drawn.ticket() == 1);
 }
@@ -275,7 +277,7 @@ fn locks_are_made_though_memory_is_refused(rt: HostRuntime) {
     make_a_ticket_lock(&rt, rt.alloc());
 }
 
-// One section for each entry of a thread.
+// Appends each entry of the thread in a critical section of its own.
 fn append_all<S: Section, R: Wait>(
     rt: &R,
     lock: &S,
@@ -299,7 +301,7 @@ where
     Ok(pass)
 }
 
-// The caller is the first of the threads. Its pass comes back.
+// The calling thread is the first of the threads. Its pass is returned.
 fn append_by_threads<S: Section + Sync, R: Threads + Wait + Sync>(
     rt: &R,
     lock: &S,
@@ -334,7 +336,7 @@ where
     )
 }
 
-// What the threads have left, once all have returned.
+// Returns the value after all threads have returned.
 fn left_by_threads<S: Section + Sync, R: Threads + Wait + Sync>(
     rt: &R,
     lock: &S,
@@ -357,7 +359,7 @@ where
     }
 }
 
-// Each thread's entries stand in its order, once each.
+// Requires that each thread's entries are in its order, once each.
 fn assert_each_in_order<A: Abort>(rt: &A, entries: &[Entry], threads: u64, count: u64) {
     for thread in 0..threads {
         let mut number = 0;
@@ -422,7 +424,8 @@ fn each_law_is_called(_rt: HostRuntime) {
     turn_lock::tickets_come_once::<Entries>(0);
 }
 
-// One section, which finds so many entries, and in which this one is appended, if there is one.
+// Runs one critical section, which must find `expected` entries, and appends the entry if there is
+// one.
 fn in_section<R: Wait + Abort>(
     rt: &R,
     lock: &TicketLock<Entries>,
@@ -443,7 +446,8 @@ fn in_section<R: Wait + Abort>(
     lock.leave(holding, value)
 }
 
-// Meets, of which the caller asks only that both passes come back.
+// The contract is weaker than that of `TicketLock::meet`, because the callers need only that both
+// passes belong to the lock.
 fn meet(
     lock: &TicketLock<Entries>,
     one: Pass<Entries>,
@@ -455,7 +459,8 @@ fn meet(
     lock.meet(one, other)
 }
 
-// Gives one pass of both, behind three sections.
+// Runs three critical sections, with one meeting after the first section and one after the last,
+// and returns one of the passes.
 fn meet_between_sections<R: Wait + Abort>(
     rt: &R,
     lock: &TicketLock<Entries>,
@@ -492,7 +497,7 @@ fn two_passes_meet(rt: HostRuntime) {
     find_both(&rt, &lock, pass);
 }
 
-// Uses the last ticket, of which the pass knows then.
+// Draws the last ticket. The pass then knows that the lock is worn.
 fn use_last<R: Wait + Abort>(
     rt: &R,
     lock: &TicketLock<Entries>,
@@ -509,7 +514,8 @@ fn use_last<R: Wait + Abort>(
     lock.leave(holding, value)
 }
 
-// A worn pass meets two that aren't: the one as the first of the two that meet, the other as the second. All three are worn then.
+// A worn pass meets two passes that are not worn, once as the first argument and once as the
+// second. Afterwards all three are worn.
 fn meet_worn(
     lock: &TicketLock<Entries>,
     worn: Pass<Entries>,
@@ -518,7 +524,8 @@ fn meet_worn(
     requires own { IsPassOf lock.now worn × IsPassOf lock.now fresh }
     requires worn { IsWornPass worn }
     requires fresh { (pass_knows fresh).next < last_word }
-    ensures own { IsPassOf lock.now result.0 × IsPassOf lock.now result.1 × IsPassOf lock.now result.2 }
+    ensures own { IsPassOf lock.now result.0 × IsPassOf lock.now result.1
+        × IsPassOf lock.now result.2 }
     ensures worn { IsWornPass result.0 × IsWornPass result.1 × IsWornPass result.2 }
 {
     let (one, other) = lock.split(fresh);

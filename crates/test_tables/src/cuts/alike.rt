@@ -1,5 +1,5 @@
-//! A plan and its cut plan answer alike: at each cut, one unit below and above it, at each text that is named, and at one
-//! that isn't.
+//! A plan and its compiled plan have the same answers: at each cut, one unit below and above it, at
+//! each named text, and at a text that is not named.
 ghost use Rattle.std.specs.Prelude.{◌≡◌, IsTrue};
 ghost use Rattle.cutplan.specs.Masks.{IsColumnNumber};
 ghost use Rattle.cutplan.specs.Numbered.{IsTableNumber};
@@ -17,18 +17,18 @@ use std::alloc::{AllocError, Global};
 use std::process::Abort;
 use test_fixtures::health_plan;
 
-/// The place of the first field among the names.
+/// The index of the first field among the names.
 const FIRST: usize = 4;
 
 /// Literals of a field.
 type Literals = &'static [&'static str];
 
-/// No literal, for a plan that has no second field.
+/// No literals, for a plan without a second field.
 fn none() -> Literals {
     &[""]
 }
 
-/// The places of the amount billed and of what was met among its names.
+/// The indices of the billed amount and of the deductible met among the names of the health plan.
 const BILLED: usize = 3;
 
 const MET: usize = 5;
@@ -48,13 +48,15 @@ fn remark_amounts() -> &'static [(&'static str, &'static str)] {
     ]
 }
 
-/// What the plan's outputs answer at these values, each with its place, or the fault, as text.
+/// Returns the answers of the plan's outputs, or the fault, as text. Each of the given values has
+/// the index of its name.
 fn told<V: Valuer>(rt: &impl Abort, alloc: Global, valuer: &V, given: &[(usize, &str)]) -> Vec<u8> {
     let inputs = inputs_with(rt, alloc, valuer.plan(), given);
     told_at(rt, alloc, valuer, &inputs)
 }
 
-// The inputs of the plan with these values, each with its place; an empty literal gives none.
+// Returns the inputs of the plan with these values, each with the index of its name. An empty
+// literal sets no value.
 fn inputs_with(rt: &impl Abort, alloc: Global, plan: &Plan, given: &[(usize, &str)]) -> Inputs {
     let mut inputs = inputs_of(rt, alloc, plan);
     for (place, literal) in given {
@@ -90,7 +92,7 @@ fn write_answers(text: &mut Vec<u8>, plan: &Plan, values: &Env) -> Result<(), Al
     Ok(())
 }
 
-/// The plan and its cut plan answer alike at these values.
+/// Requires that a plan and its compiled plan have the same answers for these values.
 fn check_at(rt: &impl Abort, alloc: Global, plan: &Plan, cut: &CutPlan, given: &[(usize, &str)]) {
     let plain = told(rt, alloc, plan, given);
     let by_masks = told(rt, alloc, cut, given);
@@ -101,7 +103,7 @@ fn is_same(text: Vec<u8>, other: Vec<u8>) -> bool {
     text.as_slice() == other.as_slice()
 }
 
-/// A plan and its cut plan answer alike at each of these literals of its first field and of its second.
+/// Requires the same answers for each of these literals of the first field and each of the second.
 fn check_each(
     rt: &impl Abort,
     alloc: Global,
@@ -117,20 +119,22 @@ fn check_each(
     }
 }
 
-/// What is tried of a plan and its cut plan. One function holds the plan for all, since each that does costs the proof long.
+/// A test of a plan and its compiled plan. Only one function owns the plan, because each owner of a
+/// plan makes the proof much longer.
 #[derive(Clone, Copy)]
 enum Tried<'a> {
-    /// They answer alike at each of these literals of the first field and of the second.
+    /// The answers are the same for each of these literals of the first field and each of the
+    /// second.
     Alike(&'a [&'a str], &'a [&'a str]),
-    /// The masks tell which rules match at each of these literals of the first field.
+    /// The masks have the matching rules for each of these literals of the first field.
     Told(&'a [&'a str]),
-    /// The cut plan answers so at this literal of the first field.
+    /// The compiled plan has this answer for this literal of the first field.
     Answer(&'a str, &'a str),
-    /// They answer alike at each code and amount of the health plan.
+    /// The answers are the same for each code and amount of the health plan.
     Remarks,
-    /// The masks of the one column of two rules begin with these words.
+    /// The masks of the only column of two rules begin with these words.
     Masks(&'a [u64]),
-    /// These literals of the first field and of the second lie in these zones.
+    /// These literals of the first field and of the second lie in these input classes.
     Zones(&'a [(&'a str, &'a str, Option<u64>)]),
 }
 
@@ -151,7 +155,8 @@ fn try_plan(rt: &impl Abort, alloc: Global, text: &[u8], tried: Tried<'_>) {
     try_cut(rt, alloc, &plan, tried);
 }
 
-/// The plan that the text spells and its cut plan answer alike at these literals.
+/// Requires that the plan of the text and its compiled plan have the same answers for these
+/// literals.
 fn check(rt: &impl Abort, alloc: Global, text: &[u8], firsts: &[&str], seconds: &[&str]) {
     try_plan(rt, alloc, text, Tried::Alike(firsts, seconds));
 }
@@ -288,7 +293,8 @@ fn stretches_side_by_side_are_valued_alike(rt: HostRuntime) {
     check(&rt, rt.alloc(), stretches(), around_stretches(), none());
 }
 
-/// The health plan and its cut plan answer alike at each code and amount.
+/// Requires that the health plan and its compiled plan have the same answers for each code and
+/// amount.
 fn check_remarks(rt: &impl Abort, alloc: Global, plan: &Plan, cut: &CutPlan) {
     for code in remark_codes() {
         for (billed, met) in remark_amounts() {
@@ -303,7 +309,7 @@ fn remarks_are_valued_alike(rt: HostRuntime) {
     try_plan(&rt, rt.alloc(), health_plan().as_bytes(), Tried::Remarks);
 }
 
-/// The masks of each table tell which rules match.
+/// Requires that the masks of each table have the matching rules.
 fn check_told(rt: &impl Abort, alloc: Global, plan: &Plan, cut: &CutPlan, literal: &str)
     requires { cut.now ≡ plan.now }
 {
@@ -337,7 +343,7 @@ fn masks_tell_of_allowed_values(rt: HostRuntime) {
     try_plan(&rt, rt.alloc(), days(), Tried::Told(around_days()));
 }
 
-// The first words of the masks are these.
+// Returns whether the masks begin with these words.
 fn have_first_words(masks: &[[u64; 4]], words: &[u64]) -> bool {
     masks.len() == words.len() && masks.iter().zip(words).all(|(mask, word)| mask[0] == *word)
 }
@@ -382,7 +388,7 @@ fn check_zones(
     }
 }
 
-// The flag has two regions. The code has three, of which any other text is the last.
+// The flag has two regions. The code has three, and the last one has all other texts.
 fn zones_of_flag_and_code() -> &'static [(&'static str, &'static str, Option<u64>)] {
     &[
         ("false", "\"A\"", Some(0)),
@@ -394,7 +400,7 @@ fn zones_of_flag_and_code() -> &'static [(&'static str, &'static str, Option<u64
     ]
 }
 
-// Both tables cut the one field, at 1, 2, 2.5 and 3.
+// Both tables cut the only field, at 1, 2, 2.5 and 3.
 fn zones_of_chain() -> &'static [(&'static str, &'static str, Option<u64>)] {
     &[
         ("-7", "", Some(0)),

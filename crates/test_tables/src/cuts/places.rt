@@ -1,4 +1,4 @@
-//! The check of one table, its gaps by their places.
+//! The check of one table, with its gaps as indices.
 use super::plans::{
     apart, at_five, flag_and_code, no_region_behind_ten_columns, seventeen_regions, sixteen_regions,
 };
@@ -9,7 +9,7 @@ use dtable::Plan;
 use std::alloc::Global;
 use std::process::Abort;
 
-// The check of a plan's first table.
+// Checks a plan's first table, even if one allocation is refused.
 fn check(rt: &impl Abort, alloc: Global, text: &[u8]) -> TableCheck {
     let plan = plan_of(rt, alloc, text);
     check_first(rt, alloc, &plan)
@@ -23,7 +23,7 @@ fn check_first(rt: &impl Abort, alloc: Global, plan: &Plan) -> TableCheck {
     }
 }
 
-// The places of the gaps are these.
+// Returns whether the gaps have exactly these indices.
 fn are_places(check: &TableCheck, places: &[u32]) -> bool {
     match &check.gaps {
         Some(gaps) => gaps.as_slice() == places,
@@ -31,12 +31,12 @@ fn are_places(check: &TableCheck, places: &[u32]) -> bool {
     }
 }
 
-// The gaps are at these places of so many cells.
+// Returns whether the gaps have exactly these indices and the check has `count` cells.
 fn has_gaps(check: TableCheck, places: &[u32], count: usize) -> bool {
     are_places(&check, places) && cell_count(check.columns.as_slice()) == count
 }
 
-// The gaps are at these places, and this is the one overlap.
+// Returns whether the gaps have exactly these indices and there is exactly this overlap.
 fn has_gaps_and_pair(check: TableCheck, places: &[u32], first: usize, second: usize) -> bool {
     are_places(&check, places) && is_pair(check.overlaps.as_slice(), first, second)
 }
@@ -50,7 +50,7 @@ fn gaps_of_a_column_at_their_places(rt: HostRuntime) {
     expects(&rt, same, "no gap and one overlap");
 }
 
-// How many gaps a plan's first table has; none where it has too many cells.
+// Returns the number of gaps of a plan's first table, or `None` if it has too many cells.
 fn gap_count(rt: &impl Abort, alloc: Global, text: &[u8]) -> Option<usize> {
     let found = check(rt, alloc, text);
     found.gaps.as_ref().map(|gaps| gaps.len())
@@ -59,12 +59,13 @@ fn gap_count(rt: &impl Abort, alloc: Global, text: &[u8]) -> Option<usize> {
 #[test]
 fn as_many_cells_as_may_be_and_more(rt: HostRuntime) {
     let as_many = gap_count(&rt, rt.alloc(), sixteen_regions());
-    expects(&rt, as_many == Some(61_440), "as many gaps");
+    expects(&rt, as_many == Some(61_440), "this number of gaps");
     let more = gap_count(&rt, rt.alloc(), seventeen_regions());
     expects(&rt, more.is_none(), "no list of gaps");
 }
 
-// The check ends though the columns in front have more tuples of regions than could be gone through.
+// The earlier columns have too many tuples of regions to visit, so the walk over cells must not
+// start.
 #[test]
 fn a_last_column_without_a_region_leaves_no_cell(rt: HostRuntime) {
     let found = check(&rt, rt.alloc(), no_region_behind_ten_columns());
@@ -72,7 +73,7 @@ fn a_last_column_without_a_region_leaves_no_cell(rt: HostRuntime) {
     expects(&rt, has_gaps(found, &[], 0), "no cell and no gap");
 }
 
-// The gate runs it once for each of its allocations, with that one refused.
+// `./check` runs this test once for each of its allocations, with that allocation refused.
 #[test]
 fn a_table_is_checked_though_memory_is_refused(rt: HostRuntime) {
     let found = check(&rt, rt.alloc(), flag_and_code());

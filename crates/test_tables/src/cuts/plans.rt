@@ -1,6 +1,7 @@
-//! Plans that the tests read. Each comes from a function, since a text that a test names goes into its proof whole.
+//! Plans for the tests. Each plan is returned by a function, because the whole text of a constant
+//! would become part of the proof of every test that names it.
 
-/// Two stretches of numbers, with 1 between them.
+/// Two ranges of numbers, with 1 between them.
 pub fn apart() -> &'static [u8] {
     br#"version = 1
 fields = [{name = "x", kind = "number"}]
@@ -15,7 +16,7 @@ rules = [
 "#
 }
 
-/// Two stretches of numbers that both have 5.
+/// Two ranges of numbers that both contain 5.
 pub fn at_five() -> &'static [u8] {
     br#"version = 1
 fields = [{name = "x", kind = "number"}]
@@ -45,7 +46,7 @@ rules = [
 "#
 }
 
-/// Two texts, and no others are allowed.
+/// Two texts, which are the only allowed values.
 pub fn allowed_codes() -> &'static [u8] {
     br#"version = 1
 fields = [{name = "x", kind = "text"}]
@@ -60,7 +61,7 @@ rules = [
 "#
 }
 
-/// One rule over four columns of 16 regions: no number lies between 1 and 1.0001.
+/// One rule over four columns of 16 regions. No number lies between 1 and 1.0001.
 pub fn sixteen_regions() -> &'static [u8] {
     br#"version = 1
 fields = [{name = "x", kind = "number"}]
@@ -88,7 +89,7 @@ rules = [
 "#
 }
 
-/// Two rules that are alike, over ten columns of 17 regions and one whose allowed values are none.
+/// Two equal rules over ten columns of 17 regions and one column without allowed values.
 pub fn no_region_behind_ten_columns() -> &'static [u8] {
     br#"version = 1
 fields = [{name = "x", kind = "number"}]
@@ -115,7 +116,7 @@ rules = [
 "#
 }
 
-/// Three rules, of which the first and the last hold of 2.
+/// Three rules, of which the first and the last hold for 2.
 pub fn three_rules() -> &'static [u8] {
     br#"version = 1
 fields = [{name = "x", kind = "number"}]
@@ -147,7 +148,8 @@ rules = [
 "#
 }
 
-/// Two stretches of days, the first day of all, and a default on the last day.
+/// Two ranges of days, a rule for the first day of all, and a default for the other days, such as
+/// the last one.
 pub fn days() -> &'static [u8] {
     br#"version = 1
 fields = [{name = "x", kind = "day"}]
@@ -163,7 +165,7 @@ rules = [
 "#
 }
 
-/// Two tables, of which the second reads the first, counts and has a limit.
+/// Two tables. The second one reads the first, counts its matches and has a limit.
 pub fn chain() -> &'static [u8] {
     br#"version = 1
 fields = [{name = "x", kind = "number"}]
@@ -187,7 +189,8 @@ rules = [
 "#
 }
 
-/// Three tables that take the highest of their matches, list them in falling priority, and have them agree.
+/// Three tables: one takes the highest match, one lists the matches in decreasing priority, and one
+/// requires that they agree.
 pub fn ranked() -> &'static [u8] {
     br#"version = 1
 fields = [{name = "x", kind = "number"}]
@@ -209,7 +212,7 @@ rules = [{when = ['>=1'], then = ['1']}, {when = ['>=2'], then = ['1']}, {when =
 "#
 }
 
-/// Two stretches of numbers side by side.
+/// Two adjacent ranges of numbers.
 pub fn stretches() -> &'static [u8] {
     br#"version = 1
 fields = [{name = "x", kind = "number"}]

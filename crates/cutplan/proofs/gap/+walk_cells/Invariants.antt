@@ -9,7 +9,7 @@ use Rattle.cutplan.proofs.gap.+walk_cells.Given as goal
 abbrev pub decreases-walk_cells : goal.decreases-walk_cells
 decreases-walk_cells l = length l.columns.now
 
--- the cells of the regions so far
+-- the cells of the first regions
 abbrev pub invariant-loop-at : goal.invariant-loop-at
 invariant-loop-at l = record {
   found : l.walk.found.items ≡ l.initial.walk.found.items
