@@ -1,8 +1,10 @@
-//! How far the intakes of a run are ahead of its workers: a hint, as whose turn it is.
+//! The backlog of a run: the number of claims by which the intake threads are ahead of the workers.
+//! Like the turns it is only a hint.
 //!
-//! Reading a file is quicker than deciding its claims, and a claim that waits takes several times the memory of a decided one. So an
-//! intake that is far ahead sleeps. The counts are no part of what is proved: a run on a gate that others call too may count wrongly,
-//! and then waits too long or not at all, with a bound on each wait.
+//! Reading a file is faster than deciding its claims, and a waiting claim takes several times the
+//! memory of a decided one. So an intake thread that is far ahead sleeps. The proofs do not depend
+//! on the counts: they may be wrong if other callers use the same gate, and then an intake thread
+//! sleeps for too long or not at all. Every wait is bounded.
 
 use std::sync::Wait;
 use std::sync::atomic::{AtomicU64, Ordering};
@@ -11,31 +13,35 @@ use std::time::Duration;
 #[cfg(test)]
 mod tests;
 
-/// So many claims may wait before an intake sleeps: some turns of several workers, and a few megabytes.
+/// The number of waiting claims above which an intake thread sleeps: a few turns of several
+/// workers, and a few megabytes.
 const CLAIMS_LIMIT: u64 = 8_192;
 
-/// It goes on once no more than so many wait. The workers have enough to do until it has woken up.
+/// The number of waiting claims at which a sleeping intake thread is woken. It keeps the workers
+/// busy until the thread has woken up.
 const CLAIMS_ENOUGH: u64 = 4_096;
 
-/// A sleep ends when enough claims are taken. This is its bound, in case that nobody wakes the sleeper.
+/// The maximum length of one sleep, in case no thread wakes the sleeper.
 const SLEEP_MICROS: u64 = 5_000;
 
-/// After so many sleeps, a tenth of a second, an intake goes on for a turn, whatever waits: who takes the claims may be waiting for it.
+/// The number of sleeps, a tenth of a second in all, after which an intake thread goes on for a
+/// turn whatever the backlog is: the thread that should take the claims may be waiting for this
+/// one.
 const SLEEPS_LIMIT: u32 = 20;
 
-/// How many claims wait: those that were offered, without those that were taken.
+/// The number of waiting claims: those that were offered less those that were taken.
 #[derive(Drop)]
 pub(crate) struct Backlog {
     offered: AtomicU64,
     taken: AtomicU64,
-    // How many intakes sleep, or look whether they are to.
+    // The number of intake threads that sleep or are checking whether to sleep.
     sleepers: AtomicU64,
-    // How often they were woken. They sleep on this word, which stays as it is while claims are taken.
+    // The number of wake-ups. The intake threads sleep on this word, since it does not change while
+    // claims are taken.
     wakes: AtomicU64,
 }
 
 impl Backlog {
-    /// No claim waits.
     pub(crate) fn new() -> Backlog {
         Backlog {
             offered: AtomicU64::new(0),
@@ -45,22 +51,24 @@ impl Backlog {
         }
     }
 
-    /// One claim more is offered.
     pub(crate) fn add_one(&self) {
         self.offered.fetch_add(1, Ordering::SeqCst);
     }
 
-    /// One is taken.
     pub(crate) fn remove_one(&self) {
         self.taken.fetch_add(1, Ordering::SeqCst);
     }
 
-    /// Wakes the intakes that sleep, where so few claims wait that they are to go on. Where none sleeps it only looks at their number.
+    /// Wakes the sleeping intake threads if at most `CLAIMS_ENOUGH` claims wait. If no thread
+    /// sleeps, it only reads the number of sleepers.
     ///
-    /// Whoever took claims calls this afterwards, and no wake-up is lost. An intake is counted first, reads `wakes`, looks at the
-    /// length, and sleeps while `wakes` is what it has read. A caller that finds none counted has looked before the intake was, and so
-    /// the intake finds the caller's claims taken. One that finds some changes `wakes`: either the intake looks at the length behind that
-    /// change, or its sleep doesn't begin, or it is woken. (Were one lost all the same, it would cost the bound of a sleep.)
+    /// A thread that has taken claims calls this afterwards, and no wake-up is lost. An intake
+    /// thread first counts itself as a sleeper, then reads `wakes`, then checks the length, and
+    /// sleeps only while `wakes` still has the value that it read. If the caller finds no sleeper,
+    /// it has looked before the intake thread counted itself, so the intake thread sees that the
+    /// claims are taken. If the caller finds one and changes `wakes`, then the intake thread checks
+    /// the length after that change, or does not fall asleep, or is woken. (A lost wake-up would
+    /// only cost the bound of a sleep.)
     pub(crate) fn wake_where_short(&self) {
         if self.has_sleepers() && self.length() <= CLAIMS_ENOUGH {
             self.wakes.fetch_add(1, Ordering::SeqCst);
@@ -68,7 +76,8 @@ impl Backlog {
         }
     }
 
-    /// Sleeps where too many claims wait, for a while at most. Gives how often it slept.
+    /// Sleeps for a bounded time if more than `CLAIMS_LIMIT` claims wait. Returns the number of
+    /// sleeps.
     pub(crate) fn await_shorter<R: Wait>(&self, rt: &R) -> u32 {
         if self.length() <= CLAIMS_LIMIT {
             return 0;
@@ -96,7 +105,7 @@ impl Backlog {
         self.sleepers.load(Ordering::SeqCst) > 0
     }
 
-    /// On a gate that others call too, more may be taken than was counted.
+    /// Saturates, since other callers of the gate may take claims that were not counted.
     fn length(&self) -> u64 {
         let taken = self.taken.load(Ordering::SeqCst);
         self.offered.load(Ordering::SeqCst).saturating_sub(taken)

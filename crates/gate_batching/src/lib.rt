@@ -1,12 +1,16 @@
-//! Which thread of a run calls the gate next, and how far the intakes may be ahead of the workers: hints, of which nothing is promised.
+//! Scheduling hints for the threads of a run: which thread calls the gate next, and how far the
+//! intake threads may be ahead of the workers. Correctness does not depend on these hints.
 //!
-//! The threads of a run share `Turns`. One that has begun a `Turn` makes many calls of the gate in a row while the others sleep, and gives
-//! it back where it drops it; a worker that finds nothing to do rests.
+//! The threads of a run share one `GateBatching`. A thread that has begun a `BatchTurn` makes many
+//! calls of the gate in a row while the other threads sleep, and ends its turn by dropping it. A
+//! worker that finds no claim to decide rests.
 //!
-//! Nothing here knows of gates or claims: a caller counts what it offers and takes. So the crate needs no other of ours, and pauses by
-//! `crossbeam_utils`; it is proved beside the long chain of crates below `crew`, and not in it.
+//! The crate knows neither gates nor claims: its callers count the claims that they offer and take.
+//! So it uses no other crate of the repository, only the pauses of `crossbeam_utils`, and it is
+//! built and proved in parallel with the crates below `crew`.
 //!
-//! Begin with `turns.rt`, which says why a hint that is wrong costs time alone; `backlog.rt` counts the claims that wait.
+//! Begin with `batching.rt`, which explains why a wrong hint costs only time. `backlog.rt` counts
+//! the waiting claims.
 #![tactic(auto)]
 
 mod backlog;

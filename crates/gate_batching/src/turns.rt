@@ -1,12 +1,16 @@
-//! Whose turn at the gate it is: a hint, which keeps the threads of a run from asking for its lock all at once.
+//! Turns at the gate: a hint that prevents the threads of a run from contending for the lock of the
+//! gate.
 //!
-//! A lock that serves strictly in order goes to another thread at each section where several ask for it, and stands still until
-//! that one is scheduled. So a thread makes many calls in a row while it has the turn, and the others sleep: they would take the
-//! processor from it.
+//! A lock that serves its threads strictly in order changes to another thread at every critical
+//! section while several threads request it, and then waits until that thread is scheduled. So a
+//! thread with a turn makes many calls in a row, and the other threads sleep instead of competing
+//! for the processors.
 //!
-//! It is a hint only. Each call of the gate is a section of its own, with the turn or without it; nothing is proved of the words
-//! here, and nothing rests on them. That is why waiting has a bound: a gate of the caller's may hold one call until another thread
-//! makes one, and a thread that has waited for long calls without the turn. A word that is wrong costs time alone.
+//! A turn is only a hint. Each call of the gate is a critical section of its own, with a turn or
+//! without one. Nothing is proved about the words here, and no proof depends on them, so a wrong
+//! word costs only time. For the same reason each wait is bounded: a gate that the caller supplies
+//! may block one call until another thread makes a call, so a thread that has waited for too long
+//! goes on without a turn.
 
 use crate::backlog::Backlog;
 use crossbeam_utils::Backoff;
@@ -17,48 +21,55 @@ use std::time::Duration;
 #[cfg(test)]
 mod tests;
 
-/// How many claims an intake offers in one turn at most. A turn is to be long beside the time that a sleeper takes to wake up,
-/// and short beside the time in which the others run out of work.
+/// The maximum number of claims that an intake thread offers in one turn. A turn should be long
+/// compared with the time in which a sleeping thread wakes up, and short compared with the time in
+/// which the other threads run out of work.
 pub const OFFERS_LIMIT: u32 = 1_024;
 
-/// How many claims a worker takes in one turn at most: as many as two intakes offer, since there are fewer turns then.
+/// The maximum number of claims that a worker takes in one turn. It is twice `OFFERS_LIMIT`, since
+/// longer turns mean fewer changes of turn.
 pub const TAKES_LIMIT: u32 = 2_048;
 
-/// Nobody has the turn.
+/// No thread has the turn.
 const FREE: u32 = 0;
 
-/// Somebody has it.
+/// A thread has the turn.
 const HELD: u32 = 1;
 
-/// How often a thread looks before it sleeps: for some microseconds, less than going to sleep and waking up take.
+/// The number of attempts before a thread sleeps. They take some microseconds, less than to fall
+/// asleep and wake up again.
 const LOOKS_LIMIT: u32 = 12;
 
-/// A sleep ends when the turn is given back. This is its bound, in case that who is woken isn't scheduled for a while.
+/// The maximum length of one sleep. A sleep normally ends when the turn is given back; the bound
+/// serves the case that the thread that is woken is not scheduled for a while.
 const SLEEP_MICROS: u64 = 500;
 
-/// After so many sleeps, half a second, a thread goes without the turn: far longer than a turn takes on a busy machine.
+/// The number of sleeps, half a second in all, after which a thread goes on without a turn. This is
+/// far longer than a turn takes on a busy machine.
 const SLEEPS_LIMIT: u32 = 1_000;
 
-/// The first rest of a worker that found nothing to do. Each further one is twice as long, so that many idle workers don't keep the
-/// turn from the intakes.
+/// The length of the first rest of a worker that found no claim. Each further rest in a row is
+/// twice as long, so that many idle workers do not keep the turn from the intake threads.
 const REST_MICROS: u64 = 100;
 
-/// So often a rest is doubled: the longest takes some three milliseconds, by which a run may end later.
+/// The maximum number of times that a rest is doubled. The longest rest takes about three
+/// milliseconds, and it can delay the end of a run by as much.
 const DOUBLINGS_LIMIT: u32 = 5;
 
-/// Who has the turn calls the gate, the others wait for a while.
+/// The shared state of the turns: one thread at a time has the turn and calls the gate, while the
+/// others wait for a bounded time.
 #[derive(Drop)]
 pub struct Turns {
     word: AtomicU64,
-    // How many threads sleep until the turn is given back.
+    // The number of threads that sleep until the turn is given back.
     sleepers: AtomicU64,
-    // Idle workers sleep here, and nobody wakes them.
+    // Idle workers sleep on this word. Their rests only end by time: no thread wakes them.
     resting: AtomicU64,
     backlog: Backlog,
 }
 
 impl Turns {
-    /// Nobody has the turn, and no claim waits.
+    /// Creates the state in which no thread has the turn and no claim waits.
     pub fn new() -> Turns {
         Turns {
             word: AtomicU64::new(u64::from(FREE)),
@@ -68,7 +79,8 @@ impl Turns {
         }
     }
 
-    /// Waits for a turn, for a while. It ends where what is given is dropped.
+    /// Waits for the turn for a bounded time, and begins a row of calls with or without it.
+    /// Dropping the result ends the turn.
     pub fn begin<R: Wait>(&self, rt: &R) -> Turn<'_> {
         Turn {
             turns: self,
@@ -76,13 +88,15 @@ impl Turns {
         }
     }
 
-    /// The same for an intake, which sleeps first where it is far ahead of the workers.
+    /// Begins a turn of an intake thread, which sleeps first, for a bounded time, if it is far
+    /// ahead of the workers.
     pub fn begin_offers<R: Wait>(&self, rt: &R) -> Turn<'_> {
         self.backlog.await_shorter(rt);
         self.begin(rt)
     }
 
-    /// Lets the others go on where there is nothing to do, the longer the more rests there were in a row. Gives their number.
+    /// Rests after a worker has found no claim. `rests` is the number of rests so far in a row, and
+    /// each rest is longer than the one before, up to a limit. Returns the new number of rests.
     pub fn rest<R: Wait>(&self, rt: &R, rests: u32) -> u32 {
         let micros = REST_MICROS << rests.min(DOUBLINGS_LIMIT);
         self.resting
@@ -90,7 +104,7 @@ impl Turns {
         rests.saturating_add(1)
     }
 
-    // False where others had it for too long.
+    // Returns false if other threads had the turn for too long.
     fn obtain<R: Wait>(&self, rt: &R) -> bool {
         let backoff = Backoff::new();
         for _ in 0..LOOKS_LIMIT {
@@ -118,13 +132,13 @@ impl Turns {
         false
     }
 
-    // Until the turn is given back, or for a while.
     fn sleep<R: Wait>(&self, rt: &R) {
         self.word
             .park_timeout(rt, HELD, Duration::from_micros(SLEEP_MICROS));
     }
 
-    // Gives the turn to whoever comes first. Who goes to sleep only now either finds the word changed or is counted already.
+    // A thread that is about to sleep either finds the word changed or is already counted as a
+    // sleeper, so no wake-up is lost.
     fn give_back(&self) {
         self.word.store(u64::from(FREE), Ordering::SeqCst);
         if self.has_sleepers() {
@@ -144,14 +158,14 @@ impl Turns {
     }
 }
 
-/// A row of calls of the gate, with the turn or without it.
+/// A row of calls of the gate, with the turn or without it. Dropping it ends the turn.
 pub struct Turn<'t> {
     turns: &'t Turns,
     has: bool,
 }
 
 impl Turn<'_> {
-    /// Counts an offer.
+    /// Counts a claim that was offered.
     pub fn count_offer(&self) {
         self.turns.backlog.add_one();
     }
@@ -163,7 +177,7 @@ impl Turn<'_> {
 }
 
 impl Drop for Turn<'_> {
-    // An intake that is woken here finds the turn given back.
+    // The turn is given back first, so that an intake thread that is woken here finds it free.
     fn drop(self) {
         let Turn { turns, has } = self;
         if has {

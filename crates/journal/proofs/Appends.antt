@@ -1,4 +1,4 @@
--- What the parts of a journal are after one more event, or many.
+-- The parts of a journal after one or more events are appended.
 use Rattle.std.proofs.Common.{◌≡◌, ℕ, ◌<◌, ◌≤◌, ◌+◌, ◌==◌, Bool, true, false, List, [], ◌∷◌, ◌++◌, map, take, drop, length, get_or, Some, None, fold, option_map, refl, sym, ap, ◌∙◌, subst, inl, inr, arith, length-append, append-nil, take-append-drop, eqb-true}
 use Rattle.std.proofs.lemmas.Bool.{cond-true, cond-false, cases_lt}
 use Rattle.std.proofs.lemmas.List.{flat_map_more, map-append, length-map, get_or_append_left, take-append-le, get_or_past}
@@ -16,7 +16,7 @@ use Rattle.journal.proofs.Grown.{flat_map-append}
 pub accepted-append : (J K : List Event) → accepted (J ++ K) ≡ accepted J + accepted K
 accepted-append J K = ap length (flat_map-append accept_in J K) ∙ length-append (accepts J) (accepts K)
 
--- a front accepts no more than the whole
+-- a prefix accepts at most as many claims as the whole journal
 pub accepted-take : (i : ℕ) (J : List Event) → accepted (take i J) ≤ accepted J
 accepted-take i J =
     let split : accepted (take i J ++ drop i J) ≡ accepted (take i J) + accepted (drop i J) = accepted-append (take i J) (drop i J) in
@@ -26,7 +26,7 @@ accepted-take i J =
 pub places-more : (J : List Event) (event : Event) (provider : ℕ) → places (J ++ event ∷ []) provider ≡ places J provider ++ place_in provider event
 places-more J event provider = sym (flat_map_more (place_in provider) [] J event)
 
--- one more event is the next accept of a provider, or leaves its places as they are
+-- an appended event is the next accept of the provider, or does not change its places
 pub data Placed (J : List Event) (event : Event) (provider : ℕ) : Type 0 where
   same : places (J ++ event ∷ []) provider ≡ places J provider → Placed J event provider
   next : (place : ℕ) → event ≡ Accept provider place → places (J ++ event ∷ []) provider ≡ places J provider ++ place ∷ [] → Placed J event provider
@@ -54,7 +54,7 @@ claims-append T J K = ap (map (claim_filed T)) (flat_map-append accept_in J K) �
 pub length-claims : (T : Terms) (J : List Event) → length (claims T J) ≡ accepted J
 length-claims T J = length-map (accepts J) (claim_filed T)
 
--- a claim keeps its position
+-- the claim at a position does not change
 pub claim_at-append : (T : Terms) (J K : List Event) (k : ℕ) → k < accepted J → claim_at T (J ++ K) k ≡ claim_at T J k
 claim_at-append T J K k below =
     ap (λ w. get_or w k None) (claims-append T J K)
@@ -80,7 +80,7 @@ before-append T J K k account within =
     ap (λ w. fold (noted T.plan) (opening T.balances) (take k w) account) (claims-append T J K)
     ∙ ap (λ w. fold (noted T.plan) (opening T.balances) w account) cut
 
--- a settlement stays one
+-- a settlement remains one when the journal is continued
 pub IsSettled-append : (T : Terms) (J K : List Event) (k : ℕ) (decision : Outcome) → IsSettled T J k decision → IsSettled T (J ++ K) k decision
 IsSettled-append T J K k decision s =
     let below : k < accepted J = claim_at_within T J k s.claim s.stands in

@@ -1,4 +1,4 @@
--- How many claims a journal accepts.
+-- The number of claims that a journal has accepted.
 use Rattle.std.proofs.Common.{◌≡◌, ℕ, zero, suc, ◌<◌, ◌≤◌, ◌+◌, ◌==◌, true, false, List, [], ◌∷◌, ◌++◌, take, length, get_or, slice_get, Some, refl, sym, ap, ◌∙◌, subst, inl, inr, arith, length-append, take-take, eq-eqb, ne_eqb}
 use Rattle.std.proofs.lemmas.Bool.{cond-true, cond-false, cases_eq, cases_lt, both_ways}
 use Rattle.std.proofs.lemmas.List.{get_or_past}
@@ -47,7 +47,7 @@ claims_later : (file : List Claim) (files : List (List Claim)) (p : ℕ) → 1 �
 claims_later file files zero h = let none : ⊥ = omega arith in absurd none
 claims_later file files (suc q) h = refl
 
--- all claims, provider by provider
+-- the number of all claims is the sum over the providers
 pub claims_by_provider : (files : List (List Claim)) → claims_in_all files ≡ sum_to (length files) (λ p. length (claims_in files p))
 claims_by_provider [] = refl
 claims_by_provider (file ∷ files) =
@@ -58,7 +58,7 @@ claims_by_provider (file ∷ files) =
     sum_to-first (length files) (λ p. length (claims_in (file ∷ files) p)) in
     ap (λ w. length file + w) (rest ∙ moved) ∙ sym first
 
--- only the providers that there are have claims
+-- only existing providers have claims
 claims_known : (files : List (List Claim)) (p : ℕ) → 0 < length (claims_in files p) → (1 ≤ p) × (p ≤ length files)
 claims_known files zero h = let none : ⊥ = omega arith in absurd none
 claims_known files (suc i) h =
@@ -70,7 +70,7 @@ claims_known files (suc i) h =
           absurd none
     ]
 
--- an accept counts once, at its provider
+-- an accept counts once, for its provider
 counted_before : (n p place : ℕ) → n < p → sum_to n (λ q. length (place_in q (Accept p place))) ≡ 0
 counted_before zero p place h = refl
 counted_before (suc n) p place h =
@@ -127,7 +127,7 @@ accepted_by_known n (event ∷ J) known =
     sum_to-same n (λ p. length (places (event ∷ J) p)) (λ p. length (place_in p event) + length (places J p)) (λ p l m. length-append (place_in p event) (places J p)) in
     omega arith
 
--- the claims accepted, provider by provider
+-- the number of accepted claims is the sum over the providers
 pub accepted_by_provider : (T : Terms) (J : List Event) → Sound T J → accepted J ≡ sum_to (length T.files) (λ p. length (places J p))
 accepted_by_provider T J S =
     accepted_by_known (length T.files) J
@@ -135,7 +135,7 @@ accepted_by_provider T J S =
     let within : length (places J p) ≤ length (claims_of T p) = S.within p in
     claims_known T.files p (omega arith))
 
--- no more are accepted than there are
+-- at most all claims are accepted
 pub accepted_within : (T : Terms) (J : List Event) → Sound T J → accepted J ≤ all_claims T
 accepted_within T J S =
     let mine : accepted J ≡ sum_to (length T.files) (λ p. length (places J p)) = accepted_by_provider T J S in
@@ -144,7 +144,7 @@ accepted_within T J S =
     sum_to-le (length T.files) (λ p. length (places J p)) (λ p. length (claims_in T.files p)) (λ p l m. S.within p) in
     omega arith
 
--- all are, where each provider's are
+-- all claims are accepted if those of each provider are
 pub accepted_all : (T : Terms) (J : List Event) → Sound T J
     → ((p : ℕ) → 1 ≤ p → p ≤ length T.files → length (places J p) ≡ length (claims_of T p)) → accepted J ≡ all_claims T
 accepted_all T J S each =
@@ -152,12 +152,12 @@ accepted_all T J S each =
     ∙ sum_to-same (length T.files) (λ p. length (places J p)) (λ p. length (claims_in T.files p)) each
     ∙ sym (claims_by_provider T.files)
 
--- a front that accepts just so many
+-- a prefix of the journal that accepts exactly this number of claims
 pub record Front (count : ℕ) (J : List Event) : Type 0 where
   pub index : ℕ
   pub exactly : accepted (take index J) ≡ count
 
--- the accepts are counted up one by one
+-- the number of accepted claims grows one by one
 pub front_of : (count : ℕ) (J : List Event) → count ≤ accepted J → Front count J
 front_of zero J h = record { index = zero; exactly = refl }
 front_of (suc count) [] h = let none : ⊥ = omega arith in absurd none
@@ -177,11 +177,11 @@ front_of (suc count) (Decide k o ∷ J) h =
     let f = front_of (suc count) J h in
     record { index = suc f.index; exactly = f.exactly }
 
--- a longer front accepts no less
+-- a longer prefix accepts at least as many claims
 pub accepted_longer : (i j : ℕ) (J : List Event) → i ≤ j → accepted (take i J) ≤ accepted (take j J)
 accepted_longer i j J h = subst (λ w. accepted w ≤ accepted (take j J)) (take-take i j J h) (accepted-take i (take j J))
 
--- without an accept or an end none is accepted
+-- a journal without accepts and ends has accepted no claim
 pub none_accepted : (J : List Event) → ((i : ℕ) (event : Event) → slice_get J i ≡ Some event → is_intake event ≡ false) → accepted J ≡ 0
 none_accepted [] h = refl
 none_accepted (Accept p place ∷ J) h = absurd (both_ways true (h zero (Accept p place) refl) refl)

@@ -1,4 +1,4 @@
--- A family's sums are those over its members.
+-- The accumulators of a family are the sums over its members.
 use Rattle.std.proofs.Common.{◌≡◌, ℕ, suc, ℤ, pos, ◌+ℤ◌, ◌==◌, ◌&&◌, Bool, true, false, cond, List, [], ◌∷◌, Option, Some, None, fold, refl, sym, ap, ◌∙◌, subst, arith, eqb-true}
 use Rattle.std.specs.Str.{bytes_eq}
 use Rattle.std.proofs.lemmas.Bool.{and_parts, cond-false}
@@ -15,7 +15,7 @@ use Rattle.journal.specs.Settled.{outcome_of, accumulated}
 use Rattle.journal.specs.Events.{Book, noted}
 use Rattle.journal.specs.Families.{sum_over, times, member_of, is_in, IsSummed, IsAmong, AreAmong, IsAbsent, AreOpenings}
 
--- what one of the members gets, all of them get together
+-- what one of the members receives is added to the sum over all of them
 none_by : (b : Bool) (g d left right : ℤ) (n : ℕ) → cond b (suc n) n ≡ 0 → (n ≡ 0 → left ≡ right) → (g +ℤ part b d) +ℤ left ≡ g +ℤ right
 none_by true g d left right n h rest = absurd (let never : suc n ≡ 0 = h in omega (arith, never))
 none_by false g d left right n h rest = let same : left ≡ right = rest h in omega (arith, ints, same)
@@ -45,13 +45,13 @@ sum_same f g (m ∷ ms) h = λ i. h m i +ℤ sum_same f g ms h i
 plus_none : (x : ℤ) → x +ℤ pos 0 ≡ x
 plus_none x = omega (arith, ints)
 
--- a member's part of an outcome, for the household or not
+-- one member's part of an outcome is added to the sum, if the account is of the family in the year
 shares : (h : Bool) (g : List ℕ → ℤ) (x : List ℕ) (d total : ℤ) (ms : List (List ℕ)) → total ≡ sum_over g ms → (h ≡ true → times x ms ≡ 1)
     → total +ℤ part h d ≡ sum_over (λ m. g m +ℤ part (h && bytes_eq x m) d) ms
 shares true g x d total ms is among = ap (λ t. t +ℤ d) is ∙ sym (sum_once g x d ms (among refl))
 shares false g x d total ms is among = plus_none total ∙ is ∙ sym (sum_same (λ m. g m +ℤ pos 0) g ms (λ m. plus_none (g m)))
 
--- what is opened of the settlement
+-- the definition of the accumulators after an outcome
 grows : (own shared : Bool) (acc : Acc) (o : Outcome) → accumulated own shared acc o ≡ grown own shared acc o
 unfolding accumulated
 grows own shared acc o = refl

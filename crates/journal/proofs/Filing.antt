@@ -1,4 +1,5 @@
--- Acceptance in the order of the files: one claim more, in turn, is the next of that order.
+-- Acceptance in the order of the files: the next claim that is accepted in turn is the next one of
+-- that order.
 use Rattle.std.proofs.Common.{◌≡◌, ◌<◌, ◌≤◌, ◌+◌, ◌-◌, ◌==◌, ℕ, zero, suc, cond, List, [], ◌∷◌, ◌++◌, flat_map, take, length, get_or, refl, sym, ap, ◌∙◌, subst, inl, inr, arith, append_assoc, length-append, eq-eqb, ne_eqb}
 use Rattle.std.proofs.lemmas.Bool.{cases_lt, cond-false, cond-true}
 use Rattle.std.proofs.lemmas.List.{length_push, take-append-le, take_all}
@@ -15,7 +16,7 @@ use Rattle.journal.specs.Order.{IsInOrder, IsInTurn, filed_from, in_file_order}
 abbrev filed : ℕ → ℕ → Filed
 filed provider place = record { provider = provider; place = place }
 
--- the places of a provider among those filed
+-- the places of a provider's claims in a list
 abbrev place_of : ℕ → Filed → List ℕ
 place_of q f = cond (f.provider == q) (f.place ∷ []) []
 
@@ -30,7 +31,7 @@ places_are (Close ∷ J) q = places_are J q
 places_are (Take k ∷ J) q = places_are J q
 places_are (Decide k o ∷ J) q = places_are J q
 
--- how many of a provider's are filed
+-- the number of a provider's claims in a list
 abbrev count : ℕ → List Filed → ℕ
 count q order = length (places_by q order)
 
@@ -41,7 +42,7 @@ length-filed : (provider place n : ℕ) → length (filed_from provider place n)
 length-filed provider place zero = refl
 length-filed provider place (suc n) = ap suc (length-filed provider (suc place) n)
 
--- a front of a provider's claims
+-- the number of claims in a prefix of a provider's claims
 count_own : (provider place n i : ℕ) → i ≤ n → count provider (take i (filed_from provider place n)) ≡ i
 count_own provider place n zero h = refl
 count_own provider place zero (suc i) h = absurd (omega (arith, h))
@@ -49,14 +50,14 @@ count_own provider place (suc n) (suc i) h =
     ap (λ ps. length (ps ++ places_by provider (take i (filed_from provider (suc place) n)))) (cond-true (provider == provider) (place ∷ []) [] (eq-eqb provider provider refl))
     ∙ ap suc (count_own provider (suc place) n i (omega (arith, h)))
 
--- another's claims are none of the provider's
+-- the claims of one provider are not those of another
 count_other : (provider place n q : ℕ) → (provider ≡ q → ⊥) → count q (filed_from provider place n) ≡ 0
 count_other provider place zero q other = refl
 count_other provider place (suc n) q other =
     ap (λ ps. length (ps ++ places_by q (filed_from provider (suc place) n))) (cond-false (provider == q) (place ∷ []) [] (ne_eqb provider q other))
     ∙ count_other provider (suc place) n q other
 
--- one claim of a provider more
+-- a prefix that has one more claim of the provider
 filed_more : (provider place n i : ℕ) → i < n → take (suc i) (filed_from provider place n) ≡ take i (filed_from provider place n) ++ filed provider (place + i) ∷ []
 filed_more provider place zero i h = absurd (omega (arith, h))
 filed_more provider place (suc n) zero h = let here : place + 0 ≡ place = omega arith in ap (λ p. filed provider p ∷ []) (sym here)
@@ -64,18 +65,19 @@ filed_more provider place (suc n) (suc i) h =
     let sum : suc place + i ≡ place + suc i = omega arith in
     ap (λ w. filed provider place ∷ w) (filed_more provider (suc place) n i (omega (arith, h)) ∙ ap (λ p. take i (filed_from provider (suc place) n) ++ filed provider p ∷ []) sum)
 
--- a front that goes past the first of two lists
+-- a prefix that is longer than the first of two lists
 take_over : {X : Type 0} (xs ys : List X) (m : ℕ) → take (length xs + m) (xs ++ ys) ≡ xs ++ take m ys
 take_over [] ys m = let none : 0 + m ≡ m = omega arith in ap (λ n. take n ys) none
 take_over (x ∷ xs) ys m =
     let moved : length (x ∷ xs) + m ≡ suc (length xs + m) = omega arith in
     ap (λ n. take n (x ∷ (xs ++ ys))) moved ∙ ap (λ w. x ∷ w) (take_over xs ys m)
 
--- the file at a place
+-- the file at an index
 abbrev file_at : List (List Claim) → ℕ → List Claim
 file_at files d = get_or files d []
 
--- the claim that is next in turn is the next of the order of the files: of the file at place d behind the first one
+-- the next claim that is accepted in turn is the next one in the order of the files; d is the index
+-- of its file after the first one
 next_filed : (first : ℕ) (files : List (List Claim)) (n d : ℕ)
     → ((q : ℕ) → q < d → count (first + q) (take n (in_file_order first files)) ≡ length (file_at files q))
     → count (first + d) (take n (in_file_order first files)) < length (file_at files d)
@@ -144,7 +146,7 @@ next_filed first (file ∷ rest) n (suc d) full there =
           ∙ ap (λ p. take n (own ++ behind) ++ filed p (count (first + suc d) (take n (own ++ behind))) ∷ []) (sym (moved d))
     ]
 
--- a claim that is accepted is one more
+-- an accept adds its claim to the accepted ones
 accepts_more : (J : List Event) (p i : ℕ) → accepts (J ++ Accept p i ∷ []) ≡ accepts J ++ filed p i ∷ []
 accepts_more J p i = flat_map-append accept_in J (Accept p i ∷ [])
 

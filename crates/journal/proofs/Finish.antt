@@ -1,4 +1,4 @@
--- What a finished journal has accepted, and that nothing lawful extends it.
+-- The claims that a finished journal has accepted, and its finality.
 use Rattle.std.proofs.Common.{◌≡◌, ℕ, zero, suc, ◌<◌, ◌≤◌, ◌+◌, ◌==◌, true, false, List, [], ◌∷◌, ◌++◌, take, drop, length, Option, Some, None, refl, sym, ap, ◌∙◌, subst, inl, inr, arith, take-append-drop, take_at, eqb-true, eq-eqb, add-zero}
 use Rattle.std.proofs.lemmas.Bool.{both_ways, or_cases, or_left, and_parts, cases_lt, cases_eq}
 use Rattle.std.proofs.lemmas.Option.{same_Some, slice_get_within}
@@ -23,14 +23,14 @@ all_ended_each (suc n) J h p l m =
     ]
 
 module _ (T : Terms) (J : List Event) (S : Sound T J) (i : ℕ) (at : At J i Close) (C : ClosesWhenDue T J i) where
-  -- what stands at the close or behind it is no accept and no end
+  -- no accept or end is at the close or after it
   late_intake : (j : ℕ) (event : Event) → At J (i + j) event → is_intake event ≡ false
   late_intake zero event h =
       let here : At J i event = subst (λ w. At J w event) (add-zero i) h in
       ap is_intake (same_Some event Close (sym here ∙ at))
   late_intake (suc j) event h = C.last (i + suc j) event (omega arith) h
 
-  -- the close is behind all accepts
+  -- the close comes after all accepts
   accepted_at_close : accepted J ≡ accepted (take i J)
   accepted_at_close =
       let split : accepted (take i J ++ drop i J) ≡ accepted (take i J) + accepted (drop i J) = accepted-append (take i J) (drop i J) in
@@ -38,7 +38,7 @@ module _ (T : Terms) (J : List Event) (S : Sound T J) (i : ℕ) (at : At J i Clo
       let none : accepted (drop i J) ≡ 0 = none_accepted (drop i J) (λ j event h. late_intake j event (slice_get-drop i J j event h)) in
       omega arith
 
-  -- where all providers have ended, all claims are accepted
+  -- if all providers have ended, all claims are accepted
   all_accepted : all_ended (length T.files) (take i J) ≡ true → accepted J ≡ all_claims T
   all_accepted h =
       accepted_all T J S
@@ -47,7 +47,7 @@ module _ (T : Terms) (J : List Event) (S : Sound T J) (i : ℕ) (at : At J i Clo
       let s = end_stands J p e in
       (S.ends s.index p s.at).whole)
 
-  -- the accepts do not pass the cutoff
+  -- the number of accepted claims is at most the cutoff
   not_past : (cutoff : ℕ) → T.cutoff ≡ Some cutoff → cutoff < accepted J → ⊥
   not_past cutoff is past =
       let f : Front cutoff J = front_of cutoff J (omega arith) in
@@ -92,7 +92,7 @@ finished_count T J F =
     let s = close_stands J F.closed in
     lesser T J S s.index s.at (S.closes s.index s.at) T.cutoff refl
 
--- a position that is taken is an accepted one
+-- a position that was taken is an accepted one
 taken_accepted : (T : Terms) (J : List Event) → Sound T J → (k : ℕ) → taken J k ≡ true → k < accepted J
 taken_accepted T J S k h =
     let s = take_stands J k h in
@@ -100,7 +100,7 @@ taken_accepted T J S k h =
     let within : accepted (take s.index J) ≤ accepted J = accepted-take s.index J in
     omega arith
 
--- a position that is decided is a taken one
+-- a position that was decided was taken
 pub decided_taken : (T : Terms) (J : List Event) → Sound T J → (k : ℕ) → decided J k ≡ true → taken J k ≡ true
 decided_taken T J S k h =
     let s = decision_stands J k h in

@@ -1,8 +1,8 @@
--- Lists by their fronts and rests.
+-- Lists split into a prefix and the rest.
 use Rattle.std.proofs.Common.{◌≡◌, ℕ, zero, suc, ◌+◌, List, [], ◌∷◌, ◌++◌, drop, length, get_or, slice_get, Some, refl, sym, ap, subst, arith, zero-add}
 use Rattle.std.proofs.lemmas.Option.{none-some}
 
--- what a rest has at an index, the whole has behind the front
+-- an element of the rest is an element of the list, at its index plus the length of the prefix
 pub slice_get-drop : {A : Type 0} (i : ℕ) (xs : List A) (j : ℕ) (x : A) → slice_get (drop i xs) j ≡ Some x → slice_get xs (i + j) ≡ Some x
 slice_get-drop zero xs j x h = subst (λ w. slice_get xs w ≡ Some x) (sym (zero-add j)) h
 slice_get-drop (suc i) [] j x h = absurd (none-some x h)
@@ -10,7 +10,7 @@ slice_get-drop (suc i) (z ∷ xs) j x h =
     let sum : suc (i + j) ≡ suc i + j = omega arith in
     subst (λ w. slice_get (z ∷ xs) w ≡ Some x) sum (slice_get-drop i xs j x h)
 
--- what stands behind a front
+-- the element after a prefix
 pub slice_get_at : {A : Type 0} (xs : List A) (x : A) (ys : List A) → slice_get (xs ++ x ∷ ys) (length xs) ≡ Some x
 slice_get_at [] x ys = refl
 slice_get_at (z ∷ xs) x ys = slice_get_at xs x ys

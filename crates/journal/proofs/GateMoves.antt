@@ -1,4 +1,5 @@
--- From a lawful state each call of the gate of one thread goes to a lawful one that it leads to.
+-- Each call of the sequential gate changes a lawful state to a lawful one to which the old one
+-- leads.
 use Rattle.std.proofs.Common.{◌≡◌, ℕ, zero, suc, ◌<◌, ◌≤◌, ◌+◌, Bool, true, false, not, ◌&&◌, ◌||◌, List, [], ◌∷◌, ◌++◌, length, refl, sym, ap, ◌∙◌, subst, inl, inr, arith, append_assoc, append-nil, take_all}
 use Rattle.std.specs.List.{list_any}
 use Rattle.std.proofs.lemmas.Bool.{cond-true, cond-false, cases_Bool, and_left, and_right, not_from_true}
@@ -35,7 +36,7 @@ closing_continues T J event false h = record {
   whole = cond-false (due T (J ++ event ∷ []) && not (closed (J ++ event ∷ []))) (J ++ event ∷ [] ++ Close ∷ []) (J ++ event ∷ []) h;
 }
 
--- an event that fits is put behind, with the close where it is due
+-- an event that fits is appended, and after it the close if it is due
 adds_and_closes : (old new : GateAt) (event : Event) → Lawful old.terms old.journal → old.stopped ≡ false → Fits old.terms old.journal event → AddsAndCloses old event new → Goes old new
 adds_and_closes old new event L runs fits is =
     let next : GateAt = record old { journal = closing old.terms (old.journal ++ event ∷ []) } in
@@ -45,7 +46,7 @@ adds_and_closes old new event L runs fits is =
       leads = running_leads old next runs refl on;
     })
 
--- an event that leaves open what is due closes nothing
+-- an event that does not make the close due closes nothing
 no_closing : (T : Terms) (J : List Event) (event : Event) → Lawful T J → due T (J ++ event ∷ []) ≡ due T J → closed (J ++ event ∷ []) ≡ closed J → closing T (J ++ event ∷ []) ≡ J ++ event ∷ []
 no_closing T J event L same_due same_closed =
     cond-false (due T (J ++ event ∷ []) && not (closed (J ++ event ∷ []))) (J ++ event ∷ [] ++ Close ∷ []) (J ++ event ∷ [])
@@ -60,7 +61,7 @@ or_none : (b : Bool) → (b || false) ≡ b
 or_none true = refl
 or_none false = refl
 
--- an event that is no accept, no end and no close
+-- the event is not an accept, an end or a close
 module _ (T : Terms) (J : List Event) (event : Event) (none : accepted (event ∷ []) ≡ 0) (no_end : (p : ℕ) → is_end p event ≡ false) (no_close : is_close event ≡ false) where
   same_test : (test : Event → Bool) → test event ≡ false → list_any test (J ++ event ∷ []) ≡ list_any test J
   same_test test fails =
@@ -87,7 +88,7 @@ module _ (T : Terms) (J : List Event) (event : Event) (none : accepted (event �
   quiet : Lawful T J → closing T (J ++ event ∷ []) ≡ J ++ event ∷ []
   quiet L = no_closing T J event L same_due (same_test is_close no_close)
 
--- an event that fits and closes nothing is put behind
+-- an event that fits is appended, and the close does not follow it
 adds : (old new : GateAt) (event : Event) → Lawful old.terms old.journal → old.stopped ≡ false → Fits old.terms old.journal event
     → closing old.terms (old.journal ++ event ∷ []) ≡ old.journal ++ event ∷ [] → Adds old event new → Goes old new
 adds old new event L runs fits open_yet is =

@@ -1,11 +1,11 @@
--- Lists that grow at their end.
+-- Lists that grow at the end.
 use Rattle.std.proofs.Common.{◌≡◌, ℕ, zero, suc, ◌<◌, Bool, true, false, List, [], ◌∷◌, ◌++◌, take, drop, length, slice_get, Some, flat_map, refl, sym, ap, ◌∙◌, subst, inl, inr, arith, append_assoc, take-append-drop}
 use Rattle.std.specs.List.{list_any}
 use Rattle.std.proofs.lemmas.Bool.{or_cases, or_left, or_right, both_ways}
 use Rattle.std.proofs.lemmas.List.Folds.{list_any-append}
 use Rattle.std.proofs.lemmas.Option.{same_Some, none-some}
 
--- an index of a list with one more element names an earlier one or the new one
+-- an element of a list with one more element at the end is an earlier element or the new one
 pub data Grown {A : Type 0} (xs : List A) (x y : A) (i : ℕ) : Type 0 where
   earlier : slice_get xs i ≡ Some y → take i (xs ++ x ∷ []) ≡ take i xs → i < length xs → Grown xs x y i
   newest : i ≡ length xs → x ≡ y → take i (xs ++ x ∷ []) ≡ xs → Grown xs x y i
@@ -20,7 +20,7 @@ grown (z ∷ xs) x y (suc i) h =
       | newest at is front ↦ newest (ap suc at) is (ap (λ w. z ∷ w) front)
     ]
 
--- what stands in a list stands in a longer one
+-- an element of a list has the same index in a longer list
 pub slice_get-append : {A : Type 0} (xs ys : List A) (i : ℕ) (x : A) → slice_get xs i ≡ Some x → slice_get (xs ++ ys) i ≡ Some x
 slice_get-append [] ys i x h = absurd (none-some x h)
 slice_get-append (z ∷ xs) ys zero x h = h
@@ -30,7 +30,7 @@ pub flat_map-append : {X A : Type 0} (f : X → List A) (xs ys : List X) → fla
 flat_map-append f [] ys = refl
 flat_map-append f (x ∷ xs) ys = ap (λ w. f x ++ w) (flat_map-append f xs ys) ∙ sym (append_assoc (f x) (flat_map f xs) (flat_map f ys))
 
--- an element that passes a test, and where it stands
+-- an element that passes a test, and its index
 pub record Found {A : Type 0} (test : A → Bool) (xs : List A) : Type 0 where
   pub index : ℕ
   pub element : A
@@ -52,7 +52,7 @@ list_any-at test [] i x h p = absurd (none-some x h)
 list_any-at test (z ∷ xs) zero x h p = or_left (test z) (list_any test xs) (ap test (same_Some z x h) ∙ p)
 list_any-at test (z ∷ xs) (suc i) x h p = or_right (test z) (list_any test xs) (list_any-at test xs i x h p)
 
--- a list that goes on keeps what it has
+-- a list that is continued still has an element that passes the test
 pub list_any_stays : {A : Type 0} (test : A → Bool) (xs ys : List A) → list_any test xs ≡ true → list_any test (xs ++ ys) ≡ true
 list_any_stays test xs ys h = list_any-append test xs ys ∙ or_left (list_any test xs) (list_any test ys) h
 

@@ -1,4 +1,5 @@
--- A journal stays lawful where an event that fits is put behind it, with the close where that makes it due.
+-- A lawful journal stays lawful when an event that fits is appended, followed by the close if that
+-- event makes it due.
 use Rattle.std.proofs.Common.{◌≡◌, ℕ, ◌<◌, ◌+◌, Bool, true, false, not, ◌&&◌, List, [], ◌∷◌, ◌++◌, take, length, refl, sym, ap, ◌∙◌, subst, inl, inr, arith}
 use Rattle.std.proofs.lemmas.Bool.{both_ways, and_parts, and_cases, not-true, not-false, cases_lt, cond-true, cond-false, false_from_ne_true, or_right}
 use Rattle.std.proofs.lemmas.List.{length_push, take-append-le, take_all}
@@ -44,7 +45,8 @@ module _ (T : Terms) (J : List Event) (S : Sound T J) (before : (i : ℕ) → i 
   closing_by true h = subst (Lawful T) (sym (cond-true (due T J && not (closed J)) (J ++ Close ∷ []) J h)) (with_close h)
   closing_by false h = subst (Lawful T) (sym (cond-false (due T J && not (closed J)) (J ++ Close ∷ []) J h)) (no_close h)
 
-  -- sound, and closed wherever the close was due before the end: with the close where it is due now it is lawful
+  -- a sound journal that is closed wherever the close was due earlier is lawful with the close, if
+  -- it is due now
   pub lawful_closing : Lawful T (closing T J)
   lawful_closing = closing_by (due T J && not (closed J)) refl
 

@@ -1,4 +1,4 @@
--- Where the events stand that a journal's tests find.
+-- The indices of the events that the tests on a journal find.
 use Rattle.std.proofs.Common.{◌≡◌, ℕ, true, false, List, refl, ap, subst, eqb-true}
 use Rattle.std.proofs.lemmas.Bool.{both_ways}
 use Rattle.settlement.specs.declared.outcome.Outcome.{Outcome}
@@ -28,7 +28,7 @@ take_is k (Accept q place) h = absurd (both_ways false refl h)
 take_is k (End p) h = absurd (both_ways false refl h)
 take_is k (Decide j o) h = absurd (both_ways false refl h)
 
--- a decision of the position, with some outcome
+-- a decision of the position with any outcome
 record IsDecision (k : ℕ) (event : Event) : Type 0 where
   pub decision : Outcome
   pub is : event ≡ Decide k decision
@@ -40,7 +40,7 @@ decide_is k (Accept q place) h = absurd (both_ways false refl h)
 decide_is k (End p) h = absurd (both_ways false refl h)
 decide_is k (Take j) h = absurd (both_ways false refl h)
 
--- the event stands somewhere
+-- the event is at some index
 pub record Stands (J : List Event) (event : Event) : Type 0 where
   pub index : ℕ
   pub at : At J index event
@@ -60,7 +60,7 @@ take_stands J k h =
     let f = found (is_take k) J h in
     record { index = f.index; at = subst (λ w. At J f.index w) (take_is k f.element f.passes) f.stands }
 
--- the decision of the position stands somewhere
+-- a decision of the position is at some index
 pub record DecisionStands (J : List Event) (k : ℕ) : Type 0 where
   pub index : ℕ
   pub decision : Outcome

@@ -1,4 +1,4 @@
--- One more event that fits leaves each event standing where it may.
+-- If an event that fits is appended, each event still obeys its rule.
 use Rattle.std.proofs.Common.{◌≡◌, ℕ, suc, ◌<◌, ◌≤◌, ◌+◌, true, false, List, [], ◌∷◌, ◌++◌, take, length, refl, sym, ap, ◌∙◌, subst, arith, add-one}
 use Rattle.std.proofs.lemmas.Bool.{both_ways}
 use Rattle.std.proofs.lemmas.List.{length_push, take-append-le}
@@ -17,7 +17,7 @@ counted_push xs x is h =
     let here : xs ++ x ∷ [] ≡ counted (length xs) ++ length xs ∷ [] = ap (λ w. w ++ x ∷ []) h ∙ ap (λ w. counted (length xs) ++ w ∷ []) is in
     here ∙ ap counted (sym long)
 
--- what is closed takes no more accepts and ends
+-- a closed journal accepts no more claims and ends no more providers
 no_intake : (T : Terms) (J : List Event) (event : Event) → Fits T J event → closed J ≡ true → is_intake event ≡ false
 no_intake T J (Accept p place) f h = absurd (both_ways (closed J) f.open_yet h)
 no_intake T J (End p) f h = absurd (both_ways (closed J) f.open_yet h)
@@ -48,7 +48,7 @@ module _ (T : Terms) (J : List Event) (event : Event) (S : Sound T J) (fits : Fi
             subst (λ w. length w ≤ length (claims_of T provider)) (sym e) fit
       ]
 
-  -- a provider that has ended, or ends now, has the places that it had
+  -- the places of a provider that has ended, or ends now, do not change
   places_stay : (provider : ℕ) → length (places J provider) ≡ length (claims_of T provider) → places (J ++ event ∷ []) provider ≡ places J provider
   places_stay provider whole =
       elim (placed J event provider) [

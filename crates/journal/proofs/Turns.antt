@@ -1,4 +1,4 @@
--- A member's claims take turns.
+-- The claims of a family are decided one after another.
 use Rattle.std.proofs.Common.{◌≡◌, ◌≢◌, ℕ, zero, suc, ◌<◌, ◌≤◌, ◌+◌, ◌==◌, Bool, true, false, ◌||◌, cond, List, [], ◌∷◌, ◌++◌, take, length, get_or, slice_get, Option, Some, None, flat_map, option_map, refl, sym, ap, ◌∙◌, subst, inl, inr, arith, append-nil, add-one, zero-add, eqb-true, eq-eqb}
 use Rattle.std.specs.List.{list_any}
 use Rattle.std.proofs.lemmas.Bool.{both_ways, or_cases, or_parts, or_left, or_right, cond-true, cond-false, cases_eq, false_from_ne_true}
@@ -28,7 +28,7 @@ is_decided k (DecisionOf j) = j == k
 abbrev has : ℕ → List ℕ → Bool
 has k ks = list_any (λ x. x == k) ks
 
--- rising, and none is below the bound
+-- the numbers increase, and none of them is below the bound
 abbrev Rising : ℕ → List ℕ → Type 0
 Rising n [] = Unit {0}
 Rising n (k ∷ ks) = (n ≤ k) × Rising (suc k) ks
@@ -46,7 +46,7 @@ rising_least n k (b ∷ ks) r h =
       | inr later ↦ let more : suc b ≤ k = rising_least (suc b) k ks r.1 later in omega arith
     ]
 
--- the first of rising numbers is this one, or is below it and this one stands in the rest
+-- a number in an increasing list is its first one, or it is greater and is in the rest
 above_first : (n b k : ℕ) (ks : List ℕ) → Rising n (b ∷ ks) → has k (b ∷ ks) ≡ true → b ≢ k → (b < k) × (has k ks ≡ true)
 above_first n b k ks r h other =
     elim (or_cases (b == k) (has k ks) h) [
@@ -54,16 +54,16 @@ above_first n b k ks r h other =
       | inr later ↦ (rising_least (suc b) k ks r.1 later, later)
     ]
 
--- a step of the first claim is no step of another one
+-- a step of the first claim is not a step of another claim
 not_first : (k : ℕ) (b : ℕ) (s : Step) → TakeOf b ≡ s → is_taken k s ≡ false → b ≢ k
 not_first k b s is fresh e = both_ways (is_taken k s) fresh (ap (is_taken k) (sym is) ∙ eq-eqb b k e)
 
--- put behind two steps
+-- two steps before lists of steps
 behind_two : (b : ℕ) (s t : Step) (xs ys r : List Step) → TakeOf b ≡ s → DecisionOf b ≡ t → ys ≡ xs ++ r → TakeOf b ∷ DecisionOf b ∷ ys ≡ s ∷ t ∷ (xs ++ r)
 behind_two b s t xs ys r p q h =
     ap (λ w. TakeOf b ∷ DecisionOf b ∷ w) h ∙ ap (λ w. w ∷ DecisionOf b ∷ (xs ++ r)) p ∙ ap (λ w. s ∷ w ∷ (xs ++ r)) q
 
--- the next take: those before it are decided, and it is not taken
+-- the next take: the earlier claims are decided, and the claim is not taken
 put_take : (ks : List ℕ) (S : List Step) (n k : ℕ) → Rising n ks → has k ks ≡ true
     → ((b : ℕ) → has b ks ≡ true → b < k → list_any (is_decided b) S ≡ true) → list_any (is_taken k) S ≡ false
     → BeginsWith S (one_by_one ks) → BeginsWith (S ++ TakeOf k ∷ []) (one_by_one ks)
@@ -108,7 +108,7 @@ put_take (b ∷ ks) (s ∷ t ∷ S) n k rising h before fresh front =
     let rest = put_take ks S (suc b) k rising.1 next.1 later (or_parts (is_taken k t) (list_any (is_taken k) S) parts.1).1 (record { rest = front.rest; is = left }) in
     record { rest = rest.rest; is = behind_two b s t (S ++ TakeOf k ∷ []) (one_by_one ks) rest.rest is is_two rest.is }
 
--- the next decision: it is taken, and not decided
+-- the next decision: the claim is taken and not decided
 put_decision : (ks : List ℕ) (S : List Step) (k : ℕ) → list_any (is_taken k) S ≡ true → list_any (is_decided k) S ≡ false
     → BeginsWith S (one_by_one ks) → BeginsWith (S ++ DecisionOf k ∷ []) (one_by_one ks)
 put_decision ks [] k behind fresh front = absurd (both_ways false refl behind)
@@ -147,7 +147,7 @@ put_decision (b ∷ ks) (s ∷ t ∷ S) k behind fresh front =
     let rest = put_decision ks S k taken_later more.1 (record { rest = front.rest; is = left }) in
     record { rest = rest.rest; is = behind_two b s t (S ++ DecisionOf k ∷ []) (one_by_one ks) rest.rest is is_two rest.is }
 
--- what stands in one of the lists stands in all of them together, and the other way round
+-- an element passes the test in one of the lists if and only if it does in their concatenation
 flat_map-any : {X A : Type 0} (test : A → Bool) (f : X → List A) (xs : List X) (i : ℕ) (x : X) → slice_get xs i ≡ Some x → list_any test (f x) ≡ true → list_any test (flat_map f xs) ≡ true
 flat_map-any test f [] i x at h = absurd (none-some x at)
 flat_map-any test f (z ∷ xs) zero x at h =
@@ -184,7 +184,7 @@ has_by : (b : Bool) (n k : ℕ) (ks : List ℕ) → has k ks ≡ true → has k 
 has_by true n k ks h = or_right (n == k) (has k ks) h
 has_by false n k ks h = h
 
--- the member's claim at n + k has its position among the member's
+-- if the claim at k is one of the family, its position n + k is in the list of positions
 positions_have : (member : List ℕ) (n k : ℕ) (cs : List (Option Claim)) → is_of member (get_or cs k None) ≡ true → has (n + k) (positions_in member n cs) ≡ true
 positions_have member n k [] h = absurd (both_ways false refl h)
 positions_have member n zero (c ∷ cs) h =
@@ -196,7 +196,7 @@ positions_have member n (suc k) (c ∷ cs) h =
     has_by (is_of member c) n (n + suc k) (positions_in member (suc n) cs)
     (subst (λ w. has w (positions_in member (suc n) cs) ≡ true) sum (positions_have member (suc n) k cs h))
 
--- and the other way round
+-- if the position n + k is in the list of positions, the claim at k is one of the family
 positions_are : (member : List ℕ) (n k : ℕ) (cs : List (Option Claim)) → has (n + k) (positions_in member n cs) ≡ true → is_of member (get_or cs k None) ≡ true
 positions_are member n k [] h = absurd (both_ways false refl h)
 positions_are member n zero (c ∷ cs) h = go (is_of member c) refl where
@@ -251,7 +251,7 @@ module _ (T : Terms) (J : List Event) (S : Sound T J) (member : List ℕ) where
   decision_from k (End p) h = absurd (both_ways false refl h)
   decision_from k Close h = absurd (both_ways false refl h)
 
-  -- the steps of a front of the journal
+  -- the steps of a prefix of the journal
   abbrev so_far : ℕ → List Step
   so_far i = flat_map (steps_in (claims T J) member) (take i J)
 
@@ -283,7 +283,7 @@ module _ (T : Terms) (J : List Event) (S : Sound T J) (member : List ℕ) where
       (any_imp (λ e. list_any (is_decided k) (steps_in (claims T J) member e)) (is_decide k) (take i J) (decision_from k)
       (any_in_flat_map (is_decided k) (steps_in (claims T J) member) (take i J) h)))
 
-  -- where the claim is the member's
+  -- the case that the claim is one of the family
   take_mine : (i k : ℕ) → At J i (Take k) → is_of member (claim_at T J k) ≡ true → BeginsWith (so_far i) (one_by_one (positions T J member))
       → BeginsWith (so_far i ++ TakeOf k ∷ []) (one_by_one (positions T J member))
   take_mine i k at mine front =

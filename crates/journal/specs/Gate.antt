@@ -1,4 +1,4 @@
--- The gate of one thread, and when one of its states leads to another.
+-- The sequential gate, and the relation "leads to" between its states.
 use Rattle.std.specs.Prelude.{◌≡◌, ◌≢◌, ◌<◌, ◌≤◌, ℕ, Bool, true, false, List, [], ◌∷◌, ◌++◌, length, count_by}
 use Rattle.settlement.specs.declared.acc.Acc.{Acc}
 use Rattle.settlement.specs.declared.claim.Claim.{Claim}
@@ -10,13 +10,13 @@ use Rattle.journal.specs.Lawful.{Finished, IsReady, closing}
 use Rattle.journal.specs.declared.event.Event.{Event}
 use Rattle.journal.specs.declared.event.Event.TheVariants.{Accept, End, Take, Decide}
 
--- what a gate is at: its terms, as journals or as others see them, its journal, and whether it is stopped
+-- the state of a gate: its terms, in a form X, its journal, and whether it is stopped
 pub record GateOver (X : Type 0) : Type 0 where
   pub terms : X
   pub journal : List Event
   pub stopped : Bool
 
--- a gate, as journals see it
+-- the state of a gate with the terms in the form that journals use
 abbrev pub GateAt : Type 0
 GateAt = GateOver Terms
 
@@ -25,13 +25,14 @@ pub record Continues (earlier later : List Event) : Type 0 where
   pub rest : List Event
   pub whole : later ≡ earlier ++ rest
 
--- the later state of a gate may come behind the earlier one: the same terms, a journal that goes on, and nothing after a stop
+-- the later state may follow the earlier one: the terms are the same, the journal is continued, and
+-- after a stop nothing changes
 pub record LeadsTo {X : Type 0} (earlier later : GateOver X) : Type 0 where
   pub terms : later.terms ≡ earlier.terms
   pub journal : Continues earlier.journal later.journal
   pub stop : earlier.stopped ≡ true → later ≡ earlier
 
--- what the calls of a gate are answered
+-- the possible answers of each call of a gate
 pub data OfferReply : Type 0 where
   Accepted : ℕ → OfferReply
   Stopped : OfferReply
@@ -64,19 +65,19 @@ pub data FinishReply : Type 0 where
 abbrev pub IsRunning : GateAt → Type 0
 IsRunning old = old.stopped ≡ false
 
--- it is not stopped, and its journal is not closed
+-- the gate is not stopped, and its journal is not closed
 abbrev pub IsOpen : GateAt → Type 0
 IsOpen old = IsRunning old × (closed old.journal ≡ false)
 
--- the event is put behind the journal
+-- the event is appended to the journal
 abbrev pub Adds : GateAt → Event → GateAt → Type 0
 Adds old event new = new ≡ record old { journal = old.journal ++ event ∷ [] }
 
--- the event is put behind the journal, and the close behind it where it is due then
+-- the event is appended to the journal, and after it the close if it is then due
 abbrev pub AddsAndCloses : GateAt → Event → GateAt → Type 0
 AddsAndCloses old event new = new ≡ record old { journal = closing old.terms (old.journal ++ event ∷ []) }
 
--- `offer` of a provider's claim at a place: it is accepted where it is the provider's next
+-- `offer` of a provider's claim at a place: the claim is accepted if it is the provider's next one
 abbrev pub Offers : GateAt → ℕ → ℕ → OfferReply → GateAt → Type 0
 Offers old provider place Stopped new = (old.stopped ≡ true) × (new ≡ old)
 Offers old provider place Closed new = IsRunning old × (closed old.journal ≡ true) × (new ≡ old)
@@ -86,7 +87,8 @@ Offers old provider place (Accepted position) new =
     IsOpen old × (place ≡ length (places old.journal provider)) × (position ≡ accepted old.journal) × AddsAndCloses old (Accept provider place) new
 Offers old provider place NoMemory new = new ≡ old
 
--- `end` of a provider with so many claims: it ends where all of them are accepted
+-- `end` of a provider with the given number of claims: the provider ends if that number of claims
+-- is accepted
 abbrev pub Ends : GateAt → ℕ → ℕ → EndReply → GateAt → Type 0
 Ends old provider count Stopped new = (old.stopped ≡ true) × (new ≡ old)
 Ends old provider count Closed new = IsRunning old × (closed old.journal ≡ true) × (new ≡ old)
@@ -103,7 +105,7 @@ pub record IsWork (old : GateAt) (position : ℕ) (claim : Claim) (acc : Acc) : 
   pub ready : IsReady old.terms old.journal position
   pub job : IsJob old.terms old.journal position claim acc
 
--- `take`: any position that is ready
+-- `take` of a claim: any ready position may be taken
 abbrev pub Takes : GateAt → TakeReply → GateAt → Type 0
 Takes old Stopped new = (old.stopped ≡ true) × (new ≡ old)
 Takes old Over new = IsRunning old × Finished old.terms old.journal × (new ≡ old)
@@ -113,7 +115,7 @@ Takes old (Work position claim acc) new =
     IsRunning old × (¬ Finished old.terms old.journal) × IsWork old position claim acc × Adds old (Take position) new
 Takes old NoMemory new = new ≡ old
 
--- `finish` of the job at a position with its outcome
+-- `finish` of the job at a position with an outcome
 abbrev pub Finishes : GateAt → ℕ → Outcome → FinishReply → GateAt → Type 0
 Finishes old position decision Stopped new = (old.stopped ≡ true) × (new ≡ old)
 Finishes old position decision AlreadyDecided new = IsRunning old × (decided old.journal position ≡ true) × (new ≡ old)
@@ -121,13 +123,14 @@ Finishes old position decision Recorded new =
     IsRunning old × (decided old.journal position ≡ false) × Adds old (Decide position decision) new
 Finishes old position decision NoMemory new = new ≡ old
 
--- what the caller of `finish` knows: the position is taken, the job is the one that is taken, and the outcome is its settlement
+-- the condition of `finish`: the position was taken, the job is the one at the position, and the
+-- outcome is its settlement
 pub record MayFinish (old : GateAt) (position : ℕ) (claim : Claim) (acc : Acc) (decision : Outcome) : Type 0 where
   pub in_work : taken old.journal position ≡ true
   pub job : IsJob old.terms old.journal position claim acc
   pub settled : decision ≡ outcome_of old.terms.plan claim acc
 
--- `stop`
+-- `stop` of the gate: the journal does not change
 abbrev pub Stops : GateAt → GateAt → Type 0
 Stops old new = new ≡ record old { stopped = true }
 
@@ -139,7 +142,8 @@ abbrev pub is_any_decision : Event → Bool
 is_any_decision (Decide position decision) = true
 is_any_decision _ = false
 
--- `counts`
+-- `counts` of the gate: the numbers of claims accepted, providers ended and claims decided, and
+-- whether the gate is closed and stopped
 pub record Counts (g : GateAt) (accepts ends decisions : ℕ) (is_closed is_stopped : Bool) : Type 0 where
   pub accepts_is : accepts ≡ accepted g.journal
   pub ends_is : ends ≡ count_by is_any_end g.journal

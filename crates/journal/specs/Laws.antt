@@ -9,30 +9,31 @@ use Rattle.journal.specs.Lawful.{Lawful, Finished, Fits, closing}
 use Rattle.journal.specs.Gate.{GateAt, LeadsTo, OfferReply, EndReply, TakeReply, FinishReply, Offers, Ends, Takes, MayFinish, Finishes, Stops}
 use Rattle.journal.specs.declared.event.Event.{Event}
 
--- the journal of no event is lawful, with the close where that is due at once
+-- the empty journal, with the close if it is due at once, is lawful
 abbrev pub StartsLawful : Type 0
 StartsLawful = (T : Terms) → Lawful T (closing T [])
 
--- an event that fits keeps a journal lawful, with the close behind it where that is due then
+-- a lawful journal stays lawful when an event that fits is appended, followed by the close if it is
+-- then due
 abbrev pub StaysLawful : Type 0
 StaysLawful = (T : Terms) (J : List Event) (event : Event) → Lawful T J → Fits T J event → Lawful T (closing T (J ++ event ∷ []))
 
--- a finished journal has accepted the lesser of the cutoff and all claims
+-- a finished journal has accepted all claims, or as many as the cutoff if that is less
 abbrev pub FinishedTakesAll : Type 0
 FinishedTakesAll = (T : Terms) (J : List Event) → Finished T J → accepted J ≡ at_most T.cutoff (all_claims T)
 
--- a lawful journal that extends a finished one is that one
+-- a lawful journal that begins with a finished one is the same journal
 abbrev pub FinishedIsFinal : Type 0
 FinishedIsFinal = (T : Terms) (J rest : List Event) → Finished T J → Lawful T (J ++ rest) → rest ≡ []
 
--- each state leads to itself, and on
+-- the relation "leads to" is reflexive and transitive
 abbrev pub LeadsToItself : Type 0
 LeadsToItself = (g : GateAt) → LeadsTo g g
 
 abbrev pub LeadsOn : Type 0
 LeadsOn = (a b c : GateAt) → LeadsTo a b → LeadsTo b c → LeadsTo a c
 
--- of two states that lead to a third one, one leads to the other
+-- if two states lead to a third one, one of the two leads to the other
 abbrev pub LeadsEither : Type 0
 LeadsEither = (a b c : GateAt) → LeadsTo a c → LeadsTo b c → LeadsTo a b ⊎ LeadsTo b a
 
@@ -41,7 +42,8 @@ pub record Goes (old new : GateAt) : Type 0 where
   pub lawful : Lawful new.terms new.journal
   pub leads : LeadsTo old new
 
--- from a lawful state each call of the gate of one thread goes to a lawful one, where its condition is met
+-- each call of the sequential gate, if its condition holds, changes a lawful state to a lawful one
+-- to which the old one leads
 abbrev pub OfferGoes : Type 0
 OfferGoes = (old new : GateAt) (provider place : ℕ) (reply : OfferReply)
     → Lawful old.terms old.journal → place < length (claims_of old.terms provider) → Offers old provider place reply new → Goes old new
@@ -60,7 +62,7 @@ FinishGoes = (old new : GateAt) (position : ℕ) (claim : Claim) (acc : Acc) (de
 abbrev pub StopGoes : Type 0
 StopGoes = (old new : GateAt) → Lawful old.terms old.journal → Stops old new → Goes old new
 
--- where a state leads to another one, a job of the first, once taken, is one of the second
+-- if a state leads to another one, a job of the first state is the same job in the second
 abbrev pub JobsStay : Type 0
 JobsStay = (old new : GateAt) (position : ℕ) (claim : Claim) (acc : Acc)
     → LeadsTo old new → IsJob old.terms old.journal position claim acc → IsJob new.terms new.journal position claim acc

@@ -1,4 +1,5 @@
--- The laws of "leads to": each state of a gate leads to itself, and on, and of two that lead to a third one leads to the other.
+-- The relation "leads to" is reflexive and transitive, and if two states lead to a third one, one
+-- of the two leads to the other.
 use Rattle.std.proofs.Common.{◌≡◌, ◌⊎◌, false, List, [], ◌∷◌, ◌++◌, drop, get_or, refl, sym, ap, ◌∙◌, subst, inl, inr, append_assoc, append-nil}
 use Rattle.std.proofs.lemmas.Bool.{both_ways, cases_Bool}
 use Rattle.journal.specs.Gate.{GateOver, Continues, LeadsTo}
@@ -13,7 +14,7 @@ continues_on J K L first second = record {
   whole = second.whole ∙ ap (λ w. w ++ second.rest) first.whole ∙ append_assoc J first.rest second.rest;
 }
 
--- of two fronts of a list one continues the other
+-- of two prefixes of a list, one continues the other
 compared : (J r K s : List Event) → J ++ r ≡ K ++ s → Continues J K ⊎ Continues K J
 compared [] r K s h = inl (record { rest = K; whole = refl })
 compared (x ∷ J) r [] s h = inr (record { rest = x ∷ J; whole = refl })
@@ -25,11 +26,11 @@ compared (x ∷ J) r (y ∷ K) s h =
     ]
 
 module _ {X : Type 0} where
-  -- each state leads to itself
+  -- the relation is reflexive
   pub leads_itself : (gate : GateOver X) → LeadsTo gate gate
   leads_itself gate = record { terms = refl; journal = continues_itself gate.journal; stop = λ _. refl }
 
-  -- where a state leads to another one, it leads to whatever that one leads to
+  -- the relation is transitive
   pub leads_further : (a b c : GateOver X) → LeadsTo a b → LeadsTo b c → LeadsTo a c
   leads_further a b c first second = record {
     terms = second.terms ∙ first.terms;
@@ -39,11 +40,11 @@ module _ {X : Type 0} where
         second.stop (ap (λ g. g.stopped) same ∙ stopped) ∙ same;
   }
 
-  -- a state that is not stopped leads to another one of the same terms whose journal goes on from its own
+  -- a state that is not stopped leads to every state with the same terms and a continued journal
   pub running_leads : (a b : GateOver X) → a.stopped ≡ false → b.terms ≡ a.terms → Continues a.journal b.journal → LeadsTo a b
   running_leads a b runs terms on = record { terms = terms; journal = on; stop = λ stopped. absurd (both_ways a.stopped runs stopped) }
 
-  -- of two states that lead to a third one, one leads to the other
+  -- if two states lead to a third one, one of the two leads to the other
   pub leads_either : (a b c : GateOver X) → LeadsTo a c → LeadsTo b c → LeadsTo a b ⊎ LeadsTo b a
   leads_either a b c ac bc =
       elim (cases_Bool a.stopped) [

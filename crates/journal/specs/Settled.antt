@@ -1,4 +1,5 @@
--- The settlement, as journals see it: what it is inside is nothing to them. `unfolding` opens both.
+-- The settlement, as journals use it: proofs about journals do not depend on how it is defined.
+-- Where they do, `unfolding` opens both definitions.
 use Rattle.dtable.specs.Plan.{PlanParts}
 use Rattle.std.specs.Prelude.{Bool}
 use Rattle.settlement.specs.Accounts.{grown}
@@ -7,10 +8,11 @@ use Rattle.settlement.specs.declared.acc.Acc.{Acc}
 use Rattle.settlement.specs.declared.claim.Claim.{Claim}
 use Rattle.settlement.specs.declared.outcome.Outcome.{Outcome}
 
--- the outcome of a claim by a plan, at its account's accumulators
+-- the outcome of a claim under a plan, at the accumulators of its account
 unfoldable pub outcome_of : PlanParts → Claim → Acc → Outcome
 outcome_of plan claim acc = outcome plan claim acc
 
--- an account's accumulators after a claim with this outcome, which may be its own, or of another member of its family
+-- the accumulators of an account after this outcome of a claim; `own` is true if the claim is of
+-- this account, and `shared` if it is of the same family and year
 unfoldable pub accumulated : Bool → Bool → Acc → Outcome → Acc
 accumulated own shared acc decision = grown own shared acc decision

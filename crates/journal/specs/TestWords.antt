@@ -1,4 +1,5 @@
--- Words of the tests alone: worked journals, and what the definitions say of them.
+-- Definitions for tests only: journals that were worked out by hand, and the properties that they
+-- must have.
 use Rattle.std.specs.Prelude.{◌≡◌, ◌≢◌, true, false, List, [], ◌∷◌, ◌++◌, Some, None}
 use Rattle.dtable.specs.Plan.{PlanParts}
 use Rattle.settlement.specs.Accounts.{family_of}
@@ -11,15 +12,16 @@ use Rattle.journal.specs.Gate.{GateAt, OfferReply, EndReply, TakeReply, FinishRe
 use Rattle.journal.specs.declared.event.Event.{Event}
 use Rattle.journal.specs.declared.event.Event.TheVariants.{Accept, End, Close, Take, Decide}
 
--- one provider without claims: its end and the close are a finished journal
+-- for a single provider without claims, its end and the close are a finished journal
 abbrev pub EmptyFileFinishes : Type 0
 EmptyFileFinishes = (plan : PlanParts) → Finished (record { plan = plan; files = [] ∷ []; balances = []; cutoff = None }) (End 1 ∷ Close ∷ [])
 
--- with cutoff 0 the close alone is a finished journal, whatever the files hold
+-- with cutoff 0 the close alone is a finished journal, whatever the files contain
 abbrev pub NothingIsAccepted : Type 0
 NothingIsAccepted = (plan : PlanParts) (files : List (List Claim)) → Finished (record { plan = plan; files = files; balances = []; cutoff = Some 0 }) (Close ∷ [])
 
--- two providers, the first with two claims of one family, the second with a claim of another
+-- two providers: the first one with two claims of one family, the second one with a claim of
+-- another family
 pub record TwoFiles : Type 0 where
   pub plan : PlanParts
   pub first : Claim
@@ -31,22 +33,24 @@ pub record TwoFiles : Type 0 where
 abbrev pub terms_of : TwoFiles → Terms
 terms_of w = record { plan = w.plan; files = (w.first ∷ w.second ∷ []) ∷ (w.other ∷ []) ∷ []; balances = []; cutoff = None }
 
--- all three are accepted, and the first is in work
+-- all three claims are accepted, and the first one is taken
 abbrev pub in_work : List Event
 in_work = Accept 1 0 ∷ Take 0 ∷ Accept 1 1 ∷ Accept 2 0 ∷ []
 
--- a family's claims take turns: the second waits for the first, and the other family's does not
+-- the claims of a family are decided in order: the second claim waits for the first one, and the
+-- claim of the other family does not
 pub record MembersTakeTurns (w : TwoFiles) : Type 0 where
   pub lawful : Lawful (terms_of w) in_work
   pub first_in_work : ¬ IsReady (terms_of w) in_work 0
   pub second_waits : ¬ IsReady (terms_of w) in_work 1
   pub other_is_ready : IsReady (terms_of w) in_work 2
 
--- the gate at this journal
+-- a running gate with this journal
 abbrev pub gate_at : Terms → List Event → GateAt
 gate_at T J = record { terms = T; journal = J; stopped = false }
 
--- the first calls of a gate over these files, with their answers, and the gate behind each
+-- the first calls of a gate over these files, with their answers and the state of the gate after
+-- each call
 pub record AnswersInTurn (w : TwoFiles) : Type 0 where
   pub first_is_accepted : Offers (gate_at (terms_of w) []) 1 0 (OfferReply.Accepted 0) (gate_at (terms_of w) (Accept 1 0 ∷ []))
   pub first_again : Offers (gate_at (terms_of w) (Accept 1 0 ∷ [])) 1 0 (OfferReply.OutOfTurn 1) (gate_at (terms_of w) (Accept 1 0 ∷ []))
@@ -60,7 +64,7 @@ pub record AnswersInTurn (w : TwoFiles) : Type 0 where
   pub last_closes :
       Ends (gate_at (terms_of w) (in_work ++ End 1 ∷ [])) 2 1 EndReply.Ended (gate_at (terms_of w) (in_work ++ End 1 ∷ End 2 ∷ Close ∷ []))
 
--- a decision is recorded once, and the family's next claim may be taken behind it
+-- a decision is recorded once, and the family's next claim may be taken after it
 pub record AnswersOnce (w : TwoFiles) (decision : Outcome) : Type 0 where
   pub is_recorded :
       Finishes (gate_at (terms_of w) in_work) 0 decision FinishReply.Recorded (gate_at (terms_of w) (in_work ++ Decide 0 decision ∷ []))
@@ -69,7 +73,7 @@ pub record AnswersOnce (w : TwoFiles) (decision : Outcome) : Type 0 where
       (gate_at (terms_of w) (in_work ++ Decide 0 decision ∷ []))
   pub second_is_ready : IsReady (terms_of w) (in_work ++ Decide 0 decision ∷ []) 1
 
--- after a stop every call is answered so, and nothing is recorded
+-- after a stop every call answers `Stopped` and records nothing
 pub record AnswersStopped (w : TwoFiles) (decision : Outcome) (stopped : GateAt) : Type 0 where
   pub stop : Stops (gate_at (terms_of w) in_work) stopped
   pub offer : Offers stopped 1 2 OfferReply.Stopped stopped

@@ -1,4 +1,4 @@
--- A family's claims take turns, those of all its members.
+-- The claims of a family, those of all its members, are decided one after another.
 use Rattle.std.specs.Prelude.{◌≡◌, ℕ, cond, List, [], ◌∷◌, ◌++◌, get_or, flat_map, Option, None}
 use Rattle.settlement.specs.declared.claim.Claim.{Claim}
 use Rattle.journal.specs.Terms.{Terms}
@@ -7,7 +7,7 @@ use Rattle.journal.specs.Lawful.{Lawful}
 use Rattle.journal.specs.declared.event.Event.{Event}
 use Rattle.journal.specs.declared.event.Event.TheVariants.{Take, Decide}
 
--- a step of the claim at a position: it is taken, and then it is decided
+-- a step of the claim at a position: the claim is taken, or it is decided
 pub data Step : Type 0 where
   TakeOf : ℕ → Step
   DecisionOf : ℕ → Step
@@ -21,17 +21,17 @@ steps_in cs lane _ = []
 abbrev pub steps : Terms → List Event → List ℕ → List Step
 steps T J lane = flat_map (steps_in (claims T J) lane) J
 
--- each of these positions is taken and decided before the next one is taken
+-- each of these positions is taken and then decided, before the next one is taken
 abbrev pub one_by_one : List ℕ → List Step
 one_by_one [] = []
 one_by_one (k ∷ ks) = TakeOf k ∷ DecisionOf k ∷ one_by_one ks
 
--- the whole begins with this front
+-- the list begins with this prefix
 pub record BeginsWith (front whole : List Step) : Type 0 where
   pub rest : List Step
   pub is : whole ≡ front ++ rest
 
--- in a lawful journal the takes and decisions of a family's claims are: the first taken, the first decided, the second taken,
--- and so on, as far as the journal goes
+-- in a lawful journal the steps of a family's claims are these: the first claim is taken, the first
+-- is decided, the second is taken, and so on, as far as the journal goes
 abbrev pub TakeTurns : Type 0
 TakeTurns = (T : Terms) (J : List Event) (lane : List ℕ) → Lawful T J → BeginsWith (steps T J lane) (one_by_one (positions T J lane))

@@ -1,4 +1,4 @@
-//! The outcome of a claim, as a journal keeps it.
+//! The outcome of a claim, as a journal stores it.
 ghost use Rattle.std.specs.Prelude.{◌≡◌, IfOk};
 ghost use Rattle.std.specs.Result.{IfErr};
 
@@ -6,7 +6,7 @@ use settlement::Outcome;
 use std::alloc::{AllocFailed, Global};
 use std::marker::Model;
 
-/// The outcome of a claim, on the heap. Contracts see the outcome.
+/// The outcome of a claim, in a box. Contracts treat it as the outcome itself.
 #[derive(Drop)]
 pub struct Decision {
     outcome: Box<Outcome>,
@@ -22,7 +22,11 @@ impl Model for Decision {
 }
 
 impl Decision {
-    /// The decision with this outcome; the outcome comes back where there is no memory.
+    /// Boxes the outcome.
+    ///
+    /// # Errors
+    ///
+    /// Returns the outcome if memory cannot be allocated.
     pub fn new(alloc: Global, outcome: Outcome) -> Result<Decision, AllocFailed<Outcome>>
         ensures value { IfOk result (λ made. made ≡ outcome) }
         ensures back { IfErr result (λ failed. failed.value ≡ outcome) }
@@ -33,14 +37,14 @@ impl Decision {
         }
     }
 
-    /// The outcome.
+    /// Returns a reference to the outcome.
     pub fn outcome(&self) -> &Outcome
         ensures { result.now ≡ self.now }
     {
         &*self.outcome
     }
 
-    /// The outcome, taken out again.
+    /// Unboxes the outcome.
     pub fn into_outcome(self) -> Outcome
         ensures { result ≡ self }
     {

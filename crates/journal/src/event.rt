@@ -1,37 +1,37 @@
-//! Events: what a journal is a list of.
+//! The events of a journal.
 
 use crate::decision::Decision;
 
-/// One entry of a journal. Providers count from 1, places and positions from 0.
+/// One event of a journal. Providers are numbered from 1, places and positions from 0.
 ///
-/// An event is a tag and two words, 24 bytes, whatever it tells: a journal has about three for each claim, and grows by
-/// copying. So the outcome of a decision, ten words and its remarks, stands on the heap behind one of the two.
+/// A journal has about three events for each claim and grows by copying, so an event is small: a
+/// tag and two words, 24 bytes. This is why the outcome of a decision is boxed.
 #[derive(Drop)]
 pub enum Event {
-    /// The next claim of a provider's file is accepted; how many were accepted before is the claim's position.
+    /// The next claim of a provider's file is accepted. Its position is the number of claims that
+    /// were accepted before it.
     Accept {
-        /// The provider.
         provider: usize,
-        /// The claim's place among the claims of the provider's file.
+        /// The place of the claim among the claims of the provider's file.
         place: usize,
     },
-    /// All claims of a provider are accepted.
+    /// All claims of a provider have been accepted.
     End {
-        /// The provider.
         provider: usize,
     },
-    /// No more claims are accepted: the cutoff is reached, or all providers have ended.
+    /// The intake is closed, because the cutoff is reached or all providers have ended. No claim is
+    /// accepted afterwards.
     Close,
-    /// Work on a claim begins.
+    /// A worker takes a claim and begins to decide it.
     Take {
-        /// The claim's position.
+        /// The position of the claim.
         position: usize,
     },
     /// A claim is decided.
     Decide {
-        /// The claim's position.
+        /// The position of the claim.
         position: usize,
-        /// What it was decided to be.
+        /// The outcome of the claim.
         outcome: Decision,
     },
 }

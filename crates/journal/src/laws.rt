@@ -1,4 +1,5 @@
-//! Laws of journals and of the states of a gate, for proofs that stand on them. Each call does nothing.
+//! Laws of journals and of the states of a gate, to be cited by other proofs. The calls have no
+//! effect.
 ghost use Rattle.journal.specs.Laws.{
   StartsLawful,
   StaysLawful,
@@ -18,38 +19,42 @@ ghost use Rattle.journal.specs.Order.{StaysInOrder};
 ghost use Rattle.journal.specs.Turns.{TakeTurns};
 ghost use Rattle.journal.specs.Families.{FamiliesAreTheirMembers};
 
-/// The journal of no event is lawful, with the close where that is due at once.
+/// The empty journal is lawful. If the close is due at once, the journal with the close alone is
+/// lawful.
 pub fn starts_lawful()
     ensures { StartsLawful }
 {}
 
-/// An event that fits keeps a journal lawful, with the close behind it where that is due then.
+/// A lawful journal stays lawful when an event that fits is appended, followed by the close if it
+/// is then due.
 pub fn stays_lawful()
     ensures { StaysLawful }
 {}
 
-/// A finished journal has accepted the lesser of the cutoff and all claims.
+/// The number of claims that a finished journal has accepted is the number of all claims, or the
+/// cutoff if that is less.
 pub fn finished_takes_all()
     ensures { FinishedTakesAll }
 {}
 
-/// A lawful journal that extends a finished one is that one.
+/// A finished journal is final: a lawful journal that begins with it is the same journal.
 pub fn finished_is_final()
     ensures { FinishedIsFinal }
 {}
 
-/// Each state of a gate leads to itself, and where it leads to leads on.
+/// The relation "leads to" between the states of a gate is reflexive and transitive.
 pub fn leads_in_order()
     ensures itself { LeadsToItself }
     ensures on { LeadsOn }
 {}
 
-/// Of two states of a gate that lead to a third one, one leads to the other.
+/// If two states of a gate lead to a third one, one of the two leads to the other.
 pub fn leads_either_way()
     ensures { LeadsEither }
 {}
 
-/// From a lawful state each call of the gate of one thread goes to a lawful one, which the old one leads to.
+/// Each call of the sequential gate changes a lawful state to a lawful one, and the old state leads
+/// to the new one.
 pub fn gate_stays_lawful()
     ensures offer { OfferGoes }
     ensures end { EndGoes }
@@ -58,25 +63,27 @@ pub fn gate_stays_lawful()
     ensures stop { StopGoes }
 {}
 
-/// A job that was handed out stays one wherever its state leads: what the earlier claims of its family leave is settled with
-/// the journal in front of it.
+/// A job that was taken does not change in later states of the gate: its claim and its accumulators
+/// depend only on the claims that were accepted before it.
 pub fn jobs_stay()
     ensures { JobsStay }
 {}
 
-/// In a lawful journal a family's claims, those of all its members, take turns: each is taken and decided before the next is
-/// taken, in the order in which they were accepted.
+/// In a lawful journal the claims of a family, those of all its members, are decided one after
+/// another: each is taken and decided before the next one is taken, in the order of their
+/// acceptance.
 pub fn members_take_turns()
     ensures { TakeTurns }
 {}
 
-/// What a family has before a claim is the sum over its members: of what was met of the deductible, and of what was paid out of
-/// pocket.
+/// The accumulators of a family before a claim are the sums over its members: of the amounts met of
+/// the deductible, and of the amounts paid out of pocket.
 pub fn families_are_their_members()
     ensures { FamiliesAreTheirMembers }
 {}
 
-/// A claim that is accepted behind the ends of all files in front of its own leaves the order of acceptance that of the files.
+/// If acceptance has followed the order of the files, it still does after the next claim of a
+/// provider is accepted, provided that all earlier files have ended.
 pub fn acceptance_stays_in_order()
     ensures { StaysInOrder }
 {}

@@ -1,7 +1,10 @@
-//! The journal of a run: what is lawful in it, when it is finished, and what may come next.
+//! The journal of a run: the rules that a lawful journal obeys, when a journal is finished, and
+//! which event may come next.
 //!
-//! Definitions and their laws; no thread, no state. `event` says what a journal is a list of; the definitions begin with
-//! `specs/Terms.antt` and `specs/Events.antt`; `laws` says what follows from a journal's being lawful.
+//! The crate has definitions and their laws, without threads or state. `event.rt` defines the
+//! events that a journal consists of. The definitions begin with `specs/Terms.antt` and
+//! `specs/Events.antt`, `specs/Lawful.antt` has the rules, and `laws.rt` lists what follows from
+//! them.
 #![tactic(auto)]
 
 mod decision;

@@ -1,16 +1,16 @@
-//! The laws, called once, and worked journals: the definitions say of them what they must.
+//! Calls the laws, and checks the definitions on journals that were worked out by hand.
 ghost use Rattle.journal.specs.TestWords.{EmptyFileFinishes, NothingIsAccepted, Worked};
 
 use super::*;
 
-/// One provider without claims ends, and the journal is finished; with cutoff 0 it is at once.
+/// The end of a single provider without claims finishes the journal, and so does the cutoff 0.
 fn nothing_to_accept()
     ensures empty_file { EmptyFileFinishes }
     ensures cutoff { NothingIsAccepted }
 {}
 
-/// A member's second claim waits for the first, another member's claim doesn't; and the gate's answers to the calls that were
-/// worked by hand.
+/// The second claim of a member waits for the first one, but the claim of another member does not.
+/// The gate gives the answers that were worked out by hand.
 fn answers_as_worked()
     ensures { Worked }
 {}

@@ -1,4 +1,5 @@
--- Journals that are finished over the same terms and accept in the order of the files accept the same claims.
+-- Journals that are finished under the same terms and accept in the order of the files accept the
+-- same claims.
 use Rattle.std.proofs.Common.{◌≡◌, List, take, sym, ap, ◌∙◌}
 use Rattle.journal.specs.Terms.{Terms}
 use Rattle.journal.specs.Events.{accepted, accepts}

@@ -1,4 +1,4 @@
--- Of the same terms there is one remittance in the order of the files.
+-- For given terms there is at most one remittance in the order of the files.
 use Rattle.std.proofs.Common.{◌≡◌, ℕ, List, [], ◌∷◌, ◌++◌, map, take, length, get_or, slice_get, fold, Option, None, option_map, option_and_then, refl, sym, ap, ◌∙◌, subst}
 use Rattle.std.specs.List.{AllZip}
 use Rattle.fixpoint.specs.Money.{money_text}
@@ -26,7 +26,7 @@ use Rattle.orders.specs.Order.{outcome_by, paid_part, report_by, sum_below}
 use Rattle.orders.specs.Remittance.{AreAlike, IsOrderedRemittanceOf}
 use Rattle.orders.proofs.Reports.{report_so}
 
--- texts have one list of rows each
+-- each text has at most one list of rows
 rows_one : TextHasOneListOfRows → (plan : PlanParts) → IsPlan plan → (texts : List (List ℕ)) (one other : List (List Row)) → AllZip (AreRowsOf plan.names) texts one → AllZip (AreRowsOf plan.names) texts other
     → one ≡ other
 rows_one law plan is [] [] [] a b = refl
@@ -39,7 +39,7 @@ rows_one law plan is (t ∷ ts) (x ∷ xs) (y ∷ ys) a b =
     let rest : xs ≡ ys = rows_one law plan is ts xs ys a.1 b.1 in
     λ i. first i ∷ rest i
 
--- and one list of claims
+-- each text has at most one list of claims
 claims_one : TextHasOneListOfRows → (plan : PlanParts) → IsPlan plan → (texts : List (List ℕ)) (one other : List (List Claim)) → AllZip (AreClaimsOf plan.names) texts one
     → AllZip (AreClaimsOf plan.names) texts other → one ≡ other
 claims_one law plan is [] [] [] a b = refl
@@ -53,7 +53,7 @@ claims_one law plan is (t ∷ ts) (x ∷ xs) (y ∷ ys) a b =
     let rest : xs ≡ ys = claims_one law plan is ts xs ys a.1 b.1 in
     λ i. first i ∷ rest i
 
--- what claims are decided to be goes by the plan, the files' claims and what accounts begin with alone
+-- the outcomes depend only on the plan, the claims of the files and the opening balances
 outcomes_of : PlanParts → List (List Claim) → Book → List Filed → ℕ → Option Outcome
 outcomes_of plan files book order k =
     option_map
@@ -64,7 +64,7 @@ outcomes_are : (T : Terms) (order : List Filed) → outcome_by T order ≡ outco
 unfolding outcomes_of
 outcomes_are T order = refl
 
--- and so does the report
+-- the records of the remittance depend only on the version, the outcomes, the order and the rows
 report_of : ℕ → (ℕ → Option Outcome) → List Filed → List (List Row) → List (List (List ℕ))
 report_of version outcome order files =
     header_fields version

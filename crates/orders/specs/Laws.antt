@@ -11,18 +11,21 @@ use Rattle.remit.specs.Report.{report_records}
 use Rattle.journal.specs.Order.{IsInOrder}
 use Rattle.orders.specs.Order.{outcome_by, report_by, total_by}
 
--- in a finished journal each position is decided as the order of acceptance says
+-- in a finished journal the outcome at each position is the one that the order of acceptance
+-- determines
 abbrev pub DecidedByOrder : Type 0
 DecidedByOrder = (T : Terms) (J : List Event) (position : ℕ) → Finished T J → position < accepted J → decision_at J position ≡ outcome_by T (accepts J) position
 
--- so are its totals
+-- in a finished journal the totals are those that the order of acceptance determines
 abbrev pub TotalsByOrder : Type 0
 TotalsByOrder = (T : Terms) (J : List Event) (amount : Outcome → ℤ) → Finished T J → sum_of amount (paid_outcomes J) ≡ total_by T (accepts J) amount
 
--- so is its report
+-- in a finished journal the records of the remittance are those that the order of acceptance
+-- determines
 abbrev pub ReportIsOfItsOrder : Type 0
 ReportIsOfItsOrder = (version : ℕ) (T : Terms) (J : List Event) (files : List (List Row)) → Finished T J → report_records version J files ≡ report_by version T (accepts J) files
 
--- journals that are finished over the same terms, and accept in the order of the files, accept the same
+-- journals that are finished under the same terms, and accept in the order of the files, accept the
+-- same claims in the same order
 abbrev pub AcceptAlike : Type 0
 AcceptAlike = (T : Terms) (J K : List Event) → Finished T J → Finished T K → IsInOrder T J → IsInOrder T K → accepts J ≡ accepts K

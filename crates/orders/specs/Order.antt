@@ -1,4 +1,5 @@
--- What the order of acceptance alone decides: outcomes, totals and the report, as functions of the terms and of that order.
+-- What the order of acceptance determines: outcomes, totals and the remittance, as functions of the
+-- terms and of this order.
 use Rattle.std.specs.Prelude.{◌≡◌, ◌<◌, ◌≤◌, ℕ, zero, suc, ℤ, pos, ◌+ℤ◌, true, List, [], ◌∷◌, ◌++◌, map, take, length, get_or, fold, Option, Some, None, option_map}
 use Rattle.std.specs.Option.{option_and_then}
 use Rattle.fixpoint.specs.Money.{money_text}
@@ -15,32 +16,32 @@ use Rattle.remit.specs.Amounts.{amounts, amount_of}
 use Rattle.remit.specs.Decided.{paid_by, position_from, sum_of}
 use Rattle.remit.specs.Records.{header_fields, records_of, total_front}
 
--- the claims accepted in this order, by position
+-- the claims that are accepted in this order, by position
 abbrev pub claims_by : Terms → List Filed → List (Option Claim)
 claims_by T order = map (claim_filed T) order
 
--- what each account has before a position of this order
+-- the accumulators of each account before a position of this order
 abbrev pub before_by : Terms → List Filed → ℕ → Book
 before_by T order position = fold (noted T.plan) (opening T.balances) (take position (claims_by T order))
 
--- a claim's settlement at a position of this order
+-- the settlement of a claim at a position of this order
 abbrev pub settled_by : Terms → List Filed → ℕ → Claim → Outcome
 settled_by T order position claim = outcome_of T.plan claim (before_by T order position (account_of T.plan claim))
 
--- what the claim at a position of this order is decided to be, if there is one
+-- the outcome of the claim at a position of this order, if there is one
 abbrev pub outcome_by : Terms → List Filed → ℕ → Option Outcome
 outcome_by T order position = option_map (settled_by T order position) (get_or (claims_by T order) position None)
 
--- what a provider's claim at a place is decided to be, if it is accepted in this order
+-- the outcome of a provider's claim at a place, if it is accepted in this order
 abbrev pub decided_by : Terms → List Filed → ℕ → ℕ → Option Outcome
 decided_by T order provider place = option_and_then (outcome_by T order) (position_from 0 order provider place)
 
--- the sum of what is said of each number below one
+-- the sum of the values for the numbers 0 to n - 1
 abbrev pub sum_below : ℕ → (ℕ → ℤ) → ℤ
 sum_below zero part = pos 0
 sum_below (suc n) part = sum_below n part +ℤ part n
 
--- what a decision adds to the sum of an amount: a claim that isn't paid adds nothing
+-- the part of an outcome in the sum of an amount; only a paid claim adds to it
 abbrev pub paid_part : (Outcome → ℤ) → Option Outcome → ℤ
 paid_part amount None = pos 0
 paid_part amount (Some decision) = sum_of amount (paid_by decision.verdict decision)
@@ -52,7 +53,7 @@ total_by T order amount = sum_below (length order) (λ position. paid_part amoun
 abbrev pub total_text_by : Terms → List Filed → Amount → List ℕ
 total_text_by T order amount = money_text (total_by T order (amount_of amount))
 
--- the records of the report, where claims are accepted in this order
+-- the records of the remittance if claims are accepted in this order
 abbrev pub report_by : ℕ → Terms → List Filed → List (List Row) → List (List (List ℕ))
 report_by version T order files =
     header_fields version

@@ -1,6 +1,6 @@
-//! The order in which claims are accepted, and what it alone decides: each outcome, each total, and the report.
+//! The order of acceptance, and what it determines: each outcome, each total, and the remittance.
 //!
-//! Definitions and laws over `journal` and `remit`; no thread, no state.
+//! The crate has definitions and laws on `journal` and `remit`, without threads or state.
 #![tactic(auto)]
 
 mod laws;

@@ -1,4 +1,4 @@
--- The claims of a file, one after another, and jobs in work.
+-- The claims of a file in order, and jobs in progress.
 use Rattle.std.proofs.Common.{◌≡◌, ℕ, zero, suc, ◌<◌, ◌≤◌, ◌+◌, ◌-◌, true, false, List, [], ◌∷◌, ◌++◌, length, get_or, Some, Result, Ok, Err, refl, sym, ap, ◌∙◌, subst, IfOk, arith, append_assoc, append-nil, eq-eqb}
 use Rattle.std.specs.Borrow.{Bor}
 use Rattle.std.specs.List.{AllZip, slice_get}
@@ -49,7 +49,7 @@ at_start rows_law terms T q left apart is within starts =
       apart = apart;
     }
 
--- a reader at the start of a provider's file
+-- a new reader is at the start of a provider's file
 pub reads : StartHasTheRows → (terms : TermsParts) (provider : ℕ) (left : RowsLeft)
     → StandApart left.layout.columns → 1 ≤ provider → provider ≤ length terms.files → IsAtStart terms.plan.names (get_or terms.files (provider - 1) []) left
     → ForTerms terms (λ T. IsReader T provider left)
@@ -59,7 +59,7 @@ reads rows_law terms (suc q) left apart least most starts T is =
     at_start rows_law terms T q left apart is (omega (arith, most))
     (subst (λ i. IsAtStart terms.plan.names (get_or terms.files i []) left) same starts)
 
--- a provider among the files is one among their texts
+-- a provider of the files is also one of their texts
 pub among_texts : (files : List (Bor (List ℕ))) (texts : List (List ℕ)) (provider : ℕ) → texts_of files ≡ texts → provider ≤ length files → provider ≤ length texts
 among_texts files texts provider same within =
     let as_many : length files ≡ length texts = sym (length-map files (λ (f : Bor (List ℕ)). f.now)) ∙ ap length same in
@@ -69,7 +69,7 @@ get_behind : (xs : List Claim) (x : Claim) (ys : List Claim) → slice_get (xs +
 get_behind [] x ys = refl
 get_behind (z ∷ xs) x ys = get_behind xs x ys
 
--- the claim that a reader gives
+-- the claim that the reader returns is the one at its place, and the reader goes on after it
 pub record IsNextOf (T : Terms) (provider number place : ℕ) (claim : Claim) (old new : RowsLeft) : Type 0 where
   pub filed : slice_get (claims_of T provider) place ≡ Some claim
   pub reader : IsReader T provider new
@@ -94,19 +94,19 @@ gives law T provider number place claim old new r given =
       };
     }
 
--- a reader that has nothing left has counted the claims
+-- a reader without records left has counted all claims
 pub has_claims : NoRecordsNoRows → (T : Terms) (provider count : ℕ) (left : RowsLeft) → IsReader T provider left → left.records ≡ [] → left.place ≡ count → HasClaims T provider count
 has_claims law T provider count left r none same =
     let rows : r.rows ≡ [] = law left r.rows none r.are_rows in
     let whole : claims_of T provider ≡ r.front = r.whole ∙ ap (λ w. r.front ++ claims_among w) rows ∙ append-nil r.front in
     record { known = r.known; count_is = sym same ∙ sym r.counted ∙ sym (ap length whole) }
 
--- a reader behind so many claims of a provider's file
+-- a reader after the first claims of a provider's file, as many as the place says
 pub record IsBehind (terms : TermsParts) (provider place : ℕ) (left : RowsLeft) : Type 0 where
   pub reader : ForTerms terms (λ T. IsReader T provider left)
   pub place_is : left.place ≡ place
 
--- what is in work stays so where the journal goes on
+-- a job in progress remains so when the journal is continued
 pub goes_on : JobsStay → (old new : GateParts) → new.terms ≡ old.terms → Continues old.journal new.journal → WorkStays old new
 goes_on law old new same on job work =
     let before : (T : Terms) → GateAt = λ T. record { terms = T; journal = old.journal; stopped = false } in
@@ -122,16 +122,16 @@ goes_on law old new same on job work =
           (work.its T (subst (λ p. IsTermsOf p T) same is));
     }
 
--- and where the gate is stopped
+-- a job in progress remains so when the gate is stopped
 pub stays_stopped : (old new : GateParts) → new ≡ record old { stopped = true } → WorkStays old new
 stays_stopped old new same job work =
     subst (λ g. IsAtWork g job) (sym same) (record { is_taken = work.is_taken; its = work.its })
 
--- an event more
+-- a journal with one more event continues the old one
 pub one_more : (old new : GateParts) (event : Event) → new ≡ record old { journal = old.journal ++ event ∷ [] } → Continues old.journal new.journal
 one_more old new event is = record { rest = event ∷ []; whole = ap (λ (g : GateParts). g.journal) is }
 
--- a job that is taken is in work
+-- a job that is taken is in progress
 pub at_work : JobsStay → (old new : GateParts) (job : Job) → ForTerms old.terms (λ T. IsJob T old.journal job.position job.claim job.acc)
     → new ≡ record old { journal = old.journal ++ Take job.position ∷ [] } → IsAtWork new job
 at_work law old new job its is =
@@ -145,19 +145,19 @@ at_work law old new job its is =
           (its T terms);
     })
 
--- what is in work stays so where the state leads to another one
+-- a job in progress remains so in every state to which the old one leads
 pub stays_at_work : JobsStay → (earlier later : GateParts) (job : Job) → LeadsTo earlier later → IsAtWork earlier job → IsAtWork later job
 stays_at_work law earlier later job leads work = goes_on law earlier later leads.terms leads.journal job work
 
 pub work_stays : JobsStay → (earlier later : GateParts) → LeadsTo earlier later → WorkStays earlier later
 work_stays law earlier later leads = goes_on law earlier later leads.terms leads.journal
 
--- so does a job that was handed back
+-- a job that has come back is still in progress
 pub back_at_work : JobsStay → (earlier later : GateParts) (given back : Job) → LeadsTo earlier later → back ≡ given → IsAtWork earlier given → IsAtWork later back
 back_at_work law earlier later given back leads same work =
     subst (IsAtWork later) (sym same) (stays_at_work law earlier later given leads work)
 
--- a job that a call of the gate of one thread has taken is in work
+-- a job that a call of the sequential gate has taken is in progress
 pub work_taken : JobsStay → (old new : GateParts) (reply : Result Taken TakeFault) → ForTerms old.terms (λ T. Takes (at T old) (take_reply reply) (at T new))
     → IfOk reply (IsWorkOf old new) → IfOk reply (IsTaken new)
 work_taken law old new (Ok Stopped) went work = tt
@@ -166,6 +166,6 @@ work_taken law old new (Ok NothingReady) went work = tt
 work_taken law old new (Ok (Work job)) went work = at_work law old new job (λ T is. (went T is).2.job) work
 work_taken law old new (Err fault) went work = tt
 
--- the job of an answer
+-- the job of an answer of `take` is in progress
 pub its_job : (gate : GateParts) (reply : Result Taken TakeFault) (job : Job) → reply ≡ Ok (Work job) → IfOk reply (IsTaken gate) → IsAtWork gate job
 its_job gate reply job is work = subst (λ r. IfOk r (IsTaken gate)) is work

@@ -1,4 +1,4 @@
--- Words of the tests alone: how far a provider's file is read, and what is in work.
+-- Definitions for tests only: the progress of reading a provider's file, and the jobs in progress.
 use Rattle.std.specs.Prelude.{◌≡◌, ℕ, true, List, ◌++◌, length}
 use Rattle.settlement.specs.declared.claim.Claim.{Claim}
 use Rattle.intake_csv.specs.Laws.{StandApart}
@@ -13,7 +13,8 @@ use Rattle.claim_gate.specs.declared.job.Job.{Job}
 use Rattle.claim_gate.specs.declared.reply.Taken.{Taken}
 use Rattle.claim_gate.specs.declared.reply.Taken.TheVariants.{Work}
 
--- the reader has left so many of the provider's claims behind
+-- the reader has read the first claims of the provider's file, as many as its place says, and the
+-- other claims are in the rows that are left
 pub record IsReader (T : Terms) (provider : ℕ) (left : RowsLeft) : Type 0 where
   pub known : IsProvider T provider
   pub front : List Claim
@@ -23,26 +24,26 @@ pub record IsReader (T : Terms) (provider : ℕ) (left : RowsLeft) : Type 0 wher
   pub counted : length front ≡ left.place
   pub apart : StandApart left.layout.columns
 
--- the job is in work
+-- the job was taken, and it is the job at its position
 pub record IsAtWork (gate : GateParts) (job : Job) : Type 0 where
   pub is_taken : taken gate.journal job.position ≡ true
   pub its : ForTerms gate.terms (λ T. IsJob T gate.journal job.position job.claim job.acc)
 
--- what was in work still is
+-- a job in progress in the old state is in progress in the new one
 abbrev pub WorkStays : GateParts → GateParts → Type 0
 WorkStays old new = (job : Job) → IsAtWork old job → IsAtWork new job
 
--- the pass is one of the gate, and has seen these terms
+-- the pass belongs to the gate, and has seen these terms
 pub record IsCaller {P : Type 0} (has_pass : P → Type 0) (known : P → Known) (terms : TermsParts) (pass : P) : Type 0 where
   pub own : has_pass pass
   pub terms_are : (known pass).seen.terms ≡ terms
 
--- two such passes
+-- both passes belong to the gate, and have seen these terms
 pub record AreCallers {P : Type 0} (has_pass : P → Type 0) (known : P → Known) (terms : TermsParts) (passes : P × P) : Type 0 where
   pub one : IsCaller has_pass known terms passes.0
   pub other : IsCaller has_pass known terms passes.1
 
--- a job that is handed out is in work
+-- the job in the answer of `take`, if there is one, is in progress
 abbrev pub IsTaken : GateParts → Taken → Type 0
 IsTaken gate (Work job) = IsAtWork gate job
 IsTaken gate _ = Unit {0}

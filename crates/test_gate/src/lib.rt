@@ -1,4 +1,5 @@
-//! Tests of `claim_gate` by worked examples. They stand apart from it, since the tests of a crate are proved together with all of its code.
+//! Tests of `claim_gate` on worked examples. They are a crate of their own, since the tests of a
+//! crate are proved together with all of its code.
 #![tactic(auto)]
 
 #[cfg(test)]

@@ -1,4 +1,4 @@
-//! The gate by worked examples.
+//! Tests of the gate on worked examples.
 ghost use Rattle.std.specs.Prelude.{◌≡◌};
 
 mod again;
@@ -29,17 +29,17 @@ use std::alloc::Global;
 use std::process::Abort;
 use test_fixtures::{both_files, health_plan};
 
-// Ends the test. A call of it takes its caller's proof less than a `panic!` there, which puts a message together in the caller.
+// Ends the test. A call of this function costs less proof in its caller than a `panic!` there,
+// which would format a message in the caller.
 fn fail(rt: &impl Abort, wanted: &str) -> ! {
     panic!(rt; "not there: {wanted}")
 }
 
-// Ends the test where this doesn't hold: an `assert!` that has no branch in the caller.
+// Ends the test if the condition is false. Unlike an `assert!`, a call has no branch in the caller.
 fn expects(rt: &impl Abort, holds: bool, wanted: &str) {
     assert!(rt; holds, "not there: {wanted}");
 }
 
-// Whether the answer of `take` is that nothing is left to do.
 fn is_over(reply: Result<Taken, TakeFault>) -> bool {
     matches!(reply, Ok(Taken::Over))
 }
@@ -52,7 +52,7 @@ fn is_stopped(reply: Result<Taken, TakeFault>) -> bool {
     matches!(reply, Ok(Taken::Stopped))
 }
 
-// How far a gate is, without a stop.
+// The counts of a gate that is not stopped.
 fn counts(accepted: usize, ended: usize, decided: usize, closed: bool) -> Counts {
     Counts {
         accepted,
@@ -63,19 +63,17 @@ fn counts(accepted: usize, ended: usize, decided: usize, closed: bool) -> Counts
     }
 }
 
-// Whether a gate is so far.
 fn is_as_far(gate: &GateState, wanted: Counts) -> bool {
     gate.counts() == wanted
 }
 
-// Whether a gate's run isn't finished.
 fn is_unfinished<'t>(gate: GateState<'t>, terms: &'t Terms<'t>) -> bool
     requires { gate.terms ≡ terms.now }
 {
     Batch::from_state(gate, terms).is_err()
 }
 
-// Whether a gate's run is finished, with this journal.
+// Returns whether the run of the gate is finished and its journal has these events.
 fn is_finished<'t>(gate: GateState<'t>, terms: &'t Terms<'t>, words: &[u8]) -> bool
     requires { gate.terms ≡ terms.now }
 {
@@ -85,7 +83,7 @@ fn is_finished<'t>(gate: GateState<'t>, terms: &'t Terms<'t>, words: &[u8]) -> b
     }
 }
 
-// A gate to which nothing was offered.
+// The calls of a gate to which no claim was offered.
 fn begin_calls(rt: &impl Abort, alloc: Global, terms: &Terms) {
     let mut gate = gate_of(rt, alloc, terms);
     gate.foresee(&[]);
@@ -108,7 +106,7 @@ fn nothing_is_offered_yet(rt: HostRuntime) {
     );
 }
 
-// A gate that admits no claim is over at once.
+// A gate that admits no claim is finished at once.
 fn admit_none(rt: &impl Abort, alloc: Global, terms: &Terms) {
     let mut gate = gate_of(rt, alloc, terms);
     expects(rt, has_journal(&gate, b"C  "), "the close");
@@ -118,7 +116,7 @@ fn admit_none(rt: &impl Abort, alloc: Global, terms: &Terms) {
     expects(rt, is_finished(gate, terms, b"C  "), "a finished journal");
 }
 
-// The same, stopped.
+// A gate that admits no claim is stopped.
 fn stop_none(rt: &impl Abort, alloc: Global, terms: &Terms) {
     let mut gate = gate_of(rt, alloc, terms);
     gate.stop();

@@ -1,4 +1,4 @@
--- Each step of the spin lock keeps its rule.
+-- Each step of the spin lock preserves its rule.
 use Rattle.std.proofs.Common.{◌≡◌, ℕ, eqb, true, false, Option, Some, List, [], ◌∷◌, ◌++◌, set, get_or, sym, refl, ap, ◌∙◌, subst, ⊎_elim, inl, inr, arith}
 use mathlib.Core.Option.{some, none, some-ne-none}
 use lib.ListN.{get_elem?}
@@ -16,7 +16,7 @@ module _ {T : Type 0} (leads : T → T → Type 0) where
   abbrev V : Type 0
   V = SpinView T
 
-  -- the state with one more view behind the others
+  -- the state with one more view at the end
   abbrev joined_by : SpinState T → V → SpinState T
   joined_by s v = record { words = s.words; homes = s.homes; views = s.views ++ v ∷ [] }
 
@@ -49,7 +49,7 @@ module _ {T : Type 0} (leads : T → T → Type 0) where
   pub splits : (id : ℕ) (v : V) → v.holds ≡ false → Splits Rule id v v v
   splits id v idle s r at = subst (λ (vs : List V). Rule record { words = s.words; homes = s.homes; views = vs ++ v ∷ [] }) (sym (set_again s.views id v at)) (snoc_rule s v idle r (r.seen id v at))
 
-  -- the exchange found 0
+  -- the case that the exchange finds 0
   takes_free : (s : SpinState T) (r : Rule s) (id : ℕ) (me : SpinSeat T) → me.1 ≡ [] → get_elem? s.views id ≡ some me.0 → IsFree s r.current → ((x : T) → leads x x)
       → (w : V) × (a : Act (Option T)) × Valid s.homes me.1 a × Rule (stepped s 0 (either (eqb (get_or s.words 0 0) 0) 1 (get_or s.words 0 0)) id me.1 w a)
       × Takes leads (step 1 0 0 1 none) me (get_or s.words 0 0) (w, carried_after me.1 a)
@@ -77,7 +77,7 @@ module _ {T : Type 0} (leads : T → T → Type 0) where
     ),
   )
 
-  -- the exchange found 1
+  -- the case that the exchange finds 1
   takes_taken : (s : SpinState T) (r : Rule s) (id : ℕ) (me : SpinSeat T) → get_elem? s.views id ≡ some me.0 → IsTaken s r.current
       → (w : V) × (a : Act (Option T)) × Valid s.homes me.1 a × Rule (stepped s 0 (either (eqb (get_or s.words 0 0) 0) 1 (get_or s.words 0 0)) id me.1 w a)
       × Takes leads (step 1 0 0 1 none) me (get_or s.words 0 0) (w, carried_after me.1 a)

@@ -1,4 +1,4 @@
--- What no number of steps of the ticket lock undoes.
+-- What no number of steps of the ticket lock can undo.
 use Rattle.std.proofs.Common.{◌≡◌, ◌<◌, ◌≤◌, ℕ, ◌+◌, eqb, set, get_or, sym, ap, ◌∙◌, arith, eq-eqb, ne_eqb}
 use mathlib.Core.Logic.{dite}
 use mathlib.Core.Option.{some}
@@ -22,7 +22,7 @@ module _ {T : Type 0} (leads : T → T → Type 0) (first : ℕ) where
       let next : next_word s' ≡ next_word s = ap (λ ws. get_or ws 0 0) same in
       let served : served_word s' ≡ served_word s = ap (λ ws. get_or ws 1 0) same in (omega arith, omega arith)
 
-  -- the next word becomes x, and the other stays
+  -- the next ticket becomes x, and the served ticket does not change
   next_is : (s s' : TicketState T) (r : Rule s) (x : ℕ) → s'.words ≡ set s.words 0 x → (next_word s' ≡ x) × (served_word s' ≡ served_word s)
   next_is s s' r x are = (
     ap (λ ws. get_or ws 0 0) are ∙ ap (λ ws. get_or (set ws 0 x) 0 0) r.words.words,
@@ -35,7 +35,7 @@ module _ {T : Type 0} (leads : T → T → Type 0) (first : ℕ) where
     ap (λ ws. get_or ws 0 0) are ∙ (ap (λ ws. get_or (set ws 1 x) 0 0) r.words.words ∙ ap (λ ws. get_or ws 0 0) (sym r.words.words)),
   )
 
-  -- an exchange that found the word gives one more, and another leaves it
+  -- an exchange that finds the expected word increments it, and any other exchange leaves it
   exchanged : (word old : ℕ) → word ≡ old → either (eqb word old) (old + 1) word ≡ old + 1
   exchanged word old hit = ap (λ b. either b (old + 1) word) (eq-eqb word old hit)
 
@@ -53,7 +53,7 @@ module _ {T : Type 0} (leads : T → T → Type 0) (first : ℕ) where
       let more : word ≤ either (eqb word old) (old + 1) word = not_less word old in
       let served : served_word s' ≡ served_word s = is.1 in (omega arith, omega arith)
 
-  -- the end of a section raises the word that is served, and nothing wraps
+  -- the end of a critical section increments the served ticket, which does not wrap
   leave_raises : (s s' : TicketState T) (r : Rule s) (id : ℕ) (me me' : TicketSeat T) → GoesToLeave leads s s' id me me' → (served_word s' ≡ served_word s + 1) × (next_word s' ≡ next_word s)
   leave_raises s s' r id me me' goes =
       let is = served_is s s' r _ goes.0.words in

@@ -1,4 +1,4 @@
--- Each kind of step of the ticket lock keeps its rule: the words, and the values.
+-- Each kind of step of the ticket lock preserves both parts of its rule, on words and on values.
 use Rattle.std.proofs.Common.{◌≡◌, ◌⊎◌, ◌<◌, ◌≤◌, ◌%◌, ◌^◌, ℕ, ◌+◌, eqb, Option, Some, List, [], ◌∷◌, ◌++◌, set, get_or, sym, refl, ap, ◌∙◌, subst, ⊎_elim, inl, inr, arith, eq-eqb, ne_eqb}
 use mathlib.Core.Logic.{dite}
 use mathlib.Core.Option.{some, none}
@@ -23,7 +23,8 @@ module _ {T : Type 0} (leads : T → T → Type 0) (first : ℕ) where
   abbrev Rule : TicketState T → Type 0
   Rule = TicketLockRule leads first
 
-  -- a pass with no ticket gets another view with none, and no word changes; what it has seen leads to the current value
+  -- a pass without a ticket changes its view and still has no ticket, no word changes, and what the
+  -- pass has seen leads to the current value
   freely : (s : TicketState T) (r : Rule s) (id : ℕ) (k l : LiveView T) (words : List ℕ) → Has s id k → Free k → Free l → leads l.seen r.values.current × leads l.also r.values.current → l.next ≤ r.words.next → words ≡ s.words
       → Rule (with_view s words s.homes id l)
   freely s r id k l words at free free' seen word same = record {
@@ -56,7 +57,8 @@ module _ {T : Type 0} (leads : T → T → Type 0) (first : ℕ) where
         (k, live, omega arith, omega arith, (λ _. refl), λ worn. absurd (left worn)),
       ))
 
-  -- the exchange found the word that the pass had looked at, which is now its ticket
+  -- the exchange finds the next ticket that the pass has looked at, which becomes the ticket of the
+  -- pass
   draws_hit : (s : TicketState T) (r : Rule s) (id old : ℕ) (k : LiveView T) → Has s id k → k.stage ≡ Looked → r.words.next ≡ old → old < last_word → Rule (with_view s (set s.words 0 (old + 1)) s.homes id (waiting_for k old))
   draws_hit s r id old k at stage is left = record {
     words = on_words.drawn first s r.words id old k at stage is left;
@@ -92,7 +94,7 @@ module _ {T : Type 0} (leads : T → T → Type 0) (first : ℕ) where
         (k, live, (λ same. absurd (miss (same ∙ saw'))), λ other. (omega arith, refl)),
       ))
 
-  -- the word served is the pass's ticket: the slot is at home, and comes to the pass
+  -- the served ticket is that of the pass: the slot is at home, and the pass receives it
   serves_home : (s : TicketState T) (r : Rule s) (id ticket : ℕ) (k : LiveView T) → Has s id k → k.stage ≡ Waiting ticket → r.words.serving ≡ ticket → ((x : T) → leads x x) → IsHome s
       → Rule (with_view s s.words (set s.homes 0 none) id (in_section k ticket r.values.current))
   serves_home s r id ticket k at stage is same h = record {
@@ -137,7 +139,7 @@ module _ {T : Type 0} (leads : T → T → Type 0) (first : ℕ) where
         (k, ticket, live, stage, omega arith, (λ hit. absurd (miss hit)), λ _. refl),
       ))
 
-  -- the pass that holds leaves a value to which the one found leads
+  -- the pass in its critical section leaves a value to which the value found leads
   leaves_out : (s : TicketState T) (r : Rule s) (id ticket : ℕ) (k : LiveView T) (value : T) → Has s id k → k.stage ≡ Holding ticket → leads k.seen value → ((x : T) → leads x x) → ((x y z : T) → leads x y → leads y z → leads x z)
       → IsOut s r.words.serving → Rule (with_view s (set s.words 1 (ticket + 1)) (set s.homes 0 (some (Some value))) id (after_section k ticket value))
   leaves_out s r id ticket k value at stage grown same through o = record {
@@ -169,14 +171,14 @@ module _ {T : Type 0} (leads : T → T → Type 0) (first : ℕ) where
       ))
       r.words.slot
 
-  -- the same of a pass that has put its value into the slot since
+  -- a pass that has put its value into the slot in the meantime leaves that value
   pub leaves_from : (slots id : ℕ) (before me : TicketSeat T) (ticket : ℕ) (value : T) (is : stage_of before.0 ≡ Some (Holding ticket)) → leads (known before.0 (Holding ticket) is).seen value → me.0 ≡ before.0 → me.1 ≡ (0, Some value) ∷ []
       → ((x : T) → leads x x) → ((x y z : T) → leads x y → leads y z → leads x z) → Allows Rule slots id me 1 (λ n. (n + 1) % 2 ^ 64) (Leaves leads (step slots 1 1 0 none) me)
   leaves_from slots id before me ticket value is grown same carried =
       let is' : stage_of me.0 ≡ Some (Holding ticket) = ap stage_of same ∙ is in
       leaves_allowed slots id me ticket value is' carried (subst (λ (k : LiveView T). leads k.seen value) (sym (same_known me.0 before.0 (Holding ticket) is' is same)) grown)
 
-  -- one more pass, with no ticket, that has seen no more
+  -- one more pass without a ticket, which has seen no more than the others
   joins_free : (s : TicketState T) (r : Rule s) (k : LiveView T) → Free k → leads k.seen r.values.current × leads k.also r.values.current → k.next ≤ r.words.next → Rule (with_pass s k)
   joins_free s r k free values word = record { words = on_words.joined first s r.words k free word; values = on_values.joined leads s r.values k free values }
 
@@ -188,7 +190,7 @@ module _ {T : Type 0} (leads : T → T → Type 0) (first : ℕ) where
       subst (λ (x : List (TicketView T) × TicketView T). Rule record { words = s.words; homes = s.homes; views = x.0 ++ x.1 ∷ [] }) (λ i. (sym (set_again s.views id v at) i, sym live i))
       (joins_free s r k (idle_free k (known_stage v Idle is)) (r.values.values_seen id k here) (r.words.words_seen id k here))
 
-  -- a pass with no ticket is spent
+  -- a pass without a ticket is spent
   spends : (s : TicketState T) (r : Rule s) (id : ℕ) (k : LiveView T) → Has s id k → Free k → Rule (with_spent s id)
   spends s r id k at free = record { words = on_words.spent first s r.words id k at free; values = on_values.spent leads s r.values id }
 
@@ -237,7 +239,7 @@ module _ {T : Type 0} (leads : T → T → Type 0) (first : ℕ) where
       ))
       (ordered k.seen k.also r.values.current old.0 old.1)
 
-  -- behind it the pass is idle
+  -- after the step the pass is idle
   pub settled_idle : (st : Step (Option T)) (me me' : TicketSeat T) (word : ℕ) → Settles leads st me word me' → stage_of me'.0 ≡ Some Idle
   settled_idle st me me' word told =
       ⊎_elim (λ (t : leads told.0.also told.0.seen × (me' ≡ (Live (seen_alone told.0 told.0.seen), me.1))). ap (λ (m : TicketSeat T). stage_of m.0) t.1)
@@ -247,7 +249,8 @@ module _ {T : Type 0} (leads : T → T → Type 0) (first : ℕ) where
   opens same small value = record { words = on_words.opens first small value; values = on_values.opens leads first same value }
 
 module _ {T : Type 0} (leads : T → T → Type 0) (same : (x : T) → leads x x) where
-  -- where a step leaves the pass with l from k, its seat remembers if k and l do
+  -- if a step changes the knowledge of the pass from k to l, the pass forgets nothing if l has what
+  -- k has
   remembers : (me me' : TicketSeat T) (k l : LiveView T) → me.0 ≡ Live k → me'.0 ≡ Live l → leads k.seen l.seen → k.next ≤ l.next → (a b : LiveView T) → me.0 ≡ Live a → me'.0 ≡ Live b → leads a.seen b.seen × (a.next ≤ b.next)
   remembers me me' k l is is' sees more a b at at' =
       subst (λ (x : LiveView T × LiveView T). leads x.0.seen x.1.seen × (x.0.next ≤ x.1.next)) (λ i. (live_is k a (sym is ∙ at) i, live_is l b (sym is' ∙ at') i)) (sees, more)
@@ -255,7 +258,8 @@ module _ {T : Type 0} (leads : T → T → Type 0) (same : (x : T) → leads x x
   pub joins_remember : (k l m : LiveView T) → beside (Live k) (Live l) ≡ Live m → leads k.seen m.seen × leads l.seen m.also × (k.next ≤ m.next) × (l.next ≤ m.next)
   joins_remember k l m is = subst (λ (x : LiveView T). leads k.seen x.seen × leads l.seen x.also × (k.next ≤ x.next) × (l.next ≤ x.next)) (live_is (both_known k l) m is) (same k.seen, same l.seen, max_left k.next l.next, max_right k.next l.next)
 
-  -- where a step leaves the pass with l from k, which both values of k lead to
+  -- if a step changes the knowledge of the pass from k to l, both values of k lead to the value of
+  -- l
   both_remembered : (me me' : TicketSeat T) (k l : LiveView T) → me.0 ≡ Live k → me'.0 ≡ Live l → leads k.seen l.seen → leads k.also l.seen → k.next ≤ l.next → (a b : LiveView T) → me.0 ≡ Live a → me'.0 ≡ Live b → leads a.seen b.seen × leads a.also b.seen × (a.next ≤ b.next)
   both_remembered me me' k l is is' sees sees' more a b at at' =
       subst (λ (x : LiveView T × LiveView T). leads x.0.seen x.1.seen × leads x.0.also x.1.seen × (x.0.next ≤ x.1.next)) (λ i. (live_is k a (sym is ∙ at) i, live_is l b (sym is' ∙ at') i)) (sees, sees', more)
@@ -292,7 +296,8 @@ module _ {T : Type 0} (leads : T → T → Type 0) where
   abbrev SameTally : LiveView T → LiveView T → Type 0
   SameTally k l = (l.ended ≡ k.ended) × (l.last ≡ k.last)
 
-  -- where a step leaves the pass with l from k, its seat has the tally that l has of k
+  -- if a step changes the knowledge of the pass from k to l, the tally of the pass changes from
+  -- that of k to that of l
   counts : (Tally : LiveView T → LiveView T → Type 0) (me me' : TicketSeat T) (k l : LiveView T) → me.0 ≡ Live k → me'.0 ≡ Live l → Tally k l → (a b : LiveView T) → me.0 ≡ Live a → me'.0 ≡ Live b → Tally a b
   counts Tally me me' k l is is' tally a b at at' = subst (λ (x : LiveView T × LiveView T). Tally x.0 x.1) (λ i. (live_is k a (sym is ∙ at) i, live_is l b (sym is' ∙ at') i)) tally
 

@@ -1,4 +1,5 @@
--- Values: each kind of step keeps one value the current one, to which all that was seen leads.
+-- The rule on values: each kind of step preserves that there is one current value to which
+-- everything seen leads.
 use Rattle.std.proofs.Common.{◌≡◌, ◌≢◌, ℕ, ◌+◌, Option, Some, List, [], ◌∷◌, set, get_or, sym, refl, ap, ◌∙◌, subst}
 use mathlib.Core.Option.{some, none, some-injective, some-ne-none}
 use mathlib.Core.Option as maybe
@@ -12,14 +13,14 @@ module _ {T : Type 0} (leads : T → T → Type 0) where
   abbrev Rule : TicketState T → Type 0
   Rule = ValuesRule leads
 
-  -- a slot that is at home has one value, and one that is out none
+  -- a slot at home has one value, and a slot that is away has none
   value_is : (a b : T) (homes : List (maybe.Option (Option T))) → homes ≡ some (Some a) ∷ [] → homes ≡ some (Some b) ∷ [] → a ≡ b
   value_is a b homes here there = let same : some (Some a) ≡ some (Some b) = ap (λ hs. get_or hs 0 none) (sym here ∙ there) in cc
 
   none_home : (a : T) (homes : List (maybe.Option (Option T))) → homes ≡ none ∷ [] → homes ≡ some (Some a) ∷ [] → ⊥
   none_home a homes away here = some-ne-none (Some a) (ap (λ hs. get_or hs 0 none) (sym here ∙ away))
 
-  -- the value at home is the current one
+  -- the value in the slot at home is the current one
   pub home_is_current : (s : TicketState T) (r : Rule s) → (h : IsHome s) → s.homes ≡ some (Some r.current) ∷ []
   home_is_current s r h = h.home ∙ ap (λ (x : T). some (Some x) ∷ []) (r.at_home h.value h.home)
 
@@ -33,17 +34,17 @@ module _ {T : Type 0} (leads : T → T → Type 0) where
     values_seen = each_set (λ _ (m : LiveView T). leads m.seen current × leads m.also current) s.views id k seen (λ j m _ there. let old = r.values_seen j m there in (along m.seen old.0, along m.also old.1));
   }
 
-  -- the slot stays where it is, and a pass that holds not gets another view that holds not
+  -- the slot does not move, and a pass outside critical sections changes its view and stays outside
   pub stays : (s : TicketState T) (r : Rule s) (id : ℕ) (k : LiveView T) (words : List ℕ) → ((ticket : ℕ) → k.stage ≡ Holding ticket → ⊥) → leads k.seen r.current × leads k.also r.current → Rule (with_view s words s.homes id k)
   stays s r id k words not seen = renewed s r id r.current words s.homes k (λ _ l. l) r.at_home (λ ticket holds. absurd (not ticket holds)) (λ j l ticket _ there. r.was_found j l ticket there) seen
 
-  -- the slot comes to the pass, with the current value
+  -- the pass receives the slot with the current value
   pub entered : (s : TicketState T) (r : Rule s) (id ticket : ℕ) (k : LiveView T) → Has s id k → ((x : T) → leads x x) → (h : IsHome s) → Rule (with_view s s.words (set s.homes 0 none) id (in_section k ticket r.current))
   entered s r id ticket k at same h =
       renewed s r id r.current s.words (set s.homes 0 none) (in_section k ticket r.current) (λ _ l. l) (λ value home. absurd (none_home value (set s.homes 0 none) (ap (λ hs. set hs 0 none) h.home) home)) (λ _ _. refl)
       (λ j l t _ there holds. absurd (h.nobody j l t there holds)) (same r.current, (r.values_seen id k at).1)
 
-  -- the slot goes home with a value to which the one found leads
+  -- the slot goes home with a value to which the value found leads
   pub left : (s : TicketState T) (r : Rule s) (id ticket : ℕ) (k : LiveView T) (value : T) → Has s id k → k.stage ≡ Holding ticket → leads k.seen value → ((x : T) → leads x x) → ((x y z : T) → leads x y → leads y z → leads x z)
       → s.homes ≡ none ∷ [] → ((j : ℕ) (l : LiveView T) (t : ℕ) → j ≢ id → Has s j l → l.stage ≡ Holding t → ⊥) → Rule (with_view s (set s.words 1 (ticket + 1)) (set s.homes 0 (some (Some value))) id (after_section k ticket value))
   left s r id ticket k value at stage grown same through away alone =
@@ -52,7 +53,7 @@ module _ {T : Type 0} (leads : T → T → Type 0) where
       renewed s r id value (set s.words 1 (ticket + 1)) homes (after_section k ticket value) (λ x sees. through x r.current value sees grown') (λ other home. value_is other value homes home (ap (λ hs. set hs 0 (some (Some value))) away))
       (λ t holds. cc) (λ j l t other there holds. absurd (alone j l t other there holds)) (same value, same value)
 
-  -- one more pass, which holds not
+  -- one more pass, which is outside critical sections
   pub joined : (s : TicketState T) (r : Rule s) (k : LiveView T) → Free k → leads k.seen r.current × leads k.also r.current → Rule (with_pass s k)
   joined s r k free values = record {
     current = r.current;

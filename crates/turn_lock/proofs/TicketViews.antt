@@ -1,4 +1,4 @@
--- What the proofs of the ticket lock's steps say of stages and views.
+-- Lemmas on stages and views, for the proofs of the steps of the ticket lock.
 use Rattle.std.proofs.Common.{◌≡◌, ◌≢◌, ◌<◌, ◌≤◌, ◌%◌, ◌^◌, ℕ, ◌+◌, Option, Some, List, [], ◌∷◌, ◌++◌, set, max, sym, refl, ap, ◌∙◌, subst, ⊎_elim, arith}
 use mathlib.Core.Option.{some, some-injective, some-ne-none}
 use mathlib.Core.Option as maybe
@@ -31,7 +31,7 @@ max_left a b = omega arith
 pub max_right : (a b : ℕ) → b ≤ max a b
 max_right a b = omega arith
 
--- one more fits a word, and is no less than it would be without wrapping
+-- an incremented word does not wrap
 pub up_one : (n : ℕ) → n < 18446744073709551615 → (n + 1) % 2 ^ 64 ≡ n + 1
 up_one n small = omega arith
 
@@ -62,17 +62,17 @@ module _ {T : Type 0} where
   pub known_is : (v : TicketView T) (stage : Stage) (is : stage_of v ≡ Some stage) (k : LiveView T) → v ≡ Live k → known v stage is ≡ k
   known_is v stage is k e = live_is _ _ (sym (known_live v stage is) ∙ e)
 
-  -- two idle passes are an idle one
+  -- two idle passes, joined, are an idle one
   pub beside_idle : (v w : TicketView T) → stage_of v ≡ Some Idle → stage_of w ≡ Some Idle → stage_of (beside v w) ≡ Some Idle
   beside_idle Spent w is is' = is
   beside_idle (Live k) Spent is is' = is
   beside_idle (Live k) (Live l) is is' = refl
 
-  -- views that are equal know the same
+  -- equal views have the same knowledge
   pub same_known : (v w : TicketView T) (stage : Stage) (is : stage_of v ≡ Some stage) (is' : stage_of w ≡ Some stage) → v ≡ w → known v stage is ≡ known w stage is'
   same_known v w stage is is' e = known_is v stage is (known w stage is') (e ∙ known_live w stage is')
 
-  -- of a waiting pass a load that found its ticket tells that its section has begun
+  -- if the load of a waiting pass finds its ticket, the critical section has begun
   pub begun : (leads : T → T → Type 0) (st : Step (Option T)) (before me me' : TicketSeat T) (ticket word : ℕ) → me ≡ before → stage_of before.0 ≡ Some (Waiting ticket) → Serves leads st me word me' → word ≡ ticket
       → Begins leads ticket before me'
   begun leads st before me me' ticket word same is told hit =
@@ -89,7 +89,7 @@ module _ {T : Type 0} where
       → (j : ℕ) (k : LiveView T) → get_elem? (vs ++ Live w ∷ []) j ≡ some (Live k) → K k
   each_snoc K vs w others mine j k at = ⊎_elim (others j k) (λ (t : Live w ≡ Live k). subst K (live_is w k t) mine) (at_snoc vs (Live w) (Live k) j at)
 
-  -- a stage without a ticket
+  -- the stage has no ticket
   abbrev pub Free : LiveView T → Type 0
   Free k = (ticket : ℕ) → HasTicket ticket k.stage → ⊥
 
@@ -111,11 +111,11 @@ module _ {T : Type 0} where
   spent_live : (l : LiveView T) → Spent ≡ Live l → ⊥
   spent_live l e = cc
 
-  -- a live view among those of which one is spent was there before
+  -- a live view that exists after one view is spent existed before
   pub unspent : (vs : List (TicketView T)) (id j : ℕ) (l : LiveView T) → get_elem? (set vs id Spent) j ≡ some (Live l) → get_elem? vs j ≡ some (Live l)
   unspent vs id j l at = ⊎_elim (λ (t : (j ≡ id) × (Spent ≡ Live l)). absurd (spent_live l t.1)) (λ (t : (j ≢ id) × (get_elem? vs j ≡ some (Live l))). t.1) (at_set vs id j Spent (Live l) at)
 
-  -- the state where one pass has a new view
+  -- the state after one pass has a new view
   abbrev pub with_view : TicketState T → List ℕ → List (maybe.Option (Option T)) → ℕ → LiveView T → TicketState T
   with_view s words homes id k = record { words = words; homes = homes; views = set s.views id (Live k) }
 
@@ -123,6 +123,6 @@ module _ {T : Type 0} where
   abbrev pub with_pass : TicketState T → LiveView T → TicketState T
   with_pass s k = record { words = s.words; homes = s.homes; views = s.views ++ Live k ∷ [] }
 
-  -- the state where one pass is spent
+  -- the state after one pass is spent
   abbrev pub with_spent : TicketState T → ℕ → TicketState T
   with_spent s id = record { words = s.words; homes = s.homes; views = set s.views id Spent }

@@ -1,4 +1,5 @@
--- Words: each kind of step keeps the two words, the tickets and the place of the slot in order.
+-- The rule on words: each kind of step preserves the order of the two words, the tickets and the
+-- location of the slot.
 use Rattle.std.proofs.Common.{◌≡◌, ◌≢◌, ◌⊎◌, ◌<◌, ◌≤◌, ℕ, ◌+◌, Option, Some, List, [], ◌∷◌, set, get_or, sym, refl, ap, ◌∙◌, subst, ⊎_elim, inl, inr, arith}
 use mathlib.Core.Option.{some, none}
 use mathlib.Core.Option as maybe
@@ -15,14 +16,14 @@ module _ {T : Type 0} (first : ℕ) where
   abbrev Rule : TicketState T → Type 0
   Rule = WordsRule first
 
-  -- what a pass's new view has to be, among the others
+  -- the conditions on the new view of a pass
   record Fits (s : TicketState T) (id next serving : ℕ) (k : LiveView T) : Type 0 where
     in_turn : (ticket : ℕ) → HasTicket ticket k.stage → (serving ≤ ticket) × (ticket < next)
     apart : (j : ℕ) (l : LiveView T) (ticket : ℕ) → j ≢ id → Has s j l → HasTicket ticket k.stage → HasTicket ticket l.stage → ⊥
     served : (ticket : ℕ) → k.stage ≡ Holding ticket → ticket ≡ serving
     word : k.next ≤ next
 
-  -- what the others have to be
+  -- the conditions on the views of the other passes
   record Others (s : TicketState T) (id serving : ℕ) : Type 0 where
     in_turn : (j : ℕ) (l : LiveView T) (ticket : ℕ) → j ≢ id → Has s j l → HasTicket ticket l.stage → serving ≤ ticket
     served : (j : ℕ) (l : LiveView T) (ticket : ℕ) → j ≢ id → Has s j l → l.stage ≡ Holding ticket → ticket ≡ serving
@@ -48,7 +49,7 @@ module _ {T : Type 0} (first : ℕ) where
     words_seen = each_set (λ _ (m : LiveView T). m.next ≤ next) s.views id k fits.word (λ j m _ there. let old : m.next ≤ r.next = r.words_seen j m there in omega arith);
   }
 
-  -- the slot is where it was, if the pass held neither before nor after
+  -- the slot does not move if the pass is outside critical sections before and after the step
   same_slot : (s : TicketState T) (r : Rule s) (id : ℕ) (k l : LiveView T) (words : List ℕ) → Has s id k → ((ticket : ℕ) → k.stage ≡ Holding ticket → ⊥) → ((ticket : ℕ) → l.stage ≡ Holding ticket → ⊥)
       → IsHome (with_view s words s.homes id l) ⊎ IsOut (with_view s words s.homes id l) r.serving
   same_slot s r id k l words at before after = ⊎_elim
@@ -66,14 +67,15 @@ module _ {T : Type 0} (first : ℕ) where
       })
       r.slot
 
-  -- nothing changes for the others where the words stay, or the next grows
+  -- the conditions on the other passes still hold if the words do not change or the next ticket
+  -- grows
   others_stay : (s : TicketState T) (r : Rule s) (id : ℕ) → Others s id r.serving
   others_stay s r id = record {
     in_turn = λ j l ticket _ there has. (r.tickets_in_turn j l ticket there has).0;
     served = λ j l ticket _ there holds. r.holder_is_served j l ticket there holds;
   }
 
-  -- a pass without a ticket gets another view without one, and no word changes
+  -- a pass without a ticket changes its view and still has no ticket, and no word changes
   pub freely : (s : TicketState T) (r : Rule s) (id : ℕ) (k l : LiveView T) (words : List ℕ) → Has s id k → Free k → Free l → l.next ≤ r.next → words ≡ s.words → Rule (with_view s words s.homes id l)
   freely s r id k l words at free free' word same =
       let a = r.from_first in let b = r.served_are_drawn in let c = r.never_wraps in
@@ -87,7 +89,7 @@ module _ {T : Type 0} (first : ℕ) where
       (others_stay s r id)
       (same_slot s r id k l words at (free_holds_not k free) (free_holds_not l free'))
 
-  -- a draw found the word that its pass had looked at, which is now the pass's ticket
+  -- a draw finds the next ticket that its pass has looked at, which becomes the ticket of the pass
   pub drawn : (s : TicketState T) (r : Rule s) (id old : ℕ) (k : LiveView T) → Has s id k → k.stage ≡ Looked → r.next ≡ old → old < last_word → Rule (with_view s (set s.words 0 (old + 1)) s.homes id (waiting_for k old))
   drawn s r id old k at stage is left =
       let a = r.from_first in let b : r.serving ≤ r.next = r.served_are_drawn in let low : k.next ≤ r.next = r.words_seen id k at in
@@ -101,7 +103,7 @@ module _ {T : Type 0} (first : ℕ) where
       (others_stay s r id)
       (same_slot s r id k (waiting_for k old) (set s.words 0 (old + 1)) at (free_holds_not k (looked_free k stage)) (λ ticket holds. cc))
 
-  -- the word served is the pass's ticket: the slot comes to it
+  -- the served ticket is that of the pass, which receives the slot
   pub entered : (s : TicketState T) (r : Rule s) (id ticket : ℕ) (k : LiveView T) (value : T) → Has s id k → k.stage ≡ Waiting ticket → r.serving ≡ ticket → IsHome s
       → Rule (with_view s s.words (set s.homes 0 none) id (in_section k ticket value))
   entered s r id ticket k value at stage is h =
@@ -122,7 +124,7 @@ module _ {T : Type 0} (first : ℕ) where
         holds = ap Holding (sym is);
       })
 
-  -- while a pass waits for the ticket that is served, the slot is not out
+  -- while a pass waits for the served ticket, the slot is not away
   pub not_out : (s : TicketState T) (r : Rule s) (id ticket : ℕ) (k : LiveView T) → Has s id k → k.stage ≡ Waiting ticket → r.serving ≡ ticket → IsOut s r.serving → ⊥
   not_out s r id ticket k at stage is o =
       let mine : HasTicket ticket k.stage = ticket_of_stage k.stage ticket (Waiting ticket) stage refl in
@@ -130,13 +132,13 @@ module _ {T : Type 0} (first : ℕ) where
       let same : k ≡ o.knows = one_known s id o.holder k o.knows (r.tickets_apart id o.holder k o.knows ticket at o.is_there mine hers) at o.is_there in
       let clash : Waiting ticket ≡ Holding r.serving = sym stage ∙ (ap (λ (x : LiveView T). x.stage) same ∙ o.holds) in cc
 
-  -- no other pass holds
+  -- no other pass is in a critical section
   pub alone : (s : TicketState T) (r : Rule s) (id ticket : ℕ) (k : LiveView T) → Has s id k → k.stage ≡ Holding ticket → (j : ℕ) (l : LiveView T) (t : ℕ) → j ≢ id → Has s j l → l.stage ≡ Holding t → ⊥
   alone s r id ticket k at stage j l t other there holds =
       let is : ticket ≡ r.serving = r.holder_is_served id k ticket at stage in
       other (r.tickets_apart j id l k ticket there at (ticket_of_stage l.stage ticket (Holding t) holds (r.holder_is_served j l t there holds ∙ sym is)) (holds_ticket k ticket stage))
 
-  -- the word served is raised, and the slot goes home
+  -- the served ticket is incremented, and the slot goes home
   pub left : (s : TicketState T) (r : Rule s) (id ticket : ℕ) (k : LiveView T) (value : T) → Has s id k → k.stage ≡ Holding ticket → IsOut s r.serving
       → Rule (with_view s (set s.words 1 (ticket + 1)) (set s.homes 0 (some (Some value))) id (after_section k ticket value))
   left s r id ticket k value at stage o =
@@ -162,7 +164,7 @@ module _ {T : Type 0} (first : ℕ) where
         nobody = λ i m t there. each_set (λ _ (x : LiveView T). x.stage ≡ Holding t → ⊥) s.views id l (λ holds. cc) (λ j x other here. alone s r id ticket k at stage j x t other here) i m there;
       })
 
-  -- one more pass, without a ticket, that has seen no later word
+  -- one more pass without a ticket, which has seen no later next ticket
   pub joined : (s : TicketState T) (r : Rule s) (k : LiveView T) → Free k → k.next ≤ r.next → Rule (with_pass s k)
   joined s r k free word = record {
     next = r.next;

@@ -1,4 +1,4 @@
--- What holds of each view, after one view is set or a new one is put behind the others.
+-- Properties of each view after one view is replaced or a new one is added at the end.
 use Rattle.std.proofs.Common.{◌≡◌, ◌≢◌, ℕ, zero, suc, Bool, true, false, List, [], ◌∷◌, ◌++◌, set, sym, refl, ap, ◌∙◌, subst, ⊎_elim}
 use mathlib.Core.Option.{some, some-injective, some-ne-none}
 use lib.ListN.{get_elem?}
@@ -18,7 +18,7 @@ module _ {V : Type 0} where
   there_set (x ∷ xs) zero v w at = refl
   there_set (x ∷ xs) (suc i) v w at = there_set xs i v w at
 
-  -- one place has one view
+  -- an index has one view
   pub one_view : (vs : List V) (i j : ℕ) (v w : V) → i ≡ j → get_elem? vs i ≡ some v → get_elem? vs j ≡ some w → v ≡ w
   one_view vs i j v w same at there = some-injective v w (sym at ∙ (ap (get_elem? vs) same ∙ there))
 

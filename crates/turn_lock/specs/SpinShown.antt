@@ -1,4 +1,4 @@
--- What contracts say of the passes of a spin lock.
+-- The properties of spin lock passes that contracts state.
 use Rattle.std.specs.Prelude.{◌≡◌, ℕ}
 use Rattle.turn_lock.specs.declared.spin.pass.SpinPass.{SpinPass}
 use Rattle.turn_lock.specs.declared.spin.pass.SpinHolding.{SpinHolding}
@@ -9,23 +9,23 @@ module _ {T : Type 0} where
   abbrev pub pass_seen : SpinPass T → T
   pass_seen pass = pass.seat.me.0.seen
 
-  -- how many sections the pass has ended
+  -- the number of critical sections that the pass has ended
   abbrev pub pass_tally : SpinPass T → ℕ
   pass_tally pass = pass.seat.me.0.ended
 
-  -- the value that its last section found
+  -- the value that the last critical section of the pass found
   abbrev pub pass_last : SpinPass T → T
   pass_last pass = pass.seat.me.0.last
 
-  -- the value that the section found
+  -- the value that the critical section found
   abbrev pub holder_found : SpinHolding T → T
   holder_found holder = holder.seat.me.0.seen
 
-  -- how many sections its pass had ended before
+  -- the number of critical sections that the pass had ended before this one
   abbrev pub holder_tally : SpinHolding T → ℕ
   holder_tally holder = holder.seat.me.0.ended
 
--- the pass and the lock are of one table
+-- the pass or holder belongs to the lock: both are of one table
 abbrev pub IsPassOf : {T : Type 0} → SpinLock T → SpinPass T → Type 0
 IsPassOf lock pass = pass.seat.table_id ≡ lock.table.shared.table_id
 

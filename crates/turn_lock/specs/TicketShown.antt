@@ -1,4 +1,4 @@
--- What contracts say of the passes of a ticket lock.
+-- The properties of ticket lock passes that contracts state.
 use Rattle.std.specs.Prelude.{◌≡◌, ◌⊎◌, ℕ, ◌<◌}
 use Rattle.turn_lock.specs.declared.ticket.view.Stage.TheVariants.{Idle, Looked as AtLooked, Waiting as AtWaiting, Holding as AtHolding}
 use Rattle.turn_lock.specs.declared.ticket.view.LiveView.{LiveView}
@@ -12,7 +12,7 @@ use Rattle.turn_lock.specs.declared.ticket.fault.DrawFault.TheVariants.{Worn, Ra
 use Rattle.turn_lock.specs.Ticket.{known, last_word, idle_at, met}
 
 module _ {T : Type 0} where
-  -- the next word that the pass looked at, and may draw
+  -- the next ticket that the pass has looked at and may draw
   abbrev pub looked_next : Looked T → ℕ
   looked_next looked = looked.next
 
@@ -20,7 +20,7 @@ module _ {T : Type 0} where
   abbrev pub drawn_ticket : Drawn T → ℕ
   drawn_ticket drawn = drawn.ticket
 
-  -- the ticket whose section the pass is in
+  -- the ticket of the pass's critical section
   abbrev pub held_ticket : Holding T → ℕ
   held_ticket holding = holding.section
 
@@ -37,20 +37,22 @@ module _ {T : Type 0} where
   abbrev pub holding_knows : Holding T → LiveView T
   holding_knows holding = known holding.seat.me.0 (AtHolding holding.section) holding.holds.1
 
-  -- the pass has seen the last word: no ticket is left
+  -- the pass has seen that no ticket is left
   abbrev pub IsWornPass : Pass T → Type 0
   IsWornPass pass = (pass_knows pass).next ≡ last_word
 
-  -- a draw was refused: no ticket is left, or another pass drew it; the pass has seen so, and all else as before
+  -- a draw was refused because no ticket is left or another pass drew it; the pass has seen this
+  -- next ticket, and nothing else of its knowledge changes
   abbrev pub IsRefused : LiveView T → DrawFault → LiveView T → Type 0
   IsRefused k Worn l = l ≡ idle_at k last_word
   IsRefused k (Raced n) l = (k.next < n) × (l ≡ idle_at k n)
 
--- two passes have met: what the one had seen leads to what the other had, which both have seen now
+-- two passes have met: of their two values one leads to the other, and the knowledge after `meet`
+-- has the later one
 abbrev pub HasMet : {T : Type 0} → (T → T → Type 0) → LiveView T → LiveView T → LiveView T → Type 0
 HasMet leads k l m = (leads l.seen k.seen × (m ≡ met k l k.seen)) ⊎ (leads k.seen l.seen × (m ≡ met k l l.seen))
 
--- the pass and the lock are of one table
+-- the pass, in each of its states, belongs to the lock: both are of one table
 abbrev pub IsPassOf : {T : Type 0} → TicketLock T → Pass T → Type 0
 IsPassOf lock pass = pass.seat.table_id ≡ lock.table.shared.table_id
 

@@ -1,21 +1,22 @@
-//! What a value behind a lock has to be.
+//! The condition on a value that a lock protects.
 
 ghost use Rattle.std.specs.Prelude.{◌⊎◌};
 
-/// A value that grows: each holder of the lock leaves one to which the value found leads.
+/// A value that grows: the value that a pass leaves in the lock may follow the value that it found
+/// there, in the sense of `leads`.
 pub trait Growing {
-    // The second may come after the first.
+    // The second value may follow the first.
     ghost leads: { Self → Self → Type 0 };
 
     ghost reflexive: { (x : Self) → leads x x };
 
     ghost transitive: { (x y z : Self) → leads x y → leads y z → leads x z };
 
-    // Of two that lead to a third, one leads to the other.
+    // If two values lead to a third, one of them leads to the other.
     ghost ordered: { (x y z : Self) → leads x z → leads y z → leads x y ⊎ leads y x };
 }
 
-/// On the heap a value goes in and out of a lock as one pointer.
+/// A boxed value moves into and out of a lock as a single pointer.
 impl<T: Growing> Growing for Box<T> {
     ghost leads = { λ old new. T.leads old.value new.value };
 

@@ -1,12 +1,18 @@
-//! The locks: a value that several threads share, which only ever grows, behind a lock whose rule holds between any two atomic steps.
+//! Locks for a shared value that only grows.
 //!
-//! `Growing` is what the value has to be, `Section` what every lock here gives: a pass locks, gets the value and a holder,
-//! and ends the section with `leave` or `retire`. `SpinLock` is one word that is taken or free, `TicketLock` is the lock of
-//! Mellor-Crummey and Scott (1991), whose passes are served in the order of their tickets.
-//! Both stand on `atomic_table`: its words change in single sequentially consistent steps, and each step here is proved to
-//! keep the lock's rule, over every interleaving and for any number of passes.
-//! Begin with `section.rt`, then `specs/Spin.antt` for the smaller rule and `specs/Ticket.antt` for the larger one, which is
-//! made of two: `WordsRule`, of the two words, the tickets and where the slot is, and `ValuesRule`, of the value in it.
+//! `Growing` states what it means for a value to grow. `Section` is the interface of every lock
+//! here: a pass locks, receives the value and a holder, and ends its critical section with `leave`
+//! or `retire`. `SpinLock` is a single word that is free or taken. `TicketLock` is the ticket lock
+//! of Mellor-Crummey and Scott (1991), which serves its passes in the order of their tickets.
+//!
+//! Both locks are built on `atomic_table`, whose words change in single sequentially consistent
+//! steps. Each step of a lock is proved to preserve the rule of the lock, for every interleaving
+//! and any number of passes.
+//!
+//! Begin with `section.rt`, then read `specs/Spin.antt` for the simpler rule and
+//! `specs/Ticket.antt` for the larger one. The larger rule has two parts: `WordsRule` is about the
+//! two words, the tickets and the location of the value, and `ValuesRule` is about the value
+//! itself.
 
 #![tactic(auto)]
 

@@ -1,4 +1,4 @@
-//! What every lock here gives to the code above it.
+//! The interface of the locks.
 
 ghost use Rattle.std.specs.Prelude.{◌≡◌, ℕ, ◌+◌, IfOk, IfErr, IsErr};
 
@@ -11,7 +11,8 @@ use thiserror::Error;
 #[error("the last ticket was drawn")]
 pub struct Worn;
 
-/// A lock that is used in sections. A pass locks, and the holder that it becomes ends the section by `leave` or `retire`.
+/// A lock with critical sections. A pass locks and becomes a holder, and the holder ends its
+/// critical section with `leave` or `retire`.
 pub trait Section {
     type Value: Growing;
 
@@ -19,40 +20,46 @@ pub trait Section {
 
     type Holder;
 
-    // The pass is one of this lock.
+    // The pass belongs to this lock.
     ghost has_pass: { Self → Self.Pass → Type 0 };
 
-    // The holder is in a section of this lock.
+    // The holder is in a critical section of this lock.
     ghost has_holder: { Self → Self.Holder → Type 0 };
 
     // The last value that the pass has seen.
     ghost seen: { Self.Pass → Self.Value };
 
-    // How many sections the pass has ended.
+    // The number of critical sections that the pass has ended.
     ghost tally: { Self.Pass → ℕ };
 
-    // The value that the last section of the pass found, or that the lock was made with.
+    // The value that the last critical section of the pass found, or the initial value of the lock
+    // if there was none.
     ghost last_found: { Self.Pass → Self.Value };
 
     // The pass has seen that no ticket is left.
     ghost is_worn: { Self.Pass → Type 0 };
 
-    // The value that the section found.
+    // The value that the critical section found.
     ghost found: { Self.Holder → Self.Value };
 
-    // How many sections the pass had ended before this one.
+    // The number of critical sections that the pass had ended before this one.
     ghost tally_before: { Self.Holder → ℕ };
 
-    /// A second pass that has seen what the first has.
+    /// Splits a pass in two. Each of them has seen what the given pass has seen.
     fn split(&self, pass: Self::Pass) -> (Self::Pass, Self::Pass)
         requires { has_pass self.now pass }
         ensures own { has_pass self.now result.0 × has_pass self.now result.1 }
         ensures seen { (seen result.0 ≡ seen pass) × (seen result.1 ≡ seen pass) }
         ensures tally { (tally result.0 ≡ tally pass) × (tally result.1 ≡ tally pass) }
-        ensures last { (last_found result.0 ≡ last_found pass) × (last_found result.1 ≡ last_found pass) }
+        ensures last { (last_found result.0 ≡ last_found pass)
+            × (last_found result.1 ≡ last_found pass) }
         ensures worn { is_worn pass → is_worn result.0 × is_worn result.1 };
 
-    /// Waits for the section, and gives the value. `Worn` where no ticket is left.
+    /// Waits for the critical section and returns the value with the holder.
+    ///
+    /// # Errors
+    ///
+    /// Returns `Worn` with the pass if the lock has no ticket left.
     fn lock<R: Wait>(
         &self,
         rt: &R,
@@ -64,10 +71,11 @@ pub trait Section {
         ensures fresh { IfOk result (λ r. Self.Value.leads (seen pass) r.0) }
         ensures tally { IfOk result (λ r. tally_before r.1 ≡ tally pass) }
         ensures worn { IfErr result (λ e. is_worn e.1) }
-        ensures back { IfErr result (λ e. has_pass self.now e.1 × (seen e.1 ≡ seen pass) × (tally e.1 ≡ tally pass) × (last_found e.1 ≡ last_found pass)) }
+        ensures back { IfErr result (λ e. has_pass self.now e.1 × (seen e.1 ≡ seen pass)
+            × (tally e.1 ≡ tally pass) × (last_found e.1 ≡ last_found pass)) }
         ensures late { is_worn pass → IsErr result };
 
-    /// Ends the section with the value that others find next.
+    /// Ends the critical section and leaves the value for the next pass.
     fn leave(&self, holder: Self::Holder, value: Self::Value) -> Self::Pass
         requires own { has_holder self.now holder }
         requires grown { Self.Value.leads (found holder) value }
@@ -76,7 +84,8 @@ pub trait Section {
         ensures tally { tally result ≡ tally_before holder + 1 }
         ensures last { last_found result ≡ found holder };
 
-    /// Keeps the section for good, and gives the value back: nobody is served afterwards.
+    /// Retires the lock: returns the value and never ends the critical section, so that no other
+    /// pass is served afterwards.
     fn retire(&self, holder: Self::Holder, value: Self::Value) -> Self::Value
         requires { has_holder self.now holder }
         ensures { result ≡ value };

@@ -1,4 +1,4 @@
-//! A lock of one word: 0 while it is free, 1 while it is taken.
+//! A spin lock of one word: 0 means free, 1 means taken.
 
 mod lock;
 mod pass;

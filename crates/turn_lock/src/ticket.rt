@@ -1,5 +1,8 @@
-//! The ticket lock of Mellor-Crummey and Scott (1991), with its tickets drawn by compare and exchange, so that the last is refused and nothing wraps.
-//! Word 0 is the next ticket, word 1 the ticket that is served.
+//! The ticket lock of Mellor-Crummey and Scott (1991). Word 0 is the next ticket to be drawn, and
+//! word 1 is the ticket that is served.
+//!
+//! A pass draws a ticket by compare and exchange, not by fetch and add, so that the lock refuses a
+//! draw after the last ticket and the word never wraps.
 
 mod fault;
 mod lock;

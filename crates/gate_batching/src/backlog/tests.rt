@@ -1,4 +1,4 @@
-//! The counts of claims, when an intake sleeps, and who wakes it.
+//! The counts of claims, the sleep of an intake thread and its wake-up.
 
 use super::{Backlog, CLAIMS_ENOUGH, CLAIMS_LIMIT, SLEEPS_LIMIT};
 use std::sync::Wait;
@@ -7,10 +7,9 @@ use std::test::Fail;
 use std::thread;
 use std::time::{Clock, Duration, Instant};
 
-/// Far longer than an intake sleeps, and than a wake-up takes on a busy machine.
+/// This is far longer than the sleep of an intake thread, and than a wake-up on a busy machine.
 const LONG_SECONDS: u64 = 20;
 
-// So many claims wait.
 fn with_claims(count: u64) -> Backlog {
     let backlog = Backlog::new();
     for _ in 0..count {
@@ -63,7 +62,7 @@ fn nobody_is_woken_where_nobody_sleeps_or_many_claims_wait(rt: HostRuntime) -> R
     Ok(())
 }
 
-// As an intake sleeps, but for longer.
+// Sleeps as an intake thread does, but for longer.
 fn sleep_for_long<R: Wait>(rt: &R, backlog: &Backlog) {
     count_a_sleeper(backlog);
     backlog
@@ -71,7 +70,7 @@ fn sleep_for_long<R: Wait>(rt: &R, backlog: &Backlog) {
         .park_timeout(rt, 0, Duration::from_secs(LONG_SECONDS));
 }
 
-// Waits until somebody sleeps or is about to, and a little longer.
+// Waits until a thread sleeps or is about to sleep, and a little longer.
 fn wake_who_sleeps<R: Wait + Clock>(rt: &R, backlog: &Backlog) {
     for _ in rt.forever() {
         if backlog.has_sleepers() {

@@ -1,4 +1,4 @@
-//! Turns as one thread sees them: what is held and what is given back, and that each wait has an end.
+//! Turns of a single thread: a turn is held until it is dropped, and every wait ends.
 
 use super::{FREE, HELD, Turns};
 use std::sync::atomic::Ordering;

@@ -1,5 +1,6 @@
-//! Calls that are made once more where memory is refused: what was given has come back, and nothing has changed. A second refusal ends
-//! the test, which is run once for each of its allocations, with that one refused.
+//! Calls that are repeated once if they run out of memory, after a check that the arguments have
+//! come back and nothing has changed. A second refusal ends the test. Each test is run once for
+//! each of its allocations, with that allocation refused.
 ghost use Rattle.std.specs.Prelude.{◌≡◌, true, IfOk, IfErr, OnErr};
 ghost use Rattle.claim_gate.specs.Terms.{ForTerms};
 ghost use Rattle.journal.specs.Events.{taken, IsJob};
@@ -19,7 +20,7 @@ use settlement::Money;
 use std::alloc::Global;
 use std::process::Abort;
 
-// How far a gate is, how long its journal, and its last event.
+// The counts of a gate, the length of its journal, and the last event.
 #[derive(Clone, Copy, Drop)]
 struct Mark {
     counts: Counts,
@@ -37,7 +38,7 @@ impl Mark {
         }
     }
 
-    // Ends the test where the gate has gone on since.
+    // Ends the test if the gate has changed.
     fn still_stands(&self, rt: &impl Abort, gate: &GateState) {
         let journal = gate.journal();
         expects(rt, gate.counts() == self.counts, "the counts of before");
@@ -46,17 +47,16 @@ impl Mark {
     }
 }
 
-/// Whether an offer is of this provider and place.
 pub fn is_at(offer: &Offer, provider: usize, place: usize) -> bool {
     offer.provider == provider && offer.place == place
 }
 
-/// Whether a job and its outcome are of this position, and pay so much.
+/// Returns whether a job and its outcome have this position and this paid amount.
 pub fn is_paid(job: &Job, outcome: &Decision, position: usize, paid: Money) -> bool {
     job.position == position && outcome.outcome().paid == paid
 }
 
-/// `GateState::offer`, as far as the tests know of it.
+/// Calls `GateState::offer`. The contract is the part that the tests use.
 pub fn offer_once<'t>(
     gate: &mut GateState<'t>,
     offer: Offer,
@@ -69,7 +69,7 @@ pub fn offer_once<'t>(
     gate.offer(offer)
 }
 
-/// The same; where memory is refused, once more.
+/// Offers a claim, and repeats the call once if it runs out of memory.
 pub fn offer<'t>(
     rt: &impl Abort,
     gate: &mut GateState<'t>,
@@ -91,7 +91,7 @@ pub fn offer<'t>(
     }
 }
 
-/// `GateState::end`, as far as the tests know of it.
+/// Calls `GateState::end`. The contract is the part that the tests use.
 pub fn end_once<'t>(
     gate: &mut GateState<'t>,
     provider: usize,
@@ -103,7 +103,7 @@ pub fn end_once<'t>(
     gate.end(provider, count)
 }
 
-/// The same; where memory is refused, once more.
+/// Ends a provider, and repeats the call once if it runs out of memory.
 pub fn end<'t>(
     rt: &impl Abort,
     gate: &mut GateState<'t>,
@@ -124,7 +124,7 @@ pub fn end<'t>(
     }
 }
 
-/// `GateState::take`, as far as the tests know of it.
+/// Calls `GateState::take`. The contract is the part that the tests use.
 pub fn take_once<'t>(gate: &mut GateState<'t>) -> Result<Taken, TakeFault>
     ensures leads { LeadsTo gate.old gate.new }
     ensures work { IfOk result (IsTaken gate.new) }
@@ -133,7 +133,7 @@ pub fn take_once<'t>(gate: &mut GateState<'t>) -> Result<Taken, TakeFault>
     gate.take()
 }
 
-/// The same; where memory is refused, once more.
+/// Takes a claim, and repeats the call once if it runs out of memory.
 pub fn take<'t>(rt: &impl Abort, gate: &mut GateState<'t>) -> Result<Taken, TakeFault>
     ensures leads { LeadsTo gate.old gate.new }
     ensures work { IfOk result (IsTaken gate.new) }
@@ -148,7 +148,7 @@ pub fn take<'t>(rt: &impl Abort, gate: &mut GateState<'t>) -> Result<Taken, Take
     }
 }
 
-/// `GateState::finish`, as far as the tests know of it.
+/// Calls `GateState::finish`. The contract is the part that the tests use.
 pub fn finish_once<'t>(
     gate: &mut GateState<'t>,
     job: Job,
@@ -164,7 +164,7 @@ pub fn finish_once<'t>(
     gate.finish(job, outcome)
 }
 
-/// The same; where memory is refused, once more.
+/// Finishes a job, and repeats the call once if it runs out of memory.
 pub fn finish<'t>(
     rt: &impl Abort,
     gate: &mut GateState<'t>,
@@ -190,7 +190,7 @@ pub fn finish<'t>(
     }
 }
 
-/// `Job::again`.
+/// Copies a job with `Job::again`, and repeats the call once if it runs out of memory.
 pub fn copy(rt: &impl Abort, alloc: Global, job: &Job) -> Job
     ensures { result ≡ job.now }
 {

@@ -1,6 +1,7 @@
-//! Calls of a gate behind a lock, as far as the tests know of them; where one is refused for memory, it is made once more, and the gate is as far
-//! as before: `before` is how far it is when the call is made first. A second refusal is no answer that a test wants. The tests are run once
-//! for each of their allocations, with that one refused.
+//! Calls of a shared gate, with the parts of its contracts that the tests use. A call that runs out
+//! of memory is repeated once, after a check that the gate still has the counts `before`, which it
+//! had before the call. No test expects a second refusal. Each test is run once for each of its
+//! allocations, with that allocation refused.
 ghost use Rattle.std.specs.Prelude.{◌≡◌, IfOk, IfErr};
 ghost use Rattle.claim_gate.specs.Terms.{ForTerms};
 ghost use Rattle.journal.specs.Gate.{LeadsTo};
@@ -18,7 +19,7 @@ use journal::jobs_stay;
 use std::process::Abort;
 use std::sync::Wait;
 
-// A call that was refused has left the gate as far as it was before.
+// Checks that a refused call has not changed the counts of the gate.
 fn unchanged<G: Gate>(
     rt: &(impl Abort + Wait),
     terms: &Terms,
@@ -60,7 +61,7 @@ pub fn offer_once<G: Gate>(
     }
 }
 
-/// The same; where memory is refused, once more.
+/// Offers a claim, and repeats the call once if it runs out of memory.
 pub fn offer<G: Gate>(
     rt: &(impl Abort + Wait),
     terms: &Terms,
@@ -107,7 +108,7 @@ pub fn take_once<G: Gate>(
     }
 }
 
-/// The same; where memory is refused, once more.
+/// Takes a claim, and repeats the call once if it runs out of memory.
 pub fn take<G: Gate>(
     rt: &(impl Abort + Wait),
     terms: &Terms,
@@ -153,7 +154,7 @@ pub fn finish_once<G: Gate>(
     }
 }
 
-/// The same; where memory is refused, once more.
+/// Finishes a job with its outcome, and repeats the call once if it runs out of memory.
 pub fn finish<G: Gate>(
     rt: &(impl Abort + Wait),
     terms: &Terms,
@@ -205,7 +206,8 @@ pub fn end_once<G: Gate>(
     }
 }
 
-/// Ends a provider whose claims, so many, are accepted; where memory is refused, once more.
+/// Ends a provider whose claims, `count` of them, are all accepted. Repeats the call once if it
+/// runs out of memory.
 pub fn end<G: Gate>(
     rt: &(impl Abort + Wait),
     terms: &Terms,

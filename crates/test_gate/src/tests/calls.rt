@@ -1,4 +1,5 @@
-//! The calls of a gate, with the answers that are wanted: another answer ends the test. A call that is refused memory is made once more.
+//! The calls of a sequential gate with the expected answers: any other answer ends the test. A call
+//! that runs out of memory is repeated once.
 ghost use Rattle.std.specs.Prelude.{◌≡◌, Ok, IfOk};
 ghost use Rattle.journal.specs.Settled.{outcome_of};
 ghost use Rattle.claim_gate.specs.Terms.{ForTerms};
@@ -17,7 +18,7 @@ use settlement::{Acc, Claim, Outcome, decide};
 use std::alloc::{AllocError, Global};
 use std::process::Abort;
 
-/// Whether a claim is accepted at this position.
+/// Returns whether a claim was accepted at this position.
 pub fn is_accepted(reply: Result<Accepted, (OfferFault, Offer)>, position: usize) -> bool {
     match reply {
         Ok(accepted) => accepted.position == position,
@@ -25,7 +26,7 @@ pub fn is_accepted(reply: Result<Accepted, (OfferFault, Offer)>, position: usize
     }
 }
 
-/// The job that is to be done.
+/// Returns the job of the answer.
 pub fn work_of(rt: &impl Abort, reply: Result<Taken, TakeFault>) -> Job
     ensures { reply ≡ Ok (Work result) }
 {
@@ -35,12 +36,12 @@ pub fn work_of(rt: &impl Abort, reply: Result<Taken, TakeFault>) -> Job
     }
 }
 
-/// Whether an outcome is recorded.
+/// Returns whether an outcome was recorded.
 pub fn is_recorded(reply: Result<Recorded, (FinishFault, Job, Decision)>) -> bool {
     reply.is_ok()
 }
 
-// Offers the claim at a place of a provider's file, which is accepted at a position.
+// Offers the claim at a place of a provider's file, and expects that it is accepted at a position.
 pub fn accept_at<'t>(
     rt: &impl Abort,
     alloc: Global,
@@ -61,7 +62,7 @@ pub fn accept_at<'t>(
     expects(rt, accepted, "an accepted claim");
 }
 
-// Offers a claim, which is refused: it comes back, and the journal is as before.
+// Offers a claim, and expects that it comes back refused and the journal does not grow.
 fn refuse<'t>(
     rt: &impl Abort,
     terms: &'t Terms<'t>,
@@ -86,7 +87,7 @@ fn refuse<'t>(
     }
 }
 
-// Offers the claim at a place of a provider's file, which is refused.
+// Offers the claim at a place of a provider's file, and expects that it is refused.
 pub fn refuse_at<'t>(
     rt: &impl Abort,
     alloc: Global,
@@ -104,7 +105,7 @@ pub fn refuse_at<'t>(
     refuse(rt, terms, gate, offer, fault)
 }
 
-// Takes a claim, which is that at a position.
+// Takes a claim, and expects the one at a position.
 pub fn take_job<'t>(
     rt: &impl Abort,
     terms: &'t Terms<'t>,
@@ -123,7 +124,7 @@ pub fn take_job<'t>(
     job
 }
 
-// Takes nothing, since nothing is ready.
+// Takes a claim, and expects that none is ready.
 pub fn find_nothing<'t>(rt: &impl Abort, terms: &'t Terms<'t>, gate: &mut GateState<'t>)
     requires terms { gate.old.terms ≡ terms.now }
     ensures terms { gate.new.terms ≡ terms.now }
@@ -163,7 +164,6 @@ fn settled_once(
     Ok(Decision::new(alloc, outcome)?)
 }
 
-// The outcome of a job.
 pub fn settled(rt: &impl Abort, alloc: Global, terms: &Terms, job: &Job) -> Decision
     ensures { result ≡ outcome_of terms.now.plan job.now.claim job.now.acc }
 {
@@ -173,7 +173,7 @@ pub fn settled(rt: &impl Abort, alloc: Global, terms: &Terms, job: &Job) -> Deci
     }
 }
 
-// Finishes a job with its outcome, which is recorded.
+// Finishes a job with its outcome, and expects that it is recorded.
 pub fn record<'t>(
     rt: &impl Abort,
     alloc: Global,
@@ -192,7 +192,8 @@ pub fn record<'t>(
     expects(rt, is_recorded(reply), "a recorded outcome");
 }
 
-// Finishes a job, which is refused: the job and the outcome come back, and the journal is as before.
+// Finishes a job, and expects that the job and the outcome come back refused and the journal does
+// not grow.
 pub fn refuse_outcome<'t>(
     rt: &impl Abort,
     alloc: Global,
@@ -218,7 +219,7 @@ pub fn refuse_outcome<'t>(
     }
 }
 
-// Ends a provider whose claims, so many, are accepted.
+// Ends a provider whose claims, `count` of them, are all accepted.
 pub fn end<'t>(
     rt: &impl Abort,
     terms: &'t Terms<'t>,
@@ -235,7 +236,7 @@ pub fn end<'t>(
     expects(rt, reply.is_ok(), "an end");
 }
 
-// Ends a provider, which is refused: the journal is as before.
+// Ends a provider, and expects that the end is refused and the journal does not grow.
 pub fn refuse_end<'t>(
     rt: &impl Abort,
     terms: &'t Terms<'t>,
@@ -260,7 +261,6 @@ pub fn refuse_end<'t>(
     }
 }
 
-// Stops the gate.
 pub fn halt<'t>(terms: &'t Terms<'t>, gate: &mut GateState<'t>)
     requires terms { gate.old.terms ≡ terms.now }
     ensures terms { gate.new.terms ≡ terms.now }
@@ -270,7 +270,7 @@ pub fn halt<'t>(terms: &'t Terms<'t>, gate: &mut GateState<'t>)
     gate.stop();
 }
 
-// Takes nothing, since the gate is stopped.
+// Takes a claim, and expects that the gate is stopped.
 pub fn find_stopped<'t>(rt: &impl Abort, terms: &'t Terms<'t>, gate: &mut GateState<'t>)
     requires terms { gate.old.terms ≡ terms.now }
     ensures terms { gate.new.terms ≡ terms.now }

@@ -1,13 +1,14 @@
-//! A journal as bytes, so that a test has the wanted one in a line.
+//! A journal as a short text, so that a test can give the expected journal on one line.
 
 use claim_gate::{Event, GateState};
 
-// How many bytes stand for an event.
+// The number of bytes for an event.
 const WORD_BYTES: usize = 3;
 
 pub type Word = [u8; WORD_BYTES];
 
-// What an event is, with its provider and place, or with its position. Those of the tests are below 10.
+// The text of an event: a letter, and then the provider and place, or the position, as digits,
+// padded with blanks. In the tests these numbers are below 10.
 fn word_of(event: &Event) -> Word {
     match event {
         Event::Accept { provider, place } => [b'A', digit(*provider), digit(*place)],
@@ -25,7 +26,7 @@ fn digit(number: usize) -> u8 {
     }
 }
 
-// What the last event of a journal is; blanks where there is none.
+// The text of the last event of a journal, or blanks if there is none.
 pub fn last_word(journal: &[Event]) -> Word {
     match journal.last() {
         Some(event) => word_of(event),
@@ -33,7 +34,7 @@ pub fn last_word(journal: &[Event]) -> Word {
     }
 }
 
-// Whether a journal has these events, and no other.
+// Returns whether a journal has exactly these events.
 pub fn is_journal(journal: &[Event], words: &[u8]) -> bool {
     let mut rest = words;
     for event in journal {
@@ -45,7 +46,6 @@ pub fn is_journal(journal: &[Event], words: &[u8]) -> bool {
     rest.is_empty()
 }
 
-// Whether a gate's journal is that one.
 pub fn has_journal(gate: &GateState, words: &[u8]) -> bool {
     is_journal(gate.journal(), words)
 }

@@ -1,4 +1,5 @@
-//! Claims of families: those of one take turns, and each is settled at what its member's and its family's earlier ones left.
+//! Claims of families: the claims of one family are decided one after another, and each is settled
+//! at the accumulators that the earlier claims of its member and of its family have left.
 ghost use Rattle.std.specs.Prelude.{◌≡◌};
 ghost use Rattle.test_gate.specs.Words.{IsAtWork, WorkStays};
 
@@ -13,7 +14,8 @@ use std::alloc::Global;
 use std::process::Abort;
 use test_fixtures::{family_file, family_plan};
 
-// What is met of the member's deductible, and of the family's; what the member has paid out of pocket, and the family.
+// Returns whether the member and the family have met these amounts of their deductibles, and have
+// paid these amounts out of pocket.
 fn stands_at(acc: Acc, met: i64, fmet: i64, oop: i64, foop: i64) -> bool {
     acc.met.amount().units() == met
         && acc.fmet.amount().units() == fmet
@@ -21,7 +23,7 @@ fn stands_at(acc: Acc, met: i64, fmet: i64, oop: i64, foop: i64) -> bool {
         && acc.foop.amount().units() == foop
 }
 
-// Accepts all four claims: three of members of one family, and one of another.
+// Accepts all four claims: three of the members of one family, and one of another family.
 fn accept_all<'t>(rt: &impl Abort, alloc: Global, terms: &'t Terms<'t>, gate: &mut GateState<'t>)
     requires terms { gate.old.terms ≡ terms.now }
     ensures terms { gate.new.terms ≡ terms.now }
@@ -32,7 +34,8 @@ fn accept_all<'t>(rt: &impl Abort, alloc: Global, terms: &'t Terms<'t>, gate: &m
     accept_at(rt, alloc, terms, gate, 1, 3, 3)
 }
 
-// The first claim of each family is taken, and no other. Gives that of the first.
+// Takes the first claim of each family, and expects that no other claim is ready. Returns the job
+// of the first family.
 fn take_firsts<'t>(rt: &impl Abort, terms: &'t Terms<'t>, gate: &mut GateState<'t>) -> Job
     requires terms { gate.old.terms ≡ terms.now }
     ensures terms { gate.new.terms ≡ terms.now }
@@ -47,7 +50,8 @@ fn take_firsts<'t>(rt: &impl Abort, terms: &'t Terms<'t>, gate: &mut GateState<'
     alone(rt, terms, gate, first)
 }
 
-// A claim is decided, and the next one of another member of its family is taken at what the family has then.
+// Decides a claim, takes the next claim of its family, which is another member's, and checks the
+// accumulators of the family there.
 fn go_on<'t>(
     rt: &impl Abort,
     alloc: Global,
@@ -73,7 +77,7 @@ fn go_on<'t>(
     alone(rt, terms, gate, next)
 }
 
-// The job is in work, and no other claim may be taken.
+// Expects that no other claim may be taken while the job is in progress.
 fn alone<'t>(rt: &impl Abort, terms: &'t Terms<'t>, gate: &mut GateState<'t>, job: Job) -> Job
     requires terms { gate.old.terms ≡ terms.now }
     requires at_work { IsAtWork gate.old job }

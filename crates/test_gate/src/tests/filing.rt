@@ -1,5 +1,5 @@
-//! What the tests begin with, and the claims of providers' files, one after another, as who reads the files offers them. What is refused memory is
-//! asked for once more.
+//! The plan, the terms and the gate of a test, and the claims of the providers' files, read one
+//! after another as an intake thread does. Whatever runs out of memory is repeated once.
 ghost use Rattle.std.specs.Prelude.{◌≡◌, ◌+◌, IfOk, OnOk};
 ghost use Rattle.claim_gate.specs.Terms.{ForTerms};
 ghost use Rattle.claim_gate.specs.Replies.{HasClaims, IsFiled};
@@ -21,7 +21,6 @@ fn read_once(alloc: Global, text: &[u8]) -> Result<Plan, AllocError> {
     Ok(plan)
 }
 
-// The plan of a text.
 pub fn plan_of(rt: &impl Abort, alloc: Global, text: &[u8]) -> Plan {
     match read_once(alloc, text) {
         Ok(plan) => plan,
@@ -52,7 +51,7 @@ fn begun<'t>(alloc: Global, terms: &'t Terms<'t>) -> Result<GateState<'t>, Alloc
     GateState::new(alloc, terms)
 }
 
-// A gate to which nothing was offered.
+// A gate to which no claim was offered.
 pub fn gate_of<'t>(rt: &impl Abort, alloc: Global, terms: &'t Terms<'t>) -> GateState<'t>
     ensures { result.terms ≡ terms.now }
 {
@@ -79,7 +78,7 @@ pub fn open<'t>(
     Ok(rows)
 }
 
-// The next record of a provider's file, a claim, as an offer.
+// Reads the next record of a provider's file, which must be a claim, as an offer.
 pub fn next_offer(
     rt: &impl Abort,
     alloc: Global,
@@ -104,7 +103,7 @@ pub fn next_offer(
     }
 }
 
-// Goes by so many records at the start of a provider's file, which are claims.
+// Reads `count` records from the start of a provider's file, which must all be claims.
 fn go_by(
     rt: &impl Abort,
     alloc: Global,
@@ -124,7 +123,8 @@ fn go_by(
     Ok(())
 }
 
-// The claim behind so many others at the start of a provider's file, as an offer.
+// Reads the records before a place, from the start of a provider's file, and then the claim at that
+// place as an offer.
 fn offer_behind(
     rt: &impl Abort,
     alloc: Global,
@@ -154,7 +154,8 @@ fn read_offer(
     offer_behind(rt, alloc, terms, provider, &mut rows, place)
 }
 
-// The claim at a place of a provider's file, whose records up to it are claims, as an offer.
+// Returns the claim at a place of a provider's file as an offer. All records up to it must be
+// claims.
 pub fn offer_at(
     rt: &impl Abort,
     alloc: Global,
@@ -170,7 +171,7 @@ pub fn offer_at(
     }
 }
 
-// Goes to the end of a file, behind so many claims, and nothing else.
+// Reads a provider's file to its end. It must have `count` claims and no other record.
 fn go_to_end(
     rt: &impl Abort,
     alloc: Global,
@@ -204,7 +205,7 @@ fn read_through(
     go_to_end(rt, alloc, terms, provider, &mut rows, count)
 }
 
-// Reads a provider's file to its end: so many claims, and nothing else.
+// Reads a provider's file to its end. It must have `count` claims and no other record.
 pub fn read_all(rt: &impl Abort, alloc: Global, terms: &Terms, provider: usize, count: usize)
     ensures { ForTerms terms.now (λ T. HasClaims T provider count) }
 {
@@ -214,7 +215,6 @@ pub fn read_all(rt: &impl Abort, alloc: Global, terms: &Terms, provider: usize, 
     }
 }
 
-// Whether an offer is the claim of this number, of a provider and place.
 pub fn is_offer(offer: Offer, provider: usize, place: usize, id: &str) -> bool {
     offer.provider == provider && offer.place == place && offer.claim.as_claim().id.as_str() == id
 }

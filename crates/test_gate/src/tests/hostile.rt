@@ -1,4 +1,4 @@
-//! A run of one claim behind a lock, whose outcome is handed in twice.
+//! A run of a single claim at a shared gate, in which the outcome is passed to `finish` twice.
 ghost use Rattle.std.specs.Prelude.{◌≡◌};
 ghost use Rattle.test_gate.specs.Words.{IsAtWork, IsCaller};
 
@@ -16,7 +16,7 @@ use std::sync::Wait;
 use test_fixtures::health_plan;
 use turn_lock::Section;
 
-// A job and its copy: the outcome is recorded once, and then job and outcome come back.
+// Finishes a job, whose outcome is recorded, and then its copy: the copy and the outcome come back.
 fn decide_copy<G: Gate>(
     rt: &(impl Abort + Wait),
     alloc: Global,
@@ -41,7 +41,7 @@ fn decide_copy<G: Gate>(
     pass
 }
 
-// The first claim is accepted, its provider ends, and it is taken and decided.
+// Accepts the only claim, ends its provider, takes the claim and decides it.
 fn decide_only<G: Gate>(
     rt: &(impl Abort + Wait),
     alloc: Global,

@@ -1,4 +1,5 @@
-//! The worked calls on a gate behind a lock, by two passes in turn: the answers are those of the gate of one thread.
+//! The worked calls on a shared gate, made by two passes in turn. The answers are those of the
+//! sequential gate.
 ghost use Rattle.std.specs.Prelude.{◌≡◌};
 ghost use Rattle.journal.specs.Gate.{LeadsTo};
 ghost use Rattle.test_gate.specs.Words.{AreCallers, IsAtWork, IsCaller};
@@ -21,7 +22,8 @@ use std::sync::Wait;
 use test_fixtures::{both_files, health_plan};
 use turn_lock::Section;
 
-// One pass has the first provider's first claim accepted; to the other it is refused.
+// The first pass offers the first claim of the first provider, which is accepted. The second pass
+// offers it again, and it is refused.
 fn accept_first<G: Gate>(
     rt: &(impl Abort + Wait),
     alloc: Global,
@@ -41,7 +43,7 @@ fn accept_first<G: Gate>(
     (one, other)
 }
 
-// Then the one takes it.
+// After that the first pass takes the claim.
 fn take_first<G: Gate>(
     rt: &(impl Abort + Wait),
     alloc: Global,
@@ -59,7 +61,8 @@ fn take_first<G: Gate>(
     (one, other, job)
 }
 
-// The other finds nothing; the one has its member's second claim accepted; the other finds nothing again.
+// The second pass finds no claim ready. The first pass offers the second claim of the same member,
+// which is accepted, and the second pass still finds no claim ready.
 fn second_waits<G: Gate>(
     rt: &(impl Abort + Wait),
     alloc: Global,
@@ -79,7 +82,8 @@ fn second_waits<G: Gate>(
     (one, other)
 }
 
-// The one has the second provider's first claim accepted, and the other takes it.
+// The first pass offers the first claim of the second provider, which is accepted, and the second
+// pass takes it.
 fn take_other<G: Gate>(
     rt: &(impl Abort + Wait),
     alloc: Global,
@@ -100,7 +104,8 @@ fn take_other<G: Gate>(
     (one, other)
 }
 
-// The one finishes the first claim, and the other takes the member's second one at what that left. Gives that job.
+// The first pass finishes the first claim, and the second pass takes the second claim of the
+// member, at the accumulators that the first one has left. Returns its job.
 fn take_second<G: Gate>(
     rt: &(impl Abort + Wait),
     alloc: Global,
@@ -126,7 +131,7 @@ fn take_second<G: Gate>(
     (one, other, next)
 }
 
-// All of these calls. Gives what is in work for the other pass.
+// Makes all of these calls. Returns the job that the second pass has in progress.
 fn turn_calls<G: Gate>(
     rt: &(impl Abort + Wait),
     alloc: Global,
@@ -145,7 +150,7 @@ fn turn_calls<G: Gate>(
     take_second(rt, alloc, terms, gate, (one, other), job)
 }
 
-// The first provider's end is refused.
+// Expects that the end of the first provider is refused.
 fn refuse_first_end<G: Gate>(
     rt: &(impl Abort + Wait),
     alloc: Global,
@@ -162,7 +167,7 @@ fn refuse_first_end<G: Gate>(
     refuse_end(rt, terms, gate, pass, 1, 4, fault)
 }
 
-// The calls of an intake and of a worker behind a stop.
+// The calls of an intake thread, and the `take` of a worker, after a stop.
 fn stopped_calls<G: Gate>(
     rt: &(impl Abort + Wait),
     alloc: Global,
@@ -181,7 +186,7 @@ fn stopped_calls<G: Gate>(
     find_stopped(rt, terms, gate, pass)
 }
 
-// The same, and the outcome of a job.
+// The calls after a stop, with that of `finish`.
 fn finish_stopped<G: Gate>(
     rt: &(impl Abort + Wait),
     alloc: Global,
@@ -203,7 +208,8 @@ fn finish_stopped<G: Gate>(
     pass
 }
 
-// The calls in turn, the first provider's end, a stop by the one pass, and each call by the other.
+// Makes the calls in turn, and expects that the end of the first provider is refused. Then one pass
+// stops the gate, and the other makes each call.
 fn all_calls<G: Gate>(
     rt: &(impl Abort + Wait),
     alloc: Global,
@@ -221,12 +227,11 @@ fn all_calls<G: Gate>(
     finish_stopped(rt, alloc, terms, gate, other, job)
 }
 
-// Whether three claims are accepted, one of them is decided, and the gate is stopped.
 fn is_stopped_at_three(reached: Counts) -> bool {
     reached.accepted == 3 && reached.decided == 1 && reached.stopped
 }
 
-// The calls over a lock, then a stop; the journal is the one of the gate of one thread.
+// Makes these calls on a gate with a lock. The journal is that of the sequential gate.
 fn calls_over<S: Section + Drop>(
     rt: &(impl Abort + Wait),
     alloc: Global,

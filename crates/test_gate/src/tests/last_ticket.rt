@@ -1,5 +1,5 @@
-//! A gate behind a lock of which two tickets are left, one, or none: each call behind the last one is answered so, and the pass
-//! and the values come back.
+//! A gate with a ticket lock that has two tickets left, one, or none. Each call after the last
+//! ticket returns `Worn` with the pass and the arguments.
 ghost use Rattle.std.specs.Prelude.{◌≡◌};
 ghost use Rattle.test_gate.specs.Words.{IsAtWork, IsCaller};
 
@@ -17,7 +17,7 @@ use std::sync::Wait;
 use test_fixtures::{both_files, health_plan};
 use turn_lock::Section;
 
-// The calls of an intake.
+// The calls of an intake thread without a ticket.
 fn worn_intake<G: Gate>(
     rt: &(impl Abort + Wait),
     alloc: Global,
@@ -40,7 +40,7 @@ fn worn_intake<G: Gate>(
     pass
 }
 
-// The other calls.
+// The other calls without a ticket.
 fn worn_calls<G: Gate>(rt: &(impl Abort + Wait), gate: &G, pass: G::Pass) -> G::Pass
     requires { G.has_pass gate.now pass }
     ensures { G.has_pass gate.now result }
@@ -57,7 +57,7 @@ fn worn_calls<G: Gate>(rt: &(impl Abort + Wait), gate: &G, pass: G::Pass) -> G::
     pass
 }
 
-// The first claim is accepted by the last ticket.
+// The last ticket serves to accept the first claim.
 fn calls_over<S: Section + Drop>(
     rt: &(impl Abort + Wait),
     alloc: Global,
@@ -79,7 +79,7 @@ where
     expects(rt, gate.retire(rt, pass).is_err(), "no gate");
 }
 
-// No claim is accepted at all.
+// No ticket is left, so no claim is accepted.
 fn calls_without<S: Section + Drop>(
     rt: &(impl Abort + Wait),
     alloc: Global,
@@ -98,7 +98,7 @@ where
     let _pass = worn_calls(rt, &gate, pass);
 }
 
-// The outcome of a job: both come back.
+// Finishes a job without a ticket: the job and its outcome come back.
 fn worn_finish<G: Gate>(
     rt: &(impl Abort + Wait),
     alloc: Global,
@@ -118,7 +118,7 @@ fn worn_finish<G: Gate>(
     expects(rt, same, "the job and its outcome");
 }
 
-// The first claim is taken by the last ticket.
+// The last ticket serves to take the first claim.
 fn finish_over<S: Section + Drop>(
     rt: &(impl Abort + Wait),
     alloc: Global,

@@ -1,4 +1,5 @@
-//! Gates behind locks: how they begin, and what their journals are once they are taken out. What is refused memory is asked for once more.
+//! Shared gates: their initial states, and their journals at the end. Whatever runs out of memory
+//! is repeated once.
 ghost use Rattle.std.specs.Prelude.{◌≡◌};
 ghost use Rattle.turn_lock.specs.SpinShown.{IsPassOf as IsSpinPassOf, pass_seen};
 ghost use Rattle.turn_lock.specs.TicketShown.{IsPassOf, pass_knows};
@@ -13,7 +14,7 @@ use std::process::Abort;
 use std::sync::Wait;
 use turn_lock::{Pass, Section, SpinLock, SpinPass, TicketLock};
 
-/// A gate to which nothing was offered, behind a spin lock.
+/// A gate to which no claim was offered, in a spin lock.
 pub fn spinning<'t>(
     rt: &impl Abort,
     alloc: Global,
@@ -28,7 +29,7 @@ pub fn spinning<'t>(
     }
 }
 
-/// The same behind a ticket lock.
+/// A gate to which no claim was offered, in a ticket lock.
 pub fn by_tickets<'t>(
     rt: &impl Abort,
     alloc: Global,
@@ -43,7 +44,7 @@ pub fn by_tickets<'t>(
     }
 }
 
-/// The same behind a ticket lock of which so many tickets are used.
+/// A gate to which no claim was offered, in a ticket lock whose first ticket is `used`.
 pub fn with_used<'t>(
     rt: &impl Abort,
     alloc: Global,
@@ -57,7 +58,7 @@ pub fn with_used<'t>(
     TicketLock::new_at(alloc, gate, used).expect(rt, "memory for a lock")
 }
 
-/// Takes the gate of one thread out of its lock: its journal has these events, and no other.
+/// Takes the sequential gate out of its lock, and checks that its journal has exactly these events.
 pub fn ends_with<S: Section + Drop>(
     rt: &(impl Abort + Wait),
     gate: &LockedGate<S>,

@@ -1,4 +1,5 @@
-//! Two passes of a gate behind a ticket lock meet: what one of them had seen, both have seen then.
+//! Two passes of a gate with a ticket lock meet: afterwards each has seen what either of them had
+//! seen.
 
 ghost use Rattle.std.specs.Prelude.{◌≡◌};
 ghost use Rattle.turn_lock.specs.TicketShown.{IsPassOf, pass_knows};
@@ -16,7 +17,7 @@ use std::sync::Wait;
 use test_fixtures::{both_files, first_file, health_plan};
 use turn_lock::{Pass, TicketLock};
 
-// The pass finds one claim accepted, which is refused when it is offered again.
+// The pass finds that one claim is accepted, which is refused if it is offered again.
 fn finds_one<G: Gate>(
     rt: &(impl Abort + Wait),
     alloc: Global,
@@ -37,7 +38,8 @@ fn finds_one<G: Gate>(
     pass
 }
 
-// The calls of the two passes.
+// The calls of two passes that meet twice: after one has offered a claim, and after the other has
+// stopped the gate.
 #[tactic(auto, using(crate::proofs::Meeting::met_terms))]
 fn met_calls<V: SerialGate + Send + Drop>(
     rt: &(impl Abort + Wait),
@@ -79,7 +81,7 @@ fn two_passes_meet_at_a_gate(rt: HostRuntime) {
     );
 }
 
-// A call of a worn pass, of which is known that it is refused.
+// The contract refutes every answer but a refusal, since the pass is worn.
 fn refuse_worn<G: Gate>(rt: &impl Wait, gate: &G, pass: G::Pass)
     requires own { G.has_pass gate.now pass }
     requires worn { G.is_worn pass }
@@ -89,7 +91,8 @@ fn refuse_worn<G: Gate>(rt: &impl Wait, gate: &G, pass: G::Pass)
     };
 }
 
-// The one pass makes the last call, and has seen so; the other has not. They meet, and both are worn.
+// One pass draws the last ticket and finds that no other is left, and the other pass does not know
+// this. They meet, and both are worn.
 fn meet_worn<V: SerialGate + Send + Drop>(
     rt: &(impl Abort + Wait),
     lock: TicketLock<V>,

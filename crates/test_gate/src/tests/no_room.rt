@@ -1,4 +1,5 @@
-//! Calls at a journal that has no room left, on a gate of one thread and on one behind a lock: what memory is refused for is more room.
+//! Calls that enlarge a full journal, on a sequential gate and on a shared one, so that one of the
+//! allocations that the tests refuse is that of the journal.
 ghost use Rattle.std.specs.Prelude.{◌≡◌};
 ghost use Rattle.test_gate.specs.Words.{IsCaller};
 
@@ -15,7 +16,7 @@ use std::sync::Wait;
 use test_fixtures::{first_file, header, health_plan, second_file};
 use turn_lock::{Section, SpinLock};
 
-/// The call that needs room.
+/// The call that is made on the full journal.
 #[derive(Clone, Copy)]
 enum Call {
     End,
@@ -24,7 +25,8 @@ enum Call {
 }
 
 impl Call {
-    // The place of the claim that is accepted last: of another member, or of the first, for which it waits.
+    // The provider and place of the claim that is accepted last. It is a claim of another member,
+    // or one that must wait for the first claim.
     fn third(self) -> (usize, usize) {
         match self {
             Call::End => (2, 0),
@@ -33,7 +35,7 @@ impl Call {
         }
     }
 
-    // The journal behind the call.
+    // The journal after the call.
     fn journal(self) -> &'static [u8] {
         match self {
             Call::End => b"A10A11A20T0 E3 ",
@@ -43,7 +45,8 @@ impl Call {
     }
 }
 
-// A gate that has accepted three claims, of which the first is in work. So its journal is full, since it began with room for four events.
+// A gate that has accepted three claims and handed out the first. So its journal is full, since it
+// begins with room for four events.
 fn full_gate<'t>(
     rt: &impl Abort,
     alloc: Global,
@@ -61,7 +64,7 @@ fn full_gate<'t>(
     gate
 }
 
-// The call on a gate of one thread.
+// Makes the call on a sequential gate.
 fn call_alone(rt: &impl Abort, alloc: Global, terms: &Terms, call: Call) {
     let mut gate = full_gate(rt, alloc, terms, call.third());
     read_all(rt, alloc, terms, 3, 0);
@@ -75,7 +78,7 @@ fn call_alone(rt: &impl Abort, alloc: Global, terms: &Terms, call: Call) {
     drop(gate);
 }
 
-// The call on a shared gate.
+// Makes the call on a shared gate.
 fn call_shared<G: Gate>(
     rt: &(impl Abort + Wait),
     alloc: Global,
@@ -116,7 +119,7 @@ where
     drop(gate);
 }
 
-// The call behind a lock.
+// Makes the call on a gate in a spin lock.
 fn call_locked(rt: &(impl Abort + Wait), alloc: Global, terms: &Terms, call: Call) {
     let third = call.third();
     let (lock, pass) = match SpinLock::new(alloc, full_gate(rt, alloc, terms, third)) {

@@ -1,4 +1,5 @@
-//! Two threads offer the same file, each by a pass of its own, and go on at the expected place where the other was there before.
+//! Two threads offer the same file, each with a pass of its own. A thread whose claim the other one
+//! has offered before goes on at the expected place.
 ghost use Rattle.std.specs.Prelude.{◌≡◌};
 ghost use Rattle.claim_gate.specs.Terms.{ForTerms};
 ghost use Rattle.claim_gate.specs.Replies.{IsFiled};
@@ -17,7 +18,8 @@ use std::thread::Threads;
 use test_fixtures::{both_files, health_plan};
 use turn_lock::Section;
 
-/// What was accepted at each of the first four positions: the sum, over all callers that were told so, of the place and 1.
+/// The answers at each of the first four positions: the sum of `place + 1` over all callers whose
+/// claim was accepted there.
 #[derive(Drop)]
 struct Told {
     first: AtomicU64,
@@ -50,7 +52,8 @@ impl Told {
         self.at(position).fetch_add(number, Ordering::SeqCst);
     }
 
-    // Whether each event is the next claim of the first provider, and one caller was told so.
+    // Returns whether the journal accepts the four claims of the first provider in order, and each
+    // of them was accepted for exactly one caller.
     fn is_journal(&self, journal: &[Event]) -> bool {
         for (position, event) in journal.iter().enumerate() {
             let told = self.at(position).load(Ordering::SeqCst);
@@ -67,7 +70,7 @@ fn is_accept(event: &Event, wanted: usize) -> bool {
     matches!(event, Event::Accept { provider: 1, place } if *place == wanted)
 }
 
-// Offers a claim. Gives the place to go on at.
+// Offers a claim. Returns the place of the next claim to offer.
 fn offer_next<R: Wait + Abort, G: Gate>(
     rt: &R,
     terms: &Terms,
@@ -95,7 +98,7 @@ fn offer_next<R: Wait + Abort, G: Gate>(
     }
 }
 
-// Offers the claim of the first file at the place, if there is one.
+// Offers the claim at the place of the first file, if there is one.
 fn offer_from<R: Wait + Abort, G: Gate>(
     rt: &R,
     alloc: Global,
@@ -133,7 +136,7 @@ fn offer_all<R: Wait + Abort, G: Gate>(
     expects(rt, next.0 == 4, "all four");
 }
 
-// Both threads; the caller is one of them.
+// Offers the file by two threads, one of which is the caller.
 fn offer_by_two<R: Threads + Wait + Abort + Sync, G: Gate + Sync>(
     rt: &R,
     alloc: Global,

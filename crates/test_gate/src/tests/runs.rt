@@ -1,4 +1,5 @@
-//! The runs of the tests: the calls of each, under the terms of a plan's text and of files' texts.
+//! The runs of the tests: each makes its calls under the terms of a plan and of files, which are
+//! given as texts.
 
 use super::families::family_calls;
 use super::filing::{plan_of, terms_of};
@@ -14,7 +15,7 @@ use std::alloc::Global;
 use std::process::Abort;
 use std::sync::Wait;
 
-/// Which calls are made.
+/// The calls that a run makes.
 #[derive(Clone, Copy)]
 pub enum Calls {
     Begin,
@@ -62,7 +63,7 @@ impl Calls {
     }
 }
 
-/// Makes the calls, without balances.
+/// Makes the calls under terms without balances.
 pub fn run(
     rt: &(impl Abort + Wait),
     alloc: Global,

@@ -1,5 +1,6 @@
-//! The calls of a gate behind a lock, each with the answer that is wanted: another one ends the test. A call that is refused memory is made
-//! once more, once the gate is seen to be as far as before: `before` is how far it is when the call is made first.
+//! The calls of a shared gate with the expected answers: any other answer ends the test. A call
+//! that runs out of memory is repeated once, after a check that the gate still has the counts
+//! `before`, which it had before the call.
 ghost use Rattle.std.specs.Prelude.{◌≡◌};
 ghost use Rattle.claim_gate.specs.Terms.{ForTerms};
 ghost use Rattle.claim_gate.specs.Replies.{HasClaims};
@@ -15,7 +16,7 @@ use std::alloc::Global;
 use std::process::Abort;
 use std::sync::Wait;
 
-// Offers the claim at a place of a provider's file, which is accepted at a position.
+// Offers the claim at a place of a provider's file, and expects that it is accepted at a position.
 pub fn accept_at<G: Gate>(
     rt: &(impl Abort + Wait),
     alloc: Global,
@@ -37,7 +38,7 @@ pub fn accept_at<G: Gate>(
     pass
 }
 
-// Offers the claim at a place of a provider's file, which is refused: it comes back.
+// Offers the claim at a place of a provider's file, and expects that it comes back refused.
 pub fn refuse_at<G: Gate>(
     rt: &(impl Abort + Wait),
     alloc: Global,
@@ -63,7 +64,7 @@ pub fn refuse_at<G: Gate>(
     }
 }
 
-// Takes a claim, which is that at a position.
+// Takes a claim, and expects the one at a position.
 pub fn take_job<G: Gate>(
     rt: &(impl Abort + Wait),
     terms: &Terms,
@@ -83,7 +84,7 @@ pub fn take_job<G: Gate>(
     (pass, job)
 }
 
-// Takes nothing, since nothing is ready.
+// Takes a claim, and expects that none is ready.
 pub fn find_nothing<G: Gate>(
     rt: &(impl Abort + Wait),
     terms: &Terms,
@@ -100,7 +101,7 @@ pub fn find_nothing<G: Gate>(
     pass
 }
 
-// Finishes a job with its outcome, which is recorded.
+// Finishes a job with its outcome, and expects that it is recorded.
 pub fn record<G: Gate>(
     rt: &(impl Abort + Wait),
     alloc: Global,
@@ -121,7 +122,7 @@ pub fn record<G: Gate>(
     pass
 }
 
-// Finishes a job, which is refused: the job and the outcome come back.
+// Finishes a job, and expects that the job and the outcome come back refused.
 pub fn refuse_outcome<G: Gate>(
     rt: &(impl Abort + Wait),
     alloc: Global,
@@ -147,7 +148,7 @@ pub fn refuse_outcome<G: Gate>(
     }
 }
 
-// Ends a provider, which is refused.
+// Ends a provider, and expects that the end is refused.
 pub fn refuse_end<G: Gate>(
     rt: &(impl Abort + Wait),
     terms: &Terms,
@@ -167,7 +168,7 @@ pub fn refuse_end<G: Gate>(
     pass
 }
 
-// Takes nothing, since the gate is stopped.
+// Takes a claim, and expects that the gate is stopped.
 pub fn find_stopped<G: Gate>(
     rt: &(impl Abort + Wait),
     terms: &Terms,

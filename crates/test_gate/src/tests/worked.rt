@@ -1,4 +1,5 @@
-//! Calls of a gate that were worked by hand, each also with an allocation refused. Amounts are in ten-thousandths.
+//! Calls of a sequential gate that were worked out by hand, each made also with an allocation
+//! refused. Amounts are in ten-thousandths of the currency unit.
 ghost use Rattle.std.specs.Prelude.{◌≡◌};
 ghost use Rattle.test_gate.specs.Words.{IsAtWork, WorkStays};
 
@@ -28,12 +29,13 @@ fn one_claim() -> &'static [u8] {
 
 const ONE_FILE: &[&[u8]] = &[ONE_CLAIM];
 
-/// The file of one claim, alone.
+/// The only file of a run with a single claim.
 pub fn one_file() -> &'static [&'static [u8]] {
     ONE_FILE
 }
 
-// Whether a member has met so much of the deductible, and what was paid out of pocket and by the plan; so of a family where there is none.
+// Returns whether a member has these accumulators. Without families the accumulators of the family
+// are those of the member.
 fn is_at(acc: Acc, met: i64, oop: i64, paid: i64) -> bool {
     acc.met.amount().units() == met
         && acc.oop.amount().units() == oop
@@ -50,17 +52,19 @@ pub fn is_job(job: &Job, position: usize, id: &str) -> bool {
     job.position == position && job.claim.as_claim().id.as_str() == id
 }
 
-/// Whether a job is that of a claim, at what its member's earlier ones left.
+/// Returns whether a job has this claim, and the accumulators that the earlier claims of its member
+/// have left.
 pub fn is_job_at(job: &Job, position: usize, id: &str, met: i64, oop: i64, paid: i64) -> bool {
     is_job(job, position, id) && is_at(job.acc, met, oop, paid)
 }
 
-/// Whether a job and its outcome, which came back, are those of a claim that is paid 40.
+/// Returns whether a job and an outcome that have come back are those of a claim with a paid amount
+/// of 40.
 pub fn is_back(job: Job, outcome: Decision, position: usize, id: &str) -> bool {
     is_job(&job, position, id) && is_paid_40(outcome.outcome())
 }
 
-// A gate that has accepted the first provider's first claim.
+// A gate that has accepted the first claim of the first provider.
 fn begin<'t>(rt: &impl Abort, alloc: Global, terms: &'t Terms<'t>) -> GateState<'t>
     ensures { result.terms ≡ terms.now }
 {
@@ -69,7 +73,7 @@ fn begin<'t>(rt: &impl Abort, alloc: Global, terms: &'t Terms<'t>) -> GateState<
     gate
 }
 
-// Takes the first claim, which is refused when it is offered again.
+// Offers the first claim again, which is refused, and takes it.
 fn take_first<'t>(
     rt: &impl Abort,
     alloc: Global,
@@ -88,7 +92,7 @@ fn take_first<'t>(
     job
 }
 
-// The member's second claim waits.
+// The second claim of the member is not ready before the first one is decided.
 fn second_waits<'t>(rt: &impl Abort, alloc: Global, terms: &'t Terms<'t>, gate: &mut GateState<'t>)
     requires terms { gate.old.terms ≡ terms.now }
     ensures terms { gate.new.terms ≡ terms.now }
@@ -99,7 +103,7 @@ fn second_waits<'t>(rt: &impl Abort, alloc: Global, terms: &'t Terms<'t>, gate: 
     find_nothing(rt, terms, gate);
 }
 
-// The claim of another member is taken.
+// A claim of another member is ready at once.
 fn take_other<'t>(rt: &impl Abort, alloc: Global, terms: &'t Terms<'t>, gate: &mut GateState<'t>)
     requires terms { gate.old.terms ≡ terms.now }
     ensures terms { gate.new.terms ≡ terms.now }
@@ -111,7 +115,8 @@ fn take_other<'t>(rt: &impl Abort, alloc: Global, terms: &'t Terms<'t>, gate: &m
     drop(job);
 }
 
-// The first member's first claim is decided, and its second one is taken at what that left. Gives that job.
+// Decides the first claim of the member, and takes the second one at the accumulators that the
+// first one has left. Returns its job.
 fn take_second<'t>(
     rt: &impl Abort,
     alloc: Global,
@@ -134,7 +139,7 @@ fn take_second<'t>(
     next
 }
 
-// All of these calls, by a gate that was begun. Gives the last job.
+// Makes all of these calls on a gate that has begun. Returns the last job.
 fn calls_in_turn<'t>(
     rt: &impl Abort,
     alloc: Global,
@@ -151,7 +156,7 @@ fn calls_in_turn<'t>(
     take_second(rt, alloc, terms, gate, job)
 }
 
-// The first provider's end comes before all its claims are accepted.
+// Expects that the end of the first provider is refused before all its claims are accepted.
 fn end_early<'t>(rt: &impl Abort, alloc: Global, terms: &'t Terms<'t>, gate: &mut GateState<'t>)
     requires terms { gate.old.terms ≡ terms.now }
     ensures terms { gate.new.terms ≡ terms.now }
@@ -161,17 +166,16 @@ fn end_early<'t>(rt: &impl Abort, alloc: Global, terms: &'t Terms<'t>, gate: &mu
     expects(rt, is_as_far(gate, counts(3, 0, 1, false)), "these counts");
 }
 
-// The journal of the worked calls.
+// The journal after the worked calls.
 pub fn worked_journal() -> &'static [u8] {
     b"A10T0 A11A20T2 D0 T1 "
 }
 
-// Whether a journal is that one.
 fn is_worked(journal: &[Event]) -> bool {
     is_journal(journal, worked_journal())
 }
 
-// Whether a gate of the worked calls comes back where its run is to be a finished one.
+// Returns whether the run is not finished, so that the gate comes back with the worked journal.
 fn is_given_back<'t>(gate: GateState<'t>, terms: &'t Terms<'t>) -> bool
     requires { gate.terms ≡ terms.now }
 {
@@ -181,7 +185,7 @@ fn is_given_back<'t>(gate: GateState<'t>, terms: &'t Terms<'t>) -> bool
     }
 }
 
-// The calls in turn, and a run that isn't finished: the gate comes back.
+// The worked calls leave an unfinished run, from which no batch is made.
 pub fn turn_calls(rt: &impl Abort, alloc: Global, terms: &Terms) {
     let mut gate = begin(rt, alloc, terms);
     drop(calls_in_turn(rt, alloc, terms, &mut gate));
@@ -202,7 +206,7 @@ fn a_member_s_claims_take_turns_though_memory_is_refused(rt: HostRuntime) {
     );
 }
 
-// A job and its copy: the outcome is recorded once.
+// Finishes a job, whose outcome is recorded, and then its copy, which is refused.
 fn decide_copy<'t>(
     rt: &impl Abort,
     alloc: Global,
@@ -242,7 +246,8 @@ fn an_outcome_is_recorded_once_though_memory_is_refused(rt: HostRuntime) {
     );
 }
 
-// The claim at a place of the first provider's file and the provider's end are refused; the offer comes back.
+// Expects that the claim at a place of the first provider's file, and the end of the provider, are
+// refused. Returns the offer that has come back.
 fn refuse_intake<'t>(
     rt: &impl Abort,
     alloc: Global,
@@ -262,7 +267,7 @@ fn refuse_intake<'t>(
     back
 }
 
-// Each call behind a stop.
+// Makes each call after a stop.
 fn call_stopped<'t>(
     rt: &impl Abort,
     alloc: Global,
@@ -284,7 +289,7 @@ fn call_stopped<'t>(
     expects(rt, same, "the job and its outcome");
 }
 
-// The calls in turn, a stop, and each call again.
+// The worked calls, a stop, and each call again.
 pub fn stop_calls(rt: &impl Abort, alloc: Global, terms: &Terms) {
     let mut gate = begin(rt, alloc, terms);
     let job = calls_in_turn(rt, alloc, terms, &mut gate);
@@ -307,7 +312,7 @@ fn a_stopped_gate_refuses_each_call_though_memory_is_refused(rt: HostRuntime) {
     );
 }
 
-// The first provider's only claim is accepted, and the provider ends.
+// Accepts the only claim of the first provider, and ends the provider.
 fn end_first<'t>(rt: &impl Abort, alloc: Global, terms: &'t Terms<'t>) -> GateState<'t>
     ensures { result.terms ≡ terms.now }
 {
@@ -317,7 +322,6 @@ fn end_first<'t>(rt: &impl Abort, alloc: Global, terms: &'t Terms<'t>) -> GateSt
     gate
 }
 
-// Takes and decides the only claim.
 fn decide_only<'t>(rt: &impl Abort, alloc: Global, terms: &'t Terms<'t>, gate: &mut GateState<'t>)
     requires { gate.old.terms ≡ terms.now }
     ensures { gate.new.terms ≡ terms.now }
@@ -326,7 +330,7 @@ fn decide_only<'t>(rt: &impl Abort, alloc: Global, terms: &'t Terms<'t>, gate: &
     record(rt, alloc, terms, gate, job);
 }
 
-// A run of one claim, to its end.
+// A run of a single claim up to its end.
 pub fn end_calls(rt: &impl Abort, alloc: Global, terms: &Terms) {
     let mut gate = end_first(rt, alloc, terms);
     expects(rt, has_journal(&gate, b"A10E1 C  "), "this journal");
@@ -349,7 +353,7 @@ fn the_last_end_closes_though_memory_is_refused(rt: HostRuntime) {
     );
 }
 
-// A provider ends once, also while another one is still open.
+// A provider can end only once, even while another provider has not ended.
 pub fn end_again(rt: &impl Abort, alloc: Global, terms: &Terms) {
     let mut gate = end_first(rt, alloc, terms);
     read_all(rt, alloc, terms, 1, 1);
@@ -372,7 +376,7 @@ fn a_provider_ends_once(rt: HostRuntime) {
     );
 }
 
-// Each call where no claim is admitted.
+// Makes each call on a gate that admits no claim.
 pub fn closed_calls(rt: &impl Abort, alloc: Global, terms: &Terms) {
     let mut gate = gate_of(rt, alloc, terms);
     let faults = (OfferFault::Closed, EndFault::Closed);

@@ -14,7 +14,8 @@ use std::alloc::{AllocError, Global};
 use std::snapshot::Snapshot;
 use std::sync::Wait;
 
-/// A value behind one word. It never wears out, and serves in no order.
+/// A value protected by one word. The lock never wears out, and it serves passes in no particular
+/// order.
 #[derive(Drop)]
 pub struct SpinLock<T: Growing> {
     table: Table<Option<T>, SpinView<T>, Snapshot<T>, Spins<T>, Global>,
@@ -25,7 +26,11 @@ pub struct SpinLock<T: Growing> {
 impl<T: Growing + Drop> SpinLock<T> {
     ghost use Rattle.turn_lock.specs.SpinShown.{IsPassOf, pass_seen, pass_tally, pass_last};
 
-    /// The lock and its first pass. The value is dropped where there is no memory.
+    /// Creates a lock with the given value, and its first pass.
+    ///
+    /// # Errors
+    ///
+    /// Returns `AllocError` and drops the value if memory cannot be allocated.
     pub fn new(alloc: Global, value: T) -> Result<(SpinLock<T>, SpinPass<T>), AllocError>
         ensures own { IfOk result (λ r. IsPassOf r.0 r.1) }
         ensures seen { IfOk result (λ r. pass_seen r.1 ≡ value) }
@@ -42,7 +47,7 @@ impl<T: Growing + Drop> SpinLock<T> {
 }
 
 impl<T: Growing> SpinLock<T> {
-    // Tries until the exchange finds 0.
+    // Tries until the exchange finds 0, with a pause after each miss.
     fn win<R: Wait>(
         &self,
         rt: &R,

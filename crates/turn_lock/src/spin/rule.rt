@@ -1,4 +1,4 @@
-//! The rule of the spin lock, and what each of its steps tells.
+//! The rule of the spin lock, and the effect of each of its steps on a pass.
 
 ghost use Rattle.turn_lock.specs.Spin.{SpinLockRule, newcomer, Takes, Frees};
 
@@ -8,7 +8,7 @@ use atomic_table::{Play, Split, TableRule};
 use std::marker::PhantomData;
 use std::snapshot::Snapshot;
 
-/// The spin lock's rule. The table is told the value that the lock is made with.
+/// The rule of the spin lock. The table receives the initial value of the lock.
 pub struct Spins<T> {
     value: PhantomData<T>,
 }
@@ -19,7 +19,7 @@ impl<T: Growing> TableRule<Option<T>, SpinView<T>, Snapshot<T>> for Spins<T> {
     ghost first = { λ key. newcomer key.value };
 }
 
-/// The exchange of 0 by 1.
+/// The compare and exchange of 0 by 1.
 pub struct Take<T> {
     value: PhantomData<T>,
 }
@@ -37,7 +37,7 @@ impl<T: Growing> Play<Option<T>, SpinView<T>> for Free<T> {
     ghost then = { Frees T.leads };
 }
 
-/// Both passes have seen what the one had.
+/// The split of a pass: both passes have seen what the one has seen.
 pub struct Twice;
 
 impl<T> Split<SpinView<T>> for Twice {

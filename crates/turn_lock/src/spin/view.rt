@@ -1,13 +1,14 @@
-//! What a pass of the spin lock knows.
+//! The knowledge of a pass of the spin lock.
 
-/// What a pass of the spin lock knows. No value of it is made.
+/// What a pass of the spin lock knows. The type appears in proofs only: the program makes no value
+/// of it.
 pub struct SpinView<T> {
-    /// The pass is in a section.
+    /// Whether the pass is in a critical section.
     pub holds: bool,
-    /// The last value that it has seen, which is the one found while it holds.
+    /// The last value that the pass has seen. In a critical section this is the value found there.
     pub seen: T,
-    /// How many sections it has ended.
+    /// The number of critical sections that the pass has ended.
     pub ended: u64,
-    /// The value that the last of these found.
+    /// The value that the last of these sections found, or the initial value of the lock.
     pub last: T,
 }

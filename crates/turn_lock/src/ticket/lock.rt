@@ -16,7 +16,8 @@ use std::alloc::{AllocError, Global};
 use std::snapshot::Snapshot;
 use std::sync::Wait;
 
-/// A value behind two words, whose passes are served in the order of their tickets. Tickets run to 2^64 - 2.
+/// A value protected by two words, whose passes are served in the order of their tickets. Tickets
+/// run to 2^64 - 2.
 #[derive(Drop)]
 pub struct TicketLock<T: Growing> {
     table: Table<Option<T>, TicketView<T>, Opening<T>, Tickets<T>, Global>,
@@ -27,7 +28,11 @@ pub struct TicketLock<T: Growing> {
 impl<T: Growing + Drop> TicketLock<T> {
     ghost use Rattle.turn_lock.specs.TicketShown.{IsPassOf, pass_knows};
 
-    /// The lock, whose first ticket is 0, and its first pass. The value is dropped where there is no memory.
+    /// Creates a lock with the given value and the first ticket 0, and its first pass.
+    ///
+    /// # Errors
+    ///
+    /// Returns `AllocError` and drops the value if memory cannot be allocated.
     pub fn new(alloc: Global, value: T) -> Result<(TicketLock<T>, Pass<T>), AllocError>
         ensures own { IfOk result (λ r. IsPassOf r.0 r.1) }
         ensures knows { IfOk result (λ r. pass_knows r.1 ≡ opened 0 value) }
@@ -35,8 +40,12 @@ impl<T: Growing + Drop> TicketLock<T> {
         TicketLock::new_at(alloc, value, 0)
     }
 
-    /// The lock, whose tickets begin with this one, and its first pass. At 2^64 - 1 no ticket is left. The value is dropped where
-    /// there is no memory.
+    /// Creates a lock with the given value and first ticket, and its first pass. A lock whose first
+    /// ticket is 2^64 - 1 has no ticket to draw.
+    ///
+    /// # Errors
+    ///
+    /// Returns `AllocError` and drops the value if memory cannot be allocated.
     pub fn new_at(
         alloc: Global,
         value: T,
@@ -61,42 +70,56 @@ impl<T: Growing + Drop> TicketLock<T> {
 impl<T: Growing> TicketLock<T> {
     ghost use Rattle.turn_lock.specs.TicketShown.{IsPassOf, IsLookedOf, IsDrawnOf, IsHoldingOf, IsWornPass, IsRefused, HasMet, pass_knows, looked_knows, drawn_knows, holding_knows, looked_next, drawn_ticket, held_ticket};
 
-    /// A second pass, and both have seen what the one had.
+    /// Splits a pass in two. Each of them has seen what the given pass has seen. The call neither
+    /// waits nor allocates memory.
     pub fn split(&self, pass: Pass<T>) -> (Pass<T>, Pass<T>)
         requires { IsPassOf self.now pass }
         ensures own { IsPassOf self.now result.0 × IsPassOf self.now result.1 }
-        ensures knows { (pass_knows result.0 ≡ pass_knows pass) × (pass_knows result.1 ≡ pass_knows pass) }
+        ensures knows { (pass_knows result.0 ≡ pass_knows pass)
+            × (pass_knows result.1 ≡ pass_knows pass) }
     {
         let Pass { mut seat } = pass;
         let other = self.table.shared.split_seat::<Twice>(&mut seat);
         (Pass { seat }, Pass { seat: other })
     }
 
-    /// Makes what two passes of this lock have seen one: both have then seen the later of the two values and the greater next
-    /// word, so that both are worn where one was, and both have the first's tally. It waits for nobody and takes no memory.
-    /// Not promised: that the value is the newest, since another pass may have left one behind it.
+    /// Exchanges what two passes of this lock have seen. Afterwards both have seen the later of the
+    /// two values and the greater of the two next tickets, so both are worn if one of them was, and
+    /// both have the first one's tally. The call neither waits nor allocates memory.
+    ///
+    /// The value need not be the current one of the lock, since another pass may have left a later
+    /// value.
     pub fn meet(&self, one: Pass<T>, other: Pass<T>) -> (Pass<T>, Pass<T>)
         requires { IsPassOf self.now one × IsPassOf self.now other }
         ensures own { IsPassOf self.now result.0 × IsPassOf self.now result.1 }
         ensures met { HasMet T.leads (pass_knows one) (pass_knows other) (pass_knows result.0) }
         ensures same { pass_knows result.1 ≡ pass_knows result.0 }
-        ensures worn { IsWornPass one ⊎ IsWornPass other → IsWornPass result.0 × IsWornPass result.1 }
+        ensures worn { IsWornPass one ⊎ IsWornPass other
+            → IsWornPass result.0 × IsWornPass result.1 }
     {
         let Pass { mut seat } = one;
         let Pass { seat: second } = other;
         self.table.shared.join_seat::<Beside>(&mut seat, second);
-        // The one seat has seen both values now. Both lead to the current one, so that one of them leads to the other.
+        // Both values lead to the current one, so one of them leads to the other, and the joined
+        // pass may keep the later one.
         self.table.shared.load::<Settle<T>>(&mut seat, 0);
         let second = self.table.shared.split_seat::<Twice>(&mut seat);
         (Pass { seat }, Pass { seat: second })
     }
 
-    /// One load of the next word. `Worn` where no ticket is left, and then always.
+    /// Looks at the next ticket with one load.
+    ///
+    /// # Errors
+    ///
+    /// Returns `Worn` with the pass if no ticket is left. Every later look by this pass returns
+    /// `Worn`, too.
     pub fn look(&self, pass: Pass<T>) -> Result<Looked<T>, (Worn, Pass<T>)>
         requires { IsPassOf self.now pass }
         ensures own { IfOk result (λ r. IsLookedOf self.now r) }
-        ensures looked { IfOk result (λ r. looked_knows r ≡ looked_at (pass_knows pass) (looked_next r)) }
-        ensures next { IfOk result (λ r. ((pass_knows pass).next ≤ looked_next r) × (looked_next r < last_word)) }
+        ensures looked { IfOk result (λ r. looked_knows r
+            ≡ looked_at (pass_knows pass) (looked_next r)) }
+        ensures next { IfOk result (λ r. ((pass_knows pass).next ≤ looked_next r)
+            × (looked_next r < last_word)) }
         ensures back { IfErr result (λ e. IsPassOf self.now e.1) }
         ensures worn { IfErr result (λ e. pass_knows e.1 ≡ idle_at (pass_knows pass) last_word) }
         ensures late { IsWornPass pass → IsErr result }
@@ -109,14 +132,20 @@ impl<T: Growing> TicketLock<T> {
         Ok(Looked { seat, next })
     }
 
-    /// One compare and exchange of the next word. `Raced` where another pass has drawn the ticket that was looked at.
+    /// Draws the ticket that the pass has looked at, with one compare and exchange.
+    ///
+    /// # Errors
+    ///
+    /// Returns `Raced` with the pass if another pass has drawn this ticket.
     pub fn draw(&self, looked: Looked<T>) -> Result<Drawn<T>, (Raced, Pass<T>)>
         requires { IsLookedOf self.now looked }
         ensures own { IfOk result (λ r. IsDrawnOf self.now r) }
-        ensures drawn { IfOk result (λ r. drawn_knows r ≡ waiting_for (looked_knows looked) (drawn_ticket r)) }
+        ensures drawn { IfOk result (λ r. drawn_knows r
+            ≡ waiting_for (looked_knows looked) (drawn_ticket r)) }
         ensures ticket { IfOk result (λ r. drawn_ticket r ≡ looked_next looked) }
         ensures back { IfErr result (λ e. IsPassOf self.now e.1) }
-        ensures raced { IfErr result (λ e. (looked_next looked < e.0.next) × (pass_knows e.1 ≡ idle_at (looked_knows looked) e.0.next)) }
+        ensures raced { IfErr result (λ e. (looked_next looked < e.0.next)
+            × (pass_knows e.1 ≡ idle_at (looked_knows looked) e.0.next)) }
     {
         let Looked { mut seat, next } = looked;
         let found = self
@@ -129,12 +158,19 @@ impl<T: Growing> TicketLock<T> {
         Err((Raced { next: found }, Pass { seat }))
     }
 
-    /// A look and, unless no ticket is left, a draw.
+    /// Looks at the next ticket and draws it.
+    ///
+    /// # Errors
+    ///
+    /// Returns `Worn` with the pass if no ticket is left, and `Raced` if another pass drew the
+    /// ticket between the look and the draw.
     pub fn try_draw(&self, pass: Pass<T>) -> Result<Drawn<T>, (DrawFault, Pass<T>)>
         requires { IsPassOf self.now pass }
         ensures own { IfOk result (λ r. IsDrawnOf self.now r) }
-        ensures drawn { IfOk result (λ r. drawn_knows r ≡ waiting_for (pass_knows pass) (drawn_ticket r)) }
-        ensures ticket { IfOk result (λ r. ((pass_knows pass).next ≤ drawn_ticket r) × (drawn_ticket r < last_word)) }
+        ensures drawn { IfOk result (λ r. drawn_knows r
+            ≡ waiting_for (pass_knows pass) (drawn_ticket r)) }
+        ensures ticket { IfOk result (λ r. ((pass_knows pass).next ≤ drawn_ticket r)
+            × (drawn_ticket r < last_word)) }
         ensures back { IfErr result (λ e. IsPassOf self.now e.1) }
         ensures refused { IfErr result (λ e. IsRefused (pass_knows pass) e.0 (pass_knows e.1)) }
         ensures late { IsWornPass pass → IfErr result (λ e. e.0 ≡ DrawFault.Worn) × IsErr result }
@@ -149,7 +185,7 @@ impl<T: Growing> TicketLock<T> {
         }
     }
 
-    // Looks at the word that is served until it is the ticket, with a pause between two looks.
+    // Loads the served ticket until it is this one, with a pause between two loads.
     fn await_turn<R: Wait>(
         &self,
         rt: &R,
@@ -172,12 +208,14 @@ impl<T: Growing> TicketLock<T> {
         unreachable!()
     }
 
-    /// Waits until the ticket is served, and gives the value.
+    /// Waits until the ticket is served, and returns the value with the holder of the critical
+    /// section.
     pub fn enter<R: Wait>(&self, rt: &R, drawn: Drawn<T>) -> (T, Holding<T>)
         requires { IsDrawnOf self.now drawn }
         ensures own { IsHoldingOf self.now result.1 }
         ensures ticket { held_ticket result.1 ≡ drawn_ticket drawn }
-        ensures found { holding_knows result.1 ≡ in_section (drawn_knows drawn) (drawn_ticket drawn) result.0 }
+        ensures found { holding_knows result.1
+            ≡ in_section (drawn_knows drawn) (drawn_ticket drawn) result.0 }
         ensures fresh { T.leads (drawn_knows drawn).seen result.0 }
     {
         let Drawn { seat, ticket } = drawn;
@@ -193,12 +231,14 @@ impl<T: Growing> TicketLock<T> {
         )
     }
 
-    /// Ends the section with the value that others find next.
+    /// Ends the critical section and leaves the value for the next pass. The call neither waits nor
+    /// allocates memory.
     pub fn leave(&self, holding: Holding<T>, value: T) -> Pass<T>
         requires own { IsHoldingOf self.now holding }
         requires grown { T.leads (holding_knows holding).seen value }
         ensures own { IsPassOf self.now result }
-        ensures knows { pass_knows result ≡ after_section (holding_knows holding) (held_ticket holding) value }
+        ensures knows { pass_knows result
+            ≡ after_section (holding_knows holding) (held_ticket holding) value }
     {
         let Holding {
             mut seat,
@@ -210,8 +250,9 @@ impl<T: Growing> TicketLock<T> {
         Pass { seat }
     }
 
-    /// Keeps the section for good, and gives the value back: nobody is served afterwards.
-    /// Call it after all others have returned, since who waits then waits for ever.
+    /// Retires the lock: returns the value and never ends the critical section, so that no other
+    /// pass is served afterwards. Call it only after all other threads have returned, since a
+    /// thread that is waiting would wait forever.
     pub fn retire(&self, holding: Holding<T>, value: T) -> T
         requires { IsHoldingOf self.now holding }
         ensures { result ≡ value }
@@ -221,12 +262,14 @@ impl<T: Growing> TicketLock<T> {
         value
     }
 
-    // Tries until it has a ticket, or none is left.
+    // Tries until the pass has drawn a ticket or no ticket is left, with a pause after each miss.
     fn obtain<R: Wait>(&self, rt: &R, mut pass: Pass<T>) -> Result<Drawn<T>, (Worn, Pass<T>)>
         requires { IsPassOf self.now pass }
         ensures own { IfOk result (λ r. IsDrawnOf self.now r) }
-        ensures drawn { IfOk result (λ r. drawn_knows r ≡ waiting_for (pass_knows pass) (drawn_ticket r)) }
-        ensures ticket { IfOk result (λ r. ((pass_knows pass).next ≤ drawn_ticket r) × (drawn_ticket r < last_word)) }
+        ensures drawn { IfOk result (λ r. drawn_knows r
+            ≡ waiting_for (pass_knows pass) (drawn_ticket r)) }
+        ensures ticket { IfOk result (λ r. ((pass_knows pass).next ≤ drawn_ticket r)
+            × (drawn_ticket r < last_word)) }
         ensures back { IfErr result (λ e. IsPassOf self.now e.1) }
         ensures worn { IfErr result (λ e. pass_knows e.1 ≡ idle_at (pass_knows pass) last_word) }
     {
@@ -242,13 +285,20 @@ impl<T: Growing> TicketLock<T> {
         unreachable!()
     }
 
-    /// Draws a ticket and waits until it is served. `Worn` where no ticket is left, and then always.
+    /// Draws a ticket and waits until it is served.
+    ///
+    /// # Errors
+    ///
+    /// Returns `Worn` with the pass if no ticket is left. Every later call with this pass returns
+    /// `Worn`, too.
     pub fn lock<R: Wait>(&self, rt: &R, pass: Pass<T>) -> Result<(T, Holding<T>), (Worn, Pass<T>)>
         requires { IsPassOf self.now pass }
         ensures own { IfOk result (λ r. IsHoldingOf self.now r.1) }
-        ensures found { IfOk result (λ r. holding_knows r.1 ≡ in_section (waiting_for (pass_knows pass) (held_ticket r.1)) (held_ticket r.1) r.0) }
+        ensures found { IfOk result (λ r. holding_knows r.1
+            ≡ in_section (waiting_for (pass_knows pass) (held_ticket r.1)) (held_ticket r.1) r.0) }
         ensures fresh { IfOk result (λ r. T.leads (pass_knows pass).seen r.0) }
-        ensures ticket { IfOk result (λ r. ((pass_knows pass).next ≤ held_ticket r.1) × (held_ticket r.1 < last_word)) }
+        ensures ticket { IfOk result (λ r. ((pass_knows pass).next ≤ held_ticket r.1)
+            × (held_ticket r.1 < last_word)) }
         ensures back { IfErr result (λ e. IsPassOf self.now e.1) }
         ensures worn { IfErr result (λ e. pass_knows e.1 ≡ idle_at (pass_knows pass) last_word) }
         ensures late { IsWornPass pass → IsErr result }
@@ -263,7 +313,7 @@ impl<T: Growing> TicketLock<T> {
 impl<T> Looked<T> {
     ghost use Rattle.turn_lock.specs.TicketShown.{looked_next};
 
-    /// The next word that the look found: the ticket that `draw` would draw.
+    /// Returns the next ticket that the look found. This is the ticket that `draw` would draw.
     pub fn next(&self) -> u64
         ensures { result ≡ looked_next self.now }
     {
@@ -274,7 +324,7 @@ impl<T> Looked<T> {
 impl<T> Drawn<T> {
     ghost use Rattle.turn_lock.specs.TicketShown.{drawn_ticket};
 
-    /// The ticket that it has drawn.
+    /// Returns the ticket that the pass has drawn.
     pub fn ticket(&self) -> u64
         ensures { result ≡ drawn_ticket self.now }
     {
@@ -285,7 +335,7 @@ impl<T> Drawn<T> {
 impl<T> Holding<T> {
     ghost use Rattle.turn_lock.specs.TicketShown.{held_ticket};
 
-    /// The ticket whose section it is in.
+    /// Returns the ticket of the critical section.
     pub fn ticket(&self) -> u64
         ensures { result ≡ held_ticket self.now }
     {

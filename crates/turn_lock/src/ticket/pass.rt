@@ -6,14 +6,14 @@ ghost use Rattle.turn_lock.specs.Ticket.{last_word, IsIdle, HasLooked, IsWaiting
 use super::view::TicketView;
 use atomic_table::Seat;
 
-/// A pass that has no ticket.
+/// A pass without a ticket.
 #[derive(Drop)]
 pub struct Pass<T> {
     pub(super) seat: Seat<Option<T>, TicketView<T>>,
     pub ghost idle: { IsIdle seat.me },
 }
 
-/// A pass that has looked at the next word, and may draw the ticket that it saw.
+/// A pass that has looked at the next ticket and may draw it.
 #[derive(Drop)]
 pub struct Looked<T> {
     pub(super) seat: Seat<Option<T>, TicketView<T>>,
@@ -22,7 +22,7 @@ pub struct Looked<T> {
     pub ghost left: { next < last_word },
 }
 
-/// A pass that has a ticket. One that is dropped is never served, and no later ticket is.
+/// A pass with a ticket. If it is dropped, neither this ticket nor any later one is ever served.
 #[derive(Drop)]
 pub struct Drawn<T> {
     pub(super) seat: Seat<Option<T>, TicketView<T>>,
@@ -30,7 +30,7 @@ pub struct Drawn<T> {
     pub ghost waiting: { IsWaiting seat.me ticket },
 }
 
-/// A pass in its section, which ends by `leave` or `retire` alone: it can't be dropped.
+/// A pass in a critical section. It cannot be dropped: only `leave` and `retire` end the section.
 pub struct Holding<T> {
     pub(super) seat: Seat<Option<T>, TicketView<T>>,
     pub(super) section: u64,

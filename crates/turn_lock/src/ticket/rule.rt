@@ -1,4 +1,4 @@
-//! The rule of the ticket lock, and what each of its steps tells.
+//! The rule of the ticket lock, and the effect of each of its steps on a pass.
 
 ghost use Rattle.turn_lock.specs.Ticket.{TicketLockRule, beside, newcomer};
 ghost use Rattle.turn_lock.specs.declared.ticket.view.TicketView.TheVariants.{Spent};
@@ -10,14 +10,14 @@ use atomic_table::{Join, Play, Split, TableRule};
 use std::marker::PhantomData;
 use std::snapshot::Snapshot;
 
-/// What the table is told when it is made: the first ticket and the value.
+/// The initial state of the lock, which the table receives: the first ticket and the value.
 #[derive(Drop)]
 pub struct Opening<T> {
     pub first: u64,
     pub value: Snapshot<T>,
 }
 
-/// The ticket lock's rule.
+/// The rule of the ticket lock.
 pub struct Tickets<T> {
     value: PhantomData<T>,
 }
@@ -28,21 +28,21 @@ impl<T: Growing> TableRule<Option<T>, TicketView<T>, Opening<T>> for Tickets<T> 
     ghost first = { λ key. newcomer key.first key.value.value };
 }
 
-/// A load of the next word.
+/// A load of the next ticket.
 pub struct Look;
 
 impl<T> Play<Option<T>, TicketView<T>> for Look {
     ghost then = { Looks };
 }
 
-/// The compare and exchange of the next word by one more.
+/// The compare and exchange of the next ticket by the following one.
 pub struct Draw;
 
 impl<T> Play<Option<T>, TicketView<T>> for Draw {
     ghost then = { Draws };
 }
 
-/// A load of the word that is served.
+/// A load of the served ticket.
 pub struct Serve<T> {
     value: PhantomData<T>,
 }
@@ -51,7 +51,7 @@ impl<T: Growing> Play<Option<T>, TicketView<T>> for Serve<T> {
     ghost then = { Serves T.leads };
 }
 
-/// The increment of the word that is served.
+/// The increment of the served ticket.
 pub struct Leave<T> {
     value: PhantomData<T>,
 }
@@ -60,7 +60,7 @@ impl<T: Growing> Play<Option<T>, TicketView<T>> for Leave<T> {
     ghost then = { Leaves T.leads };
 }
 
-/// Of two values that a pass has seen, it keeps the later.
+/// The step after which a pass that has seen two values keeps the later one.
 pub struct Settle<T> {
     value: PhantomData<T>,
 }
@@ -69,7 +69,7 @@ impl<T: Growing> Play<Option<T>, TicketView<T>> for Settle<T> {
     ghost then = { Settles T.leads };
 }
 
-/// Two passes made one, which has seen what both had.
+/// The join of two passes into one that has seen what both have seen.
 pub struct Beside;
 
 impl<T> Join<TicketView<T>> for Beside {
@@ -78,7 +78,7 @@ impl<T> Join<TicketView<T>> for Beside {
     ghost spent = { Spent };
 }
 
-/// Both passes have seen what the one had.
+/// The split of a pass: both passes have seen what the one has seen.
 pub struct Twice;
 
 impl<T> Split<TicketView<T>> for Twice {

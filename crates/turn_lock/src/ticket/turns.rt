@@ -1,4 +1,4 @@
-//! The ticket lock as a `Section`.
+//! The implementation of `Section` for the ticket lock.
 
 ghost use Rattle.turn_lock.specs.Ticket.{last_word};
 
