@@ -1,4 +1,4 @@
--- A table's rules clash only where two of them match together whose overlap is harmful.
+-- The rules of a table clash only if two of them match whose overlap is an error.
 use Rattle.std.proofs.Common.{◌≡◌, ℕ, zero, suc, ◌+◌, ◌-◌, ◌<◌, ◌≤◌, ◌&&◌, inl, inr, Bool, true, false, not, cond, List, [], ◌∷◌, length, filter, Option, Some, None, Contains, refl, ap, sym, ◌∙◌, subst, arith}
 use Rattle.std.specs.Prelude.{Ok, Err, is_some, nat_le, slice_get, ℤ, ◌+ℤ◌}
 use Rattle.std.specs.Int.{int_min, int_max}
@@ -25,7 +25,7 @@ use Rattle.cutplan.proofs.Overlapping.{contained_among}
 use Rattle.cutplan.specs.Violations.{clash}
 use Rattle.cutplan.specs.ViolationLaws.{HarmfulPair, TellsClash}
 
--- what passes a test of a range is no less than the first of the range
+-- a number of a range that passes a test is at least the first number of the range
 no_less : (q : ℕ → Bool) (a n s : ℕ) → Among s (filter q (range_with_len a n)) → a ≤ s
 no_less q a zero s at = absurd at
 no_less q a (suc n) s at =
@@ -34,7 +34,7 @@ no_less q a (suc n) s at =
       | false ↦ λ at. (let above = no_less q (a + 1) n s at in omega (arith, above))
     ] at
 
--- the first of some rules is less than the others
+-- the first rule is less than the others
 abbrev IsLeast : List ℕ → Type 0
 IsLeast [] = Unit {0}
 IsLeast (x ∷ xs) = (s : ℕ) → Among s xs → x < s
@@ -47,7 +47,7 @@ least_first q a (suc n) =
       | false ↦ least_first q (a + 1) n
     ]
 
--- a test that doesn't hold of all fails of one
+-- a test that does not hold for all fails for one
 record Fails (q : ℕ → Bool) (xs : List ℕ) : Type 0 where
   pub one : ℕ
   pub among : Among one xs
@@ -61,7 +61,7 @@ one_fails q (x ∷ xs) e =
       | false ↦ λ here more. record { one = x; among = inl refl; fails = here }
     ] refl e
 
--- two of these rules, which the policy lets not match together
+-- two of these rules of which the hit policy forbids that both match
 record Clashing (hit : Hit) (t : Table) (rules : List ℕ) : Type 0 where
   pub one : ℕ
   pub other : ℕ
@@ -70,7 +70,7 @@ record Clashing (hit : Hit) (t : Table) (rules : List ℕ) : Type 0 where
   pub second : Among other rules
   pub clashes : clash hit t one other ≡ true
 
--- where no rule matches, none clash
+-- no rules clash if no rule matches
 unmatched_apart : {X : Type 0} (number : ℕ) (t : Table) → unmatched number t ≡ Err (Clash number) → X
 unmatched_apart {X} number t =
     elim (list_all (λ o. is_some o.fallback) t.outputs) as (λ b. cond b (Ok (ones (filter_map (λ o. o.fallback) t.outputs))) (Err (NoRule number)) ≡ Err (Clash number) → X) [
@@ -106,7 +106,7 @@ any_pair number t r rules least e =
           record { one = r; other = apart.one; less = least apart.one apart.among; first = inl refl; second = inr apart.among; clashes = ap not apart.fails })
     ] refl e
 
--- so under each policy
+-- a clash comes from such a pair under each hit policy
 pair_of : (hit : Hit) (number : ℕ) (t : Table) (rules : List ℕ) → IsLeast rules → by_hit hit number t rules ≡ Err (Clash number) → Clashing hit t rules
 pair_of hits.U number t [] least e = unmatched_apart number t e
 pair_of hits.U number t (r ∷ []) least e = absurd cc
@@ -126,7 +126,7 @@ pair_of hits.Count number t rules least e = counted_apart number t rules e
 back : (n : ℕ) → suc n - 1 ≡ n
 back n = omega arith
 
--- such a pair, numbered from 1
+-- such a pair with numbers from 1
 numbered : (p : PlanParts) (t : Table) (given : List Slot) (earlier : List (List Answer)) → slice_get p.tables (number_behind earlier - 1) ≡ Some t
     → first_outside given earlier t ≡ None → Clashing t.hit t (matching given earlier t) → HarmfulPair p t given earlier
 numbered p t given earlier standing none pair =
@@ -146,7 +146,7 @@ numbered p t given earlier standing none pair =
           ∙ ap (λ i. clash t.hit t i (suc pair.other - 1)) (back pair.one) ∙ ap (λ j. clash t.hit t pair.one j) (back pair.other) ∙ pair.clashes;
     }
 
--- where a value is outside, that is told, and not that rules clash
+-- a value that is not allowed is reported as such and not as a clash
 pub tells_clash : (p : PlanParts) (t : Table) (given : List Slot) (earlier : List (List Answer)) → slice_get p.tables (number_behind earlier - 1) ≡ Some t → TellsClash p t given earlier
 tells_clash p t given earlier standing =
     let number = number_behind earlier in

@@ -1,4 +1,5 @@
--- What tables answer where no rule matches, and where rules match together that may not.
+-- The faults of tables if no rule matches, and if two rules match although the hit policy forbids
+-- it.
 use Rattle.std.proofs.Common.{◌≡◌, ℕ, ◌-◌, ◌≤◌, ◌<◌, ◌&&◌, inl, inr, Bool, true, false, not, cond, List, [], ◌∷◌, Some, None, refl, ap, sym, ◌∙◌, arith}
 use Rattle.std.specs.Prelude.{◌↔◌, IsTrue, Ok, Err, is_some, slice_get}
 use Rattle.std.specs.List.{filter_map, list_all}
@@ -23,7 +24,7 @@ use Rattle.cutplan.proofs.Clashing.{tells_clash}
 use Rattle.cutplan.specs.Violations.{clash, gap_harms, is_no_rule, overlap_harms, wants_rule}
 use Rattle.cutplan.specs.ViolationLaws.{TellsGap, TellsOverlap, HarmIsFault}
 
--- no rule is the answer exactly where some output has no default
+-- the table has a `NoRule` fault if and only if some output has no default
 abbrev Unmatched : ℕ → Table → Bool → Type 0
 Unmatched number t b = (v : TableValue) → v ≡ cond b (Ok (ones (filter_map (λ o. o.fallback) t.outputs))) (Err (NoRule number)) → (v ≡ Err (NoRule number)) ↔ IsTrue (is_no_rule v)
 
@@ -34,7 +35,7 @@ no_rule_told number t =
       | false ↦ λ v e. (λ same. ap is_no_rule same, λ yes. e)
     ] (unmatched number t) refl
 
--- so under each policy, where no rule matches
+-- the fault under each hit policy if no rule matches
 told_by_hit : (hit : Hit) (number : ℕ) (t : Table) → (by_hit hit number t [] ≡ Err (NoRule number)) ↔ IsTrue (gives_one hit && is_no_rule (unmatched number t))
 told_by_hit hits.U number t = no_rule_told number t
 told_by_hit hits.A number t = no_rule_told number t
@@ -48,7 +49,7 @@ told_by_hit hits.Min number t = no_rule_told number t
 told_by_hit hits.Max number t = no_rule_told number t
 told_by_hit hits.Count number t = no_rule_told number t
 
--- where nothing is outside, the policy answers from the rules that match
+-- if all inputs have allowed values, the hit policy determines the value from the matching rules
 inside_value : (given : List Slot) (earlier : List (List Answer)) (t : Table) → first_outside given earlier t ≡ None
     → table_value given earlier t ≡ by_hit t.hit (number_behind earlier) t (matching given earlier t)
 inside_value given earlier t none = ap (λ found. inside found (number_behind earlier) (by_hit t.hit (number_behind earlier) t (matching given earlier t))) none
@@ -61,7 +62,7 @@ tells_gap p t given earlier standing none unmatched_by =
     let told = told_by_hit t.hit number t in
     (λ e. harms ∙ told.0 (sym value ∙ e), λ yes. value ∙ told.1 (sym harms ∙ yes))
 
--- two rules are among these: more than one
+-- a list with two rules has more than one, so `U` clashes
 unique_clashes : (number : ℕ) (t : Table) (rules : List ℕ) (i j : ℕ) → i < j → Among i rules → Among j rules → unique number t rules ≡ Err (Clash number)
 unique_clashes number t [] i j less one other = absurd one
 unique_clashes number t (r ∷ []) i j less (inl e) (inl f) = absurd (omega (arith, less, e, f))
@@ -69,22 +70,22 @@ unique_clashes number t (r ∷ []) i j less (inl e) (inr f) = absurd f
 unique_clashes number t (r ∷ []) i j less (inr e) other = absurd e
 unique_clashes number t (r ∷ s ∷ rules) i j less one other = refl
 
--- rules agree exactly where their entries are the same
+-- rules agree if and only if their entries are equal
 agreed : (t : Table) (i j : ℕ) → (agree t i j ≡ true → entries_of t i ≡ entries_of t j) × (entries_of t i ≡ entries_of t j → agree t i j ≡ true)
 agreed t i j = pointwise_decides (λ v w. (equal_same v w, equal_from v w)) (entries_of t i) (entries_of t j)
 
--- a test that holds of all holds of each
+-- a test that holds for all holds for each
 all_at : (q : ℕ → Bool) (xs : List ℕ) (x : ℕ) → list_all q xs ≡ true → Among x xs → q x ≡ true
 all_at q [] x all at = absurd at
 all_at q (y ∷ ys) x all (inl e) = ap q (sym e) ∙ (and_parts (q y) (list_all q ys) all).0
 all_at q (y ∷ ys) x all (inr at) = all_at q ys x (and_parts (q y) (list_all q ys) all).1 at
 
--- where all others agree with the first, each has its entries
+-- if all other rules agree with the first, each has the first rule's entries
 same_as_first : (t : Table) (r : ℕ) (rules : List ℕ) → list_all (agree t r) rules ≡ true → (i : ℕ) → Among i (r ∷ rules) → entries_of t r ≡ entries_of t i
 same_as_first t r rules all i (inl e) = ap (entries_of t) e
 same_as_first t r rules all i (inr at) = (agreed t r i).0 (all_at (agree t r) rules i all at)
 
--- two rules with different entries are among these
+-- a list with two rules of different entries clashes under `A`
 any_clashes : (number : ℕ) (t : Table) (rules : List ℕ) (i j : ℕ) → Among i rules → Among j rules → not (agree t i j) ≡ true → any number t rules ≡ Err (Clash number)
 any_clashes number t [] i j one other apart = absurd one
 any_clashes number t (r ∷ rules) i j one other apart =
@@ -95,7 +96,7 @@ any_clashes number t (r ∷ rules) i j one other apart =
       | false ↦ λ all. refl
     ] refl
 
--- so under each policy
+-- two rules clash under each hit policy that forbids that both match
 clashes_by_hit : (hit : Hit) (number : ℕ) (t : Table) (rules : List ℕ) (i j : ℕ) → i < j → Among i rules → Among j rules → clash hit t i j ≡ true → by_hit hit number t rules ≡ Err (Clash number)
 clashes_by_hit hits.U number t rules i j less one other e = unique_clashes number t rules i j less one other
 clashes_by_hit hits.A number t rules i j less one other e = any_clashes number t rules i j one other e

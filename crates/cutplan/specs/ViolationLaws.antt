@@ -1,4 +1,4 @@
--- The law that ties harmful gaps and overlaps to what tables answer.
+-- The law that relates errors of gaps and overlaps to the faults of tables.
 use Rattle.std.specs.Prelude.{◌≡◌, ℕ, ◌-◌, ◌≤◌, ◌<◌, ◌↔◌, List, [], Some, None, Err, slice_get, IsTrue}
 use Rattle.dtable.specs.declared.environment.Answer.{Answer}
 use Rattle.faults.specs.declared.fault.Fault.TheVariants.{NoRule, Clash}
@@ -10,19 +10,20 @@ use Rattle.dtable.specs.Plan.{PlanParts}
 use Rattle.cutplan.specs.Laws.{MatchTogether}
 use Rattle.cutplan.specs.Violations.{gap_harms, overlap_harms}
 
--- where no value is outside and no rule matches, the table's answer is the fault that no rule matches exactly where its gaps are harmful
+-- if all inputs have allowed values and no rule matches, the table has a `NoRule` fault if and only
+-- if its gaps are errors
 abbrev pub TellsGap : PlanParts → Table → List Slot → List (List Answer) → Type 0
 TellsGap p t given earlier =
     first_outside given earlier t ≡ None → matching given earlier t ≡ []
     → (table_value given earlier t ≡ Err (NoRule (number_behind earlier))) ↔ IsTrue (gap_harms p (number_behind earlier))
 
--- where two rules match together whose overlap is harmful, the table's answer is that rules clash
+-- if two rules match whose overlap is an error, the table has a `Clash` fault
 abbrev pub TellsOverlap : PlanParts → Table → List Slot → List (List Answer) → ℕ → ℕ → Type 0
 TellsOverlap p t given earlier first second =
     MatchTogether given earlier t first second → IsTrue (overlap_harms p (number_behind earlier) first second)
     → table_value given earlier t ≡ Err (Clash (number_behind earlier))
 
--- two rules, the smaller first, that match together and whose overlap is harmful
+-- two rules that both match and whose overlap is an error, the smaller number first
 pub record HarmfulPair (p : PlanParts) (t : Table) (given : List Slot) (earlier : List (List Answer)) : Type 0 where
   pub first : ℕ
   pub second : ℕ
@@ -31,17 +32,17 @@ pub record HarmfulPair (p : PlanParts) (t : Table) (given : List Slot) (earlier 
   pub together : MatchTogether given earlier t first second
   pub harms : IsTrue (overlap_harms p (number_behind earlier) first second)
 
--- where the table's answer is that rules clash, there is such a pair
+-- if the table has a `Clash` fault, there is such a pair of rules
 abbrev pub TellsClash : PlanParts → Table → List Slot → List (List Answer) → Type 0
 TellsClash p t given earlier = table_value given earlier t ≡ Err (Clash (number_behind earlier)) → HarmfulPair p t given earlier
 
--- all three, the second for each pair of rules, the smaller first
+-- the three laws of one table, for each pair of rules with the smaller number first
 pub record TellsHarm (p : PlanParts) (t : Table) (given : List Slot) (earlier : List (List Answer)) : Type 0 where
   pub gap : TellsGap p t given earlier
   pub clash : TellsClash p t given earlier
   pub overlap : (first second : ℕ) → 1 ≤ first → first < second → TellsOverlap p t given earlier first second
 
--- so for each table of a plan that stands behind the tables with these answers
+-- the laws of every table of a plan, for all answers of the tables before it
 abbrev pub HarmIsFault : Type 0
 HarmIsFault = (p : PlanParts) (t : Table) (given : List Slot) (earlier : List (List Answer)) → slice_get p.tables (number_behind earlier - 1) ≡ Some t
     → TellsHarm p t given earlier

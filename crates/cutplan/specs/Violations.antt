@@ -1,4 +1,5 @@
--- Which gaps and overlaps of a table's check are faults where its rules are asked there (DMN 1.4, hit policies). Tables and rules are numbered from 1.
+-- The gaps and overlaps that violate the hit policy of a table (DMN 1.4, hit policies). Tables and
+-- rules are numbered from 1.
 use Rattle.std.specs.Prelude.{ℕ, ◌-◌, Bool, true, false, not, ◌&&◌, Err, slice_get}
 use Rattle.std.specs.Option.{option_map_or}
 use Rattle.faults.specs.declared.fault.Fault.TheVariants.{NoRule}
@@ -8,25 +9,27 @@ use Rattle.dtable.specs.declared.table.Table.{Table}
 use Rattle.dtable.specs.HitPolicy.{TableValue, agree, unmatched}
 use Rattle.dtable.specs.Plan.{PlanParts, gives_one}
 
--- there is no value, since no rule matches
+-- the table has the fault that no rule matches
 abbrev pub is_no_rule : TableValue → Bool
 is_no_rule (Err (NoRule number)) = true
 is_no_rule _ = false
 
--- a table with this number answers by `norule` where no rule matches: its policy gives no lists, and some output has no default
+-- the table with this number has a `NoRule` fault if no rule matches: its hit policy lists no
+-- matches, and some output has no default
 abbrev pub wants_rule : ℕ → Table → Bool
 wants_rule number t = gives_one t.hit && is_no_rule (unmatched number t)
 
--- the gaps of the table of this number are harmful: it answers by `norule` there
+-- the gaps of the table with this number are errors: it has a `NoRule` fault in them
 abbrev pub gap_harms : PlanParts → ℕ → Bool
 gap_harms p table = option_map_or (wants_rule table) (slice_get p.tables (table - 1)) false
 
--- the policy lets these rules, which count from 0, not match together: under `U` no two, under `A` no two with different entries
+-- the hit policy forbids that both rules match, which are numbered from 0: `U` forbids it for all
+-- rules, and `A` for rules with different entries
 abbrev pub clash : Hit → Table → ℕ → ℕ → Bool
 clash U t rule other = true
 clash A t rule other = not (agree t rule other)
 clash _ t rule other = false
 
--- the overlap of these two rules of the table of this number is harmful
+-- an overlap of these two rules of the table with this number is an error
 abbrev pub overlap_harms : PlanParts → ℕ → ℕ → ℕ → Bool
 overlap_harms p table first second = option_map_or (λ t. clash t.hit t (first - 1) (second - 1)) (slice_get p.tables (table - 1)) false

@@ -1,32 +1,32 @@
-//! Why a file is refused, and why a record is.
+//! The faults of files and of records.
 ghost use Rattle.std.specs.Prelude.{◌≡◌};
 ghost use Rattle.faults.specs.FileFaultNumber.{file_number_of, cause_number_of};
 
 use std::alloc::AllocError;
 use thiserror::Error;
 
-/// Why a whole file is refused.
+/// The reason why a file is refused. If several apply, the first in this order is returned.
 #[derive(Clone, Copy, Debug, PartialEq, Eq, Drop, Error)]
 pub enum FileFault {
-    /// The text has more bytes than a file may have.
+    /// The file is larger than `FILE_LIMIT_BYTES`.
     #[error("the file is too large")]
     TooLarge,
-    /// The text has no record.
+    /// The file has no record, so it has no header.
     #[error("the file has no header")]
     NoHeader,
-    /// The header lacks a column that is needed.
+    /// The header lacks a required column.
     #[error("a column is missing")]
     MissingColumn,
-    /// The header has a column that is needed more than once.
-    #[error("a column stands twice")]
+    /// The header has a required column more than once.
+    #[error("a column occurs more than once")]
     DuplicateColumn,
-    /// No memory.
+    /// Memory ran out.
     #[error("out of memory")]
     OutOfMemory,
 }
 
 impl FileFault {
-    /// The fault's number in a program's messages.
+    /// Returns the number of the fault in the messages of programs.
     pub fn number(self) -> u8
         ensures { result ≡ file_number_of self }
     {
@@ -51,40 +51,40 @@ impl From<AllocError> for FileFault {
     }
 }
 
-/// What is wrong with a record.
+/// The reason why a record is refused.
 #[derive(Clone, Copy, Debug, PartialEq, Eq, Drop, Error)]
 pub enum RowCause {
-    /// It has more or fewer fields than the header.
-    #[error("another number of fields than the header has")]
+    /// The record does not have the same number of fields as the header.
+    #[error("the number of fields differs from the header's")]
     FieldCount,
     /// A field is not UTF-8.
     #[error("a field is not UTF-8")]
     Utf8,
-    /// A field has more bytes than a text.
+    /// A field is longer than `TEXT_LIMIT_BYTES` bytes.
     #[error("a field is too long")]
     TooLong,
-    /// A claim's number, a family or a member is empty.
+    /// The identifier of a claim, a family or a member is empty.
     #[error("an identifier is empty")]
     EmptyId,
-    /// A field is no value of its column's kind.
-    #[error("a field is no value of its kind")]
+    /// A field is not a value of its column's kind.
+    #[error("a field is not a value of its kind")]
     Value,
-    /// An amount is not in whole cents.
+    /// An amount is not a whole count of cents.
     #[error("an amount is not in whole cents")]
     NotCents,
-    /// An amount is below zero.
-    #[error("an amount is below zero")]
+    /// An amount is negative.
+    #[error("an amount is negative")]
     Negative,
-    /// The member has a balance already.
-    #[error("a member stands twice")]
+    /// An earlier record has a balance for the same account.
+    #[error("a member occurs twice")]
     Repeated,
-    /// The sum of an amount over the member's family would leave the number range.
+    /// The sum of an amount over the member's family is out of range.
     #[error("a family's sum is out of range")]
     Sum,
 }
 
 impl RowCause {
-    /// The cause's number in a program's messages.
+    /// Returns the number of the cause in the messages of programs.
     pub fn number(self) -> u8
         ensures { result ≡ cause_number_of self }
     {
@@ -102,26 +102,27 @@ impl RowCause {
     }
 }
 
-/// The first fault of a record.
+/// The first fault of a record: the leftmost one in the header's order.
 #[derive(Clone, Copy, Debug, PartialEq, Eq, Drop, Error)]
 #[error("column {column}: {cause}")]
 pub struct RowFault {
-    /// The number of the column in the header, from 1, or 0 where the fault is in none.
+    /// The number of the column in the header, from 1, or 0 if the fault is not in a column.
     pub column: usize,
-    /// What is wrong there.
+    /// The reason.
     pub cause: RowCause,
 }
 
-/// Why a text is no file of balances.
+/// The reason why a file of balances is refused.
 #[derive(Clone, Copy, Debug, PartialEq, Eq, Drop, Error)]
 pub enum BalanceFault {
-    /// The file as a whole is refused, and not for memory.
+    /// The file as a whole is refused, for another reason than memory.
     #[error("{0}")]
     File(FileFault),
-    /// A record is refused: the first one, with its number behind the header, from 1.
+    /// A record is refused. Its number after the header counts from 1, and it is the first such
+    /// record.
     #[error("record {number}: {fault}")]
     Row { number: usize, fault: RowFault },
-    /// No memory.
+    /// Memory ran out.
     #[error("out of memory")]
     OutOfMemory,
 }

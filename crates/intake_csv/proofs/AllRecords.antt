@@ -1,4 +1,4 @@
--- The records of a text, and the reader that has some of them left.
+-- The records of a text, and a reader with some of them remaining.
 use Rattle.std.proofs.Common.{inl, inr, ◌≡◌, ◌<◌, ◌≤◌, ◌+◌, ◌-◌, ℕ, suc, zero, true, false, Bor, List, [], ◌∷◌, length, drop, Option, Some, None, refl, sym, ap, ◌∙◌, arith}
 use Rattle.std.proofs.lemmas.Bool.{cases_Bool}
 use Rattle.std.proofs.lemmas.Option.{same_Some}
@@ -14,7 +14,7 @@ use Rattle.intake_csv.specs.Reader.{HasLeft}
 use Rattle.intake_csv.specs.Records.{AreRecordsOf, Fields, Reads, RecordsLeft, records_of, remaining}
 use Rattle.intake_csv.proofs.Lists.{one-more}
 
--- a read takes a byte at least where there is one
+-- a read consumes at least one byte if there is one
 next-shorter : (cfg : Config) (s : State) (fields : Fields) (field xs : List ℕ) (p : Read) → next_record cfg s fields field xs ≡ Some p → length p.2 ≤ length xs - 1
 unfolding next_record
 next-shorter cfg s fields field [] p e = elim (cases_Bool (ends_at_end s)) [
@@ -34,13 +34,13 @@ next-shorter cfg s fields field (c ∷ rest) p e = elim (cases_Bool (is_end (ste
       omega (arith, shorter)
 ]
 
--- behind the end of a text nothing is left
+-- no record is after the end of a text
 none-behind : (cfg : Config) (n : ℕ) → AreRecords cfg state.StartRecord [] (records_from cfg n state.StartRecord [])
 unfolding next_record records_from Reached
 none-behind cfg zero = (state.StartRecord, [], (refl, refl), refl)
 none-behind cfg (suc n) = (state.StartRecord, [], (refl, refl), refl)
 
--- a read without a byte is the last one
+-- a read at the end of the text is the last one
 last-read : (cfg : Config) (s : State) (p : Read) → next_record cfg s [] [] [] ≡ Some p → (p.1 ≡ state.StartRecord) × (p.2 ≡ [])
 unfolding next_record
 last-read cfg s p e = elim (cases_Bool (ends_at_end s)) [
@@ -48,7 +48,7 @@ last-read cfg s p e = elim (cases_Bool (ends_at_end s)) [
   | inr on ↦ absurd (cc (rw on at e))
 ]
 
--- these many records are all, where there are fewer bytes
+-- n reads return all records if there are fewer than n bytes
 all-records : (cfg : Config) (n : ℕ) (s : State) (xs : List ℕ) → length xs < n → AreRecords cfg s xs (records_from cfg n s xs)
 unfolding records_from Reached
 all-records cfg zero s xs few = absurd (omega (arith, few))
@@ -71,7 +71,7 @@ pub are-records-of : (text : List ℕ) → AreRecordsOf text (records_of text)
 unfolding records_of
 are-records-of text = all-records default_config (length (strip_bom text) + 1) state.StartRecord (strip_bom text) (omega arith)
 
--- there are no more than these many
+-- n reads return at most n records
 from-few : (cfg : Config) (n : ℕ) (s : State) (xs : List ℕ) → length (records_from cfg n s xs) ≤ n
 unfolding records_from
 from-few cfg zero s xs = omega arith
@@ -91,7 +91,7 @@ strip-shorter (a ∷ b ∷ c ∷ rest) = elim (cases_Bool (is_bom a b c)) [
   | inr plain ↦ rw plain (omega arith)
 ]
 
--- a text has one record more than it has bytes at most
+-- a text has at most one more record than it has bytes
 pub records-few : (text : List ℕ) → length (records_of text) ≤ length text + 1
 unfolding records_of
 records-few text =
@@ -99,7 +99,7 @@ records-few text =
     let shorter = strip-shorter text in
     omega (arith, few, shorter)
 
--- where a read gives a record, it is the first of those that are left
+-- if a read returns a record, it is the first of the remaining ones
 first-left : (cfg : Config) (s s2 : State) (xs ys : List ℕ) (fields : Fields) (rows : List Fields) → AreRecords cfg s xs rows → Reached cfg s xs (fields ∷ []) s2 ys
     → (rest : List Fields) × (rows ≡ fields ∷ rest) × AreRecords cfg s2 ys rest
 unfolding Reached
@@ -113,19 +113,19 @@ first-left cfg s s2 xs ys fields (r ∷ rs) h g =
     let others = rw (same, g.3.0, g.3.1) at h.2.3 in
     (rs, ap (λ x. x ∷ rs) first, (h.0, h.1, others, h.3))
 
--- where it gives none, none is left
+-- if a read returns no record, none remains
 none-left : (cfg : Config) (s : State) (xs : List ℕ) (rows : List Fields) → AreRecords cfg s xs rows → next_record cfg s [] [] xs ≡ None → rows ≡ []
 unfolding Reached
 none-left cfg s xs [] h e = refl
 none-left cfg s xs (r ∷ rs) h e = absurd (cc (sym e ∙ h.2.1))
 
--- what is known behind a record that was given
+-- the state of the reader after it returned a record
 pub record Given (new : Reader (Bor (List ℕ))) (all : List Fields) (given : ℕ) (fields : Fields) : Type 0 where
   pub within : given < length all
   pub next : drop given all ≡ fields ∷ drop (given + 1) all
   pub left : HasLeft new (drop (given + 1) all)
 
--- the reader gives a record
+-- the case that the reader returns a record
 pub reader-gives : (old new : Reader (Bor (List ℕ))) (all : List Fields) (given : ℕ) (fields : Fields) → HasLeft old (drop given all) → ReadRecord (λ s. Some s.now) old new true fields
     → new.first ≡ true → Given new all given fields
 unfolding Reached
@@ -147,7 +147,7 @@ reader-gives old new all given fields h read ready =
       };
     }
 
--- it has come to the end
+-- the case that the reader is at the end
 pub reader-ends : (old new : Reader (Bor (List ℕ))) (rows : List Fields) (fields : Fields) → HasLeft old rows → ReadRecord (λ s. Some s.now) old new false fields → rows ≡ []
 reader-ends old new rows fields h read =
     none-left default_config old.state h.bytes rows h.are (rows-end (λ (s : Bor (List ℕ)). Some s.now) old new fields default_config h.bytes h.config h.source read)
@@ -164,7 +164,7 @@ has-header text new fields h =
     let others : remaining new ≡ drop 1 (records_of text) = ap remaining h.1 in
     rw (← others, ← all) (are-records-of text)
 
--- what was read at this number, and that no text is another one then
+-- the record that was read has this index in the list of records
 pub read-at : (old new : RecordsLeft) (number : ℕ) (fields : Fields) → old.given ≡ number → Reads old new true fields
     → (number < length (records_of old.text)) × (drop number (records_of old.text) ≡ fields ∷ drop (number + 1) (records_of old.text)) × (new.text ≡ old.text)
 read-at old new number fields is h =

@@ -1,4 +1,4 @@
--- A field of money that was read.
+-- The reading of a field of money.
 use Rattle.std.proofs.Common.{◌≡◌, ℕ, ℤ, pos, ◌≤ℤ◌, true, List, refl, arith}
 use Rattle.std.proofs.lemmas.Int.{ints}
 use Rattle.fixpoint.specs.Money.{IsCents}
@@ -10,7 +10,7 @@ use Rattle.intake_csv.specs.Fields.{Holds, IsFaultless}
 use Rattle.intake_csv.specs.declared.column.Content.TheVariants.{Money}
 use Rattle.faults.specs.declared.file_fault.RowCause.TheVariants.{FieldCount, Utf8, TooLong, EmptyId, Value as NoValue, NotCents, Negative, Repeated, Sum}
 
--- a number below zero isn't one that is not
+-- a number that is at least zero is not negative
 pub not_below : (units : ℤ) → pos 0 ≤ℤ units → ¬ (is_negative units ≡ true)
 not_below (ℤ.pos n) h e = cc e
 not_below (ℤ.negsuc n) h e = omega (arith, ints)

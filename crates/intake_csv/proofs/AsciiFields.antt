@@ -1,4 +1,4 @@
--- The fields of a record of ASCII are text.
+-- The fields of an ASCII record are UTF-8.
 use Rattle.std.proofs.Common.{◌≡◌, ◌+◌, ◌-◌, ◌∷◌, [], ℕ, zero, suc, List, Some, IsUtf8, take, drop, arith, get_or-drop}
 use Rattle.std.proofs.lemmas.Str.{IsUtf8-from_ascii}
 use Rattle.std.specs.Str.{IsAscii}
@@ -17,11 +17,11 @@ ascii-parts start (end ∷ ends) bytes h =
     let rest : IsAscii (drop start bytes) = λ i. rw (get_or-drop start bytes i 0) (h (start + i)) in
     (IsUtf8-from_ascii _ (ascii-take (end - start) _ rest), ascii-parts end ends bytes h)
 
--- each field is text
+-- each field is UTF-8
 pub ascii-fields : (row : Row) → IsAscii (text_of row) → AllText (fields_of row)
 ascii-fields row h = ascii-parts 0 row.ends row.bytes h
 
--- the field at a place of texts is one
+-- the field at a place is UTF-8 if all fields are
 pub text_at : (fields : List (List ℕ)) (place : ℕ) (field : List ℕ) → AllText fields → field_at fields place ≡ Some field → IsUtf8 field
 unfolding AllText field_at
 text_at [] place field texts there = cc there

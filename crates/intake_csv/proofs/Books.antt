@@ -1,4 +1,4 @@
--- Books: the families of each year, each with its members and what these begin with.
+-- Books: the families of each year, with their members and opening balances.
 use Rattle.std.proofs.Common.{inl, inr, ◌≡◌, ◌≢◌, ◌<◌, ◌≤◌, ◌+◌, ◌==◌, ◌&&◌, ◌+ℤ◌, ℕ, ℤ, pos, suc, zero, Bool, true, false, List, [], ◌∷◌, ◌++◌, length, map, flat_map, get_or, set, Option, Some, None, IsSome, is_some, Result, Ok, Err, OnOk, String, string_bytes, cond, refl, sym, ap, subst, append_assoc, ◌∙◌, arith}
 use Rattle.std.specs.List.{All}
 use Rattle.std.specs.Map.{lookup}
@@ -21,11 +21,11 @@ use Rattle.intake_csv.specs.Households.{AreOnceBy, HasJoined, Members, balance_i
 use Rattle.intake_csv.specs.Balances.{AreOnce, AreOnceIn, Book, Entry, Holder, JoinsIn, accounts_from, accounts_in, accounts_of, book_of, books_of, found_in, holder_of, is_holder}
 use Rattle.intake_csv.proofs.Households.{bytes-turned, looked, once-sorted}
 
--- the members of a family in a year: nobody, where it isn't there
+-- the members of a family in a year, or none if the family has no balances
 abbrev pub members_at : List Book → Holder → Members
 members_at books holder = unwrap_or (found_in books holder) []
 
--- what an account begins with that has these members in its household
+-- the opening accumulators of an account whose family has these members
 abbrev pub begins_among : Members → List ℕ → Acc
 begins_among members member = begins members (balance_in members member)
 
@@ -49,14 +49,14 @@ none-added x = omega (arith, ints)
 added-turned : (x y z : ℤ) → z ≡ x +ℤ y → y +ℤ x ≡ z
 added-turned x y z e = omega (arith, ints, e)
 
--- a balance of another household adds nothing
+-- a balance of another family or year adds nothing
 pub joined-other : (b : Balance) (acc : Acc) → joins false false b acc ≡ acc
 joined-other b acc =
     let fmet = none-added acc.fmet in
     let foop = none-added acc.foop in
     λ i. record { met = acc.met; oop = acc.oop; paid = acc.paid; fmet = fmet i; foop = foop i }
 
--- a balance of the same household is the account's own, or else adds to the sums alone
+-- a balance of the same family and year is the account's own, or adds only to the sums
 pub joined-house : (own : Bool) (b : Balance) (members : Members) (begun : Option Balance) (fmet foop : ℤ) → fmet ≡ b.met +ℤ met_of members → foop ≡ b.oop +ℤ oop_of members
     → joins own true b (begins members begun) ≡ begun_beside fmet foop (unwrap_or (cond own (Some b) begun) no_balance)
 joined-house true b members begun fmet foop is_met is_oop =
@@ -69,7 +69,7 @@ joined-house false b members begun fmet foop is_met is_oop =
     let oop = added-turned b.oop (oop_of members) foop is_oop in
     λ i. record { met = own.met; oop = own.oop; paid = own.paid; fmet = met i; foop = oop i }
 
--- the members of another household add nothing
+-- the members of another family or year add nothing
 passed-house : (z : ℕ) (name : List ℕ) (members : Members) (rest : List Entry) (a : Account) → is_holder (name, z) (holder_of a) ≡ false
     → opening (accounts_in z (name, members) ++ rest) a ≡ opening rest a
 passed-house z name [] rest a other = refl
@@ -77,7 +77,8 @@ passed-house z name (m ∷ ms) rest a other =
     let before = opening (accounts_in z (name, ms) ++ rest) a in
     ap (λ (b : Bool). joins (b && bytes_eq m.0 a.member) b m.1 before) other ∙ joined-other m.1 before ∙ passed-house z name ms rest a other
 
--- those of its household are what an account begins with, where the others add nothing
+-- the members of its family and year determine the opening accumulators of an account, if the other
+-- entries add nothing
 in-house : (z : ℕ) (name : List ℕ) (members : Members) (rest : List Entry) (a : Account) → is_holder (name, z) (holder_of a) ≡ true → opening rest a ≡ nothing_yet
     → opening (accounts_in z (name, members) ++ rest) a ≡ begins_among members a.member
 in-house z name [] rest a here none = none
@@ -98,12 +99,12 @@ passed (h ∷ hs) z rest a other =
     ap (λ (es : List Entry). opening es a) (append_assoc (accounts_in z h) (flat_map (accounts_in z) hs) rest)
     ∙ passed-house z h.0 h.1 (flat_map (accounts_in z) hs ++ rest) a house ∙ passed hs z rest a other
 
--- nor do books of later years
+-- the books of later years add nothing
 later : (books : List Book) (z : ℕ) (a : Account) → a.year < z → opening (accounts_from z books) a ≡ nothing_yet
 later [] z a less = refl
 later (b ∷ bs) z a less = passed b z (accounts_from (suc z) bs) a (λ same. omega (arith, less, same)) ∙ later bs (suc z) a (omega (arith, less))
 
--- what an account begins with by the book of its year, where the other accounts give nothing
+-- the opening accumulators of an account by the book of its year, if the other entries add nothing
 in-book : (book : Book) (rest : List Entry) (a : Account) → AreOnceBy bytes_eq book → opening rest a ≡ nothing_yet
     → opening (flat_map (accounts_in a.year) book ++ rest) a ≡ begins_among (unwrap_or (lookup (bytes_eq a.family) book) []) a.member
 in-book [] rest a once none = none
@@ -136,7 +137,7 @@ opened-from (b ∷ bs) z (suc k) a is once =
     let next : suc z + k ≡ a.year = omega (arith, is) in
     passed b z (accounts_from (suc z) bs) a (λ same. omega (arith, same, is)) ∙ opened-from bs (suc z) k a next (All-tail AreOnceIn b bs once)
 
--- what an account begins with by books in none of which a family stands twice
+-- the opening accumulators of an account by books without repeated families
 pub opened-books : (books : List Book) (a : Account) → AreOnce books → opening (accounts_of books) a ≡ begins_among (members_at books (holder_of a)) a.member
 opened-books books a once = opened-from books 0 a.year a (omega arith) once
 
@@ -150,12 +151,12 @@ pub begun_none : (books : List Book) (family member : List ℕ) (year : ℕ) →
 begun_none books family member year once is =
     ap (λ (o : Option Members). begins_among (unwrap_or o []) member) (sym is) ∙ sym (opened-books books (record { family = family; member = member; year = year }) once)
 
--- why a member can't be put behind those of a household that is found
+-- the refusal of a member of a family that has balances
 pub refused_some : (found : Option Members) (members : Members) (member : List ℕ) (balance : Balance) → found ≡ Some members
     → refused_behind members (balance_in members member) balance ≡ option_and_then (λ ms. refused_behind ms (balance_in ms member) balance) found
 refused_some found members member balance is = ap (option_and_then (λ ms. refused_behind ms (balance_in ms member) balance)) (sym is)
 
--- an empty book behind the others changes nothing that is found
+-- an appended empty book changes no lookup
 room-same : (books : List Book) (k : ℕ) → get_or (books ++ [] ∷ []) k [] ≡ get_or books k []
 room-same [] zero = refl
 room-same [] (suc k) = refl
@@ -170,7 +171,7 @@ more-books : {Y : Type 0} (years : List (BTreeMap (String Y) Members)) (househol
     → books_of (years ++ households ∷ []) ≡ books_of years ++ [] ∷ []
 more-books years households empty = map-append book_of years (households ∷ []) ∙ ap (λ b. books_of years ++ b ∷ []) (empty-book households empty)
 
--- what is found in books, and that no family stands twice, once there is an empty map more
+-- the lookups in books, and the families' distinctness, after an empty map is appended
 pub room_found : {Y : Type 0} (years : List (BTreeMap (String Y) Members)) (households : BTreeMap (String Y) Members) (q : Holder) → households.entries ≡ []
     → found_in (books_of (years ++ households ∷ [])) q ≡ found_in (books_of years) q
 room_found years households q empty =
@@ -187,7 +188,7 @@ book-at [] y d within = absurd (omega (arith, within))
 book-at (m ∷ ms) zero d within = refl
 book-at (m ∷ ms) (suc y) d within = book-at ms y d (omega (arith, within))
 
--- no family stands twice once a year has another map, and no member of a family that it has
+-- the families and members stay distinct after the map of a year is replaced
 pub put_once : {Y : Type 0} (years : List (BTreeMap (String Y) Members)) (y : ℕ) (d households : BTreeMap (String Y) Members) → y < length years → IsOrdered string_cmp households
     → (All (λ household. AreOnceBy bytes_eq household.1) (book_of (get_or years y d)) → All (λ household. AreOnceBy bytes_eq household.1) (book_of households))
     → AreOnce (books_of years) → AreOnce (books_of (set years y households))
@@ -197,13 +198,13 @@ put_once years y d households within ordered kept once =
     let after : AreOnceIn (book_of households) = record { families = once-sorted households.entries ordered; members = kept before.members } in
     subst AreOnce (sym (map-set book_of years y households)) (All-set AreOnceIn (books_of years) y (book_of households) after once)
 
--- there is no book of a year beyond them
+-- a year after the last book has no book
 book-none : (books : List Book) (y : ℕ) → ¬ (y < length books) → get_or books y [] ≡ []
 book-none [] y beyond = refl
 book-none (b ∷ bs) zero beyond = absurd (beyond (omega arith))
 book-none (b ∷ bs) (suc y) beyond = book-none bs y (λ within. beyond (omega (arith, within)))
 
--- what is found of a year that has a map, and of one beyond them
+-- a lookup in a year that has a map, and in a year after the last one
 pub found_within : {Y : Type 0} (years : List (BTreeMap (String Y) Members)) (y : ℕ) (d : BTreeMap (String Y) Members) (family : List ℕ) → y < length years
     → get_by_text (get_or years y d) family ≡ found_in (books_of years) (family, y)
 found_within years y d family within = looked (get_or years y d).entries family ∙ sym (ap (lookup (bytes_eq family)) (book-at years y d within))
@@ -213,14 +214,14 @@ found_beyond years y family beyond =
     let size : length (books_of years) ≡ length years = length-map years book_of in
     sym (ap (lookup (bytes_eq family)) (book-none (books_of years) y (λ within. omega (arith, within, beyond, size))))
 
--- where a family is found in a year there is a map of that year
+-- a year in which a family is found has a map
 pub there-within : {Y : Type 0} (years : List (BTreeMap (String Y) Members)) (y : ℕ) (family : List ℕ) → IsSome (found_in (books_of years) (family, y)) → y < length years
 there-within years y family there = elim (cases_lt y (length years)) [
   | inl within ↦ within
   | inr beyond ↦ absurd (false≢true (ap is_some (found_beyond years y family beyond) ∙ there))
 ]
 
--- what is found of a family in the map of a year is found of it in the books
+-- a lookup in the map of a year is a lookup in the books
 pub found-there : {Y : Type 0} (years : List (BTreeMap (String Y) Members)) (y place : ℕ) (households : BTreeMap (String Y) Members) (family : List ℕ) (found : Option Members)
     → place ≡ y → households ≡ get_or years place households → IsSome (found_in (books_of years) (family, y)) → found ≡ get_by_text households family
     → found_in (books_of years) (family, y) ≡ found
@@ -245,7 +246,7 @@ put-book books y book family members q within more = elim (cases_eq q.1 y) [
       ap (lookup (bytes_eq q.0)) there ∙ ap (λ (b : Bool). cond b (Some members) (found_in books q)) (sym none)
 ]
 
--- what is found once a family has these members in a year
+-- the lookups after the members of a family in a year are replaced
 pub put_found : {Y : Type 0} (years : List (BTreeMap (String Y) Members)) (y : ℕ) (d households : BTreeMap (String Y) Members) (family : List ℕ) (members : Members) (q : Holder)
     → y < length years → ((p : List ℕ) → get_by_text households p ≡ cond (bytes_eq family p) (Some members) (get_by_text (get_or years y d) p))
     → found_in (books_of (set years y households)) q ≡ cond (is_holder (family, y) q) (Some members) (found_in (books_of years) q)
@@ -256,7 +257,7 @@ put_found years y d households family members q within updated =
     λ p. sym (looked households.entries p) ∙ updated p ∙ ap (cond (bytes_eq family p) (Some members)) (looked (get_or years y d).entries p ∙ ap (lookup (bytes_eq p)) (sym at)) in
     ap (λ bs. found_in bs q) (map-set book_of years y households) ∙ put-book (books_of years) y (book_of households) family members q (omega (arith, within, size)) more
 
--- the household of a family with a member more, put in the place of the one before
+-- the books after one more member is added to a family in a year
 pub joins_in : {Y U E : Type 0} (years : List (BTreeMap (String Y) Members)) (y : ℕ) (d households : BTreeMap (String Y) Members) (family member : List ℕ) (balance : Balance) (before after : Members)
     → (joined : Result U E) → y < length years → found_in (books_of years) (family, y) ≡ Some before
     → ((p : List ℕ) → get_by_text households p ≡ cond (bytes_eq family p) (Some after) (get_by_text (get_or years y d) p))
@@ -278,6 +279,6 @@ joins_in years y d households family member balance before after (Ok u) within i
     }
 joins_in years y d households family member balance before after (Err e) within is updated has = tt
 
--- no books have no family twice
+-- an empty list of books has no repeated family
 pub none_once : {Y : Type 0} (years : List (BTreeMap (String Y) Members)) → years ≡ [] → AreOnce (books_of years)
 none_once years empty = subst (λ (ys : List (BTreeMap (String _) Members)). AreOnce (books_of ys)) (sym empty) (All-nil AreOnceIn)

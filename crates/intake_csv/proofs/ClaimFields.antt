@@ -1,4 +1,4 @@
--- The fields of a claim that a record holds, and those of the plan.
+-- The fields of a claim in a record are those of the plan.
 use Rattle.std.proofs.Common.{◌≡◌, ◌-◌, ℕ, Bool, true, false, List, [], ◌∷◌, ◌++◌, length, map, take, Option, Some, None, is_some, refl, sym, ap, subst, ◌∙◌, arith}
 use Rattle.std.proofs.lemmas.List.{length-append}
 use Rattle.std.proofs.Math.Seq.{take-append_seam}
@@ -19,14 +19,14 @@ use Rattle.intake_csv.specs.declared.column.Column.{Column}
 use Rattle.intake_csv.specs.declared.column.Content.{Content}
 use Rattle.intake_csv.specs.declared.column.Content.TheVariants.{Identifier, Plain}
 
--- a value that is spelled has the kind
+-- a denoted value has its kind
 spelled-kind : (kind : Kind) (bytes : List ℕ) (v : Value) → SpellsPlain kind bytes v → kind_of v ≡ kind
 spelled-kind kind bytes (Number u) h = sym h.0
 spelled-kind kind bytes (Text t) h = sym h.0
 spelled-kind kind bytes (Flag b) h = sym h.0
 spelled-kind kind bytes (Day d) h = sym h.0
 
--- of a plan's names the second tells whether families are kept
+-- the second name of a plan determines whether the plan keeps accumulators for families
 pub have_family-names : (families : Bool) (fields : List InputData) → have_family (names_of families fields) ≡ families
 have_family-names false fields = refl
 have_family-names true fields = refl
@@ -42,7 +42,7 @@ fields-among true fields =
     let size : length (names_of true fields) - 5 - 5 ≡ length fields = omega (arith, counted) in
     ap (λ n. take n (fields ++ accumulator_names true)) size ∙ take-append_seam fields (accumulator_names true)
 
--- the values under the columns of fields have the fields' kinds
+-- the values in the columns of fields have the fields' kinds
 kinds-under : (header row : Fields) (fields : List InputData) (columns : List Column) (values : List Value)
     → AreColumnsOf header (map (λ d. needed d.name (Plain d.kind)) fields) columns → AreValues row columns values → map kind_of values ≡ map (λ d. d.kind) fields
 kinds-under header row [] [] [] h k = refl
@@ -55,11 +55,12 @@ kinds-under header row (f ∷ fs) (c ∷ cs) (v ∷ vs) h k =
     let others = kinds-under header row fs cs vs h.1 k.1 in
     rw (kind, others) refl
 
--- the kind of a value is that of the column that it stands under
+-- the kind of a value is that of its column
 kind-there : (row : Fields) (column : Column) (content : Content) (v : Value) → HoldsUnder row column v → column.content ≡ content → kind_of v ≡ kind_under content
 kind-there row column content v k is = spelled-kind (kind_under column.content) k.bytes v k.holds.spells.plain ∙ ap kind_under is
 
--- a claim has a family where its columns have one, and its fields have the kinds of the plan's
+-- a claim has a family if and only if there is a column for it, and its fields have the kinds of
+-- the plan's fields
 claim-by : (header row : Fields) (families : Bool) (family : Option (List ℕ)) (fields : List InputData) (columns : List Column) (claim : Claim)
     → AreColumnsOf header (own_columns families ++ map (λ d. needed d.name (Plain d.kind)) fields) columns
     → AreValues row columns (Text claim.id ∷ behind_family family (Text claim.member ∷ Day claim.service ∷ Number claim.billed ∷ claim.fields))
@@ -80,7 +81,7 @@ claim-by header row true None fields (a ∷ b ∷ c ∷ d ∷ e ∷ es) claim h 
     let clash : kinds.Day ≡ kinds.Text = kind-there row c Identifier (Day claim.service) k.1.1.0 h.1.1.0.content in absurd (cc clash)
 claim-by header row true (Some name) fields (a ∷ b ∷ c ∷ d ∷ e ∷ es) claim h k = (refl, kinds-under header row fields es claim.fields h.1.1.1.1.1 k.1.1.1.1.1)
 
--- so it is where these are the columns that a plan's claims need
+-- a claim in the required columns of a plan fits the plan
 pub claim-has : (header row : Fields) (names : List InputData) (families : Bool) (fields : List InputData) (columns : List Column) (claim : Claim) → names ≡ names_of families fields
     → AreColumnsOf header (claim_columns names) columns → AreValues row columns (claim_values claim)
     → (is_some claim.family ≡ families) × (map kind_of claim.fields ≡ map (λ d. d.kind) fields)

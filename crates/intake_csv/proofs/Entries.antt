@@ -1,4 +1,4 @@
--- Entries of balances, with one more.
+-- The entries of a file of balances, with one more.
 use Rattle.std.proofs.Common.{inl, inr, ◌≡◌, ◌≢◌, ◌<◌, ◌+◌, ◌-◌, ◌==◌, ◌&&◌, ◌+ℤ◌, ℕ, ℤ, Bool, true, false, subst, List, [], ◌∷◌, ◌++◌, length, take, drop, get_or, Option, Some, None, IsSome, Bor, Result, Ok, Err, OnOk, cond, if◌then◌else◌, refl, sym, ap, ◌∙◌, arith}
 use Rattle.std.specs.List.{All, AllZip, slice_get}
 use Rattle.std.specs.Option.{is_some, option_and_then, option_copied, unwrap_or}
@@ -34,7 +34,7 @@ use Rattle.intake_csv.proofs.Households.{bytes-turned, lacking}
 use Rattle.intake_csv.proofs.Lists.{AllZip-grow, any-more, drop-after, next-at}
 use Rattle.intake_csv.proofs.Ranges.{begun-range, entry-amounts, free-sums, household-range}
 
--- holders that are told to be the same are so
+-- families and years that compare as equal are equal
 holder-same : (a b : Holder) → is_holder a b ≡ true → a ≡ b
 holder-same a b e = elim (cases_Bool (bytes_eq a.0 b.0)) [
   | inr other ↦ absurd (false≢true (rw other at e))
@@ -48,7 +48,7 @@ holder-same a b e = elim (cases_Bool (bytes_eq a.0 b.0)) [
 holder-self : (a : Holder) → is_holder a a ≡ true
 holder-self a = rw ((bytes_eq-Decides a.0 a.0).1 refl, year-self a.1) refl
 
--- and so are accounts
+-- accounts that compare as equal are equal
 account-same : (a b : Account) → is_same a b ≡ true → a ≡ b
 account-same a b e = elim (cases_Bool (is_household a b)) [
   | inr other ↦ absurd (false≢true (rw other at e))
@@ -67,17 +67,17 @@ account-self a = rw (holder-self (holder_of a), (bytes_eq-Decides a.member a.mem
 account-apart : (a b : Account) → is_same a b ≡ false → a ≢ b
 account-apart a b other same = false≢true (sym other ∙ ap (is_same a) (sym same) ∙ account-self a)
 
--- the balance of an account is that of its member among those of its household
+-- the balance of an account is that of its member in its family and year
 balance-among : (found : Option Members) (member : List ℕ) → option_and_then (λ ms. balance_in ms member) found ≡ balance_in (unwrap_or found []) member
 balance-among None member = refl
 balance-among (Some members) member = refl
 
--- a member more of a household has a balance by these books, and each other household is as it was
+-- the new books have one more balance, and every other family and year is unchanged
 pub record PutsIn (account : Account) (balance : Balance) (old new : List Book) : Type 0 where
   pub own : HasJoined account.member balance (members_at old (holder_of account)) (members_at new (holder_of account))
   pub others : (other : Holder) → is_holder (holder_of account) other ≡ false → found_in new other ≡ found_in old other
 
--- so it is of a household that was there
+-- the case of a family and year with earlier balances
 pub puts-joined : (account : Account) (balance : Balance) (before : Members) (old new : List Book) → found_in old (holder_of account) ≡ Some before
     → JoinsIn (holder_of account) account.member balance old new → PutsIn account balance old new
 puts-joined account balance before old new is joined =
@@ -86,11 +86,11 @@ puts-joined account balance before old new is joined =
     let after_is : members_at new (holder_of account) ≡ own.after = ap (λ (o : Option Members). unwrap_or o []) own.found in
     record { own = rw (before_is, after_is) own.joined; others = joined.others }
 
--- one member is a household that nobody else was in
+-- a single member is added to an empty family
 alone : (member : List ℕ) (balance : Balance) → HasJoined member balance [] ((member, balance) ∷ [])
 alone member balance = record { found = λ other. ap (λ (b : Bool). cond b (Some balance) None) (bytes-turned other member); met = refl; oop = refl }
 
--- and of one that wasn't, in books in which there is room for the year
+-- the case of a new family, in books that have an entry for the year
 pub puts-added : (account : Account) (balance : Balance) (old room new : List Book) → found_in old (holder_of account) ≡ None
     → ((q : Holder) → found_in room q ≡ found_in old q)
     → ((q : Holder) → found_in new q ≡ cond (is_holder (holder_of account) q) (Some ((account.member, balance) ∷ [])) (found_in room q)) → PutsIn account balance old new
@@ -105,7 +105,7 @@ puts-added account balance old room new none same added =
     }
 
 module _ (account : Account) (balance : Balance) (old new : List Book) (puts : PutsIn account balance old new) where
-  -- the balance that an account has then
+  -- the balance of an account afterwards
   puts-found : (q : Account) → balance_of new q ≡ cond (is_same account q) (Some balance) (balance_of old q)
   puts-found q = elim (cases_Bool (is_holder (holder_of account) (holder_of q))) [
     | inl here ↦
@@ -120,7 +120,7 @@ module _ (account : Account) (balance : Balance) (old new : List Book) (puts : P
         ∙ ap (λ (b : Bool). cond (b && bytes_eq account.member q.member) (Some balance) (balance_of old q)) (sym other)
   ]
 
-  -- what an account begins with then
+  -- the opening accumulators of an account afterwards
   puts-opened : AreOnce old → AreOnce new → (q : Account) → opening (accounts_of new) q ≡ joins (is_same account q) (is_household account q) balance (opening (accounts_of old) q)
   puts-opened once_old once_new q =
       let own = bytes_eq account.member q.member in
@@ -147,7 +147,7 @@ module _ (account : Account) (balance : Balance) (old new : List Book) (puts : P
 sums-turned : (x y z : ℤ) → x +ℤ y +ℤ z ≡ x +ℤ z +ℤ y
 sums-turned x y z = omega (arith, ints)
 
--- two balances join in either order, where not both are the account's own
+-- two balances can be added in either order, unless both are the account's own
 joins-turned : (one mine other yours : Bool) (b c : Balance) (acc : Acc) → (one ≡ true → other ≡ true → ⊥)
     → joins one mine b (joins other yours c acc) ≡ joins other yours c (joins one mine b acc)
 joins-turned true mine true yours b c acc apart = absurd (apart refl refl)
@@ -164,7 +164,7 @@ joins-turned false mine false yours b c acc apart =
     let foop = sums-turned acc.foop (part yours c.oop) (part mine b.oop) in
     λ i. record { met = acc.met; oop = acc.oop; paid = acc.paid; fmet = fmet i; foop = foop i }
 
--- what an account begins with once an entry more stands behind those of other accounts
+-- the opening accumulators of an account after one more entry of a new account
 opening-more : (es : List Entry) (account : Account) (balance : Balance) (q : Account) → All (λ e. e.0 ≢ account) es
     → opening (es ++ (account, balance) ∷ []) q ≡ joins (is_same account q) (is_household account q) balance (opening es q)
 opening-more [] account balance q none = refl
@@ -174,14 +174,15 @@ opening-more (e ∷ es) account balance q none =
     ap (joins (is_same e.0 q) (is_household e.0 q) e.1) (opening-more es account balance q (All-tail (λ e. e.0 ≢ account) e es none))
     ∙ joins-turned (is_same e.0 q) (is_household e.0 q) (is_same account q) (is_household account q) e.1 balance (opening es q) apart
 
--- so it is of the account of that entry
+-- the opening accumulators of the new entry's own account
 opening-own : (es : List Entry) (account : Account) (balance : Balance) → All (λ e. e.0 ≢ account) es
     → opening (es ++ (account, balance) ∷ []) account ≡ joins true true balance (opening es account)
 opening-own es account balance none =
     opening-more es account balance account none ∙ ap (λ (b : Bool). joins b (is_household account account) balance (opening es account)) (account-self account)
     ∙ ap (λ (b : Bool). joins true b balance (opening es account)) (holder-self (holder_of account))
 
--- what accounts begin with stays in the number range with an entry of another account, where what that one begins with does
+-- the opening accumulators of all accounts stay in range after an entry of a new account, if those
+-- of that account are in range
 range-more : (es : List Entry) (account : Account) (balance : Balance) → All (λ e. e.0 ≢ account) es → ((q : Account) → AreInRange (opening es q))
     → AreInRange (opening_with es (account, balance)) → (q : Account) → AreInRange (opening (es ++ (account, balance) ∷ []) q)
 range-more es account balance none before joined q =
@@ -197,7 +198,7 @@ range-more es account balance none before joined q =
           subst AreInRange (sym is) (before q)
     ]
 
--- no books have no entries
+-- an empty list of books has no entries
 pub holds-none : (books : List Book) → books ≡ [] → HoldsEntries [] books
 holds-none books empty = record {
   distinct = λ i j d less within. absurd (omega (arith, within));
@@ -207,7 +208,7 @@ holds-none books empty = record {
   given = λ account. ap (λ (bs : List Book). opening (accounts_of bs) account) empty;
 }
 
--- the balances of entries and of one entry more
+-- the balances with the earlier entries and one more
 pub holds-more : (entries : List Entry) (account : Account) (balance : Balance) (old new : List Book) → AreOnce new → HoldsEntries entries old
     → balance_of old account ≡ None → PutsIn account balance old new → HoldsEntries (entries ++ (account, balance) ∷ []) new
 holds-more entries account balance old new once h absent puts =
@@ -234,13 +235,13 @@ holds-more entries account balance old new once h absent puts =
           puts-opened account balance old new puts h.once once q ∙ ap (joins (is_same account q) (is_household account q) balance) (h.given q) ∙ sym (opening-more entries account balance q none);
     }
 
--- an entry that isn't refused has no balance there
+-- the account of an entry that is not refused has no balance yet
 pub free-none : (found : Option Members) (member : List ℕ) (balance : Balance) → option_and_then (λ ms. refused_behind ms (balance_in ms member) balance) found ≡ None
     → option_and_then (λ ms. balance_in ms member) found ≡ None
 free-none None member balance free = refl
 free-none (Some members) member balance free = lacking members (balance_in members member) balance free
 
--- what is there is some, and what isn't is none
+-- an optional value is present, or it is `None`
 pub some-there : {A : Type 0} (o : Option A) → is_some o ≡ true → (x : A) × (o ≡ Some x)
 some-there None there = absurd (false≢true there)
 some-there (Some x) there = (x, refl)
@@ -249,12 +250,12 @@ pub none-there : {A : Type 0} (o : Option A) → is_some o ≡ false → o ≡ N
 none-there None there = refl
 none-there (Some x) there = absurd (false≢true (sym there))
 
--- what is behind a reference is there where the reference is
+-- the value of an optional reference is present if the reference is
 pub copied-there : (found : Option (Bor Members)) (is : Option Members) (b : Bool) → option_copied found ≡ is → is_some found ≡ b → is_some is ≡ b
 copied-there None is b copied there = ap is_some (sym copied) ∙ there
 copied-there (Some members) is b copied there = ap is_some (sym copied) ∙ there
 
--- an entry that was put to a household that is there, under texts of its own, stands behind the others
+-- the entries after one is added to a family and year with earlier balances
 pub put-joined : {U E : Type 0} (account : Account) (family name : List ℕ) (balance : Balance) (old new : List Book) (put : Result U E) → family ≡ account.family → name ≡ account.member
     → AreOnce new → is_some (found_in old (holder_of account)) ≡ true
     → option_and_then (λ ms. refused_behind ms (balance_in ms account.member) balance) (found_in old (holder_of account)) ≡ None
@@ -265,7 +266,7 @@ put-joined account family name balance old new (Ok u) lives named once there fre
     λ front h. holds-more front account balance old new once h absent (puts-joined account balance before old new is (rw (lives, named) at joined))
 put-joined account family name balance old new (Err e) lives named once there free joined = tt
 
--- so does one whose household wasn't there
+-- the entries after one of a new family is added
 pub put-added : {U E : Type 0} (account : Account) (family name : List ℕ) (household : Members) (balance : Balance) (old room new : List Book) (put : Result U E)
     → family ≡ account.family → name ≡ account.member → household ≡ (name, balance) ∷ [] → AreOnce new → is_some (found_in old (holder_of account)) ≡ false
     → ((q : Holder) → found_in room q ≡ found_in old q)
@@ -278,7 +279,7 @@ put-added account family name household balance old room new (Ok u) lives named 
     λ front h. holds-more front account balance old new once h absent puts
 put-added account family name household balance old room new (Err e) lives named one once lacks same added = tt
 
--- what a refusal says of the members that it is made by
+-- the meaning of a refusal for the members of the family
 abbrev Says : Members → Option Balance → Balance → Refusal → Type 0
 Says members own balance Again = IsSome own
 Says members own balance Met = (own ≡ None) × (is_in_range (met_of members +ℤ balance.met) ≡ false)
@@ -301,7 +302,7 @@ refusal-says members (Some own) balance Oop e = absurd (cc e)
 refusal-says members None balance refusal e =
     sums-say members balance (is_in_range (met_of members +ℤ balance.met)) (is_in_range (oop_of members +ℤ balance.oop)) refusal refl refl e
 
--- so it is made by members that are found
+-- a refusal comes from the members that are found
 found-says : (found : Option Members) (member : List ℕ) (balance : Balance) (refusal : Refusal)
     → option_and_then (λ ms. refused_behind ms (balance_in ms member) balance) found ≡ Some refusal → Says (unwrap_or found []) (option_and_then (λ ms. balance_in ms member) found) balance refusal
 found-says None member balance refusal e = absurd (cc e)
@@ -314,7 +315,7 @@ contents-count false true = refl
 contents-count true false = refl
 contents-count true true = refl
 
--- each refusal is told at a column that is there
+-- each refusal is reported at a column of the layout
 pub told-within : (version : ℕ) (layout : Layout) (refusal : Refusal) → IsBalanceLayout version layout → refusal_place version refusal < length layout.columns
 told-within version layout refusal contents =
     let count : length layout.columns ≡ length (family_columns (has_families version)) + length (year_columns (has_years version)) + 4 =
@@ -327,7 +328,7 @@ told-within version layout refusal contents =
     within Met count = omega (arith, count)
     within Oop count = omega (arith, count)
 
--- what the account of an entry that stands behind others begins with, and its family, with it
+-- the opening accumulators of a new entry's account
 opened-with : (front : List Entry) (balances : List Book) (entry : Entry) → HoldsEntries front balances → balance_of balances entry.0 ≡ None
     → opening_with front entry ≡ joins true true entry.1 (begins (members_at balances (holder_of entry.0)) None)
 opened-with front balances entry h absent =
@@ -337,7 +338,7 @@ opened-with front balances entry h absent =
     opening-own front entry.0 entry.1 (h.lacking entry.0 absent) ∙ ap (joins true true entry.1) before
 
 module _ (version : ℕ) where
-  -- the fault of a record whose entry is refused behind others
+  -- the fault of a record whose entry is refused after earlier ones
   module _ (layout : Layout) (front : List Entry) (balances : List Book) (fields : Fields) (entry : Entry) (fault : RowFault)
       (contents : IsBalanceLayout version layout) (read : IsEntry version layout fields entry) (h : HoldsEntries front balances) where
     refuses-said : (refusal : Refusal) → Says (members_at balances (holder_of entry.0)) (balance_of balances entry.0) entry.1 refusal
@@ -384,7 +385,7 @@ module _ (version : ℕ) where
   refuses-entry layout fields entry refusal balances fault contents read refused told front h =
       refuses-said layout front balances fields entry fault contents read h refusal (found-says (found_in balances (holder_of entry.0)) entry.0.member entry.1 refusal refused) told
 
-  -- an entry that isn't refused behind others leaves what its account begins with in the number range
+  -- the opening accumulators of the account of an entry that is not refused are in range
   pub takes-entry : (layout : Layout) (fields : Fields) (entry : Entry) (old new : List Book) → IsEntry version layout fields entry
       → option_and_then (λ ms. refused_behind ms (balance_in ms entry.0.member) entry.1) (found_in old (holder_of entry.0)) ≡ None
       → ((front : List Entry) → HoldsEntries front old → HoldsEntries (front ++ entry ∷ []) new)
@@ -402,7 +403,7 @@ module _ (version : ℕ) where
         in_range = subst AreInRange (sym (opened-with front old entry h absent)) (begun-range entry.1 (members_at old (holder_of entry.0)) amounts sums);
       }
 
-  -- these many records behind the header hold entries, which the balances have
+  -- the first `count` records after the header have entries, and the balances have exactly these
   pub record ReadBefore (layout : Layout) (records : List Fields) (count : ℕ) (balances : List Book) : Type 0 where
     pub entries : List Entry
     pub each : AllZip (IsEntry version layout) (take count records) entries
@@ -413,7 +414,7 @@ module _ (version : ℕ) where
   pub read_none : (layout : Layout) (records : List Fields) (balances : List Book) → balances ≡ [] → ReadBefore layout records 0 balances
   read_none layout records balances empty = record { entries = []; each = tt; in_range = λ account. refl; holds = holds-none balances empty }
 
-  -- one record more holds an entry
+  -- the case that one more record has an entry
   pub read-next : (layout : Layout) (all : List Fields) (count : ℕ) (fields : Fields) (more : List Fields) (old new : List Book) → drop (count + 1) all ≡ fields ∷ more
       → ReadBefore layout (drop 1 all) count old
       → ((front : List Entry) → HoldsEntries front old → TakesEntry version layout front fields new) → ReadBefore layout (drop 1 all) (count + 1) new
@@ -427,7 +428,7 @@ module _ (version : ℕ) where
         holds = taken.holds;
       }
 
-  -- one record more is refused
+  -- the case that one more record is refused
   pub refused-next : (text : List ℕ) (layout : Layout) (all : List Fields) (count : ℕ) (fields : Fields) (more : List Fields) (balances : List Book) (fault : RowFault)
       → IsSheet (balance_columns version) text layout (drop 1 all) → drop (count + 1) all ≡ fields ∷ more → ReadBefore layout (drop 1 all) count balances
       → ((front : List Entry) → HoldsEntries front balances → IsRecordFault version layout front fields fault) → RefusesRecord version text (count + 1) fault
@@ -445,7 +446,7 @@ module _ (version : ℕ) where
         reason = reason before.entries before.holds;
       }
 
-  -- all records hold entries
+  -- the case that all records have entries
   pub read-all : (text : List ℕ) (layout : Layout) (all : List Fields) (count : ℕ) (balances : List Book) → IsSheet (balance_columns version) text layout (drop 1 all)
       → drop (count + 1) all ≡ [] → ReadBefore layout (drop 1 all) count balances → AreBalances version text balances
   read-all text layout all count balances sheet over before =

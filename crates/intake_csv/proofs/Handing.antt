@@ -1,4 +1,4 @@
--- Rows that are handed out one after another.
+-- The rows that a reader returns one after another.
 use Rattle.std.proofs.Common.{◌≡◌, ◌+◌, ℕ, suc, List, [], ◌∷◌, ◌++◌, length, drop, Some, cond, refl, sym, ap, ◌∙◌, arith}
 use Rattle.std.specs.List.{count_by, slice_get}
 use Rattle.std.proofs.lemmas.List.Sums.{sum_by-cons}
@@ -10,16 +10,16 @@ use Rattle.intake_csv.specs.declared.records.Stage.TheVariants.{Reading}
 use Rattle.intake_csv.specs.declared.rows.Row.{Row}
 use Rattle.intake_csv.specs.declared.rows.Row.TheVariants.{Good, Bad}
 
--- one more claim, or none, in the count of claims
+-- the count of claims with one more row
 pub count-row : (row : Row) (rows : List Row) → count_by is_claim (row ∷ rows) ≡ claims_in row + count_by is_claim rows
 count-row (Good number place claim) rows = sum_by-cons (λ x. cond (is_claim x) 1 0) (Good number place claim) rows
 count-row (Bad number fault) rows = sum_by-cons (λ x. cond (is_claim x) 1 0) (Bad number fault) rows
 
--- the claims in front of the rows behind a row
+-- the count of claims before and after a row
 pub count-more : (row : Row) (rows : List Row) (old new : ℕ) → new ≡ old + claims_in row → new + count_by is_claim rows ≡ old + count_by is_claim (row ∷ rows)
 count-more row rows old new e = let counted = count-row row rows in omega (arith, e, counted)
 
--- the row that is given stands in front of those that are left
+-- the returned row is the first of the rows that remained
 pub rows-head : (old new : RowsLeft) (row : Row) → GivesRow old new row → (rest : List Row) → AreRowsLeft new rest → AreRowsLeft old (row ∷ rest)
 rows-head old new row g rest h = record { as_many = ap suc h.as_many ∙ sym (ap length g.next); each = each }
   where
@@ -41,11 +41,11 @@ rows-head old new row g rest h = record { as_many = ap suc h.as_many ∙ sym (ap
         let counted : new.place + count_by is_claim bs ≡ old.place + count_by is_claim (b ∷ bs) = rw (← is) (count-more row bs old.place new.place g.place) in
         rw (g.layout, more, counted) at step
 
--- a reader over these records of a file
+-- a reader at these records of a file
 abbrev pub left_of : Layout → ℕ → ℕ → List ℕ → Stage → RowsLeft
 left_of layout number place text stage = record { layout = layout; number = number; place = place; records = drop number (records_of text); stage = stage }
 
--- it gives the row of its next record
+-- the reader returns the row of its next record
 pub gives-row : (layout : Layout) (number place after : ℕ) (text : List ℕ) (stage : Stage) (fields : Fields) (row : Row) → drop number (records_of text) ≡ fields ∷ drop (number + 1) (records_of text)
     → IsRow layout number place fields row → after ≡ place + claims_in row → stage ≡ Reading
     → GivesRow (left_of layout number place text stage) (left_of layout (number + 1) after text stage) row

@@ -1,4 +1,4 @@
--- How a name stands in the front of a header, with one place more.
+-- The occurrences of a name in a prefix of a header that is one longer.
 use Rattle.std.proofs.Common.{◌≡◌, ◌<◌, ◌+◌, ℕ, Bool, true, false, List, [], ◌∷◌, ◌++◌, length, get_or, take, Some, refl, sym, ap, ◌∙◌, arith}
 use Rattle.std.specs.List.{All, Any}
 use Rattle.std.specs.Str.{bytes_eq}
@@ -20,11 +20,11 @@ use Rattle.intake_csv.specs.declared.header.Standing.TheVariants.{Missing, Once,
 use Rattle.std.proofs.lemmas.Bool.{false≢true}
 use Rattle.intake_csv.proofs.Lists.{AllZip-grow, All-from_zip, any-more, field_at-append, field_at-get_or, field_at-last}
 
--- bytes that compare as the same are
+-- bytes that compare as equal are equal
 same_bytes : (xs ys : List ℕ) → bytes_eq xs ys ≡ true → xs ≡ ys
 same_bytes xs ys e = (bytes_eq-Decides xs ys).0 e
 
--- the place at the end of the front has the name, or another
+-- the last place of the longer prefix has the name, or another one
 pub stands-more : (name : List ℕ) (header : Fields) (k : ℕ) (standing : Standing) → k < length header → StandsAs name (take k header) standing
     → StandsAs name (take (k + 1) header) (stands_after standing k (bytes_eq (get_or header k []) name))
 stands-more name header k standing within before = by (bytes_eq (get_or header k []) name) refl standing before
@@ -44,7 +44,7 @@ stands-more name header k standing within before = by (bytes_eq (get_or header k
     by true e (Once p) h = let more = count_by_more_yes (λ other. bytes_eq other name) header k [] within e in omega (arith, more, h.0)
     by true e Repeated h = let more = count_by_more_yes (λ other. bytes_eq other name) header k [] within e in omega (arith, more, h)
 
--- a needed column that stands once is found
+-- a required column that occurs once is found
 pub found-once : (header : Fields) (front : List Needed) (n : Needed) (c : Column) (old new : Found) → AreFound header front old
     → IsColumnOf header n c → new.columns ≡ old.columns ++ c ∷ [] → new.repeated ≡ old.repeated → AreFound header (front ++ n ∷ []) new
 found-once header front n c old new h is columns same = record {
@@ -56,7 +56,7 @@ found-once header front n c old new h is columns same = record {
     more : Any (IsRepeated header) front → Any (IsRepeated header) (front ++ n ∷ [])
     more found = any-more (IsRepeated header) front n found
 
--- and one that stands more than once is told
+-- a required column that occurs more than once is reported
 pub found-again : (header : Fields) (front : List Needed) (n : Needed) (old new : Found) → AreFound header front old
     → IsRepeated header n → new.repeated ≡ true → AreFound header (front ++ n ∷ []) new
 found-again header front n old new h again told = record {
@@ -65,12 +65,12 @@ found-again header front n old new h again told = record {
   repeats = λ e. Any-push (IsRepeated header) front n again;
 }
 
--- the columns stand within the header
+-- the places of the columns are within the header
 pub columns-within : (header : Fields) (needed : List Needed) (columns : List Column) → AreColumnsOf header needed columns → All (λ c. c.place < length header) columns
 columns-within header needed columns h =
     All-from_zip (IsColumnOf header) (λ c. c.place < length header) (λ n c is. (field_at-get_or header c.place n.name is.stands).0) needed columns h
 
--- a fault of the columns is one of the file
+-- a fault of the columns is a fault of the file
 pub file-fault : (needed : List Needed) (text : List ℕ) (header : Fields) (records : List Fields) → IsFile text header records
     → (fault : FileFault) → HasColumnFault header needed fault → HasFileFault needed text fault
 file-fault needed text header records file MissingColumn h = record { header = header; records = records; file = file; missing = h }

@@ -1,4 +1,4 @@
--- Households: what is found in the map of their members, and a member more.
+-- Families and years: lookups in the map of the members, and one more member.
 use Rattle.std.proofs.Common.{inl, inr, ◌≡◌, ◌+ℤ◌, ℕ, ℤ, Bool, true, false, List, [], ◌∷◌, map, Option, Some, None, String, string_bytes, nat_cmp, cond, refl, sym, ap, ◌∙◌, arith}
 use Rattle.std.specs.List.{All, AllByRecursion}
 use Rattle.std.specs.List.Sorted.{IsStrictlySortedBy}
@@ -19,7 +19,7 @@ use Rattle.std.proofs.lemmas.Slice.Eq.{bytes_eq-Decides}
 use Rattle.settlement.specs.declared.account.Balance.{Balance}
 use Rattle.intake_csv.specs.Households.{AreOnceBy, HasJoined, IsHousehold, Members, balance_in, members_among, members_of, refused_behind, sum_over}
 
--- bytes that are the same compare so, either way round
+-- the test for equal bytes is symmetric
 pub bytes-turned : (a b : List ℕ) → bytes_eq a b ≡ bytes_eq b a
 bytes-turned a b = elim (cases_Bool (bytes_eq a b)) [
   | inl same ↦ same ∙ sym ((bytes_eq-Decides b a).1 (sym ((bytes_eq-Decides a b).0 same)))
@@ -29,7 +29,7 @@ bytes-turned a b = elim (cases_Bool (bytes_eq a b)) [
   ]
 ]
 
--- a look-up in a map of names is one in its entries by the names' bytes
+-- a lookup in a map of names is a lookup in its entries by the names' bytes
 pub looked : {Y V : Type 0} (es : List (String Y × V)) (m : List ℕ)
     → lookup (is_at (λ k. slice_cmp nat_cmp m (string_bytes k))) es ≡ lookup (bytes_eq m) (map (λ e. (string_bytes e.0, e.1)) es)
 looked [] m = refl
@@ -40,7 +40,7 @@ looked (e ∷ es) m =
       | inr other ↦ rw (same, other) (looked es m)
     ]
 
--- the entries of a map stand once, since its keys rise
+-- the keys of a map occur once, since they increase
 unfound-below : {Y V : Type 0} (key : String Y) (es : List (String Y × V)) → AllByRecursion (λ y. string_cmp key y ≡ Less) (keys_of es)
     → lookup (bytes_eq (string_bytes key)) (map (λ e. (string_bytes e.0, e.1)) es) ≡ None
 unfound-below key [] h = refl
@@ -52,11 +52,11 @@ pub once-sorted : {Y V : Type 0} (es : List (String Y × V)) → IsStrictlySorte
 once-sorted [] h = tt
 once-sorted (e ∷ es) h = (unfound-below e.0 es (sorted_head string_cmp e.0 (keys_of es) h), once-sorted es (sorted_tail string_cmp e.0 (keys_of es) h))
 
--- what is so of the value of a name
+-- a property of the value of an entry
 abbrev Has : {V : Type 0} → (V → Type 0) → List ℕ × V → Type 0
 Has P named = P named.1
 
--- what is so of each value of a map is so of each once a name has another value
+-- a property of all values of a map still holds after a value with that property is inserted
 all-placed : {Y V : Type 0} (P : V → Type 0) (key : String Y) (v : V) (e : String Y × V) (es rest : List (String Y × V)) (order : Ordering) → P v → P e.1
     → All (Has P) (map (λ e. (string_bytes e.0, e.1)) es) → All (Has P) (map (λ e. (string_bytes e.0, e.1)) rest)
     → All (Has P) (map (λ e. (string_bytes e.0, e.1)) (match_ordering order ((key, v) ∷ e ∷ es) ((e.0, v) ∷ es) (e ∷ rest)))
@@ -88,7 +88,7 @@ all-set P test v (e ∷ es) new all =
     let others = All-tail (Has P) (string_bytes e.0, e.1) behind all in
     set-placed P v e es (set_value test es v) (test e.0) new (All-head (Has P) (string_bytes e.0, e.1) behind all) others (all-set P test v es new others)
 
--- the balance of a member, found first or in the map of the others
+-- the balance of the first member, and of one in the map of the others
 pub found_first : {Y : Type 0} (first : List ℕ) (own : Balance) (others : BTreeMap (String Y) Balance) (member : List ℕ) → bytes_eq first member ≡ true
     → Some own ≡ balance_in (members_of first own others) member
 found_first first own others member here =
@@ -101,19 +101,19 @@ found_behind first own others member other =
     let missed : bytes_eq member first ≡ false = bytes-turned member first ∙ other in
     looked others.entries member ∙ sym (ap (λ (b : Bool). cond b (Some own) (lookup (bytes_eq member) (members_among others))) missed)
 
--- a map with the balance of a name that wasn't there
+-- the map after the balance of a new name is inserted
 pub record Inserts {Y : Type 0} (key : String Y) (balance : Balance) (old new : BTreeMap (String Y) Balance) : Type 0 where
   pub entries : new.entries ≡ insert_entry string_cmp old.entries key balance
   pub ordered : IsOrdered string_cmp new
   pub found : (p : List ℕ) → get_by_text new p ≡ cond (bytes_eq (string_bytes key) p) (Some balance) (get_by_text old p)
 
--- so it has by what an `insert` says
+-- the map after a call of `insert`
 pub inserted : {Y : Type 0} (key : String Y) (balance : Balance) (old new : BTreeMap (String Y) Balance) → new.entries ≡ insert_entry string_cmp old.entries key balance
     → IsOrdered string_cmp new → UpdatesBy string_cmp (string_cmp key) old new (Some balance) → Inserts key balance old new
 inserted key balance old new entries ordered updates =
     record { entries = entries; ordered = ordered; found = λ p. btree_map_updates_text (string_bytes key) old new (Some balance) updates p }
 
--- the sum with an entry more, wherever it is put
+-- the sum after an entry is inserted at any position
 sum-placed : {Y : Type 0} (amount : Balance → ℤ) (key : String Y) (v : Balance) (e : String Y × Balance) (es : List (String Y × Balance)) (order : Ordering)
     → cond (is_eq order) (Some e.1) (lookup (is_at (string_cmp key)) es) ≡ None
     → (lookup (is_at (string_cmp key)) es ≡ None
@@ -131,7 +131,7 @@ sum-more : {Y : Type 0} (amount : Balance → ℤ) (key : String Y) (v : Balance
 sum-more amount key v [] none = refl
 sum-more amount key v (e ∷ es) none = sum-placed amount key v e es (string_cmp key e.0) none (λ none. sum-more amount key v es none)
 
--- nobody is refused who isn't lacking
+-- a member that is not refused has no balance yet
 pub lacking : (members : Members) (own : Option Balance) (balance : Balance) → refused_behind members own balance ≡ None → own ≡ None
 lacking members None balance none = refl
 lacking members (Some own) balance none = cc none
@@ -142,14 +142,14 @@ module _ {Y : Type 0} (first : List ℕ) (own : Balance) (old new : BTreeMap (St
   absent : balance_in (members_of first own old) (string_bytes key) ≡ None
   absent = lacking (members_of first own old) (balance_in (members_of first own old) (string_bytes key)) balance free
 
-  -- the name isn't that of the first member
+  -- the name is not that of the first member
   unlike : bytes_eq (string_bytes key) first ≡ false
   unlike = elim (cases_Bool (bytes_eq (string_bytes key) first)) [
     | inl here ↦ absurd (cc (rw here at absent))
     | inr other ↦ other
   ]
 
-  -- nor that of another one
+  -- the name is not that of another member
   not-among : lookup (is_at (string_cmp key)) old.entries ≡ None
   not-among = looked old.entries (string_bytes key) ∙ rw unlike at absent
 
@@ -162,7 +162,7 @@ module _ {Y : Type 0} (first : List ℕ) (own : Balance) (old new : BTreeMap (St
       ap (λ es. sum_over amount (map (λ e. (string_bytes e.0, e.1)) es)) inserts.entries ∙ sum-more amount key balance old.entries not-among in
       omega (arith, ints, more)
 
-  -- the household has the member more
+  -- the family has the new member
   pub joined : HasJoined (string_bytes key) balance (members_of first own old) (members_of first own new)
   joined = record {
     found = λ other. elim (cases_Bool (bytes_eq other first)) [
@@ -176,7 +176,7 @@ module _ {Y : Type 0} (first : List ℕ) (own : Balance) (old new : BTreeMap (St
     oop = sum-joined (λ b. b.oop);
   }
 
-  -- and is one, with the sums that go with it
+  -- the family satisfies its invariant with the new sums
   pub joined-household : (met oop more_met more_oop : ℤ) → IsHousehold (members_of first own old) met oop → more_met ≡ met +ℤ balance.met → more_oop ≡ oop +ℤ balance.oop
       → IsHousehold (members_of first own new) more_met more_oop
   joined-household met oop more_met more_oop before is_met is_oop =

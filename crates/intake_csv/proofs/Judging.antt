@@ -1,4 +1,4 @@
--- A record that is judged without its values.
+-- The validation of a record without its values.
 use Rattle.std.proofs.Common.{◌≡◌, ◌≢◌, ℕ, ℤ, Bool, true, false, List, [], ◌∷◌, Ok, Option, Some, None, is_some, slice_index_or, refl, ap, sym, ◌∙◌}
 use Rattle.feel_tests.specs.TextBytes.{IsText}
 use Rattle.feel_tests.specs.declared.kind.Kind.TheVariants as kinds
@@ -14,23 +14,23 @@ use Rattle.intake_csv.specs.declared.column.Column.{Column}
 use Rattle.intake_csv.specs.declared.column.Content.TheVariants.{Identifier, Plain}
 use Rattle.intake_csv.proofs.Spelling.{identifier_read, plain_read}
 
--- a text that isn't empty is an identifier as it stands
+-- a text that is not empty is a valid identifier
 pub identifier_judged : (bytes : List ℕ) → IsText bytes → bytes ≢ [] → IsFieldJudged Identifier bytes (Ok tt)
 identifier_judged bytes text some =
     let read = identifier_read bytes (Text bytes) text some (refl, refl, text.1) in
     ((Text bytes, read.0), read.1)
 
--- a text is a value as it stands
+-- a text is a valid value of a column of texts
 pub words_judged : (bytes : List ℕ) → IsText bytes → IsFieldJudged (Plain kinds.Text) bytes (Ok tt)
 words_judged bytes text =
     let read = plain_read kinds.Text bytes (Text bytes) text (refl, refl, text.1) in
     ((Text bytes, read.0), read.1)
 
--- a text under a column is the field as it stands
+-- the text of a column is its unchanged field
 stands : (fields : Fields) (c : Column) (t : List ℕ) → HoldsUnder fields c (Text t) → StandsAt fields c.place t
 stands fields c t h = h.field ∙ ap Some (sym h.holds.spells.plain.1)
 
--- and so is the text of a day
+-- the date of a column is denoted by its field
 day-stands : (fields : Fields) (c : Column) (day : ℤ) → HoldsUnder fields c (Day day) → DayStandsAt fields c.place day
 day-stands fields c day h = record { bytes = h.bytes; field = h.field; text = h.holds.text.0; spells = (refl, h.holds.spells.plain.1) }
 
@@ -42,11 +42,11 @@ some-family : (family : Option (List ℕ)) → is_some family ≡ true → (text
 some-family None e = absurd (cc e)
 some-family (Some text) e = (text, refl)
 
--- the claim that the values make
+-- the claim with these values
 abbrev claim-of : (families : Bool) (values : List Value) → IsClaimShaped families values → Claim
 claim-of families values s = record { id = s.id; family = s.family; member = s.member; service = s.service; billed = s.billed; fields = s.fields }
 
--- the fields of a claim without a family
+-- the columns that identify a claim without a family
 alone : (fields : Fields) (columns : List Column) (d : Column) (id member : List ℕ) (service billed : ℤ) (more : List Value)
     → AreValues fields columns (Text id ∷ Text member ∷ Day service ∷ Number billed ∷ more)
     → StandsAt fields (slice_index_or columns 0 d).place id × StandsAt fields (slice_index_or columns 1 d).place member × HoldsUnder fields (slice_index_or columns 2 d) (Day service)
@@ -55,7 +55,7 @@ alone fields (a ∷ []) d id member service billed more h = absurd h.1
 alone fields (a ∷ b ∷ []) d id member service billed more h = absurd h.1.1
 alone fields (a ∷ b ∷ c ∷ cs) d id member service billed more h = (stands fields a id h.0, stands fields b member h.1.0, h.1.1.0)
 
--- and of one with a family
+-- the columns that identify a claim with a family
 joined : (fields : Fields) (columns : List Column) (d : Column) (id family member : List ℕ) (service billed : ℤ) (more : List Value)
     → AreValues fields columns (Text id ∷ Text family ∷ Text member ∷ Day service ∷ Number billed ∷ more)
     → StandsAt fields (slice_index_or columns 0 d).place id × StandsAt fields (slice_index_or columns 1 d).place family × StandsAt fields (slice_index_or columns 2 d).place member
@@ -66,7 +66,7 @@ joined fields (a ∷ b ∷ []) d id family member service billed more h = absurd
 joined fields (a ∷ b ∷ c ∷ []) d id family member service billed more h = absurd h.1.1.1
 joined fields (a ∷ b ∷ c ∷ e ∷ es) d id family member service billed more h = (stands fields a id h.0, stands fields b family h.1.0, stands fields c member h.1.1.0, h.1.1.1.0)
 
--- whose claim the values under the columns are, where there is no column for families
+-- the values without a column of the family are those of a claim, and these columns identify it
 pub record IsAlone (fields : Fields) (columns : List Column) (d : Column) : Type 0 where
   pub claim : Claim
   pub values : AreValues fields columns (claim_values claim)
@@ -85,7 +85,7 @@ is-alone fields columns d values s h =
       claimant = record { id = at.0; family = rw none tt; member = at.1; service = day-stands fields (slice_index_or columns 2 d) s.service at.2 };
     }
 
--- and where there is one
+-- the values with a column of the family are those of a claim, and these columns identify it
 pub record IsJoined (fields : Fields) (columns : List Column) (d : Column) : Type 0 where
   pub claim : Claim
   pub values : AreValues fields columns (claim_values claim)

@@ -1,4 +1,4 @@
--- A field has one value or one fault under its column.
+-- A field has at most one value or one fault in its column.
 use Rattle.std.proofs.Common.{inl, inr, ◌≡◌, ◌<◌, ℕ, ℤ, zero, suc, List, [], length, refl, sym, ap, ◌∙◌, arith}
 use Rattle.std.proofs.lemmas.Bool.{cases_lt}
 use Rattle.std.proofs.lemmas.Str.{IsUtf8-nil}
@@ -15,7 +15,7 @@ use Rattle.faults.specs.declared.file_fault.RowCause.{RowCause}
 use Rattle.faults.specs.declared.file_fault.RowCause.TheVariants.{FieldCount, Utf8, TooLong, EmptyId, Value as NoValue, NotCents, Negative, Repeated, Sum}
 use Rattle.intake_csv.proofs.Amounts.{not_below}
 
--- a cause by its number
+-- the cause with a number
 cause_of : ℕ → RowCause
 cause_of (suc zero) = FieldCount
 cause_of (suc (suc zero)) = Utf8
@@ -39,16 +39,16 @@ numbered Negative = refl
 numbered Repeated = refl
 numbered Sum = refl
 
--- an empty text is a value of an identifier's kind
+-- an empty field denotes a value in a column of identifiers
 empty-text : (content : Content) (bytes : List ℕ) → content ≡ Identifier → bytes ≡ [] → Spells content bytes (Text [])
 empty-text content bytes e f = record { plain = rw (e, f) (refl, refl, omega arith); year = λ g. cc (sym e ∙ g) }
 
--- a number is a value of an amount's kind
+-- a number denotes a value in a column of money
 number-spelled : (content : Content) (bytes : List ℕ) (units : ℤ) → content ≡ Money → Denotes bytes units → Spells content bytes (Number units)
 number-spelled content bytes units e d = record { plain = rw e (refl, d); year = λ f. cc (sym e ∙ f) }
 
 module _ (one : DenotesAtMostOne) where
-  -- a cause leaves no room for one that is tried after it
+  -- a fault excludes those that are tested after it
   apart : (content : Content) (bytes : List ℕ) (cause other : RowCause) → cause_number_of cause < cause_number_of other → IsFaulty content bytes cause → ¬ IsFaulty content bytes other
   apart content bytes FieldCount other less h k = h
   apart content bytes Repeated other less h k = h
@@ -71,7 +71,7 @@ module _ (one : DenotesAtMostOne) where
   apart content bytes NotCents Negative less h k = let same = one bytes k.1.units h.1.units k.1.denotes h.1.denotes in h.1.finer (rw same at k.1.cents)
   apart content bytes cause other less h k = omega (arith, less)
 
-  -- a field has one fault at most
+  -- a field has at most one fault
   pub cause-one : (content : Content) (bytes : List ℕ) (cause other : RowCause) → IsFaulty content bytes cause → IsFaulty content bytes other → cause ≡ other
   cause-one content bytes cause other h k = elim (cases_lt (cause_number_of cause) (cause_number_of other)) [
     | inl below ↦ absurd (apart content bytes cause other below h k)
@@ -83,7 +83,7 @@ module _ (one : DenotesAtMostOne) where
     ]
   ]
 
-  -- a field that holds a value has none
+  -- a field with a value has no fault
   pub held-faultless : (content : Content) (bytes : List ℕ) (v : Value) (cause : RowCause) → Holds content bytes v → ¬ IsFaulty content bytes cause
   held-faultless content bytes v FieldCount h k = k
   held-faultless content bytes v Repeated h k = k
@@ -103,6 +103,6 @@ module _ (one : DenotesAtMostOne) where
       let same = one bytes units k.1.units spells.1 k.1.denotes in
       not_below units money.1 (rw (← same) at k.1.below)
 
--- a field holds one value at most
+-- a field has at most one value
 pub held-one : SpellsOnePlain → (content : Content) (bytes : List ℕ) (v w : Value) → Holds content bytes v → Holds content bytes w → v ≡ w
 held-one plain content bytes v w h k = plain (kind_under content) bytes v w h.spells.plain k.spells.plain

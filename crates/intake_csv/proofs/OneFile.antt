@@ -1,4 +1,5 @@
--- A text has one header and one list of records at most, and a header one column for each needed name.
+-- A text has at most one header and one list of records, and a header has at most one column for
+-- each required name.
 use Rattle.std.proofs.Common.{◌≡◌, ◌<◌, ℕ, suc, zero, List, [], ◌∷◌, length, get_or, Some, None, cond, refl, sym, ap, ◌∙◌, arith}
 use Rattle.std.specs.List.{AllPairs}
 use Rattle.std.specs.Str.{bytes_eq}
@@ -17,7 +18,7 @@ use Rattle.intake_csv.specs.declared.column.Column.{Column}
 use Rattle.intake_csv.specs.declared.column.Layout.{Layout}
 use Rattle.intake_csv.specs.declared.column.Needed.{Needed}
 
--- the records that are read one after another until none is left
+-- the records that are read one after another until the end are determined
 records-one : (cfg : Config) (s s2 s3 : State) (xs ys zs : List ℕ) (one other : List Fields) → Reached cfg s xs one s2 ys → next_record cfg s2 [] [] ys ≡ None
     → Reached cfg s xs other s3 zs → next_record cfg s3 [] [] zs ≡ None → one ≡ other
 unfolding Reached
@@ -36,12 +37,12 @@ records-one cfg s s2 s3 xs ys zs (r ∷ rs) (q ∷ qs) h end k stop =
     let others = records-one cfg h.0.1 s2 s3 h.0.2 ys zs rs qs h.3 end behind stop in
     rw (first, others) refl
 
--- a text has one list of records
+-- a text has at most one list of records
 pub file-one : (text : List ℕ) (one other : List Fields) → AreRecordsOf text one → AreRecordsOf text other → one ≡ other
 file-one text one other h k =
     records-one default_config state.StartRecord h.0 k.0 (strip_bom text) h.1 k.1 one other h.2 h.3 k.2 k.3
 
--- a name that stands at a place is counted
+-- a name at a place of the header is counted
 counted-there : (name : List ℕ) (header : Fields) (k : ℕ) → field_at header k ≡ Some name → 0 < times name header
 unfolding field_at
 counted-there name [] k e = absurd (cc e)
@@ -56,7 +57,7 @@ counted-there name (f ∷ fs) (suc k) e =
     let counted = sum_by-cons (λ other. cond (bytes_eq other name) 1 0) f fs in
     omega (arith, counted, more)
 
--- a name that stands first and at a later place is counted twice
+-- a name at the first place and at a later one is counted twice
 counted-twice : (name f : List ℕ) (fs : Fields) (k : ℕ) → f ≡ name → field_at fs k ≡ Some name → ¬ (times name (f ∷ fs) ≡ 1)
 counted-twice name f fs k same e once =
     let equal = (bytes_eq-Decides f name).1 same in
@@ -65,7 +66,7 @@ counted-twice name f fs k same e once =
     let more = counted-there name fs k e in
     omega (arith, counted, here, more, once)
 
--- a name that stands once stands at one place
+-- a name that occurs once has one place
 place-one : (name : List ℕ) (header : Fields) (j k : ℕ) → times name header ≡ 1 → field_at header j ≡ Some name → field_at header k ≡ Some name → j ≡ k
 unfolding field_at
 place-one name [] j k once d e = absurd (cc d)
@@ -91,7 +92,7 @@ columns-one header (n ∷ ns) (c ∷ cs) (d ∷ ds) h k =
     let others = columns-one header ns cs ds h.1 k.1 in
     rw (first, others) refl
 
--- a text is a file with the needed columns in one way at most
+-- a text is a file with the required columns in at most one way
 pub sheet-one : (needed : List Needed) (text : List ℕ) (layout other : Layout) (records others : List Fields)
     → IsSheet needed text layout records → IsSheet needed text other others → (layout ≡ other) × (records ≡ others)
 sheet-one needed text layout other records others h k =
@@ -103,7 +104,7 @@ sheet-one needed text layout other records others h k =
     let columns = columns-one h.header needed layout.columns other.columns h.columns turned in
     (λ i. record { width = width i; columns = columns i }, behind)
 
--- the needed name of a column
+-- the required name of a column
 needed-at : (header : Fields) (needed : List Needed) (columns : List Column) (k : ℕ) (d : Needed) (e : Column) → AreColumnsOf header needed columns → k < length columns
     → (k < length needed) × IsColumnOf header (get_or needed k d) (get_or columns k e)
 needed-at header [] [] k d e h within = absurd (omega (arith, within))
@@ -114,11 +115,11 @@ needed-at header (n ∷ ns) (c ∷ cs) (suc k) d e h within =
     let found = needed-at header ns cs k d e h.1 (omega (arith, within)) in
     (omega (arith, found.0), found.1)
 
--- no two needed columns have the same name
+-- the required columns have pairwise distinct names
 abbrev pub HaveDistinctNames : List Needed → Type 0
 HaveDistinctNames needed = AllPairs (λ a b. ¬ (a.name ≡ b.name)) needed
 
--- columns of distinct names stand apart
+-- columns with distinct names have distinct places
 pub columns-apart : (header : Fields) (needed : List Needed) (columns : List Column) → HaveDistinctNames needed → AreColumnsOf header needed columns → StandApart columns
 columns-apart header needed columns distinct h i j e before within place =
     let d : Needed = record { name = []; content = e.content } in

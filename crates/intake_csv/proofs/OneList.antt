@@ -1,4 +1,4 @@
--- A text has one list of rows under a plan.
+-- A text has at most one list of rows under a plan.
 use Rattle.std.proofs.Common.{◌≡◌, ◌+◌, ℕ, List, [], ◌∷◌, refl, sym, ap, ◌∙◌, arith}
 use Rattle.fixpoint.specs.NumberText.{DenotesAtMostOne}
 use Rattle.feel_tests.specs.Plain.{SpellsOnePlain}
@@ -15,7 +15,7 @@ use Rattle.intake_csv.proofs.OneRow.{begin-with, first-row, rows-behind}
 use Rattle.intake_csv.proofs.PlanColumns.{columns-apart-under}
 
 module _ (one : DenotesAtMostOne) (plain : SpellsOnePlain) where
-  -- the rows of records are one list, where the columns stand apart
+  -- records have at most one list of rows if the columns have distinct places
   rows-one : (layout : Layout) (number place : ℕ) (records : List Fields) (rows others : List Row) → StandApart layout.columns → AreRows layout number place records rows
       → AreRows layout number place records others → rows ≡ others
   rows-one layout number place [] [] [] apart h k = refl

@@ -1,4 +1,5 @@
--- A record gives one row at most, and the rows that a reader has left begin with it.
+-- A record has at most one row, and the remaining rows of a reader begin with the row of its next
+-- record.
 use Rattle.std.proofs.Common.{inl, inr, ◌≡◌, ◌<◌, ◌+◌, ℕ, suc, zero, ℤ, List, [], ◌∷◌, ◌++◌, length, get_or, Option, Some, None, refl, sym, ap, ◌∙◌, arith}
 use Rattle.std.specs.List.{count_by, slice_get}
 use Rattle.std.proofs.lemmas.Bool.{cases_lt}
@@ -21,7 +22,7 @@ use Rattle.intake_csv.specs.declared.rows.Row.TheVariants.{Good, Bad}
 use Rattle.intake_csv.proofs.Handing.{count-more}
 use Rattle.intake_csv.proofs.OneField.{cause-one, held-faultless, held-one}
 
--- within a list the default is not read
+-- the default does not matter for an index within the list
 get_or-any : {A : Type 0} (xs : List A) (k : ℕ) (d e : A) → k < length xs → get_or xs k d ≡ get_or xs k e
 get_or-any [] k d e within = absurd (omega (arith, within))
 get_or-any (x ∷ xs) zero d e within = refl
@@ -36,7 +37,7 @@ neither-less a b less more = elim (cases_lt a b) [
   ]
 ]
 
--- columns that stand apart are told by their places
+-- columns with distinct places are determined by their places
 place-tells : (columns : List Column) (i j : ℕ) (c d : Column) → StandApart columns → i < length columns → j < length columns → get_or columns i c ≡ c → get_or columns j d ≡ d
     → c.place ≡ d.place → c ≡ d
 place-tells columns i j c d apart inside within is was place =
@@ -45,7 +46,7 @@ place-tells columns i j c d apart inside within is was place =
     let index = neither-less i j (λ less. apart i j c less within places) (λ more. apart j i c more inside (sym places)) in
     sym is ∙ ap (λ n. get_or columns n c) index ∙ there
 
--- the value at a place among some
+-- the value of the column at an index
 value-at : (fields : Fields) (columns : List Column) (vs : List Value) (k : ℕ) (d : Column) → AreValues fields columns vs → k < length columns
     → (v : Value) × HoldsUnder fields (get_or columns k d) v
 value-at fields [] vs k d h within = absurd (omega (arith, within))
@@ -53,7 +54,7 @@ value-at fields (c ∷ cs) [] k d h within = absurd h
 value-at fields (c ∷ cs) (v ∷ vs) zero d h within = (v, h.0)
 value-at fields (c ∷ cs) (v ∷ vs) (suc k) d h within = value-at fields cs vs k d h.1 (omega (arith, within))
 
--- no fault stands left of the first
+-- no fault is to the left of the first one
 none-left-of : (fields : Fields) (columns : List Column) (f g : RowFault) → IsFirstFault fields columns f → IsFirstFault fields columns g → ¬ (f.column < g.column)
 none-left-of fields columns f g h k less =
     let (j, c, within, is, has) = h.faulty in
@@ -65,7 +66,8 @@ none-left-of fields columns f g h k less =
 same-place : (place other column others : ℕ) → place + 1 ≡ column → other + 1 ≡ others → column ≡ others → place ≡ other
 same-place place other column others a b c = omega (arith, a, b, c)
 
--- a family, if there is one, is told by the value behind it: a member is a text, and a service a day
+-- the values determine whether there is a family: the value after a family is the member, a text,
+-- and the value after a member is the date of service
 family-one : (f g : Option (List ℕ)) (id other m n : List ℕ) (s t u v : ℤ) (vs ws : List Value)
     → Text id ∷ behind_family f (Text m ∷ Day s ∷ Number u ∷ vs) ≡ Text other ∷ behind_family g (Text n ∷ Day t ∷ Number v ∷ ws)
     → (f ≡ g) × (Text m ∷ Day s ∷ Number u ∷ vs ≡ Text n ∷ Day t ∷ Number v ∷ ws)
@@ -85,7 +87,7 @@ claim-one c d e =
     λ i. record { id = id i; family = family i; member = member i; service = service i; billed = billed i; fields = fields i }
 
 module _ (one : DenotesAtMostOne) (plain : SpellsOnePlain) where
-  -- a record's field under a column holds one value at most
+  -- the field of a column has at most one value
   under-one : (fields : Fields) (c : Column) (v w : Value) → HoldsUnder fields c v → HoldsUnder fields c w → v ≡ w
   under-one fields c v w h k =
       let found : Some h.bytes ≡ Some k.bytes = sym h.field ∙ k.field in
@@ -103,7 +105,7 @@ module _ (one : DenotesAtMostOne) (plain : SpellsOnePlain) where
       let others = values-one fields cs vs ws h.1 k.1 in
       rw (first, others) refl
 
-  -- where a field holds a value it has no fault, and it has one fault at most
+  -- a field with a value has no fault, and a field has at most one fault
   held-under : (fields : Fields) (c : Column) (v : Value) (cause : RowCause) → HoldsUnder fields c v → ¬ IsFaultyUnder fields cause c
   held-under fields c v cause h k =
       let found : Some h.bytes ≡ Some k.bytes = sym h.field ∙ k.field in
@@ -116,7 +118,7 @@ module _ (one : DenotesAtMostOne) (plain : SpellsOnePlain) where
       let same : h.bytes ≡ k.bytes = cc found in
       cause-one one c.content h.bytes cause other h.faulty (rw (← same) at k.faulty)
 
-  -- a record has values or a fault, and not both
+  -- a record does not have both values and a fault
   values-or-fault : (layout : Layout) (fields : Fields) (vs : List Value) (fault : RowFault) → HasValues layout fields vs → ¬ HasFault layout fields fault
   values-or-fault layout fields vs fault h (inl f) = f.0 h.0
   values-or-fault layout fields vs fault h (inr f) =
@@ -151,7 +153,7 @@ module _ (one : DenotesAtMostOne) (plain : SpellsOnePlain) where
       let faults = fault-one layout fields f g apart h.1 k.1 in
       rw (h.0, k.0, faults) refl
 
-  -- whatever the columns are, its rows are the same claim, or none is one
+  -- for all columns, two rows of a record have the same claim, or neither has one
   row-alike : (layout : Layout) (number place : ℕ) (fields : Fields) (row other : Row) → IsRow layout number place fields row → IsRow layout number place fields other
       → (claim_in row ≡ claim_in other) × (claims_in row ≡ claims_in other)
   row-alike layout number place fields (Good n p c) (Good m q d) h k =
@@ -161,11 +163,11 @@ module _ (one : DenotesAtMostOne) (plain : SpellsOnePlain) where
   row-alike layout number place fields (Bad n f) (Good m q d) h k = absurd (values-or-fault layout fields (claim_values d) f k.2 h.1)
   row-alike layout number place fields (Bad n f) (Bad m g) h k = (refl, refl)
 
--- a row at equal places
+-- a row for equal layouts, numbers and places
 moved-row : (layout other : Layout) (n m p q : ℕ) (fields : Fields) (row : Row) → layout ≡ other → n ≡ m → p ≡ q → IsRow layout n p fields row → IsRow other m q fields row
 moved-row layout other n m p q fields row same number place h = rw (same, number, place) at h
 
--- the first row that was left is that of the next record
+-- the first of the remaining rows is that of the next record
 pub first-row : (old new : RowsLeft) (fields : Fields) (row : Row) (rows : List Row) → old.records ≡ fields ∷ new.records → AreRowsLeft old (row ∷ rows)
     → IsRow old.layout old.number old.place fields row
 first-row old new fields row rows next h =
@@ -173,7 +175,7 @@ first-row old new fields row rows next h =
     moved-row old.layout old.layout (old.number + length {A = Row} []) old.number (old.place + count_by is_claim []) old.place fields row refl (omega arith) (omega arith)
     (h.each [] rows row fields refl there)
 
--- and the others are left behind it
+-- the rows after the first one remain after the next record
 pub rows-behind : (old new : RowsLeft) (row first : Row) (rows : List Row) → GivesRow old new row → claims_in row ≡ claims_in first → AreRowsLeft old (first ∷ rows)
     → AreRowsLeft new rows
 rows-behind old new row first rows g alike h = record { as_many = as_many; each = each }

@@ -1,4 +1,5 @@
--- The columns that a plan's claims need have distinct names, as all names of a plan.
+-- The required columns of a plan's claims have distinct names, since all names of a plan are
+-- distinct.
 use Rattle.std.proofs.Common.{◌≡◌, ℕ, Bool, true, false, List, [], ◌∷◌, ◌++◌, map, refl, sym, ap, subst, ◌∙◌, arith, append_assoc}
 use Rattle.std.specs.List.{flat_map}
 use Rattle.std.proofs.lemmas.List.{get_or-map, get_or_append_left, length-append, length-map, map-append}
@@ -14,14 +15,14 @@ use Rattle.intake_csv.specs.declared.column.Needed.{Needed}
 use Rattle.intake_csv.proofs.ClaimFields.{fields-among, have_family-names}
 use Rattle.intake_csv.proofs.OneFile.{HaveDistinctNames, columns-apart}
 
--- the first of distinct names are distinct
+-- a prefix of distinct names is distinct
 distinct-front : (front behind : List (List ℕ)) → AreDistinct (front ++ behind) → AreDistinct front
 distinct-front front behind h i j d before within =
     let long = length-append front behind in
     let apart = h i j d before (omega (arith, long, within)) in
     λ same. apart (get_or_append_left front behind d i (omega arith) ∙ same ∙ sym (get_or_append_left front behind d j within))
 
--- columns whose names are distinct
+-- required columns with distinct names, from the list of their names
 titles-distinct : (columns : List Needed) → AreDistinct (map (λ c. c.name) columns) → HaveDistinctNames columns
 titles-distinct columns h i j d before within =
     let long = length-map columns (λ (c : Needed). c.name) in
@@ -36,7 +37,7 @@ own_titles : (families : Bool) → map (λ c. c.name) (own_columns families) ≡
 own_titles false = refl
 own_titles true = refl
 
--- the names of these columns are those of each claim and those of the fields
+-- the names of the required columns are the built-in names of claims and the names of the fields
 titles : (families : Bool) (names fields : List InputData) → have_family names ≡ families → fields_among names ≡ fields
     → map (λ c. c.name) (claim_columns names) ≡ map (λ d. d.name) (claim_names families) ++ map (λ d. d.name) fields
 titles families names fields have among =
@@ -61,6 +62,6 @@ columns-distinct plan is =
     titles-distinct (claim_columns plan.names)
     (subst AreDistinct (sym (titles families plan.names is.fields have among)) (distinct-front (own ++ fields) (accumulators ++ outputs) (subst AreDistinct all is.distinct)))
 
--- so they stand apart in each file that has them
+-- the required columns have distinct places in every file that has them
 pub columns-apart-under : (plan : PlanParts) (header : Fields) (columns : List Column) → IsPlan plan → AreColumnsOf header (claim_columns plan.names) columns → StandApart columns
 columns-apart-under plan header columns is has = columns-apart header (claim_columns plan.names) columns (columns-distinct plan is) has

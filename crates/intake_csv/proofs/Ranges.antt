@@ -1,4 +1,4 @@
--- What an account begins with stays in the number range with a balance more.
+-- The opening accumulators of an account stay in range with one more balance.
 use Rattle.std.proofs.Common.{◌≡◌, ◌≤◌, ◌+ℤ◌, ◌&&◌, ℕ, ℤ, pos, Bool, true, false, unsigned_abs, subst, List, [], ◌∷◌, ◌++◌, Option, Some, None, if◌then◌else◌, refl, sym, ap, ap₂, ◌∙◌, arith}
 use Rattle.std.specs.Option.{option_and_then, unwrap_or}
 use Rattle.std.proofs.lemmas.Bool.{and_parts}
@@ -24,19 +24,19 @@ use Rattle.intake_csv.specs.declared.column.Layout.{Layout}
 use Rattle.intake_csv.specs.declared.household.Refusal.{Refusal}
 use Rattle.intake_csv.specs.declared.household.Refusal.TheVariants.{Met, Oop}
 
--- the amounts of a balance are in the number range
+-- the amounts of a balance are in range
 pub record AmountsInRange (balance : Balance) : Type 0 where
   pub met : is_in_range balance.met ≡ true
   pub oop : is_in_range balance.oop ≡ true
   pub paid : is_in_range balance.paid ≡ true
 
--- so is a number that a record holds
+-- a number in a record is in range
 number-held : (fields : Fields) (column : Column) (units : ℤ) → HoldsUnder fields column (Number units) → is_in_range units ≡ true
 number-held fields column units h =
     let within : unsigned_abs units ≤ greatest_units = h.holds.spells.plain.1.in_range in
     grind (arith, nat_tests)
 
--- the values behind the first one
+-- the values after the first one
 values-behind : (fields : Fields) (columns : List Column) (value : Value) (values : List Value) → AreValues fields columns (value ∷ values)
     → (rest : List Column) × AreValues fields rest values
 values-behind fields [] value values h = absurd h
@@ -72,12 +72,12 @@ behind-all true years fields columns account balance h =
     let (rest, held) = values-behind fields columns (Text account.family) (Text account.member ∷ (year_values years account.year ++ balance_values balance)) h in
     behind-member years fields rest account balance held
 
--- the amounts of an entry are in the number range, as each number that a record holds
+-- the amounts of an entry in a record are in range
 pub entry-amounts : (version : ℕ) (layout : Layout) (fields : Fields) (entry : Entry) → IsEntry version layout fields entry → AmountsInRange entry.1
 entry-amounts version layout fields entry read =
     behind-all (has_families version) (has_years version) fields layout.columns entry.0 entry.1 read.values.1
 
--- the sums of members and of one more are in the number range
+-- the sums over the members and one more balance are in range
 pub record SumsInRange (members : Members) (balance : Balance) : Type 0 where
   pub met : is_in_range (met_of members +ℤ balance.met) ≡ true
   pub oop : is_in_range (oop_of members +ℤ balance.oop) ≡ true
@@ -96,18 +96,18 @@ free-behind members None balance e =
 nothing-before : (x : ℤ) → pos 0 +ℤ x ≡ x
 nothing-before x = omega (arith, ints)
 
--- so they are with a member that isn't refused behind those that are found
+-- the sums are in range with a member that is not refused
 pub free-sums : (found : Option Members) (member : List ℕ) (balance : Balance) → AmountsInRange balance
     → option_and_then (λ ms. refused_behind ms (balance_in ms member) balance) found ≡ None → SumsInRange (unwrap_or found []) balance
 free-sums None member balance amounts free =
     record { met = ap is_in_range (nothing-before balance.met) ∙ amounts.met; oop = ap is_in_range (nothing-before balance.oop) ∙ amounts.oop }
 free-sums (Some members) member balance amounts free = free-behind members (balance_in members member) balance free
 
--- what an account begins with then is in the number range
+-- the opening accumulators of the new account are in range
 pub begun-range : (balance : Balance) (members : Members) → AmountsInRange balance → SumsInRange members balance → AreInRange (joins true true balance (begins members None))
 begun-range balance members amounts sums = rw (amounts.met, amounts.oop, amounts.paid, sums.met) sums.oop
 
--- accounts of one household have the same sums of their family
+-- accounts of one family and year have the same sums
 shared-sums : (entries : List Entry) (a b : Account) → holder_of a ≡ holder_of b
     → ((opening entries a).fmet ≡ (opening entries b).fmet) × ((opening entries a).foop ≡ (opening entries b).foop)
 shared-sums [] a b same = (refl, refl)
@@ -118,8 +118,8 @@ shared-sums (e ∷ es) a b same =
       ap₂ (λ (sum : ℤ) (here : Bool). sum +ℤ part here e.1.oop) oop house,
     )
 
--- what one of them begins with is in the number range with a balance more, where it was before, and where the one whose balance it is
--- begins with what is in it
+-- the opening accumulators of an account stay in range with the balance of another account of its
+-- family and year, if those of that account are in range
 pub household-range : (entries : List Entry) (a b : Account) (balance : Balance) (own : Bool) → holder_of a ≡ holder_of b → AreInRange (joins true true balance (opening entries a))
     → AreInRange (opening entries b) → AreInRange (joins own true balance (opening entries b))
 household-range entries a b balance own same joined before =

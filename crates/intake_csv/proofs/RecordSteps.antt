@@ -1,4 +1,4 @@
--- What was read of a record's fields, with one column more.
+-- The result of reading a record's columns, with one more column.
 use Rattle.std.proofs.Common.{◌≡◌, ◌<◌, ◌≤◌, ◌+◌, inl, inr, List, [], ◌∷◌, ◌++◌, Option, Some, None, sym, arith}
 use Rattle.std.specs.List.{All}
 use Rattle.std.proofs.lemmas.List.Elements.{All-push, All-weaker}
@@ -16,11 +16,11 @@ module _ (fields : Fields) where
   abbrev pub IsOf : RowFault → Column → Type 0
   IsOf fault c = (c.place + 1 ≡ fault.column) × IsFaultyUnder fields fault.cause c
 
-  -- the column is faultless if it stands left of the fault
+  -- the column has no fault if it is to the left of the fault
   abbrev pub IsLeftFaultless : RowFault → Column → Type 0
   IsLeftFaultless fault c = c.place + 1 < fault.column → IsFaultlessUnder fields c
 
-  -- a column more holds a value
+  -- the case that one more column has a value
   pub read-value : (front : List Column) (c : Column) (values : List Value) (value : Value) (first : Option RowFault) → SoFar fields front values first
       → HoldsUnder fields c value → IsFaultlessUnder fields c → SoFar fields (front ++ c ∷ []) (values ++ value ∷ []) first
   read-value front c values value None h holds none =
@@ -30,7 +30,7 @@ module _ (fields : Fields) where
     first = All-push (IsLeftFaultless fault) front c h.first (λ left. none);
   }
 
-  -- a column more has a fault, and no fault was there
+  -- the case that one more column has the only fault so far
   first-fault : (front : List Column) (c : Column) (fault : RowFault) → All (IsLeftFaultless fault) front → fault.column ≡ c.place + 1
       → IsFaultyUnder fields fault.cause c → IsFirstFault fields (front ++ c ∷ []) fault
   first-fault front c fault left column faulty = record {
@@ -38,7 +38,7 @@ module _ (fields : Fields) where
     first = All-push (IsLeftFaultless fault) front c left (λ before. absurd (omega (arith, before, column)));
   }
 
-  -- a fault that stands further left stays
+  -- an earlier fault further to the left stays the first
   fault-stays : (front : List Column) (c : Column) (first fault : RowFault) → IsFirstFault fields front first → fault.column ≡ c.place + 1
       → first.column ≤ fault.column → IsFirstFault fields (front ++ c ∷ []) first
   fault-stays front c first fault h column le = record {
@@ -46,7 +46,7 @@ module _ (fields : Fields) where
     first = All-push (IsLeftFaultless first) front c h.first (λ before. absurd (omega (arith, before, column, le)));
   }
 
-  -- a column more has a fault
+  -- the case that one more column has a fault
   pub read-fault : (front : List Column) (c : Column) (values : List Value) (first : Option RowFault) (fault least : RowFault) → SoFar fields front values first
       → fault.column ≡ c.place + 1 → IsFaultyUnder fields fault.cause c → IsLeftmost first fault least → IsFirstFault fields (front ++ c ∷ []) least
   read-fault front c values None fault least h column faulty (inl kept) = absurd (cc kept.0)

@@ -1,4 +1,4 @@
--- The kinds of a record's values, by the columns that they stand under.
+-- The kinds of a record's values, by their columns.
 use Rattle.std.proofs.Common.{◌≡◌, ℕ, ℤ, Bool, true, false, List, [], ◌∷◌, ◌++◌, map, codes, Option, Some, None, is_some, refl, ap, sym, subst, ◌∙◌}
 use Rattle.std.specs.Int.{IsInRange}
 use Rattle.std.specs.List.{AllZip, slice_get}
@@ -39,11 +39,11 @@ day_value content bytes (Text t) e h = let s = rw e at h.spells.plain in absurd 
 pub money_value : (content : Content) (bytes : List ℕ) (v : Value) → content ≡ Money → Holds content bytes v → (u : ℤ) × (v ≡ Number u) × IsMoney u
 money_value content bytes v e h = rw e at h.allowed
 
--- three values and others
+-- equal lists from three equal values
 three_and : (w x y b c d : Value) (ys : List Value) → w ≡ b → x ≡ c → y ≡ d → w ∷ x ∷ y ∷ ys ≡ b ∷ c ∷ d ∷ ys
 three_and w x y b c d ys f g h = rw (f, g, h) refl
 
--- the values of a claim from its member on
+-- the values of a claim from the member onwards
 record IsShapedBehind (values : List Value) : Type 0 where
   pub member : List ℕ
   pub service : ℤ
@@ -112,7 +112,7 @@ claim-shaped true fields (a ∷ b ∷ columns) (v ∷ w ∷ values) rest e h =
       money = s.money;
     }
 
--- the text of a year that stands under its column
+-- the text of a year in its column
 year-value : (content : Content) (bytes : List ℕ) (v : Value) → content ≡ Year → Holds content bytes v → (year : ℕ) × (v ≡ Text (year_text year)) × IsInRange 1 9999 year
 year-value content bytes (Text t) e h =
     let s = rw e at h.spells.plain in
@@ -126,7 +126,7 @@ year-value content bytes (Day d) e h = let s = rw e at h.spells.plain in absurd 
 three : (w x y b c d : Value) → w ≡ b → x ≡ c → y ≡ d → w ∷ x ∷ y ∷ [] ≡ b ∷ c ∷ d ∷ []
 three w x y b c d f g h = rw (f, g, h) refl
 
--- three amounts under their columns
+-- three amounts in their columns
 amounts : (fields : Fields) (columns : List Column) (values : List Value)
     → map (λ c. c.content) columns ≡ Money ∷ Money ∷ Money ∷ [] → AllZip (HoldsUnder fields) columns values → AreAmounts values
 amounts fields [] values e h = absurd (cc e)
@@ -152,20 +152,20 @@ amounts fields (b ∷ c ∷ d ∷ []) (w ∷ x ∷ y ∷ []) e h =
       paid_money = paid_money;
     }
 
--- behind the first of three amounts stands another one
+-- the first of three amounts is followed by the second
 pub second-begins : (values rest : List Value) (met : ℤ) → AreAmounts values → values ≡ Number met ∷ rest → BeginsWithMoney rest
 second-begins values rest met h first =
     let left : rest ≡ Number h.balance.oop ∷ Number h.balance.paid ∷ [] = cc (sym first ∙ h.values_are) in
     (h.balance.oop, Number h.balance.paid ∷ [], left, h.oop_money)
 
--- and behind that the last one
+-- the second of three amounts is followed by the third
 pub third-begins : (values rest last : List Value) (met oop : ℤ) → AreAmounts values → values ≡ Number met ∷ rest → rest ≡ Number oop ∷ last → BeginsWithMoney last
 third-begins values rest last met oop h first second =
     let behind : rest ≡ Number h.balance.oop ∷ Number h.balance.paid ∷ [] = cc (sym first ∙ h.values_are) in
     let left : last ≡ Number h.balance.paid ∷ [] = cc (sym second ∙ behind) in
     (h.balance.paid, [], left, h.paid_money)
 
--- the values of an entry from its member on
+-- the values of an entry from the member onwards
 record IsEntryBehind (years : Bool) (values : List Value) : Type 0 where
   pub member : List ℕ
   pub year : ℕ
@@ -207,7 +207,7 @@ entry-behind true fields (a ∷ b ∷ columns) (v ∷ w ∷ values) e h =
       are_amounts = amounts fields columns values others h.1.1;
     }
 
--- and with the family in front, where there is a column for it
+-- the values of an entry, with the family first if there is a column for it
 record IsEntryBy (families years : Bool) (values : List Value) : Type 0 where
   pub family : Option (List ℕ)
   pub has_family : is_some family ≡ families
@@ -251,7 +251,7 @@ entry-shaped version fields columns values e h =
       are_amounts = s.entry.are_amounts;
     }
 
--- the columns of a file of claims: whether there is one for families is told by the third of them
+-- the columns of a claim file: the third one determines whether there is one for the family
 record AreOwnColumns (families : Bool) (columns : List Column) : Type 0 where
   pub third : option_map_or (λ c. is_identifier c.content) (slice_get columns 2) false ≡ families
   pub fields : List Content

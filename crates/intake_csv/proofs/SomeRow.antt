@@ -1,4 +1,4 @@
--- No record is without its row: it is a claim, or it has a first fault.
+-- No record lacks a row: it is a claim, or it has a first fault.
 use Rattle.std.proofs.Common.{inl, inr, ◌≡◌, ◌<◌, ◌≤◌, ◌≤ℤ◌, ◌+◌, ◌⊎◌, ℕ, ℤ, pos, suc, Bool, true, false, List, [], ◌∷◌, ◌++◌, length, map, codes, get_or, Some, None, refl, sym, ap, ◌∙◌, arith}
 use Rattle.std.specs.List.{All, Any, count_by, slice_get}
 use Rattle.std.proofs.lemmas.Bool.{cases_Bool, cases_eq, cases_lt}
@@ -36,7 +36,7 @@ not_negative : (units : ℤ) → is_negative units ≡ false → pos 0 ≤ℤ un
 not_negative (ℤ.pos n) e = omega (arith, ints)
 not_negative (ℤ.negsuc n) e = absurd (cc e)
 
--- a number under a column of money, where nothing is wrong
+-- a number in a column of money without a fault
 money : (bytes : List ℕ) (units : ℤ) → IsText bytes → Spells Money bytes (Number units) → IsFaultless Money bytes → ¬ ¬ Holds Money bytes (Number units)
 money bytes units text spells none k = none NotCents (
   refl,
@@ -51,7 +51,7 @@ money bytes units text spells none k = none NotCents (
   },
 )
 
--- a value that is spelled, where nothing is wrong
+-- a denoted value without a fault
 value : (content : Content) (bytes : List ℕ) (v : Value) → IsText bytes → Spells content bytes v → IsFaultless content bytes → ¬ ¬ Holds content bytes v
 value Identifier bytes v text spells none k = k (record { text = text; spells = spells; allowed = λ e. none EmptyId (refl, e) })
 value Year bytes v text spells none k = k (record { text = text; spells = spells; allowed = tt })
@@ -61,7 +61,7 @@ value Money bytes (Text t) text spells none k = cc spells.plain.0
 value Money bytes (Flag f) text spells none k = cc spells.plain.0
 value Money bytes (Day d) text spells none k = cc spells.plain.0
 
--- a field's value, with nothing wrong, or what is wrong
+-- a field has a value and no fault, or a fault
 abbrev FieldOf : Content → List ℕ → Type 0
 FieldOf content bytes = ((v : Value) × Holds content bytes v × IsFaultless content bytes) ⊎ ((cause : RowCause) × IsFaulty content bytes cause)
 
@@ -76,7 +76,7 @@ field content bytes k =
     none NoValue (text, λ v spells. value content bytes v text spells none (λ holds. k (inl (v, holds, none)))))
 
 module _ (fields : Fields) where
-  -- the same of the field under a column
+  -- the field of a column has a value and no fault, or a fault
   abbrev UnderOf : Column → Type 0
   UnderOf c = ((v : Value) × HoldsUnder fields c v × IsFaultlessUnder fields c) ⊎ ((cause : RowCause) × IsFaultyUnder fields cause c)
 
@@ -91,7 +91,7 @@ module _ (fields : Fields) where
   )
   under_field c bytes e (inr (cause, faulty)) = inr (cause, record { bytes = bytes; field = e; faulty = faulty })
 
-  -- values under all columns, with nothing wrong, or the first fault
+  -- all columns have values and no fault, or there is a first fault
   abbrev AllOf : List Column → Type 0
   AllOf columns = ((vs : List Value) × AreValues fields columns vs × All (IsFaultlessUnder fields) columns) ⊎ ((f : RowFault) × IsFirstFault fields columns f)
 
@@ -104,7 +104,7 @@ module _ (fields : Fields) where
   behind : (f : RowFault) (c : Column) (cs : List Column) → Any (IsOf f) cs → Any (IsOf f) (c ∷ cs)
   behind f c cs (k, x, within, is, has) = (suc k, x, omega (arith, within), is, has)
 
-  -- the first column's fault is the first, where no other one stands left of it
+  -- the fault of the first column is the first fault if no column to the left of it has one
   first_here : (c : Column) (cs : List Column) (cause : RowCause) → IsFaultyUnder fields cause c → All (IsLeftFaultless (c.place + 1)) cs
       → IsFirstFault fields (c ∷ cs) (record { column = c.place + 1; cause = cause })
   first_here c cs cause faulty left = record {
@@ -152,7 +152,7 @@ module _ (fields : Fields) where
 three : (w x y b c d : Value) (ys : List Value) → w ≡ b → x ≡ c → y ≡ d → b ∷ c ∷ d ∷ ys ≡ w ∷ x ∷ y ∷ ys
 three w x y b c d ys f g h = rw (f, g, h) refl
 
--- a member, a day of service and an amount that is billed stand in front of values
+-- the values begin with a member, a date of service and a billed amount
 record AreBehind (vs : List Value) : Type 0 where
   pub member : List ℕ
   pub service : ℤ
@@ -175,7 +175,7 @@ behind-of header row more (b ∷ c ∷ d ∷ ds) (w ∷ x ∷ y ∷ ys) h values
     let (units, is_units, money) = money_value d.content values.1.1.0.bytes y h.1.1.0.content values.1.1.0.holds in
     record { member = member; service = day; billed = units; fields = ys; values = three w x y (Text member) (Day day) (Number units) ys is_member is_day is_units }
 
--- values under the columns of a file of claims are those of a claim
+-- the values in the columns of a claim file are those of a claim
 record ClaimOf (vs : List Value) : Type 0 where
   pub claim : Claim
   pub values : claim_values claim ≡ vs
@@ -206,7 +206,7 @@ claim-of : (header row : Fields) (names : List InputData) (columns : List Column
     → AreValues row columns vs → ClaimOf vs
 claim-of header row names columns vs h values = claim-by header row (have_family names) (map (λ d. needed d.name (Plain d.kind)) (fields_among names)) columns vs h values
 
--- what a file's header says of the columns that claims need
+-- the header of a claim file determines the contents of the columns
 record HasColumns (names : List InputData) (layout : Layout) : Type 0 where
   pub header : Fields
   pub width : layout.width ≡ length header
@@ -230,7 +230,7 @@ some_row names layout number place fields h k = elim (cases_eq (length fields) l
   | inl same ↦ all_columns fields h.header (claim_columns names) layout.columns h.columns (same ∙ h.width) (λ all. k (row_by names layout number place fields h same all))
 ]
 
--- the rows of a record and of those behind it
+-- the rows of a record and of those after it
 row_more : (layout : Layout) (number place : ℕ) (f : Fields) (records : List Fields) (row : Row) (rows : List Row) → IsRow layout number place f row
     → AreRows layout (number + 1) (place + claims_in row) records rows → AreRows layout number place (f ∷ records) (row ∷ rows)
 row_more layout number place f records row rows is h = record { as_many = ap suc h.as_many; each = each }
@@ -252,7 +252,7 @@ row_more layout number place f records row rows is h = record { as_many = ap suc
         let placed : (place + claims_in row) + count_by is_claim bs ≡ place + count_by is_claim (row ∷ bs) = omega (arith, counted) in
         rw (← same) (rw (more, placed) at step)
 
--- some rows of these records
+-- a list of rows of these records
 record RowsAmong (layout : Layout) (number place : ℕ) (records : List Fields) : Type 0 where
   pub rows : List Row
   pub are : AreRows layout number place records rows
@@ -263,7 +263,7 @@ some_rows names layout number place (f ∷ records) h k = some_row names layout 
     some_rows names layout (number + 1) (place + claims_in r.row) records h (λ rs.
     k (record { rows = r.row ∷ rs.rows; are = row_more layout number place f records r.row rs.rows r.is rs.are })))
 
--- some rows of a file
+-- no claim file lacks a list of rows
 pub file_rows : (names : List InputData) (text : List ℕ) (layout : Layout) (records : List Fields) → IsSheet (claim_columns names) text layout records → ¬ ¬ RowsOf names text
 file_rows names text layout records sheet k =
     some_rows names layout 1 0 records (record { header = sheet.header; width = sheet.width; columns = sheet.columns }) (λ rs.

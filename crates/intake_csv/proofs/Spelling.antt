@@ -1,4 +1,4 @@
--- What a field spells under its column, where that is no amount.
+-- The value that a field denotes in a column other than one of money.
 use Rattle.std.proofs.Common.{◌≡◌, ◌≢◌, ℕ, List, [], refl, arith}
 use Rattle.feel_tests.specs.Calendar.{IsYearText}
 use Rattle.feel_tests.specs.Plain.{RefusesPlain, SpellsPlain}
@@ -13,7 +13,7 @@ use Rattle.intake_csv.specs.declared.column.Content.{Content}
 use Rattle.intake_csv.specs.declared.column.Content.TheVariants.{Identifier, Money, Plain, Year}
 use Rattle.faults.specs.declared.file_fault.RowCause.TheVariants.{FieldCount, Utf8, TooLong, EmptyId, Value as NoValue, NotCents, Negative, Repeated, Sum}
 
--- nothing is wrong with a value that is spelled, unless it is an empty identifier or an amount
+-- a denoted value has no fault, unless it is an empty identifier or an amount
 faultless : (content : Content) (bytes : List ℕ) (v : Value) → IsText bytes → Spells content bytes v → ¬ ((content ≡ Identifier) × (bytes ≡ [])) → ¬ (content ≡ Money)
     → IsFaultless content bytes
 faultless content bytes v text spells named other Utf8 h = h text.0
@@ -41,14 +41,14 @@ year_read bytes v year text is plain =
     let spells : Spells Year bytes v = record { plain = plain; year = λ e. (year, is) } in
     (record { text = text; spells = spells; allowed = tt }, faultless Year bytes v text spells (λ empty. cc empty.0) (λ e. cc e))
 
--- a field that is refused, and not for memory, spells no value of the kind
+-- a field that is refused, for another reason than memory, denotes no value of the kind
 pub no_plain : (kind : Kind) (bytes : List ℕ) → RefusesPlain (SpellsPlain kind bytes) Bad → (v : Value) → ¬ SpellsPlain kind bytes v
 no_plain kind bytes refused = refused (λ e. cc e)
 
--- a field that is no value of the column's kind
+-- a field that is not a value of the column's kind
 pub unread : (content : Content) (bytes : List ℕ) → IsText bytes → ((v : Value) → ¬ SpellsPlain (kind_under content) bytes v) → IsFaulty content bytes NoValue
 unread content bytes text none = (text, λ v spells. none v spells.plain)
 
--- a field that is no year
+-- a field that is not a year
 pub year_unread : (bytes : List ℕ) → IsText bytes → ((year : ℕ) → ¬ IsYearText bytes year) → IsFaulty Year bytes NoValue
 year_unread bytes text none = (text, λ v spells. none (spells.year refl).0 (spells.year refl).1)

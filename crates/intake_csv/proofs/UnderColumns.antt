@@ -1,4 +1,5 @@
--- What stands under columns: an identifier is a text as it stands, and one column that is refused refuses a claim.
+-- The values of columns: an identifier is the unchanged field, and a claim is refused if one of its
+-- columns is.
 use Rattle.std.proofs.Common.{◌≡◌, ◌≢◌, ◌<◌, ℕ, [], ◌∷◌, length, refl, sym, List, Result, Ok, Err, Option, Some, None, subst}
 use Rattle.std.specs.Prelude.{IfOk, IfNone, IsUtf8}
 use Rattle.std.specs.declared.alloc.AllocError.{AllocError}
@@ -17,11 +18,11 @@ use Rattle.intake_csv.specs.declared.column.Content.TheVariants.{Identifier}
 use Rattle.faults.specs.declared.file_fault.RowCause.TheVariants.{EmptyId, TooLong, Utf8}
 use Rattle.intake_csv.proofs.Spelling.{identifier_read}
 
--- where a column is refused, not all are faultless
+-- not all columns are without a fault if one is refused
 pub one-is-refused : (fields : Fields) (columns : List Column) → Any (IsRefusedUnder fields) columns → All (IsFaultlessUnder fields) columns → ⊥
 one-is-refused fields columns (k, c, within, is, refused) all = subst (IsFaultlessUnder fields) is (all k c within) refused.0 refused.1
 
--- where no claim is found for a column among these, one among those is refused too
+-- if the result has no claim, one of these columns is refused
 abbrev pub TellsRefused : Fields → List Column → Result (Option Claim) AllocError → Type 0
 TellsRefused fields columns result = IfOk result (λ read. IfNone read (Any (IsRefusedUnder fields) columns))
 
@@ -31,22 +32,22 @@ refused-among fields few more (Ok None) among refused = among refused
 refused-among fields few more (Ok (Some claim)) among refused = tt
 refused-among fields few more (Err fault) among refused = tt
 
--- a text that isn't empty, under a column of identifiers
+-- a text that is not empty, in a column of identifiers
 pub stands_under : (fields : Fields) (c : Column) (bytes : List ℕ) → c.content ≡ Identifier → field_at fields c.place ≡ Some bytes → IsText bytes → bytes ≢ []
     → HoldsUnder fields c (Text bytes)
 stands_under fields c bytes content field text some =
     let read = identifier_read bytes (Text bytes) text some (refl, refl, text.1) in
     record { bytes = bytes; field = field; holds = subst (λ kind. Holds kind bytes (Text bytes)) (sym content) read.0 }
 
--- an empty one
+-- an empty field in a column of identifiers is refused
 pub empty-under : (fields : Fields) (c : Column) (bytes : List ℕ) → c.content ≡ Identifier → field_at fields c.place ≡ Some bytes → length bytes ≡ 0 → IsRefusedUnder fields c
 empty-under fields c [] content field none = (EmptyId, record { bytes = []; field = field; faulty = (content, refl) })
 empty-under fields c (x ∷ xs) content field none = absurd (cc none)
 
--- one that is too long
+-- a field that is too long is refused
 pub long_under : (fields : Fields) (c : Column) (bytes : List ℕ) → field_at fields c.place ≡ Some bytes → IsUtf8 bytes → text_limit_bytes < length bytes → IsRefusedUnder fields c
 long_under fields c bytes field text long = (TooLong, record { bytes = bytes; field = field; faulty = (text, long) })
 
--- bytes that are no text
+-- a field that is not UTF-8 is refused
 pub no_text_under : (fields : Fields) (c : Column) (bytes : List ℕ) → field_at fields c.place ≡ Some bytes → ¬ IsUtf8 bytes → IsRefusedUnder fields c
 no_text_under fields c bytes field none = (Utf8, record { bytes = bytes; field = field; faulty = none })

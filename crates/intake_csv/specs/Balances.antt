@@ -1,4 +1,4 @@
--- The balances of a text: what accounts begin with.
+-- The opening balances of a text.
 use Rattle.std.specs.Prelude.{◌≡◌, ◌≢◌, ◌≤◌, ◌+◌, ◌-◌, ◌⊎◌, ◌==◌, ◌&&◌, ◌++◌, ℕ, suc, Bool, true, false, List, map, flat_map, [], ◌∷◌, get_or, take, Option, Some, None, is_some, string_bytes}
 use Rattle.std.specs.Int.{IsInRange}
 use Rattle.std.specs.List.{All, AllPairs, AllZip, Any, slice_get}
@@ -37,19 +37,19 @@ use Rattle.faults.specs.declared.file_fault.BalanceFault.TheVariants.{File, Row,
 use Rattle.intake_csv.specs.declared.household.Refusal.{Refusal}
 use Rattle.intake_csv.specs.declared.household.Refusal.TheVariants.{Again, Met, Oop}
 
--- a family in a year, which is 0 where accumulators aren't kept by the year
+-- a family in a year, which is 0 if the plan does not keep accumulators by benefit year
 abbrev pub Holder : Type 0
 Holder = List ℕ × ℕ
 
--- both are one family in one year
+-- both families and years are equal
 abbrev pub is_holder : Holder → Holder → Bool
 is_holder a b = bytes_eq a.0 b.0 && (a.1 == b.1)
 
--- the family of an account in its year
+-- the family and year of an account
 abbrev pub holder_of : Account → Holder
 holder_of account = (account.family, account.year)
 
--- an account, and what it begins with
+-- an account and its balance
 abbrev pub Entry : Type 0
 Entry = Account × Balance
 
@@ -57,20 +57,21 @@ Entry = Account × Balance
 abbrev pub Book : Type 0
 Book = List (List ℕ × Members)
 
--- the accounts of a family's members in a year
+-- the accounts of a family's members in a year, with their balances
 abbrev pub accounts_in : ℕ → List ℕ × Members → List Entry
 accounts_in year household = map (λ m. (record { family = household.0; member = m.0; year = year }, m.1)) household.1
 
--- the accounts of books, of which the first is of this year, and each other one of the next year
+-- the accounts of books, where the first book is that of this year and each other one is that of
+-- the next year
 abbrev pub accounts_from : ℕ → List Book → List Entry
 accounts_from year [] = []
 accounts_from year (book ∷ rest) = flat_map (accounts_in year) book ++ accounts_from (suc year) rest
 
--- the accounts of books, each of the year that is its place
+-- the accounts of books, where the year of a book is its place in the list
 abbrev pub accounts_of : List Book → List Entry
 accounts_of books = accounts_from 0 books
 
--- the members of a family in a year, if it is there
+-- the members of a family in a year, if it has balances
 abbrev pub found_in : List Book → Holder → Option Members
 found_in books holder = lookup (bytes_eq holder.0) (get_or books holder.1 [])
 
@@ -78,66 +79,68 @@ found_in books holder = lookup (bytes_eq holder.0) (get_or books holder.1 [])
 abbrev pub balance_of : List Book → Account → Option Balance
 balance_of books account = option_and_then (λ members. balance_in members account.member) (found_in books (holder_of account))
 
--- in no book a family stands twice, and in no family a member
+-- the families of a book are distinct, and so are the members of each family
 pub record AreOnceIn (book : Book) : Type 0 where
   pub families : AreOnceBy bytes_eq book
   pub members : All (λ household. AreOnceBy bytes_eq household.1) book
 
+-- this holds for every book
 abbrev pub AreOnce : List Book → Type 0
 AreOnce = All AreOnceIn
 
--- the value of a year's column, where there is one
+-- the value of the year's column, if there is one
 abbrev pub year_values : Bool → ℕ → List Value
 year_values true year = Text (year_text year) ∷ []
 year_values false year = []
 
--- the values of a balance's columns
+-- the values of the columns of a balance
 abbrev pub balance_values : Balance → List Value
 balance_values balance = Number balance.met ∷ Number balance.oop ∷ Number balance.paid ∷ []
 
--- the family in an entry's values, where there is a column for it
+-- the family in an entry's values, if there is a column for it
 abbrev pub family_in : Bool → Account → Option (List ℕ)
 family_in true account = Some account.family
 family_in false account = None
 
--- an entry's values under a plan of this version, in the order of the columns that it needs
+-- the values of an entry under a plan of this version, in the order of the required columns
 abbrev pub entry_values : ℕ → Entry → List Value
 entry_values version entry =
     behind_family (family_in (has_families version) entry.0)
     (Text entry.0.member ∷ (year_values (has_years version) entry.0.year ++ balance_values entry.1))
 
--- a year that accumulators are kept by, or 0
+-- the year is valid: from 1 to 9999 if the plan keeps accumulators by benefit year, and otherwise 0
 abbrev pub IsKept : Bool → ℕ → Type 0
 IsKept true year = IsInRange 1 9999 year
 IsKept false year = year ≡ 0
 
--- accumulators are kept for the account under a plan of this version: by its year, or in none; where families aren't kept, the
--- member is a family of its own
+-- the account is valid under a plan of this version: its year is valid, and without families the
+-- member is its own family
 pub record IsKeptUnder (version : ℕ) (account : Account) : Type 0 where
   pub year : IsKept (has_years version) account.year
   pub alone : has_families version ≡ false → account.family ≡ account.member
 
--- the record holds the entry
+-- the record has the entry
 pub record IsEntry (version : ℕ) (layout : Layout) (fields : Fields) (entry : Entry) : Type 0 where
   pub kept : IsKeptUnder version entry.0
   pub values : HasValues layout fields (entry_values version entry)
 
--- the records hold the entries, one each, no account stands twice, and what each account begins with is in the number range, the sums
--- of its family too
+-- the records have the entries, one each; the accounts are distinct, and the opening accumulators
+-- of every account are in range
 pub record AreEntries (version : ℕ) (layout : Layout) (records : List Fields) (entries : List Entry) : Type 0 where
   pub each : AllZip (IsEntry version layout) records entries
   pub distinct : AllPairs (λ a b. a.0 ≢ b.0) entries
   pub in_range : (account : Account) → AreInRange (opening entries account)
 
--- the book of a map, in the order of its keys
+-- the book of a map, in the order of the map's keys
 abbrev pub book_of : {Y : Type 0} → BTreeMap (String Y) Members → Book
 book_of households = map (λ e. (string_bytes e.0, e.1)) households.entries
 
--- the books of maps
+-- the books of a list of maps
 abbrev pub books_of : {Y : Type 0} → List (BTreeMap (String Y) Members) → List Book
 books_of years = map book_of years
 
--- the text is a file of entries, and each account begins with the same by the balances and by the entries
+-- the text is a file of entries, and the balances have the opening accumulators of these entries
+-- for every account
 pub record AreBalances (version : ℕ) (text : List ℕ) (balances : List Book) : Type 0 where
   pub layout : Layout
   pub records : List Fields
@@ -146,31 +149,32 @@ pub record AreBalances (version : ℕ) (text : List ℕ) (balances : List Book) 
   pub read : AreEntries version layout records entries
   pub given : (account : Account) → opening (accounts_of balances) account ≡ opening entries account
 
--- the fault tells this cause at the needed column of this place
+-- the fault has this cause and is at the required column with this place
 pub record IsToldAt (layout : Layout) (place : ℕ) (cause : RowCause) (fault : RowFault) : Type 0 where
   pub column : Column
   pub stands : slice_get layout.columns place ≡ Some column
   pub fault_is : fault ≡ record { column = column.place + 1; cause = cause }
 
--- the record holds an entry whose account stands among those in front, and the fault tells so at the member's column
+-- the record has an entry of an earlier account, and the fault is at the member's column
 pub record IsRepeated (version : ℕ) (layout : Layout) (front : List Entry) (fields : Fields) (fault : RowFault) : Type 0 where
   pub entry : Entry
   pub read : IsEntry version layout fields entry
   pub again : Any (λ e. e.0 ≡ entry.0) front
   pub told : IsToldAt layout (member_place version) Repeated fault
 
--- what the account begins with by this entry and those in front
+-- the opening accumulators of the entry's account, by this entry and the earlier ones
 abbrev pub opening_with : List Entry → Entry → Acc
 opening_with front entry = opening (front ++ entry ∷ []) entry.0
 
--- the place at whose column it is told that a family's sum of these accumulators is out of range: that of `met` is tried first
+-- the place of the column at which a sum of these accumulators is out of range; the sum of `met` is
+-- tested first
 abbrev pub IsSumPlace : ℕ → Acc → ℕ → Type 0
 IsSumPlace version acc place =
     ((is_in_range acc.fmet ≡ false) × (place ≡ met_place version))
     ⊎ ((is_in_range acc.fmet ≡ true) × (is_in_range acc.foop ≡ false) × (place ≡ oop_place version))
 
--- the record holds an entry of an account that doesn't stand among those in front, with which a sum of its family would leave the
--- number range, and the fault tells so at that amount's column
+-- the record has an entry of a new account that takes a sum of its family out of range, and the
+-- fault is at the column of that amount
 pub record IsBeyondSum (version : ℕ) (layout : Layout) (front : List Entry) (fields : Fields) (fault : RowFault) : Type 0 where
   pub entry : Entry
   pub read : IsEntry version layout fields entry
@@ -179,12 +183,13 @@ pub record IsBeyondSum (version : ℕ) (layout : Layout) (front : List Entry) (f
   pub sum : IsSumPlace version (opening_with front entry) place
   pub told : IsToldAt layout place Sum fault
 
--- why a record is refused behind these entries
+-- the fault of a record that follows these entries
 abbrev pub IsRecordFault : ℕ → Layout → List Entry → Fields → RowFault → Type 0
 IsRecordFault version layout front fields fault =
     HasFault layout fields fault ⊎ (IsRepeated version layout front fields fault ⊎ IsBeyondSum version layout front fields fault)
 
--- the text is a file whose records in front of this number are entries, and this record is refused
+-- the text is a file whose records before this number have entries, and the record with this number
+-- has the fault
 pub record RefusesRecord (version : ℕ) (text : List ℕ) (number : ℕ) (fault : RowFault) : Type 0 where
   pub layout : Layout
   pub records : List Fields
@@ -196,14 +201,15 @@ pub record RefusesRecord (version : ℕ) (text : List ℕ) (number : ℕ) (fault
   pub refused : slice_get records (number - 1) ≡ Some fields
   pub reason : IsRecordFault version layout front fields fault
 
--- the text is no file of balances under a plan of this version, for this reason; of want of memory nothing is said
+-- the text is not a file of balances under a plan of this version, for this reason; nothing is
+-- stated if memory runs out
 abbrev pub HasBalanceFault : ℕ → List ℕ → BalanceFault → Type 0
 HasBalanceFault version text (File file.OutOfMemory) = ⊥
 HasBalanceFault version text (File fault) = HasFileFault (balance_columns version) text fault
 HasBalanceFault version text (Row number fault) = RefusesRecord version text number fault
 HasBalanceFault version text OutOfMemory = Unit {0}
 
--- the balances have these entries, no account twice
+-- the balances have exactly these entries, whose accounts are distinct
 pub record HoldsEntries (entries : List Entry) (balances : List Book) : Type 0 where
   pub distinct : AllPairs (λ a b. a.0 ≢ b.0) entries
   pub once : AreOnce balances
@@ -211,8 +217,8 @@ pub record HoldsEntries (entries : List Entry) (balances : List Book) : Type 0 w
   pub lacking : (account : Account) → balance_of balances account ≡ None → All (λ e. e.0 ≢ account) entries
   pub given : (account : Account) → opening (accounts_of balances) account ≡ opening entries account
 
--- the record holds an entry, the balances have it and those in front, and what its account begins with is in the number range, the sums
--- of its family too
+-- the record has an entry of a new account, the balances have it and the earlier ones, and the
+-- opening accumulators of its account are in range
 pub record TakesEntry (version : ℕ) (layout : Layout) (front : List Entry) (fields : Fields) (balances : List Book) : Type 0 where
   pub entry : Entry
   pub read : IsEntry version layout fields entry
@@ -220,40 +226,42 @@ pub record TakesEntry (version : ℕ) (layout : Layout) (front : List Entry) (fi
   pub holds : HoldsEntries (front ++ entry ∷ []) balances
   pub in_range : AreInRange (opening_with front entry)
 
--- the household of a family in a year has a member more
+-- the family and year has one more member in the new books
 pub record Joins (holder : Holder) (member : List ℕ) (balance : Balance) (before : Members) (new : List Book) : Type 0 where
   pub after : Members
   pub found : found_in new holder ≡ Some after
   pub joined : HasJoined member balance before after
 
--- so it has by these books, and each other household is as it was
+-- the family and year has one more member, if it had some, and every other family and year is
+-- unchanged
 pub record JoinsIn (holder : Holder) (member : List ℕ) (balance : Balance) (old new : List Book) : Type 0 where
   pub own : (before : Members) → found_in old holder ≡ Some before → Joins holder member balance before new
   pub others : (other : Holder) → is_holder holder other ≡ false → found_in new other ≡ found_in old other
 
--- where the refusal of an entry is told, under a plan of this version
+-- the place of the column at which the refusal of an entry is reported, under a plan of this
+-- version
 abbrev pub refusal_place : ℕ → Refusal → ℕ
 refusal_place version Again = member_place version
 refusal_place version Met = met_place version
 refusal_place version Oop = oop_place version
 
--- the cause by which it is told
+-- the cause of the fault of a refusal
 abbrev pub refusal_cause : Refusal → RowCause
 refusal_cause Again = Repeated
 refusal_cause _ = Sum
 
--- what a year's column holds, where there is one
+-- the content of the year's column, if there is one
 abbrev pub year_contents : Bool → List Content
 year_contents true = Year ∷ []
 year_contents false = []
 
--- the columns of a file of balances
+-- the layout is that of a file of balances
 abbrev pub IsBalanceLayout : ℕ → Layout → Type 0
 IsBalanceLayout version layout =
     map (λ c. c.content) layout.columns
     ≡ family_contents (has_families version) ++ Identifier ∷ (year_contents (has_years version) ++ Money ∷ Money ∷ Money ∷ [])
 
--- three amounts of money
+-- the values are three amounts of money
 pub record AreAmounts (values : List Value) : Type 0 where
   pub balance : Balance
   pub values_are : values ≡ balance_values balance
@@ -261,8 +269,8 @@ pub record AreAmounts (values : List Value) : Type 0 where
   pub oop_money : IsMoney balance.oop
   pub paid_money : IsMoney balance.paid
 
--- values of the kinds that an entry has: a family, where there is a column for it, a member, a year, where there is one for it, and
--- three amounts
+-- the values have the kinds of an entry's values: a family if there is a column for it, a member, a
+-- year if there is a column for it, and three amounts
 pub record IsEntryShaped (version : ℕ) (values : List Value) : Type 0 where
   pub family : Option (List ℕ)
   pub has_family : is_some family ≡ has_families version
@@ -273,10 +281,11 @@ pub record IsEntryShaped (version : ℕ) (values : List Value) : Type 0 where
   pub kept : IsKept (has_years version) year
   pub are_amounts : AreAmounts amounts
 
--- a year that stands in front of values, or 0 where there is no column of years
+-- the year is the first value and is followed by the new values, or it is 0 and has no value
+-- without a column of the year
 abbrev pub TakesYear : Bool → List Value → ℕ → List Value → Type 0
 TakesYear years old year new = (old ≡ year_values years year ++ new) × IsKept years year
 
--- values that a year stands in front of, if there is a column of years
+-- the values begin with a year, if there is a column of the year
 abbrev pub BeginsWithYear : Bool → List Value → Type 0
 BeginsWithYear years values = (year : ℕ) × (rest : List Value) × TakesYear years values year rest

@@ -1,4 +1,4 @@
--- What a report needs of a row: whose claim it is, by the places of the record's fields, or the fault.
+-- The summary of a row: the places of the fields that identify the claim, or the fault.
 use Rattle.std.specs.Prelude.{◌≡◌, ℕ, ℤ, IsUtf8, List, Option, Some, None}
 use Rattle.csv.specs.Records.{field_at}
 use Rattle.feel_tests.specs.Plain.{SpellsPlain}
@@ -13,43 +13,43 @@ use Rattle.intake_csv.specs.declared.brief.Claimant.{Claimant}
 use Rattle.intake_csv.specs.declared.rows.Row.{Row}
 use Rattle.intake_csv.specs.declared.rows.Row.TheVariants.{Good, Bad}
 
--- the record's field at this place is the text
+-- the field at the place is the text
 abbrev pub StandsAt : Fields → ℕ → List ℕ → Type 0
 StandsAt fields place text = field_at fields place ≡ Some text
 
--- the record's field at the place that is given is the text, or there is neither a place nor a text
+-- the field at the place is the text, or there is neither a place nor a text
 abbrev pub MayStandAt : Fields → Option ℕ → Option (List ℕ) → Type 0
 MayStandAt fields None None = Unit {0}
 MayStandAt fields (Some place) (Some text) = StandsAt fields place text
 MayStandAt fields _ _ = ⊥
 
--- the record's field at this place is a text that spells the day
+-- the field at the place is a text that denotes the date
 pub record DayStandsAt (fields : Fields) (place : ℕ) (day : ℤ) : Type 0 where
   pub bytes : List ℕ
   pub field : field_at fields place ≡ Some bytes
   pub text : IsUtf8 bytes
   pub spells : SpellsPlain kinds.Day bytes (Day day)
 
--- these are the places of the fields that tell whose the claim is, and of the day of its service
+-- these are the places of the claim's identifier, family, member and date of service
 pub record IsClaimantOf (fields : Fields) (claimant : Claimant) (claim : Claim) : Type 0 where
   pub id : StandsAt fields claimant.id claim.id
   pub family : MayStandAt fields claimant.family claim.family
   pub member : StandsAt fields claimant.member claim.member
   pub service : DayStandsAt fields claimant.service claim.service
 
--- what is told of the row that the record gives
+-- the summary is that of the row of the record
 abbrev pub IsBriefOf : Fields → Brief → Row → Type 0
 IsBriefOf fields (brief.Good n p claimant) (Good number place claim) = (n ≡ number) × (p ≡ place) × IsClaimantOf fields claimant claim
 IsBriefOf fields (brief.Bad n f) (Bad number fault) = (n ≡ number) × (f ≡ fault)
 IsBriefOf fields _ _ = ⊥
 
--- what is told of a row, or nothing where there is none
+-- the summary is that of the row, or there is neither a summary nor a row
 abbrev pub Tells : Fields → Option Brief → Option Row → Type 0
 Tells fields None None = Unit {0}
 Tells fields (Some told) (Some row) = IsBriefOf fields told row
 Tells fields _ _ = ⊥
 
--- a reader gives some row, of which this is told
+-- the reader returns the summary of its next row
 pub record GivesBrief (old new : RowsLeft) (fields : Fields) (told : Option Brief) : Type 0 where
   pub row : Option Row
   pub gives : Gives old new row

@@ -1,4 +1,4 @@
--- What the field of a record holds under its column, or what is wrong with it.
+-- The value of a field in its column, or its fault.
 use Rattle.std.specs.Prelude.{◌≡◌, ◌≢◌, ◌<◌, ℕ, ℤ, true, List, [], length, IsUtf8, Result, Ok, Err}
 use Rattle.fixpoint.specs.Number.{is_negative}
 use Rattle.fixpoint.specs.NumberText.{Denotes}
@@ -15,36 +15,37 @@ use Rattle.intake_csv.specs.declared.column.Content.TheVariants as contents
 use Rattle.faults.specs.declared.file_fault.RowCause.{RowCause}
 use Rattle.faults.specs.declared.file_fault.RowCause.TheVariants.{FieldCount, Utf8, TooLong, EmptyId, Value as NoValue, NotCents, Negative, Repeated, Sum}
 
--- four digits that are a year
+-- the bytes are the four digits of a year
 abbrev pub IsYear : List ℕ → Type 0
 IsYear bytes = (year : ℕ) × IsYearText bytes year
 
--- the whole field spells the value: a value of the column's kind, and under a year's column a year
+-- the whole field denotes the value, which has the column's kind; in a column of years it is a year
 pub record Spells (content : Content) (bytes : List ℕ) (value : Value) : Type 0 where
   pub plain : SpellsPlain (kind_under content) bytes value
   pub year : content ≡ contents.Year → IsYear bytes
 
--- what is asked of a value beside its spelling: an identifier isn't empty, an amount is money
+-- the value satisfies the constraint of its column: an identifier is not empty, and an amount is
+-- money
 abbrev pub IsAllowed : Content → List ℕ → Value → Type 0
 IsAllowed contents.Identifier bytes value = bytes ≢ []
 IsAllowed contents.Money bytes value = (units : ℤ) × (value ≡ Number units) × IsMoney units
 IsAllowed contents.Year bytes value = Unit {0}
 IsAllowed (contents.Plain kind) bytes value = Unit {0}
 
--- the whole field spells the value, and it is allowed under the column
+-- the field has the value: it denotes the value, and the value is allowed in the column
 pub record Holds (content : Content) (bytes : List ℕ) (value : Value) : Type 0 where
   pub text : IsText bytes
   pub spells : Spells content bytes value
   pub allowed : IsAllowed content bytes value
 
--- the field is a number that isn't in whole cents
+-- the field is a number that is not a whole count of cents
 pub record IsNotCents (bytes : List ℕ) : Type 0 where
   pub text : IsText bytes
   pub units : ℤ
   pub denotes : Denotes bytes units
   pub finer : ¬ IsCents units
 
--- the field is a number in whole cents that is below zero
+-- the field is a negative whole count of cents
 pub record IsBelowZero (bytes : List ℕ) : Type 0 where
   pub text : IsText bytes
   pub units : ℤ
@@ -52,7 +53,7 @@ pub record IsBelowZero (bytes : List ℕ) : Type 0 where
   pub cents : IsCents units
   pub below : is_negative units ≡ true
 
--- what is wrong with the field under the column; each fault supposes that those tried before it aren't there
+-- the field has this fault in the column; a fault excludes those that are tested before it
 abbrev pub IsFaulty : Content → List ℕ → RowCause → Type 0
 IsFaulty content bytes Utf8 = ¬ IsUtf8 bytes
 IsFaulty content bytes TooLong = IsUtf8 bytes × (text_limit_bytes < length bytes)
@@ -64,11 +65,11 @@ IsFaulty content bytes FieldCount = ⊥
 IsFaulty content bytes Repeated = ⊥
 IsFaulty content bytes Sum = ⊥
 
--- nothing is wrong with it
+-- the field has no fault
 abbrev pub IsFaultless : Content → List ℕ → Type 0
 IsFaultless content bytes = (cause : RowCause) → ¬ IsFaulty content bytes cause
 
--- what the reading of a field gives: its value where nothing is wrong with it, or else what is
+-- the result of reading a field: its value if it has no fault, and otherwise its fault
 abbrev pub IsFieldRead : Content → List ℕ → Result Value RowCause → Type 0
 IsFieldRead content bytes (Ok value) = Holds content bytes value × IsFaultless content bytes
 IsFieldRead content bytes (Err cause) = IsFaulty content bytes cause

@@ -1,4 +1,4 @@
--- What the search of a header for the needed columns answers.
+-- The result of the search for the required columns in a header.
 use Rattle.std.specs.Prelude.{◌≡◌, ◌<◌, ℕ, Bool, true, false, List, Some}
 use Rattle.std.specs.List.{All, Any}
 use Rattle.csv.specs.Records.{field_at}
@@ -11,13 +11,13 @@ use Rattle.intake_csv.specs.declared.header.Standing.TheVariants.{Missing, Once,
 use Rattle.faults.specs.declared.file_fault.FileFault.{FileFault}
 use Rattle.faults.specs.declared.file_fault.FileFault.TheVariants.{TooLarge, NoHeader, MissingColumn, DuplicateColumn, OutOfMemory}
 
--- how the name stands in the header
+-- the occurrences of the name in the header
 abbrev pub StandsAs : List ℕ → Fields → Standing → Type 0
 StandsAs name header Missing = times name header ≡ 0
 StandsAs name header (Once place) = (times name header ≡ 1) × (field_at header place ≡ Some name)
 StandsAs name header Repeated = 1 < times name header
 
--- the header lacks a needed column, or has them all and one of them more than once
+-- the header lacks a required column, or it has all of them and one more than once
 abbrev pub HasColumnFault : Fields → List Needed → FileFault → Type 0
 HasColumnFault header needed MissingColumn = Any (IsMissing header) needed
 HasColumnFault header needed DuplicateColumn = All (IsThere header) needed × Any (IsRepeated header) needed
@@ -25,20 +25,20 @@ HasColumnFault header needed OutOfMemory = Unit {0}
 HasColumnFault header needed TooLarge = ⊥
 HasColumnFault header needed NoHeader = ⊥
 
--- how the name stands once a place more was looked at, which has it or not
+-- the occurrences after one more place, which has the name or another one
 abbrev pub stands_after : Standing → ℕ → Bool → Standing
 stands_after standing place false = standing
 stands_after Missing place true = Once place
 stands_after (Once first) place true = Repeated
 stands_after Repeated place true = Repeated
 
--- what was found of these needed columns: all of them, each once, or one of them more than once
+-- the result for these required columns: all of them occur, each once or one of them more than once
 pub record AreFound (header : Fields) (needed : List Needed) (found : Found) : Type 0 where
   pub all : All (IsThere header) needed
   pub columns : found.repeated ≡ false → AreColumnsOf header needed found.columns
   pub repeats : found.repeated ≡ true → Any (IsRepeated header) needed
 
--- a column isn't found where its name stands nowhere; of want of memory nothing is said
+-- a column is missing if its name does not occur; nothing is stated if memory runs out
 abbrev pub MissesColumn : Fields → Needed → FileFault → Type 0
 MissesColumn header needed MissingColumn = IsMissing header needed
 MissesColumn header needed OutOfMemory = Unit {0}

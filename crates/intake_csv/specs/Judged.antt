@@ -1,4 +1,4 @@
--- What is found of a record whose values are not made.
+-- The validation of a record without its values.
 use Rattle.std.specs.Prelude.{ℕ, List, Option, Result, Ok, Err}
 use Rattle.feel_tests.specs.declared.value.Value.{Value}
 use Rattle.intake_csv.specs.Records.{Fields}
@@ -10,15 +10,15 @@ use Rattle.intake_csv.specs.declared.column.Content.{Content}
 use Rattle.faults.specs.declared.file_fault.RowCause.{RowCause}
 use Rattle.faults.specs.declared.file_fault.RowFault.{RowFault}
 
--- something is wrong with the record's field under the column
+-- the field of the column has a fault
 abbrev pub IsRefusedUnder : Fields → Column → Type 0
 IsRefusedUnder fields column = (cause : RowCause) × IsFaultyUnder fields cause column
 
--- the field holds some value under the column, and nothing is wrong with it; or else this is
+-- the field has a value and no fault, or the result is its first fault
 abbrev pub IsFieldJudged : Content → List ℕ → Result (Unit {0}) RowCause → Type 0
 IsFieldJudged content bytes (Ok done) = ((value : Value) × Holds content bytes value) × IsFaultless content bytes
 IsFieldJudged content bytes (Err cause) = IsFaulty content bytes cause
 
--- some values stand under the columns, and nothing is wrong with them; or else this is the first fault
+-- the columns have values and no fault, or the result is their first fault
 abbrev pub AreJudged : Fields → List Column → Option RowFault → Type 0
 AreJudged fields columns first = (values : List Value) × SoFar fields columns values first

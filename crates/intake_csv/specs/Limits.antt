@@ -1,6 +1,6 @@
--- The limits of a file.
+-- The size limit of a file.
 use Rattle.std.specs.Prelude.{ℕ}
 
--- how many bytes a file has at most
+-- the greatest size of a file, in bytes
 abbrev pub file_limit_bytes : ℕ
 file_limit_bytes = 16777216

@@ -1,4 +1,4 @@
--- What is known of the reader of `csv` under a reader of records.
+-- The state of the `csv` reader inside a reader of records.
 use Rattle.std.specs.Prelude.{◌≡◌, ℕ, List, [], Some}
 use Rattle.std.specs.Borrow.{Bor}
 use Rattle.csv.specs.Reading.{AreRecords, Ready, default_config, source_of}
@@ -8,7 +8,7 @@ use Rattle.intake_csv.specs.Records.{Fields}
 use Rattle.intake_csv.specs.declared.records.Stage.{Stage}
 use Rattle.intake_csv.specs.declared.records.Stage.TheVariants.{Reading, Over, Failed}
 
--- it has these records left
+-- the reader has these remaining records
 pub record HasLeft (reader : Reader (Bor (List ℕ))) (rows : List Fields) : Type 0 where
   pub untrimmed : reader.trim ≡ trim.None
   pub ready : Ready reader
@@ -17,7 +17,7 @@ pub record HasLeft (reader : Reader (Bor (List ℕ))) (rows : List Fields) : Typ
   pub source : source_of (λ s. Some s.now) reader ≡ Some bytes
   pub are : AreRecords default_config reader.state bytes rows
 
--- it has these records left, as far as it is known at this stage
+-- the reader has these remaining records, as far as the stage determines them
 abbrev pub IsAtStage : Stage → Reader (Bor (List ℕ)) → List Fields → Type 0
 IsAtStage Reading reader rows = HasLeft reader rows
 IsAtStage Over reader rows = rows ≡ []

@@ -1,4 +1,4 @@
-//! Opening balances: what accounts have before the first claim.
+//! The opening balances of accounts, before their first claim of a run.
 ghost use Rattle.std.specs.Prelude.{◌≡◌, ◌≤◌, ◌<◌, ◌+◌, ◌++◌, ◌∷◌, [], List, length, map, drop, get_or, cond, string_bytes, IfOk, IfErr, OnOk, slice_index_or, IsSome, None, Some};
 ghost use Rattle.std.specs.List.{slice_get};
 ghost use Rattle.std.specs.Option.{option_and_then, option_copied};
@@ -30,9 +30,12 @@ use std::collections::BTreeMap;
 use std::marker::Model;
 use std::vec;
 
-/// What accounts begin with in each year. Contracts see the families of each year, each with its members and what these begin with; a
-/// year's place is its number. Where accumulators aren't kept by the year, all families stand at the place 0; where they aren't kept
-/// for families, each member is one of its own.
+/// The opening balances of a file.
+///
+/// Contracts see a list with an entry for each year: the families of that year, and the members of
+/// each family with their balances. If the plan does not keep accumulators by benefit year, all
+/// families are in the entry of year 0. If it does not keep accumulators for families, each member
+/// is its own family.
 #[derive(Drop)]
 pub struct Balances {
     years: Vec<BTreeMap<String, Household>>,
@@ -49,9 +52,14 @@ impl Model for Balances {
     ghost invariant = { λ balances. AreOnce (books_of balances.years.items) };
 }
 
-/// Reads a file of balances, one record for each account that has any: for each member, and for each year, each family, where the
-/// plan keeps accumulators by these. The first record that is refused refuses the file: one that names an account again, too, or
-/// with which a family's sum leaves the number range.
+/// Reads a file of balances. It has one record for each account: for each member, and also for each
+/// family and benefit year if the plan keeps accumulators by these.
+///
+/// # Errors
+///
+/// Returns the fault of the file, or the fault of its first refused record. A record is also
+/// refused if it repeats an account (`Repeated`), or if it takes a sum of a family out of range
+/// (`Sum`).
 pub fn read_balances(alloc: Global, plan: &Plan, text: &[u8]) -> Result<Balances, BalanceFault>
     ensures ok { IfOk result (AreBalances plan.now.version text.now) }
     ensures fault { IfErr result (HasBalanceFault plan.now.version text.now) }
@@ -59,7 +67,6 @@ pub fn read_balances(alloc: Global, plan: &Plan, text: &[u8]) -> Result<Balances
     read_by(alloc, plan.version(), text)
 }
 
-// Reads a file of balances under a plan of this version.
 #[tactic(auto, using(crate::proofs::Books::none_once, crate::proofs::Entries::read_none))]
 fn read_by(alloc: Global, version: u8, text: &[u8]) -> Result<Balances, BalanceFault>
     ensures ok { IfOk result (AreBalances version text.now) }
@@ -85,7 +92,6 @@ fn read_by(alloc: Global, version: u8, text: &[u8]) -> Result<Balances, BalanceF
     Ok(balances)
 }
 
-// The file of a text that has the columns of balances.
 fn balance_sheet<'t>(alloc: Global, version: u8, text: &'t [u8]) -> Result<Sheet<'t>, BalanceFault>
     ensures ok { IfOk result (IsSheetOf (balance_columns version) text.now) }
     ensures fault { IfErr result (HasBalanceFault version text.now) }
@@ -98,7 +104,7 @@ fn balance_sheet<'t>(alloc: Global, version: u8, text: &'t [u8]) -> Result<Sheet
     }
 }
 
-/// Whose balance a record holds, and the balance.
+/// The account of a record, and its balance.
 struct Entry {
     family: Option<Text>,
     member: Text,
@@ -118,7 +124,7 @@ impl Drop for Entry {
 }
 
 impl Entry {
-    // The family: the member alone, where the plan keeps no families.
+    // Without a family, the member is its own family.
     fn family(&self) -> &str
         ensures { result.now ≡ named_or self.now.family self.now.member }
     {
@@ -130,12 +136,14 @@ impl Entry {
 }
 
 impl Balances {
-    /// The accumulators that the account of a member of a family begins with in a year: its own are zeros where the balances don't
-    /// name it; the family's are sums over all its members. Where accumulators aren't kept by the year, the year is 0; where they
-    /// aren't kept for families, the member is the family, too.
+    /// Returns the opening accumulators of a member in a family and year. Its own amounts are zero
+    /// if it has no balance. The family's sums are over all members of the family. If the plan does
+    /// not keep accumulators by benefit year, the year must be 0; if it does not keep them for
+    /// families, `family` must be the member.
     #[tactic(auto, using(crate::proofs::Books::begun_some, crate::proofs::Books::begun_none))]
     pub fn of(&self, family: &str, member: &str, year: u16) -> Acc
-        ensures { result ≡ opening (accounts_of self.now) (record { family = family.now; member = member.now; year = year }) }
+        ensures { result ≡ opening (accounts_of self.now)
+            (record { family = family.now; member = member.now; year = year }) }
     {
         match self.find(family, year) {
             Some(household) => household.opening(member),
@@ -143,7 +151,6 @@ impl Balances {
         }
     }
 
-    // The household of a family in a year.
     #[tactic(auto, using(crate::proofs::Books::found_within, crate::proofs::Books::found_beyond))]
     fn find(&self, family: &str, year: u16) -> Option<&Household>
         ensures found { option_copied result ≡ found_in self.now (family.now, year) }
@@ -156,7 +163,7 @@ impl Balances {
         self.years[place].get(family)
     }
 
-    // Reads one record more: its entry, or why it is refused.
+    // Adds the entry of one more record, or returns its fault.
     fn read(
         &mut self,
         alloc: Global,
@@ -166,9 +173,11 @@ impl Balances {
     ) -> Result<Result<(), RowFault>, AllocError>
         requires within { IsWithin layout.now }
         requires balances { IsBalanceLayout version layout.now }
-        ensures entry { IfOk result (λ read. OnOk read ((front : List AnyEntry) → HoldsEntries front self.old
+        ensures entry { IfOk result (λ read. OnOk read ((front : List AnyEntry)
+            → HoldsEntries front self.old
             → TakesEntry version layout.now front row.now self.new)) }
-        ensures refused { IfOk result (λ read. IfErr read (λ fault. (front : List AnyEntry) → HoldsEntries front self.old
+        ensures refused { IfOk result (λ read. IfErr read (λ fault. (front : List AnyEntry)
+            → HoldsEntries front self.old
             → IsRecordFault version layout.now front row.now fault)) }
     {
         let entry = match read_record(alloc, layout, row)? {
@@ -182,10 +191,11 @@ impl Balances {
         Ok(Ok(()))
     }
 
-    // Why an entry can't be put behind the others, if it can't.
     #[tactic(auto, using(crate::proofs::Books::refused_some))]
     fn refusal(&self, entry: &Entry) -> Option<Refusal>
-        ensures { result ≡ option_and_then (λ members. refused_behind members (balance_in members entry.now.member) entry.now.balance)
+        ensures { result ≡ option_and_then
+            (λ members.
+            refused_behind members (balance_in members entry.now.member) entry.now.balance)
             (found_in self.now (named_or entry.now.family entry.now.member, entry.now.year)) }
     {
         match self.find(entry.family(), entry.year) {
@@ -194,12 +204,21 @@ impl Balances {
         }
     }
 
-    // Puts an entry behind the others, where it can be.
+    // Adds an entry that is not refused.
     fn put(&mut self, alloc: Global, entry: Entry) -> Result<(), AllocError>
-        requires { option_and_then (λ members. refused_behind members (balance_in members entry.member) entry.balance)
+        requires { option_and_then
+            (λ members.
+            refused_behind members (balance_in members entry.member) entry.balance)
             (found_in self.old (named_or entry.family entry.member, entry.year)) ≡ None }
         ensures { OnOk result ((front : List AnyEntry) → HoldsEntries front self.old
-            → HoldsEntries (front ++ (record { family = named_or entry.family entry.member; member = entry.member; year = entry.year }, entry.balance) ∷ []) self.new) }
+            → HoldsEntries (front ++ (
+              record {
+                family = named_or entry.family entry.member;
+                member = entry.member;
+                year = entry.year;
+              },
+              entry.balance,
+            ) ∷ []) self.new) }
     {
         let name = String::from_str(alloc, entry.member.as_str())?;
         if self.find(entry.family(), entry.year).is_some() {
@@ -218,11 +237,12 @@ impl Balances {
     }
 }
 
-// The fault that tells a refusal, at the column that it is told at.
+// Returns the fault of a refusal, with the number of its column.
 fn fault_of(layout: &Layout, version: u8, refusal: Refusal) -> RowFault
     requires within { IsWithin layout.now }
     requires there { refusal_place version refusal < length layout.now.columns }
-    ensures { (column : AnyColumn) → slice_get layout.now.columns (refusal_place version refusal) ≡ Some column
+    ensures { (column : AnyColumn)
+        → slice_get layout.now.columns (refusal_place version refusal) ≡ Some column
         → result ≡ record { column = column.place + 1; cause = refusal_cause refusal } }
 {
     let place = refusal_place(version, refusal);
@@ -232,7 +252,7 @@ fn fault_of(layout: &Layout, version: u8, refusal: Refusal) -> RowFault
     }
 }
 
-// Where among the needed columns a refusal is told.
+// Returns the place of the column that a refusal is reported at, among the required columns.
 fn refusal_place(version: u8, refusal: Refusal) -> usize
     ensures { result ≡ refusal_place version refusal }
 {
@@ -243,7 +263,7 @@ fn refusal_place(version: u8, refusal: Refusal) -> usize
     }
 }
 
-// Where among the needed columns the member's stands.
+// Returns the place of the member's column among the required columns.
 fn member_place(version: u8) -> usize
     ensures value { result ≡ member_place version }
     ensures small { result ≤ 1 }
@@ -251,7 +271,7 @@ fn member_place(version: u8) -> usize
     if has_families(version) { 1 } else { 0 }
 }
 
-// Where the one of what was met stands.
+// Returns the place of the column `met` among the required columns.
 fn met_place(version: u8) -> usize
     ensures value { result ≡ met_place version }
     ensures small { result ≤ 3 }
@@ -273,13 +293,13 @@ fn refusal_cause(refusal: Refusal) -> RowCause
     }
 }
 
-// Makes room for a year.
 fn make_room(
     alloc: Global,
     years: &mut Vec<BTreeMap<String, Household>>,
     year: u16,
 ) -> Result<(), AllocError>
-    ensures same { (holder : AnyHolder) → found_in (books_of years.new.items) holder ≡ found_in (books_of years.old.items) holder }
+    ensures same { (holder : AnyHolder) → found_in (books_of years.new.items) holder
+        ≡ found_in (books_of years.old.items) holder }
     ensures once { AreOnce (books_of years.old.items) → AreOnce (books_of years.new.items) }
     ensures room { OnOk result (year < length years.new.items) }
 {
@@ -290,10 +310,11 @@ fn make_room(
     Ok(())
 }
 
-// One year more, in which nobody has a balance.
+// Appends a year without balances.
 #[tactic(auto, using(crate::proofs::Books::room_found, crate::proofs::Books::room_kept))]
 fn add_year(alloc: Global, years: &mut Vec<BTreeMap<String, Household>>) -> Result<(), AllocError>
-    ensures same { (holder : AnyHolder) → found_in (books_of years.new.items) holder ≡ found_in (books_of years.old.items) holder }
+    ensures same { (holder : AnyHolder) → found_in (books_of years.new.items) holder
+        ≡ found_in (books_of years.old.items) holder }
     ensures once { AreOnce (books_of years.old.items) → AreOnce (books_of years.new.items) }
     ensures room { OnOk result (length years.new.items ≡ length years.old.items + 1) }
 {
@@ -301,7 +322,7 @@ fn add_year(alloc: Global, years: &mut Vec<BTreeMap<String, Household>>) -> Resu
     Ok(())
 }
 
-// Adds the household of a family that isn't there in a year for which there is room.
+// Adds a new family to a year that has an entry.
 fn add(
     years: &mut Vec<BTreeMap<String, Household>>,
     family: String,
@@ -310,8 +331,11 @@ fn add(
 ) -> Result<(), AllocError>
     requires room { year < length years.old.items }
     requires once { AreOnceBy bytes_eq household }
-    ensures added { OnOk result ((holder : AnyHolder) → found_in (books_of years.new.items) holder
-        ≡ cond (is_holder (string_bytes family, year) holder) (Some household) (found_in (books_of years.old.items) holder)) }
+    ensures added { OnOk result ((holder : AnyHolder)
+        → found_in (books_of years.new.items) holder
+        ≡ cond (is_holder (string_bytes family, year) holder)
+        (Some household)
+        (found_in (books_of years.old.items) holder)) }
     ensures once { AreOnce (books_of years.old.items) → AreOnce (books_of years.new.items) }
 {
     match years[usize::from(year)].insert(family, household) {
@@ -320,7 +344,7 @@ fn add(
     }
 }
 
-// Puts a member behind the others of its family, where it can be.
+// Adds a member, whose balance is not refused, to its family.
 fn join(
     years: &mut Vec<BTreeMap<String, Household>>,
     family: &str,
@@ -329,9 +353,12 @@ fn join(
     balance: Balance,
 ) -> Result<(), AllocError>
     requires there { IsSome (found_in (books_of years.old.items) (family.now, year)) }
-    requires free { option_and_then (λ members. refused_behind members (balance_in members (string_bytes member)) balance)
+    requires free { option_and_then
+        (λ members.
+        refused_behind members (balance_in members (string_bytes member)) balance)
         (found_in (books_of years.old.items) (family.now, year)) ≡ None }
-    ensures joined { OnOk result (JoinsIn (family.now, year) (string_bytes member) balance (books_of years.old.items) (books_of years.new.items)) }
+    ensures joined { OnOk result (JoinsIn (family.now, year) (string_bytes member) balance
+        (books_of years.old.items) (books_of years.new.items)) }
     ensures once { AreOnce (books_of years.old.items) → AreOnce (books_of years.new.items) }
 {
     match years[usize::from(year)].get_mut(family) {
@@ -340,7 +367,6 @@ fn join(
     }
 }
 
-// The columns that a file of balances needs.
 fn balance_columns(alloc: Global, version: u8) -> Result<Sequence<Needed>, AllocError>
     ensures { IfOk result (λ needed. needed ≡ balance_columns version) }
 {
@@ -354,7 +380,7 @@ fn balance_columns(alloc: Global, version: u8) -> Result<Sequence<Needed>, Alloc
     Ok(needed)
 }
 
-// Puts the column of years behind the others, if there is to be one.
+// Appends the column of the year, if the plan keeps accumulators by benefit year.
 fn push_year(alloc: Global, needed: &mut Sequence<Needed>, years: bool) -> Result<(), AllocError>
     ensures { OnOk result (needed.new ≡ needed.old ++ year_columns years) }
 {
@@ -365,11 +391,21 @@ fn push_year(alloc: Global, needed: &mut Sequence<Needed>, years: bool) -> Resul
     }
 }
 
-// The entry of a record's values.
 fn entry_of(values: Vec<Value>, version: u8) -> Entry
     requires { IsEntryShaped version values.items }
-    ensures values { values.items ≡ entry_values version (record { family = named_or result.family result.member; member = result.member; year = result.year }, result.balance) }
-    ensures kept { IsKeptUnder version (record { family = named_or result.family result.member; member = result.member; year = result.year }) }
+    ensures values { values.items ≡ entry_values version (
+      record {
+        family = named_or result.family result.member;
+        member = result.member;
+        year = result.year;
+      },
+      result.balance,
+    ) }
+    ensures kept { IsKeptUnder version (record {
+      family = named_or result.family result.member;
+      member = result.member;
+      year = result.year;
+    }) }
 {
     let mut values = values.into_iter();
     let family = take_family(&mut values, has_families(version));
@@ -384,7 +420,6 @@ fn entry_of(values: Vec<Value>, version: u8) -> Entry
     }
 }
 
-// The balance of three amounts.
 fn balance_of(values: vec::IntoIter<Value>) -> Balance
     requires { AreAmounts (into_iter_items values) }
     ensures { into_iter_items values ≡ balance_values result }
@@ -396,7 +431,7 @@ fn balance_of(values: vec::IntoIter<Value>) -> Balance
     Balance { met, oop, paid }
 }
 
-// Takes the first value, a year; 0, and no value, where there is no column of years.
+// Takes the first value as the year. Without a column of the year, it takes no value and returns 0.
 fn take_year(values: &mut vec::IntoIter<Value>, years: bool) -> u16
     requires { BeginsWithYear years (into_iter_items values.old) }
     ensures { TakesYear years (into_iter_items values.old) result (into_iter_items values.new) }

@@ -1,31 +1,32 @@
-//! What a report needs of a row.
+//! The summary of a row, which has what a report needs.
 use faults::RowFault;
 
-/// A row of a file of claims, in brief: whose claim it is, and not what else it holds.
+/// The summary of a row of a claim file: the columns that identify a claim, or the fault.
 #[derive(Clone, Copy, Drop)]
 pub enum Brief {
-    /// A claim: its number counts the records behind the header, from 1, and its place the claims, from 0.
+    /// A claim. Its number is that of its record after the header, from 1. Its place is its index
+    /// among the claims of the file, from 0.
     Good {
         number: usize,
         place: usize,
         claimant: Claimant,
     },
-    /// A record that is refused, with its number and its first fault.
+    /// A refused record, with its number and its first fault.
     Bad {
         number: usize,
         fault: RowFault,
     },
 }
 
-/// Whose a claim is, by the record that holds it: the places of its fields count from 0.
+/// The places of the fields that identify a claim in its record, from 0.
 #[derive(Clone, Copy, Drop)]
 pub struct Claimant {
     /// The place of the claim's identifier.
     pub id: usize,
-    /// The place of the family's identifier, where there is a column for it.
+    /// The place of the family's identifier, if there is a column for it.
     pub family: Option<usize>,
     /// The place of the member's identifier.
     pub member: usize,
-    /// The place of the day of the service.
+    /// The place of the date of service.
     pub service: usize,
 }

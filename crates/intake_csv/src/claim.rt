@@ -1,4 +1,4 @@
-//! Claims, each read straight from its record.
+//! The reader of claims, which makes each claim directly from its record.
 ghost use Rattle.std.specs.Prelude.{◌≡◌, ◌<◌, ◌++◌, ◌^◌, length, map, IfOk, IfErr, IfSome, IfNone, OnOk};
 ghost use Rattle.std.specs.List.{All, Any};
 ghost use Rattle.intake_csv.specs.Columns.{claim_columns, family_columns, needed, own_columns};
@@ -18,7 +18,7 @@ use feel_tests::{Kind, Text};
 use settlement::{Claim, fields_of};
 use std::alloc::{AllocError, Global};
 
-/// The columns that a file of claims needs under a plan.
+/// Returns the required columns of a claim file under a plan.
 pub fn claim_columns(alloc: Global, plan: &Plan) -> Result<Sequence<Needed>, AllocError>
     ensures { IfOk result (λ needed. needed ≡ claim_columns plan.now.names) }
 {
@@ -39,7 +39,7 @@ fn own_columns(alloc: Global, families: bool) -> Result<Sequence<Needed>, AllocE
     Ok(needed)
 }
 
-/// Puts the column of families behind the others, if there is to be one.
+/// Appends the column of the family, if the plan keeps accumulators for families.
 pub fn push_family(
     alloc: Global,
     needed: &mut Sequence<Needed>,
@@ -59,7 +59,8 @@ fn push_fields(
     columns: &mut Sequence<Needed>,
     fields: &[InputData],
 ) -> Result<(), AllocError>
-    ensures { OnOk result (columns.new ≡ columns.old ++ map (λ d. needed d.name (contents.Plain d.kind)) fields.now) }
+    ensures { OnOk result (columns.new
+        ≡ columns.old ++ map (λ d. needed d.name (contents.Plain d.kind)) fields.now) }
 {
     for field in fields {
         push_column(
@@ -72,7 +73,8 @@ fn push_fields(
     Ok(())
 }
 
-/// Reads a record of a file of claims: a claim, or its first fault. A record that is refused is judged once more for the fault that stands furthest left.
+/// Reads a record of a claim file, and returns its claim or its first fault. A record without a
+/// claim is validated once more, to find the leftmost fault.
 pub fn read_claim(
     alloc: Global,
     layout: &Layout,
@@ -80,7 +82,8 @@ pub fn read_claim(
 ) -> Result<Result<Claim, RowFault>, AllocError>
     requires within { IsWithin layout.now }
     requires claims { IsClaimLayout layout.now }
-    ensures claim { IfOk result (λ read. IfOk read (λ claim. HasValues layout.now row.now (claim_values claim))) }
+    ensures claim { IfOk result (λ read. IfOk read (λ claim.
+        HasValues layout.now row.now (claim_values claim))) }
     ensures fault { IfOk result (λ read. IfErr read (HasFault layout.now row.now)) }
 {
     if row.len() != layout.width {
@@ -98,13 +101,15 @@ pub fn read_claim(
     }
 }
 
-// The claim that stands under these columns, or none where a field is refused.
+// Returns the claim of these columns, or `None` if a field is refused.
 fn claim_under(alloc: Global, layout: &Layout, row: &Line) -> Result<Option<Claim>, AllocError>
     requires within { All (λ c. c.place < length row.now) layout.now.columns }
     requires small { length row.now < 2 ^ 64 }
     requires claims { IsClaimLayout layout.now }
-    ensures claim { IfOk result (λ read. IfSome read (λ claim. AreValues row.now layout.now.columns (claim_values claim))) }
-    ensures none { IfOk result (λ read. IfNone read (Any (IsRefusedUnder row.now) layout.now.columns)) }
+    ensures claim { IfOk result (λ read. IfSome read (λ claim.
+        AreValues row.now layout.now.columns (claim_values claim))) }
+    ensures none { IfOk result (λ read. IfNone read
+        (Any (IsRefusedUnder row.now) layout.now.columns)) }
 {
     let [id, behind @ ..] = layout.columns.as_slice() else {
         unreachable!();
@@ -124,7 +129,7 @@ fn claim_under(alloc: Global, layout: &Layout, row: &Line) -> Result<Option<Clai
     claim_behind(alloc, id, Some(family), behind, row)
 }
 
-// The claim of this number and family that goes on under these columns, from its member on.
+// Returns the claim with this identifier and family. The columns are those from the member onwards.
 fn claim_behind(
     alloc: Global,
     id: Text,
@@ -163,7 +168,8 @@ fn claim_behind(
     }))
 }
 
-/// Whether a file of claims with these columns has one for families.
+/// Returns whether a claim file with these columns has one for the family. If it does, the third
+/// column is the member, which is an identifier; otherwise it is the date of service.
 pub fn has_family_column(layout: &Layout) -> bool
     ensures { result ≡ has_family_column layout.now }
 {

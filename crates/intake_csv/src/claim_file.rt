@@ -1,8 +1,9 @@
-//! A provider's file whose header was judged.
+//! A provider's file with a validated header.
 //!
-//! `ClaimFile::new` judges it once: the file is small enough and has a header, and the header has each column that the plan's
-//! claims need, once. What it keeps is the text and where the columns are. So `rows` begins at the first record as often as it
-//! is asked, and nothing but memory can be wanting then.
+//! `ClaimFile::new` validates the header once: the file is within its size limit and has a header,
+//! and the header has each required column of the plan's claims exactly once. The value has the
+//! text and the places of the columns. So every call of `rows` begins at the first record, and
+//! fails only if memory runs out.
 ghost use Rattle.std.specs.Prelude.{◌≡◌, IfOk, IfErr};
 ghost use Rattle.csv.specs.Records.{fields_of};
 ghost use Rattle.intake_csv.specs.ClaimFile.{IsFileOf, rows_of};
@@ -20,7 +21,7 @@ use faults::FileFault;
 use std::alloc::{AllocError, Global};
 use std::marker::Model;
 
-/// A file of claims: its text, and where its header has the columns that claims need. It borrows the text.
+/// A claim file: its text, which it borrows, and the places of the required columns in its header.
 #[derive(Drop)]
 pub struct ClaimFile<'t> {
     text: &'t [u8],
@@ -38,12 +39,13 @@ impl<'t> Model for ClaimFile<'t> {
 }
 
 impl<'t> ClaimFile<'t> {
-    /// Judges the header of a file of claims under a plan.
+    /// Validates the header of a claim file under a plan. The first fault in the order of
+    /// `FileFault` is returned.
     pub fn new(alloc: Global, plan: &Plan, text: &'t [u8]) -> Result<ClaimFile<'t>, FileFault>
         ensures ok { IfOk result (IsFileOf plan.now.names text.now) }
         ensures fault { IfErr result (HasFileFault (claim_columns plan.now.names) text.now) }
     {
-        // Known from here: the plan's names are distinct, so that the columns stand apart.
+        // proof: the plan's names are distinct, so the columns have distinct places
         let _names = plan.names();
         let needed = claim_columns(alloc, plan)?;
         let sheet = read_sheet(alloc, needed.as_slice(), text)?;
@@ -53,14 +55,14 @@ impl<'t> ClaimFile<'t> {
         })
     }
 
-    /// The file's text.
+    /// Returns the text of the file.
     pub fn text(&self) -> &'t [u8]
         ensures { result.now ≡ self.now.text }
     {
         self.text
     }
 
-    /// The reader of its rows, at the first record.
+    /// Returns a reader of the file's rows, at the first record after the header.
     pub fn rows(&self, alloc: Global) -> Result<Rows<'t>, AllocError>
         ensures start { IfOk result (λ rows. rows ≡ rows_of self.now) }
         ensures apart { IfOk result (λ rows. StandApart rows.layout.columns) }

@@ -1,4 +1,4 @@
-//! The columns that a file needs, and where its header has them.
+//! The required columns of a file, and their places in its header.
 ghost use Rattle.std.specs.Prelude.{◌≡◌, ◌++◌, ◌∷◌, [], IfOk, OnOk};
 ghost use Rattle.intake_csv.specs.Columns.{kind_under, needed};
 
@@ -7,21 +7,21 @@ use feel_tests::Kind;
 use std::alloc::{AllocError, Global};
 use std::marker::Model;
 
-/// What the fields under a column hold.
+/// The content of the fields of a column.
 #[derive(Clone, Copy, PartialEq, Eq)]
 pub enum Content {
-    /// A text that isn't empty: a claim's number, a family or a member.
+    /// A text that is not empty: the identifier of a claim, a family or a member.
     Identifier,
-    /// Whole cents, not below zero.
+    /// An amount of money: a whole count of cents that is not negative.
     Money,
-    /// A year in four digits, `0001` to `9999`, as a text.
+    /// A year of four digits, from `0001` to `9999`, as a text.
     Year,
     /// Any value of the kind.
     Plain(Kind),
 }
 
 impl Content {
-    /// The kind of the values.
+    /// Returns the kind of the column's values.
     pub fn kind(self) -> Kind
         ensures { result ≡ kind_under self }
     {
@@ -34,14 +34,14 @@ impl Content {
     }
 }
 
-/// A column that a file needs.
+/// A required column of a file.
 #[derive(Drop)]
 pub struct Needed {
     pub name: Title,
     pub content: Content,
 }
 
-/// The name of a column, which contracts see as its bytes.
+/// The name of a column in a header. Contracts see it as its bytes.
 #[derive(Drop)]
 pub struct Title {
     text: String,
@@ -56,7 +56,7 @@ impl Model for Title {
 }
 
 impl Title {
-    /// The name of these bytes.
+    /// Copies a name.
     pub fn new(alloc: Global, text: &str) -> Result<Title, AllocError>
         ensures { IfOk result (λ title. title ≡ text.now) }
     {
@@ -65,7 +65,7 @@ impl Title {
         })
     }
 
-    /// Its bytes.
+    /// Returns the bytes of the name.
     pub fn as_bytes(&self) -> &[u8]
         ensures { result.now ≡ self.now }
     {
@@ -73,7 +73,7 @@ impl Title {
     }
 }
 
-/// Puts the column of this name behind the others.
+/// Appends the required column with this name and content.
 pub fn push_column(
     alloc: Global,
     columns: &mut Sequence<Needed>,
@@ -94,14 +94,14 @@ fn needed_column(alloc: Global, name: &str, content: Content) -> Result<Needed, 
     })
 }
 
-/// A needed column, where the header has it: its place counts from 0.
+/// A required column in a file: its place in the header, from 0, and its content.
 #[derive(Clone, Copy, PartialEq, Eq)]
 pub struct Column {
     pub place: usize,
     pub content: Content,
 }
 
-/// How many fields the header has, and where among them the needed columns are.
+/// The number of fields in the header, and the places of the required columns among them.
 #[derive(Drop)]
 pub struct Layout {
     pub width: usize,
@@ -109,7 +109,7 @@ pub struct Layout {
 }
 
 impl Layout {
-    /// The same once more.
+    /// Copies the layout.
     pub fn duplicate(&self, alloc: Global) -> Result<Layout, AllocError>
         ensures { IfOk result (λ copy. copy ≡ self.now) }
     {

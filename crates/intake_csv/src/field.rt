@@ -1,4 +1,4 @@
-//! The field of a record under a needed column.
+//! The reader of a single field of a required column.
 ghost use Rattle.std.specs.Prelude.{◌≤◌, ◌≢◌, length, [], IfOk};
 ghost use Rattle.feel_tests.specs.TextBytes.{IsText};
 ghost use Rattle.feel_tests.specs.declared.kind.Kind.TheVariants as kinds;
@@ -12,7 +12,7 @@ use feel_tests::{Kind, PlainFault, TEXT_LIMIT_BYTES, Value, read_plain, year_in}
 use fixpoint::{Fixed, text_denotes_at_most_one};
 use std::alloc::{AllocError, Global};
 
-/// Reads a field that is a text: its value, or the first of its faults.
+/// Reads a field that is UTF-8, and returns its value or its first fault.
 #[inline(always)]
 pub fn read_text(
     alloc: Global,
@@ -53,7 +53,7 @@ fn read_money(text: &str) -> Result<Value, RowCause>
     requires { IsText text.now }
     ensures { IsFieldRead contents.Money text.now result }
 {
-    // Known from here: a text denotes one number at most.
+    // proof: a text denotes at most one number
     text_denotes_at_most_one();
     let Ok(amount) = Fixed::parse(text.as_bytes()) else {
         return Err(RowCause::Value);

@@ -1,4 +1,4 @@
-//! Where the header of a file has the columns that are needed.
+//! The search for the required columns in the header of a file.
 ghost use Rattle.std.specs.Prelude.{◌≡◌, ◌<◌, ◌++◌, ◌∷◌, [], List, length, slice_index_or, IfOk, IfErr, OnOk};
 ghost use Rattle.std.specs.Str.{bytes_eq};
 ghost use Rattle.csv.specs.Records.{fields_of};
@@ -12,19 +12,20 @@ use dtable::Sequence;
 use faults::FileFault;
 use std::alloc::Global;
 
-/// How a name stands in a header.
+/// The occurrences of a name in a header.
 #[derive(Clone, Copy, PartialEq, Eq)]
 pub enum Standing {
-    /// Nowhere.
+    /// The name does not occur.
     Missing,
-    /// At this place alone.
+    /// The name occurs only at this place, from 0.
     Once(usize),
-    /// At more than one.
+    /// The name occurs more than once.
     Repeated,
 }
 
 impl Standing {
-    // With one place more, which has the name or another.
+    // Returns the occurrences in a header with one more place, which has the name if `here` is
+    // true.
     fn after(self, place: usize, here: bool) -> Standing
         ensures { result ≡ stands_after self place here }
     {
@@ -36,14 +37,15 @@ impl Standing {
     }
 }
 
-/// The columns that were found so far, and whether a needed name stands more than once.
+/// The columns found so far, and whether a required name occurs more than once.
 #[derive(Drop)]
 struct Found {
     columns: Sequence<Column>,
     repeated: bool,
 }
 
-/// Finds the needed columns in the header. A missing one is answered before one that stands twice.
+/// Finds the required columns in the header. Names are compared byte for byte. A missing column is
+/// reported before a repeated one.
 pub fn find_columns(
     alloc: Global,
     needed: &[Needed],
@@ -66,7 +68,9 @@ pub fn find_columns(
 }
 
 fn find_column(found: &mut Found, needed: &Needed, header: &ByteRecord) -> Result<(), FileFault>
-    ensures found { OnOk result ((front : List AnyNeeded) → AreFound (fields_of header.now) front found.old → AreFound (fields_of header.now) (front ++ needed.now ∷ []) found.new) }
+    ensures found { OnOk result ((front : List AnyNeeded)
+        → AreFound (fields_of header.now) front found.old
+        → AreFound (fields_of header.now) (front ++ needed.now ∷ []) found.new) }
     ensures missing { IfErr result (MissesColumn (fields_of header.now) needed.now) }
 {
     match stands_as(header, needed.name.as_bytes()) {
@@ -80,7 +84,7 @@ fn find_column(found: &mut Found, needed: &Needed, header: &ByteRecord) -> Resul
     Ok(())
 }
 
-/// How the name stands in the header.
+/// Returns the occurrences of the name in the header.
 pub fn stands_as(header: &ByteRecord, name: &[u8]) -> Standing
     ensures { StandsAs name.now (fields_of header.now) result }
 {

@@ -1,4 +1,4 @@
-//! Households: the members of a family, with what each begins with in a year.
+//! The opening balances of a family's members in a year.
 ghost use Rattle.std.specs.Prelude.{◌≡◌, ◌∷◌, [], None, OnOk, string_bytes};
 ghost use Rattle.std.specs.Str.{bytes_eq};
 ghost use Rattle.intake_csv.specs.Households.{AreOnceBy, HasJoined, balance_in, begins, refused_behind, refused_by_sums};
@@ -8,19 +8,19 @@ use std::alloc::{AllocError, Global};
 use std::collections::BTreeMap;
 use std::marker::Model;
 
-/// Why a member with a balance can't be put behind others of its family.
+/// The reason why the balance of a member is refused.
 #[derive(Clone, Copy, PartialEq, Eq)]
 pub enum Refusal {
-    /// It stands there already.
+    /// The member has a balance already.
     Again,
-    /// With it the family's sum of what was met would leave the number range.
+    /// The family's sum of the deductible met would be out of range.
     Met,
-    /// So would the sum of what was paid out of pocket.
+    /// The family's sum of the out-of-pocket amounts would be out of range.
     Oop,
 }
 
-/// The members of a family in a year, with their balances, and the sums over them. A family of one member, as each is where the plan
-/// keeps no families, takes no map.
+/// The balances of a family's members in a year, and the sums over them. A family with one member
+/// needs no map, and every family is one if the plan keeps no accumulators for families.
 pub struct Household {
     first: String,
     balance: Balance,
@@ -49,11 +49,12 @@ impl Model for Household {
 
     ghost view = { λ h. members_of (string_bytes h.first) h.balance h.others };
 
-    ghost invariant = { λ h. IsHousehold (members_of (string_bytes h.first) h.balance h.others) h.met h.oop };
+    ghost invariant = { λ h.
+        IsHousehold (members_of (string_bytes h.first) h.balance h.others) h.met h.oop };
 }
 
 impl Household {
-    /// The household of one member.
+    /// Returns a family with one member.
     pub fn new(alloc: Global, member: String, balance: Balance) -> Household
         ensures { result ≡ (string_bytes member, balance) ∷ [] }
     {
@@ -66,7 +67,8 @@ impl Household {
         }
     }
 
-    /// What an account of this household begins with: of its own its balance, zeros where it has none.
+    /// Returns the opening accumulators of a member: its own amounts are its balance, or zero
+    /// without one, and the family's sums are over all members.
     pub fn opening(&self, member: &str) -> Acc
         ensures { result ≡ begins self.now (balance_in self.now member.now) }
     {
@@ -76,7 +78,7 @@ impl Household {
         }
     }
 
-    /// Why a member with this balance can't be put behind the others, if it can't.
+    /// Returns the reason why a member with this balance cannot be added, if there is one.
     pub fn refusal(&self, member: &str, balance: Balance) -> Option<Refusal>
         ensures { result ≡ refused_behind self.now (balance_in self.now member.now) balance }
     {
@@ -86,9 +88,10 @@ impl Household {
         }
     }
 
-    /// Puts a member behind the others, where it can be.
+    /// Adds a member whose balance is not refused.
     pub fn join(&mut self, member: String, balance: Balance) -> Result<(), AllocError>
-        requires { refused_behind self.old (balance_in self.old (string_bytes member)) balance ≡ None }
+        requires { refused_behind self.old
+            (balance_in self.old (string_bytes member)) balance ≡ None }
         ensures joined { OnOk result (HasJoined (string_bytes member) balance self.old self.new) }
         ensures once { AreOnceBy bytes_eq self.new }
     {
@@ -108,7 +111,6 @@ impl Household {
         }
     }
 
-    // The balance of a member, if it has one.
     #[tactic(auto, using(crate::proofs::Households::found_first, crate::proofs::Households::found_behind))]
     fn balance_of(&self, member: &str) -> Option<Balance>
         ensures { result ≡ balance_in self.now member.now }

@@ -1,4 +1,4 @@
-//! Whether a record of a file of claims is a claim, and whose, found without making its values.
+//! The validation of a record of a claim file. It makes no values, so it needs no memory for texts.
 ghost use Rattle.std.specs.Prelude.{◌≡◌, ◌<◌, ◌+◌, ◌^◌, length, IfOk, IfErr};
 ghost use Rattle.std.specs.List.{All};
 ghost use Rattle.feel_tests.specs.declared.kind.Kind.TheVariants as kinds;
@@ -21,7 +21,7 @@ use faults::{RowCause, RowFault};
 use feel_tests::{Kind, TEXT_LIMIT_BYTES};
 use std::alloc::{AllocError, Global};
 
-/// Whose claim a record is, or its first fault.
+/// Validates a record, and returns the columns that identify its claim, or its first fault.
 pub fn judge_claim(
     alloc: Global,
     layout: &Layout,
@@ -29,7 +29,10 @@ pub fn judge_claim(
 ) -> Result<Result<Claimant, RowFault>, AllocError>
     requires within { IsWithin layout.now }
     requires claims { IsClaimLayout layout.now }
-    ensures claim { IfOk result (λ judged. IfOk judged (λ claimant. (claim : AnyClaim) × HasValues layout.now line.now (claim_values claim) × IsClaimantOf line.now claimant claim)) }
+    ensures claim { IfOk result (λ judged. IfOk judged (λ claimant.
+        (claim : AnyClaim)
+        × HasValues layout.now line.now (claim_values claim)
+        × IsClaimantOf line.now claimant claim)) }
     ensures fault { IfOk result (λ judged. IfErr judged (HasFault layout.now line.now)) }
 {
     if line.len() != layout.width {
@@ -55,7 +58,8 @@ pub fn judge_claim(
     }))
 }
 
-/// The fault that stands furthest left under these columns, if there is one. All are looked at, since they are not in the header's order.
+/// Returns the leftmost fault of these columns, if there is one. All columns are validated, since
+/// they are not in the order of the header.
 pub fn first_fault(
     alloc: Global,
     columns: &[Column],
@@ -83,10 +87,14 @@ fn judge_under(
 ) -> Result<Result<(), RowFault>, AllocError>
     requires within { column.place < length line.now }
     requires small { length line.now < 2 ^ 64 }
-    ensures value { IfOk result (λ judged. IfOk judged (λ _. (value : AnyValue) × HoldsUnder line.now column value)) }
-    ensures faultless { IfOk result (λ judged. IfOk judged (λ _. IsFaultlessUnder line.now column)) }
-    ensures faulty { IfOk result (λ judged. IfErr judged (λ fault. IsFaultyUnder line.now fault.cause column)) }
-    ensures column { IfOk result (λ judged. IfErr judged (λ fault. fault.column ≡ column.place + 1)) }
+    ensures value { IfOk result (λ judged. IfOk judged (λ _.
+        (value : AnyValue) × HoldsUnder line.now column value)) }
+    ensures faultless { IfOk result (λ judged. IfOk judged (λ _.
+        IsFaultlessUnder line.now column)) }
+    ensures faulty { IfOk result (λ judged. IfErr judged (λ fault.
+        IsFaultyUnder line.now fault.cause column)) }
+    ensures column { IfOk result (λ judged. IfErr judged (λ fault.
+        fault.column ≡ column.place + 1)) }
 {
     let Some(found) = line.text(column.place) else {
         unreachable!();
@@ -107,7 +115,8 @@ fn judge_under(
     }
 }
 
-// Whether a field that is a text holds some value, or the first of its faults. A text is a value as it stands, and no copy is made of it.
+// Returns the first fault of a field that is UTF-8, if it has one. A text is its own value, so it
+// is not copied.
 #[inline(always)]
 fn judge_text(
     alloc: Global,

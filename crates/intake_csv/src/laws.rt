@@ -1,49 +1,51 @@
-//! Laws of files of claims, for proofs that stand on them. Each call does nothing.
+//! Laws of claim files, to be cited by other proofs. Each function has an empty body, apart from
+//! calls of other laws.
 ghost use Rattle.intake_csv.specs.Laws.{ClaimsHaveFields, FilesHaveRows, GivenRowHasTheClaim, GivenRowIsTheFirst, NoRecordsNoRows, StartHasTheRows, TextHasOneListOfRows};
 
-/// A claim that a record of a file of claims holds has the plan's fields.
+/// A claim in a record of a claim file fits the plan.
 pub fn claims_have_the_plan_s_fields()
     ensures { ClaimsHaveFields }
 {}
 
-/// A reader at the start of a text has all rows of the text left.
+/// A reader at the start of a text has all rows of the text before it.
 pub fn reader_begins_with_all_rows()
     ensures { StartHasTheRows }
 {}
 
-/// The row that a reader gives is the first of those that it had left.
+/// The row that a reader returns is the first of its remaining rows.
 pub fn given_row_is_the_first()
     ensures { GivenRowIsTheFirst }
 {
-    // Known from here: what two readings of one field find is the same.
+    // proof: two readings of one field have the same result
     fixpoint::text_denotes_at_most_one();
     feel_tests::field_spells_at_most_one_value();
 }
 
-/// A text has one list of rows under a plan's names.
+/// A text has exactly one list of rows under the names of a plan.
 pub fn text_has_one_list_of_rows()
     ensures { TextHasOneListOfRows }
 {
-    // Known from here: what two readings of one field find is the same.
+    // proof: two readings of one field have the same result
     fixpoint::text_denotes_at_most_one();
     feel_tests::field_spells_at_most_one_value();
 }
 
-/// The row that a reader gives is the same claim as the first of those that it had left, whatever its columns are.
+/// The row that a reader returns has the same claim as the first of its remaining rows, even if two
+/// required columns have one place.
 pub fn given_row_has_the_claim()
     ensures { GivenRowHasTheClaim }
 {
-    // Known from here: what two readings of one field find is the same.
+    // proof: two readings of one field have the same result
     fixpoint::text_denotes_at_most_one();
     feel_tests::field_spells_at_most_one_value();
 }
 
-/// No file of claims is without its rows.
+/// No claim file lacks a list of rows.
 pub fn files_have_rows()
     ensures { FilesHaveRows }
 {}
 
-/// A reader that has no records left has no rows left.
+/// A reader without remaining records has no remaining rows.
 pub fn no_records_give_no_rows()
     ensures { NoRecordsNoRows }
 {}

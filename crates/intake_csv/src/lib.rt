@@ -1,11 +1,14 @@
 //! Claims and opening balances from CSV files (RFC 4180, as `csv` reads it).
 //!
-//! `ClaimFile` is a provider's file whose header was judged, and `Rows` reads it: it gives its records one after another, each
-//! as a claim or as the first fault that refuses it. `read_balances` reads the file of opening balances, and `Balances::of` finds an account's.
-//! The records come from `csv`, values from `feel_tests`, claims and accumulators from `settlement`.
+//! `ClaimFile` is a provider's file with a validated header. `Rows` reads its records one after
+//! another and returns each as a claim, or as the first fault of the record. `read_balances` reads
+//! the file of opening balances, and `Balances::of` returns the opening accumulators of an account.
+//! The records come from `csv`, values from `feel_tests`, and claims and accumulators from
+//! `settlement`.
 //!
-//! Begin with `specs/Records.antt` and `specs/Columns.antt`, which say what a file is, go on with `specs/Fields.antt`,
-//! `specs/Rows.antt` and `specs/Balances.antt`, which say what its records are; then read `rows.rt`, `balances.rt` and `household.rt`.
+//! Begin with `specs/Records.antt` and `specs/Columns.antt`, which define a file, and go on with
+//! `specs/Fields.antt`, `specs/Rows.antt` and `specs/Balances.antt`, which define its records. Then
+//! read `rows.rt`, `balances.rt` and `family_year.rt`.
 #![tactic(auto)]
 
 mod balances;

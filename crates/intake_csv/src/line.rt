@@ -1,4 +1,4 @@
-//! The record that a reader holds, looked at once to see whether it is ASCII.
+//! The current record of a reader.
 ghost use Rattle.std.specs.Prelude.{◌≡◌, ℕ, ℤ, List, [], length, IsUtf8, IfOk, IfErr, OnErr, is_err, true, false, Ok, None, Some, option_map};
 ghost use Rattle.std.specs.Option.{IfSome};
 ghost use Rattle.csv.specs.Records.{field_at, fields_of};
@@ -14,7 +14,8 @@ use std::alloc::{AllocError, Global};
 use std::marker::Model;
 use std::str;
 
-/// A record of a file. Where all of it is ASCII, which is found once, no field is looked at again to see whether it is text.
+/// A record of a file. It is tested once whether the whole record is ASCII; if it is, no field
+/// needs a test for UTF-8.
 pub struct Line {
     is_ascii: bool,
     row: ByteRecord,
@@ -41,12 +42,12 @@ impl Model for Line {
     ghost invariant = { λ l. l.is_ascii ≡ true → AllText (fields_of l.row) };
 }
 
-/// A field that is no text, since it isn't UTF-8.
+/// A field is not UTF-8.
 #[derive(Clone, Copy, PartialEq, Eq, Drop)]
 pub struct NoText;
 
 impl Line {
-    /// A record without fields.
+    /// Returns a record without fields.
     pub fn new(alloc: Global) -> Line
         ensures { result ≡ [] }
     {
@@ -56,7 +57,7 @@ impl Line {
         }
     }
 
-    /// Reads the next record of a file in place of this one, if one is left.
+    /// Replaces this record by the next record of a file, and returns whether there was one.
     pub fn read(&mut self, records: &mut Records) -> Result<bool, AllocError>
         ensures reads { IfOk result (λ found. Reads records.old records.new found self.new) }
         ensures refused { OnErr result (records.new ≡ record records.old { stage = Failed }) }
@@ -69,23 +70,25 @@ impl Line {
         read
     }
 
-    /// How many fields there are.
+    /// Returns the number of fields.
     pub fn len(&self) -> usize
         ensures { result ≡ length self.now }
     {
         self.row.len()
     }
 
-    /// The field at a place, if there is one: its text, or that it is none.
+    /// Returns the text of the field at a place from 0, or `None` if there is no such field.
     #[tactic(auto, using(crate::proofs::AsciiFields::text_at))]
     pub fn text(&self, place: usize) -> Option<Result<&str, NoText>>
-        ensures text { IfSome result (λ found. IfOk found (λ text. field_at self.now place ≡ Some text.now)) }
-        ensures none { IfSome result (λ found. IfErr found (λ _. (bytes : List ℕ) × (field_at self.now place ≡ Some bytes) × (¬ IsUtf8 bytes))) }
+        ensures text { IfSome result (λ found. IfOk found (λ text.
+            field_at self.now place ≡ Some text.now)) }
+        ensures none { IfSome result (λ found. IfErr found (λ _.
+            (bytes : List ℕ) × (field_at self.now place ≡ Some bytes) × (¬ IsUtf8 bytes))) }
         ensures lacking { result ≡ None → field_at self.now place ≡ None }
     {
         let field = self.row.get(place)?;
         if self.is_ascii {
-            // SAFETY: each field of a record that is ASCII is UTF-8, as the invariant says.
+            // SAFETY: the record is ASCII, so each of its fields is UTF-8, as the invariant states.
             return Some(Ok(unsafe { str::from_utf8_unchecked(field) }));
         }
         match str::from_utf8(field) {
@@ -94,12 +97,13 @@ impl Line {
         }
     }
 
-    /// The day that the field at a place spells, if it spells one.
+    /// Returns the date in the field at a place from 0, or `None` if the field is not a date.
     pub fn day(&self, alloc: Global, place: usize) -> Result<Option<Day>, AllocError>
         ensures day { IfOk result (λ day. IfSome day (DayStandsAt self.now place)) }
-        ensures lacking { IfOk result (λ day. (held : ℤ) → DayStandsAt self.now place held → day ≡ Some held) }
+        ensures lacking { IfOk result (λ day.
+            (held : ℤ) → DayStandsAt self.now place held → day ≡ Some held) }
     {
-        // Known from here: a field spells one value at most.
+        // proof: a field denotes at most one value
         feel_tests::field_spells_at_most_one_value();
         let Some(Ok(text)) = self.text(place) else {
             return Ok(None);
@@ -111,7 +115,7 @@ impl Line {
         }
     }
 
-    /// The bytes of the field at a place, if there is one.
+    /// Returns the bytes of the field at a place from 0, or `None` if there is no such field.
     pub fn bytes(&self, place: usize) -> Option<&[u8]>
         ensures { option_map (λ s. s.now) result ≡ field_at self.now place }
     {
@@ -119,7 +123,6 @@ impl Line {
     }
 }
 
-// The day that a value is, if it is one.
 fn day_of(value: Value) -> Option<Day>
     ensures day { IfSome result (λ day. value ≡ values.Day day) }
     ensures lacking { (held : ℤ) → value ≡ values.Day held → result ≡ Some held }

@@ -1,4 +1,4 @@
-//! A record behind the header: its values, or its first fault.
+//! The reader of a record: it returns the record's values or its first fault.
 ghost use Rattle.std.specs.Prelude.{◌≡◌, ◌<◌, ◌+◌, ◌++◌, ◌∷◌, ◌^◌, [], List, length, IfOk, IfErr, OnOk};
 ghost use Rattle.std.specs.List.{All};
 ghost use Rattle.intake_csv.specs.Rows.{AreValues, HasValues, HasFault, HoldsUnder, IsFirstFault, IsFaultyUnder, IsFaultlessUnder};
@@ -13,14 +13,16 @@ use faults::{RowCause, RowFault};
 use feel_tests::Value;
 use std::alloc::{AllocError, Global};
 
-/// Reads a record: its values under the needed columns, in their order, or its first fault.
+/// Reads a record, and returns the values of the required columns, in the order of the columns, or
+/// the first fault.
 pub fn read_record(
     alloc: Global,
     layout: &Layout,
     row: &Line,
 ) -> Result<Result<Vec<Value>, RowFault>, AllocError>
     requires { IsWithin layout.now }
-    ensures values { IfOk result (λ read. IfOk read (λ values. HasValues layout.now row.now values.items)) }
+    ensures values { IfOk result (λ read. IfOk read (λ values.
+        HasValues layout.now row.now values.items)) }
     ensures fault { IfOk result (λ read. IfErr read (HasFault layout.now row.now)) }
 {
     if row.len() != layout.width {
@@ -32,7 +34,7 @@ pub fn read_record(
     read_values(alloc, layout.columns.as_slice(), row)
 }
 
-/// What was read so far: the values, or the fault that stands furthest left.
+/// The values read so far, and the leftmost fault so far.
 #[derive(Drop)]
 struct Reading {
     values: Vec<Value>,
@@ -43,7 +45,8 @@ impl Reading {
     fn read(&mut self, alloc: Global, column: Column, row: &Line) -> Result<(), AllocError>
         requires within { column.place < length row.now }
         requires small { length row.now < 2 ^ 64 }
-        ensures { OnOk result ((front : List AnyColumn) → IsReadSoFar row.now front self.old → IsReadSoFar row.now (front ++ column ∷ []) self.new) }
+        ensures { OnOk result ((front : List AnyColumn) → IsReadSoFar row.now front self.old
+            → IsReadSoFar row.now (front ++ column ∷ []) self.new) }
     {
         match read_under(alloc, column, row)? {
             Ok(value) => self.values.push(value)?,
@@ -53,7 +56,8 @@ impl Reading {
     }
 }
 
-// Reads the fields under the columns, all of them, since the columns are not in the header's order.
+// Reads the fields of all columns, even after a fault: the columns are not in the order of the
+// header, and the leftmost fault is returned.
 fn read_values(
     alloc: Global,
     columns: &[Column],
@@ -61,7 +65,8 @@ fn read_values(
 ) -> Result<Result<Vec<Value>, RowFault>, AllocError>
     requires within { All (λ c. c.place < length row.now) columns.now }
     requires small { length row.now < 2 ^ 64 }
-    ensures values { IfOk result (λ read. IfOk read (λ values. AreValues row.now columns.now values.items)) }
+    ensures values { IfOk result (λ read. IfOk read (λ values.
+        AreValues row.now columns.now values.items)) }
     ensures fault { IfOk result (λ read. IfErr read (IsFirstFault row.now columns.now)) }
 {
     let mut reading = Reading {
@@ -77,7 +82,7 @@ fn read_values(
     }
 }
 
-/// The value of the field under a column, or its fault.
+/// Returns the value of a column, or the fault of its field.
 #[inline(always)]
 pub fn read_under(
     alloc: Global,
@@ -88,7 +93,8 @@ pub fn read_under(
     requires small { length row.now < 2 ^ 64 }
     ensures value { IfOk result (λ read. IfOk read (HoldsUnder row.now column)) }
     ensures faultless { IfOk result (λ read. IfOk read (λ _. IsFaultlessUnder row.now column)) }
-    ensures faulty { IfOk result (λ read. IfErr read (λ fault. IsFaultyUnder row.now fault.cause column)) }
+    ensures faulty { IfOk result (λ read. IfErr read (λ fault.
+        IsFaultyUnder row.now fault.cause column)) }
     ensures column { IfOk result (λ read. IfErr read (λ fault. fault.column ≡ column.place + 1)) }
 {
     let Some(found) = row.text(column.place) else {
@@ -110,7 +116,7 @@ pub fn read_under(
     }
 }
 
-/// The fault further left in the header.
+/// Returns the fault whose column comes first in the header.
 pub fn leftmost(first: Option<RowFault>, fault: RowFault) -> RowFault
     ensures { IsLeftmost first fault result }
 {

@@ -1,4 +1,4 @@
-//! The records of a text (RFC 4180), one after another.
+//! The reader of a text's records (RFC 4180, section 2, as `csv` reads them).
 ghost use Rattle.std.specs.Prelude.{◌≡◌, true, false, Ok, IfOk, OnErr, is_err};
 ghost use Rattle.csv.specs.Records.{fields_of};
 ghost use Rattle.intake_csv.specs.Records.{Reads};
@@ -8,7 +8,8 @@ use csv::{ByteRecord, Reader, ReaderBuilder};
 use std::alloc::{AllocError, Global};
 use std::marker::Model;
 
-/// A reader of a text's records, less a byte order mark in front of it. It holds one record at a time.
+/// A reader of the records of a text. It skips a byte order mark at the start of the text, and has
+/// one record in memory at a time.
 pub struct Records<'t> {
     text: &'t [u8],
     reader: Reader<&'t [u8]>,
@@ -27,14 +28,14 @@ impl Drop for Records<'_> {
     }
 }
 
-/// How far a reader has come.
+/// The stage of a reader.
 #[derive(Clone, Copy, Drop)]
 pub enum Stage {
-    /// Each record was read so far.
+    /// All earlier calls returned a record.
     Reading,
-    /// No record is left.
+    /// There is no further record.
     Over,
-    /// Memory was wanting.
+    /// Memory ran out.
     Failed,
 }
 
@@ -47,11 +48,13 @@ impl<'t> Model for Records<'t> {
 
     ghost view = { λ r. record { text = r.text.now; given = r.given; stage = r.stage } };
 
-    ghost invariant = { λ r. IsAtStage r.stage r.reader (drop r.given (records_of r.text.now)) × (r.given ≤ length (records_of r.text.now)) };
+    ghost invariant = { λ r.
+        IsAtStage r.stage r.reader (drop r.given (records_of r.text.now))
+        × (r.given ≤ length (records_of r.text.now)) };
 }
 
 impl<'t> Records<'t> {
-    /// A reader at the first record of a text.
+    /// Returns a reader at the first record of a text.
     pub fn new(alloc: Global, text: &'t [u8]) -> Records<'t>
         ensures { result ≡ record { text = text.now; given = 0; stage = Reading } }
     {
@@ -66,9 +69,9 @@ impl<'t> Records<'t> {
         }
     }
 
-    /// Reads the next record into the row, if one is left. Behind the last there is none at each later call, and after want of
-    /// memory each later call answers it again.
-    /// A slice of bytes can't fail to be read, so that each error of `csv` is want of memory.
+    /// Reads the next record into `row`, and returns whether there was one. After the last record,
+    /// every call returns `false`. If memory runs out, every later call returns the error again. A
+    /// slice of bytes can always be read, so every error of `csv` means that memory ran out.
     pub fn read(&mut self, row: &mut ByteRecord) -> Result<bool, AllocError>
         ensures reads { IfOk result (λ found. Reads self.old self.new found (fields_of row.new)) }
         ensures refused { OnErr result (self.new ≡ record self.old { stage = Failed }) }
@@ -92,7 +95,7 @@ impl<'t> Records<'t> {
         Ok(true)
     }
 
-    /// Leaves off: each later call answers want of memory.
+    /// Makes every later call report that memory ran out.
     pub fn fail(&mut self)
         ensures { self.new ≡ record self.old { stage = Failed } }
     {

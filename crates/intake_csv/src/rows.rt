@@ -1,4 +1,4 @@
-//! The rows of a provider's file of claims.
+//! The rows of a provider's claim file.
 ghost use Rattle.std.specs.Prelude.{◌≡◌, ◌≤◌, true, Ok, None, IfOk, IfErr, OnErr, drop, is_err, length};
 ghost use Rattle.intake_csv.specs.Brief.{GivesBrief};
 ghost use Rattle.intake_csv.specs.Rows.{Gives, IsHead};
@@ -19,23 +19,25 @@ use settlement::Claim;
 use std::alloc::{AllocError, Global};
 use std::marker::Model;
 
-/// A record of a file of claims.
+/// A record of a claim file.
 #[derive(Drop)]
 pub enum Row {
-    /// A claim: its number counts the records behind the header, from 1, and its place the claims, from 0.
+    /// A claim. Its number is that of its record after the header, from 1. Its place is its index
+    /// among the claims of the file, from 0.
     Good {
         number: usize,
         place: usize,
         claim: Claim,
     },
-    /// A record that is refused, with its number and its first fault.
+    /// A refused record, with its number and its first fault.
     Bad {
         number: usize,
         fault: RowFault,
     },
 }
 
-/// The rows of a file of claims, one after another. It borrows the file's text, and holds one record of it at a time.
+/// The rows of a claim file, one after another. It borrows the text of the file, and has one record
+/// in memory at a time.
 pub struct Rows<'t> {
     alloc: Global,
     layout: Layout,
@@ -68,19 +70,36 @@ impl<'t> Model for Rows<'t> {
 
     ghost Value = { RowsLeft };
 
-    ghost view = { λ r. record { layout = r.layout; number = r.next; place = r.claims; records = drop r.next (records_of r.records.text); stage = r.records.stage } };
+    ghost view = { λ r. record {
+      layout = r.layout;
+      number = r.next;
+      place = r.claims;
+      records = drop r.next (records_of r.records.text);
+      stage = r.records.stage;
+    } };
 
-    ghost invariant = { λ r. IsWithin r.layout × IsClaimLayout r.layout × (r.claims < r.next) × (length r.records.text ≤ file_limit_bytes) × (is_failed r.records.stage ≡ false → r.records.given ≡ r.next) };
+    ghost invariant = { λ r.
+        IsWithin r.layout
+        × IsClaimLayout r.layout
+        × (r.claims < r.next)
+        × (length r.records.text ≤ file_limit_bytes)
+        × (is_failed r.records.stage ≡ false → r.records.given ≡ r.next) };
 }
 
 impl<'t> Rows<'t> {
-    /// The rows behind a header that was judged.
+    /// Begins at the first record after a validated header.
     pub(crate) fn behind_header(alloc: Global, layout: Layout, records: Records<'t>) -> Rows<'t>
         requires within { IsWithin layout }
         requires columns { IsClaimLayout layout }
         requires small { length records.text ≤ file_limit_bytes }
         requires records { records ≡ record { text = records.text; given = 1; stage = Reading } }
-        ensures { result ≡ record { layout = layout; number = 1; place = 0; records = drop 1 (records_of records.entry.text); stage = Reading } }
+        ensures { result ≡ record {
+          layout = layout;
+          number = 1;
+          place = 0;
+          records = drop 1 (records_of records.entry.text);
+          stage = Reading;
+        } }
     {
         Rows {
             alloc,
@@ -92,7 +111,8 @@ impl<'t> Rows<'t> {
         }
     }
 
-    /// The next row, or none behind the last, at each later call too. After want of memory each later call answers it again.
+    /// Reads the next row. After the last row, every call returns `None`. If memory runs out, every
+    /// later call returns the error again.
     pub fn next(&mut self) -> Result<Option<Row>, AllocError>
         ensures gives { IfOk result (Gives self.old self.new) }
         ensures head { IfOk result (IsHead self.old self.new) }
@@ -128,8 +148,8 @@ impl<'t> Rows<'t> {
         }
     }
 
-    /// The next row in brief, or none behind the last, at each later call too. Its record is left in the line. After want of
-    /// memory each later call answers it again.
+    /// Reads the summary of the next row, and leaves its record in `line`. After the last row,
+    /// every call returns `None`. If memory runs out, every later call returns the error again.
     pub fn next_brief(&mut self, line: &mut Line) -> Result<Option<Brief>, AllocError>
         ensures gives { IfOk result (GivesBrief self.old self.new line.new) }
         ensures over { self.old.stage ≡ Over → result ≡ Ok None }

@@ -1,4 +1,4 @@
-//! A file whose header has the needed columns, and the reader of its records.
+//! A file whose header has the required columns.
 ghost use Rattle.std.specs.Prelude.{◌≡◌, ◌<◌, ◌∷◌, List, length, IfOk, IfErr};
 ghost use Rattle.csv.specs.Records.{fields_of};
 ghost use Rattle.intake_csv.specs.Columns.{HasFileFault};
@@ -11,17 +11,17 @@ use csv::ByteRecord;
 use faults::FileFault;
 use std::alloc::Global;
 
-/// How many bytes a file has at most, its byte order mark included.
+/// The greatest size of a file in bytes, including a byte order mark.
 pub const FILE_LIMIT_BYTES: usize = 16_777_216;
 
-/// Where the needed columns are, and the reader behind the header.
+/// The places of the required columns, and a reader that begins after the header.
 #[derive(Drop)]
 pub struct Sheet<'t> {
     pub layout: Layout,
     pub records: Records<'t>,
 }
 
-/// Reads the header of a file that needs these columns.
+/// Reads the header of a file with these required columns.
 pub fn read_sheet<'t>(
     alloc: Global,
     needed: &[Needed],

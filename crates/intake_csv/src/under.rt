@@ -1,4 +1,5 @@
-//! The fields of a record under its columns, each read as what stands there. A field that is refused has no value here, and its fault is not told.
+//! The values of a record by column, each with the type of its column. A refused field has no
+//! value; its fault is not reported here.
 ghost use Rattle.std.specs.Prelude.{◌≡◌, ◌<◌, ◌^◌, length, IfOk, IfSome, IfNone};
 ghost use Rattle.std.specs.List.{All, Any};
 ghost use Rattle.feel_tests.specs.declared.kind.Kind.TheVariants as kinds;
@@ -15,12 +16,14 @@ use feel_tests::{Day, TEXT_LIMIT_BYTES, Text, Value};
 use settlement::Money;
 use std::alloc::{AllocError, Global};
 
-/// The text under a column of identifiers, which is the field as it stands.
+/// Returns the text of a column of identifiers, which is the unchanged field, or `None` if the
+/// field is refused.
 #[tactic(auto, using(crate::proofs::UnderColumns::stands_under, crate::proofs::UnderColumns::long_under, crate::proofs::UnderColumns::no_text_under))]
 pub fn text_under(alloc: Global, column: Column, row: &Line) -> Result<Option<Text>, AllocError>
     requires within { column.place < length row.now }
     requires content { column.content ≡ contents.Identifier }
-    ensures text { IfOk result (λ read. IfSome read (λ text. HoldsUnder row.now column (values.Text text))) }
+    ensures text { IfOk result (λ read. IfSome read (λ text.
+        HoldsUnder row.now column (values.Text text))) }
     ensures none { IfOk result (λ read. IfNone read (IsRefusedUnder row.now column)) }
 {
     let Some(found) = row.text(column.place) else {
@@ -38,13 +41,14 @@ pub fn text_under(alloc: Global, column: Column, row: &Line) -> Result<Option<Te
     Ok(Some(Text::new(alloc, text)?))
 }
 
-/// The day under a column of days.
+/// Returns the date of a column of dates, or `None` if the field is refused.
 #[tactic(auto, using(crate::proofs::Shapes::day_value))]
 pub fn day_under(alloc: Global, column: Column, row: &Line) -> Result<Option<Day>, AllocError>
     requires within { column.place < length row.now }
     requires small { length row.now < 2 ^ 64 }
     requires content { column.content ≡ contents.Plain kinds.Day }
-    ensures day { IfOk result (λ read. IfSome read (λ day. HoldsUnder row.now column (values.Day day))) }
+    ensures day { IfOk result (λ read. IfSome read (λ day.
+        HoldsUnder row.now column (values.Day day))) }
     ensures none { IfOk result (λ read. IfNone read (IsRefusedUnder row.now column)) }
 {
     let Ok(value) = read_under(alloc, column, row)? else {
@@ -56,13 +60,14 @@ pub fn day_under(alloc: Global, column: Column, row: &Line) -> Result<Option<Day
     Ok(Some(day))
 }
 
-/// The amount under a column of money.
+/// Returns the amount of a column of money, or `None` if the field is refused.
 #[tactic(auto, using(crate::proofs::Shapes::money_value))]
 pub fn money_under(alloc: Global, column: Column, row: &Line) -> Result<Option<Money>, AllocError>
     requires within { column.place < length row.now }
     requires small { length row.now < 2 ^ 64 }
     requires content { column.content ≡ contents.Money }
-    ensures money { IfOk result (λ read. IfSome read (λ money. HoldsUnder row.now column (values.Number money))) }
+    ensures money { IfOk result (λ read. IfSome read (λ money.
+        HoldsUnder row.now column (values.Number money))) }
     ensures none { IfOk result (λ read. IfNone read (IsRefusedUnder row.now column)) }
 {
     let Ok(value) = read_under(alloc, column, row)? else {
@@ -77,7 +82,8 @@ pub fn money_under(alloc: Global, column: Column, row: &Line) -> Result<Option<M
     Ok(Some(money))
 }
 
-/// The values under these columns, in their order.
+/// Returns the values of these columns, in the order of the columns, or `None` if a field is
+/// refused.
 pub fn values_under(
     alloc: Global,
     columns: &[Column],

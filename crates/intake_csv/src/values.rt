@@ -1,4 +1,4 @@
-//! The values of a record, taken one after another.
+//! The values of a record as typed values, taken one after another.
 ghost use Rattle.std.specs.Prelude.{◌≡◌, ◌∷◌};
 ghost use Rattle.std.specs.Vec.Iter.{into_iter_items};
 ghost use Rattle.intake_csv.specs.Values.{BeginsWithText, BeginsWithFamily, BeginsWithMoney, TakesFamily};
@@ -8,7 +8,7 @@ use feel_tests::{Text, Value};
 use settlement::Money;
 use std::vec;
 
-/// Takes the first value, a text.
+/// Takes the first value, which must be a text.
 pub fn take_text(values: &mut vec::IntoIter<Value>) -> Text
     requires { BeginsWithText (into_iter_items values.old) }
     ensures { into_iter_items values.old ≡ kinds.Text result ∷ into_iter_items values.new }
@@ -22,10 +22,12 @@ pub fn take_text(values: &mut vec::IntoIter<Value>) -> Text
     text
 }
 
-/// Takes the first value, a family; none, and no value, where there is no column of families.
+/// Takes the first value as the family. Without a column of the family, it takes no value and
+/// returns `None`.
 pub fn take_family(values: &mut vec::IntoIter<Value>, families: bool) -> Option<Text>
     requires { BeginsWithFamily families (into_iter_items values.old) }
-    ensures { TakesFamily families (into_iter_items values.old) result (into_iter_items values.new) }
+    ensures { TakesFamily families
+        (into_iter_items values.old) result (into_iter_items values.new) }
 {
     if !families {
         return None;
@@ -33,7 +35,7 @@ pub fn take_family(values: &mut vec::IntoIter<Value>, families: bool) -> Option<
     Some(take_text(values))
 }
 
-/// Takes the first value, an amount of money.
+/// Takes the first value, which must be an amount of money.
 pub fn take_money(values: &mut vec::IntoIter<Value>) -> Money
     requires { BeginsWithMoney (into_iter_items values.old) }
     ensures { into_iter_items values.old ≡ kinds.Number result ∷ into_iter_items values.new }

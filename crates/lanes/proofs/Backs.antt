@@ -1,4 +1,5 @@
--- The links back to the last slots of an account and of its household, with one slot more.
+-- The links back to the last slots of an account and of its family and year, after one more slot is
+-- added.
 use Rattle.std.proofs.Common.{◌≡◌, ◌<◌, ◌≤◌, ◌+◌, ℕ, Bool, cond, List, [], ◌∷◌, ◌++◌, length, take, Option, Some, None, sym, ap, ◌∙◌, inl, inr, arith}
 use Rattle.std.specs.List.{slice_get}
 use Rattle.std.proofs.lemmas.List.{take-append-le, take_all}
@@ -30,7 +31,8 @@ module _ (keys : List Key) (owns houses : List (Option ℕ)) (old_accounts old_h
   whole : take (length keys) more ≡ keys
   whole = front (length keys) (omega arith) ∙ take_all (length keys) keys (omega arith)
 
-  -- a list with one more, which has at each earlier place what the test finds in front of it
+  -- the links stay right after one more is added: each is the last position that the test finds
+  -- before it
   backs : (last : Key → List Key → Option ℕ) (links : List (Option ℕ)) → length links ≡ length keys
       → ((i : ℕ) (q : Key) → slice_get keys i ≡ Some q → slice_get links i ≡ Some (last q (take i keys)))
       → (i : ℕ) (q : Key) → slice_get more i ≡ Some q → slice_get (links ++ last key keys ∷ []) i ≡ Some (last q (take i more))

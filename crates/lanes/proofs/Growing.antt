@@ -1,4 +1,4 @@
--- Names, with more behind them.
+-- Lists of names that grow.
 use Rattle.std.proofs.Common.{◌≡◌, ℕ, zero, suc, List, [], ◌∷◌, ◌++◌, Some, Result, Ok, Err, OnOk, OnErr, sym, ap, ◌∙◌, append-nil, append_assoc}
 use Rattle.std.specs.List.{slice_get}
 use Rattle.std.proofs.lemmas.Option.{none-some}
@@ -6,14 +6,14 @@ use Rattle.settlement.specs.Accounts.{Account}
 use Rattle.lanes.specs.Names.{Grows}
 use Rattle.lanes.specs.Chains.{IsKeyOf}
 
--- the same names
+-- an unchanged list of names
 pub grows_same : (names : List (List ℕ)) → Grows names names
 grows_same names = record { more = []; behind = sym (append-nil names) }
 
 pub grows_still : (old new : List (List ℕ)) → new ≡ old → Grows old new
 grows_still old new same = record { more = []; behind = same ∙ sym (append-nil old) }
 
--- a name more, or none
+-- a list with one more name, or an unchanged list
 pub grows_added : {T E : Type 0} (old new : List (List ℕ)) (name : List ℕ) (r : Result T E) → OnOk r (new ≡ old ++ name ∷ []) → OnErr r (new ≡ old) → Grows old new
 grows_added old new name (Ok x) added refused = record { more = name ∷ []; behind = added }
 grows_added old new name (Err e) added refused = grows_still old new refused
@@ -24,7 +24,7 @@ grows_on a b c one two = record {
   behind = two.behind ∙ ap (λ w. w ++ two.more) one.behind ∙ append_assoc a one.more two.more;
 }
 
--- a name keeps its number
+-- a name has the same number after more names are added
 get-before : {X : Type 0} (xs ys : List X) (k : ℕ) (x : X) → slice_get xs k ≡ Some x → slice_get (xs ++ ys) k ≡ Some x
 get-before [] ys k x there = absurd (none-some x there)
 get-before (y ∷ xs) ys zero x there = there
@@ -33,7 +33,7 @@ get-before (y ∷ xs) ys (suc k) x there = get-before xs ys k x there
 pub number_stays : (old new : List (List ℕ)) (k : ℕ) (name : List ℕ) → Grows old new → slice_get old k ≡ Some name → slice_get new k ≡ Some name
 number_stays old new k name grows there = ap (λ w. slice_get w k) grows.behind ∙ get-before old grows.more k name there
 
--- the numbers of an account: of a member who is a family of its own, and of another one
+-- the key of an account whose member is its own family, and of one whose member is not
 pub key_alone : (names : List (List ℕ)) (lane year : ℕ) (account : Account) → slice_get names lane ≡ Some account.family → account.member ≡ account.family
     → year ≡ account.year → IsKeyOf names (lane, lane, year) account
 key_alone names lane year account there same dated = record { family = there; member = there ∙ ap Some (sym same); year = dated }

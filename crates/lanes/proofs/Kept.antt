@@ -1,4 +1,4 @@
--- Slots, their places and their lanes.
+-- The slots, their places and their lanes.
 use Rattle.std.proofs.Common.{◌≡◌, ◌<◌, ℕ, zero, suc, true, false, not, ◌||◌, List, [], ◌∷◌, length, map, get_or, take, Some, refl, sym, ap, ◌∙◌, arith}
 use Rattle.std.specs.List.{slice_get, slice_set}
 use Rattle.std.specs.Option.{option_map}
@@ -35,20 +35,20 @@ key-at slots k slot there = slice_get-map (λ (x : Slot). x.key) slots k ∙ ap 
 pub next-at : (slots : List Slot) (k : ℕ) (slot : Slot) → slice_get slots k ≡ Some slot → slice_get (nexts_of slots) k ≡ Some slot.next
 next-at slots k slot there = slice_get-map (λ (x : Slot). x.next) slots k ∙ ap (option_map (λ (x : Slot). x.next)) there
 
--- the slot that has a lane
+-- the slot at a position of a lane
 pub slot-in : (slots : List Slot) (k lane : ℕ) → slice_get (lanes_of slots) k ≡ Some lane → (slot : Slot) × (slice_get slots k ≡ Some slot) × (slot.key.0 ≡ lane)
 slot-in [] k lane there = absurd (none-some lane there)
 slot-in (s ∷ ss) zero lane there = (s, refl, same_Some _ _ there)
 slot-in (s ∷ ss) (suc k) lane there = slot-in ss k lane there
 
--- the places of slots, one of them at another phase
+-- the places of slots after the phase of one slot changes
 pub places-with : (names : List (List ℕ)) (slots : List Slot) (k : ℕ) (slot : Slot) (phase : Phase) → slice_get slots k ≡ Some slot
     → places_of names (slice_set slots k (record slot { phase = phase })) ≡ with_phase (places_of names slots) k phase
 places-with names [] k slot phase there = refl
 places-with names (s ∷ ss) zero slot phase there = ap (λ (x : Slot). place_of names (record x { phase = phase }) ∷ places_of names ss) (sym (same_Some s slot there))
 places-with names (s ∷ ss) (suc k) slot phase there = ap (λ xs. place_of names s ∷ xs) (places-with names ss k slot phase there)
 
--- the same slots, one of them changed elsewhere
+-- a property of slots does not change if a slot is set to one with the same property
 pub same-set : {X : Type 0} (f : Slot → X) (slots : List Slot) (k : ℕ) (slot new : Slot) → slice_get slots k ≡ Some slot → f new ≡ f slot
     → map f (slice_set slots k new) ≡ map f slots
 same-set f [] k slot new there same = refl
@@ -59,7 +59,7 @@ same-set f (s ∷ ss) (suc k) slot new there same = ap (λ xs. f s ∷ xs) (same
 lane-family : (names : List (List ℕ)) (lane : ℕ) → lane < length names → slice_get names lane ≡ Some (get_or names lane [])
 lane-family names lane within = slice_get-get_or names lane [] within
 
--- a slot in another lane is another family's
+-- slots of different lanes belong to different families
 pub apart : (names : List (List ℕ)) (lane other : ℕ) → AreDistinct names → lane < length names → other < length names → ¬ (other ≡ lane)
     → bytes_eq (get_or names other []) (get_or names lane []) ≡ false
 apart names lane other distinct one two differ =
@@ -68,11 +68,11 @@ apart names lane other distinct one two differ =
     differ (distinct other lane (get_or names lane []) (lane-family names other two ∙ ap Some same) (lane-family names lane one))
     )
 
--- a slot in the same lane is the same family's
+-- slots of one lane belong to one family
 pub alike : (names : List (List ℕ)) (lane other : ℕ) → other ≡ lane → bytes_eq (get_or names other []) (get_or names lane []) ≡ true
 alike names lane other same = (bytes_eq-Decides (get_or names other []) (get_or names lane [])).1 (ap (λ k. get_or names k []) same)
 
--- where the lane isn't, no place of its family is
+-- a family without slots in its lane has no places
 pub none-of : (names : List (List ℕ)) (slots : List Slot) (lane k : ℕ) (p : Place) → AreDistinct names → AreKnown (length names) (keys_of slots)
     → lane < length names → ¬ (slice_get (lanes_of slots) k ≡ Some lane) → slice_get (places_of names slots) k ≡ Some p → is_of (get_or names lane []) p ≡ false
 none-of names slots lane k p distinct known within none there =
@@ -81,7 +81,7 @@ none-of names slots lane k p distinct known within none there =
     let differ = apart names lane slot.key.0 distinct within here (λ same. none (lane-at slots k slot at ∙ ap Some same)) in
     ap (λ (x : Place). bytes_eq x.account.family (get_or names lane [])) (sym is) ∙ differ
 
--- a family has an earlier claim that isn't decided
+-- a family has an earlier claim that is not decided
 pub held : (places : List Place) (k n : ℕ) (p : Place) (m : List ℕ) → slice_get places k ≡ Some p → is_of m p ≡ true → is_decided p.phase ≡ false → k < n
     → all_decided m (take n places) ≡ false
 held [] k n p m there mine undecided behind = absurd (none-some p there)

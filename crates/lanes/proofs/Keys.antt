@@ -1,4 +1,4 @@
--- Keys that compare equal are one.
+-- Keys that compare as equal are equal.
 use Rattle.std.proofs.Common.{◌≡◌, ℕ, ◌==◌, ◌&&◌, true, false, cond, Option, Some, None, is_some, refl, sym, ap, ◌∙◌, inl, inr, arith, eqb-true}
 use Rattle.std.proofs.lemmas.Bool.{and_parts, both_ways, cases_Bool}
 use Rattle.std.specs.BTreeMap.{BTreeMap, get}

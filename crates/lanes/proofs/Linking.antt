@@ -1,4 +1,4 @@
--- Slots after a change of some of them.
+-- The slots after some of them are set.
 use Rattle.std.proofs.Common.{◌≡◌, ◌<◌, ℕ, zero, suc, List, [], ◌∷◌, length, get_or, Some, refl, sym, ap, ◌∙◌, arith}
 use Rattle.std.specs.List.{slice_get, slice_set}
 use Rattle.std.proofs.lemmas.List.{length-set}
@@ -8,7 +8,7 @@ use Rattle.lanes.specs.Places.{Decided}
 use Rattle.lanes.specs.Calls.{ready_at}
 use Rattle.lanes.specs.declared.slot.Slot.{Slot}
 
--- what isn't set stays
+-- an item that is not set does not change
 pub get-set-other : {X : Type 0} (xs : List X) (i j : ℕ) (x : X) → ¬ (j ≡ i) → slice_get (slice_set xs i x) j ≡ slice_get xs j
 get-set-other [] i j x other = refl
 get-set-other (y ∷ ys) zero zero x other = absurd (other refl)
@@ -16,7 +16,7 @@ get-set-other (y ∷ ys) zero (suc j) x other = refl
 get-set-other (y ∷ ys) (suc i) zero x other = refl
 get-set-other (y ∷ ys) (suc i) (suc j) x other = get-set-other ys i j x (λ same. other (ap suc same))
 
--- what is set is there
+-- the item at the set position is the new one
 pub get-set-same : {X : Type 0} (xs : List X) (i : ℕ) (y x : X) → slice_get xs i ≡ Some y → slice_get (slice_set xs i x) i ≡ Some x
 get-set-same [] i y x there = absurd (none-some y there)
 get-set-same (z ∷ zs) zero y x there = refl
@@ -27,13 +27,13 @@ get-set-within [] i x within = absurd (omega (arith, within))
 get-set-within (z ∷ zs) zero x within = refl
 get-set-within (z ∷ zs) (suc i) x within = get-set-within zs i x (omega (arith, within))
 
--- what is read behind a write elsewhere was there before
+-- an item that is read after another one is set has not changed
 pub read-behind : {X : Type 0} (xs : List X) (i j : ℕ) (new x : X) → ¬ (j ≡ i) → j < length xs → x ≡ get_or (slice_set xs i new) j x → slice_get xs j ≡ Some x
 read-behind xs i j new x other within read =
     let size = length-set xs i new in
     sym (get-set-other xs i j new other) ∙ slice_get_read (slice_set xs i new) (length xs) j x (sym size) within read
 
--- the slot that is decided, and what follows it
+-- the slots after one is decided and the next of its lane is released
 pub decided-next : (slots : List Slot) (position next : ℕ) (left : Acc) (read mid newer : Slot) (slot after : Slot) → slice_get slots position ≡ Some slot
     → slice_get slots next ≡ Some after → slice_get slots position ≡ Some read → slice_get slots next ≡ Some mid
     → newer ≡ record mid { phase = ready_at mid.phase }

@@ -1,4 +1,4 @@
--- Linked lanes, with one slot more.
+-- The links of the lanes after one more slot is added.
 use Rattle.std.proofs.Common.{◌≡◌, ◌==◌, ℕ, zero, suc, cond, List, [], ◌∷◌, ◌++◌, length, Some, None, Option, refl, sym, ap, subst, ◌∙◌, ◌⊎◌, inl, inr, arith, eqb-true}
 use Rattle.std.specs.List.{slice_get, slice_set}
 use Rattle.std.proofs.lemmas.Bool.{cases_Bool, cases_eq, cases_order, both_ways, eq-eqb}
@@ -7,7 +7,7 @@ use Rattle.std.proofs.lemmas.Option.{none-some, same_Some, slice_get_within}
 use Rattle.lanes.specs.Chains.{AreLinked, IsEnd, IsFollowedBy, IsLast, IsNext, NoneBehind}
 use Rattle.lanes.proofs.Linking.{get-set-other, get-set-within}
 
--- what a list with one more has
+-- an item of a longer list is an item of the shorter list or the last one
 pub get-push : {X : Type 0} (xs : List X) (y x : X) (k : ℕ) → slice_get (xs ++ y ∷ []) k ≡ Some x → (slice_get xs k ≡ Some x) ⊎ ((k ≡ length xs) × (y ≡ x))
 get-push [] y x zero there = inr (refl, same_Some y x there)
 get-push [] y x (suc k) there = absurd (none-some x there)
@@ -26,18 +26,18 @@ pub get-end : {X : Type 0} (xs : List X) (y : X) → slice_get (xs ++ y ∷ []) 
 get-end [] y = refl
 get-end (z ∷ zs) y = get-end zs y
 
--- nothing stands behind the end
+-- no slot comes after the last one
 none-behind-end : (lanes : List ℕ) (x l : ℕ) → NoneBehind (lanes ++ x ∷ []) l (length lanes)
 none-behind-end lanes x l k behind there =
     let size = length_push lanes x in
     let within = slice_get_within (lanes ++ x ∷ []) k l there in
     omega (arith, size, within, behind)
 
--- the slot more is the last of its lane
+-- the added slot is the last of its lane
 new-last : (lanes : List ℕ) (x : ℕ) → IsLast (lanes ++ x ∷ []) x (length lanes)
 new-last lanes x = record { there = get-end lanes x; last = none-behind-end lanes x x }
 
--- nothing of a lane stands behind a slot, with a slot more in another lane
+-- the last slot of a lane stays the last if a slot is added to another lane
 none-more : (lanes : List ℕ) (x l k : ℕ) → NoneBehind lanes l k → ¬ (l ≡ x) → NoneBehind (lanes ++ x ∷ []) l k
 none-more lanes x l k none other j behind there = elim (get-push lanes x l j there) [
   | inl before ↦ none j behind before
@@ -61,7 +61,7 @@ followed-more lanes x l k (Some n) h other = record {
   ];
 }
 
--- the last slot of another lane, with a slot more
+-- the end of a lane does not change if a slot is added to another lane
 end-more : (lanes : List ℕ) (x l : ℕ) (e : Option ℕ) → IsEnd lanes l e → ¬ (l ≡ x) → IsEnd (lanes ++ x ∷ []) l e
 end-more lanes x l None none other = λ k there. elim (get-push lanes x l k there) [
   | inl before ↦ none k before
@@ -69,7 +69,7 @@ end-more lanes x l None none other = λ k there. elim (get-push lanes x l k ther
 ]
 end-more lanes x l (Some e) h other = last-more lanes x l e h other
 
--- the last slots of all lanes, with a slot more
+-- the ends of all lanes after a slot is added
 ended-more : (lanes : List ℕ) (end new : ℕ → Option ℕ) (lane : ℕ) → ((l : ℕ) → IsEnd lanes l (end l))
     → ((l : ℕ) → new l ≡ cond (lane == l) (Some (length lanes)) (end l)) → (l : ℕ) → IsEnd (lanes ++ lane ∷ []) l (new l)
 ended-more lanes end new lane h told l = elim (cases_Bool (lane == l)) [
@@ -82,7 +82,7 @@ ended-more lanes end new lane h told l = elim (cases_Bool (lane == l)) [
       subst (IsEnd (lanes ++ lane ∷ []) l) (sym is) (end-more lanes lane l (end l) (h l) (λ same. both_ways (lane == l) there (eq-eqb lane l (sym same))))
 ]
 
--- the first slot of a lane
+-- the links after the first slot of a lane is added
 pub linked-first : (lanes : List ℕ) (nexts : List (Option ℕ)) (end new : ℕ → Option ℕ) (lane : ℕ) → AreLinked lanes nexts end
     → length nexts ≡ length lanes → end lane ≡ None → ((l : ℕ) → new l ≡ cond (lane == l) (Some (length lanes)) (end l))
     → AreLinked (lanes ++ lane ∷ []) (nexts ++ None ∷ []) new
@@ -109,7 +109,7 @@ linked-first lanes nexts end new lane h same none told =
       ];
     }
 
--- what follows each slot, with a slot behind the last one of its lane
+-- the link of each slot after a slot is added to a lane that has one
 follow-followed : (lanes : List ℕ) (nexts : List (Option ℕ)) (end : ℕ → Option ℕ) (lane last : ℕ) → AreLinked lanes nexts end
     → length nexts ≡ length lanes → end lane ≡ Some last → (k l : ℕ) (next : Option ℕ) → slice_get (lanes ++ lane ∷ []) k ≡ Some l
     → slice_get (slice_set nexts last (Some (length lanes)) ++ None ∷ []) k ≡ Some next → IsFollowedBy (lanes ++ lane ∷ []) l k next
@@ -163,7 +163,7 @@ follow-followed lanes nexts end lane last h same is_end k l next in_lane there =
       ]
     ]
 
--- a slot behind the last one of its lane
+-- the links after a slot is added to a lane that has one
 pub linked-follow : (lanes : List ℕ) (nexts : List (Option ℕ)) (end new : ℕ → Option ℕ) (lane last : ℕ) → AreLinked lanes nexts end
     → length nexts ≡ length lanes → end lane ≡ Some last → ((l : ℕ) → new l ≡ cond (lane == l) (Some (length lanes)) (end l))
     → AreLinked (lanes ++ lane ∷ []) (slice_set nexts last (Some (length lanes)) ++ None ∷ []) new

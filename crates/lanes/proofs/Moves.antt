@@ -1,4 +1,4 @@
--- Chains and their places, after each call.
+-- The queues and their places after each call.
 use Rattle.std.proofs.Common.{vec_len, ◌≡◌, ◌<◌, ◌+◌, ◌==◌, ℕ, zero, suc, true, false, cond, not, List, [], ◌∷◌, ◌++◌, length, map, get_or, take, Some, None, Option, Result, Ok, Err, IfOk, IfErr, OnOk, OnErr, is_err, option_map, refl, sym, ap, subst, ◌∙◌, inl, inr, arith, length-append}
 use Rattle.std.specs.List.{slice_get, slice_set}
 use Rattle.std.proofs.lemmas.List.{get_or_append_left, length-map, map-set, map_push}
@@ -27,14 +27,14 @@ use Rattle.lanes.proofs.Queue.{queue-add, queue-first, queue-pop, queue-push, qu
 use Rattle.lanes.proofs.Standing.{stands}
 use Rattle.lanes.proofs.Turns.{in_turn-add, in_turn-decide, in_turn-take}
 
--- the same links
+-- equal links are right
 linked-as : (lanes lanes2 : List ℕ) (nexts nexts2 : List (Option ℕ)) (end end2 : ℕ → Option ℕ) → lanes2 ≡ lanes → nexts2 ≡ nexts → ((l : ℕ) → end2 l ≡ end l)
     → AreLinked lanes nexts end → AreLinked lanes2 nexts2 end2
 linked-as lanes lanes2 nexts nexts2 end end2 one two told h =
     let here : AreLinked lanes nexts end2 = record { ended = λ l. subst (IsEnd lanes l) (sym (told l)) (h.ended l); followed = h.followed } in
     subst (λ l. AreLinked l nexts2 end2) (sym one) (subst (λ n. AreLinked lanes n end2) (sym two) here)
 
--- the same links back
+-- equal links back are right
 backed-as : (keys keys2 : List Key) (owns owns2 houses houses2 : List (Option ℕ)) (accounts accounts2 households households2 : Key → Option ℕ)
     → keys2 ≡ keys → owns2 ≡ owns → houses2 ≡ houses → ((q : Key) → accounts2 q ≡ accounts q) → ((q : Key) → households2 q ≡ households q)
     → AreBacked keys owns houses accounts households → AreBacked keys2 owns2 houses2 accounts2 households2
@@ -48,7 +48,7 @@ backed-as keys keys2 owns owns2 houses houses2 accounts accounts2 households hou
     subst (λ k. AreBacked k owns2 houses2 accounts2 households2) (sym one)
     (subst (λ o. AreBacked keys o houses2 accounts2 households2) (sym two) (subst (λ o. AreBacked keys owns o accounts2 households2) (sym three) here))
 
--- chains with other room
+-- the invariant does not depend on reserved memory
 pub kept-as : (names : List (List ℕ)) (old new : Chains) → AreKept names old → AreAs old new → AreKept names new
 kept-as names old new h same = record {
   distinct = h.distinct;
@@ -60,7 +60,7 @@ kept-as names old new h same = record {
   in_turn = rw same.slots h.in_turn;
 }
 
--- the places of slots, with more names
+-- the places of slots do not change if names are added
 places-more : (names more : List (List ℕ)) (slots : List Slot) → ((k : ℕ) (q : Key) → slice_get (keys_of slots) k ≡ Some q → q.0 < length names)
     → ((k : ℕ) (q : Key) → slice_get (keys_of slots) k ≡ Some q → q.1 < length names) → places_of (names ++ more) slots ≡ places_of names slots
 places-more names more [] family member = refl
@@ -90,7 +90,7 @@ grown-kept names new chains h grows distinct =
       in_turn = rw same h.in_turn;
     }
 
--- a claim is taken
+-- the places after a claim is taken
 pub taken-places : (names : List (List ℕ)) (old new : Chains) (picked : Picked) → TakesFirst old new picked
     → places_of names new.slots.items ≡ with_phase (places_of names old.slots.items) picked.position InWork
 taken-places names old new picked t =
@@ -101,7 +101,7 @@ taken-phase : (names : List (List ℕ)) (old new : Chains) (picked : Picked) →
 taken-phase names old new picked t =
     ap (option_map (λ (p : Place). p.phase)) (place-at names old.slots.items picked.position t.slot t.there) ∙ ap Some t.phase
 
--- what is picked
+-- the taken claim and its accumulators
 taken-picked : (names : List (List ℕ)) (old new : Chains) (picked : Picked) → AreKept names old → TakesFirst old new picked → IsPicked (places_of names old.slots.items) picked
 taken-picked names old new picked h t =
     let slots = old.slots.items in
@@ -143,14 +143,14 @@ taken-kept names old new picked h t =
       in_turn = rw same (in_turn-take places k picked.claim h.in_turn (taken-phase names old new picked t));
     }
 
--- the first in the queue is ready
+-- the first claim in the queue is ready
 pub first-ready : (names : List (List ℕ)) (chains : Chains) → AreKept names chains → FirstIsReady chains
 first-ready names chains h position rest queue =
     let (p, at, ready) = queue-first (places_of names chains.slots.items) rest position (rw queue at h.queued) in
     let (slot, there, is) = slot-of names chains.slots.items position p at in
     (slot, there, ap (λ (x : Place). is_ready x.phase) is ∙ ready)
 
--- what a take makes of the chains and of the places
+-- the queues and the places after a call of `take`
 pub take-kept : (names : List (List ℕ)) (old new : Chains) (r : Option Picked) → AreKept names old → MatchOption r (IsIdle old new) (TakesFirst old new)
     → AreKept names new
 take-kept names old new None h idle = kept-as names old new h idle.same
@@ -166,7 +166,7 @@ pub take-places : (names : List (List ℕ)) (old new : Chains) (r : Option Picke
 take-places names old new None t = tt
 take-places names old new (Some picked) t = taken-places names old new picked t
 
--- what follows the slot of a claim in work waits
+-- the next claim of the lane of a taken claim waits
 next-waits : (names : List (List ℕ)) (chains : Chains) (position next : ℕ) (slot : Slot) → AreKept names chains → SlotAt chains position slot
     → slot.phase ≡ InWork → slot.next ≡ Some next
     → (after : Slot) × SlotAt chains next after × (is_waiting after.phase ≡ true) × ¬ (next ≡ position)
@@ -183,7 +183,7 @@ next-waits names chains position next slot h there work link =
     let behind = follows.behind in
     (after, at, waits ∙ ap not undecided, λ same. omega (arith, same, behind))
 
--- a claim in work is decided: its place, and the one released
+-- the places after a taken claim is decided: its own place and the next of its family change
 decided-by : (names : List (List ℕ)) (old new : Chains) (position : ℕ) (left : Acc) (slot : Slot) (next : Option ℕ) → AreKept names old → SlotAt old position slot
     → slot.phase ≡ InWork → slot.next ≡ next → DecidesSlot old new position slot left next
     → places_of names new.slots.items ≡ with_decision (places_of names old.slots.items) position left
@@ -221,7 +221,7 @@ pub decided-places : (names : List (List ℕ)) (old new : Chains) (position : �
     → places_of names new.slots.items ≡ with_decision (places_of names old.slots.items) position left
 decided-places names old new position left slot h there work d = decided-by names old new position left slot slot.next h there work refl d
 
--- what waits isn't ready, and is once it is released
+-- a waiting claim is not ready until it is released
 waiting-ready : (phase : Phase) → is_waiting phase ≡ true → is_ready phase ≡ false
 waiting-ready (Waiting claim) h = refl
 waiting-ready (Ready claim) h = absurd (false≢true h)
@@ -257,7 +257,7 @@ decided-queued names old new position left slot (Some next) h there work link d 
     (waiting-ready after.phase waiting) (released-ready after.phase waiting)
     )
 
--- what a decision leaves as it is
+-- a decision changes only the phases of slots
 decided-same : {X : Type 0} (f : Slot → X) → ((slot : Slot) (phase : Phase) → f (record slot { phase = phase }) ≡ f slot) → (names : List (List ℕ)) (old new : Chains)
     (position : ℕ) (left : Acc) (slot : Slot) (next : Option ℕ) → AreKept names old → SlotAt old position slot → slot.phase ≡ InWork → slot.next ≡ next
     → DecidesSlot old new position slot left next → map f new.slots.items ≡ map f old.slots.items
@@ -273,7 +273,7 @@ decided-same f same names old new position left slot (Some next) h there work li
     ap (map f) ((d after next_at).0) ∙ same-set f mid next after (record after { phase = phase }) still (same after phase)
     ∙ same-set f slots position slot decided there (same slot (Decided left))
 
--- what is found stays as it is
+-- the indices of last positions do not change
 pub record StaysFound (old new : Chains) : Type 0 where
   pub ends : new.ends ≡ old.ends
   pub lasts : new.lasts ≡ old.lasts
@@ -300,14 +300,15 @@ decided-kept names old new position left slot h there work found d =
       in_turn = rw same (in_turn-decide places position left h.in_turn in_work);
     }
 
--- what a claim of an account that is added makes of the chains
+-- the queues after a claim of an account is added
 pub record Adds (names : List (List ℕ)) (old new : Chains) (key : Key) (claim : Claim) (year : ℕ) : Type 0 where
   pub kept : AreKept names old
   pub key_is : IsKeyOf names key (account_in year claim)
   pub slots : AddsSlot old new key claim (end_of old.ends key.0)
   pub back : TellsBack old new key (vec_len old.slots)
 
--- its slot is behind the others, of which the last one of its lane may be linked to it
+-- the slot of the claim is appended; the earlier slots are the same except for the link of the last
+-- slot of its lane
 record IsBehind (names : List (List ℕ)) (old new : Chains) (key : Key) (claim : Claim) (front : List Slot) (phase : Phase) : Type 0 where
   pub slots : new.slots.items ≡ front ++ slot_behind old key phase ∷ []
   pub keys : keys_of front ≡ keys_of old.slots.items
@@ -344,7 +345,7 @@ module _ (names : List (List ℕ)) (old new : Chains) (key : Key) (claim : Claim
   nexts-many : length (nexts_of slots) ≡ length (lanes_of slots)
   nexts-many = length-map slots (λ (x : Slot). x.next) ∙ sym (length-map slots (λ (x : Slot). x.key.0))
 
-  -- the first claim of a lane
+  -- the case of the first claim of a lane
   first-behind : end_of old.ends key.0 ≡ None → AddsSlot old new key claim None → IsBehind names old new key claim slots (Ready claim)
   first-behind none added =
       let empty : (k : ℕ) → ¬ (slice_get (lanes_of slots) k ≡ Some key.0) = subst (IsEnd (lanes_of slots) key.0) none (a.kept.linked.ended key.0) in
@@ -361,7 +362,7 @@ module _ (names : List (List ℕ)) (old new : Chains) (key : Key) (claim : Claim
         linked = linked-first (lanes_of slots) (nexts_of slots) (end_of old.ends) (end_of new.ends) key.0 a.kept.linked nexts-many none ends-told;
       }
 
-  -- a claim behind the last one of its lane
+  -- the case of a claim after the last one of its lane
   next-behind : (last : ℕ) (before : Slot) → end_of old.ends key.0 ≡ Some last → slice_get slots last ≡ Some before → before.key.0 ≡ key.0
       → AddsSlot old new key claim (Some last)
       → IsBehind names old new key claim (slice_set slots last (record before { next = Some (length slots) })) (phase_after before.phase claim)
@@ -386,7 +387,7 @@ module _ (names : List (List ℕ)) (old new : Chains) (key : Key) (claim : Claim
         linked = rw nexts (linked-follow (lanes_of slots) (nexts_of slots) (end_of old.ends) (end_of new.ends) key.0 last a.kept.linked nexts-many is ends-told);
       }
 
-  -- either
+  -- both cases
   behind-by : (e : Option ℕ) → end_of old.ends key.0 ≡ e → AddsSlot old new key claim e
       → (front : List Slot) × (phase : Phase) × IsBehind names old new key claim front phase
   behind-by None is added = (slots, Ready claim, first-behind is added)
@@ -444,7 +445,7 @@ module _ (names : List (List ℕ)) (old new : Chains) (key : Key) (claim : Claim
   pub added-places : places_of names new.slots.items ≡ places_of names slots ++ place_behind (places_of names slots) claim year ∷ []
   added-places = let (front, phase, b) = behind-by (end_of old.ends key.0) refl a.slots in behind-places front phase b
 
--- the slot of a claim in work
+-- the slot of a taken claim
 work-at : (names : List (List ℕ)) (slots : List Slot) (position : ℕ) → IsInWork (places_of names slots) position
     → (slot : Slot) × (slice_get slots position ≡ Some slot) × (slot.phase ≡ InWork)
 work-at names [] position work = absurd (none-some InWork work)
@@ -459,7 +460,7 @@ work-next names chains position h work slot next there link =
     let (after, behind, _, apart) = next-waits names chains position next slot h there (ap (λ (x : Slot). x.phase) (sym same) ∙ phase) link in
     (after, behind, apart)
 
--- what a decision makes of the chains and of the places
+-- the queues and the places after a call of `decide`
 pub decide-kept : {T E : Type 0} (names : List (List ℕ)) (old new : Chains) (position : ℕ) (left : Acc) (r : Result T E) → AreKept names old
     → IsInWork (places_of names old.slots.items) position
     → OnOk r ((slot : Slot) → SlotAt old position slot → DecidesSlot old new position slot left slot.next) → StaysFound old new
@@ -478,7 +479,7 @@ decide-places names old new position left (Ok x) h work decided =
     decided-places names old new position left slot h at phase (decided slot at)
 decide-places names old new position left (Err e) h work decided = tt
 
--- the last slot of each lane is one
+-- the last slot of each lane exists
 pub end-within : (names : List (List ℕ)) (chains : Chains) (lane last : ℕ) → AreKept names chains → end_of chains.ends lane ≡ Some last → last < vec_len chains.slots
 end-within names chains lane last h is =
     let slots = chains.slots in
@@ -486,12 +487,12 @@ end-within names chains lane last h is =
     let within = slice_get_within (lanes_of slots.items) last lane is_last.there in
     omega (arith, within, length-map slots.items (λ (x : Slot). x.key.0), slots.ok.0)
 
--- what a call that is no error tells
+-- the postcondition of a call that did not fail
 pub ok-holds : {T E : Type 0} (r : Result T E) (P : Type 0) → is_err r ≡ false → OnOk r P → P
 ok-holds (Ok x) P fine h = h
 ok-holds (Err e) P fine h = absurd (false≢true (sym fine))
 
--- names and room for a claim that isn't added
+-- the queues with new names and reserved memory for a claim that is not added
 pub prepared-kept : (names more : List (List ℕ)) (old new : Chains) → AreKept names old → Grows names more → AreDistinct more → AreAs old new → AreKept more new
 prepared-kept names more old new h grows distinct same = kept-as more old new (grown-kept names more old h grows distinct) same
 
@@ -499,7 +500,7 @@ pub prepared-places : (names more : List (List ℕ)) (old new : Chains) → AreK
     → places_of more new.slots.items ≡ places_of names old.slots.items
 prepared-places names more old new h grows same = ap (places_of more) same.slots ∙ grown-places names more old h grows
 
--- what a call that adds a claim makes of the chains and of the places
+-- the queues and the places after a call of `add`
 pub add-kept : {T E : Type 0} (names : List (List ℕ)) (old new : Chains) (key : Key) (claim : Claim) (year : ℕ) (r : Result T E) → AreKept names old
     → IsKeyOf names key (account_in year claim) → OnOk r (AddsSlot old new key claim (end_of old.ends key.0)) → OnOk r (TellsBack old new key (vec_len old.slots))
     → OnErr r (AreAs old new) → AreKept names new

@@ -1,4 +1,4 @@
--- A claim's neighbours among the claims of its family decide what a call makes of it.
+-- The effect of a call on the places depends only on the neighbours of a claim within its family.
 use Rattle.std.proofs.Common.{◌≡◌, ◌<◌, ℕ, zero, suc, Bool, true, false, not, ◌&&◌, cond, List, [], ◌∷◌, Some, refl, sym, ap, ◌∙◌, arith}
 use Rattle.std.specs.List.{slice_get}
 use Rattle.std.proofs.Math.Bool.{and_assoc}
@@ -12,13 +12,13 @@ use Rattle.lanes.specs.Places.{Phase, Waiting, Ready, InWork, Decided, Place, In
 use Rattle.lanes.specs.Calls.{phase_after, phase_behind, ready_at, released, with_decision, with_phase}
 use Rattle.lanes.proofs.Turns.{Turns, all-free, and-true, lets, step, turns-of}
 
--- where none is the family's, none is released
+-- no claim is released if no place is of the family
 released-none : (places : List Place) (m : List ℕ) → ((k : ℕ) (p : Place) → slice_get places k ≡ Some p → is_of m p ≡ false)
     → released m places ≡ places
 released-none [] m none = refl
 released-none (p ∷ ps) m none = rw (none 0 p refl) (ap (λ xs. p ∷ xs) (released-none ps m (λ k q there. none (suc k) q there)))
 
--- otherwise the family's first one
+-- otherwise, the first claim of the family is released
 released-first : (places : List Place) (n : ℕ) (m : List ℕ) (q : Place) → slice_get places n ≡ Some q → is_of m q ≡ true
     → ((k : ℕ) (p : Place) → k < n → slice_get places k ≡ Some p → is_of m p ≡ false)
     → released m places ≡ with_phase places n (ready_at q.phase)
@@ -30,7 +30,7 @@ released-first (p ∷ ps) zero m q there mine none =
 released-first (p ∷ ps) (suc n) m q there mine none =
     rw (none 0 p (omega arith) refl) (ap (λ xs. p ∷ xs) (released-first ps n m q there mine (λ k r l is. none (suc k) r (omega (arith, l)) is)))
 
--- a decision of a family's last claim changes that place alone
+-- a decision of the last claim of a family changes only the claim's place
 pub decision-last : (places : List Place) (k : ℕ) (left : Acc) (p : Place) → slice_get places k ≡ Some p
     → ((j : ℕ) (q : Place) → k < j → slice_get places j ≡ Some q → is_of p.account.family q ≡ false)
     → with_decision places k left ≡ with_phase places k (Decided left)
@@ -41,7 +41,7 @@ decision-last (r ∷ rs) zero left p there none =
 decision-last (r ∷ rs) (suc k) left p there none =
     ap (λ xs. r ∷ xs) (decision-last rs k left p there (λ j q l is. none (suc j) q (omega (arith, l)) is))
 
--- a decision of any other claim, that place and the next of its family
+-- a decision of any other claim changes its place and the next place of its family
 pub decision-next : (places : List Place) (k n : ℕ) (left : Acc) (p q : Place) → slice_get places k ≡ Some p → slice_get places n ≡ Some q → k < n
     → is_of p.account.family q ≡ true → ((j : ℕ) (r : Place) → k < j → j < n → slice_get places j ≡ Some r → is_of p.account.family r ≡ false)
     → with_decision places k left ≡ with_phase (with_phase places k (Decided left)) n (ready_at q.phase)
@@ -58,17 +58,17 @@ decision-next (r ∷ rs) (suc k) (suc n) left p q there next behind mine none =
     decision-next rs k n left p q there next (omega (arith, behind)) mine (λ j x l m is. none (suc j) x (omega (arith, l)) (omega (arith, m)) is)
     )
 
--- where none is the family's, all of the family's are decided
+-- all claims of a family without places are decided
 all-none : (places : List Place) (m : List ℕ) → ((k : ℕ) (p : Place) → slice_get places k ≡ Some p → is_of m p ≡ false) → all_decided m places ≡ true
 all-none [] m none = refl
 all-none (p ∷ ps) m none = rw (none 0 p refl) (all-none ps m (λ k q is. none (suc k) q is))
 
--- a family's first claim is ready
+-- the first claim of a family is ready
 pub phase-first : (places : List Place) (claim : Claim) → ((k : ℕ) (p : Place) → slice_get places k ≡ Some p → is_of (family_of claim) p ≡ false)
     → phase_behind places claim ≡ Ready claim
 phase-first places claim none = rw (all-none places (family_of claim) none) refl
 
--- what waits isn't decided
+-- a waiting claim is not decided
 decided-free : (b : Bool) (phase : Phase) → is_waiting phase ≡ not b → (b && is_decided phase) ≡ is_decided phase
 decided-free true phase h = refl
 decided-free false (Waiting claim) h = refl
@@ -76,7 +76,7 @@ decided-free false (Ready claim) h = refl
 decided-free false InWork h = refl
 decided-free false (Decided left) h = absurd (false≢true h)
 
--- all of a family's are decided where the last one is
+-- all claims of a family are decided if the last one is
 all-last : (d : List ℕ → Bool) (places : List Place) (k : ℕ) (p : Place) (m : List ℕ) → Turns d places → slice_get places k ≡ Some p → is_of m p ≡ true
     → ((j : ℕ) (q : Place) → k < j → slice_get places j ≡ Some q → is_of m q ≡ false) → (d m && all_decided m places) ≡ is_decided p.phase
 all-last d [] k p m h there mine none = absurd (none-some p there)
@@ -95,7 +95,7 @@ phase-by (Ready other) claim all is = rw is refl
 phase-by InWork claim all is = rw is refl
 phase-by (Decided a) claim all is = rw is refl
 
--- a claim behind its family's last one
+-- the phase of a claim after the last one of its family
 pub phase-next : (places : List Place) (k : ℕ) (p : Place) (claim : Claim) → InTurn places → slice_get places k ≡ Some p → is_of (family_of claim) p ≡ true
     → ((j : ℕ) (q : Place) → k < j → slice_get places j ≡ Some q → is_of (family_of claim) q ≡ false)
     → phase_behind places claim ≡ phase_after p.phase claim

@@ -1,4 +1,4 @@
--- The queue of ready claims, after a change of the places.
+-- The queue of ready claims after a change of the places.
 use Rattle.std.proofs.Common.{◌≡◌, ◌+◌, ◌==◌, ◌&&◌, ℕ, zero, suc, Bool, true, false, cond, List, [], ◌∷◌, ◌++◌, length, count_by, Some, None, refl, sym, ap, ◌∙◌, inl, inr, arith}
 use Rattle.std.specs.List.{slice_get}
 use Rattle.std.specs.Option.{option_map_or}
@@ -10,17 +10,17 @@ use Rattle.lanes.specs.Calls.{with_phase}
 use Rattle.lanes.specs.Chains.{AreQueued, ready_there}
 use Rattle.lanes.proofs.Turns.{and-true}
 
--- one, where it is so
+-- one if the flag is true, and zero otherwise
 abbrev one_if : Bool → ℕ
 one_if so = cond so 1 0
 
--- a place at another phase
+-- whether the claim at the changed place is ready
 ready-same : (places : List Place) (i : ℕ) (p : Place) (phase : Phase) → slice_get places i ≡ Some p → ready_there (with_phase places i phase) i ≡ one_if (is_ready phase)
 ready-same [] i p phase there = absurd (none-some p there)
 ready-same (q ∷ qs) zero p phase there = refl
 ready-same (q ∷ qs) (suc i) p phase there = ready-same qs i p phase there
 
--- the others
+-- whether the claims at other places are ready does not change
 ready-other : (places : List Place) (i j : ℕ) (phase : Phase) → ¬ (j ≡ i) → ready_there (with_phase places i phase) j ≡ ready_there places j
 ready-other [] i j phase other = refl
 ready-other (q ∷ qs) zero zero phase other = absurd (other refl)
@@ -28,18 +28,18 @@ ready-other (q ∷ qs) zero (suc j) phase other = refl
 ready-other (q ∷ qs) (suc i) zero phase other = refl
 ready-other (q ∷ qs) (suc i) (suc j) phase other = ready-other qs i j phase (λ same. other (ap suc same))
 
--- the place as it is
+-- whether the claim at an unchanged place is ready
 ready-is : (places : List Place) (i : ℕ) (p : Place) → slice_get places i ≡ Some p → ready_there places i ≡ one_if (is_ready p.phase)
 ready-is places i p there = ap (λ o. cond (option_map_or (λ (x : Place). is_ready x.phase) o false) 1 0) there
 
--- one position more in a queue
+-- the count of a position in a queue with one more
 count-more : (k i : ℕ) (queue : List ℕ) → count_by (λ x. x == k) (queue ++ i ∷ []) ≡ count_by (λ x. x == k) queue + one_if (i == k)
 count-more k i queue = sum_by_push (λ x. one_if (x == k)) queue i
 
 count-first : (k i : ℕ) (queue : List ℕ) → count_by (λ x. x == k) (i ∷ queue) ≡ one_if (i == k) + count_by (λ x. x == k) queue
 count-first k i queue = sum_by-cons (λ x. one_if (x == k)) i queue
 
--- a claim that was not ready and isn't
+-- the queue after the change of a claim that is not ready before or after it
 pub queue-same : (places : List Place) (queue : List ℕ) (i : ℕ) (p : Place) (phase : Phase) → AreQueued places queue → slice_get places i ≡ Some p
     → is_ready p.phase ≡ false → is_ready phase ≡ false → AreQueued (with_phase places i phase) queue
 queue-same places queue i p phase h there was is k = elim (cases_eq k i) [
@@ -48,7 +48,7 @@ queue-same places queue i p phase h there was is k = elim (cases_eq k i) [
   | inr other ↦ h k ∙ sym (ready-other places i k phase other)
 ]
 
--- a claim that is ready now
+-- the queue after a claim becomes ready
 pub queue-push : (places : List Place) (queue : List ℕ) (i : ℕ) (p : Place) (phase : Phase) → AreQueued places queue → slice_get places i ≡ Some p
     → is_ready p.phase ≡ false → is_ready phase ≡ true → AreQueued (with_phase places i phase) (queue ++ i ∷ [])
 queue-push places queue i p phase h there was is k = elim (cases_eq k i) [
@@ -64,7 +64,7 @@ queue-push places queue i p phase h there was is k = elim (cases_eq k i) [
       count-more k i queue ∙ omega (arith, before, after, none)
 ]
 
--- a claim that was ready and isn't, the first in the queue
+-- the queue after its first claim is taken
 pub queue-pop : (places : List Place) (queue : List ℕ) (i : ℕ) (p : Place) (phase : Phase) → AreQueued places (i ∷ queue) → slice_get places i ≡ Some p
     → is_ready p.phase ≡ true → is_ready phase ≡ false → AreQueued (with_phase places i phase) queue
 queue-pop places queue i p phase h there was is k = elim (cases_eq k i) [
@@ -82,7 +82,7 @@ queue-pop places queue i p phase h there was is k = elim (cases_eq k i) [
       omega (arith, before, after, none, parts)
 ]
 
--- the first in the queue is ready
+-- the first claim in the queue is ready
 pub queue-first : (places : List Place) (queue : List ℕ) (i : ℕ) → AreQueued places (i ∷ queue) → (p : Place) × (slice_get places i ≡ Some p) × (is_ready p.phase ≡ true)
 queue-first places queue i h =
     let some : ready_there places i ≡ 0 → ⊥ = λ none.
@@ -98,7 +98,7 @@ queue-first places queue i h =
       ]
     ]) some
 
--- an empty queue
+-- no claim is ready if the queue is empty
 pub queue-empty : (places : List Place) → AreQueued places [] → (i : ℕ) (p : Place) → slice_get places i ≡ Some p → is_ready p.phase ≡ false
 queue-empty places h i p there = elim (cases_Bool (is_ready p.phase)) [
   | inl ready ↦
@@ -108,7 +108,7 @@ queue-empty places h i p there = elim (cases_Bool (is_ready p.phase)) [
   | inr not_ready ↦ not_ready
 ]
 
--- a place more
+-- whether earlier claims are ready does not change when a claim is added
 ready-front : (places : List Place) (p : Place) (k : ℕ) → ¬ (k ≡ length places) → ready_there (places ++ p ∷ []) k ≡ ready_there places k
 ready-front [] p zero other = absurd (other refl)
 ready-front [] p (suc k) other = refl
@@ -123,12 +123,12 @@ ready-past : (places : List Place) → ready_there places (length places) ≡ 0
 ready-past [] = refl
 ready-past (q ∷ qs) = ready-past qs
 
--- the count where the place more is ready, and where it isn't
+-- the count of a position after a claim is added, which may be ready
 count-add : (queue : List ℕ) (ready : Bool) (n k : ℕ) → count_by (λ x. x == k) (cond ready (queue ++ n ∷ []) queue) ≡ count_by (λ x. x == k) queue + one_if (ready && (n == k))
 count-add queue true n k = count-more k n queue
 count-add queue false n k = omega arith
 
--- a claim more, in the queue where it is ready
+-- the queue after a claim is added
 pub queue-add : (places : List Place) (queue : List ℕ) (p : Place) (n : ℕ) → n ≡ length places → AreQueued places queue
     → AreQueued (places ++ p ∷ []) (cond (is_ready p.phase) (queue ++ n ∷ []) queue)
 queue-add places queue p n size h k = elim (cases_eq k (length places)) [

@@ -1,4 +1,4 @@
--- What the links back tell of the accumulators that a claim is taken at.
+-- The links back to a claim's predecessors determine the accumulators before the claim.
 use Rattle.std.proofs.Common.{◌≡◌, ◌<◌, ◌+◌, ◌&&◌, ◌||◌, ◌==◌, ℕ, zero, suc, Bool, true, false, not, cond, List, [], ◌∷◌, fold, get_or, length, map, take, Option, Some, None, refl, sym, ap, ◌∙◌, inl, inr, arith}
 use Rattle.std.specs.List.{slice_get}
 use Rattle.std.specs.Option.{option_map, unwrap_or}
@@ -14,7 +14,7 @@ use Rattle.lanes.specs.Chains.{AreBacked, AreKnown, account_at, houses_of, keys_
 use Rattle.lanes.specs.declared.slot.Slot.{Slot}
 use Rattle.lanes.proofs.Kept.{alike, apart, key-at}
 
--- names are the same where their numbers are
+-- names are equal if and only if their numbers are
 same-name : (names : List (List ℕ)) (i j : ℕ) → AreDistinct names → i < length names → j < length names → bytes_eq (get_or names i []) (get_or names j []) ≡ (i == j)
 same-name names i j distinct one two = elim (cases_eq i j) [
   | inl same ↦ alike names j i same ∙ sym (eq-eqb i j same)
@@ -36,19 +36,19 @@ and-moved true y m = and-turned y m
 and-moved false y m = refl
 
 module _ (names : List (List ℕ)) (distinct : AreDistinct names) (k q : Key) (kf : k.0 < length names) (qf : q.0 < length names) where
-  -- two are of one household where their numbers say so
+  -- two accounts are of one family and year if and only if their keys are
   same-household : is_household (account_at names k) (account_at names q) ≡ is_key (house k) (house q)
   same-household =
       ap (λ b. b && (k.2 == q.2)) (same-name names k.0 q.0 distinct kf qf)
       ∙ ap (λ b. b && (k.2 == q.2)) (and-same (k.0 == q.0))
 
-  -- and they are one account
+  -- two accounts are equal if and only if their keys are
   same-account : k.1 < length names → q.1 < length names → is_same (account_at names k) (account_at names q) ≡ is_key k q
   same-account km qm =
       (λ i. (same-name names k.0 q.0 distinct kf qf i && (k.2 == q.2)) && same-name names k.1 q.1 distinct km qm i)
       ∙ and-moved (k.0 == q.0) (k.2 == q.2) (k.1 == q.1)
 
--- who is of the account is of its household
+-- the keys of one account have the same family and year
 wider : (f m y : Bool) → ((f && m) && y) ≡ true → ((f && f) && y) ≡ true
 wider true m y h = (and_parts m y h).1
 wider false m y h = h
@@ -63,7 +63,7 @@ other-of : (b c : Bool) → (not b || c) ≡ true → b ≡ true → c ≡ true
 other-of true c h is = h
 other-of false c h is = absurd (both_ways false refl is)
 
--- what the claims at two places left
+-- the accumulators from the claims at two linked positions
 abbrev by-links : List Slot → Acc → Option ℕ → Option ℕ → Acc
 by-links slots opening own household = started opening (left_at slots own) (left_at slots household)
 
@@ -103,7 +103,7 @@ module _ (all : List Slot) (opening : Acc) where
         (λ j x there. (let e : n + 1 + j ≡ n + suc j = omega arith in ap (slice_get all) e) ∙ at (suc j) x there)
         ((λ i. joined (same i) (shared i) (left_in s.phase acc) acc) ∙ step) parts.1
 
--- a front has what the whole has
+-- an item of a prefix is an item of the list
 front-has : (k : ℕ) (slots : List Slot) (j : ℕ) (s : Slot) → slice_get (take k slots) j ≡ Some s → slice_get slots j ≡ Some s
 front-has zero slots j s h = absurd (none-some s h)
 front-has (suc k) [] j s h = h
@@ -115,7 +115,7 @@ map-taken f zero xs = refl
 map-taken f (suc k) [] = refl
 map-taken f (suc k) (x ∷ xs) = ap (λ ys. f x ∷ ys) (map-taken f k xs)
 
--- what the links of the slot at a position tell
+-- the accumulators from the links of a slot are those of its account after the earlier claims
 pub stands : (names : List (List ℕ)) (slots : List Slot) (accounts households : Key → Option ℕ) (position : ℕ) (slot : Slot) (opening : Acc) → AreDistinct names
     → AreKnown (length names) (keys_of slots) → AreBacked (keys_of slots) (owns_of slots) (houses_of slots) accounts households
     → slice_get slots position ≡ Some slot → all_decided (get_or names slot.key.0 []) (take position (places_of names slots)) ≡ true

@@ -1,4 +1,4 @@
--- Places stay in turn.
+-- The order within families is preserved.
 use Rattle.std.proofs.Common.{◌≡◌, ℕ, zero, suc, Bool, true, false, not, ◌&&◌, ◌||◌, List, [], ◌∷◌, ◌++◌, take, Some, refl, sym, ap, subst, ◌∙◌, inl, inr}
 use Rattle.std.specs.List.{slice_get}
 use Rattle.std.specs.Str.{bytes_eq}
@@ -12,15 +12,15 @@ use Rattle.settlement.specs.declared.claim.Claim.{Claim}
 use Rattle.lanes.specs.Places.{Phase, Waiting, Ready, InWork, Decided, Place, InTurn, all_decided, is_decided, is_of, is_waiting, phase_at}
 use Rattle.lanes.specs.Calls.{phase_behind, place_behind, ready_at, released, with_decision, with_phase}
 
--- whether a place lets the next claim of a family be ready
+-- the place does not block later claims of the family: it is of another family, or decided
 abbrev pub lets : List ℕ → Place → Bool
 lets family place = not (is_of family place) || is_decided place.phase
 
--- whether each claim of a family is decided, with a place more
+-- each claim of a family is decided, including the claim at one more place
 abbrev pub step : (List ℕ → Bool) → Place → List ℕ → Bool
 step before place family = before family && lets family place
 
--- the places are in turn behind places that let these families' next claims be ready
+-- the places are in order, if `before` says for which families all claims before them are decided
 abbrev pub Turns : (List ℕ → Bool) → List Place → Type 0
 Turns before [] = Unit {0}
 Turns before (place ∷ rest) = (is_waiting place.phase ≡ not (before place.account.family)) × Turns (step before place) rest
@@ -51,7 +51,7 @@ turns-from d (p ∷ ps) h = (
   turns-from (step d p) ps (λ k place there. h (suc k) place there ∙ ap not (sym (and_assoc (d place.account.family) (lets place.account.family p) (all_decided place.account.family (take k ps))))),
 )
 
--- in front of the first place nothing is left to be decided
+-- no claim precedes the first place, so no family is blocked
 abbrev pub all-free : List ℕ → Bool
 all-free family = true
 
@@ -61,7 +61,7 @@ turns-of places h = turns-from all-free places h.waits
 in_turn-of : (places : List Place) → Turns all-free places → InTurn places
 in_turn-of places h = record { waits = λ k place there. turns-at all-free places k place h there }
 
--- no places are in turn
+-- an empty list of places is in order
 pub in_turn-none : (places : List Place) → [] ≡ places → InTurn places
 in_turn-none places empty = subst InTurn empty (record { waits = λ position place there. absurd (none-some place there) })
 
@@ -71,14 +71,14 @@ turns-push d [] place h waits = (waits ∙ ap not (and-true (d place.account.fam
 turns-push d (p ∷ ps) place h waits =
     (h.0, turns-push (step d p) ps place h.1 (waits ∙ ap not (sym (and_assoc (d place.account.family) (lets place.account.family p) (all_decided place.account.family ps)))))
 
--- a claim behind places waits unless each claim of its family is decided
+-- an added claim waits unless each claim of its family is decided
 waits-behind : (places : List Place) (claim : Claim) → is_waiting (phase_behind places claim) ≡ not (all_decided (family_of claim) places)
 waits-behind places claim = elim (cases_Bool (all_decided (family_of claim) places)) [
   | inl all ↦ rw all refl
   | inr some ↦ rw some refl
 ]
 
--- one claim more
+-- the order after a claim is added
 pub in_turn-add : (places : List Place) (claim : Claim) (year : ℕ) → InTurn places → InTurn (places ++ place_behind places claim year ∷ [])
 in_turn-add places claim year h =
     in_turn-of _ (turns-push all-free places (place_behind places claim year) (turns-of places h) (waits-behind places claim))
@@ -94,31 +94,31 @@ turns-take d (p ∷ ps) zero claim h ready =
     )
 turns-take d (p ∷ ps) (suc k) claim h ready = (h.0, turns-take (step d p) ps k claim h.1 ready)
 
--- a ready claim is taken
+-- the order after a ready claim is taken
 pub in_turn-take : (places : List Place) (k : ℕ) (claim : Claim) → InTurn places → phase_at places k ≡ Some (Ready claim)
     → InTurn (with_phase places k InWork)
 in_turn-take places k claim h ready = in_turn-of _ (turns-take all-free places k claim (turns-of places h) ready)
 
--- a claim that waits waits no more
+-- a released claim does not wait
 no-wait : (phase : Phase) → is_waiting phase ≡ true → is_waiting (ready_at phase) ≡ false
 no-wait (Waiting claim) h = refl
 no-wait (Ready claim) h = refl
 no-wait InWork h = refl
 no-wait (Decided left) h = refl
 
--- and is not decided yet
+-- a released claim is not decided yet
 no-decision : (phase : Phase) → is_waiting phase ≡ true → is_decided (ready_at phase) ≡ false
 no-decision (Waiting claim) h = refl
 no-decision (Ready claim) h = refl
 no-decision InWork h = refl
 no-decision (Decided left) h = absurd (false≢true h)
 
--- bytes that differ differ either way round
+-- the test for equal bytes is symmetric
 pub apart-turned : (a b : List ℕ) → bytes_eq a b ≡ false → bytes_eq b a ≡ false
 apart-turned a b apart =
     false_from_ne_true (bytes_eq b a) (λ same. both_ways (bytes_eq a b) apart ((bytes_eq-Decides a b).1 (sym ((bytes_eq-Decides b a).0 same))))
 
--- what is known of a family behind its released place
+-- which families are blocked does not change if a place of the family `m` is released
 step-released : (d e : List ℕ → Bool) (m : List ℕ) (p : Place) → d m ≡ false → ((q : List ℕ) → bytes_eq m q ≡ false → d q ≡ e q)
     → is_of m p ≡ true → is_waiting p.phase ≡ true → (x : List ℕ) → step d p x ≡ step e (record p { phase = ready_at p.phase }) x
 step-released d e m p was others mine waiting x = elim (cases_Bool (bytes_eq m x)) [
@@ -135,7 +135,8 @@ step-released d e m p was others mine waiting x = elim (cases_Bool (bytes_eq m x
       rw off (ap (λ b. b && true) (others x there))
 ]
 
--- the places behind a decision: m's first is released, and the others see no change
+-- the places after the decided one stay in order: the first place of the family `m` is released,
+-- and no other place changes
 turns-released : (d e : List ℕ → Bool) (m : List ℕ) (places : List Place) → d m ≡ false → e m ≡ true
     → ((q : List ℕ) → bytes_eq m q ≡ false → d q ≡ e q) → Turns d places → Turns e (released m places)
 turns-released d e m [] was is others h = tt
@@ -168,7 +169,7 @@ turns-decide d (p ∷ ps) zero left h work =
     (sym (ap not free), turns-released (step d p) (step d q) p.account.family ps was is (λ x apart. rw apart refl) h.1)
 turns-decide d (p ∷ ps) (suc k) left h work = (h.0, turns-decide (step d p) ps k left h.1 work)
 
--- a claim in work is decided
+-- the order after a taken claim is decided
 pub in_turn-decide : (places : List Place) (k : ℕ) (left : Acc) → InTurn places → phase_at places k ≡ Some InWork
     → InTurn (with_decision places k left)
 in_turn-decide places k left h work = in_turn-of _ (turns-decide all-free places k left (turns-of places h) work)

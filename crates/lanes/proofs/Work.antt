@@ -1,4 +1,4 @@
--- Claims in work stay in work while others are taken.
+-- Taken claims stay taken when other claims are taken.
 use Rattle.std.proofs.Common.{◌≡◌, ℕ, zero, suc, List, [], ◌∷◌, Some, None, Option, option_map, refl, ap, ◌∙◌}
 use Rattle.std.specs.Option.{IfNone, IfSome}
 use Rattle.std.proofs.lemmas.Option.{none-some}

@@ -1,4 +1,4 @@
--- What the calls make of the places.
+-- The effects of the calls on the places.
 use Rattle.std.specs.Prelude.{◌≡◌, ℕ, zero, suc, Bool, false, cond, if◌then◌else◌, List, [], ◌∷◌, take, Some, slice_get}
 use Rattle.std.specs.Option.{option_map_or}
 use Rattle.settlement.specs.Accounts.{account_in, family_of}
@@ -7,27 +7,28 @@ use Rattle.settlement.specs.declared.claim.Claim.{Claim}
 use Rattle.lanes.specs.Places.{Phase, Waiting, Ready, InWork, Decided, Place, is_of, is_ready, is_decided, all_decided, standing, started, phase_at}
 use Rattle.lanes.specs.declared.picked.Picked.{Picked}
 
--- the phase of a claim behind these places: ready where each earlier claim of its family is decided
+-- the phase of a claim that is added after these places: ready if each earlier claim of its family
+-- is decided
 abbrev pub phase_behind : List Place → Claim → Phase
 phase_behind places claim = if all_decided (family_of claim) places then Ready claim else Waiting claim
 
--- the place of a claim, of its account in this year, behind these places
+-- the place of a claim that is added after these places, of its account in this year
 abbrev pub place_behind : List Place → Claim → ℕ → Place
 place_behind places claim year = record { account = account_in year claim; phase = phase_behind places claim }
 
--- the phase of a claim whose family's last one is at this phase
+-- the phase of a claim that is added when the last claim of its family is in this phase
 abbrev pub phase_after : Phase → Claim → Phase
 phase_after (Decided left) claim = Ready claim
 phase_after _ claim = Waiting claim
 
--- the places with another phase at one position
+-- the places after the phase at one position changes
 abbrev pub with_phase : List Place → ℕ → Phase → List Place
 with_phase [] position phase = []
 with_phase (place ∷ rest) zero phase = record place { phase = phase } ∷ rest
 with_phase (place ∷ rest) (suc position) phase = place ∷ with_phase rest position phase
 
--- the claim that was picked is ready at its position, and what the earlier claims left of its account and of its household is,
--- whatever the account began with, what the account stands at behind them
+-- the taken claim was ready at its position, and for all opening accumulators, the accumulators
+-- that come with it are those of its account after the earlier claims
 pub record IsPicked (places : List Place) (picked : Picked) : Type 0 where
   pub place : Place
   pub there : slice_get places picked.position ≡ Some place
@@ -38,27 +39,27 @@ pub record IsPicked (places : List Place) (picked : Picked) : Type 0 where
 abbrev pub NothingReady : List Place → Type 0
 NothingReady places = (position : ℕ) (place : Place) → slice_get places position ≡ Some place → is_ready place.phase ≡ false
 
--- the claim at a position is in work
+-- the claim at a position is taken and not decided yet
 abbrev pub IsInWork : List Place → ℕ → Type 0
 IsInWork places position = phase_at places position ≡ Some InWork
 
--- a claim that waits is ready
+-- a waiting claim becomes ready; other phases do not change
 abbrev pub ready_at : Phase → Phase
 ready_at (Waiting claim) = Ready claim
 ready_at phase = phase
 
--- the first place of the family, if it waits, is ready
+-- the places after the first claim of the family becomes ready, if it waits
 abbrev pub released : List ℕ → List Place → List Place
 released family [] = []
 released family (place ∷ rest) =
     cond (is_of family place) (record place { phase = ready_at place.phase } ∷ rest) (place ∷ released family rest)
 
--- the places once the claim at a position is decided: the next claim of its family is ready
+-- the places after the claim at a position is decided: the next claim of its family becomes ready
 abbrev pub with_decision : List Place → ℕ → Acc → List Place
 with_decision [] position left = []
 with_decision (place ∷ rest) zero left = record place { phase = Decided left } ∷ released place.account.family rest
 with_decision (place ∷ rest) (suc position) left = place ∷ with_decision rest position left
 
--- whether the claim at a position is decided
+-- there is a claim at the position, and it is decided
 abbrev pub is_decided_at : List Place → ℕ → Bool
 is_decided_at places position = option_map_or is_decided (phase_at places position) false

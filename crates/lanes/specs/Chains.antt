@@ -1,4 +1,5 @@
--- The slots of claims, linked lane by lane and back to the last of their account.
+-- The slots of claims, with their links to the next claim of the lane and back to the last claims
+-- of the account and of the family and year.
 use Rattle.std.specs.Prelude.{◌≡◌, ◌<◌, ◌==◌, ◌+◌, ◌^◌, ℕ, true, false, Bool, cond, List, [], ◌∷◌, ◌++◌, map, length, take, get_or, slice_get, slice_set, Option, Some, None, count_by, vec_len, vec_capacity, if◌then◌else◌}
 use Rattle.std.specs.Option.{option_map_or}
 use Rattle.std.specs.VecDeque.{deque_len, deque_capacity}
@@ -13,31 +14,32 @@ use Rattle.lanes.specs.declared.picked.Picked.{Picked}
 use Rattle.lanes.specs.declared.chains.Chains.{Chains}
 use Rattle.lanes.specs.declared.slot.Slot.{Slot}
 
--- the account with these numbers
+-- the account of a key
 abbrev pub account_at : List (List ℕ) → Key → Account
 account_at names key = record { family = get_or names key.0 []; member = get_or names key.1 []; year = key.2 }
 
--- the numbers are those of the account
+-- the key is that of the account
 pub record IsKeyOf (names : List (List ℕ)) (key : Key) (account : Account) : Type 0 where
   pub family : slice_get names key.0 ≡ Some account.family
   pub member : slice_get names key.1 ≡ Some account.member
   pub year : key.2 ≡ account.year
 
--- the place of a slot's claim, where the names have these numbers
+-- the place of a slot's claim, by the list of names
 abbrev pub place_of : List (List ℕ) → Slot → Place
 place_of names slot = record { account = account_at names slot.key; phase = slot.phase }
 
+-- the places of the claims of all slots
 abbrev pub places_of : List (List ℕ) → List Slot → List Place
 places_of names slots = map (place_of names) slots
 
--- room for one claim more, in this lane
+-- there is memory for one more claim in this lane
 pub record HasRoom (chains : Chains) (lane : ℕ) : Type 0 where
   pub position : vec_len chains.slots < 2 ^ 32
   pub slots : vec_len chains.slots < vec_capacity chains.slots
   pub ends : lane < length chains.ends.positions.items
   pub ready : deque_len chains.ready < deque_capacity chains.ready
 
--- the same, but for the room
+-- the queues are the same except for reserved memory
 pub record AreAs (old new : Chains) : Type 0 where
   pub slots : new.slots.items ≡ old.slots.items
   pub ends : (lane : ℕ) → end_of new.ends lane ≡ end_of old.ends lane
@@ -49,17 +51,17 @@ pub record AreAs (old new : Chains) : Type 0 where
 abbrev pub SlotAt : Chains → ℕ → Slot → Type 0
 SlotAt chains position slot = slice_get chains.slots.items position ≡ Some slot
 
--- what the claim of a slot left
+-- the accumulators after the claim of a slot, if it is decided
 abbrev pub left_of_slot : Option Slot → Option Acc
 left_of_slot None = None
 left_of_slot (Some slot) = left_of slot.phase
 
--- what the claim at a place left
+-- the accumulators after the claim at a position, if there is one and it is decided
 abbrev pub left_at : List Slot → Option ℕ → Option Acc
 left_at slots None = None
 left_at slots (Some position) = left_of_slot (slice_get slots position)
 
--- the slot of a claim that comes behind the others
+-- the slot of an added claim
 abbrev pub slot_behind : Chains → Key → Phase → Slot
 slot_behind old key phase = record {
   key = key;
@@ -69,11 +71,12 @@ slot_behind old key phase = record {
   phase = phase;
 }
 
--- the position in the queue, where the phase is ready
+-- the queue with the position appended, if the phase is ready
 abbrev pub queued : List ℕ → ℕ → Phase → List ℕ
 queued queue position phase = if is_ready phase then queue ++ position ∷ [] else queue
 
--- the slot of a claim is behind the others, and in the queue where its claim is ready; the last one of its lane is linked to it
+-- the slot of an added claim is appended, and its position to the queue if the claim is ready; the
+-- last slot of its lane, if there is one, has a link to it
 abbrev pub AddsSlot : Chains → Chains → Key → Claim → Option ℕ → Type 0
 AddsSlot old new key claim None =
     (new.slots.items ≡ old.slots.items ++ slot_behind old key (Ready claim) ∷ []) × (new.ready.items ≡ queued old.ready.items (vec_len old.slots) (Ready claim))
@@ -81,13 +84,13 @@ AddsSlot old new key claim (Some last) = (before : Slot) → SlotAt old last bef
     → (new.slots.items ≡ slice_set old.slots.items last (record before { next = Some (vec_len old.slots) }) ++ slot_behind old key (phase_after before.phase claim) ∷ [])
     × (new.ready.items ≡ queued old.ready.items (vec_len old.slots) (phase_after before.phase claim))
 
--- the position is the last one of the lane, of the account and of its household
+-- the position is now the last of its lane, of its account and of its family and year
 pub record TellsBack (old new : Chains) (key : Key) (position : ℕ) : Type 0 where
   pub ends : (lane : ℕ) → end_of new.ends lane ≡ cond (key.0 == lane) (Some position) (end_of old.ends lane)
   pub accounts : (q : Key) → found_in new.lasts.accounts q ≡ cond (is_key key q) (Some position) (found_in old.lasts.accounts q)
   pub households : (q : Key) → household_in new.lasts (house q) ≡ cond (is_key (house key) (house q)) (Some position) (household_in old.lasts (house q))
 
--- the slot at a position is linked to the next one of its lane, whose claim is at this phase
+-- the last slot of a lane has a link to the next one, whose claim is in this phase
 pub record Follows (old new : Chains) (last next : ℕ) (claim : Claim) (phase : Phase) : Type 0 where
   pub slots : (before : Slot) → SlotAt old last before → new.slots.items ≡ slice_set old.slots.items last (record before { next = Some next })
   pub phase_is : (before : Slot) → SlotAt old last before → phase ≡ phase_after before.phase claim
@@ -97,7 +100,8 @@ pub record Follows (old new : Chains) (last next : ℕ) (claim : Claim) (phase :
   pub lasts : new.lasts ≡ old.lasts
   pub ready : new.ready ≡ old.ready
 
--- the claim of a slot is decided; what follows it, if there is something, is ready, and behind the others in the queue
+-- the claim of a slot is decided; the next claim of the lane, if there is one, becomes ready and
+-- its position is appended to the queue
 abbrev pub DecidesSlot : Chains → Chains → ℕ → Slot → Acc → Option ℕ → Type 0
 DecidesSlot old new position slot left None =
     (new.slots.items ≡ slice_set old.slots.items position (record slot { phase = Decided left })) × (new.ready.items ≡ old.ready.items)
@@ -105,17 +109,18 @@ DecidesSlot old new position slot left (Some next) = (after : Slot) → SlotAt o
     → (new.slots.items ≡ slice_set (slice_set old.slots.items position (record slot { phase = Decided left })) next (record after { phase = ready_at after.phase }))
     × (new.ready.items ≡ old.ready.items ++ next ∷ [])
 
--- the first in the queue is ready
+-- the first claim in the queue is ready
 abbrev pub FirstIsReady : Chains → Type 0
 FirstIsReady chains = (position : ℕ) (rest : List ℕ) → chains.ready.items ≡ position ∷ rest
     → (slot : Slot) × SlotAt chains position slot × (is_ready slot.phase ≡ true)
 
--- nothing is in the queue, and nothing changes
+-- the queue is empty, and nothing changes
 pub record IsIdle (old new : Chains) : Type 0 where
   pub empty : old.ready.items ≡ []
   pub same : AreAs old new
 
--- the first in the queue is taken, with what the last ones of its account and of its household left
+-- the first claim in the queue is taken, with the accumulators after the last claims of its account
+-- and of its family and year
 pub record TakesFirst (old new : Chains) (picked : Picked) : Type 0 where
   pub slot : Slot
   pub there : SlotAt old picked.position slot
@@ -127,7 +132,7 @@ pub record TakesFirst (old new : Chains) (picked : Picked) : Type 0 where
   pub lasts : new.lasts ≡ old.lasts
   pub queue : old.ready.items ≡ picked.position ∷ new.ready.items
 
--- what follows the slot at a position is there, and is another one
+-- the slot at a position has a link to an existing slot other than itself, if it has a link
 abbrev pub NextIsAnother : Chains → ℕ → Type 0
 NextIsAnother chains position = (slot : Slot) (next : ℕ) → SlotAt chains position slot → slot.next ≡ Some next
     → (after : Slot) × SlotAt chains next after × ¬ (next ≡ position)
@@ -140,84 +145,88 @@ keys_of slots = map (λ slot. slot.key) slots
 abbrev pub lanes_of : List Slot → List ℕ
 lanes_of slots = map (λ slot. slot.key.0) slots
 
--- the slot that each is followed by in its lane
+-- the next slot of the lane, for each slot
 abbrev pub nexts_of : List Slot → List (Option ℕ)
 nexts_of slots = map (λ slot. slot.next) slots
 
--- the last slot before each of its account, and of its household
+-- the last earlier slot of the account, for each slot
 abbrev pub owns_of : List Slot → List (Option ℕ)
 owns_of slots = map (λ slot. slot.own) slots
 
+-- the last earlier slot of the family and year, for each slot
 abbrev pub houses_of : List Slot → List (Option ℕ)
 houses_of slots = map (λ slot. slot.household) slots
 
--- no slot of the lane stands behind this position
+-- no slot after this position belongs to the lane
 abbrev pub NoneBehind : List ℕ → ℕ → ℕ → Type 0
 NoneBehind lanes lane position = (k : ℕ) → position < k → ¬ (slice_get lanes k ≡ Some lane)
 
--- this is the last slot of the lane
+-- the position is that of the last slot of the lane
 pub record IsLast (lanes : List ℕ) (lane position : ℕ) : Type 0 where
   pub there : slice_get lanes position ≡ Some lane
   pub last : NoneBehind lanes lane position
 
--- this is the last slot of the lane, if it has one
+-- the position is that of the last slot of the lane, or the lane has no slot
 abbrev pub IsEnd : List ℕ → ℕ → Option ℕ → Type 0
 IsEnd lanes lane None = (k : ℕ) → ¬ (slice_get lanes k ≡ Some lane)
 IsEnd lanes lane (Some position) = IsLast lanes lane position
 
--- this is the first slot of the lane behind that position
+-- the next position is that of the first slot of the lane after the position
 pub record IsNext (lanes : List ℕ) (lane position next : ℕ) : Type 0 where
   pub there : slice_get lanes next ≡ Some lane
   pub behind : position < next
   pub first : (k : ℕ) → position < k → k < next → ¬ (slice_get lanes k ≡ Some lane)
 
--- what follows a slot in its lane
+-- the link of a slot to the next slot of its lane is right
 abbrev pub IsFollowedBy : List ℕ → ℕ → ℕ → Option ℕ → Type 0
 IsFollowedBy lanes lane position None = NoneBehind lanes lane position
 IsFollowedBy lanes lane position (Some next) = IsNext lanes lane position next
 
--- each lane with its last slot, and each slot with the next of its lane
+-- the last slot of each lane and the links to the next slots are right
 pub record AreLinked (lanes : List ℕ) (nexts : List (Option ℕ)) (end : ℕ → Option ℕ) : Type 0 where
   pub ended : (lane : ℕ) → IsEnd lanes lane (end lane)
   pub followed : (position lane : ℕ) (next : Option ℕ) → slice_get lanes position ≡ Some lane → slice_get nexts position ≡ Some next
       → IsFollowedBy lanes lane position next
 
--- the last place among these keys, of which the first has this position, that passes the test
+-- the last position of a key that passes the test, if the first of these keys has position `n`
 abbrev pub last_from : ℕ → (Key → Bool) → List Key → Option ℕ → Option ℕ
 last_from n test [] found = found
 last_from n test (k ∷ ks) found = last_from (n + 1) test ks (cond (test k) (Some n) found)
 
+-- the last position of a key that passes the test
 abbrev pub last_of : (Key → Bool) → List Key → Option ℕ
 last_of test ks = last_from 0 test ks None
 
--- the last place of an account among these keys, and of its household
+-- the last position of an account among these keys
 abbrev pub last_own : Key → List Key → Option ℕ
 last_own key keys = last_of (λ k. is_key k key) keys
 
+-- the last position of a family and year among these keys
 abbrev pub last_shared : Key → List Key → Option ℕ
 last_shared key keys = last_of (λ k. is_key (house k) (house key)) keys
 
--- the last slots of each account and of each household are found, and each slot has the last one before it
+-- the last slots of each account and of each family and year are right, and so are the links of
+-- each slot back to its predecessors
 pub record AreBacked (keys : List Key) (owns houses : List (Option ℕ)) (accounts households : Key → Option ℕ) : Type 0 where
   pub accounts_are : (key : Key) → accounts key ≡ last_own key keys
   pub households_are : (key : Key) → households (house key) ≡ last_shared key keys
   pub own : (position : ℕ) (key : Key) → slice_get keys position ≡ Some key → slice_get owns position ≡ Some (last_own key (take position keys))
   pub household : (position : ℕ) (key : Key) → slice_get keys position ≡ Some key → slice_get houses position ≡ Some (last_shared key (take position keys))
 
--- each number is one of so many names
+-- the numbers in the keys are below the count of names
 pub record AreKnown (count : ℕ) (keys : List Key) : Type 0 where
   pub family : (position : ℕ) (key : Key) → slice_get keys position ≡ Some key → key.0 < count
   pub member : (position : ℕ) (key : Key) → slice_get keys position ≡ Some key → key.1 < count
 
--- one where the claim at the position is ready, and none otherwise
+-- one if the claim at the position is ready, and zero otherwise
 abbrev pub ready_there : List Place → ℕ → ℕ
 ready_there places position = cond (option_map_or (λ place. is_ready place.phase) (slice_get places position) false) 1 0
 
--- the queue has each position whose claim is ready, once, and no other
+-- the queue has the position of each ready claim once, and no other position
 abbrev pub AreQueued : List Place → List ℕ → Type 0
 AreQueued places queue = (position : ℕ) → count_by (λ k. k == position) queue ≡ ready_there places position
 
--- the chains are those of these names
+-- the invariant of the queues and the names
 pub record AreKept (names : List (List ℕ)) (chains : Chains) : Type 0 where
   pub distinct : AreDistinct names
   pub known : AreKnown (length names) (keys_of chains.slots.items)

@@ -1,19 +1,19 @@
--- Names by number, and the map that finds them.
+-- The numbers of names, and the map from names to numbers.
 use Rattle.std.specs.Prelude.{◌≡◌, ℕ, List, ◌++◌, Option, Some}
 use Rattle.std.specs.List.{slice_get}
 use Rattle.std.specs.BTreeMap.{BTreeMap, get_by}
 use Rattle.std.specs.Cmp.Lexicographic.{slice_cmp}
 use Rattle.std.specs.Ordering.{nat_cmp}
 
--- no name stands twice
+-- the names are pairwise distinct
 abbrev pub AreDistinct : List (List ℕ) → Type 0
 AreDistinct names = (i j : ℕ) (name : List ℕ) → slice_get names i ≡ Some name → slice_get names j ≡ Some name → i ≡ j
 
--- the name is none of these
+-- the name is not among these
 abbrev pub IsAbsent : List (List ℕ) → List ℕ → Type 0
 IsAbsent names name = (number : ℕ) → ¬ (slice_get names number ≡ Some name)
 
--- more names may stand behind
+-- the new list is the old one with more names appended, or none
 pub record Grows (old new : List (List ℕ)) : Type 0 where
   pub more : List (List ℕ)
   pub behind : new ≡ old ++ more
@@ -22,7 +22,7 @@ pub record Grows (old new : List (List ℕ)) : Type 0 where
 abbrev pub number_in : BTreeMap (List ℕ) ℕ → List ℕ → Option ℕ
 number_in numbers name = get_by (slice_cmp nat_cmp name) numbers
 
--- each name is found by its number, and no other
+-- the map has exactly the names of the list, with their numbers
 pub record AreNumbered (names : List (List ℕ)) (numbers : BTreeMap (List ℕ) ℕ) : Type 0 where
   pub found : (name : List ℕ) (number : ℕ) → number_in numbers name ≡ Some number → slice_get names number ≡ Some name
   pub each : (name : List ℕ) (number : ℕ) → slice_get names number ≡ Some name → number_in numbers name ≡ Some number

@@ -1,50 +1,55 @@
--- The places of accepted claims, by position, and where each of them is on its way to a decision.
+-- The places of accepted claims, by position, and the phase of each claim.
 use Rattle.std.specs.Prelude.{◌≡◌, ℕ, Bool, true, false, cond, not, ◌||◌, List, take, fold, option_map, slice_get, Option, Some, None}
 use Rattle.std.specs.List.{list_all}
 use Rattle.std.specs.Option.{unwrap_or}
 use Rattle.std.specs.Str.{bytes_eq}
 use Rattle.settlement.specs.Accounts.{Account, is_household, is_same}
 use Rattle.settlement.specs.declared.acc.Acc.{Acc}
--- how far a claim is: it waits for an earlier claim of its family, may be taken, is in work, or is decided
+-- the phases of a claim: it waits for an earlier claim of its family, is ready to be taken, is
+-- taken, or is decided
 pub use Rattle.lanes.specs.declared.phase.Phase.{Phase}
 pub use Rattle.lanes.specs.declared.phase.Phase.TheVariants.{Waiting, Ready, InWork, Decided}
 
--- the place of a claim: whose it is, and how far it is
+-- the place of a claim: its account and its phase
 pub record Place : Type 0 where
   pub account : Account
   pub phase : Phase
 
+-- the claim waits for an earlier claim of its family
 abbrev pub is_waiting : Phase → Bool
 is_waiting (Waiting claim) = true
 is_waiting _ = false
 
+-- the claim is ready to be taken
 abbrev pub is_ready : Phase → Bool
 is_ready (Ready claim) = true
 is_ready _ = false
 
+-- the claim is decided
 abbrev pub is_decided : Phase → Bool
 is_decided (Decided left) = true
 is_decided _ = false
 
--- what a decided claim left
+-- the accumulators after a decided claim
 abbrev pub left_of : Phase → Option Acc
 left_of (Decided left) = Some left
 left_of _ = None
 
--- what a decided claim left; these accumulators otherwise
+-- the accumulators after a decided claim; the given ones for any other claim
 abbrev pub left_in : Phase → Acc → Acc
 left_in (Decided left) acc = left
 left_in _ acc = acc
 
--- the place is in the family's lane
+-- the claim at the place is of the family
 abbrev pub is_of : List ℕ → Place → Bool
 is_of family place = bytes_eq place.account.family family
 
--- each place of the family is decided
+-- each claim of the family is decided
 abbrev pub all_decided : List ℕ → List Place → Bool
 all_decided family places = list_all (λ place. not (is_of family place) || is_decided place.phase) places
 
--- accumulators with what is left of others: of the account's own, and of the family's
+-- the accumulators after a claim: the member's own amounts are replaced if `own` is true, and the
+-- family's sums if `shared` is true
 abbrev pub joined : Bool → Bool → Acc → Acc → Acc
 joined own shared left acc = record {
   met = cond own left.met acc.met;
@@ -54,15 +59,18 @@ joined own shared left acc = record {
   foop = cond shared left.foop acc.foop;
 }
 
+-- the accumulators of an account after the claim at a place
 abbrev pub left_by : Account → Acc → Place → Acc
 left_by account acc place = joined (is_same place.account account) (is_household place.account account) (left_in place.phase acc) acc
 
--- what an account stands at behind these places: of its own what its last decided claim left, of its family's what the last one of
--- its household left, and the opening accumulators where there is none
+-- the accumulators of an account after these places: its own amounts are those after its last
+-- decided claim, the family's sums are those after the last decided claim of its family and year,
+-- and without such a claim they are the opening ones
 abbrev pub standing : Account → Acc → List Place → Acc
 standing account opening places = fold (left_by account) opening places
 
--- accumulators with these of an account's own, and with these of its family's; the opening ones where there are none
+-- the accumulators with the own amounts of `own` and the family's sums of `household`, or the
+-- opening ones without these
 abbrev pub started : Acc → Option Acc → Option Acc → Acc
 started opening own household = record {
   met = (unwrap_or own opening).met;
@@ -76,7 +84,8 @@ started opening own household = record {
 abbrev pub phase_at : List Place → ℕ → Option Phase
 phase_at places position = option_map (λ place. place.phase) (slice_get places position)
 
--- the families' claims take turns: a claim waits exactly as long as an earlier claim of its family is not decided
+-- the order within families: a claim waits if and only if an earlier claim of its family is not
+-- decided
 pub record InTurn (places : List Place) : Type 0 where
   pub waits : (position : ℕ) (place : Place) → slice_get places position ≡ Some place
       → is_waiting place.phase ≡ not (all_decided place.account.family (take position places))

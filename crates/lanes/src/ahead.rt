@@ -1,9 +1,11 @@
-//! What the next calls need of memory, read for several claims at once.
+//! The prefetcher: it reads the memory that the next calls need, for several claims at once.
 //!
-//! A claim that is taken needs two places that nobody has looked at for a while: its slot, and that of the last claim of its account; one that
-//! is added needs its family's name, the last claims that it stands behind, and their slots. One after another the processor waits for each;
-//! those of several claims, which don't depend on each other, it fetches side by side. Nothing is promised of what is read here, and nothing
-//! rests on it.
+//! To take a claim, a call reads two places that are not in the processor's cache: the claim's slot
+//! and the slot of the last claim of its account. To add a claim, a call reads its family's name,
+//! the last claims of its account and family, and their slots. The reads for one claim depend on
+//! each other, so the processor waits for each of them. The reads for several claims are
+//! independent, and the processor makes them in parallel. The prefetcher has no contract, and no
+//! result depends on it.
 
 use crate::chains::Chains;
 use crate::ends::Ends;
@@ -13,11 +15,14 @@ use crate::slot::Slot;
 use crate::stored::StoredClaim;
 use std::alloc::Global;
 
-/// For so many claims at once: a processor has about so many reads under way.
+/// The number of claims that are prefetched together: about the number of reads that a processor
+/// makes in parallel.
 const CLAIMS_AT_ONCE: usize = 12;
 
-/// How many of the next claims to be taken are fetched already, how the families of the next claims to be added are sought, how many of those
-/// were added, and a number made of what was read, without which the reads could be left out.
+/// The state of the prefetcher: the number of claims in the queue that are already prefetched, the
+/// lookups of the families of the next claims to be added, and the number of these that were added.
+/// `read` is computed from the memory that was read; without it, the compiler could leave out the
+/// reads.
 #[derive(Drop)]
 pub struct Ahead {
     fetched: usize,
@@ -27,7 +32,7 @@ pub struct Ahead {
 }
 
 impl Ahead {
-    /// Nothing is fetched.
+    /// Returns a prefetcher that has not read any memory yet.
     pub fn new(alloc: Global) -> Ahead {
         Ahead {
             fetched: 0,
@@ -37,7 +42,8 @@ impl Ahead {
         }
     }
 
-    /// Before a claim is taken: fetches what it and some behind it need, where that isn't fetched yet.
+    /// Prefetches the memory for the next claim to be taken and for some after it, unless that is
+    /// done. It is called before a claim is taken.
     pub fn fetch_taken(&mut self, chains: &Chains) {
         if self.fetched > 0 {
             self.fetched -= 1;
@@ -54,12 +60,12 @@ impl Ahead {
         self.read = read;
     }
 
-    /// Looks up which numbers the families of these claims may have, before they are added.
+    /// Prepares the lookups of the families of these claims, before they are added.
     pub fn foresee(&mut self, names: &Names, claims: &[StoredClaim]) {
         self.coming.clear();
         self.added = 0;
         for claim in claims {
-            // Where there is no memory, those behind it are looked up one by one.
+            // If memory runs out, the remaining families are looked up without a prefetch.
             let Ok(()) = self.coming.push(Sought::new(claim.as_claim().family())) else {
                 break;
             };
@@ -69,7 +75,8 @@ impl Ahead {
         }
     }
 
-    /// Before a claim is added: fetches what it and some behind it need, where that isn't fetched yet, and tells how its family is sought.
+    /// Prefetches the memory for the next claim to be added and for some after it, unless that is
+    /// done, and returns the lookup of its family. It is called before a claim is added.
     pub fn fetch_added(&mut self, names: &Names, chains: &Chains) -> Option<Sought> {
         let sought = self.coming.get(self.added).copied()?;
         if self.added % CLAIMS_AT_ONCE == 0 {
@@ -80,7 +87,7 @@ impl Ahead {
         Some(sought)
     }
 
-    // A number made of what the next claims to be added need.
+    // Reads the memory for the next claims to be added, and returns a number computed from it.
     fn read_of_coming(&self, names: &Names, chains: &Chains) -> usize {
         let mut lasts = [None; CLAIMS_AT_ONCE];
         let mut read = 0usize;
@@ -98,19 +105,17 @@ impl Ahead {
         read
     }
 
-    // The number that the family of a coming claim may have.
     fn likely_at(&self, place: usize) -> Option<u32> {
         self.coming.get(place)?.likely
     }
 }
 
-// The slot of the claim that stands at a place of the queue.
 fn slot_of(chains: &Chains, place: usize) -> Option<&Slot> {
     let position = chains.ready.get(place)?;
     chains.slots.get(*position)
 }
 
-// A number made of the slot alone.
+// Reads a slot, and returns a number computed from it.
 fn before(slot: Option<&Slot>) -> usize {
     match slot {
         Some(slot) => slot.own.map_or(0, |own| own as usize),
@@ -118,7 +123,7 @@ fn before(slot: Option<&Slot>) -> usize {
     }
 }
 
-// A number made of the slot of the last claim of its account.
+// Reads the slot of the last claim of the slot's account, and returns a number computed from it.
 fn left_before(chains: &Chains, slot: Option<&Slot>) -> usize {
     match slot {
         Some(slot) => left_by(chains, slot.own),
@@ -126,7 +131,7 @@ fn left_before(chains: &Chains, slot: Option<&Slot>) -> usize {
     }
 }
 
-// A number made of the slot at a position, and of what its claim left.
+// Reads the slot at a position and its accumulators, and returns a number computed from them.
 fn left_by(chains: &Chains, position: Option<u32>) -> usize {
     match position.and_then(|position| chains.slots.get(position as usize)) {
         Some(slot) => match slot.phase.left() {
@@ -137,7 +142,6 @@ fn left_by(chains: &Chains, position: Option<u32>) -> usize {
     }
 }
 
-// A number made of the last position of a number.
 fn position_in(ends: &Ends, number: u32) -> usize {
     ends.last_of(number).map_or(0, |position| position as usize)
 }

@@ -1,4 +1,4 @@
-//! Lanes: the places of all claims, and which of them may be taken.
+//! The places of all claims, and the calls that add, take and decide them.
 ghost use Rattle.std.specs.Prelude.{◌≡◌, ◌++◌, ◌∷◌, [], length, IfOk, IfErr, IfSome, IfNone};
 ghost use Rattle.settlement.specs.Accounts.{account_in};
 ghost use Rattle.lanes.specs.Names.{AreDistinct, Grows};
@@ -18,7 +18,7 @@ use settlement::{Acc, Claim};
 use std::alloc::{AllocError, AllocFailed, Global};
 use std::marker::Model;
 
-/// The places of claims, by position. Contracts see the list of places.
+/// The places of all claims, by position. Contracts see the list of places.
 pub struct Lanes {
     names: Names,
     chains: Chains,
@@ -48,7 +48,7 @@ impl Model for Lanes {
 }
 
 impl Lanes {
-    /// Lanes without a claim.
+    /// Returns lanes without claims.
     pub fn new(alloc: Global) -> Lanes
         ensures { result ≡ [] }
     {
@@ -59,7 +59,7 @@ impl Lanes {
         }
     }
 
-    /// How many claims were added.
+    /// Returns the number of claims that were added.
     pub fn len(&self) -> usize
         ensures value { result ≡ length self.now }
         ensures in_turn { InTurn self.now }
@@ -67,10 +67,12 @@ impl Lanes {
         self.chains.slots.len()
     }
 
-    /// Adds a claim, of its member's account in this year, which is 0 where accounts aren't kept by the year, behind all others. The claim
-    /// comes back where there is no memory, as for more than 2^32 claims.
+    /// Appends a claim of its member's account in a benefit year, which is 0 if the plan does not
+    /// keep accumulators by benefit year. If memory runs out, or if there are 2^32 claims already,
+    /// the claim is returned and the lanes are unchanged.
     pub fn add(&mut self, claim: StoredClaim, year: u16) -> Result<(), AllocFailed<StoredClaim>>
-        ensures added { IfOk result (λ _. self.new ≡ self.old ++ place_behind self.old claim year ∷ []) }
+        ensures added { IfOk result (λ _.
+            self.new ≡ self.old ++ place_behind self.old claim year ∷ []) }
         ensures back { IfErr result (λ failed. failed.value ≡ claim) }
         ensures refused { IfErr result (λ _. self.new ≡ self.old) }
         ensures in_turn { InTurn self.new }
@@ -85,7 +87,7 @@ impl Lanes {
         self.chains.add(key, claim)
     }
 
-    /// Reads what these claims will need when they are added. Contracts see no change.
+    /// Prefetches the memory that is needed when these claims are added. Contracts see no change.
     pub fn foresee(&mut self, claims: &[StoredClaim])
         ensures same { self.new ≡ self.old }
         ensures in_turn { InTurn self.new }
@@ -93,10 +95,11 @@ impl Lanes {
         self.ahead.foresee(&self.names, claims);
     }
 
-    /// Takes a claim that is ready, if there is one.
+    /// Takes a ready claim, if there is one.
     pub fn take(&mut self) -> Option<Picked>
         ensures picked { IfSome result (IsPicked self.old) }
-        ensures taken { IfSome result (λ picked. self.new ≡ with_phase self.old picked.position InWork) }
+        ensures taken { IfSome result (λ picked.
+            self.new ≡ with_phase self.old picked.position InWork) }
         ensures nothing { IfNone result (NothingReady self.old) }
         ensures unchanged { IfNone result (self.new ≡ self.old) }
         ensures was_in_turn { InTurn self.old }
@@ -106,7 +109,8 @@ impl Lanes {
         self.chains.take()
     }
 
-    /// Decides a claim that is in work, which leaves these accumulators: the next claim of its family, if there is one, is ready.
+    /// Decides a taken claim, with the accumulators after it. The next claim of its family, if
+    /// there is one, becomes ready. If memory runs out, the lanes are unchanged.
     pub fn decide(&mut self, position: usize, left: Acc) -> Result<(), AllocError>
         requires { IsInWork self.old position }
         ensures decided { IfOk result (λ _. self.new ≡ with_decision self.old position left) }
@@ -116,7 +120,7 @@ impl Lanes {
         self.chains.decide(position, &left)
     }
 
-    /// Whether the claim at a position is decided; where there is none, it isn't.
+    /// Returns whether there is a claim at this position and it is decided.
     pub fn is_decided(&self, position: usize) -> bool
         ensures value { result ≡ is_decided_at self.now position }
         ensures in_turn { InTurn self.now }
@@ -128,7 +132,8 @@ impl Lanes {
     }
 }
 
-// The account of a claim in a year, by numbers; names that are new get one. Its family is sought as it was foreseen, where it was.
+// Returns the key of a claim's account in a year. New names get a number. The lookup of the family
+// is the prefetched one, if there is one.
 #[tactic(auto, using(crate::proofs::Growing::grows_on, crate::proofs::Growing::key_alone, crate::proofs::Growing::key_apart))]
 fn key_of(
     names: &mut Names,
@@ -151,7 +156,6 @@ fn key_of(
     Ok((lane, number, year))
 }
 
-// How a name is sought: as it was foreseen, where it was.
 fn sought_as(name: &Text, foreseen: Option<Sought>) -> Sought {
     match foreseen {
         Some(sought) => sought,

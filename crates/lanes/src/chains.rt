@@ -1,4 +1,5 @@
-//! Chains: the slots of all claims, linked lane by lane and back to the last of their account, and which of them are ready.
+//! The slots of all claims. Each slot has links to the next claim of its family and back to the
+//! last claims of its account and family, and a queue has the positions of the ready claims.
 ghost use Rattle.std.specs.Prelude.{◌≡◌, ◌<◌, ◌++◌, ◌∷◌, [], ℕ, Some, None, cond, vec_len, vec_capacity, OnOk, OnErr, IfErr, MatchOption, if◌then◌else◌};
 ghost use Rattle.std.specs.VecDeque.{deque_len, deque_capacity};
 ghost use Rattle.lanes.specs.Lasts.{Key as AnyKey, end_of, found_in, household_in};
@@ -19,14 +20,15 @@ use settlement::Acc;
 use std::alloc::{AllocError, AllocFailed, Global};
 use std::collections::VecDeque;
 
-/// The slots of all claims by position. Each family has a lane, by the number of its name, in which its claims' slots are linked.
+/// The slots of all claims, by position. The claims of a family form a lane, which is a linked list
+/// of slots. The number of a lane is the number of the family's name.
 pub struct Chains {
     pub slots: Vec<Slot>,
     /// The position of the last claim in each lane.
     pub ends: Ends,
-    /// The position of the last claim of each account, and of each family in each year.
+    /// The position of the last claim of each account, and of each family and year.
     pub lasts: LastClaims,
-    /// The positions of the claims that are ready, first come first.
+    /// The positions of the ready claims, in the order in which they became ready.
     pub ready: VecDeque<usize>,
 }
 
@@ -42,7 +44,7 @@ impl Drop for Chains {
 }
 
 impl Chains {
-    /// No slots.
+    /// Makes empty queues.
     pub fn new(alloc: Global) -> Chains
         ensures slots { result.slots.items ≡ [] }
         ensures ends { (lane : ℕ) → end_of result.ends lane ≡ None }
@@ -58,7 +60,7 @@ impl Chains {
         }
     }
 
-    /// Makes room for one claim more, in this lane.
+    /// Reserves memory for one more claim in this lane.
     pub fn prepare(&mut self, lane: u32) -> Result<(), AllocError>
         ensures same { AreAs self.old self.new }
         ensures room { OnOk result (HasRoom self.new lane) }
@@ -69,11 +71,14 @@ impl Chains {
         self.ends.prepare(lane)
     }
 
-    /// Adds a claim of an account behind the others. Where there is no memory it comes back, and what is found stays as it is.
+    /// Appends a claim of an account. If memory runs out, the claim is returned and the queues are
+    /// unchanged.
     pub fn add(&mut self, key: Key, claim: StoredClaim) -> Result<(), AllocFailed<StoredClaim>>
         requires room { HasRoom self.old key.0 }
-        requires within { (last : ℕ) → end_of self.old.ends key.0 ≡ Some last → last < vec_len self.old.slots }
-        ensures slots { OnOk result (AddsSlot self.old self.new key claim (end_of self.old.ends key.0)) }
+        requires within { (last : ℕ) → end_of self.old.ends key.0 ≡ Some last
+            → last < vec_len self.old.slots }
+        ensures slots { OnOk result
+            (AddsSlot self.old self.new key claim (end_of self.old.ends key.0)) }
         ensures back { OnOk result (TellsBack self.old self.new key (vec_len self.old.slots)) }
         ensures returned { IfErr result (λ failed. failed.value ≡ claim) }
         ensures refused { OnErr result (AreAs self.old self.new) }
@@ -96,7 +101,7 @@ impl Chains {
         Ok(())
     }
 
-    // Links the last slot of a lane to what comes behind it: the phase of the claim there.
+    // Links the last slot of a lane to the next one, and returns the phase of the claim there.
     fn follow(&mut self, last: u32, next: u32, claim: StoredClaim) -> Phase
         requires { last < vec_len self.old.slots }
         ensures { Follows self.old self.new last next claim result }
@@ -106,7 +111,7 @@ impl Chains {
         before.phase.behind(claim)
     }
 
-    /// Takes the first claim of the queue, if there is one.
+    /// Takes the first ready claim, if there is one.
     pub fn take(&mut self) -> Option<Picked>
         requires { FirstIsReady self.old }
         ensures { MatchOption result (IsIdle self.old self.new) (TakesFirst self.old self.new) }
@@ -123,11 +128,13 @@ impl Chains {
         })
     }
 
-    /// Decides the claim at a position, which leaves these accumulators: what follows in its lane is ready.
+    /// Decides the claim at a position, with the accumulators after it. The next claim of its lane
+    /// becomes ready.
     pub fn decide(&mut self, position: usize, left: &Acc) -> Result<(), AllocError>
         requires within { position < vec_len self.old.slots }
         requires next { NextIsAnother self.old position }
-        ensures decided { OnOk result ((slot : AnySlot) → SlotAt self.old position slot → DecidesSlot self.old self.new position slot left.now slot.next) }
+        ensures decided { OnOk result ((slot : AnySlot) → SlotAt self.old position slot
+            → DecidesSlot self.old self.new position slot left.now slot.next) }
         ensures ends { self.new.ends ≡ self.old.ends }
         ensures lasts { self.new.lasts ≡ self.old.lasts }
         ensures refused { OnErr result (AreAs self.old self.new) }
@@ -144,14 +151,16 @@ impl Chains {
         Ok(())
     }
 
-    // Puts a slot behind the others, and in the queue where its claim is ready.
+    // Appends a slot, and its position to the queue if its claim is ready.
     fn put(&mut self, slot: Slot)
         requires slots { vec_len self.old.slots < vec_capacity self.old.slots }
         requires ready { deque_len self.old.ready < deque_capacity self.old.ready }
         ensures slots { self.new.slots.items ≡ self.old.slots.items ++ slot ∷ [] }
         ensures ends { self.new.ends ≡ self.old.ends }
         ensures lasts { self.new.lasts ≡ self.old.lasts }
-        ensures ready { self.new.ready.items ≡ (if is_ready slot.phase then self.old.ready.items ++ vec_len self.old.slots ∷ [] else self.old.ready.items) }
+        ensures ready { self.new.ready.items ≡ (if is_ready slot.phase
+            then self.old.ready.items ++ vec_len self.old.slots ∷ []
+            else self.old.ready.items) }
     {
         if slot.phase.is_ready() {
             self.ready.push_back_reserved(self.slots.len());

@@ -1,38 +1,40 @@
-//! Where a name was found last: hints, of which nothing is promised.
+//! Hints to the numbers of names. They have no contract.
 //!
-//! A walk through a tree of many names reads a dozen places of memory that nobody has looked at for a while, and stands in a section of the
-//! lock. Hints are found by a few bits made of the name's bytes, and say which two numbers to try first. Who asks compares the name that has
-//! the number, so a hint that is wrong costs time alone: a provider whose names all meet at one place gets the tree's speed, and no less.
+//! A search in a tree of many names reads a dozen places in memory that are not in the processor's
+//! cache, and it runs within a critical section. Hints are found by a hash of the name's bytes, and
+//! give two numbers to try first. The caller compares the name with this number, so a wrong hint
+//! costs only time: if all names of a provider have one hash, lookups are as fast as the tree.
 
 use feel_tests::Text;
 use std::alloc::Global;
 use std::mem::replace;
 
-/// So many hints there are for each name, so that few names meet at one place.
+/// The least number of hints for each name, so that few names share a place.
 const HINTS_A_NAME: usize = 4;
 
-/// So many hints stand at one place, one behind the other: where two names meet there, both are found.
+/// The number of hints that are tried for a name, so that two names with one place are both found.
 const HINTS_A_PLACE: usize = 2;
 
-/// How many hints there are at first. It is doubled until they are enough.
+/// The number of hints at first. It doubles as names are added.
 const FIRST_HINTS: usize = 64;
 
-/// What the mixing of bytes begins with, and what each step multiplies by (FNV-1a).
+/// The offset basis of the hash FNV-1a in 64 bits.
 const MIXED_FIRST: u64 = 0xcbf2_9ce4_8422_2325;
 
+/// The prime of the hash FNV-1a in 64 bits.
 const MIXED_PRIME: u64 = 0x0000_0100_0000_01b3;
 
-/// How a name is sought: by the bits made of its bytes, and by a number that it may have, which is tried first.
+/// The key of a name's lookup: its hash, and a number that it may have.
 #[derive(Clone, Copy)]
 pub struct Sought {
-    /// The bits that its hints are found by.
+    /// The hash of the name's bytes.
     pub bits: u64,
-    /// The number, if one is at hand.
+    /// A number that the name may have, which is tried first.
     pub likely: Option<u32>,
 }
 
 impl Sought {
-    /// A name for which no number is at hand.
+    /// Hashes a name, without a number to try first.
     pub fn new(name: &Text) -> Sought {
         Sought {
             bits: bits_of(name),
@@ -41,32 +43,33 @@ impl Sought {
     }
 }
 
-/// The numbers that names with these bits had last, the latest first. There are as many as a power of two, or none.
+/// The numbers of names by their hashes, with the latest number for each hash first. Their count is
+/// a power of two, or zero.
 #[derive(Drop)]
 pub struct Hints {
     numbers: Vec<u32>,
 }
 
 impl Hints {
-    /// No hint.
+    /// Returns an empty list of hints.
     pub fn new(alloc: Global) -> Hints {
         Hints {
             numbers: Vec::new(alloc),
         }
     }
 
-    /// The number to try first for a name with these bits.
+    /// Returns the number to try first for a name with this hash.
     pub fn first_of(&self, bits: u64) -> Option<u32> {
         self.numbers.get(self.place_of(bits)).copied()
     }
 
-    /// The number to try then.
+    /// Returns the number to try second for a name with this hash.
     pub fn second_of(&self, bits: u64) -> Option<u32> {
         let place = self.place_of(bits).wrapping_add(1);
         self.numbers.get(place).copied()
     }
 
-    /// Notes the number of a name with these bits.
+    /// Records the number of a name with this hash.
     pub fn note(&mut self, bits: u64, number: u32) {
         let place = self.place_of(bits);
         if let Some(first) = self.numbers.get_mut(place) {
@@ -77,13 +80,13 @@ impl Hints {
         }
     }
 
-    // The place of the first hint for a name with these bits.
+    // The result is at most the second last place, and the place after it has the second hint.
     fn place_of(&self, bits: u64) -> usize {
         (bits >> 32) as usize & self.numbers.len().wrapping_sub(HINTS_A_PLACE)
     }
 
-    /// Makes more of them, where they are few for so many names. What was noted may be forgotten. Where memory is refused, they stay as they
-    /// are.
+    /// Makes more hints if there are too few for the number of names. Earlier hints may get lost.
+    /// If memory runs out, the hints are unchanged.
     pub fn make_enough(&mut self, names: usize) {
         let length = self.numbers.len();
         if length / HINTS_A_NAME <= names {
@@ -93,7 +96,6 @@ impl Hints {
     }
 }
 
-// The bits by which a name's hints are found.
 fn bits_of(name: &Text) -> u64 {
     let mut mixed = MIXED_FIRST;
     for byte in name.as_bytes() {

@@ -1,9 +1,10 @@
-//! The claims of each family, one after another.
+//! The queues of claims: the claims of each family are decided one after another.
 //!
-//! `Lanes` has a place for each claim that was accepted, by position. A claim waits until the earlier claims of its family
-//! are decided; then it is ready, may be taken at what the last of its account and the last of its family left, and is decided.
+//! `Lanes` has a place for each accepted claim, by position. A claim waits until the earlier claims
+//! of its family are decided. Then it is ready and can be taken, with the accumulators after the
+//! last claims of its account and of its family, and finally it is decided.
 //!
-//! Begin with `specs/Places.antt` and `specs/Calls.antt`; then read `board.rt`.
+//! Begin with `specs/Places.antt` and `specs/Calls.antt`; then read `lanes.rt`.
 #![tactic(auto)]
 
 mod ahead;

@@ -1,4 +1,4 @@
-//! Names: each of them once, by number.
+//! The distinct names of families and members, with a number for each.
 ghost use Rattle.std.specs.Prelude.{◌≡◌, ◌++◌, ◌∷◌, [], Some, OnOk, OnErr, IfOk, IfSome, IfNone};
 ghost use Rattle.std.specs.List.{slice_get};
 ghost use Rattle.lanes.specs.Names.{AreDistinct, Grows, IsAbsent};
@@ -10,7 +10,8 @@ use std::alloc::{AllocError, Global};
 use std::collections::BTreeMap;
 use std::marker::Model;
 
-/// Names of families and of members, numbered from 0 in the order in which they came. Contracts see the list of them.
+/// The names of families and members, numbered from 0 in the order of their addition. Contracts see
+/// the list of names.
 #[derive(Drop)]
 pub struct Names {
     alloc: Global,
@@ -31,7 +32,7 @@ impl Model for Names {
 }
 
 impl Names {
-    /// No name yet.
+    /// Returns an empty list of names.
     pub fn new(alloc: Global) -> Names
         ensures { result ≡ [] }
     {
@@ -43,7 +44,8 @@ impl Names {
         }
     }
 
-    /// The number of a name, which is added where it isn't there. A number that it may have is tried first, then those of its hints.
+    /// Returns the number of a name, and adds the name if it is new. The number in the lookup is
+    /// tried first, and then the numbers of the hints.
     #[tactic(auto, using(crate::proofs::Growing::grows_same, crate::proofs::Growing::grows_added))]
     pub fn number(&mut self, name: &Text, sought: Sought) -> Result<u32, AllocError>
         ensures number { IfOk result (λ number. slice_get self.new number ≡ Some name.now) }
@@ -68,19 +70,19 @@ impl Names {
         }
     }
 
-    /// The number that a name with these bits may have.
+    /// Returns a number that a name with this hash may have.
     pub fn hint_of(&self, bits: u64) -> Option<u32> {
         self.hints.first_of(bits)
     }
 
-    /// How many bytes the name with a number has.
+    /// Returns the length in bytes of the name with this number, or 0 if there is none.
     pub fn bytes_of(&self, number: u32) -> usize {
         self.names
             .get(number as usize)
             .map_or(0, |name| name.as_bytes().len())
     }
 
-    // The number, where it is the name's.
+    // Returns the candidate if it is the number of the name.
     fn tried(&self, name: &Text, likely: Option<u32>) -> Option<u32>
         ensures found { IfSome result (λ number. slice_get self.now number ≡ Some name.now) }
         ensures distinct { AreDistinct self.now }
@@ -95,7 +97,6 @@ impl Names {
         }
     }
 
-    // The number of a name.
     fn find(&self, name: &Text) -> Option<u32>
         ensures found { IfSome result (λ number. slice_get self.now number ≡ Some name.now) }
         ensures absent { IfNone result (IsAbsent self.now name.now) }
@@ -104,7 +105,7 @@ impl Names {
         self.numbers.get(name).copied()
     }
 
-    // Adds a name that isn't there: its number is how many were there.
+    // Adds a new name. Its number is the number of names before it.
     fn add(&mut self, name: &Text, bits: u64) -> Result<u32, AllocError>
         requires { IsAbsent self.old name.now }
         ensures number { IfOk result (λ number. slice_get self.new number ≡ Some name.now) }

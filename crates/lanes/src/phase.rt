@@ -1,4 +1,4 @@
-//! How far a claim is.
+//! The phases of a claim.
 ghost use Rattle.std.specs.Prelude.{◌≡◌};
 ghost use Rattle.lanes.specs.Places.{is_decided, is_ready, left_of};
 ghost use Rattle.lanes.specs.Calls.{phase_after};
@@ -6,21 +6,22 @@ ghost use Rattle.lanes.specs.Calls.{phase_after};
 use crate::stored::StoredClaim;
 use settlement::Acc;
 
-/// How far a claim is on its way to a decision. One that isn't taken stands apart, so that a decided one takes little.
+/// The phase of a claim on its way to a decision. A claim that is not taken yet is in a box, so
+/// that the phase of a decided claim takes little memory.
 #[derive(Drop)]
 pub enum Phase {
-    /// An earlier claim of its family is not decided.
+    /// An earlier claim of its family is not decided yet.
     Waiting(StoredClaim),
-    /// It may be taken.
+    /// The claim can be taken.
     Ready(StoredClaim),
-    /// It is taken.
+    /// The claim is taken and not decided yet.
     InWork,
-    /// It is decided, and this is what it left of its account's accumulators.
+    /// The claim is decided, and these are its account's accumulators after it.
     Decided(Acc),
 }
 
 impl Phase {
-    /// The phase of its family's next claim.
+    /// Returns the phase of the next claim of the family, when that claim is added.
     pub fn behind(&self, claim: StoredClaim) -> Phase
         ensures { result ≡ phase_after self.now claim }
     {
@@ -30,14 +31,14 @@ impl Phase {
         }
     }
 
-    /// Whether the claim may be taken.
+    /// Returns whether the claim can be taken.
     pub fn is_ready(&self) -> bool
         ensures { result ≡ is_ready self.now }
     {
         matches!(self, Phase::Ready(_))
     }
 
-    /// What the claim left, once it is decided.
+    /// Returns the accumulators after the claim, if it is decided.
     pub fn left(&self) -> Option<Acc>
         ensures { result ≡ left_of self.now }
     {
@@ -47,7 +48,7 @@ impl Phase {
         }
     }
 
-    /// Whether the claim is decided.
+    /// Returns whether the claim is decided.
     pub fn is_decided(&self) -> bool
         ensures { result ≡ is_decided self.now }
     {

@@ -1,32 +1,33 @@
-//! A claim that is picked to be decided.
+//! A claim that is taken to be decided.
 ghost use Rattle.std.specs.Prelude.{◌≡◌, ◌&&◌, is_some};
 ghost use Rattle.lanes.specs.Places.{started};
 
 use crate::stored::StoredClaim;
 use settlement::Acc;
 
-/// A claim, with what the earlier ones left of what it is to be decided at.
+/// A claim that is ready to be decided, with the accumulators after earlier claims.
 #[derive(Drop)]
 pub struct Picked {
-    /// How many claims were added before it.
+    /// The number of claims that were added before it.
     pub position: usize,
     /// The claim.
     pub claim: StoredClaim,
-    /// What the last claim before it of its account left.
+    /// The accumulators after the last earlier claim of its account.
     pub own: Option<Acc>,
-    /// What the last claim before it of its family and year left.
+    /// The accumulators after the last earlier claim of its family and year.
     pub household: Option<Acc>,
 }
 
 impl Picked {
-    /// Whether what its account began with is no part any more of what it is to be decided at.
+    /// Returns whether earlier claims determine all of its accumulators, so that the opening
+    /// accumulators of its account do not matter.
     pub fn has_begun(&self) -> bool
         ensures { result ≡ is_some self.now.own && is_some self.now.household }
     {
         self.own.is_some() && self.household.is_some()
     }
 
-    /// What it is to be decided at, where its account began with these accumulators.
+    /// Returns the accumulators before the claim, from the opening accumulators of its account.
     pub fn start(&self, opening: Acc) -> Acc
         ensures { result ≡ started opening self.now.own self.now.household }
     {

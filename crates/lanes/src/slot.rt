@@ -1,4 +1,4 @@
-//! Slots: where the claims are kept.
+//! The slots of claims.
 ghost use Rattle.std.specs.Prelude.{◌≡◌, true, Option};
 ghost use Rattle.lanes.specs.Places.{Ready, InWork, Decided, is_ready};
 ghost use Rattle.lanes.specs.Calls.{ready_at};
@@ -10,17 +10,17 @@ use crate::stored::StoredClaim;
 use settlement::Acc;
 use std::mem::replace;
 
-/// Where a claim is kept.
+/// The slot of a claim.
 pub struct Slot {
-    /// The numbers of its family, which is its lane, and of its member, and the year.
+    /// The key of its account. The number of the family is the number of the lane.
     pub key: Key,
-    /// The position of the next claim in the lane.
+    /// The position of the next claim of the lane.
     pub next: Option<u32>,
-    /// The position of the last claim before it of its account.
+    /// The position of the last earlier claim of its account.
     pub own: Option<u32>,
-    /// The position of the last claim before it of its family and year.
+    /// The position of the last earlier claim of its family and year.
     pub household: Option<u32>,
-    /// How far the claim is.
+    /// The phase of the claim.
     pub phase: Phase,
 }
 
@@ -37,7 +37,7 @@ impl Drop for Slot {
 }
 
 impl Slot {
-    /// Takes its claim, which is ready.
+    /// Takes the claim, which must be ready.
     pub fn pick(&mut self) -> StoredClaim
         requires { is_ready self.old.phase ≡ true }
         ensures ready { self.old.phase ≡ Ready result }
@@ -49,14 +49,14 @@ impl Slot {
         }
     }
 
-    /// Notes what its claim left, once that is decided.
+    /// Makes the claim decided, with the accumulators after it.
     pub fn decide(&mut self, left: &Acc)
         ensures { self.new ≡ record self.old { phase = Decided left.now } }
     {
         self.phase = Phase::Decided(*left);
     }
 
-    /// Makes its claim, if it waits, ready.
+    /// Makes the claim ready if it waits.
     pub fn release(&mut self)
         ensures { self.new ≡ record self.old { phase = ready_at self.old.phase } }
     {
@@ -67,7 +67,7 @@ impl Slot {
     }
 }
 
-/// What the claim at a place left, if there is one, and it is decided.
+/// Returns the accumulators after the claim at a position, if there is a claim and it is decided.
 pub fn left_at(slots: &[Slot], place: Option<u32>) -> Option<Acc>
     ensures { result ≡ left_at slots.now place }
 {

@@ -1,12 +1,12 @@
-//! A claim that stands apart.
+//! A claim in a box.
 ghost use Rattle.std.specs.Prelude.{◌≡◌, IfOk, IfErr};
 
 use settlement::Claim;
 use std::alloc::{AllocFailed, Global};
 use std::marker::Model;
 
-/// A claim on the heap: on its way through a gate it is a word, whatever the claim has, and what is kept of a decided one takes little.
-/// Contracts see the claim.
+/// A claim on the heap. It passes through a gate as one pointer, and the slot of a decided claim
+/// takes little memory. Contracts see the claim.
 #[derive(Drop)]
 pub struct StoredClaim {
     claim: Box<Claim>,
@@ -22,7 +22,7 @@ impl Model for StoredClaim {
 }
 
 impl StoredClaim {
-    /// The claim, stored; it comes back where there is no memory.
+    /// Moves the claim to the heap. If memory runs out, the claim is returned.
     pub fn new(alloc: Global, claim: Claim) -> Result<StoredClaim, AllocFailed<Claim>>
         ensures value { IfOk result (λ stored. stored ≡ claim) }
         ensures back { IfErr result (λ failed. failed.value ≡ claim) }
@@ -33,7 +33,7 @@ impl StoredClaim {
         }
     }
 
-    /// The claim.
+    /// Returns the claim.
     pub fn as_claim(&self) -> &Claim
         ensures { result.now ≡ self.now }
     {

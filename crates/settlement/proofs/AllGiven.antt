@@ -1,4 +1,4 @@
--- A claim of a plan gives each name that the plan's tables read a value.
+-- A claim that fits a plan gives each name of the plan a value of its kind.
 use Rattle.std.proofs.Common.{◌≡◌, ℕ, ◌<◌, ◌≤◌, zero, suc, Bool, true, false, inl, inr, List, [], ◌∷◌, ◌++◌, map, length, slice_get, Option, Some, None, is_some, ◌⊎◌, refl, sym, ap, subst, ◌∙◌, arith}
 use Rattle.std.specs.List.{range_with_len, All}
 use Rattle.std.specs.Option.{option_and_then, option_map_or}
@@ -25,7 +25,7 @@ use Rattle.settlement.proofs.Giving.{at_each}
 use Rattle.settlement.specs.Given.{accumulator_values, behind_family, values_from_member, values_given, slot_kinds, slot_of, given_by}
 use Rattle.settlement.specs.Reads.{is_read, places_read, roles_read, HasItsValue, IsLaidOut, Serves}
 
--- the kinds of the accumulators' names are those of their values, where a claim has a family or not
+-- the kinds of the accumulators' names are those of their values, with and without a family
 accumulator_kinds :
     (families : Bool) (family : Option (List ℕ)) (acc : Acc) → is_some family ≡ families
     → map (λ (d : InputData). d.kind) (accumulator_names families) ≡ map kind_of (accumulator_values family acc)
@@ -34,7 +34,7 @@ accumulator_kinds false (Some family) acc has = cc
 accumulator_kinds true None acc has = cc
 accumulator_kinds true (Some family) acc has = refl
 
--- and so, behind those of the fields
+-- the kinds of the names of the fields and accumulators are those of their values
 kinds_behind :
     (families : Bool) (claim : Claim) (fields : List InputData) (acc : Acc) → is_some claim.family ≡ families → map kind_of claim.fields ≡ map (λ (d : InputData). d.kind) fields
     → map (λ (d : InputData). d.kind) (fields ++ accumulator_names families) ≡ map kind_of (claim.fields ++ accumulator_values claim.family acc)
@@ -43,7 +43,7 @@ kinds_behind families claim fields acc has kinds =
     map-append kind fields (accumulator_names families) ∙ ap (λ (l : List Kind). l ++ map kind (accumulator_names families)) (sym kinds)
     ∙ ap (λ (l : List Kind). map kind_of claim.fields ++ l) (accumulator_kinds families claim.family acc has) ∙ sym (map-append kind_of claim.fields (accumulator_values claim.family acc))
 
--- in front of these stand those of the claim's own values
+-- the kinds of all names are those of their values, if it is so for the fields and accumulators
 kinds_in_front :
     (families : Bool) (family : Option (List ℕ)) (fields : List InputData) (claim : Claim) (acc : Acc) → is_some family ≡ families
     → map (λ (d : InputData). d.kind) (fields ++ accumulator_names families) ≡ map kind_of (claim.fields ++ accumulator_values claim.family acc)
@@ -53,7 +53,7 @@ kinds_in_front false (Some family) fields claim acc has same = cc
 kinds_in_front true None fields claim acc has same = cc
 kinds_in_front true (Some family) fields claim acc has same = ap (λ (l : List Kind). Text ∷ Text ∷ Text ∷ Day ∷ Number ∷ l) same
 
--- the kinds of a plan's names are those of the values that its claim gives
+-- the kinds of a plan's names are those of the values of a claim that fits the plan
 pub kinds_given : (plan : PlanParts) (claim : Claim) (acc : Acc) → IsClaimOf plan claim → map (λ (d : InputData). d.kind) plan.names ≡ map kind_of (values_given claim acc)
 kinds_given plan claim acc is =
     let behind = kinds_behind (keeps_families plan) claim is.fields acc is.family is.kinds in
@@ -68,13 +68,13 @@ same_length : (plan : PlanParts) (claim : Claim) (acc : Acc) → IsClaimOf plan 
 same_length plan claim acc is =
     sym (length-map plan.names (λ (d : InputData). d.kind)) ∙ ap length (kinds_given plan claim acc is) ∙ length-map (values_given claim acc) kind_of
 
--- a plan is ready for what its claim gives
+-- a claim that fits a plan has a value for every name that its tables read
 ready_for_claim : (plan : PlanParts) (claim : Claim) (acc : Acc) → IsPlan plan → IsClaimOf plan claim → IsReady plan.tables (given_by claim acc)
 ready_for_claim plan claim acc sound is place needed =
     let below = within_names plan place sound needed in
     given_below (values_given claim acc) place (subst (λ (n : ℕ). place < n) (same_length plan claim acc is) below)
 
--- a value stands in the place of each that is given
+-- the value in a slot is the value at its place
 pub value_given : (values : List Value) (place : ℕ) → value_at (map slot_of values) place ≡ slice_get values place
 value_given [] place = refl
 value_given (v ∷ vs) zero = refl
@@ -83,7 +83,7 @@ value_given (v ∷ vs) (suc place) = value_given vs place
 below_or_past : (place n : ℕ) → (place < n) ⊎ (n ≤ place)
 below_or_past place n = grind arith
 
--- places that have their values, where they are all that are read, serve the plan
+-- slots with their values at all places that the plan reads serve the plan
 pub served :
     (plan : PlanParts) (claim : Claim) (acc : Acc) (places : List ℕ) (given : List Slot) → IsLaidOut plan places given → IsClaimOf plan claim
     → All (HasItsValue claim acc given) places → Serves plan claim acc given
@@ -102,7 +102,7 @@ served plan claim acc places given laid is all place read =
           ap (option_and_then (λ (s : Slot). s.value)) none ∙ sym nothing
     ]
 
--- each place that is read has a value to be given
+-- each place that the plan reads has a value
 pub places_within :
     (plan : PlanParts) (claim : Claim) (acc : Acc) (places : List ℕ) (given : List Slot) → IsLaidOut plan places given → IsClaimOf plan claim
     → All (λ place. place < length (values_given claim acc)) places
@@ -116,7 +116,7 @@ places_within plan claim acc places given laid is =
     omega (arith, under, get_or-range_with_len 0 names k d under, same_length plan claim acc is) in
     All-same P places (places_read plan) laid.read (All-filter (is_read plan) P numbers each)
 
--- tables are ready for what serves their plan
+-- the tables are ready for slots that serve their plan
 pub ready_where_served :
     (plan : PlanParts) (claim : Claim) (acc : Acc) (given : List Slot) → IsPlan plan → IsClaimOf plan claim → Serves plan claim acc given
     → IsReady plan.tables given
@@ -125,11 +125,11 @@ ready_where_served plan claim acc given sound is serves place needed =
     subst (λ (value : Option Value). is_some value ≡ true) (value_given (values_given claim acc) place ∙ sym same)
     (ready_for_claim plan claim acc sound is place needed)
 
--- a claim of a plan is one of what is seen as that plan
+-- a claim fits every plan that equals its plan
 pub claim_of_seen : (plan seen : PlanParts) (claim : Claim) → plan ≡ seen → IsClaimOf seen claim → IsClaimOf plan claim
 claim_of_seen plan seen claim same is = subst (λ (p : PlanParts). IsClaimOf p claim) (sym same) is
 
--- what is laid out stays so while the kinds stay
+-- slots stay laid out while their kinds do not change
 pub kept_laid_out :
     (plan : PlanParts) (places shown : List ℕ) (before given : List Slot) → IsLaidOut plan places before → shown ≡ places
     → slot_kinds given ≡ slot_kinds before → IsLaidOut plan shown given

@@ -1,4 +1,4 @@
--- What a plan gives for a claim, and its outcome by that; where it is shared.
+-- The determination of a claim, the outcome from it, and the claims that share it.
 use Rattle.std.proofs.Common.{◌≡◌, ◌⊎◌, inl, inr, ℕ, ℤ, Bool, true, false, if◌then◌else◌, List, Option, Some, None, Result, Ok, Err, refl, ap, sym, ◌∙◌, subst}
 use Rattle.std.proofs.lemmas.Bool.{both_ways, or_parts}
 use Rattle.faults.specs.declared.fault.Fault.{Fault}
@@ -35,7 +35,7 @@ reason_outcome : (billed : ℤ) (acc : Acc) (reason : Option Reason) → outcome
 reason_outcome billed acc None = refl
 reason_outcome billed acc (Some reason) = refl
 
--- the outcome by what the plan gives is the outcome by its tables
+-- the outcome from the determination is the outcome from the answers of the tables
 pub outcome_by_benefit : (roles : Option Roles) (billed : ℤ) (acc : Acc) (given : List Slot) (answers : Result Environment Fault)
     → outcome_by billed acc (benefit_of roles given answers) ≡ by_tables roles billed acc given answers
 outcome_by_benefit None billed acc given answers = refl
@@ -56,7 +56,7 @@ limits_same given other answers (Some roles) none =
     let oop_max = source_same given other answers roles.oop_max parts.1 in
     rw (deductible, oop_max) refl
 
--- roles that are no names' values are the same whatever is given
+-- roles without the value of an input are the same for all inputs
 roles_same : (given other : List Slot) (answers : Environment) (roles : Roles) → roles_given roles ≡ false → SameRoles given other answers roles
 roles_same given other answers roles none =
     let cover = or_parts (is_given roles.cover) _ none in
@@ -91,12 +91,13 @@ benefit_same None given other answers answered = refl
 benefit_same (Some roles) given other (Err fault) answered = refl
 benefit_same (Some roles) given other (Ok answers) answered = answers_same given other answers roles (roles_same given other answers roles (none_given (roles_given roles) answered))
 
--- where the tables answer the same and no role is what is given, the plan gives the same
+-- if the tables have the same answers and no role has the value of an input, the determination is
+-- the same
 shared_where_alike : (in_zone : List Slot → ℕ → Type 0) (plan : PlanParts) (given : List Slot) (zone : ℕ) → are_answered plan.roles ≡ true → IsAlike in_zone plan given zone → IsShared in_zone plan given zone
 shared_where_alike in_zone plan given zone answered alike other inside =
     benefit_same plan.roles given other (env plan given) answered ∙ ap (benefit_of plan.roles other) (sym (alike other inside))
 
--- what is remembered stays true with what is true of one zone more
+-- the cache stays correct with one more correct entry
 pub kept_true : (in_zone : List Slot → ℕ → Type 0) (plan : PlanParts) (old new : List (Option Remembered)) (given : List Slot) (zone : ℕ) (benefit : Benefit) → IsTrueOf in_zone plan old
     → benefit ≡ benefit_of plan.roles given (env plan given) → are_answered plan.roles ≡ true → IsAlike in_zone plan given zone
     → ((other : ℕ) (found : Benefit) → Remembers new other found → Remembers old other found ⊎ ((other ≡ zone) × (found ≡ benefit))) → IsTrueOf in_zone plan new
@@ -107,6 +108,6 @@ kept_true in_zone plan old new given zone benefit is_true made answered alike ke
       | inr now ↦ now.1 ∙ made ∙ shared here (subst (λ z. in_zone here z) now.0 inside)
     ]
 
--- nothing remembered is true
+-- an empty cache is correct
 pub none_true : (in_zone : List Slot → ℕ → Type 0) (plan : PlanParts) (rooms : List (Option Remembered)) → ((zone : ℕ) (benefit : Benefit) → Remembers rooms zone benefit → ⊥) → IsTrueOf in_zone plan rooms
 none_true in_zone plan rooms none zone benefit remembered given inside = absurd (none zone benefit remembered)

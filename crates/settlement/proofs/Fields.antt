@@ -15,7 +15,7 @@ use Rattle.settlement.specs.declared.claim.Claim.{Claim}
 use Rattle.settlement.specs.Claim.{IsClaimOf}
 use Rattle.settlement.specs.Fields.{have_kinds}
 
--- names are those of one list of fields, where families are kept or not
+-- the names of a plan determine its fields
 pub one_list : (families : Bool) (fields others : List InputData) → names_of families fields ≡ names_of families others → fields ≡ others
 one_list families fields others same =
     append_cancel_right fields others (accumulator_names families)
@@ -68,7 +68,7 @@ zip_from_kinds (v ∷ vs) (d ∷ ds) e =
     let kind : has_kind d.kind v ≡ true = ap (same_kind d.kind) first ∙ own_kind d.kind in
     and_from (has_kind d.kind v) (list_all (λ p. has_kind p.1.kind p.0) (zip vs ds)) kind (zip_from_kinds vs ds rest)
 
--- a claim whose values pass the test has the plan's fields
+-- a claim whose values pass the test fits the plan
 pub claim_from_test :
     (plan : PlanParts) (claim : Claim) (fields : List InputData) → plan.names ≡ names_of (keeps_families plan) fields → is_some claim.family ≡ keeps_families plan
     → have_kinds claim.fields fields ≡ true → IsClaimOf plan claim
@@ -76,7 +76,7 @@ claim_from_test plan claim fields names family e =
     let both = and_parts (length claim.fields == length fields) (list_all (λ p. has_kind p.1.kind p.0) (zip claim.fields fields)) e in
     record { family = family; fields = fields; names = names; kinds = kinds_from_zip claim.fields fields (eqb-true (length claim.fields) (length fields) both.0) both.1 }
 
--- and one that has them passes
+-- the values of a claim that fits the plan pass the test
 pub test_from_claim :
     (plan : PlanParts) (claim : Claim) (fields : List InputData) → plan.names ≡ names_of (keeps_families plan) fields → IsClaimOf plan claim → have_kinds claim.fields fields ≡ true
 test_from_claim plan claim fields names is =
@@ -87,7 +87,7 @@ test_from_claim plan claim fields names is =
     and_from (length claim.fields == length fields) (list_all (λ p. has_kind p.1.kind p.0) (zip claim.fields fields))
     (eq-eqb (length claim.fields) (length fields) long) (zip_from_kinds claim.fields fields kinds)
 
--- two answers that are compared are the same, and so are two that are the same
+-- two flags compare as equal if and only if they are equal
 pub compared_same : (one other : Bool) → beq one other ≡ true → one ≡ other
 compared_same true true e = refl
 compared_same true false e = sym e

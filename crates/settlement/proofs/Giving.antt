@@ -1,4 +1,4 @@
--- Values given to the places of a plan's names, one after another.
+-- The slots of a plan's names are set to their values, one after another.
 use Rattle.std.proofs.Common.{◌≡◌, ◌≢◌, ℕ, zero, suc, ◌+◌, ◌-◌, nat_eq, ◌<◌, ◌≤◌, inl, inr, Bool, true, false, cond, List, [], ◌∷◌, ◌++◌, map, length, set, take, get_or, filter, slice_get, Some, refl, sym, ap, subst, ◌∙◌, zero-add, arith}
 use Rattle.std.specs.List.{All, range_with_len}
 use Rattle.std.specs.Cmp.Lexicographic.{pointwise, same_text}
@@ -46,13 +46,13 @@ within_slots given values place value kinds found =
     subst (λ n. place < n) (length-map given (λ (s : Slot). s.kind))
     (slice_get_within (slot_kinds given) place (kind_of value) (kind_there given values place value kinds found))
 
--- a place takes the value that it is given
+-- a slot takes a value of its kind
 pub takes_given :
     (given : List Slot) (values : List Value) (place : ℕ) (value : Value) → slot_kinds given ≡ map kind_of values → slice_get values place ≡ Some value
     → Takes given place (kind_of value)
 takes_given given values place value kinds found = sym (slice_get-map (λ (s : Slot). s.kind) given place) ∙ kind_there given values place value kinds found
 
--- the kinds stay
+-- the kinds of the slots do not change
 pub kinds_stay :
     (given new : List Slot) (values : List Value) (place : ℕ) (value : Value) → slot_kinds given ≡ map kind_of values → slice_get values place ≡ Some value
     → new ≡ filled given place value → slot_kinds new ≡ slot_kinds given
@@ -62,7 +62,7 @@ kinds_stay given new values place value kinds found made =
     ap slot_kinds made ∙ map-set (λ (s : Slot). s.kind) given place (slot_of value)
     ∙ ap (set all place) (sym (get_or_from_slice_get all place kind kind (kind_there given values place value kinds found))) ∙ set-get_or all place kind
 
--- the place has the value then
+-- the slot has its value afterwards
 pub value_stands :
     (given new : List Slot) (values : List Value) (place : ℕ) (value : Value) → slot_kinds given ≡ map kind_of values → slice_get values place ≡ Some value
     → new ≡ filled given place value → value_at new place ≡ slice_get values place
@@ -70,7 +70,7 @@ value_stands given new values place value kinds found made =
     let there = set_same given place (slot_of value) (within_slots given values place value kinds found) in
     ap (λ (slots : List Slot). value_at slots place) made ∙ ap (option_and_then (λ (s : Slot). s.value)) there ∙ sym found
 
--- and each place that had its value has it still
+-- every other slot that had its value still has it
 pub value_stays :
     (given new : List Slot) (values : List Value) (place : ℕ) (value : Value) → slot_kinds given ≡ map kind_of values → slice_get values place ≡ Some value
     → new ≡ filled given place value → (other : ℕ) → value_at given other ≡ slice_get values other → value_at new other ≡ slice_get values other
@@ -82,7 +82,7 @@ value_stays given new values place value kinds found made other stood =
           ap (λ (slots : List Slot). value_at slots other) made ∙ ap (option_and_then (λ (s : Slot). s.value)) still ∙ stood
     ]
 
--- the places of names have their kinds
+-- the empty slots of names have the kinds of the names
 empty_kinds : (names : List InputData) → slot_kinds (empty_slots names) ≡ map (λ (d : InputData). d.kind) names
 empty_kinds [] = refl
 empty_kinds (d ∷ names) = ap (◌∷◌ d.kind) (empty_kinds names)
@@ -91,7 +91,7 @@ tail_kept : (P : ℕ → Type 0) (x : ℕ) (rest : List ℕ) (b : Bool) → All 
 tail_kept P x rest true all = All-tail P x rest all
 tail_kept P x rest false all = all
 
--- what holds of each number that passes holds of this one
+-- a property of all numbers that pass the test holds for one that passes
 pub at_each :
     (test : ℕ → Bool) (P : ℕ → Type 0) (from n k : ℕ) → All P (filter test (range_with_len from n)) → from ≤ k → k < from + n → test k ≡ true → P k
 at_each test P from zero k all low high passes = absurd (omega (arith, low, high))
@@ -102,7 +102,7 @@ at_each test P from (suc n) k all low high passes =
       | inr apart ↦ at_each test P (from + 1) n k (tail_kept P from rest (test from) all) (omega (arith, low, apart)) (omega (arith, high)) passes
     ]
 
--- the numbers that pass, one number on
+-- the numbers that pass the test, in a range that is one longer
 pub one_more :
     (test : ℕ → Bool) (n i : ℕ) (passes : Bool) → i < n → test i ≡ passes
     → filter test (take (i + 1) (range_with_len 0 n)) ≡ filter test (take i (range_with_len 0 n)) ++ cond passes (i ∷ []) []
@@ -113,7 +113,7 @@ one_more test n i passes below is =
     filter_more test numbers i 0 within
     ∙ ap (λ k. filter test (take i numbers) ++ cond (test k) (k ∷ []) []) number ∙ ap (λ b. filter test (take i numbers) ++ cond b (i ∷ []) []) is
 
--- what is laid out for a plan that is seen so
+-- new slots for a plan are laid out
 pub laid_out :
     (plan seen : PlanParts) (places : List ℕ) (given : List Slot) → seen ≡ plan → IsPlan seen → places ≡ places_read seen → given ≡ empty_slots seen.names
     → IsLaidOut plan places given
@@ -121,24 +121,24 @@ laid_out plan seen places given same sound read made =
     subst (λ (p : PlanParts). IsLaidOut p places given) same
     (record { sound = sound; read = read; kinds = ap slot_kinds made ∙ empty_kinds seen.names })
 
--- a text that stands already
+-- the case that the slot already has the text
 pub text_stands :
     (given : List Slot) (values : List Value) (place : ℕ) (standing text : List ℕ) → true ≡ pointwise nat_eq standing text
     → value_at given place ≡ Some (Text standing) → slice_get values place ≡ Some (Text text) → value_at given place ≡ slice_get values place
 text_stands given values place standing text same stands found = stands ∙ ap (λ (bytes : List ℕ). Some (Text bytes)) (same_text standing text same) ∙ sym found
 
--- one place on stands what stands behind the first value
+-- an index from 1 into a list is the previous index into its tail
 pub one_behind : (first : Value) (values : List Value) (place : ℕ) → 1 ≤ place → slice_get (first ∷ values) place ≡ slice_get values (place - 1)
 one_behind first values zero low = absurd (omega (arith, low))
 one_behind first values (suc n) low = let same : n ≡ suc n - 1 = omega arith in ap (slice_get values) same
 
--- what stands in front stands there
+-- an index into the first list is the same index into the concatenation
 found_in_front : (front behind : List Value) (place : ℕ) (value : Value) → slice_get front place ≡ Some value → slice_get (front ++ behind) place ≡ Some value
 found_in_front [] behind place value found = absurd (omega (arith, slice_get_within [] place value found))
 found_in_front (first ∷ front) behind zero value found = found
 found_in_front (first ∷ front) behind (suc n) value found = found_in_front front behind n value found
 
--- a claim's field stands three places on, counted from the member
+-- the fields of a claim begin three places after the member
 pub field_from_member :
     (claim : Claim) (acc : Acc) (place : ℕ) (value : Value) → 3 ≤ place → slice_get claim.fields (place - 3) ≡ Some value
     → slice_get (values_from_member claim acc) place ≡ Some value

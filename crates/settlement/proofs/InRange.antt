@@ -1,4 +1,4 @@
--- Accumulators in the number range, one by one.
+-- Accumulators in the range of numbers, one by one.
 use Rattle.std.proofs.lemmas.Bool.{and_parts}
 use Rattle.std.specs.Prelude.{IsTrue}
 use Rattle.settlement.specs.declared.acc.Acc.{Acc}

@@ -1,4 +1,4 @@
--- Sums, differences and a rate's parts of amounts of money are amounts of money.
+-- Sums and differences of amounts of money, and their products with rates, are amounts of money.
 use Rattle.std.proofs.Common.{◌≡◌, ℕ, ℤ, pos, negsuc, ◌*◌, ◌/◌, ◌≤◌, ◌+ℤ◌, ◌-ℤ◌, ◌≤ℤ◌, arith}
 use Rattle.std.specs.Int.{int_min}
 use Rattle.std.proofs.Math.Nat.{mul-le-mul_left}
@@ -21,15 +21,15 @@ smaller_within one other = omega (arith, ints, clamps)
 pub within_both : (one other whole : ℤ) → one ≤ℤ other → other ≤ℤ whole → one ≤ℤ whole
 within_both one other whole a b = omega (arith, ints)
 
--- what is within the smaller of two is within the first of them
+-- an amount that is at most the smaller of two is at most the first of them
 pub within_smaller : (amount smaller one other : ℤ) → amount ≤ℤ smaller → smaller ≡ int_min one other → amount ≤ℤ one
 within_smaller amount smaller one other within is = omega (arith, ints, clamps)
 
--- rounding does not pass a whole number
+-- rounding a number that is at most a whole number gives at most that whole number
 half_even_within : (n c : ℕ) → n ≤ 1000000 * c → half_even n ≤ c
 half_even_within n c below = grind (arith, nat_tests)
 
--- a rate's part of an amount
+-- an amount of money that is at most another one
 pub record IsPart (amount part : ℤ) : Type 0 where
   pub is_amount : IsAmount part
   pub within : part ≤ℤ amount

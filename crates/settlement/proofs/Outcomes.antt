@@ -1,4 +1,4 @@
--- The outcome of a claim, by what its tables answer.
+-- The accumulators after an outcome are in the range of numbers.
 use Rattle.std.proofs.Common.{◌≡◌, ℕ, ℤ, pos, ◌+ℤ◌, Bool, true, false, if◌then◌else◌, List, Option, Some, None, Result, Ok, Err, refl, arith}
 use Rattle.std.specs.Option.{SomeIff, IsSome}
 use Rattle.std.proofs.lemmas.Int.{ints}
@@ -20,7 +20,7 @@ use Rattle.settlement.specs.Roles.{value_of, is_true_flag, terms, remarks_of}
 use Rattle.faults.specs.Reason.{reason_of}
 use Rattle.settlement.specs.Settlement.{amounts, paid, denied, pended, by_terms, by_fault, by_tables, outcome}
 
--- nothing more of each
+-- adding zero leaves the accumulators in range
 nothing_added : (acc : Acc) → AreInRange acc → AreInRange (added acc (pos 0) (pos 0) (pos 0))
 nothing_added acc ranges =
     let met : acc.met +ℤ pos 0 ≡ acc.met = omega (arith, ints) in
@@ -54,7 +54,7 @@ range_by_tables (Some roles) billed acc given (Err fault) ranges = range_by_faul
 range_by_tables (Some roles) billed acc given (Ok answers) ranges =
     range_by_cover (is_true_flag (value_of given answers roles.cover)) billed acc (remarks_of answers roles.remarks) (terms given answers roles) ranges
 
--- a settlement's outcome leaves the accumulators in the number range
+-- the outcome of a settlement leaves the accumulators in range
 pub settled_in_range : (plan : PlanParts) (claim : Claim) (acc : Acc) → AreInRange acc → AreInRange (after acc (outcome plan claim acc))
 settled_in_range plan claim acc ranges = range_by_tables plan.roles claim.billed acc (given_by claim acc) (env plan (given_by claim acc)) ranges
 

@@ -1,4 +1,4 @@
--- A plan makes the same of two givings that are alike wherever it reads.
+-- A plan has the same result for two lists of slots that agree at the places that the plan reads.
 use Rattle.std.proofs.Common.{◌≡◌, ◌||◌, ◌&&◌, ℕ, ◌+◌, nat_lt, ℤ, Bool, true, false, not, cond, if◌then◌else◌, List, [], ◌∷◌, ◌++◌, length, Option, Some, None, slice_get, Result, Ok, Err, refl, ap, sym, ◌∙◌, arith}
 use Rattle.std.specs.List.{list_any, position_or_len, range_with_len}
 use Rattle.std.specs.Option.{option_map_or}
@@ -33,7 +33,7 @@ use Rattle.settlement.specs.Roles.{value_of, is_true_flag, limits, terms, remark
 use Rattle.settlement.specs.Settlement.{by_roles, by_tables, by_terms, denied, outcome}
 use Rattle.settlement.proofs.AllGiven.{value_given}
 
--- two givings have the same value at each place that passes the test
+-- two lists of slots have the same value at each place that passes the test
 abbrev pub AlikeWhere : (ℕ → Bool) → List Slot → List Slot → Type 0
 AlikeWhere test given other = (place : ℕ) → test place ≡ true → value_at given place ≡ value_at other place
 
@@ -119,7 +119,7 @@ answers_alike given other earlier (t ∷ ts) alike =
     λ answers. answers_alike given other (earlier ++ answers ∷ []) ts (λ place e. alike place (or_right (any_reads t.inputs place) (needs ts place) e)) in
     ap (λ (value : TableValue). and_then value next) here ∙ next_alike (table_value other earlier t) next more rest
 
--- a plan's tables answer the same
+-- the tables of the plan have the same answers
 env_alike : (plan : PlanParts) (given other : List Slot) → AlikeWhere (needs plan.tables) given other → env plan given ≡ env plan other
 env_alike plan given other alike =
     let answers = answers_alike given other [] plan.tables alike in
@@ -142,7 +142,7 @@ limits_alike given other answers (Some roles) alike =
     let oop_max = source_alike given other answers roles.oop_max (λ place e. alike place (or_right (source_reads place roles.deductible) (source_reads place roles.oop_max) e)) in
     rw (deductible, oop_max) refl
 
--- each role has the same value
+-- each role has the same value for both lists of slots
 pub record SameRoles (given other : List Slot) (answers : Environment) (roles : Roles) : Type 0 where
   pub cover : value_of given answers roles.cover ≡ value_of other answers roles.cover
   pub fee : value_of given answers roles.fee ≡ value_of other answers roles.fee
@@ -152,7 +152,7 @@ pub record SameRoles (given other : List Slot) (answers : Environment) (roles : 
   pub oop_max : value_of given answers roles.oop_max ≡ value_of other answers roles.oop_max
   pub family : limits given answers roles.family ≡ limits other answers roles.family
 
--- where the last of the tests is passed one of them is
+-- if the last test passes, then one of the tests passes
 last_passes : (a b c d e f g : Bool) → g ≡ true → (a || (b || (c || (d || (e || (f || g)))))) ≡ true
 last_passes a b c d e f g passes =
     or_right a (b || (c || (d || (e || (f || g))))) (or_right b (c || (d || (e || (f || g)))) (or_right c (d || (e || (f || g)))
@@ -195,7 +195,7 @@ tables_alike None billed acc given other answers alike = refl
 tables_alike (Some roles) billed acc given other (Err fault) alike = refl
 tables_alike (Some roles) billed acc given other (Ok answers) alike = roles_alike roles billed acc given other answers (same_roles given other answers roles alike)
 
--- the outcome of a claim is what the plan, seen so, makes of what serves it
+-- the outcome of a claim depends only on the values that the plan reads
 pub outcome_where_served :
     (plan seen : PlanParts) (claim : Claim) (acc : Acc) (given : List Slot) → plan ≡ seen → Serves plan claim acc given
     → by_tables plan.roles claim.billed acc given (env plan given) ≡ outcome seen claim acc

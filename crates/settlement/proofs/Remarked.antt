@@ -1,4 +1,4 @@
--- Words at places, with a mark between two of them.
+-- The words at given places, with a mark between two of them.
 use Rattle.std.proofs.Common.{◌≡◌, ℕ, List, [], ◌∷◌, ◌++◌, map, ap, refl, sym}
 use Rattle.std.specs.List.{join_by}
 use Rattle.std.proofs.lemmas.List.Folds.{flat_map-map}

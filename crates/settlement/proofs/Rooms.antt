@@ -1,4 +1,4 @@
--- What stands in the rooms of a memory once one of them has something else.
+-- The contents of a cache after one slot is replaced.
 use Rattle.std.proofs.Common.{◌≡◌, ◌⊎◌, inl, inr, ℕ, zero, suc, List, [], ◌∷◌, ◌++◌, Option, Some, None, slice_get, ap, sym}
 use Rattle.std.specs.Prelude.{slice_set}
 use Rattle.std.proofs.lemmas.Option.{same_Some}
@@ -14,7 +14,7 @@ set_found (x ∷ xs) zero r (suc k) found e = inl e
 set_found (x ∷ xs) (suc i) r zero found e = inl e
 set_found (x ∷ xs) (suc i) r (suc k) found e = set_found xs i r k found e
 
--- what is remembered then was remembered before, or it is what the room has now
+-- an entry of the new cache is an entry of the old one, or the new entry of the slot
 pub one_room : (rooms : List (Option Remembered)) (room zone : ℕ) (benefit : Benefit) (other : ℕ) (found : Benefit)
     → Remembers (slice_set rooms room (Some (record { zone = zone; benefit = benefit }))) other found → Remembers rooms other found ⊎ ((other ≡ zone) × (found ≡ benefit))
 one_room rooms room zone benefit other found remembered =
@@ -25,7 +25,7 @@ one_room rooms room zone benefit other found remembered =
       | inr same ↦ (let is : now ≡ then = same_Some now then same in inr (sym (ap (λ (r : Remembered). r.zone) is), sym (ap (λ (r : Remembered). r.benefit) is)))
     ]
 
--- an empty room more has nothing
+-- one more empty slot adds no entry
 none_pushed : (rooms : List (Option Remembered)) (k : ℕ) (r : Remembered) → slice_get (rooms ++ None ∷ []) k ≡ Some (Some r) → slice_get rooms k ≡ Some (Some r)
 none_pushed [] zero r e = absurd cc
 none_pushed [] (suc k) r e = absurd cc

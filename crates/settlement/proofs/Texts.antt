@@ -1,4 +1,4 @@
--- The texts among values, one value on.
+-- The texts among the values of a list that is one longer.
 use Rattle.std.proofs.Common.{◌≡◌, ℕ, ◌+◌, ◌<◌, List, [], ◌∷◌, ◌++◌, length, get_or, slice_get, take, append-nil, Option, Some, None, ap, sym, ◌∙◌}
 use Rattle.std.specs.List.{filter_map, cons_option}
 use Rattle.std.proofs.lemmas.List.{take_more}
@@ -30,7 +30,7 @@ found_more texts n bytes found =
     take_more texts n [] (slice_get_within texts n bytes found)
     ∙ ap (λ (text : List ℕ). take n texts ++ text ∷ []) (get_or_from_slice_get texts n bytes [] found)
 
--- so many first ones of some texts are those among the values so far, and the next one is the next value
+-- the first `n` texts are those among the values so far, and the next text is the next value
 pub compared_more :
     (values : List Value) (texts : List (List ℕ)) (i n : ℕ) (d : Value) (bytes : List ℕ) → i < length values → text_of (get_or values i d) ≡ Some bytes
     → slice_get texts n ≡ Some bytes → take n texts ≡ filter_map text_of (take i values)

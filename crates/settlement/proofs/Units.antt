@@ -1,4 +1,4 @@
--- Whether a role has its units.
+-- The two cases of a role: it has units, or it is the error.
 use Rattle.std.proofs.Common.{◌≡◌, ℤ, Option, Some, None, Ok, Err}
 use Rattle.std.specs.Option.{ok_or}
 use Rattle.faults.specs.declared.role.Role.{Role}

@@ -1,18 +1,19 @@
--- What a claim's outcome adds to its member's accumulators and to its family's.
+-- The effect of a claim's outcome on the accumulators of its member and of its family.
 use Rattle.std.specs.Prelude.{ℤ, ◌+ℤ◌, Bool, ◌&&◌, IsTrue}
 use Rattle.settlement.specs.declared.acc.Acc.{Acc}
 use Rattle.settlement.specs.declared.outcome.Outcome.{Outcome}
 use Rattle.settlement.specs.Amount.{is_in_range}
 
--- accumulators with this much more of each
+-- the accumulators after these amounts are added to the member's and to the family's
 abbrev pub added : Acc → ℤ → ℤ → ℤ → Acc
 added acc met oop paid = record { met = acc.met +ℤ met; oop = acc.oop +ℤ oop; paid = acc.paid +ℤ paid; fmet = acc.fmet +ℤ met; foop = acc.foop +ℤ oop }
 
--- the accumulators after an outcome: more is met by the deductible's part, paid out of pocket by the share, and paid by the plan
+-- the accumulators after an outcome: `met` grows by the deductible, `oop` by the member's share,
+-- and `paid` by the amount that the plan pays
 abbrev pub after : Acc → Outcome → Acc
 after acc outcome = added acc outcome.ded outcome.share outcome.paid
 
--- each is in the number range
+-- each accumulator is in the range of numbers
 abbrev pub are_in_range : Acc → Bool
 are_in_range acc = is_in_range acc.met && is_in_range acc.oop && is_in_range acc.paid && is_in_range acc.fmet && is_in_range acc.foop
 

@@ -1,4 +1,5 @@
--- What a plan gives for a claim before its amounts. It is the same wherever its tables answer the same, unless a role is what is given for a name.
+-- The determination of a claim, before its amounts. Claims with the same answers of the tables have
+-- the same determination, unless a role has the value of an input.
 use Rattle.std.specs.Prelude.{◌≡◌, ℕ, ℤ, Bool, true, false, ◌||◌, List, [], Option, Some, None, Result, Ok, Err, if◌then◌else◌, slice_get}
 use Rattle.std.specs.Option.{option_map_or}
 use Rattle.faults.specs.declared.fault.Fault.{Fault}
@@ -22,67 +23,68 @@ use Rattle.settlement.specs.declared.terms.RoleTerms.{RoleTerms}
 use Rattle.settlement.specs.Roles.{value_of, is_true_flag, terms, remarks_of}
 use Rattle.settlement.specs.Settlement.{amounts, denied, paid, pended, within_range}
 
--- a covered claim: a role that isn't what it must be pends it
+-- a covered claim; a role with an invalid value pends it
 abbrev pub by_found : List (List ℕ) → Result RoleTerms Role → Benefit
 by_found remarks (Err role) = Pended (Term role)
 by_found remarks (Ok found) = Covered found remarks
 
--- over what the tables answer
+-- the determination from the answers of the tables: a claim that is not covered is denied
 abbrev pub by_answers : Roles → List Slot → Environment → Benefit
 by_answers roles given env =
     let remarks = remarks_of env roles.remarks in
     if is_true_flag (value_of given env roles.cover) then by_found remarks (terms given env roles) else Denied remarks
 
--- a fault of the tables; `env` never is want of memory
+-- a fault of the tables pends the claim; the case `None` does not occur, since `env` never runs out
+-- of memory
 abbrev pub by_reason : Option Reason → Benefit
 by_reason None = Denied []
 by_reason (Some reason) = Pended reason
 
--- what a plan's roles and tables say of a claim; a plan without roles covers nothing
+-- the determination of a claim by a plan's roles and tables; a plan without roles covers nothing
 abbrev pub benefit_of : Option Roles → List Slot → Result Environment Fault → Benefit
 benefit_of None given answers = Denied []
 benefit_of (Some roles) given (Err fault) = by_reason (reason_of fault)
 benefit_of (Some roles) given (Ok env) = by_answers roles given env
 
--- the outcome of a claim that is billed at so much, by what the plan gives for it
+-- the outcome of a claim from its billed amount, the accumulators and its determination
 abbrev pub outcome_by : ℤ → Acc → Benefit → Outcome
 outcome_by billed acc (Pended reason) = pended reason
 outcome_by billed acc (Denied remarks) = denied remarks
 outcome_by billed acc (Covered found remarks) = within_range acc (paid (amounts billed found acc) remarks)
 
--- the role's value is what is given for some name
+-- the role has the value of an input
 abbrev pub is_given : Source → Bool
 is_given (Literal value) = false
 is_given (Input place) = true
 is_given (Output name) = false
 
--- one of the family's limits is
+-- one of the family's limits has the value of an input
 abbrev pub limits_given : Option FamilyRoles → Bool
 limits_given None = false
 limits_given (Some limits) = is_given limits.deductible || is_given limits.oop_max
 
--- some role's value is
+-- some role has the value of an input
 abbrev pub roles_given : Roles → Bool
 roles_given roles =
     is_given roles.cover || (is_given roles.fee || (is_given roles.deductible || (is_given roles.copay
     || (is_given roles.rate || (is_given roles.oop_max || limits_given roles.family)))))
 
--- no role's value is what is given for a name
+-- no role has the value of an input
 abbrev pub are_answered : Option Roles → Bool
 are_answered roles = option_map_or (λ r. if roles_given r then false else true) roles true
 
--- this is remembered of the zone
+-- the cache has this determination for the input class
 abbrev pub Remembers : List (Option Remembered) → ℕ → Benefit → Type 0
 Remembers rooms zone benefit = (room : ℕ) × (slice_get rooms room ≡ Some (Some (record { zone = zone; benefit = benefit })))
 
--- what is remembered of a zone is what the plan gives wherever in it a claim lies
+-- the cache is correct: its determination for a class is that of every claim in the class
 abbrev pub IsTrueOf : (List Slot → ℕ → Type 0) → PlanParts → List (Option Remembered) → Type 0
 IsTrueOf in_zone plan rooms = (zone : ℕ) (benefit : Benefit) → Remembers rooms zone benefit → (given : List Slot) → in_zone given zone → benefit ≡ benefit_of plan.roles given (env plan given)
 
--- wherever in the zone a claim lies, the tables answer the same as for what is given here
+-- the tables have the same answers for every claim in the class as for these inputs
 abbrev pub IsAlike : (List Slot → ℕ → Type 0) → PlanParts → List Slot → ℕ → Type 0
 IsAlike in_zone plan given zone = (other : List Slot) → in_zone other zone → env plan other ≡ env plan given
 
--- and the plan gives the same
+-- every claim in the class has the same determination as these inputs
 abbrev pub IsShared : (List Slot → ℕ → Type 0) → PlanParts → List Slot → ℕ → Type 0
 IsShared in_zone plan given zone = (other : List Slot) → in_zone other zone → benefit_of plan.roles given (env plan given) ≡ benefit_of plan.roles other (env plan other)

@@ -7,8 +7,8 @@ use Rattle.dtable.specs.Plan.{PlanParts, keeps_families}
 use Rattle.settlement.specs.declared.acc.Acc.{Acc}
 use Rattle.settlement.specs.declared.claim.Claim.{Claim}
 
--- the claim has a family where the plan keeps families and nowhere else, and the plan's fields: a value of its kind for each of
--- them, in order
+-- the claim fits the plan: it has a family if and only if the plan keeps accumulators for families,
+-- and a value of the right kind for each of the plan's fields, in order
 pub record IsClaimOf (plan : PlanParts) (claim : Claim) : Type 0 where
   pub family : is_some claim.family ≡ keeps_families plan
   pub fields : List InputData

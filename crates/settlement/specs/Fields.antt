@@ -1,10 +1,10 @@
--- Whether values have the kinds of fields.
+-- The test that values have the kinds of the plan's fields.
 use Rattle.std.specs.Prelude.{◌==◌, ◌&&◌, Bool, List, length}
 use Rattle.std.specs.List.{list_all, zip}
 use Rattle.feel_tests.specs.declared.value.Value.{Value}
 use Rattle.dtable.specs.declared.table.InputData.{InputData}
 use Rattle.dtable.specs.Plan.{has_kind}
 
--- as many values as fields, each of its field's kind
+-- there is one value for each field, of the field's kind
 abbrev pub have_kinds : List Value → List InputData → Bool
 have_kinds values fields = (length values == length fields) && list_all (λ p. has_kind p.1.kind p.0) (zip values fields)

@@ -1,4 +1,4 @@
--- What a claim and its account's accumulators give the names that a plan's tables read.
+-- The values that a claim and its accumulators give the names of a plan.
 use Rattle.std.specs.Prelude.{ℕ, List, [], ◌∷◌, ◌++◌, map, Option, Some, None}
 use Rattle.feel_tests.specs.Value.{kind_of}
 use Rattle.feel_tests.specs.declared.kind.Kind.{Kind}
@@ -10,43 +10,44 @@ use Rattle.settlement.specs.declared.given.Lent.TheVariants as lent
 use Rattle.settlement.specs.declared.acc.Acc.{Acc}
 use Rattle.settlement.specs.declared.claim.Claim.{Claim}
 
--- the accumulators as values: the family's sums too, where a claim has a family
+-- the accumulators as values; a claim with a family has the family's sums, too
 abbrev pub accumulator_values : Option (List ℕ) → Acc → List Value
 accumulator_values None acc = Number acc.met ∷ Number acc.oop ∷ Number acc.paid ∷ []
 accumulator_values (Some family) acc = Number acc.met ∷ Number acc.oop ∷ Number acc.paid ∷ Number acc.fmet ∷ Number acc.foop ∷ []
 
--- the values behind those that every claim has: the fields, and the accumulators
+-- the values after the billed amount: the fields and the accumulators
 abbrev pub values_behind : Claim → Acc → List Value
 values_behind claim acc = claim.fields ++ accumulator_values claim.family acc
 
--- the values from the member on
+-- the values from the member onwards
 abbrev pub values_from_member : Claim → Acc → List Value
 values_from_member claim acc = Text claim.member ∷ Day claim.service ∷ Number claim.billed ∷ values_behind claim acc
 
--- values behind a family, where there is one
+-- the values after the family, if the claim has one
 abbrev pub behind_family : Option (List ℕ) → List Value → List Value
 behind_family None values = values
 behind_family (Some family) values = Text family ∷ values
 
--- the values for a plan's names, in order: the claim's own, with its family, where it has one, its fields, and the accumulators
+-- the values of a plan's names, in order: the identifier, the family if there is one, the member,
+-- the service, the billed amount, the fields and the accumulators
 abbrev pub values_given : Claim → Acc → List Value
 values_given claim acc = Text claim.id ∷ behind_family claim.family (values_from_member claim acc)
 
--- the value that is lent
+-- the value that is borrowed
 abbrev pub value_lent : Lent → Value
 value_lent (lent.Number number) = Number number
 value_lent (lent.Text text) = Text text.now
 value_lent (lent.Flag flag) = Flag flag
 value_lent (lent.Day day) = Day day
 
--- a place with its value
+-- a slot with its value
 abbrev pub slot_of : Value → Slot
 slot_of value = record { kind = kind_of value; value = Some value }
 
--- what is given for a plan's names
+-- the slots of a plan's names, with their values
 abbrev pub given_by : Claim → Acc → List Slot
 given_by claim acc = map slot_of (values_given claim acc)
 
--- the kinds of places
+-- the kinds of the slots
 abbrev pub slot_kinds : List Slot → List Kind
 slot_kinds given = map (λ s. s.kind) given

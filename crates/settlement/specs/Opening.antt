@@ -1,12 +1,12 @@
--- What accounts begin with.
+-- The opening accumulators of accounts.
 use Rattle.std.specs.Prelude.{ℤ, pos, ◌+ℤ◌, Bool, List, [], ◌∷◌, cond}
 use Rattle.settlement.specs.Accounts.{Account, is_household, is_same, part}
 use Rattle.settlement.specs.Claim.{nothing_yet}
 use Rattle.settlement.specs.declared.acc.Acc.{Acc}
 use Rattle.settlement.specs.declared.account.Balance.{Balance}
 
--- accumulators with a balance: where it is the account's own, it is what the account has of its own; where it is of the account's
--- household, it adds to what the family has
+-- the accumulators with one more balance: if it is the account's own, it sets the member's own
+-- amounts; if it belongs to the account's family and year, it adds to the family's sums
 abbrev pub joins : Bool → Bool → Balance → Acc → Acc
 joins own shared balance acc = record {
   met = cond own balance.met acc.met;
@@ -16,16 +16,16 @@ joins own shared balance acc = record {
   foop = acc.foop +ℤ part shared balance.oop;
 }
 
--- what an account begins with: of its own the balance in its name, zeros where there is none; of its family's the sums over the
--- balances of its household
+-- the opening accumulators of an account: its own amounts are those of its balance, or zero without
+-- one, and the family's sums are over the balances of the same family and year
 abbrev pub opening : List (Account × Balance) → Account → Acc
 opening [] account = nothing_yet
 opening (entry ∷ rest) account = joins (is_same entry.0 account) (is_household entry.0 account) entry.1 (opening rest account)
 
--- no balance: zeros
+-- the balance whose amounts are all zero
 abbrev pub no_balance : Balance
 no_balance = record { met = pos 0; oop = pos 0; paid = pos 0 }
 
--- what an account begins with that has this balance, and whose family has these sums
+-- the opening accumulators of an account with this balance, in a family with these sums
 abbrev pub begun_beside : ℤ → ℤ → Balance → Acc
 begun_beside fmet foop balance = record { met = balance.met; oop = balance.oop; paid = balance.paid; fmet = fmet; foop = foop }

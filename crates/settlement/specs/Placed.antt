@@ -1,4 +1,4 @@
--- Where a plan's tables answer its roles.
+-- The places of the outputs that give a plan's roles their values.
 use Rattle.std.specs.Prelude.{◌≡◌, ℕ, List, Option, Some, None}
 use Rattle.std.specs.Option.{option_and_then}
 use Rattle.dtable.specs.declared.environment.Answer.{Answer}
@@ -13,32 +13,32 @@ use Rattle.dtable.specs.Plan.{PlanParts}
 use Rattle.settlement.specs.declared.placed.FamilyPlaces.{FamilyPlaces}
 use Rattle.settlement.specs.declared.placed.RolePlaces.{RolePlaces}
 
--- the answer at the place, if there is one, is the answer of the output with the name, whatever the tables answer
+-- the answer at the place is the answer of the output with the name in every evaluation
 abbrev pub IsPlaceOf : List Table → List ℕ → Option OutputPlace → Type 0
 IsPlaceOf tables name place = (answers : List (List Answer)) → answer_of tables answers name ≡ option_and_then (answer_at answers) place
 
--- so for the output that a source names
+-- if the source is an output, the place is the place of that output
 abbrev pub IsPlaced : List Table → Source → Option OutputPlace → Type 0
 IsPlaced tables (Literal value) place = Unit {0}
 IsPlaced tables (Input p) place = Unit {0}
 IsPlaced tables (Output name) place = IsPlaceOf tables name place
 
--- and for that of the remarks, if there is one
+-- if the plan names an output for the remarks, the place is the place of that output
 abbrev pub AreRemarksPlaced : List Table → Option (List ℕ) → Option OutputPlace → Type 0
 AreRemarksPlaced tables None place = Unit {0}
 AreRemarksPlaced tables (Some name) place = IsPlaceOf tables name place
 
--- for the family's limits
+-- the places of the family's limits are right
 pub record AreLimitsPlaced (tables : List Table) (limits : FamilyRoles) (places : FamilyPlaces) : Type 0 where
   pub deductible : IsPlaced tables limits.deductible places.deductible
   pub oop_max : IsPlaced tables limits.oop_max places.oop_max
 
--- and so, if there are any
+-- the places of the family's limits are right if the plan has such limits
 abbrev pub AreFamilyPlaced : List Table → Option FamilyRoles → FamilyPlaces → Type 0
 AreFamilyPlaced tables None places = Unit {0}
 AreFamilyPlaced tables (Some limits) places = AreLimitsPlaced tables limits places
 
--- so for each role
+-- the places of all roles are right
 pub record ArePlaced (tables : List Table) (roles : Roles) (places : RolePlaces) : Type 0 where
   pub cover : IsPlaced tables roles.cover places.cover
   pub fee : IsPlaced tables roles.fee places.fee
@@ -49,6 +49,6 @@ pub record ArePlaced (tables : List Table) (roles : Roles) (places : RolePlaces)
   pub remarks : AreRemarksPlaced tables roles.remarks places.remarks
   pub family : AreFamilyPlaced tables roles.family places.family
 
--- so for the roles of a plan, if it has them
+-- the places of a plan's roles are right if the plan has roles
 abbrev pub ArePlacedFor : PlanParts → RolePlaces → Type 0
 ArePlacedFor plan places = (roles : Roles) → plan.roles ≡ Some roles → ArePlaced plan.tables roles places

@@ -1,4 +1,4 @@
--- What of a claim and its member's accumulators a plan reads.
+-- The values of a claim and of its accumulators that a plan reads.
 use Rattle.std.specs.Prelude.{◌≡◌, ◌==◌, ℕ, Bool, false, ◌||◌, List, filter, length, map, slice_get, Option, Some, None, IsTrue}
 use Rattle.std.specs.List.{range_with_len}
 use Rattle.std.specs.Option.{option_map_or}
@@ -13,18 +13,18 @@ use Rattle.settlement.specs.declared.acc.Acc.{Acc}
 use Rattle.settlement.specs.declared.claim.Claim.{Claim}
 use Rattle.settlement.specs.Given.{slot_kinds, values_given}
 
--- the role's value is what is given for the name at the place
+-- the role has the value of the name at the place
 abbrev pub source_reads : ℕ → Source → Bool
 source_reads place (Literal value) = false
 source_reads place (Input p) = p == place
 source_reads place (Output name) = false
 
--- one of the family's limits is what is given for the name at the place
+-- one of the family's limits has the value of the name at the place
 abbrev pub limits_read : ℕ → Option FamilyRoles → Bool
 limits_read place None = false
 limits_read place (Some limits) = source_reads place limits.deductible || source_reads place limits.oop_max
 
--- some role's value is what is given for the name at the place
+-- some role has the value of the name at the place
 abbrev pub roles_read : ℕ → Roles → Bool
 roles_read place roles =
     source_reads place roles.cover || (source_reads place roles.fee || (source_reads place roles.deductible || (source_reads place roles.copay
@@ -34,19 +34,20 @@ roles_read place roles =
 abbrev pub is_read : PlanParts → ℕ → Bool
 is_read plan place = needs plan.tables place || option_map_or (roles_read place) plan.roles false
 
--- the places of the names that are read, in order
+-- the places of the names that the plan reads, in order
 abbrev pub places_read : PlanParts → List ℕ
 places_read plan = filter (is_read plan) (range_with_len 0 (length plan.names))
 
--- the place has the value that the claim and the accumulators give it
+-- the slot at the place has the value that the claim and the accumulators give it
 abbrev pub HasItsValue : Claim → Acc → List Slot → ℕ → Type 0
 HasItsValue claim acc given place = value_at given place ≡ slice_get (values_given claim acc) place
 
--- so has each place that is read
+-- every slot that the plan reads has the value that the claim and the accumulators give it
 abbrev pub Serves : PlanParts → Claim → Acc → List Slot → Type 0
 Serves plan claim acc given = (place : ℕ) → IsTrue (is_read plan place) → HasItsValue claim acc given place
 
--- what an adjudicator by a plan lays out: the places that are read, and a place of its kind for each name
+-- the slots of an adjudicator by a plan: the places that the plan reads, and a slot of the right
+-- kind for each name
 pub record IsLaidOut (plan : PlanParts) (places : List ℕ) (given : List Slot) : Type 0 where
   pub sound : IsPlan plan
   pub read : places ≡ places_read plan

@@ -1,4 +1,5 @@
--- What a plan's roles say of a claim, over what is given for the plan's names and what its tables answer.
+-- The values of a plan's roles for a claim, from the values of the plan's names and the answers of
+-- its tables.
 use Rattle.std.specs.Prelude.{ℕ, ℤ, Bool, false, if◌then◌else◌, List, [], Option, Some, None, Result, Ok, Err}
 use Rattle.std.specs.List.{filter_map}
 use Rattle.std.specs.Option.{option_and_then}
@@ -25,7 +26,7 @@ use Rattle.settlement.specs.declared.terms.RoleTerms.{RoleTerms}
 abbrev pub answer_named : Environment → List ℕ → Option Answer
 answer_named env name = answer_of env.tables env.answers name
 
--- the value of a role: its literal, what is given for a name, or the single value of an output
+-- the value of a role: a literal, the value of an input, or the single value of an output
 abbrev pub value_of : List Slot → Environment → Source → Option Value
 value_of given env (Literal value) = Some value
 value_of given env (Input place) = value_at given place
@@ -36,34 +37,35 @@ abbrev pub is_true_flag : Option Value → Bool
 is_true_flag (Some (Flag flag)) = flag
 is_true_flag _ = false
 
--- the units of a value, where it is a number that passes the test
+-- the units of a value if it is a number that passes the test
 abbrev pub units_where : (ℤ → Bool) → Option Value → Option ℤ
 units_where test (Some (Number units)) = if test units then Some units else None
 units_where test _ = None
 
--- what follows from a role's units; a role without them is the answer
+-- continues with the units of a role; a role without units is the error
 abbrev pub with_role : {X : Type 0} → Role → Option ℤ → (ℤ → Result X Role) → Result X Role
 with_role role None next = Err role
 with_role role (Some units) next = next units
 
--- the family's limits, in order: amounts of money, or the first that isn't
+-- the family's limits, which must be amounts of money, or the first role that is not
 abbrev pub family_terms : List Slot → Environment → FamilyRoles → Result FamilyTerms Role
 family_terms given env limits =
     with_role FamilyDeductible (units_where is_money (value_of given env limits.deductible)) (λ deductible.
     with_role FamilyOopMax (units_where is_money (value_of given env limits.oop_max)) (λ oop_max.
     Ok (record { deductible = deductible; oop_max = oop_max })))
 
--- the same, if there are any
+-- the optional limits of the family, or the first role that is not an amount of money
 abbrev pub limits : List Slot → Environment → Option FamilyRoles → Result (Option FamilyTerms) Role
 limits given env None = Ok None
 limits given env (Some roles) = result_map_both Some (λ role. role) (family_terms given env roles)
 
--- what follows from the family's limits; one that isn't what it must be is the answer
+-- continues with the family's limits; an invalid limit is the error
 abbrev pub with_limits : {X : Type 0} → Result (Option FamilyTerms) Role → (Option FamilyTerms → Result X Role) → Result X Role
 with_limits (Err role) next = Err role
 with_limits (Ok family) next = next family
 
--- the number roles, in order: amounts of money and a rate, and the family's limits, or the first role that isn't what it must be
+-- the cost sharing of a claim: four amounts of money, a rate and the family's limits, or the first
+-- role, in this order, with an invalid value
 abbrev pub terms : List Slot → Environment → Roles → Result RoleTerms Role
 terms given env roles =
     with_role Fee (units_where is_money (value_of given env roles.fee)) (λ fee.
@@ -74,17 +76,17 @@ terms given env roles =
     with_limits (limits given env roles.family) (λ family.
     Ok (record { fee = fee; deductible = deductible; copay = copay; rate = rate; oop_max = oop_max; family = family })))))))
 
--- the bytes of a text
+-- the bytes of a value that is a text
 abbrev pub text_of : Value → Option (List ℕ)
 text_of (Text bytes) = Some bytes
 text_of _ = None
 
--- the texts that an answer lists
+-- the texts in an answer that is a list
 abbrev pub texts_of : Option Answer → List (List ℕ)
 texts_of (Some (Many values)) = filter_map text_of values
 texts_of _ = []
 
--- the remarks: the texts that the output of that role lists, if the plan has the role
+-- the remarks: the texts in the list of the output that the role names, or none without such a role
 abbrev pub remarks_of : Environment → Option (List ℕ) → List (List ℕ)
 remarks_of env None = []
 remarks_of env (Some name) = texts_of (answer_named env name)

@@ -1,4 +1,5 @@
--- The settlement of a claim: its outcome, by a plan's roles, over what the plan's tables answer.
+-- The settlement of a claim: its outcome, from the plan's roles and the answers of the plan's
+-- tables.
 use Rattle.std.specs.Prelude.{ℤ, pos, ◌+ℤ◌, ◌-ℤ◌, ℕ, List, [], Option, Some, None, option_map, Result, Ok, Err, if◌then◌else◌}
 use Rattle.std.specs.Int.{int_min, int_max}
 use Rattle.fixpoint.specs.Money.{cents_of_product}
@@ -22,39 +23,42 @@ use Rattle.settlement.specs.Accumulators.{after, are_in_range}
 use Rattle.settlement.specs.Given.{given_by}
 use Rattle.settlement.specs.Roles.{value_of, is_true_flag, terms, remarks_of}
 
--- what is left of a limit of which so much is used up: never less than nothing
+-- what remains of a limit after the used amount, which is never negative
 abbrev pub left_of : ℤ → ℤ → ℤ
 left_of limit used = int_max (pos 0) (limit -ℤ used)
 
--- an amount, and no more of it than is left of the family's limit, of which so much is used up, if there is such a limit
+-- an amount, but at most what remains of the family's limit, if there is one
 abbrev pub within_limit : Option ℤ → ℤ → ℤ → ℤ
 within_limit None used amount = amount
 within_limit (Some limit) used amount = int_min amount (left_of limit used)
 
--- the deductible of the family, and what it pays out of pocket at most, if there are such limits
+-- the deductible of the family, if there is one
 abbrev pub family_deductible : RoleTerms → Option ℤ
 family_deductible terms = option_map (λ f. f.deductible) terms.family
 
+-- the out-of-pocket maximum of the family, if there is one
 abbrev pub family_oop_max : RoleTerms → Option ℤ
 family_oop_max terms = option_map (λ f. f.oop_max) terms.family
 
--- the amounts of a covered claim that is billed at so much
+-- the amounts of a covered claim, from its billed amount, its cost sharing and the accumulators
 abbrev pub amounts : ℤ → RoleTerms → Acc → Amounts
 amounts billed terms acc =
-    -- allowed is what is billed, and no more than the fee
+    -- the allowed amount is the billed amount, but at most the fee
     let allowed = int_min billed terms.fee in
-    -- the deductible takes of it what is left to be met, by the member and by the family
+    -- the deductible is the part of it that the member and the family have not met yet
     let ded = within_limit (family_deductible terms) acc.fmet (int_min allowed (left_of terms.deductible acc.met)) in
-    -- the copay comes out of the rest
+    -- the copay is taken from the rest
     let copay = int_min (allowed -ℤ ded) terms.copay in
-    -- the coinsurance is the rate's part of what is left then, rounded once to whole cents, half to even
+    -- the coinsurance is what remains then times the rate, rounded once to whole cents, half to
+    -- even
     let coins = cents_of_product (allowed -ℤ ded -ℤ copay) terms.rate in
-    -- the member's share is these three, and no more than is left of the out-of-pocket limits, the member's and the family's
+    -- the member's cost share is the sum of these three, but at most what remains of the
+    -- out-of-pocket maximums of the member and of the family
     let share = within_limit (family_oop_max terms) acc.foop (int_min (ded +ℤ copay +ℤ coins) (left_of terms.oop_max acc.oop)) in
-    -- the plan pays the rest of what is allowed
+    -- the plan pays the rest of the allowed amount
     record { allowed = allowed; ded = ded; copay = copay; coins = coins; share = share; paid = allowed -ℤ share }
 
--- a claim that is paid
+-- the outcome of a paid claim
 abbrev pub paid : Amounts → List (List ℕ) → Outcome
 paid a remarks = record {
   verdict = Paid;
@@ -67,7 +71,7 @@ paid a remarks = record {
   remarks = remarks;
 }
 
--- a claim that isn't paid: every amount is zero
+-- the outcome of a claim that is not paid, whose amounts are all zero
 abbrev pub unpaid : Verdict → List (List ℕ) → Outcome
 unpaid verdict remarks = record {
   verdict = verdict;
@@ -80,40 +84,43 @@ unpaid verdict remarks = record {
   remarks = remarks;
 }
 
--- a claim that is denied, with its remarks
+-- the outcome of a denied claim, with its remarks
 abbrev pub denied : List (List ℕ) → Outcome
 denied remarks = unpaid Denied remarks
 
--- a claim that waits for a person, with no remarks
+-- the outcome of a claim that is pended for review by a person, without remarks
 abbrev pub pended : Reason → Outcome
 pended reason = unpaid (Pended reason) []
 
--- a claim whose accumulators would leave the number range waits instead, for a range that is no table's
+-- a claim after which an accumulator would be out of range is pended instead; table 0 means that no
+-- table caused it
 abbrev pub within_range : Acc → Outcome → Outcome
 within_range acc outcome = if are_in_range (after acc outcome) then outcome else pended (Range 0)
 
--- a covered claim: a role that isn't what it must be pends it
+-- the outcome of a covered claim; a role with an invalid value pends it
 abbrev pub by_terms : ℤ → Acc → List (List ℕ) → Result RoleTerms Role → Outcome
 by_terms billed acc remarks (Err role) = pended (Term role)
 by_terms billed acc remarks (Ok terms) = within_range acc (paid (amounts billed terms acc) remarks)
 
--- over what the tables answer: a claim that isn't covered is denied, whatever the other roles are
+-- the outcome from the answers of the tables: a claim that is not covered is denied, whatever the
+-- other roles are
 abbrev pub by_roles : Roles → ℤ → Acc → List Slot → Environment → Outcome
 by_roles roles billed acc given env =
     let remarks = remarks_of env roles.remarks in
     if is_true_flag (value_of given env roles.cover) then by_terms billed acc remarks (terms given env roles) else denied remarks
 
--- a fault of the tables pends the claim, with that fault as the reason; `env` never is want of memory
+-- a fault of the tables pends the claim and is the reason; the case `None` does not occur, since
+-- `env` never runs out of memory
 abbrev pub by_fault : Option Reason → Outcome
 by_fault None = denied []
 by_fault (Some reason) = pended reason
 
--- a plan without roles covers nothing
+-- the outcome from the result of the tables; a plan without roles covers nothing
 abbrev pub by_tables : Option Roles → ℤ → Acc → List Slot → Result Environment Fault → Outcome
 by_tables None billed acc given answers = denied []
 by_tables (Some roles) billed acc given (Err fault) = by_fault (reason_of fault)
 by_tables (Some roles) billed acc given (Ok env) = by_roles roles billed acc given env
 
--- the outcome of a claim by a plan, at its member's accumulators and its family's
+-- the outcome of a claim by a plan, with the accumulators of its member and of its family
 abbrev pub outcome : PlanParts → Claim → Acc → Outcome
 outcome plan claim acc = by_tables plan.roles claim.billed acc (given_by claim acc) (env plan (given_by claim acc))

@@ -1,19 +1,19 @@
-//! Accumulators: what is kept of a member's claims, and of its family's.
+//! The accumulators of a member and of its family.
 
 use crate::money::Money;
 
-/// What a member's claims came to so far, and those of all members of its family.
+/// The accumulators of a member, and the sums over all members of its family.
 #[derive(Clone, Copy, PartialEq, Eq)]
 pub struct Acc {
-    /// What was met of the deductible.
+    /// The amount that the member has met of its deductible.
     pub met: Money,
-    /// What the member has paid out of pocket.
+    /// The amount that the member has paid out of pocket.
     pub oop: Money,
-    /// What the plan has paid.
+    /// The amount that the plan has paid for the member.
     pub paid: Money,
-    /// What the member's family has met of its deductible.
+    /// The amount that the family has met of its deductible: the sum over its members.
     pub fmet: Money,
-    /// What the member's family has paid out of pocket.
+    /// The amount that the family has paid out of pocket: the sum over its members.
     pub foop: Money,
 }
 
@@ -23,7 +23,7 @@ impl Acc {
     ghost use Rattle.settlement.specs.Accumulators.{added, AreInRange};
     ghost use Rattle.settlement.specs.Claim.{nothing_yet};
 
-    /// The accumulators of a member without claims.
+    /// Returns the accumulators of a member without claims.
     pub fn zero() -> Acc
         ensures { result ≡ nothing_yet }
     {
@@ -36,9 +36,11 @@ impl Acc {
         }
     }
 
-    /// With this much more of each, where each is in the number range.
+    /// Adds to the member's accumulators and to the family's. The result is `None` if a sum is out
+    /// of range.
     pub(crate) fn plus(self, met: Money, oop: Money, paid: Money) -> Option<Acc>
-        ensures more { SomeIff result (AreInRange (added self met oop paid)) (added self met oop paid) }
+        ensures more { SomeIff result
+            (AreInRange (added self met oop paid)) (added self met oop paid) }
         ensures before { AreInRange self }
     {
         let fmet = self.fmet.plus(met);

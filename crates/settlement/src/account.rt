@@ -1,4 +1,4 @@
-//! Accounts: whose accumulators a claim is settled at.
+//! The opening balances of members, and the benefit year of a claim.
 ghost use Rattle.std.specs.Prelude.{◌≡◌};
 ghost use Rattle.settlement.specs.Accounts.{account_year};
 
@@ -8,21 +8,21 @@ use crate::money::Money;
 use dtable::Plan;
 use feel_tests::day_year;
 
-/// What an account begins with.
+/// The opening balance of a member in a benefit year.
 #[derive(Clone, Copy, PartialEq, Eq)]
 pub struct Balance {
-    /// What was met of the deductible.
+    /// The amount that the member has met of its deductible.
     pub met: Money,
-    /// What the member has paid out of pocket.
+    /// The amount that the member has paid out of pocket.
     pub oop: Money,
-    /// What the plan has paid.
+    /// The amount that the plan has paid.
     pub paid: Money,
 }
 
 impl Balance {
     ghost use Rattle.settlement.specs.Opening.{begun_beside, no_balance};
 
-    /// No balance: zeros.
+    /// Returns the balance whose amounts are all zero.
     pub fn zero() -> Balance
         ensures { result ≡ no_balance }
     {
@@ -33,7 +33,8 @@ impl Balance {
         }
     }
 
-    /// The accumulators of an account that begins with it, and whose family has these sums.
+    /// Returns the accumulators of a member with this balance. `fmet` and `foop` are the sums of
+    /// its family.
     pub fn beside(self, fmet: Money, foop: Money) -> Acc
         ensures { result ≡ begun_beside fmet foop self }
     {
@@ -47,7 +48,8 @@ impl Balance {
     }
 }
 
-/// The year whose accumulators a claim is settled at: that of its service, or 0 where they aren't kept by the year.
+/// Returns the benefit year whose accumulators apply to a claim: the calendar year of its service,
+/// or 0 if the plan does not keep accumulators by benefit year.
 pub fn account_year(plan: &Plan, claim: &Claim) -> u16
     ensures { result ≡ account_year plan.now claim.now }
 {

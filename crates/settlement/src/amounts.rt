@@ -6,7 +6,7 @@ use crate::acc::Acc;
 use crate::money::Money;
 use crate::terms::RoleTerms;
 
-/// What is allowed of what is billed, and who pays it.
+/// The allowed amount of a covered claim, and how the member and the plan share it.
 #[derive(Clone, Copy)]
 pub struct Amounts {
     pub allowed: Money,
@@ -17,7 +17,8 @@ pub struct Amounts {
     pub paid: Money,
 }
 
-/// The amounts of a claim that is billed at so much.
+/// Returns the amounts of a covered claim from its billed amount, its cost sharing and the
+/// accumulators before it.
 pub fn amounts_of(billed: Money, terms: RoleTerms, acc: Acc) -> Amounts
     ensures { result ≡ amounts billed terms acc }
 {
@@ -41,7 +42,7 @@ pub fn amounts_of(billed: Money, terms: RoleTerms, acc: Acc) -> Amounts
     }
 }
 
-// An amount, and no more of it than is left of the family's limit, if there is one, of which so much is used up.
+// Returns the amount, but at most what remains of the family's limit after the `used` part of it.
 fn within_limit(amount: Money, limit: Option<Money>, used: Money) -> Money
     ensures value { result ≡ within_limit limit used amount }
     ensures within { result ≤ℤ amount }
@@ -70,7 +71,8 @@ fn family_oop_max(terms: &RoleTerms) -> Option<Money>
     }
 }
 
-// What the member's parts of what is allowed come to, the limit aside.
+// Returns the member's cost share before the out-of-pocket maximum. It is computed by subtraction
+// from the allowed amount, since the addition of amounts may fail.
 fn taken(allowed: Money, ded: Money, copay: Money, coins: Money) -> Money
     requires { (ded +ℤ copay +ℤ coins) ≤ℤ allowed }
     ensures value { result ≡ ded +ℤ copay +ℤ coins }

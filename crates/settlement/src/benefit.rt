@@ -1,4 +1,5 @@
-//! What a plan gives for a claim, before it is known what is billed and what its member and its family have used up.
+//! The determination of a claim: the part of its outcome that depends neither on the billed amount
+//! nor on the accumulators.
 ghost use Rattle.std.specs.Prelude.{◌≡◌, IfOk};
 ghost use Rattle.settlement.specs.Benefits.{are_answered, is_given, limits_given, outcome_by, roles_given};
 ghost use Rattle.settlement.specs.Settlement.{amounts, paid, within_range};
@@ -13,13 +14,13 @@ use dtable::{FamilyRoles, Plan, Roles, Source};
 use faults::Reason;
 use std::alloc::AllocError;
 
-/// What a plan's tables and roles say of a claim.
+/// The coverage decision that a plan's tables and roles make for a claim.
 pub enum Benefit {
-    /// It waits for a person.
+    /// The claim is pended for review by a person.
     Pended(Reason),
-    /// It isn't covered, and this is remarked.
+    /// The claim is not covered, and has these remarks.
     Denied(Remarks),
-    /// It is covered on these terms, and this is remarked.
+    /// The claim is covered with this cost sharing, and has these remarks.
     Covered(RoleTerms, Remarks),
 }
 
@@ -35,7 +36,7 @@ impl Drop for Benefit {
 }
 
 impl Benefit {
-    /// The outcome of a claim that is billed at so much, at these accumulators.
+    /// Returns the outcome of a claim from its billed amount and the accumulators before it.
     pub fn outcome(&self, billed: Money, acc: &Acc) -> Result<Outcome, AllocError>
         ensures { IfOk result (λ decided. decided ≡ outcome_by billed acc.now self.now) }
     {
@@ -47,14 +48,14 @@ impl Benefit {
     }
 }
 
-// The outcome of a covered claim.
 fn covered(
     billed: Money,
     acc: &Acc,
     terms: &RoleTerms,
     remarks: &Remarks,
 ) -> Result<Outcome, AllocError>
-    ensures { IfOk result (λ decided. decided ≡ within_range acc.now (paid (amounts billed terms.now acc.now) remarks.now)) }
+    ensures { IfOk result (λ decided.
+        decided ≡ within_range acc.now (paid (amounts billed terms.now acc.now) remarks.now)) }
 {
     let amounts = amounts_of(billed, *terms, *acc);
     let acc = *acc;
@@ -64,7 +65,8 @@ fn covered(
     Ok(Outcome::paid(amounts, remarks.share()?))
 }
 
-/// Whether no role of the plan is what is given for a name.
+/// Returns whether no role of the plan has the value of an input. Otherwise two claims of one input
+/// class may have different determinations.
 pub fn are_answered(plan: &Plan) -> bool
     ensures { result ≡ are_answered plan.now.roles }
 {

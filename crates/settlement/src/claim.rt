@@ -1,5 +1,4 @@
-//! Claims, as a provider files them.
-
+//! Claims as providers file them.
 ghost use Rattle.std.specs.Prelude.{◌≡◌, ◌↔◌, IsTrue, IfOk};
 ghost use Rattle.std.specs.List.{list_all, zip};
 ghost use Rattle.dtable.specs.Names.{names_of};
@@ -11,27 +10,30 @@ use dtable::{InputData, Plan, has_kind};
 use feel_tests::{Day, Sequence, Text, Value, duplicates};
 use std::alloc::{AllocError, Global};
 
-/// How many of a plan's names stand in front of its fields, and behind them.
+/// The number of a plan's names before its fields.
 const NAMES_BEFORE: usize = 4;
 
+/// The number of a plan's names after its fields.
 const NAMES_BEHIND: usize = 3;
 
-/// How many they are where the plan keeps families: `family` is one more in front, `fmet` and `foop` are two more behind.
+/// A plan that keeps accumulators for families has one more name before its fields: `family`.
 const NAMES_BEFORE_WITH_FAMILIES: usize = 5;
 
+/// A plan that keeps accumulators for families has two more names after its fields: `fmet` and
+/// `foop`.
 const NAMES_BEHIND_WITH_FAMILIES: usize = 5;
 
-/// A claim: one service to one member.
+/// A claim for one service to one member.
 pub struct Claim {
-    /// The provider's number for it.
+    /// The provider's identifier of the claim.
     pub id: Text,
-    /// The family of the member, where the plan keeps families.
+    /// The family of the member, if the plan keeps accumulators for families.
     pub family: Option<Text>,
-    /// Who the service was for.
+    /// The member who received the service.
     pub member: Text,
-    /// The day of the service.
+    /// The date of the service.
     pub service: Day,
-    /// What the provider asks for it.
+    /// The amount that the provider bills.
     pub billed: Money,
     /// The values of the plan's fields, in the plan's order.
     pub fields: Sequence<Value>,
@@ -55,7 +57,7 @@ impl Claim {
     ghost use Rattle.settlement.specs.Accounts.{family_of};
     ghost use Rattle.settlement.specs.Claim.{IsClaimOf};
 
-    /// The family of the member: a member is one of its own where the plan keeps none.
+    /// Returns the family of the member. A claim without a family has the member as its own family.
     pub fn family(&self) -> &Text
         ensures { result.now ≡ family_of self.now }
     {
@@ -65,8 +67,9 @@ impl Claim {
         }
     }
 
-    /// Whether the claim has a family exactly where the plan keeps families, and the plan's fields: a value of its kind for each of
-    /// them, in order.
+    /// Returns whether the claim fits the plan: it has a family if and only if the plan keeps
+    /// accumulators for families, and it has a value of the right kind for each of the plan's
+    /// fields, in order.
     pub fn is_of(&self, plan: &Plan) -> bool
         ensures { IsTrue result ↔ IsClaimOf plan.now self.now }
     {
@@ -74,7 +77,7 @@ impl Claim {
             && have_kinds(self.fields.as_slice(), fields_of(plan))
     }
 
-    /// A copy, in memory of its own.
+    /// Copies the claim with all its texts.
     pub fn duplicate(&self, alloc: Global) -> Result<Claim, AllocError>
         ensures { IfOk result (λ copy. copy ≡ self.now) }
     {
@@ -89,7 +92,6 @@ impl Claim {
     }
 }
 
-// A copy of a text, if there is one.
 fn copy_of(alloc: Global, text: &Option<Text>) -> Result<Option<Text>, AllocError>
     ensures { IfOk result (λ copy. copy ≡ text.now) }
 {
@@ -99,7 +101,8 @@ fn copy_of(alloc: Global, text: &Option<Text>) -> Result<Option<Text>, AllocErro
     }
 }
 
-/// The fields of a plan, in order: its names without those of every claim and of the accumulators.
+/// Returns the fields of a plan, in order: its names without the built-in names of claims and
+/// accumulators.
 pub fn fields_of(plan: &Plan) -> &[InputData]
     ensures { plan.now.names ≡ names_of (keeps_families plan.now) result.now }
 {
@@ -111,7 +114,7 @@ pub fn fields_of(plan: &Plan) -> &[InputData]
     }
 }
 
-// Whether the values have the fields' kinds, one for each.
+// Returns whether there is one value for each field, of the field's kind.
 fn have_kinds(values: &[Value], fields: &[InputData]) -> bool
     ensures { result ≡ have_kinds values.now fields.now }
 {

@@ -1,4 +1,4 @@
-//! The outcome of a claim, and what it leaves of its member's accumulators and of its family's.
+//! The outcome of a claim, and the accumulators after it.
 ghost use Rattle.std.specs.Prelude.{◌≡◌, ℕ, IfOk, IfSome, IsSome};
 ghost use Rattle.std.specs.Option.{SomeIff};
 ghost use Rattle.dtable.specs.Environment.{env};
@@ -27,7 +27,8 @@ use faults::Reason;
 use std::alloc::{AllocError, Global};
 use std::marker::Model;
 
-/// Decides claims by one valuer, one after another. What the plan reads of a claim is laid out once, and set anew for each.
+/// Decides claims by one valuer, one after another. The slots for the values that the plan reads
+/// are made once and set again for each claim.
 pub struct Adjudicator<'v, V: Valuer> {
     valuer: &'v V,
     places: Sequence<usize>,
@@ -60,11 +61,14 @@ impl<'v, V: Valuer> Model for Adjudicator<'v, V> {
 
     ghost view = { λ a. V.plan_of a.valuer.now };
 
-    ghost invariant = { λ a. IsLaidOut (V.plan_of a.valuer.now) a.places a.inputs × ArePlacedFor (V.plan_of a.valuer.now) a.roles × IsTrueOf (V.in_zone a.valuer.now) (V.plan_of a.valuer.now) a.memory };
+    ghost invariant = { λ a.
+        IsLaidOut (V.plan_of a.valuer.now) a.places a.inputs
+        × ArePlacedFor (V.plan_of a.valuer.now) a.roles
+        × IsTrueOf (V.in_zone a.valuer.now) (V.plan_of a.valuer.now) a.memory };
 }
 
 impl<'v, V: Valuer> Adjudicator<'v, V> {
-    /// An adjudicator of claims by the valuer's plan. Contracts see it as that plan.
+    /// Prepares to decide claims by the valuer's plan. Contracts see an adjudicator as that plan.
     pub fn new(alloc: Global, valuer: &'v V) -> Result<Adjudicator<'v, V>, AllocError>
         ensures { IfOk result (λ adjudicator. adjudicator ≡ V.plan_of valuer.now) }
     {
@@ -72,7 +76,7 @@ impl<'v, V: Valuer> Adjudicator<'v, V> {
         Adjudicator::with_memory(alloc, valuer, memory)
     }
 
-    // An adjudicator that remembers nothing yet.
+    // The cache must be empty.
     fn with_memory(
         alloc: Global,
         valuer: &'v V,
@@ -96,7 +100,8 @@ impl<'v, V: Valuer> Adjudicator<'v, V> {
         })
     }
 
-    /// The outcome of a claim by the plan, at its member's accumulators and its family's, whatever was decided before.
+    /// Returns the outcome of a claim by the plan, with the accumulators `acc` before it. Earlier
+    /// calls do not affect the outcome. The only error is that memory runs out.
     pub fn decide(&mut self, alloc: Global, claim: &Claim, acc: Acc) -> Result<Outcome, AllocError>
         requires roles { IsSome self.old.roles }
         requires fields { IsClaimOf self.old claim.now }
@@ -117,8 +122,8 @@ impl<'v, V: Valuer> Adjudicator<'v, V> {
     }
 }
 
-/// The outcome of a claim by the valuer's plan, at its member's accumulators and its family's. An `Adjudicator` decides many with less
-/// memory.
+/// Returns the outcome of a claim by the valuer's plan, with the accumulators `acc` before it. The
+/// only error is that memory runs out. An `Adjudicator` decides many claims with fewer allocations.
 pub fn decide<V: Valuer>(
     alloc: Global,
     valuer: &V,
@@ -133,8 +138,8 @@ pub fn decide<V: Valuer>(
     adjudicator.decide(alloc, claim, acc)
 }
 
-// The outcome of a claim that is billed at so much, by what the valuer's tables answer at these inputs. What the plan gives in their zone
-// is remembered.
+// Returns the outcome of a claim with these inputs. Its determination comes from the cache, or is
+// stored there for other claims of the same input class.
 fn settled<V: Valuer>(
     alloc: Global,
     valuer: &V,
@@ -149,7 +154,8 @@ fn settled<V: Valuer>(
     requires placed { ArePlacedFor (V.plan_of valuer.now) places.now }
     requires ready { IsReady (V.plan_of valuer.now).tables inputs.now }
     requires true_yet { IsTrueOf (V.in_zone valuer.now) (V.plan_of valuer.now) memory.old }
-    ensures decided { let plan = V.plan_of valuer.now in IfOk result (λ decided. decided ≡ by_tables plan.roles billed acc inputs.now (env plan inputs.now)) }
+    ensures decided { let plan = V.plan_of valuer.now in IfOk result (λ decided.
+        decided ≡ by_tables plan.roles billed acc inputs.now (env plan inputs.now)) }
     ensures true_still { IsTrueOf (V.in_zone valuer.now) (V.plan_of valuer.now) memory.new }
 {
     let Some(zone) = zone_of(valuer, inputs, memory) else {
@@ -164,7 +170,8 @@ fn settled<V: Valuer>(
     }
     let benefit = benefit_of(alloc, valuer, inputs, places, vocabulary)?;
     let decided = benefit.outcome(billed, &acc)?;
-    // Where a role's value is what is given for a name, the plan needn't give the same in all of the zone.
+    // If a role has the value of an input, two claims of one input class may have different
+    // determinations.
     if !are_answered(valuer.plan()) {
         memory.give_up();
         return Ok(decided);
@@ -173,10 +180,10 @@ fn settled<V: Valuer>(
     Ok(decided)
 }
 
-// The zone of the inputs, where zones are worth while.
 fn zone_of<V: Valuer>(valuer: &V, inputs: &Inputs, memory: &Memory) -> Option<u64>
     ensures inside { IfSome result (V.in_zone valuer.now inputs.now) }
-    ensures alike { IfSome result (IsAlike (V.in_zone valuer.now) (V.plan_of valuer.now) inputs.now) }
+    ensures alike { IfSome result
+        (IsAlike (V.in_zone valuer.now) (V.plan_of valuer.now) inputs.now) }
 {
     if memory.is_of_use() {
         valuer.zone(inputs)
@@ -185,7 +192,7 @@ fn zone_of<V: Valuer>(valuer: &V, inputs: &Inputs, memory: &Memory) -> Option<u6
     }
 }
 
-// What the valuer's plan gives for a claim with these inputs.
+// Returns the determination of a claim with these inputs. A fault of the tables pends the claim.
 fn benefit_of<V: Valuer>(
     alloc: Global,
     valuer: &V,
@@ -196,7 +203,8 @@ fn benefit_of<V: Valuer>(
     requires roles { IsSome (V.plan_of valuer.now).roles }
     requires placed { ArePlacedFor (V.plan_of valuer.now) places.now }
     requires ready { IsReady (V.plan_of valuer.now).tables inputs.now }
-    ensures { let plan = V.plan_of valuer.now in IfOk result (λ benefit. benefit ≡ benefit_of plan.roles inputs.now (env plan inputs.now)) }
+    ensures { let plan = V.plan_of valuer.now in IfOk result (λ benefit.
+        benefit ≡ benefit_of plan.roles inputs.now (env plan inputs.now)) }
 {
     let roles = valuer.plan().roles().unwrap();
     match valuer.value(alloc, inputs) {
@@ -208,7 +216,8 @@ fn benefit_of<V: Valuer>(
     }
 }
 
-// The same, over what the tables answer.
+// Returns the determination of a claim from the answers of the tables. A claim that is not covered
+// is denied, whatever the other roles are.
 fn by_roles(
     inputs: &Inputs,
     env: &Env,
@@ -231,10 +240,12 @@ fn by_roles(
     Ok(Benefit::Covered(terms, remarks))
 }
 
-/// The accumulators after an outcome, where each is in the number range. After a settlement's outcome each is.
+/// Returns the accumulators after an outcome, or `None` if one of them is out of range. An outcome
+/// of the settlement of a claim at `acc` leaves all of them in range.
 pub fn after(acc: Acc, decided: &Outcome) -> Option<Acc>
     ensures sums { SomeIff result (AreInRange (after acc decided.now)) (after acc decided.now) }
-    ensures settled { (plan : PlanParts) (claim : Claim) → decided.now ≡ outcome plan claim acc → IsSome result }
+    ensures settled { (plan : PlanParts) (claim : Claim) → decided.now ≡ outcome plan claim acc
+        → IsSome result }
 {
     acc.plus(decided.ded, decided.share, decided.paid)
 }

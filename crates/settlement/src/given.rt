@@ -1,4 +1,4 @@
-//! What a claim and the accumulators, its member's and its family's, give the names that a plan reads.
+//! The values that a claim and the accumulators give the names of a plan.
 ghost use Rattle.std.specs.Prelude.{◌≡◌, ◌<◌, ℕ, length, map, slice_get, Some, IsTrue, IfOk, OnOk};
 ghost use Rattle.std.specs.List.{All};
 ghost use Rattle.dtable.specs.Plan.{IsPlan};
@@ -14,10 +14,12 @@ use feel_tests::{Day, Text, Value};
 use fixpoint::Fixed;
 use std::alloc::{AllocError, Global};
 
-/// The place of a claim's number among a plan's names. Behind it stands its family, where it has one.
+/// The place of a claim's identifier among a plan's names. The family follows it, if the claim has
+/// one.
 const ID: usize = 0;
 
-/// The places of a claim's other values, and of its first field, counted from the member.
+/// The places of a claim's other values, and of its first field, relative to the place of the
+/// member.
 const MEMBER: usize = 0;
 
 const SERVICE: usize = 1;
@@ -26,7 +28,7 @@ const BILLED: usize = 2;
 
 const FIRST_FIELD: usize = 3;
 
-/// The places of the names that some table or role of the plan reads, in order.
+/// Returns the places of the names that some table or role of the plan reads, in order.
 pub fn places_read(alloc: Global, plan: &Plan) -> Result<Sequence<usize>, AllocError>
     ensures places { IfOk result (λ places. places ≡ places_read plan.now) }
     ensures sound { IsPlan plan.now }
@@ -82,7 +84,8 @@ fn source_reads(place: usize, source: &Source) -> bool
     }
 }
 
-/// Gives each of these places its value of the claim and the accumulators, in place of an earlier one.
+/// Sets each of these places to its value of the claim and the accumulators. Earlier values are
+/// replaced. If memory runs out, some of these places have no value.
 pub fn give(
     alloc: Global,
     inputs: &mut Inputs,
@@ -101,7 +104,7 @@ pub fn give(
     Ok(())
 }
 
-// Gives one place its value. A text is written over the one that stands there, and takes no memory where it has the room.
+// Sets one place to its value. A text reuses the memory of an earlier text.
 fn give_at(
     alloc: Global,
     inputs: &mut Inputs,
@@ -113,7 +116,8 @@ fn give_at(
     requires within { place < length (values_given claim.now acc.now) }
     ensures kinds { slot_kinds inputs.new ≡ slot_kinds inputs.old }
     ensures given { OnOk result (HasItsValue claim.now acc.now inputs.new place) }
-    ensures others { OnOk result ((other : ℕ) → HasItsValue claim.now acc.now inputs.old other → HasItsValue claim.now acc.now inputs.new other) }
+    ensures others { OnOk result ((other : ℕ) → HasItsValue claim.now acc.now inputs.old other
+        → HasItsValue claim.now acc.now inputs.new other) }
 {
     match value_given(claim, acc, place) {
         Lent::Text(text) => inputs.set_text(alloc, place, text)?,
@@ -124,7 +128,7 @@ fn give_at(
     Ok(())
 }
 
-/// A value of which a text is lent by who has it.
+/// A value whose text is borrowed from the claim.
 enum Lent<'c> {
     Number(Fixed),
     Text(&'c Text),
@@ -132,7 +136,7 @@ enum Lent<'c> {
     Day(Day),
 }
 
-// The value for the name at a place, from 0.
+// Returns the value of the name at a place, from 0.
 fn value_given<'c>(claim: &'c Claim, acc: &Acc, place: usize) -> Lent<'c>
     requires { place < length (values_given claim.now acc.now) }
     ensures { slice_get (values_given claim.now acc.now) place ≡ Some (value_lent result) }
@@ -143,10 +147,13 @@ fn value_given<'c>(claim: &'c Claim, acc: &Acc, place: usize) -> Lent<'c>
     }
 }
 
-// The same for a place that is counted from behind the claim's number.
+// The place is relative to the name after the claim's identifier.
 fn value_behind_id<'c>(claim: &'c Claim, acc: &Acc, place: usize) -> Lent<'c>
-    requires { place < length (behind_family claim.now.family (values_from_member claim.now acc.now)) }
-    ensures { slice_get (behind_family claim.now.family (values_from_member claim.now acc.now)) place ≡ Some (value_lent result) }
+    requires { place < length
+        (behind_family claim.now.family (values_from_member claim.now acc.now)) }
+    ensures { slice_get
+        (behind_family claim.now.family (values_from_member claim.now acc.now)) place
+        ≡ Some (value_lent result) }
 {
     match &claim.family {
         None => value_from_member(claim, acc, place),
@@ -157,7 +164,7 @@ fn value_behind_id<'c>(claim: &'c Claim, acc: &Acc, place: usize) -> Lent<'c>
     }
 }
 
-// The same for a place that is counted from the member.
+// The place is relative to that of the member.
 fn value_from_member<'c>(claim: &'c Claim, acc: &Acc, place: usize) -> Lent<'c>
     requires { place < length (values_from_member claim.now acc.now) }
     ensures { slice_get (values_from_member claim.now acc.now) place ≡ Some (value_lent result) }
@@ -170,6 +177,7 @@ fn value_from_member<'c>(claim: &'c Claim, acc: &Acc, place: usize) -> Lent<'c>
     }
 }
 
+// The place is relative to that of the first field.
 fn value_behind<'c>(claim: &'c Claim, acc: &Acc, place: usize) -> Lent<'c>
     requires { place < length (values_behind claim.now acc.now) }
     ensures { slice_get (values_behind claim.now acc.now) place ≡ Some (value_lent result) }
@@ -192,10 +200,12 @@ fn lent_value(value: &Value) -> Lent<'_>
     }
 }
 
-// The accumulator at a place; of the claim it matters whether it has a family.
+// The place is relative to that of the first accumulator. Only a claim with a family has the
+// accumulators of the family.
 fn accumulator(claim: &Claim, acc: &Acc, place: usize) -> Fixed
     requires { place < length (accumulator_values claim.now.family acc.now) }
-    ensures { slice_get (accumulator_values claim.now.family acc.now) place ≡ Some (values.Number result) }
+    ensures { slice_get (accumulator_values claim.now.family acc.now) place
+        ≡ Some (values.Number result) }
 {
     match place {
         0 => acc.met.amount(),

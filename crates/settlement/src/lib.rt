@@ -1,12 +1,13 @@
-//! The settlement of a health plan's claims: what a claim's outcome is, in exact money, and what it adds to the
-//! accumulators of its member and of the member's family.
+//! The settlement of a health plan's claims: the outcome of a claim, in exact money, and its effect
+//! on the accumulators of its member and of the member's family.
 //!
-//! A `Claim` is what a provider files, an `Acc` what is kept of a member and of the family. `decide` has the plan's tables evaluated at
-//! both, by any `Valuer` of `dtable`, reads the plan's roles in their answers and gives the `Outcome`: paid with its
-//! amounts, denied, or pended with a `Reason`. `after` gives the accumulators that the outcome leaves.
-//! Numbers come from `fixpoint`, values from `feel_tests`, reasons from `faults`.
+//! A provider files a `Claim`. An `Acc` has the accumulators of a member and of its family.
+//! `decide` evaluates the plan's tables for both by any `Valuer` of `dtable`, takes the plan's
+//! roles from their answers and returns the `Outcome`: paid with its amounts, denied, or pended
+//! with a `Reason`. `after` returns the accumulators after the outcome. Numbers come from
+//! `fixpoint`, values from `feel_tests`, and reasons from `faults`.
 //!
-//! Begin with `specs/Settlement.antt`, which has the rules, one a line; then read `deciding.rt`.
+//! Begin with `specs/Settlement.antt`, which has the rules, one per line; then read `deciding.rt`.
 #![tactic(auto)]
 
 mod acc;

@@ -1,4 +1,5 @@
-//! What an adjudicator remembers of zones, so that a claim in a zone that it has seen costs no table.
+//! The cache of determinations by input class. A claim whose class is in the cache needs no
+//! evaluation of the tables.
 ghost use Rattle.std.specs.Prelude.{◌≡◌, ◌⊎◌, ℕ, IfOk, IfSome};
 ghost use Rattle.settlement.specs.declared.benefit.Benefit.{Benefit};
 ghost use Rattle.settlement.specs.Benefits.{Remembers};
@@ -7,16 +8,16 @@ use crate::benefit::Benefit;
 use std::alloc::{AllocError, Global};
 use std::marker::Model;
 
-/// How many zones are remembered at most.
+/// The number of slots of the cache.
 const ROOMS: usize = 1024;
 
-/// How many zones in a row are sought in vain until none is sought any more.
+/// The number of misses in a row after which the cache is disabled.
 const PATIENCE: u32 = 1024;
 
-/// How many zones sought in vain one makes up for that is found: it saves several times what a search costs.
+/// The number of misses that a hit makes up for: a hit saves several times the cost of a lookup.
 const WORTH: u32 = 4;
 
-/// What the plan gives in a zone.
+/// The determination of the claims of one input class.
 pub struct Remembered {
     pub zone: u64,
     pub benefit: Benefit,
@@ -32,10 +33,12 @@ impl Drop for Remembered {
     }
 }
 
-/// What the plan gives in zones: each zone has one room, which it shares with others, and the one seen last is remembered.
+/// A direct-mapped cache: each input class has one slot, which it shares with other classes, and
+/// the class that was stored last replaces the others. Contracts see its slots.
 pub struct Memory {
     rooms: Vec<Option<Remembered>>,
-    /// How many zones may yet be sought in vain. Of a plan with very many zones hardly one comes twice.
+    /// The number of misses until the cache is disabled. If a plan has very many input classes,
+    /// hardly any of them comes twice, and lookups do not pay.
     patience: u32,
 }
 
@@ -58,7 +61,7 @@ impl Model for Memory {
 }
 
 impl Memory {
-    /// Nothing is remembered yet, and nothing ever will be.
+    /// Returns a disabled cache, which stays empty.
     pub fn none(alloc: Global) -> Memory
         ensures { (zone : ℕ) (benefit : Benefit) → Remembers result zone benefit → ⊥ }
     {
@@ -68,9 +71,10 @@ impl Memory {
         }
     }
 
-    /// Nothing is remembered yet.
+    /// Returns an empty cache.
     pub fn new(alloc: Global) -> Result<Memory, AllocError>
-        ensures { IfOk result (λ memory. (zone : ℕ) (benefit : Benefit) → Remembers memory zone benefit → ⊥) }
+        ensures { IfOk result (λ memory.
+            (zone : ℕ) (benefit : Benefit) → Remembers memory zone benefit → ⊥) }
     {
         let mut rooms = Vec::with_capacity(alloc, ROOMS)?;
         for _ in 0..ROOMS {
@@ -82,33 +86,33 @@ impl Memory {
         })
     }
 
-    /// Whether it is worth while to seek zones.
+    /// Returns whether the cache is enabled.
     pub fn is_of_use(&self) -> bool {
         self.patience > 0
     }
 
-    /// Counts a zone that was found.
+    /// Records a hit.
     pub fn count_found(&mut self)
         ensures { self.new ≡ self.old }
     {
         self.patience = self.patience.saturating_add(WORTH).min(PATIENCE);
     }
 
-    /// Counts a zone that was sought in vain: it isn't known, or nothing is remembered of it.
+    /// Records a miss: the input class is unknown or not in the cache.
     pub fn count_in_vain(&mut self)
         ensures { self.new ≡ self.old }
     {
         self.patience = self.patience.saturating_sub(1);
     }
 
-    /// No zone is worth while from now on.
+    /// Disables the cache.
     pub fn give_up(&mut self)
         ensures { self.new ≡ self.old }
     {
         self.patience = 0;
     }
 
-    /// What is remembered of the zone, if anything is.
+    /// Returns the determination of the input class, if it is in the cache.
     pub fn get(&self, zone: u64) -> Option<&Benefit>
         ensures { IfSome result (λ benefit. Remembers self.now zone benefit.now) }
     {
@@ -118,9 +122,10 @@ impl Memory {
         }
     }
 
-    /// Remembers this of the zone, in place of what its room had.
+    /// Stores the determination of the input class in its slot and records a miss.
     pub fn keep(&mut self, zone: u64, benefit: Benefit)
-        ensures { (other : ℕ) (found : Benefit) → Remembers self.new other found → Remembers self.old other found ⊎ ((other ≡ zone) × (found ≡ benefit)) }
+        ensures { (other : ℕ) (found : Benefit) → Remembers self.new other found
+            → Remembers self.old other found ⊎ ((other ≡ zone) × (found ≡ benefit)) }
     {
         self.patience = self.patience.saturating_sub(1);
         let room = room_of(zone);
@@ -130,7 +135,6 @@ impl Memory {
     }
 }
 
-// The room of a zone.
 fn room_of(zone: u64) -> usize {
     (zone % ROOMS as u64) as usize
 }

@@ -10,7 +10,8 @@ use crate::rate::Rate;
 use fixpoint::Fixed;
 use std::marker::Model;
 
-/// An amount of money: whole cents, and not below zero. Contracts see its units, of which a cent has a hundred.
+/// An amount of money: a whole count of cents that is not negative. Contracts see it as its units:
+/// ten-thousandths, of which a cent has a hundred.
 #[derive(Clone, Copy, PartialEq, Eq, PartialOrd, Ord)]
 pub struct Money {
     amount: Fixed,
@@ -30,7 +31,7 @@ impl Model for Money {
 }
 
 impl Money {
-    /// No money.
+    /// Returns the amount zero.
     pub fn zero() -> Money
         ensures { result ≡ pos 0 }
     {
@@ -39,11 +40,12 @@ impl Money {
         }
     }
 
-    /// The amount, where it is money.
+    /// Returns the number as an amount of money, or `None` if it is negative or not a whole count
+    /// of cents.
     pub fn new(amount: Fixed) -> Option<Money>
         ensures { SomeIff result (IsMoney amount) amount }
     {
-        // Known from here: the amount is in its range.
+        // proof: the amount is in its range
         let _units = amount.units();
         if amount.is_money() {
             Some(Money { amount })
@@ -52,7 +54,7 @@ impl Money {
         }
     }
 
-    /// The amount as a number.
+    /// Returns the amount as a number.
     pub fn amount(self) -> Fixed
         ensures value { result ≡ self }
         ensures amount { IsAmount result }
@@ -61,7 +63,7 @@ impl Money {
         amount
     }
 
-    /// The sum, where it is in the number range.
+    /// Returns the exact sum, or `None` if it is out of range.
     pub fn plus(self, other: Money) -> Option<Money>
         ensures sum { SomeIff result (IsTrue (is_in_range (self +ℤ other))) (self +ℤ other) }
         ensures before { IsTrue (is_in_range self) }
@@ -70,7 +72,7 @@ impl Money {
         Some(Money { amount })
     }
 
-    /// What is left of it without a part of it.
+    /// Subtracts an amount that is at most this one.
     pub(crate) fn minus(self, part: Money) -> Money
         requires { part ≤ℤ self }
         ensures value { result ≡ self -ℤ part }
@@ -81,14 +83,15 @@ impl Money {
         }
     }
 
-    /// The smaller of the two.
+    /// Returns the smaller of the two amounts.
     pub(crate) fn min(self, other: Money) -> Money
         ensures { result ≡ int_min self other }
     {
         if other < self { other } else { self }
     }
 
-    /// What is left of this limit, of which so much is used up.
+    /// Returns what remains of this limit after the `used` amount, and zero if that exceeds the
+    /// limit.
     pub(crate) fn left(self, used: Money) -> Money
         ensures { result ≡ left_of self used }
     {
@@ -99,7 +102,7 @@ impl Money {
         }
     }
 
-    /// The rate's part, rounded once to whole cents, half to even.
+    /// Returns this amount times the rate, rounded once to whole cents, half to even.
     pub(crate) fn part(self, rate: Rate) -> Money
         ensures value { result ≡ cents_of_product self rate }
         ensures within { result ≤ℤ self }

@@ -1,4 +1,4 @@
-//! Outcomes of claims.
+//! The outcomes of claims.
 ghost use Rattle.std.specs.Prelude.{◌≡◌, []};
 ghost use Rattle.settlement.specs.Settlement.{paid, unpaid, pended, denied};
 
@@ -7,33 +7,35 @@ use crate::money::Money;
 use crate::remarks::Remarks;
 use faults::Reason;
 
-/// What is done with a claim.
+/// The decision on a claim.
 #[derive(Clone, Copy, Debug, PartialEq, Eq, Drop)]
 pub enum Verdict {
-    /// It is covered; its amounts say who pays what.
+    /// The claim is covered, and its amounts state who pays what.
     Paid,
-    /// It isn't covered.
+    /// The claim is not covered.
     Denied,
-    /// It waits for a person.
+    /// The claim needs review by a person, for this reason.
     Pended(Reason),
 }
 
-/// The outcome of a claim: the verdict, the amounts, which are zero unless the claim is paid, and the remarks.
+/// The outcome of a claim: its verdict, its amounts, which are all zero unless the claim is paid,
+/// and its remarks.
 pub struct Outcome {
     pub verdict: Verdict,
-    /// What the plan allows of what is billed.
+    /// The allowed amount: at most the billed amount.
     pub allowed: Money,
-    /// The deductible's part of it.
+    /// The part of the allowed amount that counts against the deductible.
     pub ded: Money,
-    /// The copay's part.
+    /// The copay.
     pub copay: Money,
     /// The coinsurance.
     pub coins: Money,
-    /// What the member pays.
+    /// The member's cost share: deductible, copay and coinsurance, at most what remains of the
+    /// out-of-pocket maximum.
     pub share: Money,
-    /// What the plan pays.
+    /// The amount that the plan pays: the rest of the allowed amount.
     pub paid: Money,
-    /// What the plan's tables remark on; a pended claim has none.
+    /// The remarks of the plan's tables. A pended claim has none.
     pub remarks: Remarks,
 }
 
@@ -54,7 +56,7 @@ impl Drop for Outcome {
 }
 
 impl Outcome {
-    /// A claim that is paid.
+    /// Returns the outcome of a paid claim.
     pub(crate) fn paid(amounts: Amounts, remarks: Remarks) -> Outcome
         ensures { result ≡ paid amounts remarks }
     {
@@ -70,14 +72,14 @@ impl Outcome {
         }
     }
 
-    /// A claim that is denied.
+    /// Returns the outcome of a denied claim.
     pub(crate) fn denied(remarks: Remarks) -> Outcome
         ensures { result ≡ denied remarks }
     {
         unpaid(Verdict::Denied, remarks)
     }
 
-    /// A claim that waits.
+    /// Returns the outcome of a pended claim.
     pub(crate) fn pended(reason: Reason) -> Outcome
         ensures { result ≡ pended reason }
     {

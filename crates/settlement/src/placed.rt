@@ -1,16 +1,17 @@
-//! Where a plan's tables answer its roles, found once so that no decision looks for a name.
+//! The outputs that give a plan's roles their values. They are looked up by name once, and not for
+//! each claim.
 ghost use Rattle.settlement.specs.Placed.{IsPlaced, AreFamilyPlaced, AreRemarksPlaced, ArePlacedFor};
 
 use dtable::{FamilyRoles, Name, OutputPlace, Plan, Source};
 
-/// For each of the family's limits the place of the output that gives its value, if one does.
+/// For each limit of the family, the place of the output that gives its value, if one does.
 #[derive(Drop)]
 pub struct FamilyPlaces {
     pub deductible: Option<OutputPlace>,
     pub oop_max: Option<OutputPlace>,
 }
 
-/// For each role the place of the output that gives its value, if one does.
+/// For each role, the place of the output that gives its value, if one does.
 #[derive(Drop)]
 pub struct RolePlaces {
     pub cover: Option<OutputPlace>,
@@ -23,7 +24,7 @@ pub struct RolePlaces {
     pub family: FamilyPlaces,
 }
 
-/// The places of the roles' outputs.
+/// Returns the places of the outputs that give the plan's roles their values.
 pub fn role_places(plan: &Plan) -> RolePlaces
     ensures { ArePlacedFor plan.now result }
 {
@@ -70,7 +71,7 @@ fn no_places() -> FamilyPlaces {
     }
 }
 
-// The place of the output that a source names, if it names one.
+// A role whose value is a literal or an input has no place.
 fn place_of(plan: &Plan, source: &Source) -> Option<OutputPlace>
     ensures { IsPlaced plan.now.tables source.now result }
 {

@@ -6,7 +6,7 @@ ghost use Rattle.fixpoint.specs.Money.{IsRate};
 use fixpoint::Fixed;
 use std::marker::Model;
 
-/// A number from 0 to 1. Contracts see its units.
+/// A number from 0 to 1. Contracts see it as its units, ten-thousandths.
 #[derive(Clone, Copy)]
 pub struct Rate {
     number: Fixed,
@@ -26,7 +26,7 @@ impl Model for Rate {
 }
 
 impl Rate {
-    /// The rate of this number, where it is one.
+    /// Returns the number as a rate, or `None` if it is not from 0 to 1.
     pub fn new(number: Fixed) -> Option<Rate>
         ensures { SomeIff result (IsRate number) number }
     {
@@ -37,7 +37,7 @@ impl Rate {
         }
     }
 
-    /// The rate as a number.
+    /// Returns the rate as a number.
     pub fn number(self) -> Fixed
         ensures value { result ≡ self }
         ensures rate { IsRate result }

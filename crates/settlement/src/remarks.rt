@@ -11,11 +11,13 @@ use std::alloc::{AllocError, Global};
 use std::marker::Model;
 use std::sync::Arc;
 
-/// How many places a list has that take no memory of their own.
+/// The number of places that a list stores without an allocation.
 const INLINE_PLACES: usize = 16;
 
-/// The remarks of an outcome, in order; contracts see the list of their texts. Remarks that a plan's rules name cost their
-/// places in words that outcomes share, and no copy of a text. No remarks cost nothing.
+/// The remarks of an outcome, in order. Contracts see the list of their texts.
+///
+/// Outcomes share the texts of a plan's rules, so that a remark is a place in a shared list and not
+/// a copy. An empty list needs no memory.
 pub struct Remarks {
     listed: Option<Arc<Listed>>,
 }
@@ -27,14 +29,14 @@ impl Drop for Remarks {
     }
 }
 
-/// Texts, in order.
+/// A list of texts.
 enum Listed {
-    /// The texts at these places of the words.
+    /// The texts at these places of a shared list of words.
     Placed {
         words: Arc<Sequence<Text>>,
         places: SmallVec<u8, INLINE_PLACES>,
     },
-    /// Texts that are no one else's.
+    /// Texts that the list owns.
     Own(Sequence<Text>),
 }
 
@@ -60,14 +62,14 @@ impl Model for Remarks {
 }
 
 impl Remarks {
-    /// No remarks.
+    /// Returns an empty list of remarks.
     pub fn none() -> Remarks
         ensures { result ≡ [] }
     {
         Remarks { listed: None }
     }
 
-    /// These texts.
+    /// Returns a list of remarks that owns the texts.
     pub fn new(alloc: Global, texts: Sequence<Text>) -> Result<Remarks, AllocError>
         ensures { IfOk result (λ remarks. remarks ≡ texts) }
     {
@@ -77,13 +79,14 @@ impl Remarks {
         Remarks::listed(alloc, Listed::Own(texts))
     }
 
-    /// The words at these places.
+    /// Returns the remarks whose texts are the words at these places.
     pub(crate) fn placed(
         alloc: Global,
         words: &Arc<Sequence<Text>>,
         places: SmallVec<u8, INLINE_PLACES>,
     ) -> Result<Remarks, AllocError>
-        ensures { IfOk result (λ remarks. remarks ≡ map (word_at (arc_value words.now)) places.items) }
+        ensures { IfOk result (λ remarks.
+            remarks ≡ map (word_at (arc_value words.now)) places.items) }
     {
         let words = words.clone()?;
         Remarks::listed(alloc, Listed::Placed { words, places })
@@ -97,7 +100,7 @@ impl Remarks {
         })
     }
 
-    /// The same remarks, which share their memory with these.
+    /// Returns the same remarks without a copy: both values share their memory.
     pub(crate) fn share(&self) -> Result<Remarks, AllocError>
         ensures { IfOk result (λ same. same ≡ self.now) }
     {
@@ -109,7 +112,7 @@ impl Remarks {
         }
     }
 
-    /// How many remarks there are.
+    /// Returns the number of remarks.
     pub fn len(&self) -> usize
         ensures { result ≡ length self.now }
     {
@@ -119,9 +122,10 @@ impl Remarks {
         }
     }
 
-    /// Appends the texts, with a mark between two of them.
+    /// Appends the remarks to `text`, with `mark` between two of them.
     pub fn append_joined(&self, text: &mut Vec<u8>, mark: &str) -> Result<(), AllocError>
-        ensures { OnOk result (text.new.items ≡ text.old.items ++ join_by (λ remark. remark) mark.now self.now) }
+        ensures { OnOk result (text.new.items
+            ≡ text.old.items ++ join_by (λ remark. remark) mark.now self.now) }
     {
         match &self.listed {
             Some(listed) => listed.append_joined(text, mark),
@@ -129,7 +133,7 @@ impl Remarks {
         }
     }
 
-    /// The text of the remark at a place, from 0, if there is one.
+    /// Returns the text of the remark at an index from 0, or `None` if there is no such remark.
     pub fn get(&self, place: usize) -> Option<&str>
         ensures { option_copied result ≡ slice_get self.now place }
     {
@@ -152,7 +156,8 @@ impl Listed {
 
     #[tactic(auto, using(crate::proofs::Remarked::joined_map))]
     fn append_joined(&self, text: &mut Vec<u8>, mark: &str) -> Result<(), AllocError>
-        ensures { OnOk result (text.new.items ≡ text.old.items ++ join_by (λ remark. remark) mark.now (listed_texts self.now)) }
+        ensures { OnOk result (text.new.items
+            ≡ text.old.items ++ join_by (λ remark. remark) mark.now (listed_texts self.now)) }
     {
         match self {
             Listed::Placed { words, places } => {
@@ -178,14 +183,14 @@ impl Listed {
     }
 }
 
-// Appends the words at the places, with a mark between two of them.
 fn append_words(
     text: &mut Vec<u8>,
     mark: &str,
     words: &[Text],
     places: &[u8],
 ) -> Result<(), AllocError>
-    ensures { OnOk result (text.new.items ≡ text.old.items ++ join_by (word_at words.now) mark.now places.now) }
+    ensures { OnOk result (text.new.items
+        ≡ text.old.items ++ join_by (word_at words.now) mark.now places.now) }
 {
     match places {
         [] => Ok(()),
@@ -196,14 +201,15 @@ fn append_words(
     }
 }
 
-// Appends the words at the places, with the mark in front of each.
+// Appends the words at the places, each after the mark.
 fn append_others(
     text: &mut Vec<u8>,
     mark: &str,
     words: &[Text],
     places: &[u8],
 ) -> Result<(), AllocError>
-    ensures { OnOk result (text.new.items ≡ text.old.items ++ flat_map (λ place. mark.now ++ word_at words.now place) places.now) }
+    ensures { OnOk result (text.new.items ≡ text.old.items
+        ++ flat_map (λ place. mark.now ++ word_at words.now place) places.now) }
 {
     for place in places {
         text.extend_from_slice(mark.as_bytes())?;
@@ -212,7 +218,7 @@ fn append_others(
     Ok(())
 }
 
-/// The word at a place; behind the last there are empty ones.
+/// Returns the word at a place, or an empty text if the place is past the end of the list.
 pub(crate) fn word_at(words: &[Text], place: u8) -> &str
     ensures { result.now ≡ word_at words.now place }
 {

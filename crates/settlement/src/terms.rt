@@ -1,4 +1,5 @@
-//! What a plan's roles say of a claim.
+//! The values of a plan's roles for a claim: whether it is covered, its cost sharing and its
+//! remarks.
 ghost use Rattle.std.specs.Prelude.{◌≡◌, Some, slice_get, IfOk, IsTrue};
 ghost use Rattle.std.specs.List.{filter_map};
 ghost use Rattle.std.specs.Option.{ok_or, option_and_then, option_copied};
@@ -17,14 +18,15 @@ use faults::Role;
 use feel_tests::{Text, Value};
 use std::alloc::{AllocError, Global};
 
-/// The limits of a claim's family: amounts of money.
+/// The limits of a claim's family.
 #[derive(Clone, Copy)]
 pub struct FamilyTerms {
     pub deductible: Money,
     pub oop_max: Money,
 }
 
-/// The number roles of a claim: amounts of money and a rate, and the family's limits, if there are any.
+/// The cost sharing of a claim: the values of its number roles, and the limits of the family, if
+/// the plan has any.
 #[derive(Clone, Copy)]
 pub struct RoleTerms {
     pub fee: Money,
@@ -35,7 +37,7 @@ pub struct RoleTerms {
     pub family: Option<FamilyTerms>,
 }
 
-/// Whether the claim is covered. The roles' outputs stand at these places.
+/// Returns whether the claim is covered: whether the role `cover` is true.
 pub fn is_covered(inputs: &Inputs, env: &Env, roles: &Roles, places: &RolePlaces) -> bool
     requires { ArePlaced env.now.tables roles.now places.now }
     ensures { result ≡ is_true_flag (value_of inputs.now env.now roles.now.cover) }
@@ -46,7 +48,8 @@ pub fn is_covered(inputs: &Inputs, env: &Env, roles: &Roles, places: &RolePlaces
     }
 }
 
-/// The number roles, or the first that isn't what it must be. The roles' outputs stand at these places.
+/// Returns the cost sharing of the claim, or the first role whose value is missing or is not an
+/// amount of money or, for `rate`, not a rate.
 pub fn terms_of(
     inputs: &Inputs,
     env: &Env,
@@ -78,7 +81,6 @@ pub fn terms_of(
     })
 }
 
-// The family's limits, if there are any, or the first that isn't money.
 fn limits_of(
     inputs: &Inputs,
     env: &Env,
@@ -126,8 +128,8 @@ fn family_terms_of(
     })
 }
 
-/// The remarks of the tables' output of this name, which stands at the place, if the plan names one. Those of the
-/// vocabulary's words cost no copy of a text.
+/// Returns the remarks: the texts in the output with this name, or none if the plan names no
+/// output. Texts in the table of remarks are not copied.
 pub fn remarks(
     env: &Env,
     name: &Option<Name>,
@@ -152,7 +154,8 @@ fn texts(answer: Option<&Answer>, vocabulary: &Vocabulary) -> Result<Remarks, Al
     }
 }
 
-// The texts by the vocabulary; it is asked whether they are, and where not, they are copied.
+// The table of remarks is not verified, so its result is compared with the texts. If they differ,
+// the texts are copied.
 fn texts_in(values: &[Value], vocabulary: &Vocabulary) -> Result<Remarks, AllocError>
     ensures { IfOk result (λ texts. texts ≡ filter_map text_of values.now) }
 {
@@ -164,7 +167,6 @@ fn texts_in(values: &[Value], vocabulary: &Vocabulary) -> Result<Remarks, AllocE
     Remarks::new(alloc, copies_of(alloc, values)?)
 }
 
-// Whether the remarks are the texts among the values.
 fn are_texts_of(remarks: &Remarks, values: &[Value]) -> bool
     ensures { IsTrue result → remarks.now ≡ filter_map text_of values.now }
 {
@@ -190,7 +192,6 @@ fn is_at(remarks: &Remarks, place: usize, text: &Text) -> bool
     }
 }
 
-// Copies of the texts among the values.
 fn copies_of(alloc: Global, values: &[Value]) -> Result<Sequence<Text>, AllocError>
     ensures { IfOk result (λ texts. texts ≡ filter_map text_of values.now) }
 {
@@ -203,7 +204,7 @@ fn copies_of(alloc: Global, values: &[Value]) -> Result<Sequence<Text>, AllocErr
     Ok(texts)
 }
 
-/// The text that a value is, if it is one.
+/// Returns the text of a value, or `None` if it is not a text.
 pub fn text_of(value: &Value) -> Option<&Text>
     ensures { option_copied result ≡ text_of value.now }
 {
@@ -215,7 +216,7 @@ pub fn text_of(value: &Value) -> Option<&Text>
     }
 }
 
-// The value of a role, if it has a single one. Its output stands at the place.
+// Returns the value of a role, or `None` if it has none or a list.
 fn value_of<'a>(
     inputs: &'a Inputs,
     env: &'a Env,
@@ -236,7 +237,6 @@ fn value_of<'a>(
     }
 }
 
-// The answer at the place, if there is one.
 fn answered<'a>(env: &'a Env, place: Option<OutputPlace>) -> Option<&'a Answer>
     ensures { option_copied result ≡ option_and_then (answer_at env.now.answers) place }
 {
@@ -246,7 +246,7 @@ fn answered<'a>(env: &'a Env, place: Option<OutputPlace>) -> Option<&'a Answer>
     }
 }
 
-// The amount of money that a role is; a role that is none is the answer. Its output stands at the place.
+// Returns the value of a role as an amount of money. If it is not one, the role is the error.
 fn money_at(
     inputs: &Inputs,
     env: &Env,

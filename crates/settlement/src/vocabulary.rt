@@ -1,4 +1,4 @@
-//! The words of a plan's remarks.
+//! The table of a plan's remarks.
 ghost use Rattle.std.specs.Prelude.{length};
 ghost use Rattle.std.specs.List.Sorted.{IsSearchInRange};
 
@@ -11,15 +11,16 @@ use std::alloc::{AllocError, Global};
 use std::cmp::Ordering;
 use std::sync::Arc;
 
-/// The texts that a plan's rules remark, from which the remarks of each outcome are put together by their places. It
-/// only finds: what it gives is to be asked whether it is what was sought, so that nothing is promised of it.
+/// The remark texts of a plan's rules. The remarks of an outcome refer to them by their places.
+///
+/// A lookup has no contract: the caller compares its result with the texts that it looked up.
 pub struct Vocabulary {
     alloc: Global,
-    /// The words in the order of the rules, each once, as many as have a place.
+    /// The distinct texts in rule order, at most as many as a place can number.
     words: Arc<Sequence<Text>>,
-    /// Their places in the order of the words' lengths, and of their bytes.
+    /// The places of the words, sorted by the words' lengths and then by their bytes.
     order: Sequence<u8>,
-    /// For each word the remarks that are that word alone.
+    /// For each word, the list of remarks with that word alone.
     alone: Sequence<Remarks>,
 }
 
@@ -35,7 +36,7 @@ impl Drop for Vocabulary {
 }
 
 impl Vocabulary {
-    /// The vocabulary of the plan's output at the place.
+    /// Collects the remark texts of the plan's output at the place.
     pub fn new(
         alloc: Global,
         plan: &Plan,
@@ -58,12 +59,12 @@ impl Vocabulary {
         })
     }
 
-    /// The allocator of what it gives.
+    /// Returns the allocator of the remarks.
     pub fn alloc(&self) -> Global {
         self.alloc
     }
 
-    /// The texts of the values, where each is one of the words, and otherwise no remarks.
+    /// Returns the texts of the values as remarks, or no remarks if a value is not in the table.
     pub fn look_up(&self, values: &[Value]) -> Result<Remarks, AllocError> {
         let mut places = SmallVec::new(self.alloc);
         let mut next = 0;
@@ -81,7 +82,6 @@ impl Vocabulary {
         }
     }
 
-    // The remarks that are the word at the place alone.
     fn alone(&self, place: u8) -> Result<Remarks, AllocError> {
         match self.alone.as_slice().get(usize::from(place)) {
             Some(remarks) => remarks.share(),
@@ -89,7 +89,8 @@ impl Vocabulary {
         }
     }
 
-    // The place of the word that the value is: where rules that stand together match, it is often the next one.
+    // Returns the place of the word that equals the value. The next word is tried first: adjacent
+    // rules often match together.
     fn place_of(&self, value: &Value, next: u8) -> Option<u8> {
         let text = text_of(value)?;
         let words = self.words.as_slice();
@@ -104,14 +105,15 @@ impl Vocabulary {
     }
 }
 
-// Where the text stands among the words in their order, or would stand.
+// Returns the index of the text in the sorted order of the words, or the index at which to insert
+// it.
 fn sought(words: &[Text], order: &[u8], text: &Text) -> Result<usize, usize>
     ensures { IsSearchInRange result (length order.now) }
 {
     order.binary_search_by(|place| order_of(word_at(words, *place), text.as_str()))
 }
 
-// A shorter text stands before a longer one, which is seen at once; of one length they stand in the order of their bytes.
+// Compares lengths before bytes, since a difference in length is faster to find.
 fn order_of(word: &str, text: &str) -> Ordering {
     match word.len().cmp(&text.len()) {
         Ordering::Equal => word.cmp(text),
@@ -119,7 +121,8 @@ fn order_of(word: &str, text: &str) -> Ordering {
     }
 }
 
-// Adds the entries of the table's rules for the output in the column. A list has no defaults in it.
+// Adds the entries of the table's rules for the output in the column. An output that is a list has
+// no default, so the rules have all its texts.
 fn add_entries(
     alloc: Global,
     words: &mut Sequence<Text>,
@@ -135,7 +138,7 @@ fn add_entries(
     Ok(())
 }
 
-// Adds a text where it is none of the words yet, and there is a place for it.
+// Adds a new text, unless all places are in use.
 fn add(
     alloc: Global,
     words: &mut Sequence<Text>,
@@ -155,7 +158,6 @@ fn add(
     Ok(())
 }
 
-// For each word the remarks that are that word alone.
 fn each_alone(alloc: Global, words: &Arc<Sequence<Text>>) -> Result<Sequence<Remarks>, AllocError> {
     let mut alone = Sequence::new(alloc);
     for place in 0..words.len() {

@@ -1,4 +1,4 @@
-//! Files of balances by worked examples.
+//! Tests of files of balances by worked examples.
 use crate::claims::{BY_FAMILY, BY_YEAR, PLAN, fault_of_front, plan};
 use crate::ending::{expects, expects_at, fail};
 use dtable::{Plan, read_plan};
@@ -9,7 +9,8 @@ use std::process::Abort;
 
 const BALANCES: &[u8] = b"member,met,oop,paid\nM1,50.00,10.00,5.00\n";
 
-/// Whether a member who is all of its family has so much.
+/// Returns whether the accumulators of a member who is the only one of its family have these
+/// amounts, in ten-thousandths.
 pub(crate) fn same(acc: Acc, met: i64, oop: i64, paid: i64) -> bool {
     acc.met.amount().units() == met
         && acc.oop.amount().units() == oop
@@ -18,7 +19,7 @@ pub(crate) fn same(acc: Acc, met: i64, oop: i64, paid: i64) -> bool {
         && acc.foop == acc.oop
 }
 
-// Reads the balances, and compares what these members have in no year.
+// Reads the balances and compares those of these members in year 0.
 fn are_balances(rt: &impl Abort, alloc: Global, text: &[u8], members: &[(&str, i64, i64, i64)]) {
     let plan = plan(rt, alloc, PLAN);
     let balances = balances_under(rt, alloc, &plan, text);
@@ -36,7 +37,7 @@ fn have_members(rt: &impl Abort, balances: Balances, members: &[(&str, i64, i64,
     }
 }
 
-/// Balances of several years, and what members have of them in a year.
+/// Balances of several years.
 const OF_YEARS: &[u8] =
     b"member,year,met,oop,paid\nM1,2024,50.00,10.00,5.00\nM2,9999,1,2,3\nM1,2025,4,0,0\n";
 
@@ -75,11 +76,12 @@ fn have_members_by_year(
     }
 }
 
-/// Balances of two families, and what members have of them in a year: of their own, and of their families'.
+/// Balances of two families.
 const OF_FAMILIES: &[u8] =
     b"year,family,member,met,oop,paid\n2024,F1,M1,50,10,5\n2024,F1,M2,4,3,2\n2025,F1,M1,1,1,1\n2024,F2,M1,7,7,7\n2024,F1,M3,0.50,0,0\n";
 
-/// A family, a member, a year; the member's own in ten-thousandths, and the family's.
+/// A family, a member and a year, the member's own amounts in ten-thousandths, and the family's
+/// sums.
 type OfFamily = (&'static str, &'static str, u16, (i64, i64, i64), (i64, i64));
 
 const MEMBERS_BY_FAMILY: [OfFamily; 8] = [
@@ -135,10 +137,11 @@ fn have_members_by_family(rt: &impl Abort, balances: Balances, members: &[OfFami
     }
 }
 
-/// A file of balances with a record that is refused: its number, the column, and why.
+/// A file of balances with a refused record, and the record's number, the column and the cause.
 type RefusedRow = (&'static [u8], usize, usize, RowCause);
 
-/// Files of balances of families with a record that is refused; in the last two a later record has a fault, too.
+/// Files of balances of families with a refused record. In the last two, a later record has a
+/// fault, too.
 const REFUSED_FAMILIES: [RefusedRow; 7] = [
     (
         b"family,member,year,met,oop,paid\nF1,M1,2024,99999999999.99,0.00,0.00\nF1,M2,2024,0.01,0.00,0.00\n",
@@ -194,7 +197,7 @@ fn refused_families() -> &'static [RefusedRow] {
     &REFUSED_FAMILIES
 }
 
-// The first text lacks a column, and each of the others has a record that is refused.
+// The first text lacks a column, and each of the others has a refused record.
 fn refuses_balances(
     rt: &impl Abort,
     alloc: Global,
@@ -234,17 +237,17 @@ fn families_or_no_memory(rt: &impl Abort, alloc: Global, plan: &Plan) {
 }
 
 fn lacks_memory(rt: &impl Abort, fault: BalanceFault) {
-    expects(rt, fault == BalanceFault::OutOfMemory, "want of memory");
+    expects(rt, fault == BalanceFault::OutOfMemory, "out of memory");
 }
 
-/// The members of the balances, and some of none.
+/// Members with balances, and some without.
 const MEMBERS: [(&str, i64, i64, i64); 3] = [
     ("M1", 500_000, 100_000, 50_000),
     ("M2", 0, 0, 0),
     ("", 0, 0, 0),
 ];
 
-/// Columns in another order, and one more.
+/// Balances with the columns in another order, and with one more column.
 const OTHER_BALANCES: &[u8] = b"paid,note,oop,met,member\n1,\xFF,2,3,B\n4,,5,6,A\n0,,0,0.01,C\n";
 
 const OTHER_MEMBERS: [(&str, i64, i64, i64); 3] = [
@@ -267,7 +270,7 @@ const REFUSED_BALANCES: [(&[u8], FileFault); 3] = [
     (b"member,met,met,oop,paid\n", FileFault::DuplicateColumn),
 ];
 
-// The fault of a text that is no file of balances under the plan.
+// Returns the fault of a text that is not a file of balances under the plan.
 fn refused_balances(alloc: Global, plan: &Plan, text: &[u8]) -> Option<BalanceFault> {
     read_balances(alloc, plan, text).err()
 }
@@ -291,7 +294,7 @@ fn refuses_files_of_balances(
     }
 }
 
-/// Files of balances of several years with a record that is refused.
+/// Files of balances of several years with a refused record.
 const REFUSED_YEARS: [RefusedRow; 4] = [
     (
         b"member,year,met,oop,paid\nM1,2024,1,1,1\nM1,2025,1,1,1\nM1,2024,1,1,1\n",
@@ -329,7 +332,7 @@ fn refused_years() -> &'static [RefusedRow] {
     &REFUSED_YEARS
 }
 
-/// Files of balances with a record that is refused.
+/// Files of balances with a refused record.
 const REFUSED_RECORDS: [RefusedRow; 6] = [
     (
         b"member,met,oop,paid\nM1,50.00,10.00,5.00\nM1,50.00,10.00,5.00\n",
@@ -389,7 +392,7 @@ fn check_prefixes_of_balances(rt: &impl Abort, alloc: Global, plan: &Plan, text:
     }
 }
 
-// A prefix is a file of balances where it has the header's 19 bytes and no record, or a whole one.
+// A prefix is a file of balances if it has the header's 19 bytes and no record, or a whole one.
 fn check_balances_refused(rt: &impl Abort, fault: BalanceFault, length: usize) {
     match fault {
         BalanceFault::File(fault) => {
@@ -426,6 +429,6 @@ fn faults_have_numbers_and_texts(rt: HostRuntime) {
     expects_at(&rt, RowCause::Sum.number() == 9, 9);
     let fault = row(2, 1, RowCause::Repeated);
     let told = format!(in rt.alloc(); "{fault}").expect(&rt, "memory for a text");
-    let wanted = "record 2: column 1: a member stands twice";
+    let wanted = "record 2: column 1: a member occurs twice";
     expects(&rt, told.as_str() == wanted, wanted);
 }

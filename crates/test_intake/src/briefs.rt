@@ -1,4 +1,4 @@
-//! Rows in brief by a worked example.
+//! Tests of row summaries by a worked example.
 use crate::claims::{BY_FAMILY, plan};
 use crate::ending::expects;
 use dtable::Plan;
@@ -7,14 +7,15 @@ use std::alloc::{AllocError, Global};
 use std::fmt::Write;
 use std::process::Abort;
 
-/// Two claims, and between them a record without a member. The columns stand in an order of their own.
+/// Two claims, and between them a record without a member. The order of the columns differs from
+/// that of the required ones.
 const CLAIMS: &[u8] = b"code,member,claim,service,billed,family
 A,M1,c1,1970-01-02,120.00,F1
 B,,c2,2024-02-01,40.00,F1
 Z,M2,c3,1970-01-11,40.00,F2
 ";
 
-// Each row in short: `number.place id family member day;`, or `number!column.cause;`.
+// Each row has the text `number.place id family member day;` or `number!column.cause;`.
 #[test]
 fn rows_in_brief(rt: HostRuntime) {
     let plan = plan(&rt, rt.alloc(), BY_FAMILY);
@@ -51,7 +52,7 @@ fn tell_all(alloc: Global, told: &mut String, rows: &mut Rows) -> Result<(), All
     Ok(())
 }
 
-// Tells the next row, if there is one.
+// Writes the next row, and returns whether there was one.
 fn tell_next(
     alloc: Global,
     told: &mut String,
@@ -86,7 +87,7 @@ fn tell(alloc: Global, told: &mut String, brief: &Brief, line: &Line) -> Result<
     }
 }
 
-// Tells the number of the day that the record's field at a place spells.
+// Writes the day number of the date in the record's field at a place.
 fn tell_day(alloc: Global, told: &mut String, line: &Line, place: usize) -> Result<(), AllocError> {
     match line.day(alloc, place)? {
         Some(day) => write!(told, " {};", day.epoch_day()),
@@ -94,7 +95,7 @@ fn tell_day(alloc: Global, told: &mut String, line: &Line, place: usize) -> Resu
     }
 }
 
-// Tells the record's field at a place, where it is a text, whose bytes it has too.
+// Writes the record's field at a place if it is a text, whose bytes must be those of the field.
 fn tell_field(told: &mut String, line: &Line, place: usize) -> Result<(), AllocError> {
     match line.text(place) {
         Some(Ok(text)) => tell_text(told, line, place, text),

@@ -1,4 +1,4 @@
-//! Files of claims by worked examples.
+//! Tests of claim files by worked examples.
 use crate::ending::{expects, expects_at, fail};
 use dtable::{Plan, read_plan};
 use feel_tests::Value;
@@ -11,13 +11,13 @@ use std::alloc::{AllocError, Global};
 use std::fmt::Write;
 use std::process::Abort;
 
-/// A plan with one field, of text.
+/// A plan with one field, which is a text.
 pub(crate) const PLAN: &[u8] = b"version = 1\nfields = [{name = \"code\", kind = \"text\"}]\n";
 
-/// The same, whose accumulators are kept by the year.
+/// A plan with the same field, and with accumulators by benefit year.
 pub(crate) const BY_YEAR: &[u8] = b"version = 2\nfields = [{name = \"code\", kind = \"text\"}]\n";
 
-/// The same, whose accumulators are kept for families, too.
+/// A plan with the same field, and with accumulators by benefit year and for families.
 pub(crate) const BY_FAMILY: &[u8] = b"version = 3\nfields = [{name = \"code\", kind = \"text\"}]\n";
 
 /// A plan with a field of each kind.
@@ -26,7 +26,7 @@ const KINDS: &[u8] =
 
 const HEADER: &[u8] = b"claim,member,service,billed,code\n";
 
-/// The first claim file of the formats page.
+/// The first claim file of the documentation.
 const CLAIMS: &[u8] = b"claim,member,service,billed,code
 c1,M1,2024-01-05,120.00,A
 c2,M1,2024-02-01,40.00,B
@@ -34,7 +34,7 @@ c3,M1,2024-02-02,40.00,Z
 c4,M1,2024-03-01,100.00,A
 ";
 
-/// The plan of a text. What is refused memory is asked for once more.
+/// Reads the plan of a text. The call is repeated if memory runs out.
 pub(crate) fn plan(rt: &impl Abort, alloc: Global, text: &[u8]) -> Plan {
     if let Ok(plan) = read_plan(alloc, text) {
         return plan;
@@ -45,7 +45,7 @@ pub(crate) fn plan(rt: &impl Abort, alloc: Global, text: &[u8]) -> Plan {
     plan
 }
 
-// Each row in short: `number.place id member day units values;`, or `number!column.cause;`.
+// Writes each row in short: `number.place id member day units values;` or `number!column.cause;`.
 fn told(rt: &impl Abort, alloc: Global, plan: &Plan, text: &[u8]) -> Result<String, AllocError> {
     let file = ClaimFile::new(alloc, plan, text).expect(rt, "a file of claims");
     told_of(rt, alloc, &file)
@@ -60,7 +60,7 @@ fn told_behind(rt: &impl Abort, alloc: Global, rows: &mut Rows) -> Result<String
     let mut told = String::new(alloc);
     tell_all(&mut told, rows)?;
     let over = tell_next(&mut told, rows) == Ok(false);
-    expects(rt, over, "no row behind the last");
+    expects(rt, over, "no row after the last");
     Ok(told)
 }
 
@@ -73,7 +73,7 @@ fn tell_all(told: &mut String, rows: &mut Rows) -> Result<(), AllocError> {
     Ok(())
 }
 
-// Tells the next row, if there is one.
+// Writes the next row, and returns whether there was one.
 fn tell_next(told: &mut String, rows: &mut Rows) -> Result<bool, AllocError> {
     match rows.next()? {
         Some(row) => {
@@ -130,7 +130,7 @@ fn tell_value(told: &mut String, value: &Value) -> Result<(), AllocError> {
     }
 }
 
-// Reads a file of these parts.
+// Requires that the rows of a file with these parts have this text.
 fn reads(rt: &impl Abort, alloc: Global, plan: &Plan, front: &[u8], parts: &[&[u8]], wanted: &str) {
     let text = joined(alloc, front, parts).expect(rt, "memory for a file");
     tells(rt, alloc, plan, &text, wanted);
@@ -145,10 +145,10 @@ fn joined(alloc: Global, front: &[u8], parts: &[&[u8]]) -> Result<Vec<u8>, Alloc
     Ok(text)
 }
 
-/// Sixty-four bytes of a member's name.
+/// A quarter of the greatest identifier: 64 bytes.
 const LONG: &[u8] = b"xxxxxxxxxxxxxxxxxxxxxxxxxxxxxxxxxxxxxxxxxxxxxxxxxxxxxxxxxxxxxxxx";
 
-/// A claim file of all faults of a record, between two claims. One member's name has 257 bytes.
+/// A claim file with all faults of a record, between two claims. One member has 257 bytes.
 const FAULTY: [&[u8]; 16] = [
     HEADER,
     b"a,\"M\"\"1\",2024-02-29,1.00,A\n",
@@ -186,7 +186,7 @@ fn faulty() -> &'static [&'static [u8]] {
     &FAULTY
 }
 
-/// Records with faults under several columns, in another order than the plan's.
+/// Records with faults in several columns, whose order differs from the plan's.
 const SHUFFLED: &[u8] = b"note,urgent,billed,service,member,claim,days,admitted
 \xFF,true,1.00,2024-01-01,M,a,1.5,0001-01-01
 ,yes,1,01.01.2024,,,x,
@@ -207,7 +207,7 @@ fn faults_of_a_record_come_in_the_header_s_order(rt: HostRuntime) {
     tells(&rt, rt.alloc(), &plan, SHUFFLED, SHUFFLED_TOLD);
 }
 
-/// Files of claims that are refused as a whole.
+/// Claim files that are refused as a whole.
 const REFUSED_FILES: [(&[u8], FileFault); 6] = [
     (b"", FileFault::NoHeader),
     (b"\xEF\xBB\xBF\r\n\n", FileFault::NoHeader),
@@ -247,7 +247,7 @@ fn refuses_files(rt: &impl Abort, alloc: Global, plan: &Plan, files: &[(&[u8], F
     }
 }
 
-// The text and empty lines, of so many bytes in all.
+// Returns the text followed by empty lines, with `size` bytes in all.
 fn filled(alloc: Global, text: &[u8], size: usize) -> Result<Vec<u8>, AllocError> {
     let mut filled = Vec::with_capacity(alloc, size)?;
     filled.extend_from_slice(text)?;
@@ -271,59 +271,59 @@ fn a_file_of_the_greatest_size(rt: HostRuntime) {
     check_the_greatest_size(&rt, rt.alloc(), &plan);
 }
 
-/// What stands behind the header, and the rows that it gives: the cases that readers of CSV get wrong.
+/// The text after the header, and its rows: cases that CSV readers often get wrong.
 const QUOTING: [(&[u8], &str); 14] = [
-    // Quotes inside a field that isn't quoted.
+    // Quotes inside an unquoted field are part of it.
     (
         b"a,M,2024-01-01,1,x\"y\"z\n",
         "1.0 a M 19723 10000 x\"y\"z;",
     ),
-    // Text behind a closing quote.
+    // Text after a closing quote is part of the field.
     (b"a,M,2024-01-01,1,\"x\"yz\n", "1.0 a M 19723 10000 xyz;"),
     (
         b"a,M,2024-01-01,1,\"x\"y\"z\"\n",
         "1.0 a M 19723 10000 xy\"z\";",
     ),
-    // Doubled quotes.
+    // Two quotes in a quoted field are one quote.
     (
         b"a,M,2024-01-01,1,\"x\"\"y\"\"\"\n",
         "1.0 a M 19723 10000 x\"y\";",
     ),
-    // Line ends and commas in quotes.
+    // Line ends and commas in quotes are part of the field.
     (
         b"a,M,2024-01-01,1,\"x,\r\ny\nz\"\r\n",
         "1.0 a M 19723 10000 x,\r\ny\nz;",
     ),
-    // CR alone ends a record, and CRLF ends one.
+    // A lone CR ends a record, and CRLF ends one record.
     (
         b"a,M,2024-01-01,1,x\rb,M,2024-01-01,1,y\r\nc,M,2024-01-01,1,z\n",
         "1.0 a M 19723 10000 x;2.1 b M 19723 10000 y;3.2 c M 19723 10000 z;",
     ),
-    // Blank lines are no records, an empty quoted field alone is one.
+    // Blank lines are not records, but a single empty quoted field is one.
     (
         b"\n\r\na,M,2024-01-01,1,x\n\n\n\"\"\n\nb,M,2024-01-01,1,y\n\n",
         "1.0 a M 19723 10000 x;2!0.1;3.1 b M 19723 10000 y;",
     ),
-    // White space is a field's own.
+    // White space is part of the field.
     (b"a, M,2024-01-01,1, x \n", "1.0 a  M 19723 10000  x ;"),
     (b"a,M,2024-01-01, 1,x\n \n", "1!4.5;2!0.1;"),
-    // The last record without its line end.
+    // The last record needs no line end.
     (b"a,M,2024-01-01,1,x", "1.0 a M 19723 10000 x;"),
     (b"a,M,2024-01-01,1,", "1.0 a M 19723 10000 ;"),
-    // An unfinished quote.
+    // A quote that is not closed takes in the rest of the file.
     (
         b"a,M,2024-01-01,1,\"x,y\nb,M,2024-01-01,1,z\n",
         "1.0 a M 19723 10000 x,y\nb,M,2024-01-01,1,z\n;",
     ),
     (b"a,M,2024-01-01,1,\"", "1.0 a M 19723 10000 ;"),
-    // A second byte order mark is a field's own.
+    // A second byte order mark is part of the field.
     (
         b"\xEF\xBB\xBFa,M,2024-01-01,1,x\n",
         "1.0 \u{FEFF}a M 19723 10000 x;",
     ),
 ];
 
-/// Headers that say the same.
+/// Headers with the same meaning.
 const HEADERS: [&[u8]; 4] = [
     b"claim,member,service,billed,code\n",
     b"\xEF\xBB\xBFclaim,member,service,billed,code\r\n",
@@ -373,7 +373,7 @@ fn check_prefixes(rt: &impl Abort, alloc: Global, plan: &Plan, text: &[u8]) {
     }
 }
 
-// A prefix is a file of claims where it has the header's 32 bytes.
+// A prefix is a claim file if it has the header's 32 bytes.
 fn check_prefix(rt: &impl Abort, alloc: Global, plan: &Plan, text: &[u8]) {
     match ClaimFile::new(alloc, plan, text) {
         Ok(file) => check_file(rt, alloc, file, text.len()),
@@ -393,7 +393,7 @@ fn check_header(rt: &impl Abort, fault: FileFault, length: usize) {
     expects(rt, same, "the fault of a cut header");
 }
 
-// The fault of so many bytes of a header, which are not all of it.
+// Returns the fault of a proper prefix of a header with this length.
 pub(crate) fn fault_of_front(length: usize) -> FileFault {
     if length == 0 {
         FileFault::NoHeader
@@ -402,7 +402,7 @@ pub(crate) fn fault_of_front(length: usize) -> FileFault {
     }
 }
 
-// The next row without its claim: its number, and its place among the claims or what refuses it.
+// Returns the number of the next row, and its place among the claims or the cause of its fault.
 fn next(rows: &mut Rows) -> Result<Option<(usize, Result<usize, RowCause>)>, AllocError> {
     match rows.next()? {
         None => Ok(None),
@@ -411,7 +411,8 @@ fn next(rows: &mut Rows) -> Result<Option<(usize, Result<usize, RowCause>)>, All
     }
 }
 
-// Records count from 1, and the only one that may be refused is cut off: its fields are too few, or empty.
+// Records are numbered from 1. Only the last record may be refused, since it is cut: it has too few
+// fields, or empty ones.
 fn check_numbers(rt: &impl Abort, rows: &mut Rows) {
     for expected in 1..6_usize {
         match next(rows).expect(rt, "memory for a row") {
@@ -426,7 +427,7 @@ fn check_numbers(rt: &impl Abort, rows: &mut Rows) {
                 expects(
                     rt,
                     matches!(next(rows), Ok(None)),
-                    "the end behind a cut record",
+                    "the end after a cut record",
                 );
             }
         }
@@ -434,7 +435,7 @@ fn check_numbers(rt: &impl Abort, rows: &mut Rows) {
     fail(rt, "an end")
 }
 
-/// Claims of families, and what is told of them: the column of the family may stand anywhere.
+/// Claims of families. The column of the family may have any place.
 const FAMILY_CLAIMS: &[u8] = b"claim,code,member,service,billed,family
 e1,A,M1,2024-01-05,120.00,F1
 e2,A,M2,2024-02-01,100.00,
@@ -474,7 +475,7 @@ fn claims_or_no_memory(rt: HostRuntime) {
 fn check_claims_or_no_memory(rt: &impl Abort, alloc: Global, plan: &Plan, text: &[u8]) {
     match ClaimFile::new(alloc, plan, text) {
         Ok(file) => check_file_or_no_memory(rt, alloc, file),
-        Err(fault) => expects(rt, fault == FileFault::OutOfMemory, "want of memory"),
+        Err(fault) => expects(rt, fault == FileFault::OutOfMemory, "out of memory"),
     }
 }
 
@@ -484,15 +485,16 @@ fn check_file_or_no_memory(rt: &impl Abort, alloc: Global, file: ClaimFile) {
     }
 }
 
-// With an allocation refused, what was given before it stands, and from then on each call answers want of memory.
+// With one allocation refused, the earlier rows are right, and every call from then on reports that
+// memory ran out.
 fn check_rows_or_no_memory(rt: &impl Abort, rows: &mut Rows) {
     for wanted in 1..5_usize {
         match next(rows) {
             Ok(Some((number, Ok(_)))) => expects_at(rt, number == wanted, wanted),
             Ok(_) => fail(rt, "a claim"),
             Err(AllocError) => {
-                expects(rt, next(rows).is_err(), "want of memory");
-                expects(rt, next(rows).is_err(), "want of memory again");
+                expects(rt, next(rows).is_err(), "out of memory");
+                expects(rt, next(rows).is_err(), "out of memory again");
                 return;
             }
         }

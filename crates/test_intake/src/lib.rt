@@ -1,5 +1,5 @@
-//! Tests by worked examples of `intake_csv` and `claim_gate`. They stand apart from these, since the tests of a crate are proved together with
-//! all of its code.
+//! Tests of `intake_csv` and `claim_gate` by worked examples. They are a crate of their own, since
+//! the tests of a crate are proved together with all of its code.
 #![tactic(auto)]
 
 #[cfg(test)]

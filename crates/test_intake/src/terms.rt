@@ -1,4 +1,4 @@
-//! Terms by worked examples. What is refused memory is asked for once more.
+//! Tests of the inputs of a run by worked examples. A call that runs out of memory is repeated.
 use crate::balances::same;
 use crate::claims::plan;
 use crate::ending::{expects, fail};
@@ -12,7 +12,7 @@ use std::process::Abort;
 
 mod families;
 
-/// A plan that pays what is billed, up to 5.00.
+/// A plan that pays the billed amount, up to 5.00.
 const PLAN: &[u8] = br#"
 version = 1
 fields = [{name = "code", kind = "text"}]
@@ -41,10 +41,11 @@ const BALANCES: &[u8] = b"member,met,oop,paid\nM1,50.00,10.00,5.00\n";
 
 const TWICE: &[u8] = b"member,met,oop,paid\nM1,50.00,10.00,5.00\nM1,50.00,10.00,5.00\n";
 
-/// One file more than a run may have.
+/// One more file than a run may have.
 const TOO_MANY: [&[u8]; 65] = [CLAIMS; 65];
 
-/// What is tried of a plan. One function holds the plan for all, since each that does costs the proof long.
+/// The tests of a plan. One function owns the plan for all of them, since each function that owns a
+/// plan needs a long proof.
 #[derive(Clone, Copy)]
 enum Tried {
     Terms,
@@ -75,7 +76,6 @@ fn check_plan(rt: &impl Abort, alloc: Global, plan: &Plan, tried: Tried) {
     }
 }
 
-// The fault of these texts, if they have one.
 fn fault_of(
     alloc: Global,
     plan: &Plan,
@@ -95,7 +95,7 @@ fn terms<'a>(
 ) -> Terms<'a> {
     match Terms::new(alloc, plan, files, balances, cutoff) {
         Ok(terms) => return terms,
-        Err(fault) => expects(rt, fault == TermsFault::OutOfMemory, "want of memory"),
+        Err(fault) => expects(rt, fault == TermsFault::OutOfMemory, "out of memory"),
     }
     let Ok(terms) = Terms::new(alloc, plan, files, balances, cutoff) else {
         fail(rt, "terms")
@@ -108,7 +108,7 @@ fn text(rt: &impl Abort, alloc: Global, text: &str) -> Text {
     Text::new(alloc, text).expect(rt, "a text in its place")
 }
 
-// A claim of a member, of a family or none, by its day of service.
+// Returns a claim with this date of service, of a member of a family or of none.
 fn claim(rt: &impl Abort, alloc: Global, day: i32, of: Option<&str>, member: &str) -> Claim {
     let family = match of {
         Some(family) => Some(text(rt, alloc, family)),
@@ -124,7 +124,7 @@ fn claim(rt: &impl Abort, alloc: Global, day: i32, of: Option<&str>, member: &st
     }
 }
 
-// Compares what a member begins with.
+// Compares the opening accumulators of a member.
 fn opens(rt: &impl Abort, alloc: Global, terms: &Terms, wanted: (&str, i64, i64, i64)) {
     let (member, met, oop, paid) = wanted;
     let claim = claim(rt, alloc, 19_727, None, member);
@@ -165,7 +165,7 @@ fn check_plain(rt: &impl Abort, alloc: Global, terms: Terms) {
     opens(rt, alloc, &terms, ("M1", 0, 0, 0));
 }
 
-// The gate runs it once for each of its allocations, with that one refused.
+// `./check` runs this test once for each of its allocations, with that allocation refused.
 #[test]
 fn terms_of_texts_though_memory_is_refused(rt: HostRuntime) {
     check(&rt, rt.alloc(), PLAN, Tried::Terms);
@@ -177,7 +177,7 @@ fn as_many_files_as_a_run_may_have(rt: HostRuntime) {
 }
 
 fn check_numbers_of_files(rt: &impl Abort, alloc: Global, plan: &Plan, files: &[&[u8]]) {
-    expects(rt, files.len() == 65, "so many files");
+    expects(rt, files.len() == 65, "65 files");
     let refused = Some(TermsFault::Files);
     let many = fault_of(alloc, plan, files, None) == refused;
     expects(rt, many, "too many files");
@@ -186,12 +186,16 @@ fn check_numbers_of_files(rt: &impl Abort, alloc: Global, plan: &Plan, files: &[
     let [_, most @ ..] = files else {
         fail(rt, "files")
     };
-    expects(rt, most.len() == FILES_LIMIT, "as many as there may be");
+    expects(
+        rt,
+        most.len() == FILES_LIMIT,
+        "the greatest number of files",
+    );
     let made = fault_of(alloc, plan, most, None).is_none();
     expects(rt, made, "terms");
 }
 
-/// The second record of balances names a member again.
+/// The second record of balances repeats a member.
 const REPEATED: TermsFault = TermsFault::Balances(BalanceFault::Row {
     number: 2,
     fault: RowFault {
@@ -200,7 +204,7 @@ const REPEATED: TermsFault = TermsFault::Balances(BalanceFault::Row {
     },
 });
 
-/// Files and balances that make no terms, and the first of their faults.
+/// Files and balances that are refused, with the first of their faults.
 const REFUSED: [(&[&[u8]], &[u8], TermsFault); 4] = [
     (&[], TWICE, TermsFault::Files),
     (
@@ -251,7 +255,7 @@ fn a_file_that_is_too_large(rt: HostRuntime) {
     check(&rt, rt.alloc(), PLAN, Tried::LargeFile);
 }
 
-// The text with as many empty lines that it has one byte more than a file may have.
+// Appends empty lines to the text until it is one byte larger than a file may be.
 fn too_large(rt: &impl Abort, alloc: Global, text: &[u8]) -> Vec<u8> {
     let size = FILE_LIMIT_BYTES.saturating_add(1);
     let mut large = Vec::with_capacity(alloc, size).expect(rt, "memory for a file");
@@ -277,7 +281,7 @@ const FAULTS: [(TermsFault, u8, &str); 5] = [
     (
         REPEATED,
         4,
-        "balances: record 2: column 1: a member stands twice",
+        "balances: record 2: column 1: a member occurs twice",
     ),
     (TermsFault::OutOfMemory, 5, "out of memory"),
 ];
@@ -291,7 +295,7 @@ fn faults_have_numbers_and_texts(rt: HostRuntime) {
     }
 }
 
-// Whether a claim comes next, and not the end of the file.
+// Returns whether the next row is a claim; the file must not have another row.
 fn has_claim(rt: &impl Abort, rows: &mut Rows) -> bool {
     match rows.next().expect(rt, "memory for a row") {
         Some(Row::Good { .. }) => true,
@@ -300,7 +304,7 @@ fn has_claim(rt: &impl Abort, rows: &mut Rows) -> bool {
     }
 }
 
-// A provider's file has so many claims, and nothing else.
+// Requires that a provider's file has `count` claims and no other row.
 fn check_rows(rt: &impl Abort, alloc: Global, terms: &Terms, provider: usize, count: usize) {
     let files = terms.files();
     assert!(rt; 1 <= provider && provider <= files.len());

@@ -1,5 +1,5 @@
-//! Tests by worked examples of `faults`, `settlement` and `lanes`. They stand apart from these, since the tests of a crate are proved together
-//! with all of its code.
+//! Tests of `faults`, `settlement` and `lanes` by worked examples. They are a crate of their own,
+//! since the tests of a crate are proved together with all of its code.
 #![tactic(auto)]
 
 #[cfg(test)]

@@ -1,7 +1,8 @@
-//! Settlements by worked examples. Amounts are in cents. What is refused memory is asked for once more.
+//! Tests of settlements by worked examples. Amounts are in cents. A call that runs out of memory is
+//! repeated.
 //!
-//! Who holds a plan, a claim or an outcome ends with `drop` of it: that is one call to the prover, and the end of a scope is each of its
-//! parts.
+//! Plans, claims and outcomes are dropped explicitly: for the prover, `drop` is one call, but the
+//! end of a scope is one step for each part of the value.
 ghost use Rattle.std.specs.Prelude.{◌≡◌};
 
 mod examples;
@@ -27,13 +28,13 @@ use std::fmt::Write;
 use std::process::Abort;
 use test_fixtures::health_plan;
 
-/// So many cents.
+/// Returns the amount of this count of cents.
 pub fn money(rt: &impl Abort, cents: i64) -> Money {
     let amount = Fixed::from_units(cents.saturating_mul(100)).expect(rt, "a number");
     Money::new(amount).expect(rt, "money")
 }
 
-/// The accumulators of a member who is all of its family.
+/// Returns the accumulators of a member who is the only one of its family.
 pub fn acc(rt: &impl Abort, cents: (i64, i64, i64)) -> Acc {
     let (met, oop, paid) = cents;
     families::acc(rt, (met, oop, paid, met, oop))
@@ -43,7 +44,7 @@ fn cents(money: Money) -> i64 {
     money.amount().units() / 100
 }
 
-/// A text of at most 256 bytes.
+/// Copies a text of at most 256 bytes.
 pub fn text(rt: &impl Abort, alloc: Global, text: &str) -> Text {
     assert!(rt; text.len() <= TEXT_LIMIT_BYTES);
     match Text::new(alloc, text) {
@@ -62,12 +63,11 @@ fn value(rt: &impl Abort, alloc: Global, kind: Kind, text: &str) -> Value {
     }
 }
 
-// The call that is made twice; what it promises isn't needed.
+// This call may be repeated. A function without a contract keeps the proofs of its callers small.
 fn plain(alloc: Global, kind: Kind, text: &str) -> Result<Value, PlainFault> {
     read_plain(alloc, kind, text)
 }
 
-// Room for so many values.
 fn room(rt: &impl Abort, alloc: Global, count: usize) -> Sequence<Value> {
     match Sequence::with_capacity(alloc, count) {
         Ok(room) => room,
@@ -84,7 +84,7 @@ fn values(rt: &impl Abort, alloc: Global, plan: &Plan, texts: &[&str]) -> Sequen
     values
 }
 
-// The family of a claim, where the plan keeps families.
+// Returns the family of a claim, if the plan keeps accumulators for families.
 fn family_under(rt: &impl Abort, alloc: Global, plan: &Plan) -> Option<Text> {
     if plan.keeps_families() {
         Some(text(rt, alloc, "F1"))
@@ -104,7 +104,6 @@ fn claim(rt: &impl Abort, alloc: Global, plan: &Plan, billed: i64, texts: &[&str
     }
 }
 
-// The outcome of a claim by the plan.
 fn decided(rt: &impl Abort, alloc: Global, plan: &Plan, claim: &Claim, before: &Acc) -> Outcome {
     match decided_once(rt, alloc, plan, claim, before) {
         Ok(outcome) => outcome,
@@ -112,7 +111,7 @@ fn decided(rt: &impl Abort, alloc: Global, plan: &Plan, claim: &Claim, before: &
     }
 }
 
-// The call that is made twice.
+// This call may be repeated.
 fn decided_once(
     rt: &impl Abort,
     alloc: Global,
@@ -125,7 +124,7 @@ fn decided_once(
     decide(alloc, plan, claim, *before)
 }
 
-// The outcome of one claim more.
+// Returns the outcome of one more claim by the same adjudicator.
 fn decided_next<V: Valuer>(
     rt: &impl Abort,
     alloc: Global,
@@ -145,14 +144,14 @@ fn decided_next<V: Valuer>(
     outcome
 }
 
-// An outcome in a line: its verdict, amounts and remarks, and the accumulators that it leaves, those of the family behind the member's
-// where they are asked for.
+// Writes an outcome as one line: its verdict, amounts and remarks, and the accumulators after it.
+// If `family` is true, the family's sums follow those of the member.
 fn told(rt: &impl Abort, alloc: Global, outcome: &Outcome, before: &Acc, family: bool) -> String {
     let mut told = String::new(alloc);
     if tell(&mut told, outcome, before, family).is_err() {
         told.clear();
         let again = tell(&mut told, outcome, before, family);
-        expects(rt, again.is_ok(), "memory for what is told");
+        expects(rt, again.is_ok(), "memory for the line");
     }
     told
 }
@@ -217,7 +216,6 @@ fn is_told(rt: &impl Abort, alloc: Global, outcome: Outcome, example: &Example) 
     drop(outcome);
 }
 
-// Decides a claim by the plan.
 fn settles(rt: &impl Abort, alloc: Global, plan: &Plan, example: &Example) {
     let (fields, billed, before, _) = example;
     let claim = claim(rt, alloc, plan, *billed, fields);
@@ -236,12 +234,12 @@ fn plan(rt: &impl Abort, alloc: Global, text: &str) -> Plan {
     }
 }
 
-// The call that is made twice; what it promises isn't needed.
+// This call may be repeated. A function without a contract keeps the proofs of its callers small.
 fn read(alloc: Global, text: &str) -> Result<Plan, PlanFault> {
     read_plan(alloc, text.as_bytes())
 }
 
-// Decides the claims by the plan, each by a call of its own.
+// Decides each claim by a separate call of `decide`.
 fn decides(rt: &impl Abort, alloc: Global, text: &str, examples: &[Example]) {
     let plan = plan(rt, alloc, text);
     for example in examples {
@@ -282,7 +280,7 @@ fn tables_give_cover_fee_and_remarks(rt: HostRuntime) {
     decides(&rt, rt.alloc(), health_plan(), treated());
 }
 
-// The gate runs it once for each of its allocations, with that one refused.
+// `./check` runs this test once for each of its allocations, with that allocation refused.
 #[test]
 fn tables_in_a_chain_though_memory_is_refused(rt: HostRuntime) {
     decides(&rt, rt.alloc(), chained(), &[capped(), uncapped()]);
@@ -297,7 +295,6 @@ fn desk<'v>(rt: &impl Abort, alloc: Global, plan: &'v Plan) -> Adjudicator<'v, P
     }
 }
 
-// Decides one claim more.
 fn settles_next<V: Valuer>(
     rt: &impl Abort,
     alloc: Global,
@@ -317,7 +314,6 @@ fn settles_next<V: Valuer>(
     is_told(rt, alloc, outcome, example);
 }
 
-// Decides two claims by one adjudicator.
 fn settles_both(rt: &impl Abort, alloc: Global, plan: &Plan, examples: &[Example]) {
     let [first, second] = examples else {
         fail(rt, "two claims")
@@ -349,7 +345,8 @@ fn what_each_claim_and_each_member_has(rt: HostRuntime) {
     decides_both(&rt, rt.alloc(), named(), naming());
 }
 
-// A decision that is refused memory, and is not asked for again, leaves no trace in the next, of another claim.
+// A decision that runs out of memory and is not repeated must not affect the decision of the next
+// claim.
 fn settles_after_a_refusal(rt: &impl Abort, alloc: Global, plan: &Plan) {
     let mut desk = desk(rt, alloc, plan);
     if let Ok(outcome) = decided_next(rt, alloc, &mut desk, plan, &before_capped()) {
@@ -379,7 +376,8 @@ fn some_paid(rt: &impl Abort) -> Outcome {
     }
 }
 
-/// Accumulators, and what 1.00 met, 2.00 out of pocket and 3.00 paid more leave of them.
+/// Accumulators, and the text of them after 1.00 more met, 2.00 more out of pocket and 3.00 more
+/// paid.
 fn added() -> &'static [((i64, i64, i64), &'static str)] {
     &[
         ((MOST, 0, 0), ", out of range"),
@@ -417,7 +415,7 @@ fn an_outcome_may_cross_threads(rt: HostRuntime) {
     drop(outcome);
 }
 
-// The claim has the fields of its plan, and not those of another, which has more.
+// The claim fits its own plan and not another one, which has more fields.
 fn fits_one(rt: &impl Abort, alloc: Global, plan: &Plan) {
     let claim = claim(rt, alloc, plan, 100, &["A"]);
     expects(rt, claim.is_of(plan), "a claim of its plan");
@@ -444,7 +442,7 @@ fn claims_have_the_fields_of_their_plan(rt: HostRuntime) {
     drop(health);
 }
 
-// The year whose accumulators a claim of 5 January 2024 is settled at.
+// Returns the benefit year of a claim whose service is on 5 January 2024.
 fn year_under(rt: &impl Abort, alloc: Global, text: &str) -> u16 {
     let plan = plan(rt, alloc, text);
     let claim = claim(rt, alloc, &plan, 100, &[]);
@@ -462,7 +460,6 @@ fn accumulators_are_kept_by_the_year_under_version_2(rt: HostRuntime) {
     expects(&rt, year == 2024, "the year of service");
 }
 
-// A copy of a claim.
 fn copy(rt: &impl Abort, alloc: Global, claim: &Claim) -> Claim {
     match claim.duplicate(alloc) {
         Ok(copy) => copy,
@@ -470,7 +467,7 @@ fn copy(rt: &impl Abort, alloc: Global, claim: &Claim) -> Claim {
     }
 }
 
-// Copies a claim, and looks at the copy.
+// Copies a claim and compares the copy.
 fn copies(rt: &impl Abort, alloc: Global, text: &str) {
     let plan = plan(rt, alloc, text);
     let claim = claim(rt, alloc, &plan, 100, &["A"]);

@@ -1,5 +1,6 @@
-//! Lanes by worked examples. Amounts are in cents. What is refused memory is asked for once more: the gate runs each test once for each of
-//! its allocations, with that one refused.
+//! Tests of the queues of claims by worked examples. Amounts are in cents. `./check` runs each test
+//! once for each of its allocations, with that allocation refused, so calls that run out of memory
+//! are repeated.
 ghost use Rattle.std.specs.Prelude.{ℕ, IfSome};
 ghost use Rattle.lanes.specs.Calls.{IsInWork};
 
@@ -12,7 +13,7 @@ use settlement::{Acc, Claim, Money};
 use std::alloc::{AllocFailed, Global};
 use std::process::Abort;
 
-// A claim of a member of a family, or who is a family of its own.
+// Returns a claim of a member. The member is its own family unless `of` names one.
 fn claim(rt: &impl Abort, alloc: Global, id: &str, of: Option<&str>, member: &str) -> StoredClaim {
     let family = match of {
         Some(family) => Some(text(rt, alloc, family)),
@@ -32,17 +33,18 @@ fn claim(rt: &impl Abort, alloc: Global, id: &str, of: Option<&str>, member: &st
     }
 }
 
-// Adds a claim of a member, who is a family of its own, in no year.
+// Adds a claim of a member who is its own family, in year 0.
 fn add(rt: &impl Abort, alloc: Global, lanes: &mut Lanes, id: &str, member: &str) {
     add_of(rt, alloc, lanes, id, (None, member, 0));
 }
 
-// Adds a claim of a member, who is a family of its own, in a year.
+// Adds a claim of a member who is its own family, in the given year.
 fn add_in(rt: &impl Abort, alloc: Global, lanes: &mut Lanes, id: &str, account: (&str, u16)) {
     add_of(rt, alloc, lanes, id, (None, account.0, account.1));
 }
 
-// Adds a claim of a family's member in a year. A claim that is refused comes back, and is not among the others.
+// Adds a claim of a family's member in the given year. If memory runs out, the claim must be
+// returned and not added, and the call is repeated.
 fn add_of(
     rt: &impl Abort,
     alloc: Global,
@@ -60,7 +62,7 @@ fn add_of(
     expects(rt, before < lanes.len(), "one claim more");
 }
 
-// The call that is made twice; what it promises isn't needed.
+// This call may be repeated. A function without a contract keeps the proofs of its callers small.
 fn add_once(
     lanes: &mut Lanes,
     claim: StoredClaim,
@@ -76,7 +78,7 @@ fn add_again(rt: &impl Abort, lanes: &mut Lanes, refused: StoredClaim, year: u16
     };
 }
 
-// Takes a claim: it is in work then, and so are those that were.
+// Takes a claim. Earlier taken claims stay taken.
 fn take(lanes: &mut Lanes) -> Option<Picked>
     ensures work { IfSome result (λ picked. IsInWork lanes.new picked.position) }
     ensures others { (position : ℕ) → IsInWork lanes.old position → IsInWork lanes.new position }
@@ -84,28 +86,29 @@ fn take(lanes: &mut Lanes) -> Option<Picked>
     lanes.take()
 }
 
-// It is this claim, at this position, and so much was met before, of its own and of its family's, where its account began with 1.00
-// met. It takes the claim, since each function in which one ends costs the proof seconds.
+// Requires that this is the claim with the identifier at the position, and that `met` has the
+// amounts met before it by the member and by the family. The account's opening balance has 1.00
+// met. The claim is passed by value, since each function that drops a claim costs seconds of proof.
 fn check_claim(rt: &impl Abort, picked: Picked, position: usize, id: &str, met: (i64, i64)) {
     expects(rt, is_claim(&picked, position, id), id);
     let before = picked.start(acc(rt, (100, 0, 0)));
     let begun = picked.has_begun();
     drop(picked);
-    expects(rt, before.met == money(rt, met.0), "what is met");
-    expects(rt, before.fmet == money(rt, met.1), "what its family met");
-    expects(rt, begun == (met.0 != 100), "a beginning");
+    expects(rt, before.met == money(rt, met.0), "the amount met");
+    expects(rt, before.fmet == money(rt, met.1), "the family's sum met");
+    expects(rt, begun == (met.0 != 100), "an earlier claim");
 }
 
 fn is_claim(picked: &Picked, position: usize, id: &str) -> bool {
     picked.position == position && picked.claim.as_claim().id.as_str() == id
 }
 
-// Whether no claim is ready.
 fn is_none_ready(lanes: &mut Lanes) -> bool {
     lanes.take().is_none()
 }
 
-// Takes the claim that is ready, this one, and decides it, which leaves so much met.
+// Takes the ready claim, which must have this identifier, and decides it. Afterwards, `left` is the
+// amount met.
 fn decide_next(rt: &impl Abort, lanes: &mut Lanes, position: usize, id: &str, met: i64, left: i64) {
     let picked = take(lanes).expect(rt, "a claim");
     let place = picked.position;
@@ -114,25 +117,26 @@ fn decide_next(rt: &impl Abort, lanes: &mut Lanes, position: usize, id: &str, me
         Ok(()) => {}
         Err(_) => lanes
             .decide(place, acc(rt, (left, 0, 0)))
-            .expect(rt, "memory for what is left"),
+            .expect(rt, "memory for a decision"),
     }
     expects(rt, lanes.is_decided(position), id);
 }
 
-// Takes a claim that is ready, this one.
+// Takes a ready claim, which must have this identifier.
 fn take_next(rt: &impl Abort, lanes: &mut Lanes, position: usize, id: &str, met: (i64, i64)) {
     let picked = take(lanes).expect(rt, "a claim");
     check_claim(rt, picked, position, id, met);
 }
 
-// Takes the claims that are ready, of which the second is this one, at this position.
+// Takes the two ready claims, of which the second must have this position and identifier.
 fn take_two(rt: &impl Abort, lanes: &mut Lanes, position: usize, id: &str) {
     take_next(rt, lanes, 0, "a", (100, 100));
     take_next(rt, lanes, position, id, (100, 100));
     expects(rt, is_none_ready(lanes), "no claim that is ready");
 }
 
-// Two members: the first has three claims, which are decided one after another, the second has one between them.
+// The first member has three claims, of which only the first is ready. The second member has one
+// claim between them, which is ready.
 fn take_turns(rt: &impl Abort, alloc: Global) {
     let mut lanes = Lanes::new(alloc);
     add(rt, alloc, &mut lanes, "a", "M1");
@@ -145,7 +149,8 @@ fn take_turns(rt: &impl Abort, alloc: Global) {
     expects(rt, !decided, "no decision");
 }
 
-// A member's next claim begins with what the last one left, also where it comes behind it.
+// A member's next claim begins with the accumulators after the last one, even if it is added after
+// that decision.
 fn go_on(rt: &impl Abort, alloc: Global) {
     let mut lanes = Lanes::new(alloc);
     add(rt, alloc, &mut lanes, "a", "M1");
@@ -159,7 +164,7 @@ fn go_on(rt: &impl Abort, alloc: Global) {
     decide_next(rt, &mut lanes, 3, "d", 900, 950);
 }
 
-// Foresees a claim of a member who has one, and one of another.
+// Prefetches a claim of a member who has a claim already, and one of a new member.
 fn foresee(rt: &impl Abort, alloc: Global, lanes: &mut Lanes) {
     lanes.foresee(&[
         claim(rt, alloc, "x", None, "M1"),
@@ -167,7 +172,7 @@ fn foresee(rt: &impl Abort, alloc: Global, lanes: &mut Lanes) {
     ]);
 }
 
-// What was foreseen changes nothing, and claims come as they are, also where those of others were foreseen.
+// A prefetch changes nothing, even if other claims are added than those that were prefetched.
 fn foresee_others(rt: &impl Abort, alloc: Global) {
     let mut lanes = Lanes::new(alloc);
     add(rt, alloc, &mut lanes, "a", "M1");
@@ -180,7 +185,8 @@ fn foresee_others(rt: &impl Abort, alloc: Global) {
     decide_next(rt, &mut lanes, 2, "c", 300, 400);
 }
 
-// A member's claims of two years take turns, and each year begins with what it began with.
+// A member's claims of two years are decided in order, and each year begins with its own opening
+// balance.
 fn begin_anew(rt: &impl Abort, alloc: Global) {
     let mut lanes = Lanes::new(alloc);
     add_in(rt, alloc, &mut lanes, "a", ("M1", 2024));
@@ -191,7 +197,8 @@ fn begin_anew(rt: &impl Abort, alloc: Global) {
     decide_next(rt, &mut lanes, 2, "c", 700, 900);
 }
 
-// The claims of a family's members take turns, and those of another family don't wait for them, whatever its member is called.
+// The claims of a family's members are decided in order. Those of another family do not wait for
+// them, even if its member has the same identifier.
 fn share_a_lane(rt: &impl Abort, alloc: Global) {
     let mut lanes = Lanes::new(alloc);
     add_of(rt, alloc, &mut lanes, "a", (Some("F1"), "M1", 2024));
@@ -200,7 +207,8 @@ fn share_a_lane(rt: &impl Abort, alloc: Global) {
     take_two(rt, &mut lanes, 2, "c");
 }
 
-// A member begins with what it began with, and with what its family's other members left of the family's sums.
+// A member begins with its own opening balance, and with the family's sums after the claims of the
+// other members.
 fn go_on_as_a_family(rt: &impl Abort, alloc: Global) {
     let mut lanes = Lanes::new(alloc);
     add_of(rt, alloc, &mut lanes, "a", (Some("F1"), "M1", 2024));

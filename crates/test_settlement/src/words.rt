@@ -1,4 +1,4 @@
-//! Reasons and their words by worked examples.
+//! Tests of reasons and their words by worked examples.
 use crate::ending::expects;
 use faults::{Fault, Reason, Role};
 
@@ -23,7 +23,6 @@ fn a_fault_of_the_tables_is_the_reason(rt: HostRuntime) {
     expects(&rt, none == None, "no reason");
 }
 
-// Whether it is the reason that the fault is.
 fn is_for(fault: Fault, wanted: Reason) -> bool {
     Reason::of(fault) == Some(wanted)
 }
@@ -41,7 +40,7 @@ fn a_reason_has_a_word_and_a_place(rt: HostRuntime) {
     expects(&rt, stands(term, "term", 4, None), "a term");
 }
 
-// Whether it is told by this word, at this place and column.
+// Returns whether the reason has this word, place and column.
 fn stands(reason: Reason, word: &str, place: usize, column: Option<usize>) -> bool {
     reason.word() == word && reason.place() == place && reason.column() == column
 }

@@ -1,4 +1,4 @@
-//! Terms of a plan that keeps accumulators for families.
+//! Tests of the inputs of a run under a plan that keeps accumulators for families.
 use super::{Tried, check, claim, fault_of, terms};
 use crate::ending::{expects, expects_at};
 use claim_gate::{Terms, TermsFault};
@@ -8,7 +8,7 @@ use settlement::Acc;
 use std::alloc::Global;
 use std::process::Abort;
 
-/// A plan that pays what is billed, up to 5.00.
+/// A plan that pays the billed amount, up to 5.00.
 const PLAN: &[u8] = br#"
 version = 3
 fields = [{name = "code", kind = "text"}]
@@ -25,39 +25,42 @@ family_oop_max = "1000"
 
 const CLAIMS: &[u8] = b"claim,family,member,service,billed,code\n";
 
-/// Two members of one family, and one of another, whose number is that of a member of the first.
+/// Balances of two members of one family, and of one of another family with the identifier of a
+/// member of the first.
 const BALANCES: &[u8] = b"family,member,year,met,oop,paid
 F1,M1,2024,50.00,10.00,5.00
 F1,M2,2024,20.00,30.00,1.00
 F2,M1,2024,1.00,2.00,3.00
 ";
 
-/// What is met by the family leaves the number range with the second member.
+/// Balances in which the second member takes the family's sum of `met` out of range.
 const BEYOND_MET: &[u8] = b"family,member,year,met,oop,paid
 F1,M1,2024,99999999999.99,0.00,0.00
 F1,M2,2024,0.01,0.00,0.00
 ";
 
-/// So does what it has paid out of pocket.
+/// Balances in which the second member takes the family's sum of `oop` out of range.
 const BEYOND_OUT_OF_POCKET: &[u8] = b"family,member,year,met,oop,paid
 F1,M1,2024,0.00,99999999999.99,0.00
 F1,M2,2024,0.00,0.01,0.00
 ";
 
-/// A member of a family stands twice in one year, and would take the family's sum out of range, too.
+/// Balances that repeat a member in one year, whose second record would also take the family's sum
+/// out of range.
 const TWICE: &[u8] = b"family,member,year,met,oop,paid
 F1,M1,2024,99999999999.99,0.00,0.00
 F1,M1,2024,0.01,0.00,0.00
 ";
 
-/// The fifth of January 2024.
+/// 5 January 2024, as a day number.
 const IN_2024: i32 = 19_727;
 
-/// The first day of 2025.
+/// 1 January 2025, as a day number.
 const IN_2025: i32 = 20_089;
 
-/// What a member of a family begins with by a day of service: the day, the family and the member; and of its own and of the family's
-/// what is met, and what is paid out of pocket.
+/// The opening accumulators of a family's member by the date of service: the date, the family and
+/// the member, then the amounts met of the member and of the family, and their out-of-pocket
+/// amounts.
 const OPENINGS: [(i32, &str, &str, [i64; 4]); 6] = [
     (IN_2024, "F1", "M1", [500_000, 700_000, 100_000, 400_000]),
     (IN_2024, "F1", "M2", [200_000, 700_000, 300_000, 400_000]),
@@ -94,7 +97,7 @@ fn openings_of_families(rt: HostRuntime) {
     check(&rt, rt.alloc(), PLAN, Tried::Openings);
 }
 
-/// Balances that make no terms, with the column and the cause that the second record is told with.
+/// Balances that are refused, with the column and the cause of the second record's fault.
 const REFUSED: [(&[u8], usize, RowCause); 3] = [
     (BEYOND_MET, 4, RowCause::Sum),
     (BEYOND_OUT_OF_POCKET, 5, RowCause::Sum),

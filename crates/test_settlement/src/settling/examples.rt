@@ -1,17 +1,18 @@
-//! Claims, and what is told of their outcomes, worked out by hand. Amounts are in cents.
+//! Claims with their outcomes, computed by hand. Amounts are in cents.
 
-/// The most cents that an amount has.
+/// The greatest amount, in cents.
 pub const MOST: i64 = 9_999_999_999_999;
 
-/// A claim's fields, what is billed, and its member's accumulators; and what is told: the verdict, what is allowed, the
-/// deductible's part, the copay's, the coinsurance, the share, what the plan pays, the remarks, and the accumulators that are left.
+/// A claim's fields, its billed amount and its member's accumulators, and the text of its outcome:
+/// the verdict, the allowed amount, deductible, copay, coinsurance, the member's share, the amount
+/// that the plan pays, the remarks, and the accumulators after the claim.
 pub type Example = (&'static [&'static str], i64, (i64, i64, i64), &'static str);
 
-/// Under amounts that are written in the plan.
+/// Claims under a plan whose roles are literals.
 pub fn written() -> &'static [Example] {
     &[
         (&[], 2, (9_999, 0, 0), "Paid 2 1 0 0 1 1, 10000 1 1"),
-        // What the plan has paid would leave the range.
+        // The amount that the plan has paid would be out of range.
         (
             &[],
             500,
@@ -21,7 +22,7 @@ pub fn written() -> &'static [Example] {
     ]
 }
 
-/// Under a rate that the claim gives.
+/// Claims under a plan whose rate is a field of the claim.
 pub fn rates() -> &'static [Example] {
     &[(
         &["1.5"],
@@ -31,10 +32,11 @@ pub fn rates() -> &'static [Example] {
     )]
 }
 
-/// Under roles that the claim gives: whether it is covered, the fee, the deductible, the copay, the rate, and the limit.
+/// Claims under a plan whose roles are fields of the claim: cover, fee, deductible, copay, rate and
+/// out-of-pocket maximum.
 pub fn paid() -> &'static [Example] {
     &[
-        // Half a cent goes to the even cent.
+        // Half a cent is rounded to the even cent.
         (
             &["true", "20", "0", "0", "0.5", "100"],
             1_005,
@@ -47,7 +49,7 @@ pub fn paid() -> &'static [Example] {
             (0, 0, 0),
             "Paid 1015 0 0 508 508 507, 0 508 507",
         ),
-        // The fee is below the deductible that is left, and none is left.
+        // The fee is less than the remaining deductible, and then no deductible remains.
         (
             &["true", "30", "50", "10", "0.2", "100"],
             8_000,
@@ -60,14 +62,15 @@ pub fn paid() -> &'static [Example] {
             (7_000, 1_000, 0),
             "Paid 3000 0 1000 400 1400 1600, 7000 2400 1600",
         ),
-        // The copay is above what is left.
+        // The copay is greater than the remaining allowed amount.
         (
             &["true", "100", "50", "60", "0.2", "1000"],
             9_000,
             (0, 0, 0),
             "Paid 9000 5000 4000 0 9000 0, 5000 9000 0",
         ),
-        // The limit is reached within the claim, was reached before it, and was passed.
+        // The out-of-pocket maximum is reached by the claim, was reached before it, and was
+        // exceeded before it.
         (
             &["true", "100", "50", "10", "0.2", "60"],
             10_000,
@@ -86,7 +89,7 @@ pub fn paid() -> &'static [Example] {
             (0, 7_500, 0),
             "Paid 10000 5000 1000 800 0 10000, 5000 7500 10000",
         ),
-        // The rate is none, and whole.
+        // The rate is 0, and then 1.
         (
             &["true", "100", "50", "10", "0", "1000"],
             10_000,
@@ -99,7 +102,7 @@ pub fn paid() -> &'static [Example] {
             (0, 0, 0),
             "Paid 10000 5000 1000 4000 10000 0, 5000 10000 0",
         ),
-        // Nothing is billed, and the most.
+        // The billed amount is zero, and then the greatest amount.
         (
             &["true", "99999999999.99", "0", "0", "1", "99999999999.99"],
             0,
@@ -115,7 +118,8 @@ pub fn paid() -> &'static [Example] {
     ]
 }
 
-/// The first role that isn't what it must be is told, and none of a claim that isn't covered.
+/// Claims with invalid roles: the first invalid role is the reason, and a claim that is not covered
+/// is denied without one.
 pub fn unpaid() -> &'static [Example] {
     &[
         (
@@ -157,7 +161,7 @@ pub fn unpaid() -> &'static [Example] {
     ]
 }
 
-/// Under two tables that the score of a claim can be wrong for.
+/// Claims under two tables that have a fault for some scores.
 pub fn scored() -> &'static [Example] {
     &[
         (&["0"], 1_000, (0, 0, 0), "Paid 2 0 0 0 0 2, 0 0 2"),
@@ -182,7 +186,7 @@ pub fn scored() -> &'static [Example] {
     ]
 }
 
-/// Under the tables of a health plan: claims of two codes.
+/// The first claim under the health plan.
 pub fn first() -> Example {
     (
         &["A"],
@@ -192,6 +196,7 @@ pub fn first() -> Example {
     )
 }
 
+/// The second claim under the health plan, after the first one.
 pub fn second() -> Example {
     (
         &["B"],
@@ -201,7 +206,7 @@ pub fn second() -> Example {
     )
 }
 
-/// Others under the same.
+/// Other claims under the health plan.
 pub fn treated() -> &'static [Example] {
     &[
         (
@@ -216,7 +221,7 @@ pub fn treated() -> &'static [Example] {
             (0, 0, 0),
             "Paid 3000 3000 0 0 3000 0, 3000 3000 0",
         ),
-        // A denied claim has remarks, a pended one has none.
+        // A denied claim has remarks, and a pended claim has none.
         (
             &["X"],
             12_000,
@@ -232,7 +237,7 @@ pub fn treated() -> &'static [Example] {
     ]
 }
 
-/// Under the same: a claim behind one that waits.
+/// A pended claim under the health plan, and a claim after it.
 pub fn behind_a_pended() -> &'static [Example] {
     &[
         (
@@ -250,7 +255,7 @@ pub fn behind_a_pended() -> &'static [Example] {
     ]
 }
 
-/// Under a table and roles that read what each claim and each member has.
+/// Claims under a plan whose table and roles read the built-in names of claims and accumulators.
 pub fn naming() -> &'static [Example] {
     &[
         (
@@ -268,7 +273,7 @@ pub fn naming() -> &'static [Example] {
     ]
 }
 
-/// Under tables in a chain: a claim that is capped for a member who has met the deductible.
+/// A capped claim under the chained tables, of a member who has met the deductible.
 pub fn capped() -> Example {
     (
         &["B"],
@@ -278,6 +283,7 @@ pub fn capped() -> Example {
     )
 }
 
+/// A claim under the chained tables that is not capped.
 pub fn uncapped() -> Example {
     (
         &["A"],
@@ -287,6 +293,7 @@ pub fn uncapped() -> Example {
     )
 }
 
+/// Another claim under the chained tables, to be decided before the capped one.
 pub fn before_capped() -> Example {
     (
         &["A"],

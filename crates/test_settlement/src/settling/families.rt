@@ -1,4 +1,4 @@
-//! Settlements under plans that keep families. Amounts are in cents.
+//! Tests of settlements under plans that keep accumulators for families. Amounts are in cents.
 
 use super::examples::MOST;
 use super::plans::{families_named, families_open};
@@ -10,14 +10,16 @@ use std::alloc::Global;
 use std::process::Abort;
 use test_fixtures::{family_plan, health_plan};
 
-/// The accumulators: what the member met, paid and had paid, and what its family met and paid.
+/// Accumulators: the amounts met, out of pocket and paid of the member, and met and out of pocket
+/// of its family.
 type Sums = (i64, i64, i64, i64, i64);
 
-/// A claim's fields, what is billed, and its accumulators; and what is told, as of a claim without a family, the family's sums
-/// behind.
+/// A claim's fields, its billed amount and its accumulators, and the text of its outcome, which
+/// ends with the family's sums.
 type Example = (&'static [&'static str], i64, Sums, &'static str);
 
-/// Under the family plan: three members of one family, one after another, and one of another family.
+/// Claims under the family plan, of three members of one family in order, and of one member of
+/// another family.
 fn treated() -> &'static [Example] {
     &[
         (
@@ -47,7 +49,8 @@ fn treated() -> &'static [Example] {
     ]
 }
 
-/// Under roles that the claim gives, the last of which are the member's limit, the family's deductible and the family's limit.
+/// Claims under a plan whose roles are fields of the claim. The last fields are the member's
+/// out-of-pocket maximum, the family's deductible and the family's out-of-pocket maximum.
 fn opened() -> &'static [Example] {
     &[
         (
@@ -68,14 +71,14 @@ fn opened() -> &'static [Example] {
             (0, 0, 0, 0, 0),
             "Pended(Term(FamilyOopMax)) 0 0 0 0 0 0, 0 0 0 0 0",
         ),
-        // The family has passed both of its limits.
+        // The family has exceeded both of its limits.
         (
             &["20", "10", "10"],
             1_000,
             (0, 0, 0, 1_500, 1_100),
             "Paid 1000 0 0 0 0 1000, 0 0 1000 1500 1100",
         ),
-        // The family's limits are the most that there is, and are reached.
+        // The family's limits are the greatest amount, and are reached.
         (
             &["20", "99999999999.99", "99999999999.99"],
             1_000,
@@ -85,7 +88,8 @@ fn opened() -> &'static [Example] {
     ]
 }
 
-/// Under a table and roles that read what each claim, each member and each family has.
+/// Claims under a plan whose table and roles read the built-in names of claims, accumulators and
+/// families.
 fn naming() -> &'static [Example] {
     &[
         (
@@ -114,7 +118,6 @@ pub fn acc(rt: &impl Abort, sums: Sums) -> Acc {
     }
 }
 
-// Decides a claim by the plan.
 fn settles(rt: &impl Abort, alloc: Global, plan: &Plan, example: &Example) {
     let (fields, billed, before, wanted) = example;
     let claim = claim(rt, alloc, plan, *billed, fields);
@@ -150,7 +153,7 @@ fn the_familys_roles_are_tried_last(rt: HostRuntime) {
     decides(&rt, rt.alloc(), families_open(), opened());
 }
 
-// The gate runs it once for each of its allocations, with that one refused.
+// `./check` runs this test once for each of its allocations, with that allocation refused.
 #[test]
 fn what_each_family_has_though_memory_is_refused(rt: HostRuntime) {
     decides(&rt, rt.alloc(), families_named(), naming());
@@ -161,7 +164,7 @@ fn a_copy_of_a_claim_of_a_family_though_memory_is_refused(rt: HostRuntime) {
     copies(&rt, rt.alloc(), family_plan());
 }
 
-// The claim of the first plan is none of the other, which has the same field.
+// A claim of the first plan does not fit the other plan, although both have the same field.
 fn fits_one_of(rt: &impl Abort, alloc: Global, plan: &Plan, other: &Plan, family: &str) {
     let claim = claim(rt, alloc, plan, 100, &["A"]);
     expects(rt, claim.family().as_str() == family, family);
@@ -185,7 +188,8 @@ fn claims_have_a_family_where_the_plan_keeps_families(rt: HostRuntime) {
     drop(alone);
 }
 
-// An outcome adds 1.00 to what the family met, and 2.00 to what it paid.
+// The outcome adds 1.00 to the amount that the family has met, and 2.00 to its out-of-pocket
+// amount.
 #[test]
 fn the_familys_sums_leave_the_range_one_by_one(rt: HostRuntime) {
     let outcome = some_paid(&rt);

@@ -1,6 +1,6 @@
 //! The plans of the tests.
 
-/// No fields and no tables: the amounts of the roles are written in the plan.
+/// Returns a plan without fields and tables, whose roles are literals.
 pub fn flat() -> &'static str {
     r#"
 version = 1
@@ -14,7 +14,7 @@ oop_max = "1000"
 "#
 }
 
-/// The same, but accumulators are kept by the year.
+/// Returns a plan whose roles are literals, with accumulators by benefit year.
 pub fn flat_by_year() -> &'static str {
     r#"
 version = 2
@@ -28,7 +28,7 @@ oop_max = "1000"
 "#
 }
 
-/// The same, but the rate is a field of the claim.
+/// Returns a plan whose roles are literals, except for the rate, which is a field of the claim.
 pub fn rate_of_claim() -> &'static str {
     r#"
 version = 1
@@ -43,7 +43,7 @@ oop_max = "1000"
 "#
 }
 
-/// Each role names a field of the claim.
+/// Returns a plan in which each role is a field of the claim.
 pub fn open() -> &'static str {
     r#"
 version = 1
@@ -65,7 +65,7 @@ oop_max = "limit"
 "#
 }
 
-/// Two tables that a score can be wrong for.
+/// Returns a plan with two tables that have a fault for some scores.
 pub fn faulty() -> &'static str {
     r#"
 version = 1
@@ -92,7 +92,8 @@ rules = [{when = ['<=5'], then = ['"low"']}, {when = ['>=5'], then = ['"high"']}
 "#
 }
 
-/// The first table gives a tier, which the second reads; the third lists remarks on what the second gives.
+/// Returns a plan with three chained tables: the second reads the tier from the first, and the
+/// third lists remarks for the output of the second.
 pub fn chained() -> &'static str {
     r#"
 version = 1
@@ -128,7 +129,7 @@ rules = [
 "#
 }
 
-/// A table reads what each claim and each member has, and so do roles.
+/// Returns a plan whose table and roles read the built-in names of claims and accumulators.
 pub fn named() -> &'static str {
     r#"
 version = 1
@@ -156,7 +157,8 @@ rules = [{when = ['"c1"', '"M1"', 'date("2024-01-05")', '12', '1', '2', '3'], th
 "#
 }
 
-/// For families: the member's limit and the family's limits are fields of the claim.
+/// Returns a plan for families, in which the member's out-of-pocket maximum and the family's limits
+/// are fields of the claim.
 pub fn families_open() -> &'static str {
     r#"
 version = 3
@@ -177,7 +179,8 @@ family_oop_max = "most"
 "#
 }
 
-/// For families: a table reads what each claim, each member and each family has, and so do roles.
+/// Returns a plan for families whose table and roles read the built-in names of claims,
+/// accumulators and families.
 pub fn families_named() -> &'static str {
     r#"
 version = 3

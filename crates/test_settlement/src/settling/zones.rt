@@ -1,4 +1,4 @@
-//! Zones that have no number.
+//! Tests of an evaluator without input classes.
 
 use super::examples::{Example, written};
 use super::plans::flat;
@@ -11,10 +11,10 @@ use std::alloc::Global;
 use std::cell::Cell;
 use std::process::Abort;
 
-/// So many claims are decided.
+/// The number of claims that are decided.
 const CLAIMS: u32 = 1_200;
 
-/// An evaluator that knows no zone, and counts how often it is asked for one.
+/// An evaluator that knows no input class, and counts the lookups of one.
 #[derive(Drop)]
 struct Unzoned<'p> {
     plan: &'p Plan,
@@ -40,7 +40,7 @@ impl<'p> Valuer for Unzoned<'p> {
     }
 }
 
-// Decides the claim again and again, by one adjudicator.
+// Decides the claim repeatedly by one adjudicator.
 fn settles_often(rt: &impl Abort, alloc: Global, unzoned: &Unzoned, example: &Example) {
     let Ok(mut desk) = Adjudicator::new(alloc, unzoned) else {
         fail(rt, "memory for an adjudicator")
@@ -65,7 +65,7 @@ fn an_adjudicator_gives_up_zones_that_have_no_number(rt: HostRuntime) {
     expects(
         &rt,
         unzoned.asked.get() == 1_024,
-        "so many zones sought in vain",
+        "1024 lookups of input classes",
     );
     drop(unzoned);
     drop(plan);

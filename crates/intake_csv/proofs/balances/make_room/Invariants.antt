@@ -2,7 +2,7 @@ use Rattle.std.proofs.Common.{◌≡◌, ◌+◌, length}
 use Rattle.intake_csv.specs.Balances.{AreOnce, Holder, books_of, found_in}
 use Rattle.intake_csv.proofs.balances.make_room.Given as goal
 
--- so many empty maps stand behind the others
+-- one empty map is appended for each step of the loop
 abbrev pub invariant-loop : goal.invariant-loop
 invariant-loop l = record {
   count : length l.years.items ≡ length l.initial.years.items + l.counter;

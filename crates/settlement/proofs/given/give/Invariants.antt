@@ -4,7 +4,7 @@ use Rattle.settlement.specs.Given.{slot_kinds}
 use Rattle.settlement.specs.Reads.{HasItsValue}
 use Rattle.settlement.proofs.given.give.Given as goal
 
--- the kinds are as they were, and each place in front has its value
+-- the kinds have not changed, and each earlier place has its value
 abbrev pub invariant-loop-place : goal.invariant-loop-place
 invariant-loop-place l = record {
   kinds : slot_kinds l.inputs ≡ slot_kinds l.fn.inputs;

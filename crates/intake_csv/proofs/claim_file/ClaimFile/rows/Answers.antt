@@ -5,7 +5,7 @@ use Rattle.intake_csv.proofs.AllRecords.{no-records}
 use Rattle.intake_csv.proofs.OneFile.{file-one}
 use Rattle.intake_csv.proofs.claim_file.ClaimFile.rows.Goals as goal
 
--- the file has a header, so that there is a record
+-- the file has a header, so it has a record
 pub unreachable-requires : goal.unreachable-requires
 unreachable-requires c =
     let text = c.self.inside.text.now in

@@ -33,7 +33,7 @@ add-requires-clause-within c = λ last is.
     end-within c.key_of.new.names c.prepare.new.self c.in-Ok.key.0 last
     (prepared-kept c.self.inside.names c.key_of.new.names c.self.inside.chains c.prepare.new.self c.self.invariant c.in-Ok.ensures.grows c.in-Ok.ensures.distinct c.prepare.ensures.same) is
 
--- the chains are kept once there is room, and what their places are then
+-- the invariant of the queues after memory is reserved
 kept : (c : goal.After-add) → AreKept c.key_of.new.names c.prepare.new.self
 kept c =
     prepared-kept c.self.inside.names c.key_of.new.names c.self.inside.chains c.prepare.new.self c.self.invariant c.in-Ok.ensures.grows c.in-Ok.ensures.distinct c.prepare.ensures.same

@@ -7,7 +7,7 @@ pub decide-requires-clause-next : goal.decide-requires-clause-next
 decide-requires-clause-next c =
     work-next c.self.inside.names c.self.inside.chains c.args.position c.self.invariant (rw (← c.self.view_is) at c.requires)
 
--- what is found is as it was
+-- the indices of last positions do not change
 found : (c : goal.After-decide) → StaysFound c.self.inside.chains c.decide.new.self
 found c = record { ends = c.decide.ensures.ends; lasts = c.decide.ensures.lasts }
 

@@ -5,13 +5,13 @@ use Rattle.lanes.proofs.names.Names.add.Goals as goal
 pub returns-in_err-_before-clause-distinct : goal.returns-in_err-_before-clause-distinct
 returns-in_err-_before-clause-distinct c = rw c.in_ok-reserve.ensures.items (distinct-names c.self.inside.names.items c.self.inside.numbers c.self.invariant)
 
--- what was added
+-- the map with the new name
 one : (c : goal.After-note) → Enters c.self.inside.names.items c.self.inside.numbers c.insert.new.self c.args.name.now
 one c =
     enters c.self.inside.names.items c.self.inside.numbers c.insert.new.self c.in_ok-key.key c.args.name.now c.in_ok-number.number c.self.invariant
     (c.in_ok-key.ensures ∙ c.as_str.ensures.value) (rw (← c.self.view_is) at c.requires) (c.in_ok-number.ensures.value ∙ ap length c.as_slice.ensures.value) c.in_ok-_before.ensures.updates
 
--- the names, with the new one behind them
+-- the list with the new name
 behind : (c : goal.After-note) → c.push_reserved.new.self.items ≡ c.self.inside.names.items ++ c.args.name.now ∷ []
 behind c =
     c.push_reserved.ensures.items ∙ ap (λ xs. xs ++ c.in_ok-entry.entry ∷ []) c.in_ok-reserve.ensures.items
