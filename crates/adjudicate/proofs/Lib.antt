@@ -4,4 +4,4 @@ pub mod Remittances
 pub mod Spelled
 pub mod Statuses
 pub mod TableLines
-pub mod ToldLines
+pub mod ReportLines

@@ -8,14 +8,14 @@ use Rattle.std.proofs.lemmas.List.{take_all}
 use Rattle.std.specs.Io.KnownBytes.{Appends}
 use Rattle.std.proofs.KnownBytes.{Appends-trans}
 use Rattle.fixpoint.specs.Out.{PutsFront}
-use Rattle.fixpoint.specs.declared.whole_text.Cut.{Cut}
-use Rattle.adjudicate.specs.declared.check.pieces.Pieces.{Pieces}
-use Rattle.adjudicate.specs.declared.check.pieces.Progress.{Progress}
-use Rattle.adjudicate.specs.Pieces.{At, Ends, EndsText, Gone, GoneBy, Holds, IsCutAt, IsEmpty, IsGone, Passes, Puts, at, at_progress, greatest_count, starting}
-use Rattle.adjudicate.specs.declared.check.told.ColumnText.{ColumnText}
-use Rattle.adjudicate.specs.declared.check.told.ToldTable.{ToldTable}
+use Rattle.fixpoint.specs.declared.whole_write.ShortWrite.{ShortWrite}
+use Rattle.adjudicate.specs.declared.check.buffered_out.BufferedOut.{BufferedOut}
+use Rattle.adjudicate.specs.declared.check.buffered_out.Progress.{Progress}
+use Rattle.adjudicate.specs.BufferedOut.{At, Ends, EndsText, Gone, GoneBy, Holds, IsCutAt, IsEmpty, IsGone, Passes, Puts, at, at_progress, greatest_count, starting}
+use Rattle.adjudicate.specs.declared.check.report.ColumnText.{ColumnText}
+use Rattle.adjudicate.specs.declared.check.report.TableReport.{TableReport}
 use Rattle.adjudicate.specs.CheckText.{wide_line}
-use Rattle.adjudicate.specs.Told.{cell_text, told_lines, told_table_lines, told_wide_lines}
+use Rattle.adjudicate.specs.CheckReport.{cell_text, reported_lines, reported_table_lines, reported_wide_lines}
 use Rattle.adjudicate.proofs.TableLines.{flat_more}
 
 -- nothing is appended
@@ -49,11 +49,11 @@ pub puts-numbered : (a b c : At) (words first second : List ℕ) (number : ℕ) 
 puts-numbered a b c words first second number first_is second_is one other = subst (Puts a c) (ap₂ (λ s t. s ++ t) first_is second_is) (puts-then a b c first second one other)
 
 -- the line of a table that is wide, and none of another
-pub puts-wide : (a c : At) (table : ℕ) (wide : Bool) → wide ≡ true → Puts a c (wide_line table) → Puts a c (told_wide_lines table wide)
-puts-wide a c table wide is line = subst (λ w. Puts a c (told_wide_lines table w)) (sym is) line
+pub puts-wide : (a c : At) (table : ℕ) (wide : Bool) → wide ≡ true → Puts a c (wide_line table) → Puts a c (reported_wide_lines table wide)
+puts-wide a c table wide is line = subst (λ w. Puts a c (reported_wide_lines table w)) (sym is) line
 
-pub puts-not-wide : (a : At) (table : ℕ) (wide : Bool) → wide ≡ false → Puts a a (told_wide_lines table wide)
-puts-not-wide a table wide is = subst (λ w. Puts a a (told_wide_lines table w)) (sym is) (puts-none a)
+pub puts-not-wide : (a : At) (table : ℕ) (wide : Bool) → wide ≡ false → Puts a a (reported_wide_lines table wide)
+puts-not-wide a table wide is = subst (λ w. Puts a a (reported_wide_lines table w)) (sym is) (puts-none a)
 
 -- the text goes on where the writer takes it
 pub whole-passes : (a b : Option (List ℕ)) (failed later : Bool) (old new : Progress) (more : List ℕ) → old.is_cut ≡ false → new.is_cut ≡ false → Appends a b more → new.written ≡ min (old.written + length more) greatest_count → later ≡ failed
@@ -104,7 +104,7 @@ cut-passes a failed old more now start text gone =
     subst (λ cut. GoneBy cut start (text ++ more) (at_progress a failed old)) (sym now) after
 
 -- a text is gathered
-pub gathers : (contents : Option (List ℕ)) (failed : Bool) (old new : Pieces) (more : List ℕ) → new.gathered.items ≡ old.gathered.items ++ more → new.progress ≡ old.progress → Puts (at contents failed old) (at contents failed new) more
+pub gathers : (contents : Option (List ℕ)) (failed : Bool) (old new : BufferedOut) (more : List ℕ) → new.gathered.items ≡ old.gathered.items ++ more → new.progress ≡ old.progress → Puts (at contents failed old) (at contents failed new) more
 gathers contents failed old new more grown same start text h = record {
   front = h.front;
   text_is = ap (λ t. t ++ more) h.text_is ∙ append_assoc h.front old.gathered.items more ∙ ap (λ t. h.front ++ t) (sym grown);
@@ -112,7 +112,7 @@ gathers contents failed old new more grown same start text h = record {
 }
 
 -- what is gathered is handed over
-pub hands-over : (a b : Option (List ℕ)) (failed later : Bool) (old new : Pieces) (gathered : List ℕ) → gathered ≡ old.gathered.items → Passes (at_progress a failed old.progress) (at_progress b later new.progress) gathered → new.gathered.items ≡ []
+pub hands-over : (a b : Option (List ℕ)) (failed later : Bool) (old new : BufferedOut) (gathered : List ℕ) → gathered ≡ old.gathered.items → Passes (at_progress a failed old.progress) (at_progress b later new.progress) gathered → new.gathered.items ≡ []
     → Puts (at a failed old) (at b later new) []
 hands-over a b failed later old new gathered is passes none start text h = record {
   front = text;
@@ -124,7 +124,7 @@ all-gone : (text front items : List ℕ) → text ++ [] ≡ front ++ items → i
 all-gone text front items is none = sym (append-nil text) ∙ is ∙ ap (λ t. front ++ t) none ∙ append-nil front
 
 -- a text that can't be gathered is handed over behind what is
-pub hands-more : (a b c : Option (List ℕ)) (failed later last : Bool) (old kept mid new : Pieces) (more : List ℕ) → kept.gathered.items ≡ old.gathered.items → kept.progress ≡ old.progress
+pub hands-more : (a b c : Option (List ℕ)) (failed later last : Bool) (old kept mid new : BufferedOut) (more : List ℕ) → kept.gathered.items ≡ old.gathered.items → kept.progress ≡ old.progress
     → Puts (at a failed kept) (at b later mid) [] → mid.gathered.items ≡ []
     → Passes (at_progress b later mid.progress) (at_progress c last new.progress) more → new.gathered.items ≡ mid.gathered.items → Puts (at a failed old) (at c last new) more
 hands-more a b c failed later last old kept mid new more items progress puts none passes same start text h =
@@ -142,7 +142,7 @@ hands-more a b c failed later last old kept mid new more items progress puts non
     }
 
 -- at its end the text has gone whole
-pub end-whole : (a b : Option (List ℕ)) (failed later : Bool) (old new : Pieces) (count : ℕ) → Puts (at a failed old) (at b later new) [] → new.gathered.items ≡ [] → new.progress.is_cut ≡ false → new.progress.written ≡ count
+pub end-whole : (a b : Option (List ℕ)) (failed later : Bool) (old new : BufferedOut) (count : ℕ) → Puts (at a failed old) (at b later new) [] → new.gathered.items ≡ [] → new.progress.is_cut ≡ false → new.progress.written ≡ count
     → Ends (at a failed old) b later (Ok count)
 end-whole a b failed later old new count puts none whole is start text h =
     let held = puts start text h in
@@ -154,7 +154,7 @@ end-whole a b failed later old new count puts none whole is start text h =
     )
 
 -- or in part
-pub end-cut : (a b : Option (List ℕ)) (failed later : Bool) (old new : Pieces) (cut : Cut) → Puts (at a failed old) (at b later new) [] → new.gathered.items ≡ [] → new.progress.is_cut ≡ true → new.progress.written ≡ cut.written
+pub end-cut : (a b : Option (List ℕ)) (failed later : Bool) (old new : BufferedOut) (cut : ShortWrite) → Puts (at a failed old) (at b later new) [] → new.gathered.items ≡ [] → new.progress.is_cut ≡ true → new.progress.written ≡ cut.written
     → Ends (at a failed old) b later (Err cut)
 end-cut a b failed later old new cut puts none now is start text h =
     let held = puts start text h in
@@ -163,7 +163,7 @@ end-cut a b failed later old new cut puts none now is start text h =
     subst (λ t. IsCutAt start t b later cut.written) (sym front) (subst (λ n. IsCutAt start held.front b later n) is gone)
 
 -- nothing is put at first
-pub starts : (contents : Option (List ℕ)) (failed : Bool) (pieces : Pieces) → IsEmpty pieces → Holds (starting contents failed) [] (at contents failed pieces)
+pub starts : (contents : Option (List ℕ)) (failed : Bool) (pieces : BufferedOut) → IsEmpty pieces → Holds (starting contents failed) [] (at contents failed pieces)
 starts contents failed pieces empty =
     let gone : IsGone (starting contents failed) [] (at_progress contents failed pieces.progress) = record { appended = appends-none contents; counted = empty.written; same = refl } in
     record {
@@ -173,33 +173,33 @@ starts contents failed pieces empty =
     }
 
 -- the end of a text that was put from the start
-pub ends-text : (contents after : Option (List ℕ)) (failed later : Bool) (pieces : Pieces) (last : At) (text : List ℕ) (result : Result ℕ Cut) → IsEmpty pieces → Puts (at contents failed pieces) last text
+pub ends-text : (contents after : Option (List ℕ)) (failed later : Bool) (pieces : BufferedOut) (last : At) (text : List ℕ) (result : Result ℕ ShortWrite) → IsEmpty pieces → Puts (at contents failed pieces) last text
     → Ends last after later result → EndsText (starting contents failed) text after later result
 ends-text contents after failed later pieces last text result empty puts ends =
     ends (starting contents failed) text (puts (starting contents failed) [] (starts contents failed pieces empty))
 
 -- a text that has gone whole has fewer bytes than a count can tell, where the count is less
-pub count_tells : (text : List ℕ) (count : ℕ) → count ≡ min (length text) greatest_count → count < greatest_count → length text < greatest_count
-count_tells text count is less = omega (arith, is, less)
+pub count_reports : (text : List ℕ) (count : ℕ) → count ≡ min (length text) greatest_count → count < greatest_count → length text < greatest_count
+count_reports text count is less = omega (arith, is, less)
 
 -- the regions of one column, and of those behind it
-pub puts-cell : (a b c : At) (column : ColumnText) (more columns : List ColumnText) (place behind : ℕ) (text : List ℕ) → columns ≡ column ∷ more → behind ≡ max column.behind 1 → text ≡ get_or column.regions (place / behind) []
-    → Puts a b text → Puts b c (cell_text more (place % behind)) → Puts a c (cell_text columns place)
-puts-cell a b c column more columns place behind text columns_are behind_is text_is first second =
-    let joined : text ++ cell_text more (place % behind) ≡ cell_text columns place =
-    ap (λ t. t ++ cell_text more (place % behind)) text_is ∙ ap (λ n. get_or column.regions (place / n) [] ++ cell_text more (place % n)) behind_is ∙ ap (λ cs. cell_text cs place) (sym columns_are) in
-    subst (Puts a c) joined (puts-then a b c text (cell_text more (place % behind)) first second)
+pub puts-cell : (a b c : At) (column : ColumnText) (more columns : List ColumnText) (place following : ℕ) (text : List ℕ) → columns ≡ column ∷ more → following ≡ max column.following 1 → text ≡ get_or column.regions (place / following) []
+    → Puts a b text → Puts b c (cell_text more (place % following)) → Puts a c (cell_text columns place)
+puts-cell a b c column more columns place following text columns_are after_is text_is first second =
+    let joined : text ++ cell_text more (place % following) ≡ cell_text columns place =
+    ap (λ t. t ++ cell_text more (place % following)) text_is ∙ ap (λ n. get_or column.regions (place / n) [] ++ cell_text more (place % n)) after_is ∙ ap (λ cs. cell_text cs place) (sym columns_are) in
+    subst (Puts a c) joined (puts-then a b c text (cell_text more (place % following)) first second)
 
 pub puts-no-cell : (a : At) (columns : List ColumnText) (place : ℕ) → length columns ≡ 0 → Puts a a (cell_text columns place)
 puts-no-cell a [] place none = puts-none a
 puts-no-cell a (c ∷ cs) place none = absurd (omega (arith, none))
 
 -- the lines of one table, and of those behind it
-pub puts-tables : (a b c : At) (number : ℕ) (table : ToldTable) (more tables : List ToldTable) → tables ≡ table ∷ more → Puts a b (told_table_lines number table) → Puts b c (told_lines (number + 1) more) → Puts a c (told_lines number tables)
+pub puts-tables : (a b c : At) (number : ℕ) (table : TableReport) (more tables : List TableReport) → tables ≡ table ∷ more → Puts a b (reported_table_lines number table) → Puts b c (reported_lines (number + 1) more) → Puts a c (reported_lines number tables)
 puts-tables a b c number table more tables are first second =
-    subst (Puts a c) (ap (told_lines number) (sym are)) (puts-then a b c (told_table_lines number table) (told_lines (number + 1) more) first second)
+    subst (Puts a c) (ap (reported_lines number) (sym are)) (puts-then a b c (reported_table_lines number table) (reported_lines (number + 1) more) first second)
 
-pub puts-no-tables : (a : At) (number : ℕ) (tables : List ToldTable) → length tables ≡ 0 → Puts a a (told_lines number tables)
+pub puts-no-tables : (a : At) (number : ℕ) (tables : List TableReport) → length tables ≡ 0 → Puts a a (reported_lines number tables)
 puts-no-tables a number [] none = puts-none a
 puts-no-tables a number (t ∷ ts) none = absurd (omega (arith, none))
 

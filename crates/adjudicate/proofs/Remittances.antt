@@ -103,7 +103,7 @@ stops_by_run parts workers contents fault (stop.Run same) refused made =
     let equal : fault ≡ same = sym made.0 in
     let P : RunFault → Type 0 = λ f. f ≢ run.OutOfMemory in
     let Q : RunFault → Type 0 = λ f. (f ≡ run.Workers) ↔ (¬ IsWorkerCount workers) in
-    (record { told = subst P equal made.1; refused = subst Q equal refused }, Keeps-refl contents)
+    (record { reported = subst P equal made.1; refused = subst Q equal refused }, Keeps-refl contents)
 stops_by_run parts workers contents fault (stop.Value value.NoMemory) refused made = inl (Keeps-refl contents)
 stops_by_run parts workers contents fault _ refused made = absurd made
 

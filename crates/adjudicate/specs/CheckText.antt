@@ -39,8 +39,8 @@ abbrev pub is_wide : PlanParts → ℕ → Bool
 is_wide plan table = nat_lt cell_limit (length (cells_of plan table))
 
 -- the gaps that are told of a table: none where it is wide
-abbrev pub told_gaps : PlanParts → ℕ → List (List Region)
-told_gaps plan table = if is_wide plan table then [] else gaps_of plan table
+abbrev pub reported_gaps : PlanParts → ℕ → List (List Region)
+reported_gaps plan table = if is_wide plan table then [] else gaps_of plan table
 
 -- the line of a table that is wide
 abbrev pub wide_lines : PlanParts → ℕ → List ℕ
@@ -48,7 +48,7 @@ wide_lines plan table = if is_wide plan table then wide_line table else []
 
 -- the lines of a table: its overlaps in order, and then its gaps in order, or that it is wide
 abbrev pub check_table_lines : PlanParts → ℕ → List ℕ
-check_table_lines plan table = flat_map (overlap_line table) (overlaps_of plan table) ++ (wide_lines plan table ++ flat_map (gap_line table) (told_gaps plan table))
+check_table_lines plan table = flat_map (overlap_line table) (overlaps_of plan table) ++ (wide_lines plan table ++ flat_map (gap_line table) (reported_gaps plan table))
 
 -- the numbers of the first tables, as many as `count` says
 abbrev pub table_numbers : ℕ → List ℕ
@@ -56,7 +56,7 @@ table_numbers count = range_with_len 1 count
 
 -- how many gaps are told of these tables
 abbrev pub gap_count : PlanParts → List ℕ → ℕ
-gap_count plan tables = sum_by (λ table. length (told_gaps plan table)) tables
+gap_count plan tables = sum_by (λ table. length (reported_gaps plan table)) tables
 
 -- how many overlaps they have
 abbrev pub overlap_count : PlanParts → List ℕ → ℕ

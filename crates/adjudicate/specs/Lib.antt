@@ -1,8 +1,8 @@
-pub mod Told
+pub mod CheckReport
 pub mod CheckText
-pub mod HarmfulText
-pub mod Telling
+pub mod ErrorsText
+pub mod Findings
 pub mod Stop
 pub mod RunText
-pub mod Pieces
+pub mod BufferedOut
 pub mod RunStop

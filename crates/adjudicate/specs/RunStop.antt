@@ -21,7 +21,7 @@ use Rattle.adjudicate.specs.RunText.{AreTermsUnder, RunTexts, WritesFrontOver, W
 -- a run with so many workers is refused by this fault: by that of the workers exactly where there can't be so many of them. Want of
 -- memory is told by another refusal
 pub record RefusesWorkers (workers : ℕ) (fault : RunFault) : Type 0 where
-  pub told : fault ≢ run.OutOfMemory
+  pub reported : fault ≢ run.OutOfMemory
   pub refused : (fault ≡ run.Workers) ↔ (¬ IsWorkerCount workers)
 
 -- the texts make terms under this plan, and their run is refused by this fault

@@ -9,8 +9,8 @@
 //! values from `feel_tests`, numbers and the counting writer from `fixpoint`. A run goes from the texts to their terms
 //! (`claim_gate`), to a finished journal (`crew`) and to its report (`remit`).
 //!
-//! Begin with `value.rt`, `check.rt` and `run.rt`, whose `do_value`, `do_check`, `do_harmful_check` and `do_run` carry the
-//! promises of the commands, and with `specs/CheckText.antt`, `specs/HarmfulText.antt`, `specs/RunText.antt`, and
+//! Begin with `value.rt`, `check.rt` and `run.rt`, whose `do_value`, `do_check`, `do_errors_check` and `do_run` carry the
+//! promises of the commands, and with `specs/CheckText.antt`, `specs/ErrorsText.antt`, `specs/RunText.antt`, and
 //! `specs/ValueText.antt` of `evaluation`, which say what they print.
 #![tactic(auto)]
 
@@ -20,8 +20,8 @@ mod run;
 mod stop;
 mod value;
 
-pub use check::told::Telling;
-pub use check::{do_check, do_harmful_check, do_telling_check};
+pub use check::report::Findings;
+pub use check::{do_check, do_errors_check, do_findings_check};
 pub use counting::Counting;
 pub use crew::WORKERS_LIMIT;
 pub use dtable::{Name, PLAN_LIMIT_BYTES};

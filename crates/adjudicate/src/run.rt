@@ -11,7 +11,7 @@ ghost use Rattle.adjudicate.specs.Stop.{failed_after};
 
 use crate::counting::Counting;
 use crate::stop::Stop;
-use claim_gate::{Terms, terms_are_seen};
+use claim_gate::{Terms, claim_lists_exist};
 use dtable::{Plan, read_plan};
 use fixpoint::Out;
 use remit::write_report_by_threads;
@@ -134,7 +134,7 @@ fn write_remittance<R: Threads + Wait + Sync + AllocGlobal, W: Write>(
     ensures failed { IfErr result (λ stop. has_failed out.new ≡ failed_after (has_failed out.old) stop) }
 {
     // Known from here: the texts have lists of claims, so that what holds for each list says something.
-    terms_are_seen(terms);
+    claim_lists_exist(terms);
     let batch = crew::run(rt, rt.alloc(), terms, workers)?;
     write_report_by_threads(rt, rt.alloc(), terms, &batch, out)?;
     counting.count(rt.alloc(), terms, &batch);

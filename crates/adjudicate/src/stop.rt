@@ -8,7 +8,7 @@ mod line;
 use claim_gate::TermsFault;
 use crew::RunFault;
 use dtable::PlanFault;
-use evaluation::{LINE_LIMIT_BYTES, Line, Refusal, ValueStop};
+use evaluation::{ErrorLine, LINE_LIMIT_BYTES, Refusal, ValueStop};
 use line::{put_run_fault, put_terms_fault};
 use remit::{WriteCause, WriteFault};
 use std::alloc::AllocError;
@@ -45,7 +45,7 @@ impl Stop {
         ensures fits { result ≤ LINE_LIMIT_BYTES }
         ensures written { take result buffer.new ≡ stop_line self.now }
     {
-        let mut line = Line::new();
+        let mut line = ErrorLine::new();
         match self {
             Stop::Value(stop) => return stop.write_line(buffer),
             Stop::Terms(fault) => put_terms_fault(&mut line, fault),

@@ -12,10 +12,10 @@ use Rattle.settlement.specs.declared.acc.Acc.{Acc}
 use Rattle.settlement.specs.declared.claim.Claim.{Claim}
 use Rattle.settlement.specs.declared.outcome.Outcome.{Outcome}
 use Rattle.lanes.specs.Places.{Place, is_decided, all_decided, phase_at, started, InTurn}
-use Rattle.lanes.specs.declared.picked.Picked.{Picked}
+use Rattle.lanes.specs.declared.ready_claim.ReadyClaim.{ReadyClaim}
 use Rattle.lanes.specs.declared.phase.Phase.{Phase}
 use Rattle.lanes.specs.declared.phase.Phase.TheVariants.{Waiting, Ready, InWork, Decided}
-use Rattle.lanes.specs.Calls.{phase_behind, place_behind, with_phase, with_decision, IsPicked, NothingReady}
+use Rattle.lanes.specs.Calls.{next_phase, next_place, with_phase, with_decision, IsPicked, NothingReady}
 use Rattle.settlement.specs.Accounts.{account_of, account_year, family_of}
 use Rattle.settlement.specs.Opening.{opening}
 use Rattle.intake_csv.specs.Balances.{accounts_of}
@@ -24,15 +24,15 @@ use Rattle.journal.specs.Settled.{outcome_of, accumulated}
 use Rattle.std.proofs.Common.{append-nil}
 use Rattle.std.proofs.lemmas.List.Concat.{flat_map-append}
 use Rattle.journal.specs.Order.{IsInOrder, StaysInOrder, in_file_order}
-use Rattle.journal.specs.Events.{accept_in, accepts, accepted, ended, places, closed, is_close, taken, decided, claim_filed, claims, claim_at, noted, before, reached, due, IsJob}
+use Rattle.journal.specs.Events.{accept_in, accepts, accepted_count, has_end, places, closed, is_close, has_take, has_decision, claim_filed, claims, claim_at, noted, before, reached, due, IsJob}
 use Rattle.journal.specs.Lawful.{Lawful, closing}
 use Rattle.journal.specs.Gate.{GateAt, OfferReply, EndReply, TakeReply, FinishReply, Offers, Ends, Takes, Finishes, is_any_decision}
-use Rattle.journal.specs.Laws.{StartsLawful, OfferGoes, EndGoes, TakeGoes, FinishGoes}
+use Rattle.journal.specs.Laws.{EmptyJournalIsLawful, OfferGoes, EndGoes, TakeGoes, FinishGoes}
 use Rattle.journal.specs.declared.event.Event.{Event}
 use Rattle.journal.specs.declared.event.Event.TheVariants.{Accept, End, Close, Take, Decide}
 use Rattle.claim_gate.specs.declared.intakes.Intake.{Intake}
 use Rattle.claim_gate.specs.Intakes.{no_intake, none_yet, intake_of, with_accept, with_end}
-use Rattle.claim_gate.specs.Kept.{is_begun, AreMarked, ArePlacesOf, IsIntakeOf, AreIntakesOf, IsKept, is_due}
+use Rattle.claim_gate.specs.GateIndex.{is_begun, AreMarked, ArePlacesOf, IsIntakeOf, AreIntakesOf, IsKept, is_due}
 use Rattle.claim_gate.specs.Replies.{HasClaims, IsOver, first_journal}
 use Rattle.claim_gate.proofs.Claims.{places_stay_claims, places_accept, places_take, own_leaves}
 use Rattle.claim_gate.proofs.Decisions.{places_decision}
@@ -92,8 +92,8 @@ order_where T true J ordered = order_same T J Close refl ordered
 order_where T false J ordered = ordered
 
 -- where nothing more of a provider is accepted by a gate that accepts, it has ended
-ended_of : (stopped : Bool) (J : List Event) (q : ℕ) → stopped ≡ false → closed J ≡ false → ((stopped || closed J) || ended J q) ≡ true → ended J q ≡ true
-ended_of stopped J q runs open_yet past = sym (ap (λ b. (b || closed J) || ended J q) runs ∙ ap (λ b. b || ended J q) open_yet) ∙ past
+ended_of : (stopped : Bool) (J : List Event) (q : ℕ) → stopped ≡ false → closed J ≡ false → ((stopped || closed J) || has_end J q) ≡ true → has_end J q ≡ true
+ended_of stopped J q runs open_yet past = sym (ap (λ b. (b || closed J) || has_end J q) runs ∙ ap (λ b. b || has_end J q) open_yet) ∙ past
 
 -- a gate that nothing was offered yet
 none_ended : (n : ℕ) → 1 ≤ n → list_all (λ x. x.ended) (replicate n none_yet) ≡ false
@@ -116,7 +116,7 @@ tied_start terms =
       places_are = λ T is k place there. absurd (none-some place there);
     }
 
-module _ (terms : TermsParts) (starts : StartsLawful) (b : Bool) (files : 1 ≤ length terms.files)
+module _ (terms : TermsParts) (starts : EmptyJournalIsLawful) (b : Bool) (files : 1 ≤ length terms.files)
     (when : b ≡ is_due terms 0 (replicate (length terms.files) none_yet)) where
   due_first : b ≡ reached terms.cutoff 0
   due_first =
@@ -150,40 +150,40 @@ module _ (terms : TermsParts) (J : List Event) (stopped : Bool) (lanes : List Pl
       (runs : stopped ≡ false) (open_yet : closed J ≡ false)
       (filed : ForTerms terms (λ T. claim_filed T (record { provider = provider; place = place }) ≡ Some claim))
       (in_turn : ForTerms terms (λ T. place ≡ length (places J provider)))
-      (in_order : terms.in_order ≡ true → (q : ℕ) → 1 ≤ q → q < provider → ((stopped || closed J) || ended J q) ≡ true)
+      (in_order : terms.in_order ≡ true → (q : ℕ) → 1 ≤ q → q < provider → ((stopped || closed J) || has_end J q) ≡ true)
       (dated : year ≡ account_year terms.plan claim)
-      (when : b ≡ is_due terms (length (lanes ++ place_behind lanes claim year ∷ [])) (with_accept intakes provider)) where
+      (when : b ≡ is_due terms (length (lanes ++ next_place lanes claim year ∷ [])) (with_accept intakes provider)) where
     abbrev accepted_in : List Event
     accepted_in = J ++ Accept provider place ∷ []
 
-    abbrev lanes_behind : List Place
-    lanes_behind = lanes ++ place_behind lanes claim year ∷ []
+    abbrev lanes_after : List Place
+    lanes_after = lanes ++ next_place lanes claim year ∷ []
 
-    not_begun : is_begun (phase_behind lanes claim) ≡ false
+    not_begun : is_begun (next_phase lanes claim) ≡ false
     not_begun =
         cond_both (all_decided (family_of claim) lanes) (Ready claim) (Waiting claim)
         (λ phase. is_begun phase ≡ false) (λ h. refl) (λ h. refl)
 
-    undecided : is_decided (phase_behind lanes claim) ≡ false
+    undecided : is_decided (next_phase lanes claim) ≡ false
     undecided =
         cond_both (all_decided (family_of claim) lanes) (Ready claim) (Waiting claim)
         (λ phase. is_decided phase ≡ false) (λ h. refl) (λ h. refl)
 
-    tied_accept : IsTied terms accepted_in lanes_behind (with_accept intakes provider)
+    tied_accept : IsTied terms accepted_in lanes_after (with_accept intakes provider)
     tied_accept = record {
       intakes_are = intakes_accept J (length terms.files) intakes kept.intakes_are provider place;
-      marked = marked_accept J lanes provider place (place_behind lanes claim year) kept.marked not_begun undecided;
+      marked = marked_accept J lanes provider place (next_place lanes claim year) kept.marked not_begun undecided;
       places_are = λ T is.
           places_accept T J accepted_in lanes claim year
           (claims_more T J (Accept provider place) ∙ ap (λ c. claims T J ++ c ∷ []) (filed T is)) kept.marked.as_many (kept.places_are T is)
           (dated ∙ ap (λ p. account_year p claim) (sym is.plan));
     }
 
-    open_behind : closed accepted_in ≡ false
-    open_behind = any_stays is_close J (Accept provider place) refl ∙ open_yet
+    open_after : closed accepted_in ≡ false
+    open_after = any_stays is_close J (Accept provider place) refl ∙ open_yet
 
-    due_behind : (T : Terms) → IsTermsOf terms T → due T accepted_in ≡ b
-    due_behind T is =
+    due_after : (T : Terms) → IsTermsOf terms T → due T accepted_in ≡ b
+    due_after T is =
         due_is terms T accepted_in (with_accept intakes provider) is tied_accept.intakes_are
         ∙ ap (λ n. is_due terms n (with_accept intakes provider)) (sym tied_accept.marked.as_many)
         ∙ sym when
@@ -191,13 +191,13 @@ module _ (terms : TermsParts) (J : List Event) (stopped : Bool) (lanes : List Pl
     pub offer_accepted : (T : Terms) → IsTermsOf terms T
         → Offers (gate T J stopped) provider place (OfferReply.Accepted (length lanes)) (gate T (closed_where b accepted_in) stopped)
     offer_accepted T is =
-        ((runs, open_yet), in_turn T is, kept.marked.as_many, ap (λ K. gate T K stopped) (sym (closing_is T accepted_in b (due_behind T is) open_behind)))
+        ((runs, open_yet), in_turn T is, kept.marked.as_many, ap (λ K. gate T K stopped) (sym (closing_is T accepted_in b (due_after T is) open_after)))
 
-    pub kept_accept : IsKept terms (closed_where b accepted_in) lanes_behind (with_accept intakes provider) b decisions
+    pub kept_accept : IsKept terms (closed_where b accepted_in) lanes_after (with_accept intakes provider) b decisions
     kept_accept =
-        let tied = tied_where b terms accepted_in lanes_behind (with_accept intakes provider) tied_accept in
+        let tied = tied_where b terms accepted_in lanes_after (with_accept intakes provider) tied_accept in
         record {
-          closed_is = closed_is b accepted_in open_behind;
+          closed_is = closed_is b accepted_in open_after;
           decisions_are = kept.decisions_are ∙ sym (decisions_where b accepted_in ∙ decisions_stay J (Accept provider place) refl);
           intakes_are = tied.intakes_are;
           marked = tied.marked;
@@ -263,16 +263,16 @@ module _ (terms : TermsParts) (J : List Event) (stopped : Bool) (lanes : List Pl
   places_still T event same are = places_stay_claims T J (J ++ event ∷ []) lanes same kept.marked.as_many are
 
   -- a claim that is taken
-  module _ (goes : TakeGoes) (picked : Picked) (acc : Acc) (turns : InTurn (with_phase lanes picked.position InWork)) (runs : stopped ≡ false) (not_over : ¬ IsOver J)
-      (is_picked : IsPicked lanes picked) (begins : acc ≡ started (opening (accounts_of terms.balances) (account_of terms.plan picked.claim)) picked.own picked.household) where
+  module _ (goes : TakeGoes) (picked : ReadyClaim) (acc : Acc) (turns : InTurn (with_phase lanes picked.position InWork)) (runs : stopped ≡ false) (not_over : ¬ IsOver J)
+      (is_picked : IsPicked lanes picked) (begins : acc ≡ started (opening (accounts_of terms.balances) (account_of terms.plan picked.claim)) picked.own picked.family_year) where
     abbrev k : ℕ
     k = picked.position
 
-    begins_so : (T : Terms) → IsTermsOf terms T → acc ≡ started (opening T.balances (account_of T.plan picked.claim)) picked.own picked.household
+    begins_so : (T : Terms) → IsTermsOf terms T → acc ≡ started (opening T.balances (account_of T.plan picked.claim)) picked.own picked.family_year
     begins_so T is =
         begins
-        ∙ ap (λ p. started (opening (accounts_of terms.balances) (account_of p picked.claim)) picked.own picked.household) (sym is.plan)
-        ∙ ap (λ a. started a picked.own picked.household) (sym (is.openings (account_of T.plan picked.claim)))
+        ∙ ap (λ p. started (opening (accounts_of terms.balances) (account_of p picked.claim)) picked.own picked.family_year) (sym is.plan)
+        ∙ ap (λ a. started a picked.own picked.family_year) (sym (is.openings (account_of T.plan picked.claim)))
 
     pub take_work : (T : Terms) → IsTermsOf terms T → Takes (gate T J stopped) (TakeReply.Work picked.position picked.claim acc) (gate T (J ++ Take picked.position ∷ []) stopped)
     take_work T is = (
@@ -306,7 +306,7 @@ module _ (terms : TermsParts) (J : List Event) (stopped : Bool) (lanes : List Pl
 
   -- a claim that is decided
   module _ (goes : FinishGoes) (k : ℕ) (claim : Claim) (acc left : Acc) (outcome : Outcome) (runs : stopped ≡ false)
-      (once : decided J k ≡ false) (in_work : taken J k ≡ true)
+      (once : has_decision J k ≡ false) (in_work : has_take J k ≡ true)
       (job : ForTerms terms (λ T. IsJob T J k claim acc))
       (settled : outcome ≡ outcome_of terms.plan claim acc) (leaves : left ≡ accumulated true true acc outcome) where
     work_by : (phase : Option Phase) → option_map_or is_begun phase false ≡ true → option_map_or is_decided phase false ≡ false → phase ≡ Some InWork
@@ -329,10 +329,10 @@ module _ (terms : TermsParts) (J : List Event) (stopped : Bool) (lanes : List Pl
     decided_places : (T : Terms) → IsTermsOf terms T → ArePlacesOf T decided_in (with_decision lanes k left)
     decided_places T is =
         let same : claims T decided_in ≡ claims T J = claims_stay T J (Decide k outcome) refl in
-        let many : length lanes ≡ accepted decided_in = kept.marked.as_many ∙ sym (accepted_more J (Decide k outcome) ∙ add-zero (accepted J)) in
+        let many : length lanes ≡ accepted_count decided_in = kept.marked.as_many ∙ sym (accepted_more J (Decide k outcome) ∙ add-zero (accepted_count J)) in
         let p = has_place lanes k InWork is_in_work in
         let here : k < length lanes = slice_get_within lanes k p.place p.there in
-        let stands : claim_at T decided_in k ≡ Some claim = ap (λ cs. get_or cs k None) same ∙ (job T is).stands in
+        let located : claim_at T decided_in k ≡ Some claim = ap (λ cs. get_or cs k None) same ∙ (job T is).located in
         let account = account_of T.plan claim in
         let at : acc ≡ before T decided_in k account =
         (job T is).left ∙ ap (λ cs. fold (noted T.plan) (opening T.balances) (take k cs) account) (sym same) in
@@ -340,8 +340,8 @@ module _ (terms : TermsParts) (J : List Event) (stopped : Bool) (lanes : List Pl
         leaves
         ∙ ap (accumulated true true acc) (settled ∙ ap (λ p. outcome_of p claim acc) (sym is.plan))
         ∙ ap (λ a. accumulated true true a (outcome_of T.plan claim a)) at
-        ∙ sym (own_leaves T decided_in k claim stands (omega arith)) in
-        places_decision T decided_in lanes (places_still T (Decide k outcome) same (kept.places_are T is)) k claim left stands leaves_so
+        ∙ sym (own_leaves T decided_in k claim located (omega arith)) in
+        places_decision T decided_in lanes (places_still T (Decide k outcome) same (kept.places_are T is)) k claim left located leaves_so
 
     pub kept_decision : IsKept terms decided_in (with_decision lanes k left) intakes is_closed (decisions + 1)
     kept_decision = record {

@@ -11,21 +11,21 @@ use Rattle.std.proofs.lemmas.List.Sums.{fold_more}
 use Rattle.std.proofs.lemmas.Option.{none-some, same_Some, slice_get-get_or, slice_get_within}
 use Rattle.std.proofs.lemmas.Slice.Eq.{bytes_eq-Decides}
 use Rattle.dtable.specs.Plan.{PlanParts}
-use Rattle.settlement.specs.Accounts.{Account, account_of, account_year, family_of, grown, is_household, is_same, part}
+use Rattle.settlement.specs.Accounts.{Account, account_of, account_year, family_of, grown, is_family_year, is_same, part}
 use Rattle.settlement.specs.declared.acc.Acc.{Acc}
 use Rattle.settlement.specs.declared.account.Balance.{Balance}
 use Rattle.settlement.specs.declared.claim.Claim.{Claim}
 use Rattle.settlement.specs.declared.outcome.Outcome.{Outcome}
-use Rattle.lanes.specs.Places.{Place, is_of, is_decided, joined, left_in, left_by, standing, all_decided}
+use Rattle.lanes.specs.Places.{Place, is_of, is_decided, merge_acc, left_in, left_by, present, all_decided}
 use Rattle.lanes.specs.declared.phase.Phase.{Phase}
 use Rattle.lanes.specs.declared.phase.Phase.TheVariants.{Waiting, Ready, InWork, Decided}
-use Rattle.lanes.specs.Calls.{place_behind, with_phase}
+use Rattle.lanes.specs.Calls.{next_place, with_phase}
 use Rattle.settlement.specs.Opening.{opening}
 use Rattle.journal.specs.Terms.{Terms}
 use Rattle.journal.specs.Settled.{outcome_of, accumulated}
-use Rattle.journal.specs.Events.{Book, noted, accepted, claims, claim_at, before}
+use Rattle.journal.specs.Events.{Book, noted, accepted_count, claims, claim_at, before}
 use Rattle.journal.specs.declared.event.Event.{Event}
-use Rattle.claim_gate.specs.Kept.{IsPhaseOf, IsPlaceAt, ArePlacesOf}
+use Rattle.claim_gate.specs.GateIndex.{IsPhaseOf, IsPlaceAt, ArePlacesOf}
 use Rattle.claim_gate.proofs.Journals.{length-claims}
 
 -- an element of a list with one more is an earlier one, or the new one
@@ -44,21 +44,21 @@ phase_along claim left left' (Decided l) f h = h ∙ f
 
 -- a journal with more claims behind
 module _ (T : Terms) (J K : List Event) (more : List (Option Claim)) (longer : claims T K ≡ claims T J ++ more) where
-  pub before_stays : (k : ℕ) (account : Account) → k ≤ accepted J → before T K k account ≡ before T J k account
+  pub before_stays : (k : ℕ) (account : Account) → k ≤ accepted_count J → before T K k account ≡ before T J k account
   before_stays k account within =
       ap (λ cs. fold (noted T.plan) (opening T.balances) (take k cs) account) longer
       ∙ ap (λ cs. fold (noted T.plan) (opening T.balances) cs account)
       (take-append-le k (claims T J) more (subst (λ n. k ≤ n) (sym (length-claims T J)) within))
 
-  pub claim_stays : (k : ℕ) → k < accepted J → claim_at T K k ≡ claim_at T J k
+  pub claim_stays : (k : ℕ) → k < accepted_count J → claim_at T K k ≡ claim_at T J k
   claim_stays k within =
       ap (λ cs. get_or cs k None) longer
       ∙ get_or_append_left (claims T J) more None k (subst (λ n. k < n) (sym (length-claims T J)) within)
 
-  place_stays : (k : ℕ) (place : Place) → k < accepted J → IsPlaceAt T J k place → IsPlaceAt T K k place
+  place_stays : (k : ℕ) (place : Place) → k < accepted_count J → IsPlaceAt T J k place → IsPlaceAt T K k place
   place_stays k place within is = record {
     claim = is.claim;
-    stands = claim_stays k within ∙ is.stands;
+    located = claim_stays k within ∙ is.located;
     account = is.account;
     phase =
         phase_along is.claim (before T J (suc k) (account_of T.plan is.claim)) (before T K (suc k) (account_of T.plan is.claim)) place.phase
@@ -66,7 +66,7 @@ module _ (T : Terms) (J K : List Event) (more : List (Option Claim)) (longer : c
   }
 
 -- the places of a journal that accepts no more
-pub places_stay_claims : (T : Terms) (J K : List Event) (lanes : List Place) → claims T K ≡ claims T J → length lanes ≡ accepted J
+pub places_stay_claims : (T : Terms) (J K : List Event) (lanes : List Place) → claims T K ≡ claims T J → length lanes ≡ accepted_count J
     → ArePlacesOf T J lanes → ArePlacesOf T K lanes
 places_stay_claims T J K lanes same many are k place there =
     let within : k < length lanes = slice_get_within lanes k place there in
@@ -116,9 +116,9 @@ shared_noted plan book None h a b f y = h a b f y
 shared_noted plan book (Some c) h a b f y =
     let k = account_of plan c in
     let o = outcome_of plan c (book k) in
-    let same : is_household k a ≡ is_household k b = (λ i. bytes_eq k.family (f i) && (k.year == y i)) in
+    let same : is_family_year k a ≡ is_family_year k b = (λ i. bytes_eq k.family (f i) && (k.year == y i)) in
     let old = h a b f y in
-    let grows = shared_grows (is_same k a) (is_same k b) (is_household k b) (book a) (book b) o old.0 old.1 in (
+    let grows = shared_grows (is_same k a) (is_same k b) (is_family_year k b) (book a) (book b) o old.0 old.1 in (
       ap (λ s. (accumulated (is_same k a) s (book a) o).fmet) same ∙ grows.0,
       ap (λ s. (accumulated (is_same k a) s (book a) o).foop) same ∙ grows.1,
     )
@@ -140,30 +140,30 @@ same_bytes : (bytes : List ℕ) → bytes_eq bytes bytes ≡ true
 same_bytes bytes = (bytes_eq-Decides bytes bytes).1 refl
 
 module _ (T : Terms) (J : List Event) where
-  before_next : (k : ℕ) → k < accepted J → (a : Account) → before T J (suc k) a ≡ noted T.plan (before T J k) (claim_at T J k) a
+  before_next : (k : ℕ) → k < accepted_count J → (a : Account) → before T J (suc k) a ≡ noted T.plan (before T J k) (claim_at T J k) a
   before_next k here a =
       let within : k < length (claims T J) = subst (λ n. k < n) (sym (length-claims T J)) here in
       ap (λ n. before T J n a) (sym (add-one k))
       ∙ ap (λ (b : Book). b a) (fold_more (noted T.plan) (opening T.balances) (claims T J) k None within)
 
   -- what the claim at a position makes of an account
-  makes : (k : ℕ) (c : Claim) → k < accepted J → claim_at T J k ≡ Some c → (a : Account)
+  makes : (k : ℕ) (c : Claim) → k < accepted_count J → claim_at T J k ≡ Some c → (a : Account)
       → before T J (suc k) a
-      ≡ accumulated (is_same (account_of T.plan c) a) (is_household (account_of T.plan c) a) (before T J k a) (outcome_of T.plan c (before T J k (account_of T.plan c)))
-  makes k c here stands a = before_next k here a ∙ ap (λ o. noted T.plan (before T J k) o a) stands
+      ≡ accumulated (is_same (account_of T.plan c) a) (is_family_year (account_of T.plan c) a) (before T J k a) (outcome_of T.plan c (before T J k (account_of T.plan c)))
+  makes k c here located a = before_next k here a ∙ ap (λ o. noted T.plan (before T J k) o a) located
 
   -- and of its own one
-  pub own_leaves : (k : ℕ) (c : Claim) → claim_at T J k ≡ Some c → k < accepted J
+  pub own_leaves : (k : ℕ) (c : Claim) → claim_at T J k ≡ Some c → k < accepted_count J
       → before T J (suc k) (account_of T.plan c)
       ≡ accumulated true true (before T J k (account_of T.plan c)) (outcome_of T.plan c (before T J k (account_of T.plan c)))
-  own_leaves k c stands here =
+  own_leaves k c located here =
       let a = account_of T.plan c in
-      let shared : is_household a a ≡ true = and_from (bytes_eq a.family a.family) (a.year == a.year) (same_bytes a.family) (eq-eqb a.year a.year refl) in
-      let own : is_same a a ≡ true = and_from (is_household a a) (bytes_eq a.member a.member) shared (same_bytes a.member) in
-      makes k c here stands a ∙ (λ i. accumulated (own i) (shared i) (before T J k a) (outcome_of T.plan c (before T J k a)))
+      let shared : is_family_year a a ≡ true = and_from (bytes_eq a.family a.family) (a.year == a.year) (same_bytes a.family) (eq-eqb a.year a.year refl) in
+      let own : is_same a a ≡ true = and_from (is_family_year a a) (bytes_eq a.member a.member) shared (same_bytes a.member) in
+      makes k c here located a ∙ (λ i. accumulated (own i) (shared i) (before T J k a) (outcome_of T.plan c (before T J k a)))
 
-  module _ (places : List Place) (many : length places ≡ accepted J) (are : ArePlacesOf T J places) (account : Account) where
-    same_account : (c : Account) → is_household c account ≡ true → bytes_eq c.member account.member ≡ true → c ≡ account
+  module _ (places : List Place) (many : length places ≡ accepted_count J) (are : ArePlacesOf T J places) (account : Account) where
+    same_account : (c : Account) → is_family_year c account ≡ true → bytes_eq c.member account.member ≡ true → c ≡ account
     same_account c h m =
         let parts = and_parts (bytes_eq c.family account.family) (c.year == account.year) h in
         let f : c.family ≡ account.family = (bytes_eq-Decides c.family account.family).0 parts.0 in
@@ -172,37 +172,37 @@ module _ (T : Terms) (J : List Event) where
         λ i. record { family = f i; member = n i; year = y i }
 
     -- a place of another household, one of the account, and one of another member of the household
-    step_by : (h m : Bool) (k : ℕ) (place : Place) (is : IsPlaceAt T J k place) → k < accepted J
-        → is_household (account_of T.plan is.claim) account ≡ h → bytes_eq (account_of T.plan is.claim).member account.member ≡ m
+    step_by : (h m : Bool) (k : ℕ) (place : Place) (is : IsPlaceAt T J k place) → k < accepted_count J
+        → is_family_year (account_of T.plan is.claim) account ≡ h → bytes_eq (account_of T.plan is.claim).member account.member ≡ m
         → (h ≡ true → is_decided place.phase ≡ true)
-        → joined (h && m) h (left_in place.phase (before T J k account)) (before T J k account) ≡ before T J (suc k) account
-    step_by false m k place is here household same decided =
+        → merge_acc (h && m) h (left_in place.phase (before T J k account)) (before T J k account) ≡ before T J (suc k) account
+    step_by false m k place is here family_year same decided =
         let c = account_of T.plan is.claim in
         let acc = before T J k account in
         let o = outcome_of T.plan is.claim (before T J k c) in
         sym (
-        makes k is.claim here is.stands account
-        ∙ (λ i. accumulated (household i && bytes_eq c.member account.member) (household i) acc o)
+        makes k is.claim here is.located account
+        ∙ (λ i. accumulated (family_year i && bytes_eq c.member account.member) (family_year i) acc o)
         ∙ none_grown o acc
         )
-    step_by true true k place is here household same decided =
+    step_by true true k place is here family_year same decided =
         let c = account_of T.plan is.claim in
         let acc = before T J k account in
         left_is is.claim (before T J (suc k) c) acc place.phase is.phase (decided refl)
-        ∙ ap (before T J (suc k)) (same_account c household same)
-    step_by true false k place is here household same decided =
+        ∙ ap (before T J (suc k)) (same_account c family_year same)
+    step_by true false k place is here family_year same decided =
         let c = account_of T.plan is.claim in
         let acc = before T J k account in
         let o = outcome_of T.plan is.claim (before T J k c) in
         let made : before T J (suc k) account ≡ accumulated false true acc o =
-        makes k is.claim here is.stands account ∙ (λ i. accumulated (household i && same i) (household i) acc o) in
+        makes k is.claim here is.located account ∙ (λ i. accumulated (family_year i && same i) (family_year i) acc o) in
         let own = own_stays o acc in
         let left = left_is is.claim (before T J (suc k) c) acc place.phase is.phase (decided refl) in
-        let parts = and_parts (bytes_eq c.family account.family) (c.year == account.year) household in
+        let parts = and_parts (bytes_eq c.family account.family) (c.year == account.year) family_year in
         let f = (bytes_eq-Decides c.family account.family).0 parts.0 in
         let y = eqb-true c.year account.year parts.1 in
         let family = shared_fold T.plan (take (suc k) (claims T J)) (opening T.balances) (shared_opening T.balances) c account f y in
-        same_acc (joined false true (left_in place.phase acc) acc) (before T J (suc k) account)
+        same_acc (merge_acc false true (left_in place.phase acc) acc) (before T J (suc k) account)
         (sym (ap (λ (a : Acc). a.met) made ∙ own.0))
         (sym (ap (λ (a : Acc). a.oop) made ∙ own.1))
         (sym (ap (λ (a : Acc). a.paid) made ∙ own.2))
@@ -210,33 +210,33 @@ module _ (T : Terms) (J : List Event) where
         (ap (λ (a : Acc). a.foop) left ∙ family.1)
 
     -- a place of the household is in the lane
-    in_lane : (place : Place) (c : Account) → place.account ≡ c → is_household c account ≡ true → is_of account.family place ≡ true
-    in_lane place c same household =
-        ap (λ (a : Account). bytes_eq a.family account.family) same ∙ (and_parts (bytes_eq c.family account.family) (c.year == account.year) household).0
+    in_lane : (place : Place) (c : Account) → place.account ≡ c → is_family_year c account ≡ true → is_of account.family place ≡ true
+    in_lane place c same family_year =
+        ap (λ (a : Account). bytes_eq a.family account.family) same ∙ (and_parts (bytes_eq c.family account.family) (c.year == account.year) family_year).0
 
-    pub stands_before : (n : ℕ) → n ≤ length places → all_decided account.family (take n places) ≡ true
-        → standing account (opening T.balances account) (take n places) ≡ before T J n account
-    stands_before zero within h = refl
-    stands_before (suc n) within h =
+    pub comes_before : (n : ℕ) → n ≤ length places → all_decided account.family (take n places) ≡ true
+        → present account (opening T.balances account) (take n places) ≡ before T J n account
+    comes_before zero within h = refl
+    comes_before (suc n) within h =
         let here : n < length places = omega arith in
         let place : Place = get_or places n nowhere in
         let is : IsPlaceAt T J n place = are n place (slice_get-get_or places n nowhere here) in
         let c = account_of T.plan is.claim in
         let parts = and_parts (all_decided account.family (take n places)) (not (is_of account.family place) || is_decided place.phase)
         (sym (list_all_more (λ p. not (is_of account.family p) || is_decided p.phase) places n nowhere here) ∙ ap (λ k. all_decided account.family (take k places)) (add-one n) ∙ h) in
-        ap (λ k. standing account (opening T.balances account) (take k places)) (sym (add-one n))
+        ap (λ k. present account (opening T.balances account) (take k places)) (sym (add-one n))
         ∙ fold_more (left_by account) (opening T.balances account) places n nowhere here
-        ∙ ap (λ acc. left_by account acc place) (stands_before n (omega arith) parts.0)
-        ∙ ap (λ (a : Account). joined (is_same a account) (is_household a account) (left_in place.phase (before T J n account)) (before T J n account)) is.account
-        ∙ step_by (is_household c account) (bytes_eq c.member account.member) n place is (omega arith) refl refl
-        (λ household. other_of (is_of account.family place) (is_decided place.phase) parts.1 (in_lane place c is.account household))
+        ∙ ap (λ acc. left_by account acc place) (comes_before n (omega arith) parts.0)
+        ∙ ap (λ (a : Account). merge_acc (is_same a account) (is_family_year a account) (left_in place.phase (before T J n account)) (before T J n account)) is.account
+        ∙ step_by (is_family_year c account) (bytes_eq c.member account.member) n place is (omega arith) refl refl
+        (λ family_year. other_of (is_of account.family place) (is_decided place.phase) parts.1 (in_lane place c is.account family_year))
 
 module _ (T : Terms) (J K : List Event) (lanes : List Place) (claim : Claim) (year : ℕ) (longer : claims T K ≡ claims T J ++ Some claim ∷ [])
-    (many : length lanes ≡ accepted J) (are : ArePlacesOf T J lanes) (dated : year ≡ account_year T.plan claim) where
-  newest : IsPlaceAt T K (length lanes) (place_behind lanes claim year)
+    (many : length lanes ≡ accepted_count J) (are : ArePlacesOf T J lanes) (dated : year ≡ account_year T.plan claim) where
+  newest : IsPlaceAt T K (length lanes) (next_place lanes claim year)
   newest = record {
     claim = claim;
-    stands =
+    located =
         ap (λ cs. get_or cs (length lanes) None) longer
         ∙ ap (λ n. get_or (claims T J ++ Some claim ∷ []) n None) (many ∙ sym (length-claims T J))
         ∙ get_or-append_seam (claims T J) (Some claim) [] None;
@@ -248,19 +248,19 @@ module _ (T : Terms) (J K : List Event) (lanes : List Place) (claim : Claim) (ye
   }
 
   -- the places with that of a claim that is accepted
-  pub places_accept : ArePlacesOf T K (lanes ++ place_behind lanes claim year ∷ [])
+  pub places_accept : ArePlacesOf T K (lanes ++ next_place lanes claim year ∷ [])
   places_accept k place there =
-      elim (pushed lanes (place_behind lanes claim year) place k there) [
+      elim (pushed lanes (next_place lanes claim year) place k there) [
         | inl earlier ↦
             let within : k < length lanes = slice_get_within lanes k place earlier in
             place_stays T J K (Some claim ∷ []) longer k place (omega arith) (are k place earlier)
         | inr last ↦
-            subst (IsPlaceAt T K k) last.1 (subst (λ j. IsPlaceAt T K j (place_behind lanes claim year)) (sym last.0) newest)
+            subst (IsPlaceAt T K k) last.1 (subst (λ j. IsPlaceAt T K j (next_place lanes claim year)) (sym last.0) newest)
       ]
 
 -- a place of the same account that says nothing of its claim
 in_work : (T : Terms) (J : List Event) (k : ℕ) (old : Place) → IsPlaceAt T J k old → IsPlaceAt T J k (record old { phase = InWork })
-in_work T J k old is = record { claim = is.claim; stands = is.stands; account = is.account; phase = tt }
+in_work T J k old is = record { claim = is.claim; located = is.located; account = is.account; phase = tt }
 
 with_phase_is : (lanes : List Place) (k : ℕ) (phase : Phase) (j : ℕ) (place : Place) → slice_get (with_phase lanes k phase) j ≡ Some place
     → (slice_get lanes j ≡ Some place) ⊎ ((old : Place) × (slice_get lanes j ≡ Some old) × (place ≡ record old { phase = phase }))

@@ -8,11 +8,11 @@ use Rattle.settlement.specs.declared.claim.Claim.{Claim}
 use Rattle.lanes.specs.Places.{Place, is_of}
 use Rattle.lanes.specs.declared.phase.Phase.{Phase}
 use Rattle.lanes.specs.declared.phase.Phase.TheVariants.{Waiting, Ready, InWork, Decided}
-use Rattle.lanes.specs.Calls.{ready_at, released, with_decision}
+use Rattle.lanes.specs.Calls.{ready_at, release_first, with_decision}
 use Rattle.journal.specs.Terms.{Terms}
 use Rattle.journal.specs.Events.{claim_at, before}
 use Rattle.journal.specs.declared.event.Event.{Event}
-use Rattle.claim_gate.specs.Kept.{IsPhaseOf, IsPlaceAt, ArePlacesOf}
+use Rattle.claim_gate.specs.GateIndex.{IsPhaseOf, IsPlaceAt, ArePlacesOf}
 
 -- a place that is ready if it waited
 record IsReleased (lanes : List Place) (j : ℕ) (place : Place) : Type 0 where
@@ -21,8 +21,8 @@ record IsReleased (lanes : List Place) (j : ℕ) (place : Place) : Type 0 where
   pub place_is : place ≡ record old { phase = ready_at old.phase }
 
 released_by : (b : Bool) (family : List ℕ) (x : Place) (lanes : List Place)
-    → ((j : ℕ) (place : Place) → slice_get (released family lanes) j ≡ Some place → (slice_get lanes j ≡ Some place) ⊎ IsReleased lanes j place)
-    → (j : ℕ) (place : Place) → slice_get (cond b (record x { phase = ready_at x.phase } ∷ lanes) (x ∷ released family lanes)) j ≡ Some place
+    → ((j : ℕ) (place : Place) → slice_get (release_first family lanes) j ≡ Some place → (slice_get lanes j ≡ Some place) ⊎ IsReleased lanes j place)
+    → (j : ℕ) (place : Place) → slice_get (cond b (record x { phase = ready_at x.phase } ∷ lanes) (x ∷ release_first family lanes)) j ≡ Some place
     → (slice_get (x ∷ lanes) j ≡ Some place) ⊎ IsReleased (x ∷ lanes) j place
 released_by true family x lanes rest zero place h =
     inr (record { old = x; there = refl; place_is = sym (same_Some (record x { phase = ready_at x.phase }) place h) })
@@ -31,7 +31,7 @@ released_by false family x lanes rest zero place h = inl h
 released_by false family x lanes rest (suc j) place h =
     elim (rest j place h) [ inl same ↦ inl same | inr r ↦ inr (record { old = r.old; there = r.there; place_is = r.place_is }) ]
 
-released_is : (family : List ℕ) (lanes : List Place) (j : ℕ) (place : Place) → slice_get (released family lanes) j ≡ Some place
+released_is : (family : List ℕ) (lanes : List Place) (j : ℕ) (place : Place) → slice_get (release_first family lanes) j ≡ Some place
     → (slice_get lanes j ≡ Some place) ⊎ IsReleased lanes j place
 released_is family [] j place h = absurd (none-some place h)
 released_is family (x ∷ lanes) j place h = released_by (is_of family x) family x lanes (released_is family lanes) j place h
@@ -66,13 +66,13 @@ changed (x ∷ lanes) (suc k) left (suc j) place h =
     ]
 
 module _ (T : Terms) (J : List Event) (lanes : List Place) (are : ArePlacesOf T J lanes)
-    (k : ℕ) (claim : Claim) (left : Acc) (stands : claim_at T J k ≡ Some claim) (leaves : left ≡ before T J (suc k) (account_of T.plan claim)) where
+    (k : ℕ) (claim : Claim) (left : Acc) (located : claim_at T J k ≡ Some claim) (leaves : left ≡ before T J (suc k) (account_of T.plan claim)) where
   decided_place : (j : ℕ) (old : Place) → j ≡ k → IsPlaceAt T J j old → IsPlaceAt T J j (record old { phase = Decided left })
   decided_place j old here is =
-      let same : is.claim ≡ claim = same_Some is.claim claim (sym is.stands ∙ ap (claim_at T J) here ∙ stands) in
+      let same : is.claim ≡ claim = same_Some is.claim claim (sym is.located ∙ ap (claim_at T J) here ∙ located) in
       record {
         claim = is.claim;
-        stands = is.stands;
+        located = is.located;
         account = is.account;
         phase = leaves ∙ ap (λ (c : Claim). before T J (suc k) (account_of T.plan c)) (sym same)
             ∙ ap (λ n. before T J (suc n) (account_of T.plan is.claim)) (sym here);
@@ -87,7 +87,7 @@ module _ (T : Terms) (J : List Event) (lanes : List Place) (are : ArePlacesOf T 
   next_place : (j : ℕ) (old : Place) → IsPlaceAt T J j old → IsPlaceAt T J j (record old { phase = ready_at old.phase })
   next_place j old is = record {
     claim = is.claim;
-    stands = is.stands;
+    located = is.located;
     account = is.account;
     phase = ready_phase is.claim (before T J (suc j) (account_of T.plan is.claim)) old.phase is.phase;
   }

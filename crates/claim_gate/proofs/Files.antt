@@ -22,7 +22,7 @@ text-at files place d within = get_or-map (λ f. f.now) files place d d.now with
 
 -- a file of a text is one of claims
 claims-of : (names : List InputData) (text : List ℕ) (file : FileParts) → IsFileOf names text file → IsClaimFile names text
-claims-of names text file is = subst (IsClaimFile names) is.text_is (record { layout = file.layout; records = _; sheet = is.under })
+claims-of names text file is = subst (IsClaimFile names) is.text_is (record { layout = file.layout; records = _; headered_file = is.under })
 
 pub are_claim_files : (names : List InputData) (texts : List (List ℕ)) (files : List FileParts) → AreFilesOf names texts files → All (IsClaimFile names) texts
 are_claim_files names [] [] are = All-nil (IsClaimFile names)
@@ -39,17 +39,17 @@ more names (t ∷ texts) [] text file are is = absurd are
 more names (t ∷ texts) (f ∷ files) text file are is = (are.0, more names texts files text file are.1 is)
 
 -- with one file more
-pub judged-more : (names : List InputData) (texts : List (Bor (List ℕ))) (place : ℕ) (d : Bor (List ℕ)) (files : List FileParts) (file : FileParts) → place < length texts
+pub validated-more : (names : List InputData) (texts : List (Bor (List ℕ))) (place : ℕ) (d : Bor (List ℕ)) (files : List FileParts) (file : FileParts) → place < length texts
     → AreFilesOf names (take place (texts_of texts)) files → IsFileOf names (get_or texts place d).now file → AreFilesOf names (take (place + 1) (texts_of texts)) (files ++ file ∷ [])
-judged-more names texts place d files file within are is =
+validated-more names texts place d files file within are is =
     let size = length-map texts (λ f. f.now) in
     rw (take_more (texts_of texts) place d.now (omega (arith, size, within)), text-at texts place d within)
     (more names (take place (texts_of texts)) files (get_or texts place d).now file are is)
 
 -- all of them
-pub judged-all : (names : List InputData) (texts : List (Bor (List ℕ))) (place : ℕ) (files : List FileParts) → length texts ≤ place
+pub validated-all : (names : List InputData) (texts : List (Bor (List ℕ))) (place : ℕ) (files : List FileParts) → length texts ≤ place
     → AreFilesOf names (take place (texts_of texts)) files → AreFilesOf names (texts_of texts) files
-judged-all names texts place files past are =
+validated-all names texts place files past are =
     let size = length-map texts (λ f. f.now) in
     rw (take_all place (texts_of texts) (omega (arith, size, past))) at are
 
@@ -66,7 +66,7 @@ refused-first names texts place d files (File provider fault) within before refu
       place = place;
       numbered = refused.0;
       text = (get_or texts place d).now;
-      stands = slice_get-get_or (texts_of texts) place d.now (omega (arith, size, within)) ∙ ap Some (text-at texts place d within);
+      located = slice_get-get_or (texts_of texts) place d.now (omega (arith, size, within)) ∙ ap Some (text-at texts place d within);
       refused = refused.1;
       before = are_claim_files names (take place (texts_of texts)) files before;
     }
@@ -89,11 +89,11 @@ file-at names (text ∷ texts) (file ∷ files) (suc place) d are within = file-
 -- the reader of a text's file is at its start, and gives the text's rows
 pub starts : (names : List InputData) (text : List ℕ) (file : FileParts) → IsFileOf names text file → IsAtStart names text (rows_of file)
 starts names text file is =
-    subst (λ t. IsAtStart names t (rows_of file)) is.text_is (record { sheet = is.under; number = refl; place = refl; stage = refl })
+    subst (λ t. IsAtStart names t (rows_of file)) is.text_is (record { headered_file = is.under; number = refl; place = refl; stage = refl })
 
 pub gives-all : (names : List InputData) (text : List ℕ) (file : FileParts) → IsFileOf names text file → (all : List Row) → AreRowsLeft (rows_of file) all → AreRowsOf names text all
 gives-all names text file is all left =
-    subst (λ t. AreRowsOf names t all) is.text_is (record { layout = file.layout; records = _; sheet = is.under; are_rows = left })
+    subst (λ t. AreRowsOf names t all) is.text_is (record { layout = file.layout; records = _; headered_file = is.under; are_rows = left })
 
 -- the reader that the file at a place gives
 pub starts-at : (names : List InputData) (texts : List (List ℕ)) (files : List FileParts) (place : ℕ) (d file : FileParts) (E : Type 0) (result : Result RowsLeft E)
@@ -114,7 +114,7 @@ gives-at names texts files place d file E (Ok rows) are within at is =
 gives-at names texts files place d file E (Err e) are within at is = tt
 
 -- a plan whose roles are lent has some
-pub have-roles : {A : Type 0} (lent : Option (Bor A)) (roles : Option A) → option_copied lent ≡ roles → is_some lent ≡ true → IsSome roles
+pub have-roles : {A : Type 0} (borrowed : Option (Bor A)) (roles : Option A) → option_copied borrowed ≡ roles → is_some borrowed ≡ true → IsSome roles
 have-roles None roles is some = absurd (false≢true some)
 have-roles (Some lends) roles is some = ap is_some (sym is)
 

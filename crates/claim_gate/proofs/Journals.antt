@@ -5,7 +5,7 @@ use Rattle.std.proofs.lemmas.Bool.{or_right, or_left}
 use Rattle.std.proofs.lemmas.List.{flat_map_more, map-append, length-map}
 use Rattle.std.proofs.lemmas.List.Folds.{list_any-append}
 use Rattle.journal.specs.Terms.{Terms}
-use Rattle.journal.specs.Events.{accept_in, accepts, accepted, place_in, places, claim_filed, claims}
+use Rattle.journal.specs.Events.{accept_in, accepts, accepted_count, place_in, places, claim_filed, claims}
 use Rattle.journal.specs.declared.event.Event.{Event}
 
 pub or_none : (b : Bool) → (b || false) ≡ b
@@ -25,7 +25,7 @@ any_now test J event h =
 flat_map_last : {X A : Type 0} (f : X → List A) (xs : List X) (x : X) → flat_map f (xs ++ x ∷ []) ≡ flat_map f xs ++ f x
 flat_map_last f xs x = sym (flat_map_more f [] xs x)
 
-pub accepted_more : (J : List Event) (event : Event) → accepted (J ++ event ∷ []) ≡ accepted J + length (accept_in event)
+pub accepted_more : (J : List Event) (event : Event) → accepted_count (J ++ event ∷ []) ≡ accepted_count J + length (accept_in event)
 accepted_more J event = ap length (flat_map_last accept_in J event) ∙ length-append (accepts J) (accept_in event)
 
 pub places_more : (J : List Event) (event : Event) (provider : ℕ) → places (J ++ event ∷ []) provider ≡ places J provider ++ place_in provider event
@@ -41,5 +41,5 @@ pub claims_stay : (T : Terms) (J : List Event) (event : Event) → accept_in eve
 claims_stay T J event none =
     claims_more T J event ∙ ap (λ w. claims T J ++ map (claim_filed T) w) none ∙ append-nil (claims T J)
 
-pub length-claims : (T : Terms) (J : List Event) → length (claims T J) ≡ accepted J
+pub length-claims : (T : Terms) (J : List Event) → length (claims T J) ≡ accepted_count J
 length-claims T J = length-map (accepts J) (claim_filed T)

@@ -11,12 +11,12 @@ use Rattle.settlement.specs.declared.outcome.Outcome.{Outcome}
 use Rattle.lanes.specs.Places.{Place, is_of, is_decided, phase_at}
 use Rattle.lanes.specs.declared.phase.Phase.{Phase}
 use Rattle.lanes.specs.declared.phase.Phase.TheVariants.{Waiting, Ready, InWork, Decided}
-use Rattle.lanes.specs.Calls.{with_phase, ready_at, released, with_decision}
-use Rattle.journal.specs.Events.{accept_in, accepted, is_take, taken, is_decide, decided}
+use Rattle.lanes.specs.Calls.{with_phase, ready_at, release_first, with_decision}
+use Rattle.journal.specs.Events.{accept_in, accepted_count, is_take, has_take, is_decide, has_decision}
 use Rattle.journal.specs.Gate.{is_any_decision}
 use Rattle.journal.specs.declared.event.Event.{Event}
 use Rattle.journal.specs.declared.event.Event.TheVariants.{Accept, Take, Decide}
-use Rattle.claim_gate.specs.Kept.{is_begun, AreMarked}
+use Rattle.claim_gate.specs.GateIndex.{is_begun, AreMarked}
 use Rattle.claim_gate.proofs.Tallies.{count_by-yes, count_by-no}
 use Rattle.claim_gate.proofs.Journals.{any_stays, any_now, accepted_more}
 
@@ -95,18 +95,18 @@ tested_or test ignores false x lanes rest h zero = refl
 tested_or test ignores false x lanes rest h (suc k) = h k
 
 tested_released : (test : Phase → Bool) → Ignores test → (member : List ℕ) (lanes : List Place)
-    → (k : ℕ) → tested test (released member lanes) k ≡ tested test lanes k
+    → (k : ℕ) → tested test (release_first member lanes) k ≡ tested test lanes k
 tested_released test ignores member [] k = refl
 tested_released test ignores member (x ∷ lanes) k =
-    tested_or test ignores (is_of member x) x lanes (released member lanes) (tested_released test ignores member lanes) k
+    tested_or test ignores (is_of member x) x lanes (release_first member lanes) (tested_released test ignores member lanes) k
 
 length_or : (b : Bool) (x : Place) (lanes rest : List Place) → length rest ≡ length lanes → length (or_released b x lanes rest) ≡ length (x ∷ lanes)
 length_or true x lanes rest h = refl
 length_or false x lanes rest h = ap suc h
 
-length-released : (member : List ℕ) (lanes : List Place) → length (released member lanes) ≡ length lanes
+length-released : (member : List ℕ) (lanes : List Place) → length (release_first member lanes) ≡ length lanes
 length-released member [] = refl
-length-released member (x ∷ lanes) = length_or (is_of member x) x lanes (released member lanes) (length-released member lanes)
+length-released member (x ∷ lanes) = length_or (is_of member x) x lanes (release_first member lanes) (length-released member lanes)
 
 decisions_or : (b : Bool) (x : Place) (lanes rest : List Place) → decisions_in rest ≡ decisions_in lanes → decisions_in (or_released b x lanes rest) ≡ decisions_in (x ∷ lanes)
 decisions_or true x lanes rest h =
@@ -118,9 +118,9 @@ decisions_or false x lanes rest h =
     ∙ ap (λ n. cond (is_decided x.phase) 1 0 + n) h
     ∙ sym (sum_by-cons (λ place. cond (is_decided place.phase) 1 0) x lanes)
 
-decisions-released : (member : List ℕ) (lanes : List Place) → decisions_in (released member lanes) ≡ decisions_in lanes
+decisions-released : (member : List ℕ) (lanes : List Place) → decisions_in (release_first member lanes) ≡ decisions_in lanes
 decisions-released member [] = refl
-decisions-released member (x ∷ lanes) = decisions_or (is_of member x) x lanes (released member lanes) (decisions-released member lanes)
+decisions-released member (x ∷ lanes) = decisions_or (is_of member x) x lanes (release_first member lanes) (decisions-released member lanes)
 
 -- a decision at one position
 length-with_decision : (lanes : List Place) (k : ℕ) (left : Acc) → length (with_decision lanes k left) ≡ length lanes
@@ -148,7 +148,7 @@ decisions-with_decision : (lanes : List Place) (k : ℕ) (left : Acc) → phase_
 decisions-with_decision [] k left h = absurd (none-some InWork h)
 decisions-with_decision (x ∷ lanes) zero left h =
     let undecided : is_decided x.phase ≡ false = ap is_decided (same_Some x.phase InWork h) in
-    count_by-yes (λ place. is_decided place.phase) (record x { phase = Decided left }) (released x.account.family lanes) refl
+    count_by-yes (λ place. is_decided place.phase) (record x { phase = Decided left }) (release_first x.account.family lanes) refl
     ∙ ap suc (decisions-released x.account.family lanes)
     ∙ sym (ap suc (count_by-no (λ place. is_decided place.phase) x lanes undecided))
 decisions-with_decision (x ∷ lanes) (suc k) left h =
@@ -168,7 +168,7 @@ pub marked_stay : (J : List Event) (lanes : List Place) (event : Event) → AreM
     → accept_in event ≡ [] → ((k : ℕ) → is_take k event ≡ false) → ((k : ℕ) → is_decide k event ≡ false) → is_any_decision event ≡ false
     → AreMarked (J ++ event ∷ []) lanes
 marked_stay J lanes event M no_accept no_take no_decide no_decision = record {
-  as_many = M.as_many ∙ sym (accepted_more J event ∙ ap (λ w. accepted J + length w) no_accept ∙ add-zero (accepted J));
+  as_many = M.as_many ∙ sym (accepted_more J event ∙ ap (λ w. accepted_count J + length w) no_accept ∙ add-zero (accepted_count J));
   taken_are = λ k. any_stays (is_take k) J event (no_take k) ∙ M.taken_are k;
   decided_are = λ k. any_stays (is_decide k) J event (no_decide k) ∙ M.decided_are k;
   decisions = decisions_stay J event no_decision ∙ M.decisions;
@@ -179,8 +179,8 @@ pub marked_accept : (J : List Event) (lanes : List Place) (provider place : ℕ)
     → is_begun next.phase ≡ false → is_decided next.phase ≡ false → AreMarked (J ++ Accept provider place ∷ []) (lanes ++ next ∷ [])
 marked_accept J lanes provider place next M not_begun undecided =
     let longer : length (lanes ++ next ∷ []) ≡ length lanes + 1 = length_push lanes next in
-    let more : accepted (J ++ Accept provider place ∷ []) ≡ accepted J + 1 = accepted_more J (Accept provider place) in
-    let same : length lanes ≡ accepted J = M.as_many in
+    let more : accepted_count (J ++ Accept provider place ∷ []) ≡ accepted_count J + 1 = accepted_more J (Accept provider place) in
+    let same : length lanes ≡ accepted_count J = M.as_many in
     record {
       as_many = omega arith;
       taken_are = λ k. any_stays (is_take k) J (Accept provider place) refl ∙ M.taken_are k ∙ sym (tested_push is_begun lanes next not_begun k);
@@ -197,7 +197,7 @@ abbrev said : (Phase → Bool) → Option Phase → Bool
 said test phase = option_map_or test phase false
 
 taken_now : (J : List Event) (lanes : List Place) (k : ℕ) (old : Phase) → AreMarked J lanes → phase_at lanes k ≡ Some old
-    → (j : ℕ) → (k ≡ j) ⊎ (k ≡ j → ⊥) → taken (J ++ Take k ∷ []) j ≡ tested is_begun (with_phase lanes k InWork) j
+    → (j : ℕ) → (k ≡ j) ⊎ (k ≡ j → ⊥) → has_take (J ++ Take k ∷ []) j ≡ tested is_begun (with_phase lanes k InWork) j
 taken_now J lanes k old M there j (inl e) =
     any_now (is_take j) J (Take k) (eq-eqb k j e)
     ∙ sym (ap (tested is_begun (with_phase lanes k InWork)) (sym e) ∙ ap (said is_begun) (phase_here lanes k old InWork there))
@@ -220,7 +220,7 @@ undecided_still lanes k old there undecided j (inr other) =
 pub marked_take : (J : List Event) (lanes : List Place) (k : ℕ) (old : Phase) → AreMarked J lanes
     → phase_at lanes k ≡ Some old → is_begun old ≡ false → is_decided old ≡ false → AreMarked (J ++ Take k ∷ []) (with_phase lanes k InWork)
 marked_take J lanes k old M there not_begun undecided = record {
-  as_many = length-with_phase lanes k InWork ∙ M.as_many ∙ sym (accepted_more J (Take k) ∙ add-zero (accepted J));
+  as_many = length-with_phase lanes k InWork ∙ M.as_many ∙ sym (accepted_more J (Take k) ∙ add-zero (accepted_count J));
   taken_are = λ j. taken_now J lanes k old M there j (cases_eq k j);
   decided_are = λ j.
       any_stays (is_decide j) J (Take k) refl ∙ M.decided_are j ∙ undecided_still lanes k old there undecided j (cases_eq k j);
@@ -236,7 +236,7 @@ taken_still lanes k left there j (inl e) =
 taken_still lanes k left there j (inr other) = sym (decision_elsewhere is_begun begun_ignores lanes k j left (λ e. other (sym e)))
 
 decided_now : (J : List Event) (lanes : List Place) (k : ℕ) (outcome : Outcome) (left : Acc) → AreMarked J lanes → phase_at lanes k ≡ Some InWork
-    → (j : ℕ) → (k ≡ j) ⊎ (k ≡ j → ⊥) → decided (J ++ Decide k outcome ∷ []) j ≡ tested is_decided (with_decision lanes k left) j
+    → (j : ℕ) → (k ≡ j) ⊎ (k ≡ j → ⊥) → has_decision (J ++ Decide k outcome ∷ []) j ≡ tested is_decided (with_decision lanes k left) j
 decided_now J lanes k outcome left M there j (inl e) =
     any_now (is_decide j) J (Decide k outcome) (eq-eqb k j e)
     ∙ sym (ap (tested is_decided (with_decision lanes k left)) (sym e) ∙ ap (said is_decided) (decision_here lanes k InWork left there))
@@ -249,7 +249,7 @@ decided_now J lanes k outcome left M there j (inr other) =
 pub marked_decision : (J : List Event) (lanes : List Place) (k : ℕ) (outcome : Outcome) (left : Acc) → AreMarked J lanes
     → phase_at lanes k ≡ Some InWork → AreMarked (J ++ Decide k outcome ∷ []) (with_decision lanes k left)
 marked_decision J lanes k outcome left M there = record {
-  as_many = length-with_decision lanes k left ∙ M.as_many ∙ sym (accepted_more J (Decide k outcome) ∙ add-zero (accepted J));
+  as_many = length-with_decision lanes k left ∙ M.as_many ∙ sym (accepted_more J (Decide k outcome) ∙ add-zero (accepted_count J));
   taken_are = λ j. any_stays (is_take j) J (Decide k outcome) refl ∙ M.taken_are j ∙ taken_still lanes k left there j (cases_eq k j);
   decided_are = λ j. decided_now J lanes k outcome left M there j (cases_eq k j);
   decisions =

@@ -7,13 +7,13 @@ use Rattle.std.proofs.lemmas.List.Folds.{list_all_more}
 use Rattle.std.proofs.lemmas.List.Sums.{sum_by-cons, sum_by_push, sum_by-set}
 use Rattle.claim_gate.specs.Terms.{TermsParts, AreClaimsOf, IsTermsOf}
 use Rattle.journal.specs.Terms.{Terms, IsProvider}
-use Rattle.journal.specs.Events.{accepted, place_in, places, is_end, ended, reached, all_ended, due}
+use Rattle.journal.specs.Events.{accepted_count, place_in, places, is_end, has_end, reached, all_ended, due}
 use Rattle.journal.specs.Gate.{is_any_end}
 use Rattle.journal.specs.declared.event.Event.{Event}
 use Rattle.journal.specs.declared.event.Event.TheVariants.{Accept, End}
 use Rattle.claim_gate.specs.declared.intakes.Intake.{Intake}
 use Rattle.claim_gate.specs.Intakes.{no_intake, intake_of, one_more, at_end, with_accept, with_end}
-use Rattle.claim_gate.specs.Kept.{IsIntakeOf, AreIntakesOf, is_due}
+use Rattle.claim_gate.specs.GateIndex.{IsIntakeOf, AreIntakesOf, is_due}
 use Rattle.claim_gate.proofs.Journals.{any_stays, any_now, places_more, places_stay}
 
 -- how many of these providers have ended
@@ -164,7 +164,7 @@ module _ (J : List Event) (providers : ℕ) (intakes : List Intake) (I : AreInta
   ended_up_to (suc n) within =
       let many : length intakes ≡ providers = I.as_many in
       let here : n < length intakes = omega arith in
-      either_way (ended J (suc n)) (all_ended n J)
+      either_way (has_end J (suc n)) (all_ended n J)
       ∙ ap (λ b. all_ended n J && b) (sym (I.each n (omega arith)).ended_is)
       ∙ ap (λ b. b && (get_or intakes n no_intake).ended) (ended_up_to n (omega arith))
       ∙ sym (list_all_more (λ x. x.ended) intakes n no_intake here)
@@ -195,8 +195,8 @@ known_intake terms T J intakes provider is I known =
 
 -- the close is due where the intakes and the number of accepts say so
 pub due_is : (terms : TermsParts) (T : Terms) (J : List Event) (intakes : List Intake) → IsTermsOf terms T
-    → AreIntakesOf J (length terms.files) intakes → due T J ≡ is_due terms (accepted J) intakes
+    → AreIntakesOf J (length terms.files) intakes → due T J ≡ is_due terms (accepted_count J) intakes
 due_is terms T J intakes is I =
-    ap (λ o. reached o (accepted J) || all_ended (length T.files) J) is.cutoff
-    ∙ ap (λ n. reached terms.cutoff (accepted J) || all_ended n J) (as_many_files terms T is)
-    ∙ ap (λ b. reached terms.cutoff (accepted J) || b) (ended_all J (length terms.files) intakes I)
+    ap (λ o. reached o (accepted_count J) || all_ended (length T.files) J) is.cutoff
+    ∙ ap (λ n. reached terms.cutoff (accepted_count J) || all_ended n J) (as_many_files terms T is)
+    ∙ ap (λ b. reached terms.cutoff (accepted_count J) || b) (ended_all J (length terms.files) intakes I)

@@ -10,18 +10,18 @@ use Rattle.std.proofs.lemmas.Slice.Eq.{bytes_eq-Decides}
 use Rattle.settlement.specs.Accounts.{Account, account_of, family_of}
 use Rattle.settlement.specs.Opening.{opening}
 use Rattle.settlement.specs.declared.acc.Acc.{Acc}
-use Rattle.lanes.specs.Places.{Place, is_of, is_waiting, is_ready, is_decided, all_decided, phase_at, standing, started, InTurn}
+use Rattle.lanes.specs.Places.{Place, is_of, is_waiting, is_ready, is_decided, all_decided, phase_at, present, started, InTurn}
 use Rattle.lanes.specs.declared.phase.Phase.{Phase}
 use Rattle.lanes.specs.declared.phase.Phase.TheVariants.{Waiting, Ready, InWork, Decided}
-use Rattle.lanes.specs.declared.picked.Picked.{Picked}
+use Rattle.lanes.specs.declared.ready_claim.ReadyClaim.{ReadyClaim}
 use Rattle.lanes.specs.Calls.{IsPicked, NothingReady, with_phase}
 use Rattle.journal.specs.Terms.{Terms}
-use Rattle.journal.specs.Events.{accepted, taken, decided, lane_at, before}
+use Rattle.journal.specs.Events.{accepted_count, has_take, has_decision, lane_at, before}
 use Rattle.journal.specs.Lawful.{IsReady}
 use Rattle.journal.specs.Gate.{IsWork}
 use Rattle.journal.specs.declared.event.Event.{Event}
-use Rattle.claim_gate.specs.Kept.{is_begun, IsPhaseOf, ArePlacesOf, AreMarked}
-use Rattle.claim_gate.proofs.Claims.{nowhere, other_of, stands_before}
+use Rattle.claim_gate.specs.GateIndex.{is_begun, IsPhaseOf, ArePlacesOf, AreMarked}
+use Rattle.claim_gate.proofs.Claims.{nowhere, other_of, comes_before}
 
 -- another phase at a position changes no place in front of it, and no member
 front_stays : (lanes : List Place) (k : ℕ) (phase : Phase) → take k (with_phase lanes k phase) ≡ take k lanes
@@ -53,18 +53,18 @@ module _ (T : Terms) (J : List Event) (lanes : List Place) (marked : AreMarked J
   member_is : (k : ℕ) (place : Place) → slice_get lanes k ≡ Some place → lane_at T J k ≡ Some place.account.family
   member_is k place there =
       let is = are k place there in
-      ap (option_map family_of) is.stands ∙ ap (λ (a : Account). Some a.family) (sym is.account)
+      ap (option_map family_of) is.located ∙ ap (λ (a : Account). Some a.family) (sym is.account)
 
   -- the journal has the decision of a position where its place is decided
-  decided_is : (k : ℕ) (place : Place) → slice_get lanes k ≡ Some place → decided J k ≡ is_decided place.phase
+  decided_is : (k : ℕ) (place : Place) → slice_get lanes k ≡ Some place → has_decision J k ≡ is_decided place.phase
   decided_is k place there = marked.decided_are k ∙ ap (λ o. option_map_or is_decided (option_map (λ p. p.phase) o) false) there
 
-  taken_is : (k : ℕ) (place : Place) → slice_get lanes k ≡ Some place → taken J k ≡ is_begun place.phase
+  taken_is : (k : ℕ) (place : Place) → slice_get lanes k ≡ Some place → has_take J k ≡ is_begun place.phase
   taken_is k place there = marked.taken_are k ∙ ap (λ o. option_map_or is_begun (option_map (λ p. p.phase) o) false) there
 
   -- where each place of the member in front is decided, so is each of its claims
   turn_from_places : (member : List ℕ) (k : ℕ) → k ≤ length lanes → all_decided member (take k lanes) ≡ true
-      → (j : ℕ) → j < k → lane_at T J j ≡ Some member → decided J j ≡ true
+      → (j : ℕ) → j < k → lane_at T J j ≡ Some member → has_decision J j ≡ true
   turn_from_places member k within h j below its =
       let place : Place = get_or lanes j nowhere in
       let there : slice_get lanes j ≡ Some place = slice_get-get_or lanes j nowhere (omega arith) in
@@ -77,7 +77,7 @@ module _ (T : Terms) (J : List Event) (lanes : List Place) (marked : AreMarked J
       let mine : is_of member place ≡ true = (bytes_eq-Decides place.account.family member).1 (same_Some place.account.family member (sym (member_is j place there) ∙ its)) in
       decided_is j place there ∙ other_of (is_of member place) (is_decided place.phase) fits mine
 
-  place_in_turn : (member : List ℕ) (k : ℕ) → ((j : ℕ) → j < k → lane_at T J j ≡ Some member → decided J j ≡ true)
+  place_in_turn : (member : List ℕ) (k : ℕ) → ((j : ℕ) → j < k → lane_at T J j ≡ Some member → has_decision J j ≡ true)
       → (j : ℕ) (place : Place) → j < k → slice_get lanes j ≡ Some place → (b : Bool) → is_of member place ≡ b
       → (not (is_of member place) || is_decided place.phase) ≡ true
   place_in_turn member k turn j place below there true mine =
@@ -88,7 +88,7 @@ module _ (T : Terms) (J : List Event) (lanes : List Place) (marked : AreMarked J
       or_left (not (is_of member place)) (is_decided place.phase) (not_from_false (is_of member place) other)
 
   -- and the other way round
-  places_from_turn : (member : List ℕ) (k : ℕ) → k ≤ length lanes → ((j : ℕ) → j < k → lane_at T J j ≡ Some member → decided J j ≡ true)
+  places_from_turn : (member : List ℕ) (k : ℕ) → k ≤ length lanes → ((j : ℕ) → j < k → lane_at T J j ≡ Some member → has_decision J j ≡ true)
       → all_decided member (take k lanes) ≡ true
   places_from_turn member k within turn =
       and_from_places (all_decided member) (λ p. not (is_of member p) || is_decided p.phase) refl (λ x xs. refl) (take k lanes) nowhere
@@ -101,13 +101,13 @@ module _ (T : Terms) (J : List Event) (lanes : List Place) (marked : AreMarked J
       (place_in_turn member k turn j (get_or lanes j nowhere) below there (is_of member (get_or lanes j nowhere)) refl))
 
   -- a place that is ready is the job of its position
-  pub ready_is_work : (stopped : Bool) (picked : Picked) (acc : Acc) → InTurn (with_phase lanes picked.position InWork) → IsPicked lanes picked
-      → acc ≡ started (opening T.balances (account_of T.plan picked.claim)) picked.own picked.household
+  pub ready_is_work : (stopped : Bool) (picked : ReadyClaim) (acc : Acc) → InTurn (with_phase lanes picked.position InWork) → IsPicked lanes picked
+      → acc ≡ started (opening T.balances (account_of T.plan picked.claim)) picked.own picked.family_year
       → IsWork (record { terms = T; journal = J; stopped = stopped }) picked.position picked.claim acc
   ready_is_work stopped picked acc turns p at =
       let k = picked.position in
       let within : k < length lanes = slice_get_within lanes k p.place p.there in
-      let many : length lanes ≡ accepted J = marked.as_many in
+      let many : length lanes ≡ accepted_count J = marked.as_many in
       let is = are k p.place p.there in
       let account = account_of T.plan picked.claim in
       let same : picked.claim ≡ is.claim = subst (IsPhaseOf is.claim (before T J (suc k) (account_of T.plan is.claim))) p.ready is.phase in
@@ -118,18 +118,18 @@ module _ (T : Terms) (J : List Event) (lanes : List Place) (marked : AreMarked J
       let settled = not-false (all_decided p.place.account.family (take k lanes)) calm in
       record {
         ready = record {
-          behind = omega arith;
+          following = omega arith;
           once = taken_is k p.place p.there ∙ ap is_begun p.ready;
           in_turn = λ j below its.
               turn_from_places p.place.account.family k (omega arith) settled j below (its ∙ member_is k p.place p.there);
         };
         job = record {
-          stands = is.stands ∙ ap Some (sym same);
+          located = is.located ∙ ap Some (sym same);
           left =
               at
-              ∙ p.stands (opening T.balances account)
-              ∙ ap (λ a. standing a (opening T.balances account) (take k lanes)) whose
-              ∙ stands_before T J lanes many are account k (omega arith) (ap (λ (a : Account). all_decided a.family (take k lanes)) (sym whose) ∙ settled);
+              ∙ p.located (opening T.balances account)
+              ∙ ap (λ a. present a (opening T.balances account) (take k lanes)) whose
+              ∙ comes_before T J lanes many are account k (omega arith) (ap (λ (a : Account). all_decided a.family (take k lanes)) (sym whose) ∙ settled);
         };
       }
 
@@ -141,13 +141,13 @@ module _ (T : Terms) (J : List Event) (lanes : List Place) (marked : AreMarked J
         both_ways (all_decided place.account.family (take k lanes)) (not-true (all_decided place.account.family (take k lanes)) waits)
         (places_from_turn place.account.family k (omega arith) (λ j below its. r.in_turn j below (its ∙ sym (member_is k place there))))
     unready_by k place (Ready claim) there is unready r = both_ways true unready refl
-    unready_by k place InWork there is unready r = both_ways (taken J k) r.once (taken_is k place there ∙ ap is_begun is)
-    unready_by k place (Decided left) there is unready r = both_ways (taken J k) r.once (taken_is k place there ∙ ap is_begun is)
+    unready_by k place InWork there is unready r = both_ways (has_take J k) r.once (taken_is k place there ∙ ap is_begun is)
+    unready_by k place (Decided left) there is unready r = both_ways (has_take J k) r.once (taken_is k place there ∙ ap is_begun is)
 
     -- where no place is ready, no claim may be taken
     pub nothing_is_ready : NothingReady lanes → (k : ℕ) → ¬ IsReady T J k
     nothing_is_ready none k r =
-        let many : length lanes ≡ accepted J = marked.as_many in
-        let behind : k < accepted J = r.behind in
+        let many : length lanes ≡ accepted_count J = marked.as_many in
+        let following : k < accepted_count J = r.following in
         let there : slice_get lanes k ≡ Some (get_or lanes k nowhere) = slice_get-get_or lanes k nowhere (omega arith) in
         unready_by k (get_or lanes k nowhere) (get_or lanes k nowhere).phase there refl (none k (get_or lanes k nowhere) there) r

@@ -16,20 +16,20 @@ use Rattle.dtable.specs.Plan.{PlanParts}
 use Rattle.claim_gate.specs.Terms.{TermsParts, AreTerms, texts_of, ForTerms}
 use Rattle.lanes.specs.Places.{Place, is_decided, started, InTurn}
 use Rattle.lanes.specs.declared.phase.Phase.TheVariants.{InWork}
-use Rattle.lanes.specs.declared.picked.Picked.{Picked}
-use Rattle.lanes.specs.Calls.{place_behind, with_phase, with_decision, IsPicked, NothingReady}
+use Rattle.lanes.specs.declared.ready_claim.ReadyClaim.{ReadyClaim}
+use Rattle.lanes.specs.Calls.{next_place, with_phase, with_decision, IsPicked, NothingReady}
 use Rattle.settlement.specs.Accounts.{account_of, account_year}
 use Rattle.settlement.specs.Opening.{opening}
 use Rattle.intake_csv.specs.Balances.{accounts_of}
 use Rattle.journal.specs.Terms.{Terms, IsProvider, claims_of}
 use Rattle.journal.specs.Settled.{outcome_of, accumulated}
-use Rattle.journal.specs.Events.{accepted, place_in, places, closed, taken, decided, IsJob}
+use Rattle.journal.specs.Events.{accepted_count, place_in, places, closed, has_take, has_decision, IsJob}
 use Rattle.journal.specs.Leading.{leads_itself}
 use Rattle.journal.specs.Gate.{OfferReply, EndReply, TakeReply, Continues, GateAt, LeadsTo, Offers, Ends, Takes, is_any_decision}
 use Rattle.journal.specs.Lawful.{Finished, Lawful}
 use Rattle.claim_gate.specs.Shared.{InTurn as ShutTurn}
 use Rattle.journal.specs.Order.{StaysInOrder}
-use Rattle.journal.specs.Laws.{StartsLawful, OfferGoes, EndGoes, TakeGoes, FinishGoes}
+use Rattle.journal.specs.Laws.{EmptyJournalIsLawful, OfferGoes, EndGoes, TakeGoes, FinishGoes}
 use Rattle.journal.specs.declared.event.Event.{Event}
 use Rattle.journal.specs.declared.event.Event.TheVariants.{Accept, End, Close, Take, Decide}
 use Rattle.claim_gate.specs.declared.intakes.Intake.{Intake}
@@ -37,7 +37,7 @@ use Rattle.claim_gate.specs.declared.job.Job.{Job}
 use Rattle.claim_gate.specs.declared.offer.Offer.{Offer}
 use Rattle.claim_gate.specs.declared.state.GateState.TheInside.{Inside}
 use Rattle.claim_gate.specs.Intakes.{no_intake, none_yet, intake_of, with_accept, with_end}
-use Rattle.claim_gate.specs.Kept.{AreIntakesOf, AreMarked, IsKept, is_due}
+use Rattle.claim_gate.specs.GateIndex.{AreIntakesOf, AreMarked, IsKept, is_due}
 use Rattle.claim_gate.specs.Parts.{GateParts, at}
 use Rattle.claim_gate.specs.Replies.{HasClaims, IsFiled, IsOver, first_journal}
 use Rattle.claim_gate.proofs.Calls.{closed_where, offer_accepted, kept_accept, end_ended, kept_end, first_is, kept_start, take_work, kept_take, take_over, take_nothing, kept_decision}
@@ -113,27 +113,27 @@ accepted_within J providers intakes (suc q) I =
 
 module _ (J : List Event) (lanes : List Place) (marked : AreMarked J lanes) where
   -- the place at an accepted position
-  accepted_place : (k : ℕ) → k < accepted J → slice_get lanes k ≡ Some (get_or lanes k nowhere)
+  accepted_place : (k : ℕ) → k < accepted_count J → slice_get lanes k ≡ Some (get_or lanes k nowhere)
   accepted_place k below =
-      let many : length lanes ≡ accepted J = marked.as_many in
+      let many : length lanes ≡ accepted_count J = marked.as_many in
       slice_get-get_or lanes k nowhere (omega arith)
 
-  decided_place : (k : ℕ) → k < accepted J → decided J k ≡ is_decided (get_or lanes k nowhere).phase
+  decided_place : (k : ℕ) → k < accepted_count J → has_decision J k ≡ is_decided (get_or lanes k nowhere).phase
   decided_place k below =
       marked.decided_are k ∙ ap (λ o. option_map_or is_decided (option_map (λ (p : Place). p.phase) o) false) (accepted_place k below)
 
-  every_decided : list_all (λ place. is_decided place.phase) lanes ≡ true → (k : ℕ) → k < accepted J → decided J k ≡ true
+  every_decided : list_all (λ place. is_decided place.phase) lanes ≡ true → (k : ℕ) → k < accepted_count J → has_decision J k ≡ true
   every_decided every k below =
-      let many : length lanes ≡ accepted J = marked.as_many in
+      let many : length lanes ≡ accepted_count J = marked.as_many in
       decided_place k below
       ∙ and_at (list_all (λ place. is_decided place.phase)) (λ (place : Place). is_decided place.phase) refl (λ x xs. refl) lanes k nowhere (omega arith) every
 
-  all_places : ((k : ℕ) → k < accepted J → decided J k ≡ true) → list_all (λ place. is_decided place.phase) lanes ≡ true
+  all_places : ((k : ℕ) → k < accepted_count J → has_decision J k ≡ true) → list_all (λ place. is_decided place.phase) lanes ≡ true
   all_places every =
       and_from_places (list_all (λ place. is_decided place.phase)) (λ (place : Place). is_decided place.phase) refl (λ x xs. refl) lanes nowhere
       (λ k within.
-      let many : length lanes ≡ accepted J = marked.as_many in
-      let below : k < accepted J = omega arith in
+      let many : length lanes ≡ accepted_count J = marked.as_many in
+      let below : k < accepted_count J = omega arith in
       sym (decided_place k below) ∙ every k below)
 
   -- whether as many are decided as accepted says whether the journal is closed and each claim decided
@@ -197,18 +197,18 @@ module _ (s : Inside) (g : GateParts) (is : seen s ≡ g) (kept : Keeps s) where
     pub accepts : OfferGoes → StaysInOrder → ShutTurn g offer.provider → g.stopped ≡ false → closed g.journal ≡ false → ForTerms g.terms (λ T. IsFiled T offer)
         → ForTerms g.terms (λ T. offer.place ≡ length (places g.journal offer.provider))
         → position ≡ length s.lanes → year ≡ account_year s.terms.now.plan offer.claim
-        → lanes ≡ s.lanes ++ place_behind s.lanes offer.claim year ∷ [] → intakes ≡ with_accept s.intakes offer.provider
+        → lanes ≡ s.lanes ++ next_place s.lanes offer.claim year ∷ [] → intakes ≡ with_accept s.intakes offer.provider
         → J1 ≡ s.journal.items ++ Accept offer.provider offer.place ∷ [] → J2 ≡ closed_where b J1
         → b ≡ is_due s.terms.now (length lanes) intakes
         → IsAccepted
-    accepts goes stays order runs open_yet filed turn stands dated lanes_are intakes_are accept_is journal_is when =
+    accepts goes stays order runs open_yet filed turn located dated lanes_are intakes_are accept_is journal_is when =
         let runs' : s.stopped ≡ false = runs_so runs in
         let open' : closed s.journal.items ≡ false = subst (λ w. closed w.journal ≡ false) (sym is) open_yet in
         let filed' : ForTerms s.terms.now (λ T. IsFiled T offer) = subst (λ w. ForTerms w.terms (λ T. IsFiled T offer)) (sym is) filed in
         let turn' : ForTerms s.terms.now (λ T. offer.place ≡ length (places s.journal.items offer.provider)) =
         subst (λ w. ForTerms w.terms (λ T. offer.place ≡ length (places w.journal offer.provider))) (sym is) turn in
         let order' : ShutTurn (seen s) offer.provider = subst (λ w. ShutTurn w offer.provider) (sym is) order in
-        let more : List Place = s.lanes ++ place_behind s.lanes offer.claim year ∷ [] in
+        let more : List Place = s.lanes ++ next_place s.lanes offer.claim year ∷ [] in
         let when' : b ≡ is_due s.terms.now (length more) (with_accept s.intakes offer.provider) =
         when ∙ ap (λ l. is_due s.terms.now (length l) intakes) lanes_are ∙ ap (is_due s.terms.now (length more)) intakes_are in
         let journal' : J2 ≡ closed_where b (s.journal.items ++ Accept offer.provider offer.place ∷ []) = journal_is ∙ ap (closed_where b) accept_is in
@@ -226,7 +226,7 @@ module _ (s : Inside) (g : GateParts) (is : seen s ≡ g) (kept : Keeps s) where
               (λ T terms.
               subst (λ j. Offers (at T (seen s)) offer.provider offer.place (OfferReply.Accepted position) (gate_of T j)) (sym journal')
               (subst (λ n. Offers (at T (seen s)) offer.provider offer.place (OfferReply.Accepted n) (gate_of T (closed_where b (s.journal.items ++ Accept offer.provider offer.place ∷ []))))
-              (sym stands) (answers T terms)));
+              (sym located) (answers T terms)));
           goes_on =
               subst (λ w. Continues w.journal J2) is
               (subst (Continues s.journal.items) (sym journal') (event_goes_on b s.journal.items (Accept offer.provider offer.place)));
@@ -307,14 +307,14 @@ module _ (s : Inside) (g : GateParts) (is : seen s ≡ g) (kept : Keeps s) where
       subst (λ j. Takes (at T (seen s)) TakeReply.NothingReady (gate_of T j)) (sym same)
       (take_nothing s.terms.now s.journal.items s.stopped s.lanes s.intakes s.closed s.decisions kept T terms (subst InTurn lanes_are turns) runs (λ h. not_over (over_seen h)) none))
 
-  module _ (picked : Picked) (acc : Acc) (J2 : List Event) (lanes : List Place) where
+  module _ (picked : ReadyClaim) (acc : Acc) (J2 : List Event) (lanes : List Place) where
     -- a claim that is taken
     pub record IsTaken : Type 0 where
       pub keeps : IsKept s.terms.now J2 lanes s.intakes s.closed s.decisions
       pub reply : ForTerms g.terms (λ T. Takes (at T g) (TakeReply.Work picked.position picked.claim acc) (gate_of T J2))
 
     pub takes : TakeGoes → InTurn lanes → s.stopped ≡ false → (IsOver g.journal → ⊥) → IsPicked s.lanes picked
-        → acc ≡ started (opening (accounts_of s.terms.now.balances) (account_of s.terms.now.plan picked.claim)) picked.own picked.household
+        → acc ≡ started (opening (accounts_of s.terms.now.balances) (account_of s.terms.now.plan picked.claim)) picked.own picked.family_year
         → lanes ≡ with_phase s.lanes picked.position InWork → J2 ≡ s.journal.items ++ Take picked.position ∷ []
         → IsTaken
     takes goes turns runs not_over is_picked begins lanes_are journal_is =
@@ -333,7 +333,7 @@ module _ (s : Inside) (g : GateParts) (is : seen s ≡ g) (kept : Keeps s) where
 
   -- a decision that is recorded
   pub records : (job : Job) (outcome : Outcome) (left : Acc) (J2 : List Event) (lanes : List Place) → FinishGoes
-      → g.stopped ≡ false → decided g.journal job.position ≡ false → taken g.journal job.position ≡ true
+      → g.stopped ≡ false → has_decision g.journal job.position ≡ false → has_take g.journal job.position ≡ true
       → ForTerms g.terms (λ T. IsJob T g.journal job.position job.claim job.acc) → outcome ≡ outcome_of g.terms.plan job.claim job.acc
       → left ≡ accumulated true true job.acc outcome → lanes ≡ with_decision s.lanes job.position left
       → J2 ≡ s.journal.items ++ Decide job.position outcome ∷ []
@@ -341,8 +341,8 @@ module _ (s : Inside) (g : GateParts) (is : seen s ≡ g) (kept : Keeps s) where
   records job outcome left J2 lanes goes runs once in_work its settled leaves lanes_are journal_is =
       let keeps = kept_decision s.terms.now s.journal.items s.stopped s.lanes s.intakes s.closed s.decisions kept goes
       job.position job.claim job.acc left outcome (runs_so runs)
-      (subst (λ w. decided w.journal job.position ≡ false) (sym is) once)
-      (subst (λ w. taken w.journal job.position ≡ true) (sym is) in_work)
+      (subst (λ w. has_decision w.journal job.position ≡ false) (sym is) once)
+      (subst (λ w. has_take w.journal job.position ≡ true) (sym is) in_work)
       (subst (λ w. ForTerms w.terms (λ T. IsJob T w.journal job.position job.claim job.acc)) (sym is) its)
       (subst (λ w. outcome ≡ outcome_of w.terms.plan job.claim job.acc) (sym is) settled)
       leaves in
@@ -368,7 +368,7 @@ pub record IsStarted (terms : TermsParts) (J : List Event) (lanes : List Place) 
   pub journal : J ≡ first_journal terms.cutoff
 
 pub starts : (terms : TermsParts) (files : List (Bor (List ℕ))) (J1 J2 : List Event) (lanes : List Place) (intakes : List Intake) (b : Bool)
-    → StartsLawful → AreTerms terms → texts_of files ≡ terms.files → lanes ≡ [] → intakes ≡ replicate (length files) none_yet
+    → EmptyJournalIsLawful → AreTerms terms → texts_of files ≡ terms.files → lanes ≡ [] → intakes ≡ replicate (length files) none_yet
     → J1 ≡ [] → J2 ≡ closed_where b J1 → b ≡ is_due terms 0 intakes → IsStarted terms J2 lanes intakes b
 starts terms files J1 J2 lanes intakes b lawful are files_are no_lanes intakes_are first journal_is when =
     let many : length files ≡ length terms.files = sym (length-map files (λ (f : Bor (List ℕ)). f.now)) ∙ ap length files_are in
@@ -393,7 +393,7 @@ pub over_finished : (T : Terms) (J K : List Event) → K ≡ J → Lawful T J �
 over_finished T J K same lawful over = subst (Finished T) (sym same) (record { lawful = lawful; closed = over.closed; all = over.all })
 
 -- where the last of the account and of its household left something, what the account began with is no part of it
-pub begun_alike : (own household : Option Acc) (a b : Acc) → (is_some own && is_some household) ≡ true → started a own household ≡ started b own household
-begun_alike None household a b h = absurd (both_ways false refl h)
+pub begun_alike : (own family_year : Option Acc) (a b : Acc) → (is_some own && is_some family_year) ≡ true → started a own family_year ≡ started b own family_year
+begun_alike None family_year a b h = absurd (both_ways false refl h)
 begun_alike (Some x) None a b h = absurd (both_ways false refl h)
 begun_alike (Some x) (Some y) a b h = refl

@@ -6,7 +6,7 @@ use Rattle.settlement.specs.declared.claim.Claim.{Claim}
 use Rattle.journal.specs.Terms.{Terms}
 use Rattle.journal.specs.Events.{IsJob}
 use Rattle.journal.specs.Gate.{LeadsTo}
-use Rattle.journal.specs.Laws.{JobsStay}
+use Rattle.journal.specs.Laws.{JobsAreStable}
 use Rattle.turn_lock.specs.TicketShown.{HasMet}
 use Rattle.turn_lock.specs.declared.ticket.view.LiveView.{LiveView as Seen}
 use Rattle.claim_gate.specs.Locked.{known_by}
@@ -15,7 +15,7 @@ use Rattle.std.proofs.Common.{◌||◌, Bool, true, List}
 use Rattle.std.proofs.lemmas.Bool.{or_cases, or_left, or_right}
 use Rattle.std.specs.List.{list_any}
 use Rattle.std.proofs.lemmas.List.Folds.{list_any-append}
-use Rattle.journal.specs.Events.{closed, ended, is_close, is_end}
+use Rattle.journal.specs.Events.{closed, has_end, is_close, is_end}
 use Rattle.journal.specs.Gate.{Continues}
 use Rattle.journal.specs.declared.event.Event.{Event}
 use Rattle.claim_gate.specs.Shared.{HadSection, HaveMet, InTurn, IsLawful, Known, is_past}
@@ -26,7 +26,7 @@ leads_at T earlier later leads = record { terms = refl; journal = leads.journal;
 
 -- a job that the caller has seen is one in the state that is found
 pub job_stays :
-    JobsStay → (seen found : GateParts) (position : ℕ) (claim : Claim) (acc : Acc) → LeadsTo seen found
+    JobsAreStable → (seen found : GateParts) (position : ℕ) (claim : Claim) (acc : Acc) → LeadsTo seen found
     → ForTerms seen.terms (λ T. IsJob T seen.journal position claim acc) → ForTerms found.terms (λ T. IsJob T found.journal position claim acc)
 job_stays stay seen found position claim acc leads job =
     λ T is. stay (at T seen) (at T found) position claim acc (leads_at T seen found leads) (job T (subst (λ terms. IsTermsOf terms T) leads.terms is))
@@ -60,12 +60,12 @@ any_goes_on test J K on h =
 
 -- a provider that is past stays so
 pub past_stays : (seen found : GateParts) (q : ℕ) → LeadsTo seen found → is_past seen q ≡ true → is_past found q ≡ true
-past_stays seen found q leads past = elim (or_cases (seen.stopped || closed seen.journal) (ended seen.journal q) past) [
-  | inl shut ↦ or_left (found.stopped || closed found.journal) (ended found.journal q) (elim (or_cases seen.stopped (closed seen.journal) shut) [
+past_stays seen found q leads past = elim (or_cases (seen.stopped || closed seen.journal) (has_end seen.journal q) past) [
+  | inl shut ↦ or_left (found.stopped || closed found.journal) (has_end found.journal q) (elim (or_cases seen.stopped (closed seen.journal) shut) [
     | inl stopped ↦ or_left found.stopped (closed found.journal) (ap (λ (g : GateParts). g.stopped) (leads.stop stopped) ∙ stopped)
     | inr is_closed ↦ or_right found.stopped (closed found.journal) (any_goes_on is_close seen.journal found.journal leads.journal is_closed)
   ])
-  | inr has_ended ↦ or_right (found.stopped || closed found.journal) (ended found.journal q) (any_goes_on (is_end q) seen.journal found.journal leads.journal has_ended)
+  | inr has_ended ↦ or_right (found.stopped || closed found.journal) (has_end found.journal q) (any_goes_on (is_end q) seen.journal found.journal leads.journal has_ended)
 ]
 
 -- what is in turn by what was seen is so by what is found

@@ -15,7 +15,7 @@ record ClaimsOf (names : List InputData) (text : List ℕ) : Type 0 where
 
 some_claims : FilesHaveRows → (names : List InputData) (text : List ℕ) → IsClaimFile names text → ¬ ¬ ClaimsOf names text
 some_claims law names text file k =
-    law names text file.layout file.records file.sheet (λ rs.
+    law names text file.layout file.records file.headered_file (λ rs.
     k (record { claims = claims_among rs.rows; are = record { rows = rs.rows; are_rows = rs.are; claims_are = refl } }))
 
 -- the claims of all files

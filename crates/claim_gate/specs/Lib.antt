@@ -2,7 +2,7 @@ pub mod Terms
 pub mod TermsFault
 pub mod Intakes
 pub mod Parts
-pub mod Kept
+pub mod GateIndex
 pub mod Replies
 pub mod FaultNumber
 pub mod Shared

@@ -2,7 +2,7 @@
 use Rattle.std.specs.Prelude.{◌≡◌, ◌<◌, ◌++◌, ℕ, true, List, [], ◌∷◌, length, Some, Result, Ok, Err, cond, Option}
 use Rattle.settlement.specs.declared.outcome.Outcome.{Outcome}
 use Rattle.journal.specs.Terms.{Terms, IsProvider, claims_of}
-use Rattle.journal.specs.Events.{accepted, closed, decided, claim_filed, reached}
+use Rattle.journal.specs.Events.{accepted_count, closed, has_decision, claim_filed, reached}
 use Rattle.journal.specs.Gate.{OfferReply, EndReply, TakeReply, FinishReply}
 use Rattle.journal.specs.declared.event.Event.{Event}
 use Rattle.journal.specs.declared.event.Event.TheVariants.{Close, Take}
@@ -30,7 +30,7 @@ offer_refusal offer.OutOfMemory = OfferReply.NoMemory
 
 -- the answer of `offer`
 abbrev pub offer_reply : Result Accepted (OfferFault × Offer) → OfferReply
-offer_reply (Ok accepted) = OfferReply.Accepted accepted.position
+offer_reply (Ok accepted_count) = OfferReply.Accepted accepted_count.position
 offer_reply (Err refused) = offer_refusal refused.0
 
 -- the answer of `end`
@@ -72,7 +72,7 @@ pub record HasClaims (T : Terms) (provider count : ℕ) : Type 0 where
 -- the journal is closed, and each accepted claim is decided
 pub record IsOver (J : List Event) : Type 0 where
   pub closed : closed J ≡ true
-  pub all : (position : ℕ) → position < accepted J → decided J position ≡ true
+  pub all : (position : ℕ) → position < accepted_count J → has_decision J position ≡ true
 
 -- what `take` does: work goes with its take behind the journal, and nothing else changes anything
 abbrev pub IsWorkOf : GateParts → GateParts → Taken → Type 0

@@ -1,7 +1,7 @@
 -- A gate that several callers share: what one of them knows of it, and what a call tells.
 use Rattle.std.specs.Prelude.{◌≡◌, ◌⊎◌, ◌<◌, ◌≤◌, ◌||◌, ◌+◌, ℕ, Bool, true}
 use Rattle.journal.specs.Gate.{GateAt, LeadsTo}
-use Rattle.journal.specs.Events.{closed, ended}
+use Rattle.journal.specs.Events.{closed, has_end}
 use Rattle.journal.specs.Lawful.{Lawful}
 use Rattle.journal.specs.Order.{IsInOrder}
 use Rattle.claim_gate.specs.Terms.{ForTerms}
@@ -17,7 +17,7 @@ IsOrdered gate = gate.terms.in_order ≡ true → ForTerms gate.terms (λ T. IsI
 
 -- the gate accepts nothing more, or the provider has ended
 abbrev pub is_past : GateParts → ℕ → Bool
-is_past gate provider = (gate.stopped || closed gate.journal) || ended gate.journal provider
+is_past gate provider = (gate.stopped || closed gate.journal) || has_end gate.journal provider
 
 -- where the gate's terms are in order, nothing more of the files in front of a provider's is accepted
 abbrev pub InTurn : GateParts → ℕ → Type 0

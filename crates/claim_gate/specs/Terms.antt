@@ -7,7 +7,7 @@ use Rattle.dtable.specs.declared.table.InputData.{InputData}
 use Rattle.settlement.specs.declared.claim.Claim.{Claim}
 use Rattle.intake_csv.specs.Records.{Fields}
 use Rattle.intake_csv.specs.ClaimFile.{FileParts, IsFileOf}
-use Rattle.intake_csv.specs.Columns.{IsSheet, claim_columns}
+use Rattle.intake_csv.specs.Columns.{IsHeaderedFile, claim_columns}
 use Rattle.intake_csv.specs.Rows.{AreRowsOf, claims_among}
 use Rattle.intake_csv.specs.Balances.{AreBalances, Book, accounts_of}
 use Rattle.intake_csv.specs.declared.column.Layout.{Layout}
@@ -61,7 +61,7 @@ text_in text = option_map (λ t. t.now) text
 pub record IsClaimFile (names : List InputData) (text : List ℕ) : Type 0 where
   pub layout : Layout
   pub records : List Fields
-  pub sheet : IsSheet (claim_columns names) text layout records
+  pub headered_file : IsHeaderedFile (claim_columns names) text layout records
 
 -- these are the files of the texts
 abbrev pub AreFilesOf : List InputData → List (List ℕ) → List FileParts → Type 0

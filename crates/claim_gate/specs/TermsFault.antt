@@ -16,14 +16,14 @@ use Rattle.faults.specs.declared.terms_fault.TermsFault.TheVariants.{NoRoles, Fi
 -- the text is no file of claims, for this reason
 pub record IsRefused (names : List InputData) (text : List ℕ) (fault : FileFault) : Type 0 where
   pub reason : HasFileFault (claim_columns names) text fault
-  pub told : fault ≢ file.OutOfMemory
+  pub reported : fault ≢ file.OutOfMemory
 
 -- the provider's file is the first that is no file of claims, for this reason; providers count from 1
 pub record RefusesFile (names : List InputData) (files : List (List ℕ)) (provider : ℕ) (fault : FileFault) : Type 0 where
   pub place : ℕ
   pub numbered : provider ≡ place + 1
   pub text : List ℕ
-  pub stands : slice_get files place ≡ Some text
+  pub located : slice_get files place ≡ Some text
   pub refused : IsRefused names text fault
   pub before : All (IsClaimFile names) (take place files)
 
@@ -32,7 +32,7 @@ pub record RefusesBalances (plan : PlanParts) (balances : Option (List ℕ)) (fa
   pub text : List ℕ
   pub given : balances ≡ Some text
   pub refused : HasBalanceFault plan.version text fault
-  pub told : fault ≢ balance.OutOfMemory
+  pub reported : fault ≢ balance.OutOfMemory
 
 -- the plan, the files and the balances make no terms, for this reason: each fault supposes that those tried before it
 -- aren't there; of want of memory nothing is said

@@ -5,8 +5,8 @@ use crate::fault::{EndFault, FinishFault, OfferFault, TakeFault};
 use crate::job::Job;
 use crate::offer::Offer;
 use crate::reply::{Accepted, Ended, Recorded, Taken};
-use journal::Decision;
-use lanes::StoredClaim;
+use journal::BoxedOutcome;
+use lanes::BoxedClaim;
 use std::sync::Wait;
 use turn_lock::Worn;
 
@@ -17,7 +17,7 @@ use turn_lock::Worn;
 /// return.
 pub trait Gate {
     ghost use Rattle.std.specs.Prelude.{◌≡◌, true, IfOk, IfErr, IsErr};
-    ghost use Rattle.journal.specs.Events.{taken, IsJob};
+    ghost use Rattle.journal.specs.Events.{has_take, IsJob};
     ghost use Rattle.journal.specs.Gate.{Offers, Ends, Takes, Finishes, Stops, Counts as AreCounts};
     ghost use Rattle.journal.specs.Settled.{outcome_of};
     ghost use Rattle.claim_gate.specs.Terms.{ForTerms};
@@ -61,11 +61,11 @@ pub trait Gate {
         ensures late { is_worn pass → IsErr result };
 
     /// Tells the gate which claims are to be offered next, so that it looks up at once what it will need for them. Nothing changes.
-    fn foresee<R: Wait>(
+    fn prefetch<R: Wait>(
         &self,
         rt: &R,
         pass: Self::Pass,
-        claims: &[StoredClaim],
+        claims: &[BoxedClaim],
     ) -> Result<Self::Pass, (Worn, Self::Pass)>
         requires { has_pass self.now pass }
         ensures served { IfOk result (IsServed (has_pass self.now) known (known pass)) }
@@ -107,13 +107,16 @@ pub trait Gate {
         rt: &R,
         pass: Self::Pass,
         job: Job,
-        outcome: Decision,
+        outcome: BoxedOutcome,
     ) -> Result<
-        (Result<Recorded, (FinishFault, Job, Decision)>, Self::Pass),
-        (Worn, Self::Pass, Job, Decision),
+        (
+            Result<Recorded, (FinishFault, Job, BoxedOutcome)>,
+            Self::Pass,
+        ),
+        (Worn, Self::Pass, Job, BoxedOutcome),
     >
         requires own { has_pass self.now pass }
-        requires in_work { taken (known pass).seen.journal job.position ≡ true }
+        requires in_work { has_take (known pass).seen.journal job.position ≡ true }
         requires job { ForTerms (known pass).seen.terms (λ T. IsJob T (known pass).seen.journal job.position job.claim job.acc) }
         requires settled { outcome ≡ outcome_of (known pass).seen.terms.plan job.claim job.acc }
         ensures served { IfOk result (λ r. IsServed (has_pass self.now) known (known pass) r.1) }

@@ -49,7 +49,7 @@ impl Intakes {
     }
 
     /// How many claims of a provider are accepted; none, where there is no such provider.
-    pub fn accepted(&self, provider: usize) -> usize
+    pub fn accepted_count(&self, provider: usize) -> usize
         ensures { result ≡ (intake_of self.now provider).accepted }
     {
         self.of(provider).accepted
@@ -97,7 +97,7 @@ impl Intakes {
     }
 
     /// How many providers have ended.
-    pub fn ended(&self) -> usize
+    pub fn ended_count(&self) -> usize
         ensures { result ≡ count_by (λ x. x.ended) self.now }
     {
         self.ended

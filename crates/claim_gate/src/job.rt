@@ -1,7 +1,7 @@
 //! Work on claims.
 ghost use Rattle.std.specs.Prelude.{◌≡◌, IfOk};
 
-use lanes::StoredClaim;
+use lanes::BoxedClaim;
 use settlement::Acc;
 use std::alloc::{AllocError, Global};
 
@@ -11,7 +11,7 @@ pub struct Job {
     /// The claim's position: how many claims were accepted before it.
     pub position: usize,
     /// The claim.
-    pub claim: StoredClaim,
+    pub claim: BoxedClaim,
     /// Its account's accumulators, as the earlier claims of its family left them.
     pub acc: Acc,
 }
@@ -23,7 +23,7 @@ impl Job {
     {
         Ok(Job {
             position: self.position,
-            claim: StoredClaim::new(alloc, self.claim.as_claim().duplicate(alloc)?)?,
+            claim: BoxedClaim::new(alloc, self.claim.as_claim().duplicate(alloc)?)?,
             acc: self.acc,
         })
     }

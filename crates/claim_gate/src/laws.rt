@@ -5,7 +5,7 @@ use crate::terms::Terms;
 use intake_csv::files_have_rows;
 
 /// No terms are without what journals see of them: each record of a file is a claim or is refused.
-pub fn terms_are_seen(terms: &Terms)
+pub fn claim_lists_exist(terms: &Terms)
     ensures { ¬ ForTerms terms.now (λ _. ⊥) }
 {
     // Known from here: each file has its rows.

@@ -10,7 +10,7 @@
 //! `TermsFault`: `specs/Terms.antt` says what terms are and what journals see of them, and `specs/TermsFault.antt` what each fault means.
 //!
 //! Begin with `specs/Parts.antt` and `specs/Replies.antt`, which tie the calls to what `journal` says of them; then read
-//! `state.rt`. What the gate keeps so that no call walks the journal stands in `specs/Kept.antt`. For the shared gate read
+//! `state.rt`. What the gate keeps so that no call walks the journal stands in `specs/GateIndex.antt`. For the shared gate read
 //! `specs/Shared.antt`, then `gate.rt` and `locked.rt`.
 #![tactic(auto)]
 
@@ -34,9 +34,9 @@ pub use fault::{EndFault, FinishFault, OfferFault, TakeFault};
 pub use faults::TermsFault;
 pub use gate::Gate;
 pub use job::Job;
-pub use journal::{Decision, Event};
-pub use lanes::StoredClaim;
-pub use laws::terms_are_seen;
+pub use journal::{BoxedOutcome, Event};
+pub use lanes::BoxedClaim;
+pub use laws::claim_lists_exist;
 pub use locked::LockedGate;
 pub use offer::Offer;
 pub use reply::{Accepted, Ended, Recorded, Taken};

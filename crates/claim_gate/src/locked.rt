@@ -11,8 +11,8 @@ use crate::job::Job;
 use crate::offer::Offer;
 use crate::reply::{Accepted, Ended, Recorded, Taken};
 use crate::serial::SerialGate;
-use journal::{Decision, jobs_stay};
-use lanes::StoredClaim;
+use journal::{BoxedOutcome, jobs_are_stable};
+use lanes::BoxedClaim;
 use std::sync::Wait;
 use turn_lock::{Pass, Section, TicketLock, Worn};
 
@@ -108,17 +108,17 @@ where
         }
     }
 
-    fn foresee<R: Wait>(
+    fn prefetch<R: Wait>(
         &self,
         rt: &R,
         pass: S::Pass,
-        claims: &[StoredClaim],
+        claims: &[BoxedClaim],
     ) -> Result<S::Pass, (Worn, S::Pass)> {
         match self.lock.lock(rt, pass) {
             Ok((mut state, holder)) => {
                 // Known from here: the journal that is left is lawful.
                 let _lawful = state.journal();
-                state.foresee(claims);
+                state.prefetch(claims);
                 Ok(self.lock.leave(holder, state))
             }
             Err(worn) => Err(worn),
@@ -164,13 +164,13 @@ where
         rt: &R,
         pass: S::Pass,
         job: Job,
-        outcome: Decision,
+        outcome: BoxedOutcome,
     ) -> Result<
-        (Result<Recorded, (FinishFault, Job, Decision)>, S::Pass),
-        (Worn, S::Pass, Job, Decision),
+        (Result<Recorded, (FinishFault, Job, BoxedOutcome)>, S::Pass),
+        (Worn, S::Pass, Job, BoxedOutcome),
     > {
         // Known from here: a job stays one in each later state of the gate.
-        jobs_stay();
+        jobs_are_stable();
         match self.lock.lock(rt, pass) {
             Ok((mut state, holder)) => {
                 // Known from here: the journal that is left is lawful.

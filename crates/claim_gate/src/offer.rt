@@ -1,6 +1,6 @@
 //! Claims, as they are offered.
 
-use lanes::StoredClaim;
+use lanes::BoxedClaim;
 
 /// A claim that is offered: that of a provider, which count from 1, at a place among the claims of its file, from 0.
 #[derive(Drop)]
@@ -10,5 +10,5 @@ pub struct Offer {
     /// The claim's place among the claims of the provider's file.
     pub place: usize,
     /// The claim.
-    pub claim: StoredClaim,
+    pub claim: BoxedClaim,
 }

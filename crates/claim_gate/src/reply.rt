@@ -1,7 +1,7 @@
 //! What the calls of a gate answer where they aren't refused.
 
 use crate::job::Job;
-use lanes::StoredClaim;
+use lanes::BoxedClaim;
 
 /// The claim is accepted.
 #[derive(Clone, Copy, PartialEq, Eq, Drop)]
@@ -31,5 +31,5 @@ pub enum Taken {
 #[derive(Drop)]
 pub struct Recorded {
     /// The claim that is decided: who had it lets it go, out of the section.
-    pub claim: StoredClaim,
+    pub claim: BoxedClaim,
 }

@@ -6,8 +6,8 @@ use crate::job::Job;
 use crate::offer::Offer;
 use crate::reply::{Accepted, Ended, Recorded, Taken};
 use crate::state::GateState;
-use journal::{Decision, Event};
-use lanes::StoredClaim;
+use journal::{BoxedOutcome, Event};
+use lanes::BoxedClaim;
 use turn_lock::Growing;
 
 impl<'t> Growing for GateState<'t> {
@@ -28,7 +28,7 @@ impl<'t> Growing for GateState<'t> {
 pub trait SerialGate: Growing {
     ghost use Rattle.std.specs.Prelude.{◌≡◌, true, IfOk, IfErr};
     ghost use Rattle.journal.specs.Terms.{Terms as AnyTerms};
-    ghost use Rattle.journal.specs.Events.{taken, IsJob};
+    ghost use Rattle.journal.specs.Events.{has_take, IsJob};
     ghost use Rattle.journal.specs.Gate.{Offers, Ends, Takes, Finishes, Counts as AreCounts};
     ghost use Rattle.journal.specs.Settled.{outcome_of};
     ghost use Rattle.claim_gate.specs.Terms.{ForTerms};
@@ -55,8 +55,8 @@ pub trait SerialGate: Growing {
         ensures lawful { IsLawful (shown self.new) }
         ensures back { IfErr result (λ refused. refused.1 ≡ offer) };
 
-    /// `GateState::foresee`.
-    fn foresee(&mut self, claims: &[StoredClaim])
+    /// `GateState::prefetch`.
+    fn prefetch(&mut self, claims: &[BoxedClaim])
         ensures grown { Self.leads self.old self.new }
         ensures same { shown self.new ≡ shown self.old }
         ensures lawful { IsLawful (shown self.new) };
@@ -79,9 +79,9 @@ pub trait SerialGate: Growing {
     fn finish(
         &mut self,
         job: Job,
-        outcome: Decision,
-    ) -> Result<Recorded, (FinishFault, Job, Decision)>
-        requires in_work { taken (shown self.old).journal job.position ≡ true }
+        outcome: BoxedOutcome,
+    ) -> Result<Recorded, (FinishFault, Job, BoxedOutcome)>
+        requires in_work { has_take (shown self.old).journal job.position ≡ true }
         requires job { ForTerms (shown self.old).terms (λ T. IsJob T (shown self.old).journal job.position job.claim job.acc) }
         requires settled { outcome ≡ outcome_of (shown self.old).terms.plan job.claim job.acc }
         ensures grown { Self.leads self.old self.new }
@@ -117,8 +117,8 @@ impl<'t> SerialGate for GateState<'t> {
         self.offer(offer)
     }
 
-    fn foresee(&mut self, claims: &[StoredClaim]) {
-        self.foresee(claims);
+    fn prefetch(&mut self, claims: &[BoxedClaim]) {
+        self.prefetch(claims);
     }
 
     fn end(&mut self, provider: usize, count: usize) -> Result<Ended, EndFault> {
@@ -132,8 +132,8 @@ impl<'t> SerialGate for GateState<'t> {
     fn finish(
         &mut self,
         job: Job,
-        outcome: Decision,
-    ) -> Result<Recorded, (FinishFault, Job, Decision)> {
+        outcome: BoxedOutcome,
+    ) -> Result<Recorded, (FinishFault, Job, BoxedOutcome)> {
         self.finish(job, outcome)
     }
 
@@ -160,8 +160,8 @@ impl<V: SerialGate> SerialGate for Box<V> {
         (**self).offer(offer)
     }
 
-    fn foresee(&mut self, claims: &[StoredClaim]) {
-        (**self).foresee(claims);
+    fn prefetch(&mut self, claims: &[BoxedClaim]) {
+        (**self).prefetch(claims);
     }
 
     fn end(&mut self, provider: usize, count: usize) -> Result<Ended, EndFault> {
@@ -175,8 +175,8 @@ impl<V: SerialGate> SerialGate for Box<V> {
     fn finish(
         &mut self,
         job: Job,
-        outcome: Decision,
-    ) -> Result<Recorded, (FinishFault, Job, Decision)> {
+        outcome: BoxedOutcome,
+    ) -> Result<Recorded, (FinishFault, Job, BoxedOutcome)> {
         (**self).finish(job, outcome)
     }
 

@@ -2,14 +2,14 @@
 ghost use Rattle.std.specs.Prelude.{◌≡◌, ◌+◌, ◌<◌, ◌≤◌, ◌≢◌, ◌↔◌, ◌++◌, ◌∷◌, [], true, false, cond, IsTrue, length, vec_len, vec_capacity, IfOk, IfErr, OnOk, OnErr};
 ghost use Rattle.settlement.specs.Opening.{opening};
 ghost use Rattle.journal.specs.Terms.{Terms as AnyTerms};
-ghost use Rattle.journal.specs.Events.{places, ended, closed, taken, decided, reached, IsJob};
+ghost use Rattle.journal.specs.Events.{places, has_end, closed, has_take, has_decision, reached, IsJob};
 ghost use Rattle.journal.specs.Gate.{LeadsTo, Offers, Ends, Takes, Finishes, Stops, Counts as AreCounts};
 ghost use Rattle.journal.specs.Settled.{outcome_of};
 ghost use Rattle.journal.specs.declared.event.Event.TheVariants as events;
 ghost use Rattle.lanes.specs.Places.{started};
 ghost use Rattle.settlement.specs.Accounts.{account_of};
 ghost use Rattle.intake_csv.specs.Balances.{accounts_of};
-ghost use Rattle.claim_gate.specs.Kept.{is_due};
+ghost use Rattle.claim_gate.specs.GateIndex.{is_due};
 ghost use Rattle.claim_gate.specs.Terms.{ForTerms};
 ghost use Rattle.claim_gate.specs.Parts.{at};
 ghost use Rattle.claim_gate.specs.Replies.{offer_reply, end_reply, take_reply, finish_reply, IsFiled, HasClaims, IsOver, IsWorkOf, first_journal};
@@ -22,8 +22,10 @@ use crate::job::Job;
 use crate::offer::Offer;
 use crate::reply::{Accepted, Ended, Recorded, Taken};
 use crate::terms::Terms;
-use journal::{Decision, Event, acceptance_stays_in_order, gate_stays_lawful, starts_lawful};
-use lanes::{Lanes, Picked, StoredClaim};
+use journal::{
+    BoxedOutcome, Event, acceptance_stays_in_order, empty_journal_is_lawful, gate_keeps_lawful,
+};
+use lanes::{BoxedClaim, Lanes, ReadyClaim};
 use settlement::{Acc, account_year, after};
 use std::alloc::{AllocError, Global};
 use std::marker::Model;
@@ -57,7 +59,7 @@ impl Drop for GateState<'_> {
 }
 
 impl<'t> Model for GateState<'t> {
-    ghost use Rattle.claim_gate.specs.Kept.{IsKept};
+    ghost use Rattle.claim_gate.specs.GateIndex.{IsKept};
     ghost use Rattle.claim_gate.specs.Parts.{GateParts};
 
     ghost Value = { GateParts };
@@ -73,7 +75,7 @@ impl<'t> GateState<'t> {
         ensures { IfOk result (λ made. made ≡ record { terms = terms.now; journal = first_journal terms.now.cutoff; stopped = false }) }
     {
         // Known from here: the journal of no event is lawful.
-        starts_lawful();
+        empty_journal_is_lawful();
         let mut journal = Vec::new(alloc);
         journal.reserve(1)?;
         let intakes = Intakes::new(alloc, terms.files().len())?;
@@ -131,7 +133,7 @@ impl<'t> GateState<'t> {
         if self.closed {
             return Err((OfferFault::Closed, offer));
         }
-        let expected = self.intakes.accepted(offer.provider);
+        let expected = self.intakes.accepted_count(offer.provider);
         if offer.place != expected {
             return Err((OfferFault::OutOfTurn { expected }, offer));
         }
@@ -152,7 +154,7 @@ impl<'t> GateState<'t> {
         ensures refused { OnErr result (self.new ≡ self.old) }
     {
         // Known from here: from a lawful journal each call goes to a lawful one, and an accept in turn leaves the order.
-        gate_stays_lawful();
+        gate_keeps_lawful();
         acceptance_stays_in_order();
         if self.journal.reserve(2).is_err() {
             return Err((OfferFault::OutOfMemory, offer));
@@ -181,11 +183,11 @@ impl<'t> GateState<'t> {
     }
 
     /// Reads what these claims will need when they are offered, many at once, so that each offer finds it at hand. Nothing changes.
-    pub fn foresee(&mut self, claims: &[StoredClaim])
+    pub fn prefetch(&mut self, claims: &[BoxedClaim])
         ensures same { self.new ≡ self.old }
         ensures lawful { IsLawful self.new }
     {
-        self.lanes.foresee(claims);
+        self.lanes.prefetch(claims);
     }
 
     /// Ends a provider whose claims, so many, are all accepted.
@@ -197,14 +199,14 @@ impl<'t> GateState<'t> {
         ensures refused { OnErr result (self.new ≡ self.old) }
     {
         // Known from here: from a lawful journal each call goes to a lawful one.
-        gate_stays_lawful();
+        gate_keeps_lawful();
         if self.stopped {
             return Err(EndFault::Stopped);
         }
         if self.closed {
             return Err(EndFault::Closed);
         }
-        let expected = self.intakes.accepted(provider);
+        let expected = self.intakes.accepted_count(provider);
         if expected < count {
             return Err(EndFault::OutOfTurn { expected });
         }
@@ -230,7 +232,7 @@ impl<'t> GateState<'t> {
         ensures refused { OnErr result (self.new ≡ self.old) }
     {
         // Known from here: from a lawful journal each call goes to a lawful one.
-        gate_stays_lawful();
+        gate_keeps_lawful();
         if self.stopped {
             return Ok(Taken::Stopped);
         }
@@ -257,9 +259,9 @@ impl<'t> GateState<'t> {
     pub fn finish(
         &mut self,
         job: Job,
-        outcome: Decision,
-    ) -> Result<Recorded, (FinishFault, Job, Decision)>
-        requires in_work { taken self.old.journal job.position ≡ true }
+        outcome: BoxedOutcome,
+    ) -> Result<Recorded, (FinishFault, Job, BoxedOutcome)>
+        requires in_work { has_take self.old.journal job.position ≡ true }
         requires job { ForTerms self.old.terms (λ T. IsJob T self.old.journal job.position job.claim job.acc) }
         requires settled { outcome ≡ outcome_of self.old.terms.plan job.claim job.acc }
         ensures reply { ForTerms self.old.terms (λ T. Finishes (at T self.old) job.position outcome (finish_reply result) (at T self.new)) }
@@ -283,11 +285,11 @@ impl<'t> GateState<'t> {
     fn record(
         &mut self,
         job: Job,
-        outcome: Decision,
-    ) -> Result<Recorded, (FinishFault, Job, Decision)>
+        outcome: BoxedOutcome,
+    ) -> Result<Recorded, (FinishFault, Job, BoxedOutcome)>
         requires runs { self.old.stopped ≡ false }
-        requires once { decided self.old.journal job.position ≡ false }
-        requires in_work { taken self.old.journal job.position ≡ true }
+        requires once { has_decision self.old.journal job.position ≡ false }
+        requires in_work { has_take self.old.journal job.position ≡ true }
         requires job { ForTerms self.old.terms (λ T. IsJob T self.old.journal job.position job.claim job.acc) }
         requires settled { outcome ≡ outcome_of self.old.terms.plan job.claim job.acc }
         ensures reply { ForTerms self.old.terms (λ T. Finishes (at T self.old) job.position outcome (finish_reply result) (at T self.new)) }
@@ -299,7 +301,7 @@ impl<'t> GateState<'t> {
         ensures refused { OnErr result (self.new ≡ self.old) }
     {
         // Known from here: from a lawful journal each call goes to a lawful one.
-        gate_stays_lawful();
+        gate_keeps_lawful();
         let left = after(job.acc, outcome.outcome()).unwrap();
         if self.journal.reserve(1).is_err() {
             return Err((FinishFault::OutOfMemory, job, outcome));
@@ -327,7 +329,7 @@ impl<'t> GateState<'t> {
     {
         Counts {
             accepted: self.lanes.len(),
-            ended: self.intakes.ended(),
+            ended: self.intakes.ended_count(),
             decided: self.decisions,
             closed: self.closed,
             stopped: self.stopped,
@@ -343,8 +345,8 @@ impl<'t> GateState<'t> {
 }
 
 // What a claim that is picked is decided at. The terms are asked what its account begins with where that is a part of it alone.
-fn start_of(terms: &Terms, picked: &Picked) -> Acc
-    ensures { result ≡ started (opening (accounts_of terms.now.balances) (account_of terms.now.plan picked.now.claim)) picked.now.own picked.now.household }
+fn start_of(terms: &Terms, picked: &ReadyClaim) -> Acc
+    ensures { result ≡ started (opening (accounts_of terms.now.balances) (account_of terms.now.plan picked.now.claim)) picked.now.own picked.now.family_year }
 {
     if picked.has_begun() {
         return picked.start(Acc::zero());

@@ -6,7 +6,7 @@ ghost use Rattle.settlement.specs.Accounts.{account_of};
 ghost use Rattle.settlement.specs.Opening.{opening};
 ghost use Rattle.intake_csv.specs.Balances.{accounts_of};
 ghost use Rattle.intake_csv.specs.ClaimFile.{IsFileOf};
-ghost use Rattle.intake_csv.specs.Laws.{StandApart};
+ghost use Rattle.intake_csv.specs.Laws.{LieApart};
 ghost use Rattle.intake_csv.specs.Rows.{AreRowsLeft, AreRowsOf, IsAtStart};
 ghost use Rattle.intake_csv.specs.declared.rows.Row.{Row as AnyRow};
 ghost use Rattle.claim_gate.specs.Terms.{AreBalancesOf, AreFilesOf, AreTerms, AreTermsOf, text_in, texts_of};
@@ -26,7 +26,7 @@ pub const FILES_LIMIT: usize = 64;
 pub struct Terms<'a> {
     plan: &'a Plan,
     files: &'a [&'a [u8]],
-    judged: Sequence<ClaimFile<'a>>,
+    validated: Sequence<ClaimFile<'a>>,
     balances: Option<Balances>,
     cutoff: Option<u64>,
     in_order: bool,
@@ -37,7 +37,7 @@ impl Drop for Terms<'_> {
         let Terms {
             plan: _,
             files: _,
-            judged: _,
+            validated: _,
             balances: _,
             cutoff: _,
             in_order: _,
@@ -54,7 +54,7 @@ impl<'a> Model for Terms<'a> {
 
     ghost view = { λ t. record { plan = t.plan.now; files = texts_of t.files.now; balances = unwrap_or t.balances []; cutoff = t.cutoff; in_order = t.in_order } };
 
-    ghost invariant = { λ t. AreTerms (record { plan = t.plan.now; files = texts_of t.files.now; balances = unwrap_or t.balances []; cutoff = t.cutoff; in_order = t.in_order }) × AreFilesOf t.plan.now.names (texts_of t.files.now) t.judged };
+    ghost invariant = { λ t. AreTerms (record { plan = t.plan.now; files = texts_of t.files.now; balances = unwrap_or t.balances []; cutoff = t.cutoff; in_order = t.in_order }) × AreFilesOf t.plan.now.names (texts_of t.files.now) t.validated };
 }
 
 impl<'a> Terms<'a> {
@@ -96,7 +96,7 @@ impl<'a> Terms<'a> {
         Ok(Terms {
             plan,
             files,
-            judged: judge_files(alloc, plan, files)?,
+            validated: validate_files(alloc, plan, files)?,
             balances: balances_of(alloc, plan, balances)?,
             cutoff,
             in_order,
@@ -124,10 +124,10 @@ impl<'a> Terms<'a> {
         requires least { 1 ≤ provider }
         requires most { provider ≤ length self.now.files }
         ensures start { IfOk result (IsAtStart self.now.plan.names (get_or self.now.files (provider - 1) [])) }
-        ensures apart { IfOk result (λ rows. StandApart rows.layout.columns) }
+        ensures apart { IfOk result (λ rows. LieApart rows.layout.columns) }
         ensures rows { IfOk result (λ rows. (all : List AnyRow) → AreRowsLeft rows all → AreRowsOf self.now.plan.names (get_or self.now.files (provider - 1) []) all) }
     {
-        self.judged.as_slice()[provider - 1].rows(alloc)
+        self.validated.as_slice()[provider - 1].rows(alloc)
     }
 
     /// How many claims are accepted at most, if that is limited.
@@ -160,7 +160,7 @@ impl<'a> Terms<'a> {
 }
 
 // The files, whose headers have the columns that claims need under the plan; or the first that has not.
-fn judge_files<'t>(
+fn validate_files<'t>(
     alloc: Global,
     plan: &Plan,
     files: &[&'t [u8]],
@@ -168,15 +168,15 @@ fn judge_files<'t>(
     ensures ok { IfOk result (AreFilesOf plan.now.names (texts_of files.now)) }
     ensures fault { IfErr result (IsFaultOfFiles plan.now.names (texts_of files.now)) }
 {
-    let mut judged = Sequence::new(alloc);
+    let mut validated = Sequence::new(alloc);
     for place in 0..files.len() {
-        judged.push(judge_file(alloc, plan, place + 1, files[place])?)?;
+        validated.push(validate_file(alloc, plan, place + 1, files[place])?)?;
     }
-    Ok(judged)
+    Ok(validated)
 }
 
 // The provider's file, whose header has the columns that claims need under the plan.
-fn judge_file<'t>(
+fn validate_file<'t>(
     alloc: Global,
     plan: &Plan,
     provider: usize,

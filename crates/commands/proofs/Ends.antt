@@ -9,7 +9,7 @@ use Rattle.evaluation.specs.Stop.{WritesText}
 use Rattle.value_command.specs.Ends.{HasText, PutsText}
 use Rattle.value_command.proofs.Ends as value
 use Rattle.commands.specs.Ends.{IsStatusOfRefusal}
-use Rattle.console.specs.Place.{BeginsEmpty, Becomes}
+use Rattle.console.specs.AtomicTarget.{BeginsEmpty, Becomes}
 
 -- what is done has written a text
 pub ends_done : {E : Type 0} (IsText : List ℕ → Type 0) (old new : Option (List ℕ)) (answer : Result (Unit {0}) E) (status : ℕ) → OnOk answer (WritesText IsText old new)

@@ -5,15 +5,15 @@ use Rattle.clap.specs.declared.parser.matches.ArgMatches.{ArgMatches}
 use Rattle.console.specs.declared.names.TheConstants.{CHECK, RUN, VALUE}
 use Rattle.value_command.specs.Ends.{Ends, HasText, IsHelp, IsStatusOf, ValueIsDone, ValueIsRefused}
 use Rattle.value_command.specs.Texts.{IsNamedPlan, Whole}
-use Rattle.adjudicate.specs.declared.check.told.Telling.{Telling}
+use Rattle.adjudicate.specs.declared.check.report.Findings.{Findings}
 use Rattle.adjudicate.specs.declared.stop.Stop.{Stop}
 use Rattle.adjudicate.specs.RunStop.{IsRunReason}
 use Rattle.adjudicate.specs.RunText.{IsRemittance}
 use Rattle.adjudicate.specs.Stop.{IsPlanReason, status_of}
-use Rattle.adjudicate.specs.Telling.{IsToldText}
+use Rattle.adjudicate.specs.Findings.{IsReportedText}
 use Rattle.commands.specs.declared.run.Texts.{Texts}
 use Rattle.commands.specs.Texts.{HasNamedTexts, texts_at}
-use Rattle.commands.specs.Words.{IsCutoff, IsStrict, IsTelling, IsWorkers}
+use Rattle.commands.specs.Words.{IsCutoff, IsStrict, IsFindings, IsWorkers}
 
 -- there is such a refusal, and this is its status
 abbrev pub IsStatusOfRefusal : (Stop → Type 0) → ℕ → Type 0
@@ -23,9 +23,9 @@ IsStatusOfRefusal IsReason status = IsStatusOf status_of IsReason status
 pub record CheckIsDone (whole : Whole) (words : ArgMatches) : Type 0 where
   pub plan : List ℕ
   pub named : IsNamedPlan whole words plan
-  pub telling : Telling
-  pub tells : IsTelling words telling
-  pub has_text : HasText (IsToldText telling plan)
+  pub findings : Findings
+  pub reports : IsFindings words findings
+  pub has_text : HasText (IsReportedText findings plan)
 
 -- this is the status of a refusal of the plan that is named
 pub record PlanIsRefused (whole : Whole) (words : ArgMatches) (status : ℕ) : Type 0 where

@@ -4,9 +4,9 @@ use Rattle.std.specs.Option.{SomeIff}
 use Rattle.std.specs.Str.Parse.{IsNumeral, digits_value, without_leading_plus}
 use Rattle.clap.specs.Words.{found_of, one_text}
 use Rattle.clap.specs.declared.parser.matches.ArgMatches.{ArgMatches}
-use Rattle.console.specs.declared.names.TheConstants.{CUTOFF, HARMFUL, STRICT, WORKERS}
-use Rattle.adjudicate.specs.declared.check.told.Telling.{Telling}
-use Rattle.adjudicate.specs.declared.check.told.Telling.TheVariants.{All, Harmful}
+use Rattle.console.specs.declared.names.TheConstants.{CUTOFF, ERRORS_ONLY, STRICT, WORKERS}
+use Rattle.adjudicate.specs.declared.check.report.Findings.{Findings}
+use Rattle.adjudicate.specs.declared.check.report.Findings.TheVariants.{All, Errors}
 
 -- the text by which a flag or a number is told, if there is one
 abbrev pub text_at : ArgMatches → List ℕ → Option (List ℕ)
@@ -30,13 +30,13 @@ abbrev pub IsStrict : ArgMatches → Type 0
 IsStrict matches = IsFlag (text_at matches STRICT.now) true
 
 -- of the gaps and overlaps those that are faults are told alone
-abbrev pub is_harmful : Telling → Bool
-is_harmful All = false
-is_harmful Harmful = true
+abbrev pub is_errors_only : Findings → Bool
+is_errors_only All = false
+is_errors_only Errors = true
 
 -- this is what a check is to tell
-abbrev pub IsTelling : ArgMatches → Telling → Type 0
-IsTelling matches telling = IsFlag (text_at matches HARMFUL.now) (is_harmful telling)
+abbrev pub IsFindings : ArgMatches → Findings → Type 0
+IsFindings matches findings = IsFlag (text_at matches ERRORS_ONLY.now) (is_errors_only findings)
 
 -- so many claims are to be accepted at most
 abbrev pub IsCutoff : ArgMatches → Option ℕ → Type 0

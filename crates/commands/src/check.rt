@@ -3,20 +3,20 @@
 ghost use Rattle.std.specs.Prelude.{◌≡◌, ◌≢◌, ◌≤◌};
 ghost use Rattle.std.specs.Io.KnownBytes.{Keeps};
 ghost use Rattle.adjudicate.specs.Stop.{IsPlanReason};
-ghost use Rattle.adjudicate.specs.Telling.{IsToldText};
+ghost use Rattle.adjudicate.specs.Findings.{IsReportedText};
 ghost use Rattle.value_command.specs.Ends.{HasText, PutsText};
 ghost use Rattle.commands.specs.Ends.{CheckIsDone, CheckIsRefused, IsStatusOfRefusal};
 
 use crate::explaining::{AboutFiles, explain_refusal};
-use crate::strict::unread;
-use crate::words::{is_strict, telling_of};
-use adjudicate::{Telling, do_telling_check};
+use crate::strict::unused_status;
+use crate::words::{findings_of, is_strict};
+use adjudicate::{Findings, do_findings_check};
 use clap::ArgMatches;
-use console::{DONE, Place, REFUSED, RESOURCE, Sources};
+use console::{AtomicTarget, DONE, REFUSED, RESOURCE, Sources};
 use fixpoint::Out;
 use std::io;
 use std::rt::Files;
-use value_command::{About, ended, output_of, placed, plan_of, unwritable};
+use value_command::{About, commit_output, exit_status_of, output_of, plan_of, report_unwritable};
 
 /// The command `check`.
 pub fn check_of<R: Files + Print + Eprint + AllocGlobal, S: Sources>(
@@ -33,11 +33,11 @@ pub fn check_of<R: Files + Print + Eprint + AllocGlobal, S: Sources>(
         Ok(plan) => plan,
         Err(status) => return status,
     };
-    let telling = telling_of(matches);
-    let status = check_plan(rt, matches, plan.as_slice(), telling, explains);
+    let findings = findings_of(matches);
+    let status = check_plan(rt, matches, plan.as_slice(), findings, explains);
     // Also of a plan that is refused: such a key may be why.
     if status <= REFUSED && is_strict(matches) {
-        return status.max(unread(rt, plan.as_slice()));
+        return status.max(unused_status(rt, plan.as_slice()));
     }
     status
 }
@@ -47,11 +47,11 @@ fn check_plan<R: Files + Print + Eprint + AllocGlobal>(
     rt: &R,
     matches: &ArgMatches<'_>,
     plan: &[u8],
-    telling: Telling,
+    findings: Findings,
     explains: bool,
 ) -> u8
     ensures known { result ≤ RESOURCE }
-    ensures done { result ≡ DONE → HasText (IsToldText telling plan.now) }
+    ensures done { result ≡ DONE → HasText (IsReportedText findings plan.now) }
     ensures refused { result ≢ DONE → IsStatusOfRefusal (IsPlanReason plan.now) result }
 {
     let about = About {
@@ -60,8 +60,8 @@ fn check_plan<R: Files + Print + Eprint + AllocGlobal>(
         plan,
     };
     match output_of(rt, &about) {
-        Ok(Some(mut file)) => check_into(rt, &about, plan, telling, &mut file),
-        Ok(None) => check(rt, &about, plan, telling),
+        Ok(Some(mut file)) => check_into(rt, &about, plan, findings, &mut file),
+        Ok(None) => check(rt, &about, plan, findings),
         Err(status) => status,
     }
 }
@@ -72,40 +72,40 @@ fn check<R: Print + Eprint + AllocGlobal>(
     rt: &R,
     about: &About,
     plan: &[u8],
-    telling: Telling,
+    findings: Findings,
 ) -> u8
     ensures known { result ≤ RESOURCE }
-    ensures done { result ≡ DONE → HasText (IsToldText telling plan.now) }
+    ensures done { result ≡ DONE → HasText (IsReportedText findings plan.now) }
     ensures refused { result ≢ DONE → IsStatusOfRefusal (IsPlanReason plan.now) result }
 {
     let mut out = Out::new(io::writer(rt));
-    let answer = do_telling_check(rt.alloc(), plan, telling, &mut out);
-    let status = ended(rt, &answer);
+    let answer = do_findings_check(rt.alloc(), plan, findings, &mut out);
+    let status = exit_status_of(rt, &answer);
     explain_refusal(rt, &AboutFiles::of_plan(*about), &answer);
     status
 }
 
 /// The same into a place, which has the whole text then or what stood there before.
 #[tactic(auto, using(crate::proofs::Ends::placed_done, crate::proofs::Ends::kept_twice))]
-fn check_into<R: Eprint + AllocGlobal, P: Place>(
+fn check_into<R: Eprint + AllocGlobal, P: AtomicTarget>(
     rt: &R,
     about: &About,
     plan: &[u8],
-    telling: Telling,
+    findings: Findings,
     place: &mut P,
 ) -> u8
     ensures known { result ≤ RESOURCE }
-    ensures done { result ≡ DONE → PutsText (IsToldText telling plan.now) (P.stands place.old) (P.stands place.new) }
-    ensures kept { result ≢ DONE → Keeps (P.stands place.old) (P.stands place.new) }
+    ensures done { result ≡ DONE → PutsText (IsReportedText findings plan.now) (P.current place.old) (P.current place.new) }
+    ensures kept { result ≢ DONE → Keeps (P.current place.old) (P.current place.new) }
     ensures refused { result ≢ DONE → IsStatusOfRefusal (IsPlanReason plan.now) result }
 {
     let text = match place.begin() {
         Ok(text) => text,
-        Err(fault) => return unwritable(rt, about, &fault),
+        Err(fault) => return report_unwritable(rt, about, &fault),
     };
     let mut out = Out::new(text);
-    let outcome = do_telling_check(rt.alloc(), plan, telling, &mut out);
-    let status = placed(rt, about, place, out.into_inner(), &outcome);
+    let outcome = do_findings_check(rt.alloc(), plan, findings, &mut out);
+    let status = commit_output(rt, about, place, out.into_inner(), &outcome);
     explain_refusal(rt, &AboutFiles::of_plan(*about), &outcome);
     status
 }

@@ -8,7 +8,9 @@ use crate::run::run_of;
 use adjudicate::WORKERS_LIMIT;
 use clap::{ArgMatches, Error};
 use console::names::{CHECK, RUN, VALUE};
-use console::{DONE, REFUSED, RESOURCE, Sources, USAGE, explains, matches_of, usage, words_of};
+use console::{
+    DONE, REFUSED, RESOURCE, Sources, USAGE, explains, matches_of, program_arguments, usage,
+};
 use std::rt::{Env, Files};
 use std::sync::Wait;
 use std::thread::Threads;
@@ -23,7 +25,7 @@ where
     R: Clock + Threads + Wait + Clone + Drop + Send + Sync + 'static,
     ensures known { result ≤ RESOURCE }
 {
-    let words = match words_of(rt) {
+    let words = match program_arguments(rt) {
         Ok(words) => words,
         Err(status) => return status,
     };

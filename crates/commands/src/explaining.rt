@@ -3,10 +3,10 @@
 use adjudicate::Stop;
 use claim_gate::TermsFault;
 use console::names::{BALANCES, FILE};
-use diagnostics::{FileKind, Page, Words, explain_file, explain_record, terms_words};
+use diagnostics::{Explanation, FileKind, Message, explain_file, explain_record, terms_words};
 use intake_csv::BalanceFault;
 use std::alloc::{AllocError, Global};
-use value_command::{About, resource_page, tell_page, value_page};
+use value_command::{About, print_message, resource_message, value_message};
 
 /// What a command over a plan and files is about, as its refusals are told.
 #[derive(Clone, Copy)]
@@ -47,20 +47,24 @@ pub fn explain_refusal<R: Eprint + AllocGlobal>(
     if let Err(stop) = answer
         && about.plan.explains
     {
-        tell_page(rt, page_of(rt.alloc(), about, stop));
+        print_message(rt, message_of(rt.alloc(), about, stop));
     }
 }
 
 // What a refusal means, in lines.
-fn page_of(alloc: Global, about: &AboutFiles, stop: &Stop) -> Result<Page, AllocError> {
+fn message_of(alloc: Global, about: &AboutFiles, stop: &Stop) -> Result<Message, AllocError> {
     match stop {
-        Stop::Value(stop) => value_page(alloc, &about.plan, stop),
-        Stop::Terms(fault) => terms_page(alloc, about, fault),
-        Stop::Run(_) => resource_page(alloc, "run fault 3"),
+        Stop::Value(stop) => value_message(alloc, &about.plan, stop),
+        Stop::Terms(fault) => terms_message(alloc, about, fault),
+        Stop::Run(_) => resource_message(alloc, "run fault 3"),
     }
 }
 
-fn terms_page(alloc: Global, about: &AboutFiles, fault: &TermsFault) -> Result<Page, AllocError> {
+fn terms_message(
+    alloc: Global,
+    about: &AboutFiles,
+    fault: &TermsFault,
+) -> Result<Message, AllocError> {
     match fault {
         TermsFault::File { provider, fault } => {
             let name = about.plan.word_at(FILE, *provider);
@@ -68,18 +72,18 @@ fn terms_page(alloc: Global, about: &AboutFiles, fault: &TermsFault) -> Result<P
             let plan = about.plan.plan;
             explain_file(alloc, name, text, plan, FileKind::Claims, *fault)
         }
-        TermsFault::Balances(fault) => balances_page(alloc, about, fault),
-        TermsFault::NoRoles => words_page(alloc, terms_words(1)),
-        TermsFault::Files => words_page(alloc, terms_words(2)),
-        TermsFault::OutOfMemory => resource_page(alloc, "no memory"),
+        TermsFault::Balances(fault) => balances_message(alloc, about, fault),
+        TermsFault::NoRoles => explanation_message(alloc, terms_words(1)),
+        TermsFault::Files => explanation_message(alloc, terms_words(2)),
+        TermsFault::OutOfMemory => resource_message(alloc, "no memory"),
     }
 }
 
-fn balances_page(
+fn balances_message(
     alloc: Global,
     about: &AboutFiles,
     fault: &BalanceFault,
-) -> Result<Page, AllocError> {
+) -> Result<Message, AllocError> {
     let name = about.plan.word(BALANCES);
     let text = about.balances;
     match fault {
@@ -88,12 +92,12 @@ fn balances_page(
             explain_file(alloc, name, text, plan, FileKind::Balances, *fault)
         }
         BalanceFault::Row { number, fault } => explain_record(alloc, name, text, *number, fault),
-        BalanceFault::OutOfMemory => resource_page(alloc, "no memory"),
+        BalanceFault::OutOfMemory => resource_message(alloc, "no memory"),
     }
 }
 
-fn words_page(alloc: Global, words: Words) -> Result<Page, AllocError> {
-    let mut page = Page::new(alloc);
+fn explanation_message(alloc: Global, words: Explanation) -> Result<Message, AllocError> {
+    let mut page = Message::new(alloc);
     page.words(words)?;
     Ok(page)
 }

@@ -2,7 +2,7 @@
 
 ghost use Rattle.std.specs.Prelude.{◌≡◌, ◌≢◌, ◌≤◌, IfErr, IfOk, map, option_map};
 ghost use Rattle.std.specs.Io.KnownBytes.{Keeps};
-ghost use Rattle.claim_gate.specs.Terms.{text_in, texts_of as texts_behind};
+ghost use Rattle.claim_gate.specs.Terms.{text_in, texts_of as texts_after};
 ghost use Rattle.adjudicate.specs.RunStop.{IsRunReason};
 ghost use Rattle.console.specs.Reading.{IsReadUpTo};
 ghost use Rattle.intake_csv.specs.Limits.{file_limit_bytes};
@@ -13,14 +13,15 @@ ghost use Rattle.commands.specs.Texts.{AreNamedBalances, AreNamedFiles, HasNamed
 ghost use Rattle.commands.specs.Words.{IsStrict};
 
 use crate::explaining::{AboutFiles, explain_refusal};
-use crate::strict::unread;
+use crate::strict::unused_status;
 use crate::summary::summary_of;
 use crate::words::{cutoff_of, is_strict, workers_of};
 use adjudicate::{Counting, FILE_LIMIT_BYTES, RunInput, do_counted_run};
 use clap::ArgMatches;
 use console::names::{BALANCES, FILE, SUMMARY};
 use console::{
-    DONE, Place, Pulse, REFUSED, RESOURCE, Sources, USAGE, explains, input_once, no_memory,
+    AtomicTarget, DONE, Heartbeat, REFUSED, RESOURCE, Sources, USAGE, explains, input_once,
+    no_memory,
 };
 use fixpoint::Out;
 use std::alloc::{AllocError, Global};
@@ -29,7 +30,9 @@ use std::rt::Files;
 use std::sync::Wait;
 use std::thread::Threads;
 use std::time::Clock;
-use value_command::{About, ended, output_of, placed, plan_of, read_or_tell, unwritable};
+use value_command::{
+    About, commit_output, exit_status_of, output_of, plan_of, read_or_report, report_unwritable,
+};
 
 /// The texts of a run, in the order in which they are read.
 struct Texts {
@@ -82,10 +85,14 @@ where
     ensures done { result ≡ DONE → RunIsDone (S.whole sources.now) matches.now }
     ensures refused { result ≡ REFUSED → RunIsRefused (S.whole sources.now) matches.now result }
 {
-    let pulse = if is_watched { Pulse::start(rt) } else { None };
+    let heartbeat = if is_watched {
+        Heartbeat::start(rt)
+    } else {
+        None
+    };
     let status = settle_named(rt, sources, matches, is_watched);
-    if let Some(pulse) = pulse {
-        pulse.end(rt);
+    if let Some(heartbeat) = heartbeat {
+        heartbeat.end(rt);
     }
     status
 }
@@ -198,14 +205,14 @@ where
 {
     let mut out = Out::new(io::writer(rt));
     let answer = do_counted_run(rt, input, &mut out, counting);
-    let status = ended(rt, &answer);
+    let status = exit_status_of(rt, &answer);
     explain_refusal(rt, about, &answer);
     status
 }
 
 /// Runs into a place, which then has the whole remittance, or what it had before.
 #[tactic(auto, using(crate::proofs::Ends::placed_done, crate::proofs::Ends::kept_twice))]
-fn run_into<R, P: Place>(
+fn run_into<R, P: AtomicTarget>(
     rt: &R,
     about: &AboutFiles,
     input: RunInput,
@@ -216,25 +223,25 @@ where
     R: Eprint + AllocGlobal + Threads + Wait + Sync,
     ensures known { result ≤ RESOURCE }
     ensures done { result ≡ DONE → PutsText (IsRemittance (run_texts input.entry))
-        (P.stands place.old) (P.stands place.new) }
-    ensures kept { result ≢ DONE → Keeps (P.stands place.old) (P.stands place.new) }
+        (P.current place.old) (P.current place.new) }
+    ensures kept { result ≢ DONE → Keeps (P.current place.old) (P.current place.new) }
     ensures refused { result ≢ DONE
         → IsStatusOfRefusal (IsRunReason (run_texts input.entry) input.entry.workers) result }
 {
     let text = match place.begin() {
         Ok(text) => text,
-        Err(fault) => return unwritable(rt, &about.plan, &fault),
+        Err(fault) => return report_unwritable(rt, &about.plan, &fault),
     };
     let mut out = Out::new(text);
     let outcome = do_counted_run(rt, input, &mut out, counting);
-    let status = placed(rt, &about.plan, place, out.into_inner(), &outcome);
+    let status = commit_output(rt, &about.plan, place, out.into_inner(), &outcome);
     explain_refusal(rt, about, &outcome);
     status
 }
 
 /// The files' texts, as a run borrows them.
 fn slices_of(alloc: Global, files: &[Vec<u8>]) -> Result<Vec<&[u8]>, AllocError>
-    ensures { IfOk result (λ slices. texts_behind slices.items ≡ map (λ f. f.items) files.now) }
+    ensures { IfOk result (λ slices. texts_after slices.items ≡ map (λ f. f.items) files.now) }
 {
     let mut slices = Vec::with_capacity(alloc, files.len())?;
     for text in files {
@@ -258,7 +265,7 @@ fn texts_of<R: Eprint + AllocGlobal, S: Sources>(
     input_once(rt, matches)?;
     let plan = plan_of(rt, sources, matches, explains)?;
     if is_strict(matches) {
-        let status = unread(rt, plan.as_slice());
+        let status = unused_status(rt, plan.as_slice());
         if status != DONE {
             return Err(status);
         }
@@ -283,7 +290,7 @@ fn balances_of<R: Eprint + AllocGlobal, S: Sources>(
         return Ok(None);
     };
     let line = "cannot read balances";
-    match read_or_tell(rt, sources, name, FILE_LIMIT_BYTES, line, explains) {
+    match read_or_report(rt, sources, name, FILE_LIMIT_BYTES, line, explains) {
         Ok(text) => Ok(Some(text)),
         Err(status) => Err(status),
     }
@@ -323,5 +330,5 @@ fn file_of<R: Eprint + AllocGlobal, S: Sources>(
     let Ok(line) = format!(in rt.alloc(); "cannot read file {number}") else {
         return Err(no_memory(rt));
     };
-    read_or_tell(rt, sources, name, FILE_LIMIT_BYTES, line.as_str(), explains)
+    read_or_report(rt, sources, name, FILE_LIMIT_BYTES, line.as_str(), explains)
 }

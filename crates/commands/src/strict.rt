@@ -3,14 +3,14 @@
 ghost use Rattle.std.specs.Prelude.{◌≤◌};
 
 use console::{DONE, REFUSED, RESOURCE, no_memory};
-use diagnostics::{Unread, push_shown, unread_keys};
+use diagnostics::{UnusedKey, push_printable, unread_keys};
 use std::alloc::{AllocError, Global};
 
 /// The status by whether the plan has a key that nothing reads. Each is told.
-pub fn unread<R: Eprint + AllocGlobal>(rt: &R, plan: &[u8]) -> u8
+pub fn unused_status<R: Eprint + AllocGlobal>(rt: &R, plan: &[u8]) -> u8
     ensures known { result ≤ RESOURCE }
 {
-    match tell_unread(rt, plan) {
+    match print_unused(rt, plan) {
         Ok(true) => REFUSED,
         Ok(false) => DONE,
         Err(_) => no_memory(rt),
@@ -18,7 +18,7 @@ pub fn unread<R: Eprint + AllocGlobal>(rt: &R, plan: &[u8]) -> u8
 }
 
 /// Tells each key of the plan's text that nothing reads, and answers whether there is one. A text that is not UTF-8 has none.
-fn tell_unread<R: Eprint + AllocGlobal>(rt: &R, plan: &[u8]) -> Result<bool, AllocError> {
+fn print_unused<R: Eprint + AllocGlobal>(rt: &R, plan: &[u8]) -> Result<bool, AllocError> {
     let Ok(text) = str::from_utf8(plan) else {
         return Ok(false);
     };
@@ -31,9 +31,9 @@ fn tell_unread<R: Eprint + AllocGlobal>(rt: &R, plan: &[u8]) -> Result<bool, All
 }
 
 // The line of a key that nothing reads.
-fn line_of(alloc: Global, unread: &Unread) -> Result<String, AllocError> {
+fn line_of(alloc: Global, unread: &UnusedKey) -> Result<String, AllocError> {
     let mut line = String::from_str(alloc, "unread key ")?;
-    push_shown(&mut line, unread.key.as_str())?;
+    push_printable(&mut line, unread.key.as_str())?;
     let (row, column) = (unread.position.line, unread.position.column);
     let place = format!(in alloc; " at line {row} column {column}")?;
     line.push_str(place.as_str())?;

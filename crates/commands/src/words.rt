@@ -1,11 +1,11 @@
 //! What the words of a command ask for.
 
 ghost use Rattle.std.specs.Prelude.{◌≡◌, IfSome, true};
-ghost use Rattle.commands.specs.Words.{IsCutoff, IsStrict, IsTelling, IsWorkers};
+ghost use Rattle.commands.specs.Words.{IsCutoff, IsStrict, IsFindings, IsWorkers};
 
-use adjudicate::Telling;
+use adjudicate::Findings;
 use clap::ArgMatches;
-use console::names::{CUTOFF, HARMFUL, STRICT, WORKERS};
+use console::names::{CUTOFF, ERRORS_ONLY, STRICT, WORKERS};
 
 /// Whether a key that nothing reads is refused.
 pub fn is_strict(matches: &ArgMatches<'_>) -> bool
@@ -15,13 +15,13 @@ pub fn is_strict(matches: &ArgMatches<'_>) -> bool
 }
 
 /// What a check is to tell.
-pub fn telling_of(matches: &ArgMatches<'_>) -> Telling
-    ensures { IsTelling matches.now result }
+pub fn findings_of(matches: &ArgMatches<'_>) -> Findings
+    ensures { IsFindings matches.now result }
 {
-    if matches.get_flag(HARMFUL) {
-        Telling::Harmful
+    if matches.get_flag(ERRORS_ONLY) {
+        Findings::Errors
     } else {
-        Telling::All
+        Findings::All
     }
 }
 

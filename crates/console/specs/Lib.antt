@@ -1,3 +1,3 @@
 pub mod Limits
 pub mod Reading
-pub mod Place
+pub mod AtomicTarget

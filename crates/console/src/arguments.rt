@@ -6,7 +6,8 @@ ghost use Rattle.clap.specs.declared.builder.value_parser.ValueParser.TheVariant
 ghost use Rattle.console.specs.Limits.{cutoff_limit};
 
 use crate::names::{
-    ASSIGNMENT, BALANCES, CUTOFF, EXPLAIN, FILE, HARMFUL, OUTPUT, PLAN, STRICT, SUMMARY, WORKERS,
+    ASSIGNMENT, BALANCES, CUTOFF, ERRORS_ONLY, EXPLAIN, FILE, OUTPUT, PLAN, STRICT, SUMMARY,
+    WORKERS,
 };
 use clap::builder::ValueParser;
 use clap::{Arg, ArgAction};
@@ -33,9 +34,9 @@ pub fn assignment_argument<'a>(alloc: Global) -> Arg<'a> {
 }
 
 /// The flag by which only the gaps and overlaps that are faults are listed.
-pub fn harmful_argument<'a>(alloc: Global) -> Arg<'a> {
+pub fn errors_argument<'a>(alloc: Global) -> Arg<'a> {
     let help = "List only the gaps that end as norule, and the overlaps that clash";
-    flag(alloc, HARMFUL, "harmful", help)
+    flag(alloc, ERRORS_ONLY, "harmful", help)
 }
 
 /// The flag by which a key that nothing reads is refused, with what it does in this command.

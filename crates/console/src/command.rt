@@ -5,8 +5,8 @@ ghost use Rattle.clap.specs.Words.{AddsSubcommand, subcommand_names};
 ghost use Rattle.clap.specs.declared.builder.command.Command.TheViews.{out-Command as fields_of};
 
 use crate::arguments::{
-    assignment_argument, balances_argument, cutoff_argument, explain_argument, files_argument,
-    harmful_argument, output_argument, plan_argument, strict_argument, summary_argument,
+    assignment_argument, balances_argument, cutoff_argument, errors_argument, explain_argument,
+    files_argument, output_argument, plan_argument, strict_argument, summary_argument,
     workers_argument,
 };
 use crate::names::{CHECK, RUN, VALUE};
@@ -78,7 +78,7 @@ fn check_command<'a>(alloc: Global) -> Result<Command<'a>, AllocError>
     let strict = "Tell each key of the plan that nothing reads, with status 1";
     let arguments = vec![in alloc;
         plan_argument(alloc),
-        harmful_argument(alloc),
+        errors_argument(alloc),
         strict_argument(alloc, strict),
         output_argument(alloc),
     ]?;

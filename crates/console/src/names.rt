@@ -37,7 +37,7 @@ pub const EXPLAIN: &str = "EXPLAIN";
 pub const STRICT: &str = "STRICT";
 
 /// The name of the flag by which only the gaps and overlaps that are faults are told.
-pub const HARMFUL: &str = "HARMFUL";
+pub const ERRORS_ONLY: &str = "HARMFUL";
 
 /// The name of the flag for a line of what a run did.
 pub const SUMMARY: &str = "SUMMARY";

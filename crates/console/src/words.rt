@@ -2,14 +2,14 @@
 
 ghost use Rattle.std.specs.Prelude.{◌≡◌, ◌≤◌, IfErr, true};
 
+use crate::exit_status::{RESOURCE, USAGE, no_memory, print_error};
 use crate::names::{BALANCES, EXPLAIN, FILE, PLAN, STREAM};
-use crate::telling::{RESOURCE, USAGE, no_memory, told};
 use clap::ArgMatches;
 use std::rt::Env;
 use std::{env, io};
 
 /// The words of the command line. Where they can't be had, that is told, and its status answered.
-pub fn words_of<R: Env + Eprint + AllocGlobal>(rt: &R) -> Result<Vec<String>, u8>
+pub fn program_arguments<R: Env + Eprint + AllocGlobal>(rt: &R) -> Result<Vec<String>, u8>
     ensures known { IfErr result (λ status. status ≤ RESOURCE) }
     ensures failed { IfErr result (λ status. USAGE ≤ status) }
 {
@@ -19,7 +19,7 @@ pub fn words_of<R: Env + Eprint + AllocGlobal>(rt: &R) -> Result<Vec<String>, u8
             Err(_) => Err(no_memory(rt)),
         },
         Err(fault) if fault.kind() == io::ErrorKind::OutOfMemory => Err(no_memory(rt)),
-        Err(_) => Err(told(rt, "error: an argument is not UTF-8", USAGE)),
+        Err(_) => Err(print_error(rt, "error: an argument is not UTF-8", USAGE)),
     }
 }
 
@@ -36,7 +36,7 @@ pub fn input_once<R: Eprint>(rt: &R, matches: &ArgMatches<'_>) -> Result<(), u8>
 {
     if times_of_input(matches) > 1 {
         let line = "error: standard input can stand in one place of a command";
-        return Err(told(rt, line, USAGE));
+        return Err(print_error(rt, line, USAGE));
     }
     Ok(())
 }

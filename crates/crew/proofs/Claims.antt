@@ -24,19 +24,19 @@ use Rattle.journal.specs.Events.{Filed, accepts, claim_at, claim_filed}
 use Rattle.journal.specs.declared.event.Event.{Event}
 
 -- where a claim stands among rows
-record StandsAmong (claim : Claim) (rows : List Row) : Type 0 where
+record IsAmongThese (claim : Claim) (rows : List Row) : Type 0 where
   pub before : List Row
   pub number : ℕ
   pub place : ℕ
   pub after : List Row
   pub split : rows ≡ before ++ Good number place claim ∷ after
 
-behind : (row : Row) (claim : Claim) (rows : List Row) → StandsAmong claim rows → StandsAmong claim (row ∷ rows)
-behind row claim rows s = record { before = row ∷ s.before; number = s.number; place = s.place; after = s.after; split = ap (λ xs. row ∷ xs) s.split }
+following : (row : Row) (claim : Claim) (rows : List Row) → IsAmongThese claim rows → IsAmongThese claim (row ∷ rows)
+following row claim rows s = record { before = row ∷ s.before; number = s.number; place = s.place; after = s.after; split = ap (λ xs. row ∷ xs) s.split }
 
-among : (rows : List Row) (i : ℕ) (claim : Claim) → slice_get (claims_among rows) i ≡ Some claim → StandsAmong claim rows
+among : (rows : List Row) (i : ℕ) (claim : Claim) → slice_get (claims_among rows) i ≡ Some claim → IsAmongThese claim rows
 among [] i claim h = absurd (none-some claim h)
-among (Bad number fault ∷ rows) i claim h = behind (Bad number fault) claim rows (among rows i claim h)
+among (Bad number fault ∷ rows) i claim h = following (Bad number fault) claim rows (among rows i claim h)
 among (Good number place c ∷ rows) zero claim h = record {
   before = [];
   number = number;
@@ -44,7 +44,7 @@ among (Good number place c ∷ rows) zero claim h = record {
   after = rows;
   split = ap (λ x. Good number place x ∷ rows) (same_Some c claim h);
 }
-among (Good number place c ∷ rows) (suc i) claim h = behind (Good number place c) claim rows (among rows i claim h)
+among (Good number place c ∷ rows) (suc i) claim h = following (Good number place c) claim rows (among rows i claim h)
 
 -- each claim of a file has the plan's fields
 of_file : ClaimsHaveFields → (plan : PlanParts) (text : List ℕ) (cs : List Claim) (i : ℕ) (claim : Claim) → IsPlan plan → AreClaimsOf plan.names text cs
@@ -56,7 +56,7 @@ of_file law plan text cs i claim sound file h =
     let within : length s.before < length rows.records = omega (arith, sizes, rows.are_rows.as_many) in
     let there = slice_get-get_or rows.records (length s.before) [] within in
     let row = rows.are_rows.each s.before s.after (Good s.number s.place claim) (get_or rows.records (length s.before) []) s.split there in
-    law plan sound.fields text rows.layout rows.records (get_or rows.records (length s.before) []) claim sound.names rows.sheet row.2
+    law plan sound.fields text rows.layout rows.records (get_or rows.records (length s.before) []) claim sound.names rows.headered_file row.2
 
 -- so has each claim of all files
 of_files : ClaimsHaveFields → (plan : PlanParts) (texts : List (List ℕ)) (files : List (List Claim)) (place i : ℕ) (claim : Claim) → IsPlan plan

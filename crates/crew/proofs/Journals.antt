@@ -9,7 +9,7 @@ use Rattle.settlement.specs.declared.acc.Acc.{Acc}
 use Rattle.settlement.specs.declared.claim.Claim.{Claim}
 use Rattle.settlement.specs.Opening.{opening}
 use Rattle.journal.specs.Terms.{Terms}
-use Rattle.journal.specs.Events.{IsJob, accept_in, accepts, claim_filed, claims, closed, due, ended, is_end, is_take, noted, place_in, places, taken}
+use Rattle.journal.specs.Events.{IsJob, accept_in, accepts, claim_filed, claims, closed, due, has_end, is_end, is_take, noted, place_in, places, has_take}
 use Rattle.journal.specs.Lawful.{closing}
 use Rattle.journal.specs.declared.event.Event.{Event}
 use Rattle.journal.specs.declared.event.Event.TheVariants.{Accept, End, Close, Take}
@@ -49,25 +49,25 @@ places_more J provider place =
     let sizes = ap length (flat_last (place_in provider) J (Accept provider place) ∙ ap (λ xs. places J provider ++ xs) one) ∙ length-append (places J provider) (place ∷ []) in
     omega (arith, sizes)
 
-pub ended_now : (J : List Event) (provider : ℕ) → ended (J ++ End provider ∷ []) provider ≡ true
+pub ended_now : (J : List Event) (provider : ℕ) → has_end (J ++ End provider ∷ []) provider ≡ true
 ended_now J provider = any_now (is_end provider) J (End provider) (eq-eqb provider provider refl)
 
 -- both tell the same of providers
-pub record Tell (old new : List Event) : Type 0 where
+pub record Report (old new : List Event) : Type 0 where
   pub places : (provider : ℕ) → places new provider ≡ places old provider
-  pub ended : (provider : ℕ) → ended new provider ≡ ended old provider
+  pub ended : (provider : ℕ) → has_end new provider ≡ has_end old provider
 
 -- the close tells nothing of these
-closed_tells : (J : List Event) → Tell J (J ++ Close ∷ [])
-closed_tells J = record {
+closed_reports : (J : List Event) → Report J (J ++ Close ∷ [])
+closed_reports J = record {
   places = λ provider. places_stay J Close provider refl;
   ended = λ provider. any_stays (is_end provider) J Close refl;
 }
 
-pub closing_tells : (T : Terms) (J : List Event) → Tell J (closing T J)
-closing_tells T J =
-    elim (due T J && not (closed J)) as (λ b. Tell J (cond b (J ++ Close ∷ []) J)) [
-      | true ↦ closed_tells J
+pub closing_reports : (T : Terms) (J : List Event) → Report J (closing T J)
+closing_reports T J =
+    elim (due T J && not (closed J)) as (λ b. Report J (cond b (J ++ Close ∷ []) J)) [
+      | true ↦ closed_reports J
       | false ↦ record { places = λ p. refl; ended = λ p. refl }
     ]
 
@@ -76,9 +76,9 @@ pub job_stays : (T : Terms) (J : List Event) (position : ℕ) (claim : Claim) (a
 job_stays T J position claim acc job =
     let same : claims T (J ++ Take position ∷ []) ≡ claims T J = ap (map (claim_filed T)) (accepts_stay J (Take position) refl) in
     record {
-      stands = ap (λ cs. get_or cs position None) same ∙ job.stands;
+      located = ap (λ cs. get_or cs position None) same ∙ job.located;
       left = job.left ∙ sym (ap (λ cs. fold (noted T.plan) (opening T.balances) (take position cs) (account_of T.plan claim)) same);
     }
 
-pub now_taken : (J : List Event) (position : ℕ) → taken (J ++ Take position ∷ []) position ≡ true
+pub now_taken : (J : List Event) (position : ℕ) → has_take (J ++ Take position ∷ []) position ≡ true
 now_taken J position = any_now (is_take position) J (Take position) (eq-eqb position position refl)

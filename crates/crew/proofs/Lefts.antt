@@ -70,19 +70,19 @@ module _ (law : GivenRowHasTheClaim) where
       → (b : BeginLike (Good number place claim) new h.rows) → claims_of T provider ≡ h.front ++ (claim ∷ claims_among b.rest)
   begun T provider count old new number place claim h b = h.whole ∙ ap (λ cs. h.front ++ cs) (claims_begin (Good number place claim) new h.rows b)
 
-  stands : (front : List Claim) (claim : Claim) (rest : List Claim) → slice_get (front ++ claim ∷ rest) (length front) ≡ Some claim
-  stands [] claim rest = refl
-  stands (c ∷ front) claim rest = stands front claim rest
+  located : (front : List Claim) (claim : Claim) (rest : List Claim) → slice_get (front ++ claim ∷ rest) (length front) ≡ Some claim
+  located [] claim rest = refl
+  located (c ∷ front) claim rest = located front claim rest
 
   pub next_claim : (T : Terms) (provider count : ℕ) (old new : RowsLeft) (number place : ℕ) (claim : Claim) → AreLeft T provider count old
       → GivesRow old new (Good number place claim) → slice_get (claims_of T provider) count ≡ Some claim
   next_claim T provider count old new number place claim h g =
       let b = law old new (Good number place claim) h.rows g h.are_rows in
-      rw (begun T provider count old new number place claim h b, ← h.counted) (stands h.front claim (claims_among b.rest))
+      rw (begun T provider count old new number place claim h b, ← h.counted) (located h.front claim (claims_among b.rest))
 
-  pub left_behind : (T : Terms) (provider count : ℕ) (old new : RowsLeft) (number place : ℕ) (claim : Claim) → AreLeft T provider count old
+  pub left_after : (T : Terms) (provider count : ℕ) (old new : RowsLeft) (number place : ℕ) (claim : Claim) → AreLeft T provider count old
       → GivesRow old new (Good number place claim) → AreLeft T provider (count + 1) new
-  left_behind T provider count old new number place claim h g =
+  left_after T provider count old new number place claim h g =
       let b = law old new (Good number place claim) h.rows g h.are_rows in
       record {
         front = h.front ++ claim ∷ [];
@@ -125,14 +125,14 @@ first_offer law parts seen provider left of_terms least most start = record {
 }
 
 -- behind claims that were read ahead, once all in front of a later place are accepted
-pub behind_offers : (terms : TermsParts) (seen later : GateParts) (provider count expected next : ℕ) (old new : RowsLeft) (claims : List Claim)
+pub after_offers : (terms : TermsParts) (seen later : GateParts) (provider count expected next : ℕ) (old new : RowsLeft) (claims : List Claim)
     → IsAtOffer terms seen provider count expected old → ReadsAhead old new claims → later.terms ≡ terms → count + length claims ≤ next
     → HasAccepted later provider next → IsAtOffer terms later provider (count + length claims) next new
-behind_offers terms seen later provider count expected next old new claims h read of_terms behind has_taken = record {
+after_offers terms seen later provider count expected next old new claims h read of_terms following has_taken = record {
   of_terms = of_terms;
   claims = λ T is. (read.next T provider count (h.claims T is)).1;
   has_taken = has_taken;
-  reached = behind;
+  reached = following;
   place = omega (arith, read.place, h.place);
   fewer = read.fewer h.fewer;
 }
@@ -173,7 +173,7 @@ module _ (law : GivenRowHasTheClaim) where
       record {
         next = λ T provider count left. let both = h.next T provider count left in (
           next_more T provider count claims claim both.0 (next_claim law T provider (count + length claims) mid new number place claim both.1 gives),
-          subst (λ n. AreLeft T provider n new) (omega (arith, size)) (left_behind law T provider (count + length claims) mid new number place claim both.1 gives),
+          subst (λ n. AreLeft T provider n new) (omega (arith, size)) (left_after law T provider (count + length claims) mid new number place claim both.1 gives),
         );
         place = omega (arith, gives.place, h.place, size);
         fewer = λ within. let before = h.fewer within in omega (arith, gives.place, gives.number, before);
@@ -185,8 +185,8 @@ pub room_more : (old mid new : RowsLeft) (claims : List Claim) (number place : �
 room_more old mid new claims number place claim h gives fits within small =
     let size = length-append claims (claim ∷ []) in
     let before = h.fewer within in
-    let told = gives.is_row.0 in
-    omega (arith, size, before, told, fits, h.place)
+    let reported = gives.is_row.0 in
+    omega (arith, size, before, reported, fits, h.place)
 
 -- the first of the claims that come next stands at its place, and the others come behind it
 pub next_first : (T : Terms) (provider place : ℕ) (claims rest : List Claim) (claim : Claim) → claims ≡ claim ∷ rest → AreNext T provider place claims

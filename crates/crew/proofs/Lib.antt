@@ -2,5 +2,5 @@ pub mod Sections
 pub mod Journals
 pub mod Claims
 pub mod Lefts
-pub mod Held
+pub mod HeldClaims
 pub mod Passes

@@ -8,7 +8,7 @@ use Rattle.settlement.specs.Claim.{IsClaimOf}
 use Rattle.settlement.specs.declared.outcome.Outcome.{Outcome}
 use Rattle.intake_csv.specs.Laws.{ClaimsHaveFields}
 use Rattle.journal.specs.Terms.{Terms}
-use Rattle.journal.specs.Events.{closed, decided, ended, is_decide, place_in, places, taken}
+use Rattle.journal.specs.Events.{closed, has_decision, has_end, is_decide, place_in, places, has_take}
 use Rattle.journal.specs.Gate.{GateAt, Continues, OfferReply, Offers, EndReply, Ends, TakeReply, Takes, FinishReply, Finishes, Stops, LeadsTo}
 use Rattle.journal.specs.Lawful.{Finished, closing}
 use Rattle.journal.specs.declared.event.Event.{Event}
@@ -30,7 +30,7 @@ use Rattle.claim_gate.specs.declared.reply.Ended.{Ended}
 use Rattle.claim_gate.specs.declared.reply.Recorded.{Recorded}
 use Rattle.crew.specs.Sharing.{HasAccepted, IsInWork, is_past, is_shut}
 use Rattle.crew.proofs.Claims.{accepted-of, fields-decided}
-use Rattle.crew.proofs.Journals.{Tell, any_now, closing_tells, ended_now, job_stays, now_taken, places_more}
+use Rattle.crew.proofs.Journals.{Report, any_now, closing_reports, ended_now, job_stays, now_taken, places_more}
 
 -- what was seen before leads to what is seen now
 pub led : (before after : Known) → HadSection before after → LeadsTo before.seen after.seen
@@ -44,21 +44,21 @@ no_fewer J K provider on =
     omega (arith, parts)
 
 -- refusals, as the gate of one thread has them
-end_told : (reply : Result Ended EndFault) (fault : EndFault) (expected : ℕ) → reply ≡ Err fault → fault ≡ end.OutOfTurn expected
+end_reported : (reply : Result Ended EndFault) (fault : EndFault) (expected : ℕ) → reply ≡ Err fault → fault ≡ end.OutOfTurn expected
     → end_reply reply ≡ EndReply.OutOfTurn expected
-end_told reply fault expected err is = ap end_reply err ∙ ap (λ f. end_reply (Err f)) is
+end_reported reply fault expected err is = ap end_reply err ∙ ap (λ f. end_reply (Err f)) is
 
-offer_told : (reply : Result Accepted (OfferFault × Offer)) (fault same : OfferFault) (back : Offer) → reply ≡ Err (fault, back)
+offer_reported : (reply : Result Accepted (OfferFault × Offer)) (fault same : OfferFault) (back : Offer) → reply ≡ Err (fault, back)
     → fault ≡ same → offer_reply reply ≡ offer_refusal same
-offer_told reply fault same back err is = ap offer_reply err ∙ ap offer_refusal is
+offer_reported reply fault same back err is = ap offer_reply err ∙ ap offer_refusal is
 
-decided_told : (reply : Result Recorded (FinishFault × Job × Outcome)) (fault : FinishFault) (job : Job) (o : Outcome) → reply ≡ Err (fault, job, o)
+decided_reported : (reply : Result Recorded (FinishFault × Job × Outcome)) (fault : FinishFault) (job : Job) (o : Outcome) → reply ≡ Err (fault, job, o)
     → fault ≡ finish.AlreadyDecided → finish_reply reply ≡ FinishReply.AlreadyDecided
-decided_told reply fault job o err is = ap finish_reply err ∙ ap (λ f. finish_reply (Err (f, job, o))) is
+decided_reported reply fault job o err is = ap finish_reply err ∙ ap (λ f. finish_reply (Err (f, job, o))) is
 
-stopped_told : (reply : Result Recorded (FinishFault × Job × Outcome)) (fault : FinishFault) (job : Job) (o : Outcome) → reply ≡ Err (fault, job, o)
+stopped_reported : (reply : Result Recorded (FinishFault × Job × Outcome)) (fault : FinishFault) (job : Job) (o : Outcome) → reply ≡ Err (fault, job, o)
     → fault ≡ finish.Stopped → finish_reply reply ≡ FinishReply.Stopped
-stopped_told reply fault job o err is = ap finish_reply err ∙ ap (λ f. finish_reply (Err (f, job, o))) is
+stopped_reported reply fault job o err is = ap finish_reply err ∙ ap (λ f. finish_reply (Err (f, job, o))) is
 
 module _ (parts : TermsParts) (there : ¬ ForTerms parts (λ T. ⊥)) where
   -- a test that holds for all terms
@@ -103,10 +103,10 @@ module _ (parts : TermsParts) (there : ¬ ForTerms parts (λ T. ⊥)) where
         or_right after.seen.stopped (closed after.seen.journal) (ap (λ (g : GateAt). closed g.journal) r.2 ∙ r.1))
 
     pub shut_past : (provider : ℕ) → is_shut after.seen ≡ true → is_past after.seen provider ≡ true
-    shut_past provider shut = or_left (is_shut after.seen) (ended after.seen.journal provider) shut
+    shut_past provider shut = or_left (is_shut after.seen) (has_end after.seen.journal provider) shut
 
-    ended_past : (provider : ℕ) → ended after.seen.journal provider ≡ true → is_past after.seen provider ≡ true
-    ended_past provider over = or_right (is_shut after.seen) (ended after.seen.journal provider) over
+    ended_past : (provider : ℕ) → has_end after.seen.journal provider ≡ true → is_past after.seen provider ≡ true
+    ended_past provider over = or_right (is_shut after.seen) (has_end after.seen.journal provider) over
 
     -- the provider ends, or has ended
     pub ends_past : (provider count : ℕ) → Went (λ old new. Ends old provider count EndReply.Ended new) after → is_past after.seen provider ≡ true
@@ -114,20 +114,20 @@ module _ (parts : TermsParts) (there : ¬ ForTerms parts (λ T. ⊥)) where
         let r = went (λ old new. Ends old provider count EndReply.Ended new) w T is in
         let J = after.found.journal ++ End provider ∷ [] in
         let journal : after.seen.journal ≡ closing T J = ap (λ (g : GateAt). g.journal) r.3 in
-        let t : Tell J after.seen.journal = rw journal (closing_tells T J) in
+        let t : Report J after.seen.journal = rw journal (closing_reports T J) in
         ended_past provider (t.ended provider ∙ ended_now after.found.journal provider))
 
     pub already_past : (provider count : ℕ) → Went (λ old new. Ends old provider count EndReply.AlreadyEnded new) after → is_past after.seen provider ≡ true
     already_past provider count w = holds (is_past after.seen provider) (λ T is.
         let r = went (λ old new. Ends old provider count EndReply.AlreadyEnded new) w T is in
-        ended_past provider (ap (λ (g : GateAt). ended g.journal provider) r.3 ∙ r.2))
+        ended_past provider (ap (λ (g : GateAt). has_end g.journal provider) r.3 ∙ r.2))
 
     -- a provider of which so many claims are accepted doesn't lack one of them
     pub none_lacks : (provider count expected : ℕ) (reply : Result Ended EndFault) (fault : EndFault) → reply ≡ Err fault → fault ≡ end.OutOfTurn expected
         → HasAccepted before.seen provider count → ¬ Went (λ old new. Ends old provider count (end_reply reply) new) after
     none_lacks provider count expected reply fault err is_fault has w = there (λ T is.
         let r : Ends (at T after.found) provider count (EndReply.OutOfTurn expected) (at T after.seen) =
-        subst (λ r. Ends (at T after.found) provider count r (at T after.seen)) (end_told reply fault expected err is_fault)
+        subst (λ r. Ends (at T after.found) provider count r (at T after.seen)) (end_reported reply fault expected err is_fault)
         (went (λ old new. Ends old provider count (end_reply reply) new) w T is) in
         omega (arith, r.1, r.2, has, no_fewer before.seen.journal after.found.journal provider h.fresh.journal))
 
@@ -139,7 +139,7 @@ module _ (parts : TermsParts) (there : ¬ ForTerms parts (λ T. ⊥)) where
         let r = went (λ old new. Offers old provider place (OfferReply.Accepted position) new) w T is in
         let J = after.found.journal ++ Accept provider place ∷ [] in
         let journal : after.seen.journal ≡ closing T J = ap (λ (g : GateAt). g.journal) r.3 in
-        let t : Tell J after.seen.journal = rw journal (closing_tells T J) in
+        let t : Report J after.seen.journal = rw journal (closing_reports T J) in
         omega (arith, r.1, ap length (t.places provider), places_more after.found.journal provider place)) in
         (omega arith, omega (arith, more))
 
@@ -149,7 +149,7 @@ module _ (parts : TermsParts) (there : ¬ ForTerms parts (λ T. ⊥)) where
         → (place < expected) × HasAccepted after.seen provider expected
     goes_on provider place expected reply fault back err is_fault has w =
         let all : ForTerms parts (λ T. Offers (at T after.found) provider place (OfferReply.OutOfTurn expected) (at T after.seen)) = λ T is.
-        subst (λ r. Offers (at T after.found) provider place r (at T after.seen)) (offer_told reply fault (offer.OutOfTurn expected) back err is_fault)
+        subst (λ r. Offers (at T after.found) provider place r (at T after.seen)) (offer_reported reply fault (offer.OutOfTurn expected) back err is_fault)
         (went (λ old new. Offers old provider place (offer_reply reply) new) w T is) in
         let later = lies_below place expected (λ T is.
         let r = all T is in
@@ -163,12 +163,12 @@ module _ (parts : TermsParts) (there : ¬ ForTerms parts (λ T. ⊥)) where
     pub closed_to : (provider place : ℕ) (reply : Result Accepted (OfferFault × Offer)) (fault : OfferFault) (back : Offer) → reply ≡ Err (fault, back)
         → fault ≡ offer.Closed → Went (λ old new. Offers old provider place (offer_reply reply) new) after → is_shut after.seen ≡ true
     closed_to provider place reply fault back err is_fault w = closed_shut (λ T is.
-        subst (λ r. Offers (at T after.found) provider place r (at T after.seen)) (offer_told reply fault offer.Closed back err is_fault) (w T is))
+        subst (λ r. Offers (at T after.found) provider place r (at T after.seen)) (offer_reported reply fault offer.Closed back err is_fault) (w T is))
 
     pub stopped_to : (provider place : ℕ) (reply : Result Accepted (OfferFault × Offer)) (fault : OfferFault) (back : Offer) → reply ≡ Err (fault, back)
         → fault ≡ offer.Stopped → Went (λ old new. Offers old provider place (offer_reply reply) new) after → is_shut after.seen ≡ true
     stopped_to provider place reply fault back err is_fault w = stopped_shut (λ T is.
-        subst (λ r. Offers (at T after.found) provider place r (at T after.seen)) (offer_told reply fault offer.Stopped back err is_fault) (w T is))
+        subst (λ r. Offers (at T after.found) provider place r (at T after.seen)) (offer_reported reply fault offer.Stopped back err is_fault) (w T is))
 
     -- the work is over
     pub over_seen : Went (λ old new. Takes old TakeReply.Over new) after → ForTerms after.seen.terms (λ T. Finished T after.seen.journal)
@@ -184,34 +184,34 @@ module _ (parts : TermsParts) (there : ¬ ForTerms parts (λ T. ⊥)) where
         let journal : (T : Terms) → IsTermsOf parts T → after.seen.journal ≡ after.found.journal ++ Take job.position ∷ [] =
         λ T is. ap (λ (g : GateAt). g.journal) (all T is).3 in
         record {
-          in_work = holds (taken after.seen.journal job.position) (λ T is. rw (journal T is) (now_taken after.found.journal job.position));
+          in_work = holds (has_take after.seen.journal job.position) (λ T is. rw (journal T is) (now_taken after.found.journal job.position));
           is_job = λ T is.
               let known = subst (λ terms. IsTermsOf terms T) seen_terms is in
               rw (journal T known) (job_stays T after.found.journal job.position job.claim job.acc (all T known).2.job);
           fields = subst (λ terms. IsClaimOf terms.plan job.claim) (sym seen_terms) (fields-decided parts.plan job.claim sound (λ other. there (λ T is.
-              other (accepted-of law parts T after.found.journal job.position job.claim sound is (all T is).2.job.stands))));
+              other (accepted-of law parts T after.found.journal job.position job.claim sound is (all T is).2.job.located))));
         }
 
     -- its decision is recorded, or was before
     pub recorded_seen : (position : ℕ) (o : Outcome) → Went (λ old new. Finishes old position o FinishReply.Recorded new) after
-        → decided after.seen.journal position ≡ true
-    recorded_seen position o w = holds (decided after.seen.journal position) (λ T is.
+        → has_decision after.seen.journal position ≡ true
+    recorded_seen position o w = holds (has_decision after.seen.journal position) (λ T is.
         let r = went (λ old new. Finishes old position o FinishReply.Recorded new) w T is in
         let journal : after.seen.journal ≡ after.found.journal ++ Decide position o ∷ [] = ap (λ (g : GateAt). g.journal) r.2 in
         rw journal (any_now (is_decide position) after.found.journal (Decide position o) (eq-eqb position position refl)))
 
     pub already_seen : (position : ℕ) (o : Outcome) (reply : Result Recorded (FinishFault × Job × Outcome)) (fault : FinishFault) (job : Job) (back : Outcome)
         → reply ≡ Err (fault, job, back) → fault ≡ finish.AlreadyDecided → Went (λ old new. Finishes old position o (finish_reply reply) new) after
-        → decided after.seen.journal position ≡ true
-    already_seen position o reply fault job back err is_fault w = holds (decided after.seen.journal position) (λ T is.
+        → has_decision after.seen.journal position ≡ true
+    already_seen position o reply fault job back err is_fault w = holds (has_decision after.seen.journal position) (λ T is.
         let r : Finishes (at T after.found) position o FinishReply.AlreadyDecided (at T after.seen) =
-        subst (λ r. Finishes (at T after.found) position o r (at T after.seen)) (decided_told reply fault job back err is_fault)
+        subst (λ r. Finishes (at T after.found) position o r (at T after.seen)) (decided_reported reply fault job back err is_fault)
         (went (λ old new. Finishes old position o (finish_reply reply) new) w T is) in
-        ap (λ (g : GateAt). decided g.journal position) r.2 ∙ r.1)
+        ap (λ (g : GateAt). has_decision g.journal position) r.2 ∙ r.1)
 
     -- it is refused, since the gate is stopped
     pub refused_seen : (position : ℕ) (o : Outcome) (reply : Result Recorded (FinishFault × Job × Outcome)) (fault : FinishFault) (job : Job) (back : Outcome)
         → reply ≡ Err (fault, job, back) → fault ≡ finish.Stopped → Went (λ old new. Finishes old position o (finish_reply reply) new) after
         → after.seen.stopped ≡ true
     refused_seen position o reply fault job back err is_fault w = stopped_seen (λ T is.
-        subst (λ r. Finishes (at T after.found) position o r (at T after.seen)) (stopped_told reply fault job back err is_fault) (w T is))
+        subst (λ r. Finishes (at T after.found) position o r (at T after.seen)) (stopped_reported reply fault job back err is_fault) (w T is))

@@ -3,11 +3,11 @@ use Rattle.std.specs.Prelude.{◌≡◌, ◌<◌, ◌≤◌, ◌||◌, ℕ, Bool
 use Rattle.std.specs.List.{All}
 use Rattle.dtable.specs.Plan.{PlanParts}
 use Rattle.journal.specs.Settled.{outcome_of}
-use Rattle.crew.specs.declared.worker.Gathered.{Gathered}
-use Rattle.crew.specs.declared.worker.Gathered.TheVariants as gathered
-use Rattle.crew.specs.declared.worker.Settled.{Settled}
+use Rattle.crew.specs.declared.worker.TakenJobs.{TakenJobs}
+use Rattle.crew.specs.declared.worker.TakenJobs.TheVariants as gathered
+use Rattle.crew.specs.declared.worker.DecidedJob.{DecidedJob}
 use Rattle.settlement.specs.Claim.{IsClaimOf}
-use Rattle.journal.specs.Events.{IsJob, closed, ended, places, taken}
+use Rattle.journal.specs.Events.{IsJob, closed, has_end, places, has_take}
 use Rattle.journal.specs.Lawful.{Finished}
 use Rattle.claim_gate.specs.Terms.{ForTerms}
 use Rattle.claim_gate.specs.Parts.{GateParts}
@@ -25,7 +25,7 @@ is_shut gate = gate.stopped || closed gate.journal
 
 -- nor is one of this provider, where it has ended
 abbrev pub is_past : GateParts → ℕ → Bool
-is_past gate provider = is_shut gate || ended gate.journal provider
+is_past gate provider = is_shut gate || has_end gate.journal provider
 
 -- what a provider is to offer behind the claim at a place: all in front of this later place are accepted, or no more is
 abbrev pub GoesOnAt : GateParts → ℕ → ℕ → Option ℕ → Type 0
@@ -33,13 +33,13 @@ GoesOnAt gate provider place (Some next) = (place < next) × HasAccepted gate pr
 GoesOnAt gate provider place None = is_shut gate ≡ true
 
 -- what a provider is to offer behind so many of its claims: all in front of this place, which is no earlier, are accepted, or no more is
-abbrev pub GoesOnBehind : GateParts → ℕ → ℕ → Option ℕ → Type 0
-GoesOnBehind gate provider count (Some next) = (count ≤ next) × HasAccepted gate provider next
-GoesOnBehind gate provider count None = is_shut gate ≡ true
+abbrev pub GoesOnAfter : GateParts → ℕ → ℕ → Option ℕ → Type 0
+GoesOnAfter gate provider count (Some next) = (count ≤ next) × HasAccepted gate provider next
+GoesOnAfter gate provider count None = is_shut gate ≡ true
 
 -- the claim is taken, the job is its, and it has the fields that the plan decides by
 pub record IsInWork (gate : GateParts) (job : Job) : Type 0 where
-  pub in_work : taken gate.journal job.position ≡ true
+  pub in_work : has_take gate.journal job.position ≡ true
   pub is_job : ForTerms gate.terms (λ T. IsJob T gate.journal job.position job.claim job.acc)
   pub fields : IsClaimOf gate.terms.plan job.claim
 
@@ -50,15 +50,15 @@ IsTask gate (Work job) = IsInWork gate job
 IsTask gate NothingReady = Unit {0}
 
 -- a claim in work, with its settlement
-pub record IsSettledIn (gate : GateParts) (settled : Settled) : Type 0 where
+pub record IsSettledIn (gate : GateParts) (settled : DecidedJob) : Type 0 where
   pub in_work : IsInWork gate settled.job
   pub value : settled.outcome ≡ outcome_of gate.terms.plan settled.job.claim settled.job.acc
 
 -- what a worker has taken in a row of calls: nothing any more, where the journal is finished; or claims, which are in work
-abbrev pub IsGathered : GateParts → Gathered → Type 0
+abbrev pub IsGathered : GateParts → TakenJobs → Type 0
 IsGathered gate gathered.Over = ForTerms gate.terms (λ T. Finished T gate.journal)
 IsGathered gate (gathered.Jobs jobs) = All (IsInWork gate) jobs.items
 
 -- a claim with its settlement by a plan
-abbrev pub settled_by : PlanParts → Job → Settled
+abbrev pub settled_by : PlanParts → Job → DecidedJob
 settled_by plan job = record { job = job; outcome = outcome_of plan job.claim job.acc }

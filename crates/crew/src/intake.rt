@@ -6,13 +6,13 @@ ghost use Rattle.claim_gate.specs.Replies.{HasClaims, IsFiled};
 ghost use Rattle.claim_gate.specs.Shared.{InTurn};
 ghost use Rattle.crew.specs.Passes.{GoesOn, LeavesWith};
 ghost use Rattle.crew.specs.Reading.{AreNext, ReadsAhead};
-ghost use Rattle.crew.specs.Sharing.{GoesOnAt, GoesOnBehind, HasAccepted, is_past};
+ghost use Rattle.crew.specs.Sharing.{GoesOnAt, GoesOnAfter, HasAccepted, is_past};
 ghost use Rattle.faults.specs.declared.run_fault.RunFault.TheVariants.{OutOfMemory};
 
-use crate::stopping::TRIES;
-use claim_gate::{EndFault, Gate, Offer, OfferFault, StoredClaim, Terms, terms_are_seen};
+use crate::stopping::ATTEMPTS;
+use claim_gate::{BoxedClaim, EndFault, Gate, Offer, OfferFault, Terms, claim_lists_exist};
 use faults::RunFault;
-use gate_batching::{OFFERS_LIMIT, Turn, Turns};
+use gate_batching::{BatchTurn, GateBatching, OFFERS_LIMIT};
 use intake_csv::{
     Row, Rows, given_row_has_the_claim, no_records_give_no_rows, reader_begins_with_all_rows,
 };
@@ -20,21 +20,21 @@ use std::alloc::{AllocError, Global};
 use std::sync::Wait;
 
 /// The claims of records that an intake has read and not offered yet, and whether they are the last of its file.
-struct Ahead {
-    claims: Vec<StoredClaim>,
+struct ReadAhead {
+    claims: Vec<BoxedClaim>,
     is_last: bool,
 }
 
 /// What the intake of this number does, from 0: it takes in its provider's file. Where claims are accepted in the order of the files the first
 /// takes in all, one after another, and the others nothing.
-pub(crate) fn take_in_part<R: Wait, G: Gate>(
+pub(crate) fn run_intake_part<R: Wait, G: Gate>(
     rt: &R,
     alloc: Global,
     terms: &Terms,
     gate: &G,
     pass: G::Pass,
     number: usize,
-    turns: &Turns,
+    turns: &GateBatching,
 ) -> Result<G::Pass, (RunFault, G::Pass)>
     requires own { G.has_pass gate.now pass }
     requires terms { (G.known pass).seen.terms ≡ terms.now }
@@ -45,22 +45,22 @@ pub(crate) fn take_in_part<R: Wait, G: Gate>(
     // Known from here: how many files a run has at most.
     let _files = terms.files();
     if !terms.in_order() {
-        return take_in(rt, alloc, terms, gate, pass, number + 1, turns);
+        return run_intake(rt, alloc, terms, gate, pass, number + 1, turns);
     }
     if number != 0 {
         return Ok(pass);
     }
-    take_in_all(rt, alloc, terms, gate, pass, turns)
+    run_intakes(rt, alloc, terms, gate, pass, turns)
 }
 
 // Takes in the files one after another, each behind the end of the one in front.
-fn take_in_all<R: Wait, G: Gate>(
+fn run_intakes<R: Wait, G: Gate>(
     rt: &R,
     alloc: Global,
     terms: &Terms,
     gate: &G,
     mut pass: G::Pass,
-    turns: &Turns,
+    turns: &GateBatching,
 ) -> Result<G::Pass, (RunFault, G::Pass)>
     requires own { G.has_pass gate.now pass }
     requires terms { (G.known pass).seen.terms ≡ terms.now }
@@ -69,7 +69,7 @@ fn take_in_all<R: Wait, G: Gate>(
 {
     let files = terms.files().len();
     'files: for place in 0..files {
-        pass = match take_in(rt, alloc, terms, gate, pass, place + 1, turns) {
+        pass = match run_intake(rt, alloc, terms, gate, pass, place + 1, turns) {
             Ok(pass) => pass,
             Err(left) => return Err(left),
         };
@@ -79,14 +79,14 @@ fn take_in_all<R: Wait, G: Gate>(
 
 /// Offers the claims of a provider's file in order, and ends the provider behind the last. What others have offered of it isn't
 /// offered again. So many records are read ahead as are offered in one turn, while another thread has its own.
-fn take_in<R: Wait, G: Gate>(
+fn run_intake<R: Wait, G: Gate>(
     rt: &R,
     alloc: Global,
     terms: &Terms,
     gate: &G,
     mut pass: G::Pass,
     provider: usize,
-    turns: &Turns,
+    turns: &GateBatching,
 ) -> Result<G::Pass, (RunFault, G::Pass)>
     requires own { G.has_pass gate.now pass }
     requires terms { (G.known pass).seen.terms ≡ terms.now }
@@ -110,8 +110,8 @@ fn take_in<R: Wait, G: Gate>(
         let Ok(ahead) = read_ahead(alloc, &mut rows) else {
             return Err((RunFault::OutOfMemory, pass));
         };
-        let Ahead { claims, is_last } = ahead;
-        let behind = count + claims.len();
+        let ReadAhead { claims, is_last } = ahead;
+        let following = count + claims.len();
         (expected, pass) = match offer_all(
             rt, terms, gate, pass, provider, count, expected, claims, turns,
         ) {
@@ -119,7 +119,7 @@ fn take_in<R: Wait, G: Gate>(
             Ok((None, pass)) => return Ok(pass),
             Err(left) => return Err(left),
         };
-        count = behind;
+        count = following;
         if is_last {
             return end(rt, terms, gate, pass, provider, count);
         }
@@ -127,7 +127,7 @@ fn take_in<R: Wait, G: Gate>(
 }
 
 // Reads the next records, as many as are offered in one turn.
-fn read_ahead(alloc: Global, rows: &mut Rows<'_>) -> Result<Ahead, AllocError>
+fn read_ahead(alloc: Global, rows: &mut Rows<'_>) -> Result<ReadAhead, AllocError>
     ensures ahead { IfOk result (λ ahead. ReadsAhead rows.old rows.new ahead.claims.items) }
     ensures room { rows.old.place < rows.old.number → rows.old.place < 2 ^ 64 → IfOk result (λ ahead. rows.old.place + length ahead.claims.items < 2 ^ 64) }
     ensures last { IfOk result (λ ahead. IsTrue ahead.is_last → rows.new.records ≡ []) }
@@ -138,7 +138,7 @@ fn read_ahead(alloc: Global, rows: &mut Rows<'_>) -> Result<Ahead, AllocError>
     let mut claims = Vec::with_capacity(alloc, OFFERS_LIMIT as usize)?;
     'records: for record in 0..OFFERS_LIMIT {
         let Some(row) = rows.next()? else {
-            return Ok(Ahead {
+            return Ok(ReadAhead {
                 claims,
                 is_last: true,
             });
@@ -146,9 +146,9 @@ fn read_ahead(alloc: Global, rows: &mut Rows<'_>) -> Result<Ahead, AllocError>
         let Row::Good { claim, .. } = row else {
             continue;
         };
-        claims.push(StoredClaim::new(alloc, claim)?)?;
+        claims.push(BoxedClaim::new(alloc, claim)?)?;
     }
-    Ok(Ahead {
+    Ok(ReadAhead {
         claims,
         is_last: false,
     })
@@ -165,8 +165,8 @@ fn offer_all<R: Wait, G: Gate>(
     provider: usize,
     first: usize,
     expected: usize,
-    claims: Vec<StoredClaim>,
-    turns: &Turns,
+    claims: Vec<BoxedClaim>,
+    turns: &GateBatching,
 ) -> Result<(Option<usize>, G::Pass), (RunFault, G::Pass)>
     requires own { G.has_pass gate.now pass }
     requires terms { (G.known pass).seen.terms ≡ terms.now }
@@ -176,14 +176,14 @@ fn offer_all<R: Wait, G: Gate>(
     requires reached { first ≤ expected }
     requires room { first + length claims.items < 2 ^ 64 }
     ensures goes_on { IfOk result (λ r. GoesOn (G.has_pass gate.now) G.known pass r.1) }
-    ensures next { IfOk result (λ r. GoesOnBehind (G.known r.1).seen provider (first + length claims.items) r.0) }
+    ensures next { IfOk result (λ r. GoesOnAfter (G.known r.1).seen provider (first + length claims.items) r.0) }
     ensures leaves { IfErr result (LeavesWith (G.has_pass gate.now) G.known pass) }
 {
     if claims.is_empty() {
         return Ok((Some(expected), pass));
     }
     let turn = turns.begin_offers(rt);
-    let pass = match foresee(rt, gate, pass, claims.as_slice()) {
+    let pass = match prefetch(rt, gate, pass, claims.as_slice()) {
         Ok(pass) => pass,
         Err(left) => return Err(left),
     };
@@ -193,17 +193,17 @@ fn offer_all<R: Wait, G: Gate>(
 }
 
 // Tells the gate which claims come, before the first of them is offered.
-fn foresee<R: Wait, G: Gate>(
+fn prefetch<R: Wait, G: Gate>(
     rt: &R,
     gate: &G,
     pass: G::Pass,
-    claims: &[StoredClaim],
+    claims: &[BoxedClaim],
 ) -> Result<G::Pass, (RunFault, G::Pass)>
     requires own { G.has_pass gate.now pass }
     ensures goes_on { IfOk result (GoesOn (G.has_pass gate.now) G.known pass) }
     ensures leaves { IfErr result (LeavesWith (G.has_pass gate.now) G.known pass) }
 {
-    match gate.foresee(rt, pass, claims) {
+    match gate.prefetch(rt, pass, claims) {
         Ok(pass) => Ok(pass),
         Err((_, pass)) => Err((RunFault::Worn, pass)),
     }
@@ -218,8 +218,8 @@ fn offer_each<R: Wait, G: Gate>(
     provider: usize,
     first: usize,
     mut expected: usize,
-    claims: Vec<StoredClaim>,
-    turn: &Turn,
+    claims: Vec<BoxedClaim>,
+    turn: &BatchTurn,
 ) -> Result<(Option<usize>, G::Pass), (RunFault, G::Pass)>
     requires own { G.has_pass gate.now pass }
     requires terms { (G.known pass).seen.terms ≡ terms.now }
@@ -229,7 +229,7 @@ fn offer_each<R: Wait, G: Gate>(
     requires reached { first ≤ expected }
     requires room { first + length claims.items < 2 ^ 64 }
     ensures goes_on { IfOk result (λ r. GoesOn (G.has_pass gate.now) G.known pass r.1) }
-    ensures next { IfOk result (λ r. GoesOnBehind (G.known r.1).seen provider (first + length claims.items) r.0) }
+    ensures next { IfOk result (λ r. GoesOnAfter (G.known r.1).seen provider (first + length claims.items) r.0) }
     ensures leaves { IfErr result (LeavesWith (G.has_pass gate.now) G.known pass) }
 {
     let mut place = first;
@@ -285,15 +285,15 @@ fn offer<R: Wait, G: Gate>(
     ensures leaves { IfErr result (LeavesWith (G.has_pass gate.now) G.known pass) }
 {
     // Known from here: the texts have lists of claims, so that what holds for each list says something.
-    terms_are_seen(terms);
-    let behind = offer.place + 1;
-    'tries: for _ in 0..TRIES {
+    claim_lists_exist(terms);
+    let following = offer.place + 1;
+    'tries: for _ in 0..ATTEMPTS {
         let (accepted, after) = match gate.offer(rt, pass, offer) {
             Ok(answer) => answer,
             Err((_, pass, _)) => return Err((RunFault::Worn, pass)),
         };
         match accepted {
-            Ok(_) => return Ok((Some(behind), after)),
+            Ok(_) => return Ok((Some(following), after)),
             Err((OfferFault::OutOfTurn { expected }, _)) => return Ok((Some(expected), after)),
             Err((OfferFault::Closed, _)) => return Ok((None, after)),
             Err((OfferFault::Stopped, _)) => return Ok((None, after)),
@@ -321,8 +321,8 @@ fn end<R: Wait, G: Gate>(
     ensures leaves { IfErr result (LeavesWith (G.has_pass gate.now) G.known pass) }
 {
     // Known from here: the texts have lists of claims, so that what holds for each list says something.
-    terms_are_seen(terms);
-    'tries: for _ in 0..TRIES {
+    claim_lists_exist(terms);
+    'tries: for _ in 0..ATTEMPTS {
         let (ended, after) = match gate.end(rt, pass, provider, count) {
             Ok(answer) => answer,
             Err((_, pass)) => return Err((RunFault::Worn, pass)),

@@ -8,7 +8,7 @@
 #![tactic(auto)]
 
 mod intake;
-mod least;
+mod least_fault;
 mod stopping;
 mod threads;
 mod worker;

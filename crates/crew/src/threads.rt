@@ -8,14 +8,14 @@ ghost use Rattle.crew.specs.Passes.{GoesOn, LeavesWith};
 ghost use Rattle.crew.specs.Workers.{IsWorkerCount};
 ghost use Rattle.faults.specs.declared.run_fault.RunFault.TheVariants.{Workers, Stopped};
 
-use crate::intake::take_in_part;
-use crate::least::LeastFault;
+use crate::intake::run_intake_part;
+use crate::least_fault::LeastFault;
 use crate::stopping::stop;
-use crate::worker::work;
-use claim_gate::{Batch, Gate, GateState, LockedGate, SerialGate, Terms, terms_are_seen};
+use crate::worker::run_worker;
+use claim_gate::{Batch, Gate, GateState, LockedGate, SerialGate, Terms, claim_lists_exist};
 use cutplan::{CutPlan, compile};
 use faults::RunFault;
-use gate_batching::Turns;
+use gate_batching::GateBatching;
 use journal::finished_is_final;
 use std::alloc::Global;
 use std::sync::Wait;
@@ -44,7 +44,7 @@ pub fn run<'t, R: Threads + Wait + Sync>(
         return Err(RunFault::Workers);
     }
     // Known from here: the texts have lists of claims, so that what holds for each list says something.
-    terms_are_seen(terms);
+    claim_lists_exist(terms);
     // Behind a pointer the gate goes in and out of the lock as one word.
     let Ok(state) = GateState::new(alloc, terms) else {
         return Err(RunFault::OutOfMemory);
@@ -55,7 +55,7 @@ pub fn run<'t, R: Threads + Wait + Sync>(
     let Ok((lock, pass)) = TicketLock::new(alloc, state) else {
         return Err(RunFault::OutOfMemory);
     };
-    let state = match run_behind(rt, alloc, terms, workers, lock, pass) {
+    let state = match run_after_new(rt, alloc, terms, workers, lock, pass) {
         Ok(state) => state,
         Err(fault) => return Err(fault),
     };
@@ -76,7 +76,7 @@ fn may_have(workers: usize) -> bool
 }
 
 // The gate of a finished run behind a lock.
-fn run_behind<S: Section + Drop + Sync, R: Threads + Wait + Sync>(
+fn run_after_new<S: Section + Drop + Sync, R: Threads + Wait + Sync>(
     rt: &R,
     alloc: Global,
     terms: &Terms,
@@ -144,10 +144,10 @@ pub fn run_with<R: Threads + Wait + Sync, G: Gate + Sync>(
         return Err((RunFault::OutOfMemory, stop(rt, terms, gate, pass)));
     };
     let least = LeastFault::new();
-    let turns = Turns::new();
+    let turns = GateBatching::new();
     match in_threads(rt, alloc, terms, &plan, workers, gate, pass, &least, &turns) {
         Ok(pass) => Ok(pass),
-        Err((own, pass)) => Err((least.or_own(own), pass)),
+        Err((own, pass)) => Err((least.least_with(own), pass)),
     }
 }
 
@@ -161,7 +161,7 @@ fn in_threads<R: Threads + Wait + Sync, G: Gate + Sync>(
     gate: &G,
     pass: G::Pass,
     least: &LeastFault,
-    turns: &Turns,
+    turns: &GateBatching,
 ) -> Result<G::Pass, (RunFault, G::Pass)>
     requires own { G.has_pass gate.now pass }
     requires terms { (G.known pass).seen.terms ≡ terms.now }
@@ -188,7 +188,7 @@ fn in_threads<R: Threads + Wait + Sync, G: Gate + Sync>(
                 let job = move ||
                     requires { G.has_pass gate.now theirs × ((G.known theirs).seen.terms ≡ terms.now) × (plan.now ≡ terms.now.plan) }
                 {
-                    if let Err((fault, _)) = take_part(
+                    if let Err((fault, _)) = run_thread(
                         rt, alloc, terms, plan, gate, theirs, number, turns,
                     ) {
                         least.note(fault);
@@ -197,18 +197,18 @@ fn in_threads<R: Threads + Wait + Sync, G: Gate + Sync>(
                 if scope.spawn(job).is_err() {
                     least.note(RunFault::Thread);
                     let stopped = stop(rt, terms, gate, mine);
-                    return take_part(rt, alloc, terms, plan, gate, stopped, threads, turns);
+                    return run_thread(rt, alloc, terms, plan, gate, stopped, threads, turns);
                 }
                 own = mine;
             }
-            take_part(rt, alloc, terms, plan, gate, own, threads, turns)
+            run_thread(rt, alloc, terms, plan, gate, own, threads, turns)
         },
     )
 }
 
 // What the thread of this number does: the first ones are the providers' intakes, the others are workers. Where memory is
 // wanting, it stops the gate when it leaves.
-fn take_part<R: Wait, G: Gate>(
+fn run_thread<R: Wait, G: Gate>(
     rt: &R,
     alloc: Global,
     terms: &Terms,
@@ -216,7 +216,7 @@ fn take_part<R: Wait, G: Gate>(
     gate: &G,
     pass: G::Pass,
     number: usize,
-    turns: &Turns,
+    turns: &GateBatching,
 ) -> Result<G::Pass, (RunFault, G::Pass)>
     requires own { G.has_pass gate.now pass }
     requires terms { (G.known pass).seen.terms ≡ terms.now }
@@ -226,9 +226,9 @@ fn take_part<R: Wait, G: Gate>(
     ensures leaves { IfErr result (LeavesWith (G.has_pass gate.now) G.known pass) }
 {
     let left = if number < terms.files().len() {
-        take_in_part(rt, alloc, terms, gate, pass, number, turns)
+        run_intake_part(rt, alloc, terms, gate, pass, number, turns)
     } else {
-        work(rt, alloc, terms, plan, gate, pass, turns)
+        run_worker(rt, alloc, terms, plan, gate, pass, turns)
     };
     match left {
         Ok(pass) => Ok(pass),

@@ -2,19 +2,21 @@
 ghost use Rattle.std.specs.Prelude.{◌≡◌, [], true, map, IsSome, IfOk, IfErr};
 ghost use Rattle.std.specs.List.{All};
 ghost use Rattle.settlement.specs.Claim.{IsClaimOf};
-ghost use Rattle.journal.specs.Events.{decided};
+ghost use Rattle.journal.specs.Events.{has_decision};
 ghost use Rattle.journal.specs.Lawful.{Finished};
 ghost use Rattle.claim_gate.specs.Terms.{ForTerms};
 ghost use Rattle.crew.specs.Passes.{GoesOn, LeavesWith};
 ghost use Rattle.crew.specs.Sharing.{IsGathered, IsInWork, IsSettledIn, IsTask, settled_by};
 
-use crate::stopping::TRIES;
-use claim_gate::{Decision, FinishFault, Gate, Job, StoredClaim, Taken, Terms, terms_are_seen};
+use crate::stopping::ATTEMPTS;
+use claim_gate::{
+    BoxedClaim, BoxedOutcome, FinishFault, Gate, Job, Taken, Terms, claim_lists_exist,
+};
 use cutplan::CutPlan;
 use faults::RunFault;
-use gate_batching::{TAKES_LIMIT, Turn, Turns};
+use gate_batching::{BatchTurn, GateBatching, TAKES_LIMIT};
 use intake_csv::claims_have_the_plan_s_fields;
-use journal::jobs_stay;
+use journal::jobs_are_stable;
 use settlement::Adjudicator;
 use std::alloc::{AllocError, Global};
 use std::sync::Wait;
@@ -30,7 +32,7 @@ enum Task {
 }
 
 /// What a worker has taken in a row of calls.
-enum Gathered {
+enum TakenJobs {
     /// Nothing, and never again: the journal is finished.
     Over,
     /// These claims.
@@ -39,20 +41,20 @@ enum Gathered {
 
 /// A claim in work, with its outcome, which isn't recorded yet.
 #[derive(Drop)]
-struct Settled {
+struct DecidedJob {
     job: Job,
-    outcome: Decision,
+    outcome: BoxedOutcome,
 }
 
 /// Takes claims and decides them until the journal is finished. The claims of a turn are decided while another thread has its own.
-pub(crate) fn work<R: Wait, G: Gate>(
+pub(crate) fn run_worker<R: Wait, G: Gate>(
     rt: &R,
     alloc: Global,
     terms: &Terms,
     plan: &CutPlan,
     gate: &G,
     mut pass: G::Pass,
-    turns: &Turns,
+    turns: &GateBatching,
 ) -> Result<G::Pass, (RunFault, G::Pass)>
     requires plan { plan.now ≡ terms.now.plan }
     requires own { G.has_pass gate.now pass }
@@ -74,8 +76,8 @@ pub(crate) fn work<R: Wait, G: Gate>(
             Err(left) => return Err(left),
         };
         let jobs = match gathered {
-            Gathered::Over => return Ok(back),
-            Gathered::Jobs(jobs) => jobs,
+            TakenJobs::Over => return Ok(back),
+            TakenJobs::Jobs(jobs) => jobs,
         };
         rests = if jobs.is_empty() {
             turns.rest(rt, rests)
@@ -99,9 +101,9 @@ fn take_turn<R: Wait, G: Gate>(
     terms: &Terms,
     gate: &G,
     pass: G::Pass,
-    settled: Vec<Settled>,
-    turns: &Turns,
-) -> Result<(Gathered, G::Pass), (RunFault, G::Pass)>
+    settled: Vec<DecidedJob>,
+    turns: &GateBatching,
+) -> Result<(TakenJobs, G::Pass), (RunFault, G::Pass)>
     requires own { G.has_pass gate.now pass }
     requires terms { (G.known pass).seen.terms ≡ terms.now }
     requires settled { All (IsSettledIn (G.known pass).seen) settled.items }
@@ -129,9 +131,9 @@ fn gather<R: Wait, G: Gate>(
     terms: &Terms,
     gate: &G,
     mut pass: G::Pass,
-    turn: &Turn,
+    turn: &BatchTurn,
     mut jobs: Vec<Job>,
-) -> Result<(Gathered, G::Pass), (RunFault, G::Pass)>
+) -> Result<(TakenJobs, G::Pass), (RunFault, G::Pass)>
     requires own { G.has_pass gate.now pass }
     requires terms { (G.known pass).seen.terms ≡ terms.now }
     requires none { jobs.items ≡ [] }
@@ -140,15 +142,15 @@ fn gather<R: Wait, G: Gate>(
     ensures leaves { IfErr result (LeavesWith (G.has_pass gate.now) G.known pass) }
 {
     // Known from here: a job stays one in each later state of the gate.
-    jobs_stay();
+    jobs_are_stable();
     'calls: for _ in 0..TAKES_LIMIT {
         let (task, back) = match take(rt, terms, gate, pass) {
             Ok(taken) => taken,
             Err(left) => return Err(left),
         };
         match task {
-            Task::Over => return Ok((Gathered::Over, back)),
-            Task::NothingReady => return Ok((Gathered::Jobs(jobs), back)),
+            Task::Over => return Ok((TakenJobs::Over, back)),
+            Task::NothingReady => return Ok((TakenJobs::Jobs(jobs), back)),
             Task::Work(job) => {
                 turn.count_taken();
                 let Ok(()) = jobs.push(job) else {
@@ -158,7 +160,7 @@ fn gather<R: Wait, G: Gate>(
         }
         pass = back;
     }
-    Ok((Gathered::Jobs(jobs), pass))
+    Ok((TakenJobs::Jobs(jobs), pass))
 }
 
 // Asks the gate what there is to do, as often as a call is tried.
@@ -176,10 +178,10 @@ fn take<R: Wait, G: Gate>(
 {
     // Known from here: the texts have lists of claims, so that what holds for each list says something, and these have the
     // plan's fields.
-    terms_are_seen(terms);
+    claim_lists_exist(terms);
     claims_have_the_plan_s_fields();
     let _names = terms.plan().names();
-    'tries: for _ in 0..TRIES {
+    'tries: for _ in 0..ATTEMPTS {
         let (taken, after) = match gate.take(rt, pass) {
             Ok(answer) => answer,
             Err((_, pass)) => return Err((RunFault::Worn, pass)),
@@ -200,7 +202,7 @@ fn decide_all<'v, 'p>(
     alloc: Global,
     adjudicator: &mut Adjudicator<'v, CutPlan<'p>>,
     jobs: Vec<Job>,
-) -> Result<Vec<Settled>, AllocError>
+) -> Result<Vec<DecidedJob>, AllocError>
     requires roles { IsSome adjudicator.old.roles }
     requires fields { All (λ job. IsClaimOf adjudicator.old job.claim) jobs.items }
     ensures plan { adjudicator.new ≡ adjudicator.old }
@@ -219,15 +221,15 @@ fn settle<'v, 'p>(
     alloc: Global,
     adjudicator: &mut Adjudicator<'v, CutPlan<'p>>,
     job: Job,
-) -> Result<Settled, AllocError>
+) -> Result<DecidedJob, AllocError>
     requires roles { IsSome adjudicator.old.roles }
     requires fields { IsClaimOf adjudicator.old job.claim }
     ensures plan { adjudicator.new ≡ adjudicator.old }
     ensures settled { IfOk result (λ settled. settled ≡ settled_by adjudicator.old job) }
 {
     let outcome = adjudicator.decide(alloc, job.claim.as_claim(), job.acc)?;
-    let outcome = Decision::new(alloc, outcome)?;
-    Ok(Settled { job, outcome })
+    let outcome = BoxedOutcome::new(alloc, outcome)?;
+    Ok(DecidedJob { job, outcome })
 }
 
 // Records outcomes, one call after another, and puts their claims to those that are let go later.
@@ -236,8 +238,8 @@ fn record_all<R: Wait, G: Gate>(
     terms: &Terms,
     gate: &G,
     mut pass: G::Pass,
-    settled: Vec<Settled>,
-    released: &mut Vec<StoredClaim>,
+    settled: Vec<DecidedJob>,
+    released: &mut Vec<BoxedClaim>,
 ) -> Result<G::Pass, (RunFault, G::Pass)>
     requires own { G.has_pass gate.now pass }
     requires terms { (G.known pass).seen.terms ≡ terms.now }
@@ -246,7 +248,7 @@ fn record_all<R: Wait, G: Gate>(
     ensures leaves { IfErr result (LeavesWith (G.has_pass gate.now) G.known pass) }
 {
     // Known from here: a job stays one in each later state of the gate.
-    jobs_stay();
+    jobs_are_stable();
     for one in settled {
         pass = match record(rt, terms, gate, pass, one, released) {
             Ok(pass) => pass,
@@ -262,25 +264,25 @@ fn record<R: Wait, G: Gate>(
     terms: &Terms,
     gate: &G,
     mut pass: G::Pass,
-    settled: Settled,
-    released: &mut Vec<StoredClaim>,
+    settled: DecidedJob,
+    released: &mut Vec<BoxedClaim>,
 ) -> Result<G::Pass, (RunFault, G::Pass)>
     requires own { G.has_pass gate.now pass }
     requires terms { (G.known pass).seen.terms ≡ terms.now }
     requires settled { IsSettledIn (G.known pass).seen settled }
     ensures goes_on { IfOk result (GoesOn (G.has_pass gate.now) G.known pass) }
-    ensures decided { IfOk result (λ p. decided (G.known p).seen.journal settled.job.position ≡ true) }
+    ensures has_decision { IfOk result (λ p. has_decision (G.known p).seen.journal settled.job.position ≡ true) }
     ensures leaves { IfErr result (LeavesWith (G.has_pass gate.now) G.known pass) }
 {
     // Known from here: the texts have lists of claims, so that what holds for each list says something, and a job stays one in each
     // later state of the gate.
-    terms_are_seen(terms);
-    jobs_stay();
-    let Settled {
+    claim_lists_exist(terms);
+    jobs_are_stable();
+    let DecidedJob {
         mut job,
         mut outcome,
     } = settled;
-    'tries: for _ in 0..TRIES {
+    'tries: for _ in 0..ATTEMPTS {
         let (recorded, after) = match gate.finish(rt, pass, job, outcome) {
             Ok(answer) => answer,
             Err((_, pass, _, _)) => return Err((RunFault::Worn, pass)),

@@ -12,53 +12,53 @@ use Rattle.feel_tests.specs.declared.value.Value.{Value}
 use Rattle.feel_tests.specs.declared.value.Value.TheVariants.{Number, Text, Flag, Day}
 use Rattle.dtable.specs.declared.table.Rule.{Rule}
 use Rattle.dtable.specs.Plan.{has_kind}
-use Rattle.cutplan.specs.Values.{is_before, rising}
+use Rattle.cutplan.specs.Values.{is_before, sort_values}
 use Rattle.cutplan.specs.Regions.{literals}
-use Rattle.cutplan.specs.Parts.{can_be_sorted, fits_at, stands_at, own_cuts, cell_holds, IsAsked}
+use Rattle.cutplan.specs.CheckSteps.{can_be_sorted, fits_at, is_located_at, own_cuts, cell_holds, IsAsked}
 use Rattle.cutplan.proofs.Integers.{beside_above, beside_below, lt_from}
 use Rattle.cutplan.proofs.Alike.{Among, Apart, Alike, each_from, alike_apart, alike_number, alike_day, holds_alike}
 use Rattle.cutplan.proofs.CutLists.{rising_only}
 use Rattle.cutplan.proofs.CutOrder.{Lined, Of, Rises, number_lined, day_lined, text_lined, chain_of, cuts_of_kind, rises_at}
 use Rattle.cutplan.proofs.Regionwise.{number_is, day_is, text_is, cut_of, number_text, number_flag, number_day, day_text, day_flag, day_number, text_number, text_flag, text_day, text_text}
 use Rattle.cutplan.proofs.Holding.{among_passes}
-use Rattle.cutplan.proofs.Sought.{OfKind, front_apart, behind_apart, item_at}
+use Rattle.cutplan.proofs.CutSearch.{OfKind, front_apart, after_apart, item_at}
 
 -- two values above a literal
-behind_number : (a c : ℤ) → is_before (Number c) (Number a) ≡ true → (w : Value) → is_before (Number c) w ≡ true → Alike (Number a) w (Number c)
-behind_number a c h (Number b) k = alike_number a b c (beside_above a b c (lt_from c a h) (lt_from c b k))
-behind_number a c h (Text t) k = absurd (both_ways false refl k)
-behind_number a c h (Flag f) k = absurd (both_ways false refl k)
-behind_number a c h (Day d) k = absurd (both_ways false refl k)
+after_number : (a c : ℤ) → is_before (Number c) (Number a) ≡ true → (w : Value) → is_before (Number c) w ≡ true → Alike (Number a) w (Number c)
+after_number a c h (Number b) k = alike_number a b c (beside_above a b c (lt_from c a h) (lt_from c b k))
+after_number a c h (Text t) k = absurd (both_ways false refl k)
+after_number a c h (Flag f) k = absurd (both_ways false refl k)
+after_number a c h (Day d) k = absurd (both_ways false refl k)
 
-behind_day : (a c : ℤ) → is_before (Day c) (Day a) ≡ true → (w : Value) → is_before (Day c) w ≡ true → Alike (Day a) w (Day c)
-behind_day a c h (Number b) k = absurd (both_ways false refl k)
-behind_day a c h (Text t) k = absurd (both_ways false refl k)
-behind_day a c h (Flag f) k = absurd (both_ways false refl k)
-behind_day a c h (Day b) k = alike_day a b c (beside_above a b c (lt_from c a h) (lt_from c b k))
+after_day : (a c : ℤ) → is_before (Day c) (Day a) ≡ true → (w : Value) → is_before (Day c) w ≡ true → Alike (Day a) w (Day c)
+after_day a c h (Number b) k = absurd (both_ways false refl k)
+after_day a c h (Text t) k = absurd (both_ways false refl k)
+after_day a c h (Flag f) k = absurd (both_ways false refl k)
+after_day a c h (Day b) k = alike_day a b c (beside_above a b c (lt_from c a h) (lt_from c b k))
 
-behind_text : (a c : List ℕ) → is_before (Text c) (Text a) ≡ true → (w : Value) → is_before (Text c) w ≡ true → Alike (Text a) w (Text c)
-behind_text a c h (Number b) k = absurd (both_ways false refl k)
-behind_text a c h (Text b) k = alike_apart (text_text a c (behind_apart (Text a) (Text c) h)) (text_text b c (behind_apart (Text b) (Text c) k))
-behind_text a c h (Flag f) k = absurd (both_ways false refl k)
-behind_text a c h (Day d) k = absurd (both_ways false refl k)
+after_text : (a c : List ℕ) → is_before (Text c) (Text a) ≡ true → (w : Value) → is_before (Text c) w ≡ true → Alike (Text a) w (Text c)
+after_text a c h (Number b) k = absurd (both_ways false refl k)
+after_text a c h (Text b) k = alike_apart (text_text a c (after_apart (Text a) (Text c) h)) (text_text b c (after_apart (Text b) (Text c) k))
+after_text a c h (Flag f) k = absurd (both_ways false refl k)
+after_text a c h (Day d) k = absurd (both_ways false refl k)
 
-behind_alike : (l v w : Value) → is_before l v ≡ true → is_before l w ≡ true → Alike v w l
-behind_alike (Number c) (Number a) w h k = behind_number a c h w k
-behind_alike (Number c) (Text t) w h k = absurd (both_ways false refl h)
-behind_alike (Number c) (Flag f) w h k = absurd (both_ways false refl h)
-behind_alike (Number c) (Day d) w h k = absurd (both_ways false refl h)
-behind_alike (Text c) (Number a) w h k = absurd (both_ways false refl h)
-behind_alike (Text c) (Text a) w h k = behind_text a c h w k
-behind_alike (Text c) (Flag f) w h k = absurd (both_ways false refl h)
-behind_alike (Text c) (Day d) w h k = absurd (both_ways false refl h)
-behind_alike (Flag c) (Number a) w h k = absurd (both_ways false refl h)
-behind_alike (Flag c) (Text t) w h k = absurd (both_ways false refl h)
-behind_alike (Flag c) (Flag f) w h k = absurd (both_ways false refl h)
-behind_alike (Flag c) (Day d) w h k = absurd (both_ways false refl h)
-behind_alike (Day c) (Number a) w h k = absurd (both_ways false refl h)
-behind_alike (Day c) (Text t) w h k = absurd (both_ways false refl h)
-behind_alike (Day c) (Flag f) w h k = absurd (both_ways false refl h)
-behind_alike (Day c) (Day a) w h k = behind_day a c h w k
+after_alike : (l v w : Value) → is_before l v ≡ true → is_before l w ≡ true → Alike v w l
+after_alike (Number c) (Number a) w h k = after_number a c h w k
+after_alike (Number c) (Text t) w h k = absurd (both_ways false refl h)
+after_alike (Number c) (Flag f) w h k = absurd (both_ways false refl h)
+after_alike (Number c) (Day d) w h k = absurd (both_ways false refl h)
+after_alike (Text c) (Number a) w h k = absurd (both_ways false refl h)
+after_alike (Text c) (Text a) w h k = after_text a c h w k
+after_alike (Text c) (Flag f) w h k = absurd (both_ways false refl h)
+after_alike (Text c) (Day d) w h k = absurd (both_ways false refl h)
+after_alike (Flag c) (Number a) w h k = absurd (both_ways false refl h)
+after_alike (Flag c) (Text t) w h k = absurd (both_ways false refl h)
+after_alike (Flag c) (Flag f) w h k = absurd (both_ways false refl h)
+after_alike (Flag c) (Day d) w h k = absurd (both_ways false refl h)
+after_alike (Day c) (Number a) w h k = absurd (both_ways false refl h)
+after_alike (Day c) (Text t) w h k = absurd (both_ways false refl h)
+after_alike (Day c) (Flag f) w h k = absurd (both_ways false refl h)
+after_alike (Day c) (Day a) w h k = after_day a c h w k
 
 -- two values below a literal
 front_number : (a c : ℤ) → is_before (Number a) (Number c) ≡ true → (w : Value) → is_before w (Number c) ≡ true → Alike (Number a) w (Number c)
@@ -172,13 +172,13 @@ cut_alike : {K : Type 0} {mk : K → Value} (cs : List Value) (place : ℕ) (v w
 cut_alike cs place v w o v_is w_is within fit_v fit_w l at =
     let index = among_index cs l at in
     elim (cases_lt index.0 place) [
-      | inl less ↦ behind_alike l v w (earlier_cut cs place index.0 l v o v_is within fit_v index.1 less) (earlier_cut cs place index.0 l w o w_is within fit_w index.1 less)
+      | inl less ↦ after_alike l v w (earlier_cut cs place index.0 l v o v_is within fit_v index.1 less) (earlier_cut cs place index.0 l w o w_is within fit_w index.1 less)
       | inr most ↦ front_alike l v w (later_cut cs place index.0 l v o v_is fit_v index.1 most) (later_cut cs place index.0 l w o w_is fit_w index.1 most)
     ]
 
 -- the cuts of a kind among literals
 abbrev cuts_in : Kind → List Value → List Value
-cuts_in kind lits = rising (filter (has_kind kind) lits)
+cuts_in kind lits = sort_values (filter (has_kind kind) lits)
 
 ordered_cuts : {K : Type 0} {mk : K → Value} (kind : Kind) (lits : List Value) → Lined mk → OfKind mk kind → Rises (cuts_in kind lits) → Ordered mk (cuts_in kind lits)
 ordered_cuts kind lits line is rise = record {
@@ -204,7 +204,7 @@ record AtPlace (kind : Kind) (cs : List Value) (place : ℕ) (v : Value) : Type 
   within : place ≤ length cs
   fit : fits_at cs place v ≡ true
 
-at_place : (kind : Kind) (cs : List Value) (place : ℕ) (v : Value) → stands_at kind cs place v ≡ true → AtPlace kind cs place v
+at_place : (kind : Kind) (cs : List Value) (place : ℕ) (v : Value) → is_located_at kind cs place v ≡ true → AtPlace kind cs place v
 at_place kind cs place v e =
     let all = and_parts ((can_be_sorted kind && has_kind kind v) && nat_le place (length cs)) (fits_at cs place v) e in
     let front = and_parts (can_be_sorted kind && has_kind kind v) (nat_le place (length cs)) all.0 in
@@ -213,7 +213,7 @@ at_place kind cs place v e =
 
 -- two values at the same index among the literals of a cell compare in the same way with each of
 -- them
-literal_alike : (kind : Kind) (lits : List Value) (place : ℕ) (v w : Value) → stands_at kind (cuts_in kind lits) place v ≡ true → stands_at kind (cuts_in kind lits) place w ≡ true → (l : Value) → Among l lits → Alike v w l
+literal_alike : (kind : Kind) (lits : List Value) (place : ℕ) (v w : Value) → is_located_at kind (cuts_in kind lits) place v ≡ true → is_located_at kind (cuts_in kind lits) place w ≡ true → (l : Value) → Among l lits → Alike v w l
 literal_alike kind lits place v w at_v at_w l at =
     let one = at_place kind (cuts_in kind lits) place v at_v in
     let other = at_place kind (cuts_in kind lits) place w at_w in
@@ -223,10 +223,10 @@ literal_alike kind lits place v w at_v at_w l at =
     ] refl
 
 -- so the cell holds for both values or for neither
-between_alike : (kind : Kind) (rule : Rule) (column place : ℕ) (v w : Value) → stands_at kind (own_cuts kind column rule) place v ≡ true → stands_at kind (own_cuts kind column rule) place w ≡ true
+between_alike : (kind : Kind) (rule : Rule) (column place : ℕ) (v w : Value) → is_located_at kind (own_cuts kind column rule) place v ≡ true → is_located_at kind (own_cuts kind column rule) place w ≡ true
     → cell_holds (slice_get rule.cells column) v ≡ cell_holds (slice_get rule.cells column) w
 between_alike kind rule column place v w at_v at_w = by_cell (slice_get rule.cells column) at_v at_w where
-  by_cell : (cell : Option Cell) → stands_at kind (cuts_in kind (option_map_or literals cell [])) place v ≡ true → stands_at kind (cuts_in kind (option_map_or literals cell [])) place w ≡ true → cell_holds cell v ≡ cell_holds cell w
+  by_cell : (cell : Option Cell) → is_located_at kind (cuts_in kind (option_map_or literals cell [])) place v ≡ true → is_located_at kind (cuts_in kind (option_map_or literals cell [])) place w ≡ true → cell_holds cell v ≡ cell_holds cell w
   by_cell None at_v at_w = refl
   by_cell (Some cell) at_v at_w = holds_alike v w cell (each_from (Alike v w) (literals cell) (literal_alike kind (literals cell) place v w at_v at_w))
 
@@ -235,11 +235,11 @@ pub none_asked : (rule : Rule) (column : ℕ) (kind : Kind) (cuts : List Value) 
 none_asked rule column kind cuts place own = record { own = own; known = λ found none. absurd (none-some found none) }
 
 -- the answer for a value at an index is correct for all values there
-pub asked_at : (rule : Rule) (column : ℕ) (kind : Kind) (cuts : List Value) (place : ℕ) (v : Value) (answer : Bool) → cuts ≡ own_cuts kind column rule → stands_at kind cuts place v ≡ true → answer ≡ cell_holds (slice_get rule.cells column) v
+pub asked_at : (rule : Rule) (column : ℕ) (kind : Kind) (cuts : List Value) (place : ℕ) (v : Value) (answer : Bool) → cuts ≡ own_cuts kind column rule → is_located_at kind cuts place v ≡ true → answer ≡ cell_holds (slice_get rule.cells column) v
     → IsAsked rule column kind cuts place (Some answer)
 asked_at rule column kind cuts place v answer own at is = record {
   own = own;
   known = λ found same w at_w.
-      between_alike kind rule column place w v (subst (λ cs. stands_at kind cs place w ≡ true) own at_w) (subst (λ cs. stands_at kind cs place v ≡ true) own at)
+      between_alike kind rule column place w v (subst (λ cs. is_located_at kind cs place w ≡ true) own at_w) (subst (λ cs. is_located_at kind cs place v ≡ true) own at)
       ∙ sym is ∙ same_Some answer found same;
 }

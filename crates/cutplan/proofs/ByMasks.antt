@@ -15,24 +15,24 @@ use Rattle.dtable.specs.declared.table.Input.{Input}
 use Rattle.dtable.specs.declared.table.Rule.{Rule}
 use Rattle.dtable.specs.declared.table.Table.{Table}
 use Rattle.faults.specs.declared.fault.Fault.{Fault}
-use Rattle.dtable.specs.Environment.{table_value, inside, number_behind}
+use Rattle.dtable.specs.Environment.{table_value, inside, number_after}
 use Rattle.dtable.specs.HitPolicy.{Gives, by_hit}
 use Rattle.dtable.specs.Matching.{value_read, holds_of, cells_hold, matching, rule_matches, is_outside}
 use Rattle.dtable.specs.Plan.{PlanParts}
-use Rattle.cutplan.specs.declared.kept.KeptColumn.{KeptColumn}
+use Rattle.cutplan.specs.declared.compiled_column.CompiledColumn.{CompiledColumn}
 use Rattle.cutplan.specs.declared.region.Region.{Region}
 use Rattle.cutplan.specs.Values.{is_value, kind_read}
 use Rattle.cutplan.specs.Regions.{column_of, columns_from, column_literals, rule_literals, literals, regions, is_allowed, is_in, table_regions}
 use Rattle.cutplan.specs.Check.{rule_cells}
 use Rattle.cutplan.specs.Masks.{has_rule, rules_in, is_marked, Marks, AreMasks, AreMasksOf, IsColumnNumber}
-use Rattle.cutplan.specs.Found.{has_at, IsMatchingMask}
-use Rattle.cutplan.specs.Kept.{AreKept, AreKeptColumns, IsCut, IsKeptColumn, IsMaskOf, IsMaskRead}
+use Rattle.cutplan.specs.Matching.{has_at, IsMatchingMask}
+use Rattle.cutplan.specs.CompiledColumns.{AreKept, AreCompiledColumns, IsCut, IsCompiledColumn, IsMaskOf, IsMaskRead}
 use Rattle.cutplan.proofs.Alike.{Among, among_right}
 use Rattle.cutplan.proofs.MaskRules.{among_got, column_marks, rules_match}
 use Rattle.cutplan.proofs.FirstRules.{less_alike}
-use Rattle.cutplan.proofs.Keeping.{at_place, column_kept, column_within, kept_long}
+use Rattle.cutplan.proofs.Compiling.{at_place, column_kept, column_within, kept_long}
 use Rattle.cutplan.proofs.Matched.{inside_alike, listed_allowed, none_first}
-use Rattle.cutplan.proofs.Telling.{not_so}
+use Rattle.cutplan.proofs.GapLists.{not_so}
 
 -- in the first columns, no value is outside, and the mask has the rules whose cells hold
 pub record AreMet (given : List Slot) (earlier : List (List Answer)) (t : Table) (column : ℕ) (mask : List ℕ) : Type 0 where
@@ -101,8 +101,8 @@ pub record IsRead (given : List Slot) (earlier : List (List Answer)) (t : Table)
   pub has : (place : ℕ) → place < 256 → has_rule mask place ≡ (nat_lt place (length t.rules) && next_holds given earlier (rule_cells t place) column input)
 
 -- the mask of the region that contains the value that a column reads
-pub one_read : (p : PlanParts) (given : List Slot) (earlier : List (List Answer)) (t : Table) (column : ℕ) (input : Input) (kept : KeptColumn) (v : Value) (mask : List ℕ)
-    → IsKeptColumn p t column input kept → value_read given earlier kept.origin ≡ Some v → IsMaskOf kept v mask → IsRead given earlier t column input mask
+pub one_read : (p : PlanParts) (given : List Slot) (earlier : List (List Answer)) (t : Table) (column : ℕ) (input : Input) (kept : CompiledColumn) (v : Value) (mask : List ℕ)
+    → IsCompiledColumn p t column input kept → value_read given earlier kept.origin ≡ Some v → IsMaskOf kept v mask → IsRead given earlier t column input mask
 one_read p given earlier t column input kept v mask is_kept reads is =
     let rs = regions (column_of p t column input) in
     let read : value_read given earlier input.origin ≡ Some v = ap (value_read given earlier) (sym is_kept.origin) ∙ reads in
@@ -212,15 +212,15 @@ found_at (y ∷ ys) zero x below is = ap (λ z. Some z) (sym is)
 found_at (y ∷ ys) (suc i) x below is = found_at ys i x (below ∙ less_alike (suc i) (suc (length ys)) i (length ys) (λ less. omega (arith, less)) (λ more. omega (arith, more))) is
 
 -- each compiled column has an input
-pub input_at : (p : PlanParts) (t : Table) (kept : List KeptColumn) (i : ℕ) (column : KeptColumn) → AreKeptColumns p t kept → i < length kept → column ≡ get_or kept i column
-    → (input : Input) × (slice_get t.inputs i ≡ Some input) × IsKeptColumn p t i input column
+pub input_at : (p : PlanParts) (t : Table) (kept : List CompiledColumn) (i : ℕ) (column : CompiledColumn) → AreCompiledColumns p t kept → i < length kept → column ≡ get_or kept i column
+    → (input : Input) × (slice_get t.inputs i ≡ Some input) × IsCompiledColumn p t i input column
 input_at p t kept i column all below is =
     let long = kept_long p t kept all in
     let found = at_place t.inputs i (omega (arith, long, below)) in
     (found.0, found.1, column_kept p t kept i found.0 column all found.1 is)
 
 -- the mask of a compiled column extends the first columns by one
-pub column_met : (t : Table) (kept : List KeptColumn) (given : List Slot) (earlier : List (List Answer)) (i : ℕ) (column : KeptColumn) (mask read new : List ℕ) → AreKept t kept → i < length kept → column ≡ get_or kept i column
+pub column_met : (t : Table) (kept : List CompiledColumn) (given : List Slot) (earlier : List (List Answer)) (i : ℕ) (column : CompiledColumn) (mask read new : List ℕ) → AreKept t kept → i < length kept → column ≡ get_or kept i column
     → IsMaskRead given earlier column read → AreMet given earlier t i mask → length new ≡ 4
     → ((place : ℕ) → place < 256 → has_rule new place ≡ (has_rule mask place && has_rule read place)) → AreMet given earlier t (i + 1) new
 column_met t kept given earlier i column mask read new all below is is_read met words has =
@@ -228,24 +228,24 @@ column_met t kept given earlier i column mask read new all below is is_read met 
     more_met given earlier t i found.0 mask read new found.1 met (one_read all.plan given earlier t i found.0 column is_read.value read found.2 is_read.read is_read.is) words has
 
 -- the mask of a compiled column has four words
-pub column_words : (t : Table) (kept : List KeptColumn) (given : List Slot) (earlier : List (List Answer)) (i : ℕ) (column : KeptColumn) (read : List ℕ) → AreKept t kept → i < length kept → column ≡ get_or kept i column
+pub column_words : (t : Table) (kept : List CompiledColumn) (given : List Slot) (earlier : List (List Answer)) (i : ℕ) (column : CompiledColumn) (read : List ℕ) → AreKept t kept → i < length kept → column ≡ get_or kept i column
     → IsMaskRead given earlier column read → length read ≡ 4
 column_words t kept given earlier i column read all below is is_read =
     let found = input_at all.plan t kept i column all.columns below is in
     (one_read all.plan given earlier t i found.0 column is_read.value read found.2 is_read.read is_read.is).words
 
 -- after the last compiled column, the mask has the matching rules
-pub kept_met : (t : Table) (kept : List KeptColumn) (given : List Slot) (earlier : List (List Answer)) (i : ℕ) (mask : List ℕ) → AreKept t kept → length kept ≤ i → AreMet given earlier t i mask → IsMatchingMask given earlier t mask
+pub kept_met : (t : Table) (kept : List CompiledColumn) (given : List Slot) (earlier : List (List Answer)) (i : ℕ) (mask : List ℕ) → AreKept t kept → length kept ≤ i → AreMet given earlier t i mask → IsMatchingMask given earlier t mask
 kept_met t kept given earlier i mask all last met =
     let long = kept_long all.plan t kept all.columns in
     all_met given earlier t i mask (omega (arith, long, last)) met
 
 -- the compiled columns at the index of a table are those of the table
-pub kept_at : (p : PlanParts) (kept : List (List KeptColumn)) (place : ℕ) (t : Table) (columns : List KeptColumn) → IsCut p kept → slice_get p.tables place ≡ Some t → slice_get kept place ≡ Some columns → AreKeptColumns p t columns
-kept_at p kept place t columns cut at there = zip_at (AreKeptColumns p) p.tables kept place t columns cut.columns at there
+pub kept_at : (p : PlanParts) (kept : List (List CompiledColumn)) (place : ℕ) (t : Table) (columns : List CompiledColumn) → IsCut p kept → slice_get p.tables place ≡ Some t → slice_get kept place ≡ Some columns → AreCompiledColumns p t columns
+kept_at p kept place t columns cut at there = zip_at (AreCompiledColumns p) p.tables kept place t columns cut.columns at there
 
 -- the compiled masks of a column are its masks
-pub column_masks : (p : PlanParts) (number column : ℕ) (kept : List KeptColumn) (found : KeptColumn) → ((t : Table) → slice_get p.tables (number - 1) ≡ Some t → AreKeptColumns p t kept)
+pub column_masks : (p : PlanParts) (number column : ℕ) (kept : List CompiledColumn) (found : CompiledColumn) → ((t : Table) → slice_get p.tables (number - 1) ≡ Some t → AreCompiledColumns p t kept)
     → IsColumnNumber p number column → found ≡ get_or kept (column - 1) found → AreMasksOf p number column found.masks
 column_masks p number column kept found all place is t regions at there =
     let input = input_at p t kept (column - 1) found (all t at) (column_within p number column t kept (all t at) at place) is in
@@ -254,9 +254,9 @@ column_masks p number column kept found all place is t regions at there =
 
 -- the value of a table whose matching rules are those of a mask
 pub value_by_mask : (given : List Slot) (earlier : List (List Answer)) (t : Table) (mask : List ℕ) (result : Result (List Answer) Fault) → IsMatchingMask given earlier t mask → length t.rules ≤ 256
-    → Gives (by_hit t.hit (number_behind earlier) t (rules_in (length t.rules) mask)) result → Gives (table_value given earlier t) result
+    → Gives (by_hit t.hit (number_after earlier) t (rules_in (length t.rules) mask)) result → Gives (table_value given earlier t) result
 value_by_mask given earlier t mask result is few gives =
-    let value : table_value given earlier t ≡ by_hit t.hit (number_behind earlier) t (rules_in (length t.rules) mask) =
-    ap (λ found. inside found (number_behind earlier) (by_hit t.hit (number_behind earlier) t (matching given earlier t))) is.inside
-    ∙ ap (by_hit t.hit (number_behind earlier) t) (sym (rules_match mask given earlier t few is.marks.has)) in
+    let value : table_value given earlier t ≡ by_hit t.hit (number_after earlier) t (rules_in (length t.rules) mask) =
+    ap (λ found. inside found (number_after earlier) (by_hit t.hit (number_after earlier) t (matching given earlier t))) is.inside
+    ∙ ap (by_hit t.hit (number_after earlier) t) (sym (rules_match mask given earlier t few is.marks.has)) in
     subst (λ outcome. Gives outcome result) (sym value) gives

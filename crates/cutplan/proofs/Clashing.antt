@@ -15,15 +15,15 @@ use Rattle.dtable.specs.declared.hit.Hit.{Hit}
 use Rattle.dtable.specs.declared.hit.Hit.TheVariants as hits
 use Rattle.dtable.specs.declared.inputs.Slot.{Slot}
 use Rattle.dtable.specs.declared.table.Table.{Table}
-use Rattle.dtable.specs.Environment.{inside, number_behind}
-use Rattle.dtable.specs.HitPolicy.{aggregated, agree, by_hit, count_units, counted, number_answer, numbers_of, of_rule, ones, unmatched}
+use Rattle.dtable.specs.Environment.{inside, number_after}
+use Rattle.dtable.specs.HitPolicy.{aggregate_value, agree, by_hit, count_units, match_count, number_answer, numbers_of, of_rule, ones, no_match_value}
 use Rattle.dtable.specs.Matching.{matching, first_outside, rule_matches}
 use Rattle.dtable.specs.Plan.{PlanParts}
-use Rattle.dtable.specs.Priority.{entries_of, highest}
+use Rattle.dtable.specs.Priority.{entries_of, highest_rule}
 use Rattle.cutplan.proofs.Alike.{Among}
 use Rattle.cutplan.proofs.Overlapping.{contained_among}
 use Rattle.cutplan.specs.Violations.{clash}
-use Rattle.cutplan.specs.ViolationLaws.{HarmfulPair, TellsClash}
+use Rattle.cutplan.specs.ViolationLaws.{ViolatingPair, ReportsClash}
 
 -- a number of a range that passes a test is at least the first number of the range
 no_less : (q : ℕ → Bool) (a n s : ℕ) → Among s (filter q (range_with_len a n)) → a ≤ s
@@ -71,7 +71,7 @@ record Clashing (hit : Hit) (t : Table) (rules : List ℕ) : Type 0 where
   pub clashes : clash hit t one other ≡ true
 
 -- no rules clash if no rule matches
-unmatched_apart : {X : Type 0} (number : ℕ) (t : Table) → unmatched number t ≡ Err (Clash number) → X
+unmatched_apart : {X : Type 0} (number : ℕ) (t : Table) → no_match_value number t ≡ Err (Clash number) → X
 unmatched_apart {X} number t =
     elim (list_all (λ o. is_some o.fallback) t.outputs) as (λ b. cond b (Ok (ones (filter_map (λ o. o.fallback) t.outputs))) (Err (NoRule number)) ≡ Err (Clash number) → X) [
       | true ↦ λ e. absurd cc
@@ -89,11 +89,11 @@ number_apart {X} number units =
       | false ↦ λ e. absurd cc
     ]
 
-aggregated_apart : {X : Type 0} (number : ℕ) (t : Table) (units : Option ℤ) → aggregated number t units ≡ Err (Clash number) → X
+aggregated_apart : {X : Type 0} (number : ℕ) (t : Table) (units : Option ℤ) → aggregate_value number t units ≡ Err (Clash number) → X
 aggregated_apart number t None e = unmatched_apart number t e
 aggregated_apart number t (Some units) e = number_apart number units e
 
-counted_apart : {X : Type 0} (number : ℕ) (t : Table) (rules : List ℕ) → counted number t rules ≡ Err (Clash number) → X
+counted_apart : {X : Type 0} (number : ℕ) (t : Table) (rules : List ℕ) → match_count number t rules ≡ Err (Clash number) → X
 counted_apart number t [] e = unmatched_apart number t e
 counted_apart number t (r ∷ rules) e = number_apart number (count_units (length (r ∷ rules))) e
 
@@ -113,7 +113,7 @@ pair_of hits.U number t (r ∷ []) least e = absurd cc
 pair_of hits.U number t (r ∷ s ∷ rules) least e = record { one = r; other = s; less = least s (inl refl); first = inl refl; second = inr (inl refl); clashes = refl }
 pair_of hits.A number t [] least e = unmatched_apart number t e
 pair_of hits.A number t (r ∷ rules) least e = any_pair number t r rules least e
-pair_of hits.P number t rules least e = of_rule_apart number t (highest t rules) e
+pair_of hits.P number t rules least e = of_rule_apart number t (highest_rule t rules) e
 pair_of hits.F number t rules least e = of_rule_apart number t (slice_get rules 0) e
 pair_of hits.O number t rules least e = absurd cc
 pair_of hits.R number t rules least e = absurd cc
@@ -127,9 +127,9 @@ back : (n : ℕ) → suc n - 1 ≡ n
 back n = omega arith
 
 -- such a pair with numbers from 1
-numbered : (p : PlanParts) (t : Table) (given : List Slot) (earlier : List (List Answer)) → slice_get p.tables (number_behind earlier - 1) ≡ Some t
-    → first_outside given earlier t ≡ None → Clashing t.hit t (matching given earlier t) → HarmfulPair p t given earlier
-numbered p t given earlier standing none pair =
+numbered : (p : PlanParts) (t : Table) (given : List Slot) (earlier : List (List Answer)) → slice_get p.tables (number_after earlier - 1) ≡ Some t
+    → first_outside given earlier t ≡ None → Clashing t.hit t (matching given earlier t) → ViolatingPair p t given earlier
+numbered p t given earlier present none pair =
     let rules = matching given earlier t in
     let Among_rules : ℕ → Type 0 = λ x. Contains rules x in
     record {
@@ -142,16 +142,16 @@ numbered p t given earlier standing none pair =
         one = subst Among_rules (sym (back pair.one)) (contained_among rules pair.one pair.first);
         other = subst Among_rules (sym (back pair.other)) (contained_among rules pair.other pair.second);
       };
-      harms = ap (λ found. option_map_or (λ x. clash x.hit x (suc pair.one - 1) (suc pair.other - 1)) found false) standing
+      violates = ap (λ found. option_map_or (λ x. clash x.hit x (suc pair.one - 1) (suc pair.other - 1)) found false) present
           ∙ ap (λ i. clash t.hit t i (suc pair.other - 1)) (back pair.one) ∙ ap (λ j. clash t.hit t pair.one j) (back pair.other) ∙ pair.clashes;
     }
 
 -- a value that is not allowed is reported as such and not as a clash
-pub tells_clash : (p : PlanParts) (t : Table) (given : List Slot) (earlier : List (List Answer)) → slice_get p.tables (number_behind earlier - 1) ≡ Some t → TellsClash p t given earlier
-tells_clash p t given earlier standing =
-    let number = number_behind earlier in
+pub reports_clash : (p : PlanParts) (t : Table) (given : List Slot) (earlier : List (List Answer)) → slice_get p.tables (number_after earlier - 1) ≡ Some t → ReportsClash p t given earlier
+reports_clash p t given earlier present =
+    let number = number_after earlier in
     let rules = matching given earlier t in
-    elim (first_outside given earlier t) as (λ found. first_outside given earlier t ≡ found → inside found number (by_hit t.hit number t rules) ≡ Err (Clash number) → HarmfulPair p t given earlier) [
-      | None ↦ λ none e. numbered p t given earlier standing none (pair_of t.hit number t rules (least_first (rule_matches given earlier t) 0 (length t.rules)) e)
+    elim (first_outside given earlier t) as (λ found. first_outside given earlier t ≡ found → inside found number (by_hit t.hit number t rules) ≡ Err (Clash number) → ViolatingPair p t given earlier) [
+      | None ↦ λ none e. numbered p t given earlier present none (pair_of t.hit number t rules (least_first (rule_matches given earlier t) 0 (length t.rules)) e)
       | Some column ↦ λ there e. absurd cc
     ] refl

@@ -36,12 +36,12 @@ among_unfilter p x (y ∷ ys) at =
 
 -- the literals of a rule's cell are among those of its column
 pub literal_of_rule : (rules : List Rule) (place : ℕ) (rule : Rule) (cell : Cell) (l : Value) → Among rule rules → slice_get rule.cells place ≡ Some cell → Among l (literals cell) → Among l (flat_map (rule_literals place) rules)
-literal_of_rule [] place rule cell l at stands inside = absurd at
-literal_of_rule (r ∷ rules) place rule cell l (inl e) stands inside =
+literal_of_rule [] place rule cell l at located inside = absurd at
+literal_of_rule (r ∷ rules) place rule cell l (inl e) located inside =
     among_left l (rule_literals place r) (flat_map (rule_literals place) rules)
-    (subst (λ ls. Among l ls) (sym (ap (rule_literals place) e ∙ ap (λ found. option_map_or literals found []) stands)) inside)
-literal_of_rule (r ∷ rules) place rule cell l (inr at) stands inside =
-    among_right l (rule_literals place r) (flat_map (rule_literals place) rules) (literal_of_rule rules place rule cell l at stands inside)
+    (subst (λ ls. Among l ls) (sym (ap (rule_literals place) e ∙ ap (λ found. option_map_or literals found []) located)) inside)
+literal_of_rule (r ∷ rules) place rule cell l (inr at) located inside =
+    among_right l (rule_literals place r) (flat_map (rule_literals place) rules) (literal_of_rule rules place rule cell l at located inside)
 
 -- each column is that of an input
 pub column_at : (p : PlanParts) (t : Table) (first : ℕ) (inputs : List Input) (place : ℕ) (column : Column) → slice_get (columns_from p t first inputs) place ≡ Some column → (input : Input) × (column_of p t (first + place) input ≡ column)
@@ -82,12 +82,12 @@ value_kind kinds.Day (Flag a) e = e
 value_kind kinds.Day (Day a) e = refl
 
 pub cells_hold_alike : CellsHoldAlike
-cells_hold_alike p t place column found rule cell rule_in stands r v w region value_v value_w in_v in_w =
+cells_hold_alike p t place column found rule cell rule_in located r v w region value_v value_w in_v in_w =
     let of_input = column_at p t 0 t.inputs place column found in
     let zero_place : 0 + place ≡ place = omega arith in
     let same : column ≡ column_of p t place of_input.0 = sym of_input.1 ∙ ap (λ k. column_of p t k of_input.0) zero_place in
     let input = of_input.0 in
     let there = subst (λ c. Among r (regions c)) same (among_contained (regions column) r region) in
     cell_alike p t place input r (among_unfilter (is_listed input.values) r (stretches (kind_read p input.origin) (column_of p t place input).cuts) there) cell
-    (λ l l_at. among_left l (flat_map (rule_literals place) t.rules) (option_map_or literals input.values []) (literal_of_rule t.rules place rule cell l (among_contained t.rules rule rule_in) stands l_at))
+    (λ l l_at. among_left l (flat_map (rule_literals place) t.rules) (option_map_or literals input.values []) (literal_of_rule t.rules place rule cell l (among_contained t.rules rule rule_in) located l_at))
     v w (value_kind (kind_read p input.origin) v (subst (λ c. is_value c.kind v ≡ true) same value_v)) (value_kind (kind_read p input.origin) w (subst (λ c. is_value c.kind w ≡ true) same value_w)) in_v in_w

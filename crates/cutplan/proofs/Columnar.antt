@@ -14,7 +14,7 @@ columns_push p t k (i ∷ is) last =
 
 pub columns_more : (p : PlanParts) (t : Table) (inputs : List Input) (i : ℕ) (item : Input) → i < length inputs → item ≡ get_or inputs i item
     → map regions (columns_from p t 0 (take (i + 1) inputs)) ≡ map regions (columns_from p t 0 (take i inputs)) ++ regions (column_of p t i item) ∷ []
-columns_more p t inputs i item below standing =
+columns_more p t inputs i item below present =
     let place : 0 + length (take i inputs) ≡ i = let long = length-take-le i inputs (omega (arith, below)) in omega (arith, long) in
-    ap (λ front. map regions (columns_from p t 0 front)) (take_more inputs i item below ∙ ap (λ x. take i inputs ++ x ∷ []) (sym standing))
+    ap (λ front. map regions (columns_from p t 0 front)) (take_more inputs i item below ∙ ap (λ x. take i inputs ++ x ∷ []) (sym present))
     ∙ columns_push p t 0 (take i inputs) item ∙ ap (λ n. map regions (columns_from p t 0 (take i inputs)) ++ regions (column_of p t n item) ∷ []) place

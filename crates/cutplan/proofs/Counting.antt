@@ -36,9 +36,9 @@ capped_product a (suc b) limit =
 -- the capped number of cells, extended by one column
 pub count_more : (columns : List (List Region)) (i : ℕ) (item : List Region) (count factor limit : ℕ) → i < length columns → item ≡ get_or columns i item → factor ≡ length item
     → count ≡ min (length (cells (take i columns))) limit → min (count * factor) limit ≡ min (length (cells (take (i + 1) columns))) limit
-count_more columns i item count factor limit below standing factor_is count_is =
+count_more columns i item count factor limit below present factor_is count_is =
     ap (λ k. min (k * factor) limit) count_is ∙ capped_product (length (cells (take i columns))) factor limit
-    ∙ ap (λ k. min k limit) (ap (λ k. length (cells (take i columns)) * k) (factor_is ∙ ap length standing) ∙ sym (length_more columns i item below))
+    ∙ ap (λ k. min k limit) (ap (λ k. length (cells (take i columns)) * k) (factor_is ∙ ap length present) ∙ sym (length_more columns i item below))
 
 -- the capped number of all cells
 pub whole_count : (columns : List (List Region)) (i count limit : ℕ) → length columns ≤ i → count ≡ min (length (cells (take i columns))) limit → count ≡ min (length (cells columns)) limit

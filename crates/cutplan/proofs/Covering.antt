@@ -10,7 +10,7 @@ use Rattle.dtable.specs.declared.table.Table.{Table}
 use Rattle.cutplan.specs.declared.region.Region.{Region}
 use Rattle.cutplan.specs.Regions.{holds_in}
 use Rattle.cutplan.specs.Check.{covers, cells, holds_at, rule_cells}
-use Rattle.cutplan.specs.Parts.{uncovered, alive_in}
+use Rattle.cutplan.specs.CheckSteps.{uncovered, alive_in}
 use Rattle.cutplan.proofs.Steps.{flat_more, filter_map_cons, any_kept, any_agrees, first_of_rest, rest_of_rest}
 
 -- a rule covers a cell from a column on if and only if it holds in the first region and covers the
@@ -41,12 +41,12 @@ uncovered_step t column rules r cell =
 pub uncovered_more : (t : Table) (column : ℕ) (rules : List ℕ) (regions : List Region) (more : List (List Region)) (i : ℕ) (r : Region) → i < length regions → r ≡ get_or regions i r
     → filter (uncovered t column rules) (flat_map (λ x. map (λ cell. x ∷ cell) (cells more)) (take (i + 1) regions))
     ≡ filter (uncovered t column rules) (flat_map (λ x. map (λ cell. x ∷ cell) (cells more)) (take i regions)) ++ map (λ cell. r ∷ cell) (filter (uncovered t (column + 1) (alive_in t column r rules)) (cells more))
-uncovered_more t column rules regions more i r below standing =
+uncovered_more t column rules regions more i r below present =
     let put = λ (x : Region). map (λ (cell : List Region). x ∷ cell) (cells more) in
     let front = flat_map put (take i regions) in
     let flat = flat_more put regions i r below in
     let agree = filter_agree (λ cell. uncovered t column rules (r ∷ cell)) (uncovered t (column + 1) (alive_in t column r rules)) (λ cell. uncovered_step t column rules r cell) (cells more) in
-    ap (filter (uncovered t column rules)) (flat ∙ ap (λ x. front ++ put x) (sym standing))
+    ap (filter (uncovered t column rules)) (flat ∙ ap (λ x. front ++ put x) (sym present))
     ∙ filter-append (uncovered t column rules) front (put r)
     ∙ ap (λ last. filter (uncovered t column rules) front ++ last) (filter_map_cons (uncovered t column rules) r (cells more) ∙ ap (λ kept. map (λ cell. r ∷ cell) kept) agree)
 

@@ -19,15 +19,15 @@ use Rattle.dtable.specs.declared.table.Table.{Table}
 use Rattle.dtable.specs.Plan.{PlanParts, has_kind}
 use Rattle.cutplan.specs.declared.region.Region.{Region}
 use Rattle.cutplan.specs.declared.region.Region.TheVariants.{Below, At, Between, Above, Other, Every}
-use Rattle.cutplan.specs.Values.{is_value, kind_read, rising}
-use Rattle.cutplan.specs.Regions.{Column, column_of, column_literals, rule_literals, literals, regions, stretches, ordered, named, has_value, holds_in, is_listed, is_allowed, is_in, least_like, next}
+use Rattle.cutplan.specs.Values.{is_value, kind_read, sort_values}
+use Rattle.cutplan.specs.Regions.{Column, column_of, column_literals, rule_literals, literals, regions, stretches, regions_of_order, regions_of_names, has_value, holds_in, is_listed, is_allowed, is_in, least_like, next}
 use Rattle.cutplan.specs.Laws.{RegionsHoldValues}
 use Rattle.cutplan.proofs.Integers.{lt_true}
 use Rattle.cutplan.proofs.Alike.{Among, each_at, among_right}
 use Rattle.cutplan.proofs.CutLists.{equal_itself, rising_only}
 use Rattle.cutplan.proofs.Regionwise.{among_split}
 use Rattle.cutplan.proofs.ColumnWise.{column_at, value_kind, among_contained, among_unfilter}
-use Rattle.cutplan.proofs.Standing.{Spanned, Shape, shapes, stands, number_spanned, day_spanned, max_low, max_high}
+use Rattle.cutplan.proofs.OpenRegions.{Spanned, Shape, shapes, located, number_spanned, day_spanned, max_low, max_high}
 
 -- a value of the kind that lies in the region
 pub record Holder (kind : Kind) (r : Region) : Type 0 where
@@ -49,7 +49,7 @@ next_holder : {kind : Kind} {mk : ℤ → Value} → (s : Spanned kind mk) → (
 next_holder {kind} {mk} s c P has =
     by_lt_z s.greatest (int_max s.least (c +ℤ pos 1))
     (λ over. absurd (both_ways false refl (ap (λ o. option_map_or P o false) (sym (s.beyond c over)) ∙ has)))
-    (λ most. (s.value (int_max s.least (c +ℤ pos 1)) (max_low s.least (c +ℤ pos 1)) most, ap (λ o. option_map_or P o false) (sym (s.behind c most)) ∙ has))
+    (λ most. (s.value (int_max s.least (c +ℤ pos 1)) (max_low s.least (c +ℤ pos 1)) most, ap (λ o. option_map_or P o false) (sym (s.following c most)) ∙ has))
 
 over_cut : (least c : ℤ) → c <ℤ int_max least (c +ℤ pos 1)
 over_cut least c = let high = max_high least (c +ℤ pos 1) in omega (arith, ints, high)
@@ -77,11 +77,11 @@ span_holder {kind} {mk} s zs (Above u) shape has =
 span_holder s zs (Other names) shape has = absurd shape
 span_holder {kind} {mk} s zs Every shape has = record { held = mk s.least; value = s.value s.least (omega (arith, ints)) s.some; inside = refl }
 
-spanned_holder : {kind : Kind} {mk : ℤ → Value} → Spanned kind mk → (lits : List Value) (r : Region) → Among r (stretches kind (rising (filter (has_kind kind) lits))) → has_value r ≡ true → Holder kind r
+spanned_holder : {kind : Kind} {mk : ℤ → Value} → Spanned kind mk → (lits : List Value) (r : Region) → Among r (stretches kind (sort_values (filter (has_kind kind) lits))) → has_value r ≡ true → Holder kind r
 spanned_holder {kind} {mk} s lits r at has =
     let cuts = s.cuts lits in
-    let all : Among r (ordered (map mk cuts.numbers)) = subst (λ cs. Among r (ordered cs)) cuts.made (subst (λ rs. Among r rs) (s.stretch (rising (filter (has_kind kind) lits))) at) in
-    span_holder s cuts.numbers r (each_at (Shape mk cuts.numbers) (ordered (map mk cuts.numbers)) r (shapes mk cuts.numbers) all) has
+    let all : Among r (regions_of_order (map mk cuts.numbers)) = subst (λ cs. Among r (regions_of_order cs)) cuts.made (subst (λ rs. Among r rs) (s.stretch (sort_values (filter (has_kind kind) lits))) at) in
+    span_holder s cuts.numbers r (each_at (Shape mk cuts.numbers) (regions_of_order (map mk cuts.numbers)) r (shapes mk cuts.numbers) all) has
 
 -- a text that is longer than all named texts together
 together : List Value → ℕ
@@ -109,7 +109,7 @@ other_holder names =
     record { held = Text f; value = refl; inside = ap not (longer_is_none names f long) }
 
 -- each named value is a text
-named_text : (lits : List Value) (u : Value) → Among u (rising (filter (has_kind kinds.Text) lits)) → is_value kinds.Text u ≡ true
+named_text : (lits : List Value) (u : Value) → Among u (sort_values (filter (has_kind kinds.Text) lits)) → is_value kinds.Text u ≡ true
 named_text lits u at = text_value u (among_passes (has_kind kinds.Text) u lits (rising_only (filter (has_kind kinds.Text) lits) u at)) where
   text_value : (v : Value) → has_kind kinds.Text v ≡ true → is_value kinds.Text v ≡ true
   text_value (Number a) e = e
@@ -122,7 +122,7 @@ among_name r [] at = absurd at
 among_name r (c ∷ cs) (inl e) = (c, e, inl refl)
 among_name r (c ∷ cs) (inr at) = let more = among_name r cs at in (more.0, more.1, inr more.2)
 
-text_holder : (lits cuts : List Value) → cuts ≡ rising (filter (has_kind kinds.Text) lits) → (r : Region) → Among r (named cuts) → Holder kinds.Text r
+text_holder : (lits cuts : List Value) → cuts ≡ sort_values (filter (has_kind kinds.Text) lits) → (r : Region) → Among r (regions_of_names cuts) → Holder kinds.Text r
 text_holder lits [] cuts_are r (inl e) = subst (λ x. Holder kinds.Text x) e (record { held = Text []; value = refl; inside = refl })
 text_holder lits [] cuts_are r (inr none) = absurd none
 text_holder lits (c ∷ cs) cuts_are r at =
@@ -133,10 +133,10 @@ text_holder lits (c ∷ cs) cuts_are r at =
       | inr rest ↦ (elim rest [ inl e ↦ subst (λ x. Holder kinds.Text x) e (other_holder (c ∷ cs)) | inr none ↦ absurd none ])
     ]
 
-pub holder : (kind : Kind) (lits : List Value) (r : Region) → Among r (stretches kind (rising (filter (has_kind kind) lits))) → has_value r ≡ true → Holder kind r
+pub holder : (kind : Kind) (lits : List Value) (r : Region) → Among r (stretches kind (sort_values (filter (has_kind kind) lits))) → has_value r ≡ true → Holder kind r
 holder kinds.Number lits r at has = spanned_holder number_spanned lits r at has
 holder kinds.Day lits r at has = spanned_holder day_spanned lits r at has
-holder kinds.Text lits r at has = text_holder lits (rising (filter (has_kind kinds.Text) lits)) refl r at
+holder kinds.Text lits r at has = text_holder lits (sort_values (filter (has_kind kinds.Text) lits)) refl r at
 holder kinds.Flag lits r (inl e) has = subst (λ x. Holder kinds.Flag x) e (record { held = Flag false; value = refl; inside = refl })
 holder kinds.Flag lits r (inr (inl e)) has = subst (λ x. Holder kinds.Flag x) e (record { held = Flag true; value = refl; inside = refl })
 holder kinds.Flag lits r (inr (inr none)) has = absurd none
@@ -147,10 +147,10 @@ pub record AllowedHolder (column : Column) (r : Region) : Type 0 where
   pub allowed : is_allowed column held ≡ true
   pub inside : is_in r held ≡ true
 
-allowed_by : (kind : Kind) (lits : List Value) (values : Option Cell) → ((l : Value) → Among l (option_map_or literals values []) → Among l lits) → (r : Region) → Among r (stretches kind (rising (filter (has_kind kind) lits)))
+allowed_by : (kind : Kind) (lits : List Value) (values : Option Cell) → ((l : Value) → Among l (option_map_or literals values []) → Among l lits) → (r : Region) → Among r (stretches kind (sort_values (filter (has_kind kind) lits)))
     → (h : Holder kind r) → option_map_or (λ cell. holds_in cell r) values true ≡ true → option_map_or (λ cell. holds cell h.held) values true ≡ true
 allowed_by kind lits None inside r at h e = refl
-allowed_by kind lits (Some cell) inside r at h e = sym ((stands kind lits r at h.held (value_kind kind h.held h.value) h.value h.inside).asked cell inside) ∙ e
+allowed_by kind lits (Some cell) inside r at h e = sym ((located kind lits r at h.held (value_kind kind h.held h.value) h.value h.inside).asked cell inside) ∙ e
 
 pub allowed_holder : (p : PlanParts) (t : Table) (place : ℕ) (input : Input) (r : Region) → Among r (regions (column_of p t place input)) → AllowedHolder (column_of p t place input) r
 allowed_holder p t place input r at =

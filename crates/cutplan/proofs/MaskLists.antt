@@ -8,7 +8,7 @@ use Rattle.std.specs.Prelude.{bit_and, ◌==◌}
 use Rattle.std.specs.Int.{bit_at, bit_not, trailing_zeros}
 use Rattle.std.specs.List.{range_with_len}
 use Rattle.cutplan.specs.Masks.{has_rule, rules_in}
-use Rattle.cutplan.specs.Found.{places_set}
+use Rattle.cutplan.specs.Matching.{places_set}
 use Rattle.cutplan.proofs.MaskRules.{filter_within}
 
 -- two tests that agree on a range filter it alike

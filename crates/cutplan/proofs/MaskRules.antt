@@ -20,7 +20,7 @@ use Rattle.cutplan.specs.Check.{rule_cells}
 use Rattle.cutplan.specs.Regions.{column_of, holds_in, is_allowed, is_in, regions}
 use Rattle.cutplan.specs.Masks.{has_rule, rules_in, is_marked, Marks}
 use Rattle.cutplan.proofs.Alike.{Among}
-use Rattle.cutplan.proofs.Telling.{asks_alike}
+use Rattle.cutplan.proofs.GapLists.{asks_alike}
 
 -- a test that no number passes filters all of them out
 pub filter_none : (f : ℕ → Bool) (a n : ℕ) → ((k : ℕ) → a ≤ k → k < a + n → f k ≡ false) → filter f (range_with_len a n) ≡ []

@@ -16,16 +16,16 @@ use Rattle.dtable.specs.declared.table.Table.{Table}
 use Rattle.dtable.specs.Matching.{value_read, holds_of, cells_hold, rule_matches, matching, is_outside}
 use Rattle.dtable.specs.Plan.{PlanParts, has_kind}
 use Rattle.cutplan.specs.declared.region.Region.{Region}
-use Rattle.cutplan.specs.Values.{is_value, kind_read, rising}
+use Rattle.cutplan.specs.Values.{is_value, kind_read, sort_values}
 use Rattle.cutplan.specs.Regions.{Column, columns, columns_from, column_of, column_literals, rule_literals, literals, regions, stretches, has_value, holds_in, is_listed, is_allowed, is_in, table_regions}
 use Rattle.cutplan.specs.Check.{is_allowed_tuple, fits, rule_cells, lies_in, cells, covers, gaps}
 use Rattle.cutplan.specs.Laws.{ReadsTuple, are_values, FitsAreMatches, AllowedAreInside, GapsMatchNothing, OverlapsMatchTogether}
 use Rattle.cutplan.proofs.Alike.{Among, among_right}
 use Rattle.cutplan.proofs.ColumnWise.{among_contained, among_unfilter, value_kind}
 use Rattle.cutplan.proofs.Holding.{among_passes}
-use Rattle.cutplan.proofs.Overlapping.{any_from, any_at, among_range, among_kept, contained_among, tells_overlaps}
-use Rattle.cutplan.proofs.Standing.{stands}
-use Rattle.cutplan.proofs.Telling.{among_front, fits_none, not_so, tells_gaps}
+use Rattle.cutplan.proofs.Overlapping.{any_from, any_at, among_range, among_kept, contained_among, reports_overlaps}
+use Rattle.cutplan.proofs.OpenRegions.{located}
+use Rattle.cutplan.proofs.GapLists.{among_front, fits_none, not_so, tells_gaps}
 
 -- a rule's cells hold for what is read if and only if they fit it
 hold_alike : (given : List Slot) (earlier : List (List Answer)) (inputs : List Input) (cells : List Cell) (tuple : List Value)
@@ -138,12 +138,12 @@ allowed_are_inside p given earlier t tuple reads values =
 
 -- a value of the kind that lies in a listed region is allowed
 pub listed_allowed : (kind : Kind) (lits : List Value) (values : Option Cell) → ((l : Value) → Among l (option_map_or literals values []) → Among l lits) → (v : Value) → is_value kind v ≡ true
-    → (r : Region) → Among r (filter (is_listed values) (stretches kind (rising (filter (has_kind kind) lits)))) → is_in r v ≡ true → option_map_or (λ cell. holds cell v) values true ≡ true
+    → (r : Region) → Among r (filter (is_listed values) (stretches kind (sort_values (filter (has_kind kind) lits)))) → is_in r v ≡ true → option_map_or (λ cell. holds cell v) values true ≡ true
 listed_allowed kind lits None inside v value r at in_v = refl
 listed_allowed kind lits (Some cell) inside v value r at in_v =
-    let all = stretches kind (rising (filter (has_kind kind) lits)) in
+    let all = stretches kind (sort_values (filter (has_kind kind) lits)) in
     let parts = and_parts (has_value r) (holds_in cell r) (among_passes (is_listed (Some cell)) r all at) in
-    sym ((stands kind lits r (among_unfilter (is_listed (Some cell)) r all at) v (value_kind kind v value) value in_v).asked cell inside) ∙ parts.1
+    sym ((located kind lits r (among_unfilter (is_listed (Some cell)) r all at) v (value_kind kind v value) value in_v).asked cell inside) ∙ parts.1
 
 -- values of the columns' kinds that lie in a cell are allowed
 cell_allowed : (p : PlanParts) (t : Table) (k : ℕ) (inputs : List Input) (cell : List Region) (tuple : List Value) → Among cell (cells (map regions (columns_from p t k inputs)))
@@ -222,19 +222,19 @@ allowed_values (c ∷ cs) (v ∷ vs) e =
 
 pub overlaps_match_together : OverlapsMatchTogether
 overlaps_match_together p t first second low less high =
-    let told = tells_overlaps p t first second low less high in
+    let reported = reports_overlaps p t first second low less high in
     let one_below : first - 1 < length t.rules = omega (arith, low, less, high) in
     let other_below : second - 1 < length t.rules = omega (arith, low, less, high) in
     record {
       listed = λ given earlier tuple reads values both.
-          told.0 (record {
+          reported.0 (record {
             tuple = tuple;
             allowed = (allowed_are_inside p given earlier t tuple reads values).1 both.inside;
             first = (fits_are_matches given earlier t tuple reads (first - 1) one_below).1 both.one;
             second = (fits_are_matches given earlier t tuple reads (second - 1) other_below).1 both.other;
           });
       shared = λ found.
-          let o = told.1 found in (
+          let o = reported.1 found in (
             o.tuple,
             o.allowed,
             λ given earlier reads. record {

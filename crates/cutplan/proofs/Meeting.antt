@@ -10,7 +10,7 @@ use Rattle.dtable.specs.declared.table.Table.{Table}
 use Rattle.cutplan.specs.declared.region.Region.{Region}
 use Rattle.cutplan.specs.Check.{holds_at}
 use Rattle.cutplan.specs.Masks.{has_rule, rules_in, is_marked, AreMasks, AreTableMasks, Marks}
-use Rattle.cutplan.specs.Parts.{alive_in, AreRules, HasMasksFrom}
+use Rattle.cutplan.specs.CheckSteps.{alive_in, AreRules, HasMasksFrom}
 use Rattle.cutplan.proofs.Alike.{Among}
 use Rattle.cutplan.proofs.MaskLists.{filter_alike}
 use Rattle.cutplan.proofs.MaskRules.{filter_none}
@@ -46,12 +46,12 @@ alive_are t column region mask other met few marks has =
 pub alive_rules : (count : ℕ) (mask other met : List ℕ) → AreRules count mask → length met ≡ 4 → IsMet mask other met → AreRules count met
 alive_rules count mask other met rules words has = record {
   words = words;
-  within = λ place behind low. has place low ∙ ap (λ b. b && has_rule other place) (rules.within place behind low);
+  within = λ place following low. has place low ∙ ap (λ b. b && has_rule other place) (rules.within place following low);
 }
 
 -- the mask of the first rules
 pub first_rules : (count : ℕ) (mask : List ℕ) → Marks (λ place. nat_lt place count) mask → AreRules count mask
-first_rules count mask marks = record { words = marks.words; within = λ place behind low. marks.has place low ∙ le-ltb place count behind }
+first_rules count mask marks = record { words = marks.words; within = λ place following low. marks.has place low ∙ le-ltb place count following }
 
 pub first_are : (count : ℕ) (mask : List ℕ) → count ≤ 256 → Marks (λ place. nat_lt place count) mask → rules_in count mask ≡ range_with_len 0 count
 first_are count mask few marks =

@@ -10,7 +10,7 @@ use Rattle.feel_tests.specs.Holds.{is_equal, is_less}
 use Rattle.feel_tests.specs.declared.value.Value.{Value}
 use Rattle.cutplan.specs.declared.region.Region.{Region}
 use Rattle.cutplan.specs.declared.region.Region.TheVariants.{Below, At, Between, Above}
-use Rattle.cutplan.specs.Regions.{ordered, from_cut, is_in}
+use Rattle.cutplan.specs.Regions.{regions_of_order, from_cut, is_in}
 use Rattle.cutplan.proofs.Integers.{Beside, beside_same, beside_below, beside_above, lt_true, lt_false, lt_from, same_from, eq_true, eq_below, eq_above}
 use Rattle.cutplan.proofs.Alike.{Each, Among}
 
@@ -83,7 +83,7 @@ one_above {mk} r low (high ∷ more) x rising h =
     (λ less. count_no (λ s. is_in s (mk x)) (At (mk low)) (Between (mk low) (mk high) ∷ from_cut (mk high) (map mk more)) 1 (r.equal x low ∙ eq_above x low less)
     (by_lt_z x high
     (λ within. count_yes (λ s. is_in s (mk x)) (Between (mk low) (mk high)) (from_cut (mk high) (map mk more)) 0 (between_yes r low high x less within) (none_below r high more x rising.1 within))
-    (λ behind. count_no (λ s. is_in s (mk x)) (Between (mk low) (mk high)) (from_cut (mk high) (map mk more)) 1 (between_no_high r low high x less behind) (one_above r high more x rising.1 behind))))
+    (λ following. count_no (λ s. is_in s (mk x)) (Between (mk low) (mk high)) (from_cut (mk high) (map mk more)) 1 (between_no_high r low high x less following) (one_above r high more x rising.1 following))))
     (λ most. count_yes (λ s. is_in s (mk x)) (At (mk low)) (Between (mk low) (mk high) ∷ from_cut (mk high) (map mk more)) 0 (r.equal x low ∙ eq_true x low (omega (arith, ints)))
     (count_no (λ s. is_in s (mk x)) (Between (mk low) (mk high)) (from_cut (mk high) (map mk more)) 0 (between_no_low r low high x most)
     (none_below r high more x rising.1 (omega (arith, ints, most, rising.0)))))
@@ -94,7 +94,7 @@ Cuts [] = Unit {0}
 Cuts (z ∷ zs) = Rising z zs
 
 -- each value lies in exactly one region
-pub one_region : {mk : ℤ → Value} → Ranked mk → (cuts : List ℤ) (x : ℤ) → Cuts cuts → count_by (λ r. is_in r (mk x)) (ordered (map mk cuts)) ≡ 1
+pub one_region : {mk : ℤ → Value} → Ranked mk → (cuts : List ℤ) (x : ℤ) → Cuts cuts → count_by (λ r. is_in r (mk x)) (regions_of_order (map mk cuts)) ≡ 1
 one_region {mk} r [] x rising = refl
 one_region {mk} r (low ∷ more) x rising =
     by_lt_z x low
@@ -145,8 +145,8 @@ from_high {mk} r low (high ∷ more) c rising (inl e) =
     let ge : high ≤ℤ c = omega (arith, ints, e) in
     (at_side r low c, (between_high_side r low high c ge, from_low r high more c rising.1 le))
 from_high {mk} r low (high ∷ more) c rising (inr at) =
-    let behind = later high more c rising.1 at in
-    let ge : high ≤ℤ c = omega (arith, ints, behind) in
+    let following = later high more c rising.1 at in
+    let ge : high ≤ℤ c = omega (arith, ints, following) in
     (at_side r low c, (between_high_side r low high c ge, from_high r high more c rising.1 at))
 
 below_side : {mk : ℤ → Value} → Ranked mk → (high c : ℤ) → high ≤ℤ c → OneSide mk c (Below (mk high))
@@ -156,13 +156,13 @@ below_side r high c h a b in_a in_b =
     beside_below a b c (omega (arith, ints, one, h)) (omega (arith, ints, two, h))
 
 -- each region is on one side of each cut
-pub sides : {mk : ℤ → Value} → Ranked mk → (cuts : List ℤ) (c : ℤ) → Cuts cuts → Among c cuts → Each (OneSide mk c) (ordered (map mk cuts))
+pub sides : {mk : ℤ → Value} → Ranked mk → (cuts : List ℤ) (c : ℤ) → Cuts cuts → Among c cuts → Each (OneSide mk c) (regions_of_order (map mk cuts))
 sides r [] c rising at = absurd at
 sides {mk} r (low ∷ more) c rising (inl e) =
     let le : c ≤ℤ low = omega (arith, ints, e) in
     let ge : low ≤ℤ c = omega (arith, ints, e) in
     (below_side r low c ge, from_low r low more c rising le)
 sides {mk} r (low ∷ more) c rising (inr at) =
-    let behind = later low more c rising at in
-    let ge : low ≤ℤ c = omega (arith, ints, behind) in
+    let following = later low more c rising at in
+    let ge : low ≤ℤ c = omega (arith, ints, following) in
     (below_side r low c ge, from_high r low more c rising at)

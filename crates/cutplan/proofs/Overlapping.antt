@@ -13,11 +13,11 @@ use Rattle.dtable.specs.Plan.{PlanParts}
 use Rattle.cutplan.specs.declared.region.Region.{Region}
 use Rattle.cutplan.specs.Regions.{columns_from, column_of, regions, is_allowed, is_in, holds_in, table_regions}
 use Rattle.cutplan.specs.Check.{is_allowed_tuple, fits, rule_cells, holds_at, meet, meet_in, overlaps, pairs, pairs_with}
-use Rattle.cutplan.specs.Laws.{TellsOverlaps}
+use Rattle.cutplan.specs.Laws.{ReportsOverlaps}
 use Rattle.cutplan.proofs.Alike.{Among, among_left, among_right}
 use Rattle.cutplan.proofs.ColumnWise.{among_contained}
 use Rattle.cutplan.proofs.Parting.{part_of_column}
-use Rattle.cutplan.proofs.Telling.{found_once, fits_from, fits_none, asks_alike}
+use Rattle.cutplan.proofs.GapLists.{found_once, fits_from, fits_none, asks_alike}
 use Rattle.cutplan.proofs.Holding.{allowed_holder, among_passes}
 
 -- the rule's cell in a column holds for a value; a missing cell holds for every value
@@ -144,8 +144,8 @@ contained_among [] x at = absurd at
 contained_among (y ∷ ys) x (inl e) = (0, omega arith, e)
 contained_among (y ∷ ys) x (inr at) = let more = contained_among ys x at in (suc more.0, omega (arith, more.1), more.2)
 
-pub tells_overlaps : (p : PlanParts) (t : Table) → TellsOverlaps p t (overlaps p t)
-tells_overlaps p t first second low less high =
+pub reports_overlaps : (p : PlanParts) (t : Table) → ReportsOverlaps p t (overlaps p t)
+reports_overlaps p t first second low less high =
     let test = λ (pair : ℕ × ℕ). meet (table_regions p t) t (pair.0 - 1) (pair.1 - 1) in (
       λ shared. contained_among (overlaps p t) (paired first second)
           (among_kept test (paired first second) (pairs (length t.rules)) (among_pairs (length t.rules) first second low less high)

@@ -47,10 +47,10 @@ pair_more first second below =
 -- whether two rules meet, extended by one column
 pub meet_more : (columns : List (List Region)) (t : Table) (first second i : ℕ) (item : List Region) → i < length columns → item ≡ get_or columns i item
     → meet (take (i + 1) columns) t first second ≡ (meet (take i columns) t first second && meet_in t first second i item)
-meet_more columns t first second i item below standing =
+meet_more columns t first second i item below present =
     let test = λ (c : ℕ × List Region). meet_in t first second c.0 c.1 in
     let place : 0 + length (take i columns) ≡ i = let long = length-take-le i columns (omega (arith, below)) in omega (arith, long) in
-    ap (λ front. list_all test (enumerate_from 0 front)) (take_more columns i item below ∙ ap (λ x. take i columns ++ x ∷ []) (sym standing))
+    ap (λ front. list_all test (enumerate_from 0 front)) (take_more columns i item below ∙ ap (λ x. take i columns ++ x ∷ []) (sym present))
     ∙ ap (list_all test) (enumerate_push 0 (take i columns) item ∙ ap (λ k. enumerate_from 0 (take i columns) ++ (k, item) ∷ []) place)
     ∙ list_all-append test (enumerate_from 0 (take i columns)) ((i, item) ∷ [])
     ∙ ap (λ last. meet (take i columns) t first second && last) (and_true (meet_in t first second i item))
@@ -73,7 +73,7 @@ both_kept p q (x ∷ xs) =
 pub meeting_more : (columns : List (List Region)) (t : Table) (i : ℕ) (item : List Region) (pairs : List (ℕ × ℕ)) → i < length columns → item ≡ get_or columns i item
     → filter (λ pair. meet_in t (pair.0 - 1) (pair.1 - 1) i item) (filter (λ pair. meet (take i columns) t (pair.0 - 1) (pair.1 - 1)) pairs)
     ≡ filter (λ pair. meet (take (i + 1) columns) t (pair.0 - 1) (pair.1 - 1)) pairs
-meeting_more columns t i item pairs below standing =
+meeting_more columns t i item pairs below present =
     both_kept (λ (pair : ℕ × ℕ). meet (take i columns) t (pair.0 - 1) (pair.1 - 1)) (λ pair. meet_in t (pair.0 - 1) (pair.1 - 1) i item) pairs
     ∙ filter_agree (λ (pair : ℕ × ℕ). meet (take i columns) t (pair.0 - 1) (pair.1 - 1) && meet_in t (pair.0 - 1) (pair.1 - 1) i item) (λ pair. meet (take (i + 1) columns) t (pair.0 - 1) (pair.1 - 1))
-    (λ pair. sym (meet_more columns t (pair.0 - 1) (pair.1 - 1) i item below standing)) pairs
+    (λ pair. sym (meet_more columns t (pair.0 - 1) (pair.1 - 1) i item below present)) pairs

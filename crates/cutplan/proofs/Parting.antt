@@ -15,15 +15,15 @@ use Rattle.dtable.specs.declared.table.Table.{Table}
 use Rattle.dtable.specs.Plan.{PlanParts, has_kind}
 use Rattle.cutplan.specs.declared.region.Region.{Region}
 use Rattle.cutplan.specs.declared.region.Region.TheVariants.{At, Other}
-use Rattle.cutplan.specs.Values.{is_value, kind_read, rising}
-use Rattle.cutplan.specs.Regions.{column_of, column_literals, rule_literals, literals, regions, stretches, ordered, named, is_listed, is_allowed, is_in, has_value, holds_in}
+use Rattle.cutplan.specs.Values.{is_value, kind_read, sort_values}
+use Rattle.cutplan.specs.Regions.{column_of, column_literals, rule_literals, literals, regions, stretches, regions_of_order, regions_of_names, is_listed, is_allowed, is_in, has_value, holds_in}
 use Rattle.cutplan.specs.Laws.{RegionsPartValues}
 use Rattle.cutplan.proofs.Alike.{Each, Among, each_from, among_right}
 use Rattle.cutplan.proofs.Ordered.{counted, none_if, one_if, count_no, count_yes, one_region}
 use Rattle.cutplan.proofs.CutLists.{Distinct, fold_distinct, equal_same}
 use Rattle.cutplan.proofs.Regionwise.{numbers, days, number_is, day_is, text_is, number_cuts, day_cuts}
 use Rattle.cutplan.proofs.ColumnWise.{column_at, value_kind}
-use Rattle.cutplan.proofs.Standing.{stands}
+use Rattle.cutplan.proofs.OpenRegions.{located}
 
 -- a filter keeps the number of elements that pass a stronger test
 count_kept : (p q : Region → Bool) (xs : List Region) → Each (λ x. q x ≡ true → p x ≡ true) xs → count_by q (filter p xs) ≡ count_by q xs
@@ -60,10 +60,10 @@ named_once t (x ∷ xs) rest n all e =
             | false ↦ λ _ more. inr (equal_among v ys more)
           ] refl found
 
-named_count : (t : List ℕ) (cs : List Value) → Distinct cs → count_by (λ r. is_in r (Text t)) (named cs) ≡ 1
+named_count : (t : List ℕ) (cs : List Value) → Distinct cs → count_by (λ r. is_in r (Text t)) (regions_of_names cs) ≡ 1
 named_count t [] all = refl
 named_count t (c ∷ cs) all =
-    elim (list_any (λ x. is_equal (Text t) x) (c ∷ cs)) as (λ b. list_any (λ x. is_equal (Text t) x) (c ∷ cs) ≡ b → count_by (λ r. is_in r (Text t)) (named (c ∷ cs)) ≡ 1) [
+    elim (list_any (λ x. is_equal (Text t) x) (c ∷ cs)) as (λ b. list_any (λ x. is_equal (Text t) x) (c ∷ cs) ≡ b → count_by (λ r. is_in r (Text t)) (regions_of_names (c ∷ cs)) ≡ 1) [
       | true ↦ λ e.
           let last = count_no (λ r. is_in r (Text t)) (Other (c ∷ cs)) [] 0 (ap not e) refl in
           let all_of = named_once t (c ∷ cs) (Other (c ∷ cs) ∷ []) 0 all last in
@@ -77,18 +77,18 @@ named_count t (c ∷ cs) all =
     ] refl
 
 -- each value of the kind lies in one region, counting also those without allowed values
-stretch_count : (kind : Kind) (lits : List Value) (v : Value) → has_kind kind v ≡ true → count_by (λ r. is_in r v) (stretches kind (rising (filter (has_kind kind) lits))) ≡ 1
+stretch_count : (kind : Kind) (lits : List Value) (v : Value) → has_kind kind v ≡ true → count_by (λ r. is_in r v) (stretches kind (sort_values (filter (has_kind kind) lits))) ≡ 1
 stretch_count kinds.Number lits v kinded =
     let a = number_is v kinded in
     let cuts = number_cuts lits in
-    ap (λ x. count_by (λ r. is_in r x) (ordered (rising (filter (has_kind kinds.Number) lits)))) a.1 ∙ ap (λ cs. count_by (λ r. is_in r (Number a.0)) (ordered cs)) cuts.made ∙ one_region numbers cuts.numbers a.0 cuts.rising
+    ap (λ x. count_by (λ r. is_in r x) (regions_of_order (sort_values (filter (has_kind kinds.Number) lits)))) a.1 ∙ ap (λ cs. count_by (λ r. is_in r (Number a.0)) (regions_of_order cs)) cuts.made ∙ one_region numbers cuts.numbers a.0 cuts.rising
 stretch_count kinds.Day lits v kinded =
     let a = day_is v kinded in
     let cuts = day_cuts lits in
-    ap (λ x. count_by (λ r. is_in r x) (ordered (rising (filter (has_kind kinds.Day) lits)))) a.1 ∙ ap (λ cs. count_by (λ r. is_in r (Day a.0)) (ordered cs)) cuts.made ∙ one_region days cuts.numbers a.0 cuts.rising
+    ap (λ x. count_by (λ r. is_in r x) (regions_of_order (sort_values (filter (has_kind kinds.Day) lits)))) a.1 ∙ ap (λ cs. count_by (λ r. is_in r (Day a.0)) (regions_of_order cs)) cuts.made ∙ one_region days cuts.numbers a.0 cuts.rising
 stretch_count kinds.Text lits v kinded =
     let a = text_is v kinded in
-    ap (λ x. count_by (λ r. is_in r x) (named (rising (filter (has_kind kinds.Text) lits)))) a.1 ∙ named_count a.0 (rising (filter (has_kind kinds.Text) lits)) (fold_distinct [] (filter (has_kind kinds.Text) lits) tt)
+    ap (λ x. count_by (λ r. is_in r x) (regions_of_names (sort_values (filter (has_kind kinds.Text) lits)))) a.1 ∙ named_count a.0 (sort_values (filter (has_kind kinds.Text) lits)) (fold_distinct [] (filter (has_kind kinds.Text) lits) tt)
 stretch_count kinds.Flag lits (Flag true) kinded = refl
 stretch_count kinds.Flag lits (Flag false) kinded = refl
 stretch_count kinds.Flag lits (Number a) kinded = absurd (cc)
@@ -97,10 +97,10 @@ stretch_count kinds.Flag lits (Day a) kinded = absurd (cc)
 
 -- a region with an allowed value is listed
 listed_of : (kind : Kind) (lits : List Value) (values : Option Cell) → ((l : Value) → Among l (option_map_or literals values []) → Among l lits) → (v : Value) → has_kind kind v ≡ true → is_value kind v ≡ true → option_map_or (λ cell. holds cell v) values true ≡ true
-    → (r : Region) → Among r (stretches kind (rising (filter (has_kind kind) lits))) → is_in r v ≡ true → is_listed values r ≡ true
-listed_of kind lits None inside v kinded value allowed r at in_v = and_from (has_value r) true (stands kind lits r at v kinded value in_v).has refl
+    → (r : Region) → Among r (stretches kind (sort_values (filter (has_kind kind) lits))) → is_in r v ≡ true → is_listed values r ≡ true
+listed_of kind lits None inside v kinded value allowed r at in_v = and_from (has_value r) true (located kind lits r at v kinded value in_v).has refl
 listed_of kind lits (Some cell) inside v kinded value allowed r at in_v =
-    let here = stands kind lits r at v kinded value in_v in
+    let here = located kind lits r at v kinded value in_v in
     and_from (has_value r) (holds_in cell r) here.has (here.asked cell inside ∙ allowed)
 
 pub part_of_column : (p : PlanParts) (t : Table) (place : ℕ) (input : Input) (v : Value) → is_allowed (column_of p t place input) v ≡ true → count_by (λ r. is_in r v) (regions (column_of p t place input)) ≡ 1
@@ -109,8 +109,8 @@ part_of_column p t place input v allowed =
     let lits = column_literals t place input.values in
     let parts = and_parts (is_value kind v) (option_map_or (λ cell. holds cell v) input.values true) allowed in
     let kinded = value_kind kind v parts.0 in
-    count_kept (is_listed input.values) (λ r. is_in r v) (stretches kind (rising (filter (has_kind kind) lits)))
-    (each_from (λ r. is_in r v ≡ true → is_listed input.values r ≡ true) (stretches kind (rising (filter (has_kind kind) lits)))
+    count_kept (is_listed input.values) (λ r. is_in r v) (stretches kind (sort_values (filter (has_kind kind) lits)))
+    (each_from (λ r. is_in r v ≡ true → is_listed input.values r ≡ true) (stretches kind (sort_values (filter (has_kind kind) lits)))
     (λ r at in_v. listed_of kind lits input.values (λ l l_at. among_right l (flat_map (rule_literals place) t.rules) (option_map_or literals input.values []) l_at) v kinded parts.0 parts.1 r at in_v))
     ∙ stretch_count kind lits v kinded
 

@@ -11,7 +11,7 @@ use Rattle.dtable.specs.declared.table.Table.{Table}
 use Rattle.cutplan.specs.declared.region.Region.{Region}
 use Rattle.cutplan.specs.Check.{holds_at, meet, meet_in, pairs, pairs_with}
 use Rattle.cutplan.specs.Masks.{has_rule, Marks, AreMasks, AreTableMasks}
-use Rattle.cutplan.specs.Parts.{are_whole, share, share_all}
+use Rattle.cutplan.specs.CheckSteps.{are_whole, share, share_all}
 use Rattle.cutplan.proofs.MaskBits.{four}
 use Rattle.cutplan.proofs.Pairing.{pairs_more, pair_more}
 

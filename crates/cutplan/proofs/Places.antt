@@ -6,10 +6,10 @@ use Rattle.std.proofs.lemmas.List.Concat.{flat_map-append}
 use Rattle.dtable.specs.declared.table.Table.{Table}
 use Rattle.cutplan.specs.declared.region.Region.{Region}
 use Rattle.cutplan.specs.Check.{cells}
-use Rattle.cutplan.specs.Parts.{alive_in, uncovered}
+use Rattle.cutplan.specs.CheckSteps.{alive_in, uncovered}
 use Rattle.cutplan.specs.Places.{is_gap, places}
 use Rattle.cutplan.proofs.Covering.{gap_is, uncovered_end, uncovered_step}
-use Rattle.cutplan.proofs.Keeping.{at_number}
+use Rattle.cutplan.proofs.Compiling.{at_number}
 use Rattle.cutplan.proofs.Steps.{flat_more}
 
 -- the index of the first item, followed by those of the others

@@ -10,8 +10,8 @@ use Rattle.feel_tests.specs.declared.value.Value.TheVariants.{Number, Text, Flag
 use Rattle.cutplan.specs.declared.region.Region.{Region}
 use Rattle.cutplan.specs.declared.region.Region.TheVariants.{At, Other}
 use Rattle.dtable.specs.Plan.{has_kind}
-use Rattle.cutplan.specs.Values.{rising}
-use Rattle.cutplan.specs.Regions.{stretches, ordered, named, is_in}
+use Rattle.cutplan.specs.Values.{sort_values}
+use Rattle.cutplan.specs.Regions.{stretches, regions_of_order, regions_of_names, is_in}
 use Rattle.cutplan.proofs.Alike.{Each, Among, each_at, Alike, Apart, alike_apart, alike_same, alike_number, alike_day}
 use Rattle.cutplan.proofs.Ordered.{Ranked, OneSide, sides}
 use Rattle.cutplan.proofs.CutLists.{Placed, RisingCuts, rising_cuts, Made, fold_has, equal_same}
@@ -67,13 +67,13 @@ among_filter p x (y ∷ ys) (inr at) e =
     ]
 
 -- a literal that is a value of the kind is a cut
-pub cut_of : (kind : Kind) (lits : List Value) (l : Value) → Among l lits → has_kind kind l ≡ true → Among l (rising (filter (has_kind kind) lits))
+pub cut_of : (kind : Kind) (lits : List Value) (l : Value) → Among l lits → has_kind kind l ≡ true → Among l (sort_values (filter (has_kind kind) lits))
 cut_of kind lits l at e = fold_has [] (filter (has_kind kind) lits) l (among_filter (has_kind kind) l lits at e)
 
-pub number_cuts : (lits : List Value) → RisingCuts Number (rising (filter (has_kind kinds.Number) lits))
+pub number_cuts : (lits : List Value) → RisingCuts Number (sort_values (filter (has_kind kinds.Number) lits))
 number_cuts lits = rising_cuts numbers_placed (filter (has_kind kinds.Number) lits) (each_filter (has_kind kinds.Number) (Made Number) number_is lits)
 
-pub day_cuts : (lits : List Value) → RisingCuts Day (rising (filter (has_kind kinds.Day) lits))
+pub day_cuts : (lits : List Value) → RisingCuts Day (sort_values (filter (has_kind kinds.Day) lits))
 day_cuts lits = rising_cuts days_placed (filter (has_kind kinds.Day) lits) (each_filter (has_kind kinds.Day) (Made Day) day_is lits)
 
 -- no test of a literal of another kind holds for a value
@@ -122,7 +122,7 @@ number_among c (z ∷ zs) (inl e) = (let same : z ≡ c = cc in inl same)
 number_among c (z ∷ zs) (inr at) = inr (number_among c zs at)
 
 -- numbers of one region and a literal
-number_alike : (lits : List Value) (r : Region) → Among r (ordered (rising (filter (has_kind kinds.Number) lits))) → (a b : ℤ)
+number_alike : (lits : List Value) (r : Region) → Among r (regions_of_order (sort_values (filter (has_kind kinds.Number) lits))) → (a b : ℤ)
     → is_in r (Number a) ≡ true → is_in r (Number b) ≡ true
     → (l : Value) → Among l lits → Alike (Number a) (Number b) l
 number_alike lits r at a b in_a in_b (Text t) l_at = alike_apart (number_text a t) (number_text b t)
@@ -131,8 +131,8 @@ number_alike lits r at a b in_a in_b (Day d) l_at = alike_apart (number_day a d)
 number_alike lits r at a b in_a in_b (Number c) l_at =
     let cuts = number_cuts lits in
     let cut : Among (Number c) (map Number cuts.numbers) = subst (λ cs. Among (Number c) cs) cuts.made (cut_of kinds.Number lits (Number c) l_at refl) in
-    let region : Among r (ordered (map Number cuts.numbers)) = subst (λ cs. Among r (ordered cs)) cuts.made at in
-    alike_number a b c (each_at (OneSide Number c) (ordered (map Number cuts.numbers)) r (sides numbers cuts.numbers c cuts.rising (number_among c cuts.numbers cut)) region a b in_a in_b)
+    let region : Among r (regions_of_order (map Number cuts.numbers)) = subst (λ cs. Among r (regions_of_order cs)) cuts.made at in
+    alike_number a b c (each_at (OneSide Number c) (regions_of_order (map Number cuts.numbers)) r (sides numbers cuts.numbers c cuts.rising (number_among c cuts.numbers cut)) region a b in_a in_b)
 
 day_among : (c : ℤ) (zs : List ℤ) → Among (Day c) (map Day zs) → Among c zs
 day_among c [] at = absurd at
@@ -140,7 +140,7 @@ day_among c (z ∷ zs) (inl e) = (let same : z ≡ c = cc in inl same)
 day_among c (z ∷ zs) (inr at) = inr (day_among c zs at)
 
 -- days of one region and a literal
-day_alike : (lits : List Value) (r : Region) → Among r (ordered (rising (filter (has_kind kinds.Day) lits))) → (a b : ℤ)
+day_alike : (lits : List Value) (r : Region) → Among r (regions_of_order (sort_values (filter (has_kind kinds.Day) lits))) → (a b : ℤ)
     → is_in r (Day a) ≡ true → is_in r (Day b) ≡ true
     → (l : Value) → Among l lits → Alike (Day a) (Day b) l
 day_alike lits r at a b in_a in_b (Number c) l_at = alike_apart (day_number a c) (day_number b c)
@@ -149,8 +149,8 @@ day_alike lits r at a b in_a in_b (Flag f) l_at = alike_apart (day_flag a f) (da
 day_alike lits r at a b in_a in_b (Day c) l_at =
     let cuts = day_cuts lits in
     let cut : Among (Day c) (map Day cuts.numbers) = subst (λ cs. Among (Day c) cs) cuts.made (cut_of kinds.Day lits (Day c) l_at refl) in
-    let region : Among r (ordered (map Day cuts.numbers)) = subst (λ cs. Among r (ordered cs)) cuts.made at in
-    alike_day a b c (each_at (OneSide Day c) (ordered (map Day cuts.numbers)) r (sides days cuts.numbers c cuts.rising (day_among c cuts.numbers cut)) region a b in_a in_b)
+    let region : Among r (regions_of_order (map Day cuts.numbers)) = subst (λ cs. Among r (regions_of_order cs)) cuts.made at in
+    alike_day a b c (each_at (OneSide Day c) (regions_of_order (map Day cuts.numbers)) r (sides days cuts.numbers c cuts.rising (day_among c cuts.numbers cut)) region a b in_a in_b)
 
 -- no test of a literal holds for a text that is not named
 not_named : (t : List ℕ) (names : List Value) (l : Value) → list_any (λ name. is_equal (Text t) name) names ≡ false → Among l names → is_equal (Text t) l ≡ false
@@ -159,11 +159,11 @@ not_named t (name ∷ names) l out (inl e) = ap (λ x. is_equal (Text t) x) (sym
 not_named t (name ∷ names) l out (inr at) = not_named t names l (or_parts (is_equal (Text t) name) (list_any (λ x. is_equal (Text t) x) names) out).1 at
 
 -- no test of a literal of the column holds for a text in the region of other texts
-pub unnamed_apart : (lits : List Value) (t : List ℕ) → list_any (λ name. is_equal (Text t) name) (rising (filter (has_kind kinds.Text) lits)) ≡ false → (l : Value) → Among l lits → Apart (Text t) l
+pub unnamed_apart : (lits : List Value) (t : List ℕ) → list_any (λ name. is_equal (Text t) name) (sort_values (filter (has_kind kinds.Text) lits)) ≡ false → (l : Value) → Among l lits → Apart (Text t) l
 unnamed_apart lits t out (Number c) at = text_number t c
 unnamed_apart lits t out (Flag f) at = text_flag t f
 unnamed_apart lits t out (Day d) at = text_day t d
-unnamed_apart lits t out (Text u) at = text_text t u (not_named t (rising (filter (has_kind kinds.Text) lits)) (Text u) out (cut_of kinds.Text lits (Text u) at refl))
+unnamed_apart lits t out (Text u) at = text_text t u (not_named t (sort_values (filter (has_kind kinds.Text) lits)) (Text u) out (cut_of kinds.Text lits (Text u) at refl))
 
 -- a region of a single value
 at_alike : (u v w l : Value) → is_equal v u ≡ true → is_equal w u ≡ true → Alike v w l
@@ -180,7 +180,7 @@ among_at r (c ∷ cs) (inl e) = (c, e)
 among_at r (c ∷ cs) (inr at) = among_at r cs at
 
 -- texts of one region and a literal
-text_alike : (lits cuts : List Value) → cuts ≡ rising (filter (has_kind kinds.Text) lits) → (r : Region) → Among r (named cuts) → (t u : List ℕ)
+text_alike : (lits cuts : List Value) → cuts ≡ sort_values (filter (has_kind kinds.Text) lits) → (r : Region) → Among r (regions_of_names cuts) → (t u : List ℕ)
     → is_in r (Text t) ≡ true → is_in r (Text u) ≡ true → (l : Value) → Among l lits → Alike (Text t) (Text u) l
 text_alike lits [] cuts_are r at t u in_t in_u l l_at =
     let none = λ (x : List ℕ). ap (λ cs. list_any (λ name. is_equal (Text x) name) cs) (sym cuts_are) in
@@ -188,8 +188,8 @@ text_alike lits [] cuts_are r at t u in_t in_u l l_at =
 text_alike lits (c ∷ cs) cuts_are r at t u in_t in_u l l_at =
     elim (among_split r (map At (c ∷ cs)) (Other (c ∷ cs) ∷ []) at) [
       | inl one ↦
-          (let named = among_at r (c ∷ cs) one in
-          at_alike named.0 (Text t) (Text u) l (subst (λ x. is_in x (Text t) ≡ true) (sym named.1) in_t) (subst (λ x. is_in x (Text u) ≡ true) (sym named.1) in_u))
+          (let regions_of_names = among_at r (c ∷ cs) one in
+          at_alike regions_of_names.0 (Text t) (Text u) l (subst (λ x. is_in x (Text t) ≡ true) (sym regions_of_names.1) in_t) (subst (λ x. is_in x (Text u) ≡ true) (sym regions_of_names.1) in_u))
       | inr rest ↦
           (elim rest [
             | inl e ↦
@@ -201,7 +201,7 @@ text_alike lits (c ∷ cs) cuts_are r at t u in_t in_u l l_at =
     ]
 
 -- values of one region of a column and a literal of the column
-pub region_alike : (kind : Kind) (lits : List Value) (r : Region) → Among r (stretches kind (rising (filter (has_kind kind) lits))) → (v w : Value)
+pub region_alike : (kind : Kind) (lits : List Value) (r : Region) → Among r (stretches kind (sort_values (filter (has_kind kind) lits))) → (v w : Value)
     → has_kind kind v ≡ true → has_kind kind w ≡ true → is_in r v ≡ true → is_in r w ≡ true → (l : Value) → Among l lits → Alike v w l
 region_alike kinds.Number lits r at v w value_v value_w in_v in_w l l_at =
     let a = number_is v value_v in
@@ -217,7 +217,7 @@ region_alike kinds.Text lits r at v w value_v value_w in_v in_w l l_at =
     let a = text_is v value_v in
     let b = text_is w value_w in
     subst (λ x. Alike x w l) (sym a.1) (subst (λ y. Alike (Text a.0) y l) (sym b.1)
-    (text_alike lits (rising (filter (has_kind kinds.Text) lits)) refl r at a.0 b.0 (subst (λ x. is_in r x ≡ true) a.1 in_v) (subst (λ x. is_in r x ≡ true) b.1 in_w) l l_at))
+    (text_alike lits (sort_values (filter (has_kind kinds.Text) lits)) refl r at a.0 b.0 (subst (λ x. is_in r x ≡ true) a.1 in_v) (subst (λ x. is_in r x ≡ true) b.1 in_w) l l_at))
 region_alike kinds.Flag lits r (inl e) v w value_v value_w in_v in_w l l_at =
     at_alike (Flag false) v w l (subst (λ x. is_in x v ≡ true) (sym e) in_v) (subst (λ x. is_in x w ≡ true) (sym e) in_w)
 region_alike kinds.Flag lits r (inr (inl e)) v w value_v value_w in_v in_w l l_at =

@@ -17,13 +17,13 @@ use Rattle.feel_tests.specs.declared.value.Value.{Value}
 use Rattle.feel_tests.specs.declared.value.Value.TheVariants.{Text, Flag}
 use Rattle.dtable.specs.declared.table.Table.{Table}
 use Rattle.dtable.specs.Plan.{has_kind}
-use Rattle.cutplan.specs.declared.kept.KeptColumn.{KeptColumn}
+use Rattle.cutplan.specs.declared.compiled_column.CompiledColumn.{CompiledColumn}
 use Rattle.cutplan.specs.declared.region.Region.{Region}
 use Rattle.cutplan.specs.declared.region.Region.TheVariants.{At, Other}
-use Rattle.cutplan.specs.Values.{is_before, kind_read, rising}
-use Rattle.cutplan.specs.Regions.{column_literals, from_cut, ordered, named, stretches, is_listed}
-use Rattle.cutplan.specs.Found.{bytes_of, AreRisingTexts, OthersRise}
-use Rattle.cutplan.specs.Kept.{AreKept}
+use Rattle.cutplan.specs.Values.{is_before, kind_read, sort_values}
+use Rattle.cutplan.specs.Regions.{column_literals, from_cut, regions_of_order, regions_of_names, stretches, is_listed}
+use Rattle.cutplan.specs.Matching.{bytes_of, AreRisingTexts, OthersRise}
+use Rattle.cutplan.specs.CompiledColumns.{AreKept}
 use Rattle.cutplan.proofs.Alike.{Among}
 use Rattle.cutplan.proofs.ByMasks.{found_at, input_at}
 use Rattle.cutplan.proofs.ColumnWise.{among_contained, among_unfilter}
@@ -68,13 +68,13 @@ has_found (Ok place) = true
 has_found (Err place) = false
 
 -- a binary search in increasing texts succeeds if and only if the text is among them
-pub text_sought : (names : List Value) (text : List ℕ) (r : Result ℕ ℕ) → AreRisingTexts names → IsSearchInRange r (length names) → IsBinarySearchResult (λ name. slice_cmp nat_cmp (bytes_of name) text) names r
+pub text_searched : (names : List Value) (text : List ℕ) (r : Result ℕ ℕ) → AreRisingTexts names → IsSearchInRange r (length names) → IsBinarySearchResult (λ name. slice_cmp nat_cmp (bytes_of name) text) names r
     → has_found r ≡ list_any (λ name. is_equal (Text text) name) names
-text_sought names text (Ok place) rise within found =
+text_searched names text (Ok place) rise within found =
     let name = get_or names place (Flag true) in
     let at : Among name names = among_place names place name (at_or names place (Flag true) within) in
     sym (any_at (λ name. is_equal (Text text) name) names name at (equal_text text name (rise.texts name (contained_among names name at)) ∙ ap is_eq (found (Flag true))))
-text_sought names text (Err place) rise within found =
+text_searched names text (Err place) rise within found =
     let parts = found (searchable_from_sorted nat_list_cmp_total bytes_of names text rise.rise) in
     sym (none_any (λ name. is_equal (Text text) name) names
     (λ name at.
@@ -121,7 +121,7 @@ no_other_from low (high ∷ more) names (inl e) = absurd cc
 no_other_from low (high ∷ more) names (inr (inl e)) = absurd cc
 no_other_from low (high ∷ more) names (inr (inr at)) = no_other_from high more names at
 
-no_other_ordered : (cuts names : List Value) → Among (Other names) (ordered cuts) → ⊥
+no_other_ordered : (cuts names : List Value) → Among (Other names) (regions_of_order cuts) → ⊥
 no_other_ordered [] names (inl e) = absurd cc
 no_other_ordered [] names (inr none) = none
 no_other_ordered (c ∷ cs) names (inl e) = absurd cc
@@ -134,20 +134,20 @@ other_named [] all names (inr none) = absurd none
 other_named (c ∷ cs) all names (inl e) = absurd cc
 other_named (c ∷ cs) all names (inr at) = other_named cs all names at
 
-other_in_named : (cuts names : List Value) → Among (Other names) (named cuts) → cuts ≡ names
+other_in_named : (cuts names : List Value) → Among (Other names) (regions_of_names cuts) → cuts ≡ names
 other_in_named [] names (inl e) = absurd cc
 other_in_named [] names (inr none) = absurd none
 other_in_named (c ∷ cs) names at = other_named (c ∷ cs) (c ∷ cs) names at
 
 -- if a column has a region of other texts, its cuts are increasing
-pub others_of : (kind : Kind) (lits names : List Value) → Among (Other names) (stretches kind (rising (filter (has_kind kind) lits))) → AreRisingTexts names
-others_of kinds.Number lits names at = absurd (no_other_ordered (rising (filter (has_kind kinds.Number) lits)) names at)
-others_of kinds.Day lits names at = absurd (no_other_ordered (rising (filter (has_kind kinds.Day) lits)) names at)
+pub others_of : (kind : Kind) (lits names : List Value) → Among (Other names) (stretches kind (sort_values (filter (has_kind kind) lits))) → AreRisingTexts names
+others_of kinds.Number lits names at = absurd (no_other_ordered (sort_values (filter (has_kind kinds.Number) lits)) names at)
+others_of kinds.Day lits names at = absurd (no_other_ordered (sort_values (filter (has_kind kinds.Day) lits)) names at)
 others_of kinds.Flag lits names (inl e) = absurd cc
 others_of kinds.Flag lits names (inr (inl e)) = absurd cc
 others_of kinds.Flag lits names (inr (inr none)) = absurd none
 others_of kinds.Text lits names at =
-    let cuts = rising (filter (has_kind kinds.Text) lits) in
+    let cuts = sort_values (filter (has_kind kinds.Text) lits) in
     subst AreRisingTexts (other_in_named cuts names at)
     (rising_texts cuts (cuts_of_kind kinds.Text lits (λ e. absurd cc)) (λ name there. among_passes (has_kind kinds.Text) name lits (rising_only (filter (has_kind kinds.Text) lits) name there)))
 
@@ -163,7 +163,7 @@ nothing_at (x ∷ xs) (suc place) none =
     nothing_at xs place (none ∙ less_alike (suc place) (suc (length xs)) place (length xs) (λ less. omega (arith, less)) (λ more. omega (arith, more)))
 
 -- this holds for each compiled column
-pub column_others : (t : Table) (kept : List KeptColumn) (i : ℕ) (column : KeptColumn) → AreKept t kept → i < length kept → column ≡ get_or kept i column → OthersRise column.regions
+pub column_others : (t : Table) (kept : List CompiledColumn) (i : ℕ) (column : CompiledColumn) → AreKept t kept → i < length kept → column ≡ get_or kept i column → OthersRise column.regions
 column_others t kept i column all below is names has =
     let p = all.plan in
     let found = input_at p t kept i column all.columns below is in
@@ -171,4 +171,4 @@ column_others t kept i column all below is names has =
     let there = subst (λ xs. Among (Other names) xs) found.2.listed (among_contained column.regions (Other names) has) in
     let kind = kind_read p input.origin in
     let lits = column_literals t i input.values in
-    others_of kind lits names (among_unfilter (is_listed input.values) (Other names) (stretches kind (rising (filter (has_kind kind) lits))) there)
+    others_of kind lits names (among_unfilter (is_listed input.values) (Other names) (stretches kind (sort_values (filter (has_kind kind) lits))) there)

@@ -25,8 +25,8 @@ one_more_answers given answers shown new tables i t next whole below is seen val
 
 pub fault_of_table : (given : List Slot) (answers shown : List (List Answer)) (tables : List Table) (i : ℕ) (t : Table) (fault : Fault) (whole : Result (List (List Answer)) Fault) → i < length tables → t ≡ get_or tables i t
     → shown ≡ answers → (fault ≢ OutOfMemory → table_value given shown t ≡ Err fault) → answers_of given answers (drop i tables) ≡ whole → fault ≢ OutOfMemory → whole ≡ Err fault
-fault_of_table given answers shown tables i t fault whole below is seen value so_far told =
-    let here : table_value given answers t ≡ Err fault = ap (λ a. table_value given a t) (sym seen) ∙ value told in
+fault_of_table given answers shown tables i t fault whole below is seen value so_far reported =
+    let here : table_value given answers t ≡ Err fault = ap (λ a. table_value given a t) (sym seen) ∙ value reported in
     let step = from_table given answers tables i t below is in
     let rest = λ (more : List Answer). answers_of given (answers ++ more ∷ []) (drop (i + 1) tables) in
     sym so_far ∙ step ∙ ap (λ (o : TableValue). and_then o rest) here

@@ -34,23 +34,23 @@ CellsHoldAlike = (p : PlanParts) (t : Table) (place : ℕ) (column : Column) →
     → IsTrue (is_in r v) → IsTrue (is_in r w) → holds cell v ≡ holds cell w
 
 -- an allowed tuple is a gap if and only if its cell is listed
-abbrev pub TellsGaps : PlanParts → Table → List (List Region) → Type 0
-TellsGaps p t found = (tuple : List Value) → IsTrue (is_allowed_tuple (columns p t) tuple)
+abbrev pub ReportsGaps : PlanParts → Table → List (List Region) → Type 0
+ReportsGaps p t found = (tuple : List Value) → IsTrue (is_allowed_tuple (columns p t) tuple)
     → IsGap p t tuple ↔ IsTrue (list_any (λ cell. lies_in cell tuple) found)
 
 -- for each table, an allowed tuple lies in a listed gap if and only if no rule matches it
-abbrev pub GapsAreTold : Type 0
-GapsAreTold = (p : PlanParts) (t : Table) → TellsGaps p t (gaps p t)
+abbrev pub GapIffNoRuleMatches : Type 0
+GapIffNoRuleMatches = (p : PlanParts) (t : Table) → ReportsGaps p t (gaps p t)
 
 -- a pair of rules, smaller number first, is an overlap if and only if it is listed
-abbrev pub TellsOverlaps : PlanParts → Table → List (ℕ × ℕ) → Type 0
-TellsOverlaps p t found = (first second : ℕ) → 1 ≤ first → first < second → second ≤ length t.rules
+abbrev pub ReportsOverlaps : PlanParts → Table → List (ℕ × ℕ) → Type 0
+ReportsOverlaps p t found = (first second : ℕ) → 1 ≤ first → first < second → second ≤ length t.rules
     → IsOverlap p t (first, second) ↔ Contains found (first, second)
 
 -- for each table, a pair of rules is listed as an overlap if and only if both match some allowed
 -- tuple
-abbrev pub OverlapsAreTold : Type 0
-OverlapsAreTold = (p : PlanParts) (t : Table) → TellsOverlaps p t (overlaps p t)
+abbrev pub OverlapIffTwoRulesMatch : Type 0
+OverlapIffTwoRulesMatch = (p : PlanParts) (t : Table) → ReportsOverlaps p t (overlaps p t)
 
 -- the inputs of the table read these values, from the given inputs and the answers of earlier
 -- tables
@@ -86,7 +86,7 @@ pub record MatchTogether (given : List Slot) (earlier : List (List Answer)) (t :
 -- a pair of rules is among the overlaps if both match what is read, by values of the columns'
 -- kinds; conversely, for a pair among the overlaps there is an allowed tuple that both match
 -- whenever it is read
-pub record TellsMatches (p : PlanParts) (t : Table) (first second : ℕ) : Type 0 where
+pub record ReportsMatches (p : PlanParts) (t : Table) (first second : ℕ) : Type 0 where
   pub listed : (given : List Slot) (earlier : List (List Answer)) (tuple : List Value) → ReadsTuple given earlier t tuple → IsTrue (are_values (columns p t) tuple)
       → MatchTogether given earlier t first second → Contains (overlaps p t) (first, second)
   pub shared : Contains (overlaps p t) (first, second)
@@ -95,7 +95,7 @@ pub record TellsMatches (p : PlanParts) (t : Table) (first second : ℕ) : Type 
 
 -- this holds for each pair of a table's rules, the smaller number first
 abbrev pub OverlapsMatchTogether : Type 0
-OverlapsMatchTogether = (p : PlanParts) (t : Table) (first second : ℕ) → 1 ≤ first → first < second → second ≤ length t.rules → TellsMatches p t first second
+OverlapsMatchTogether = (p : PlanParts) (t : Table) (first second : ℕ) → 1 ≤ first → first < second → second ≤ length t.rules → ReportsMatches p t first second
 
 -- the cuts of a column of numbers, days or texts are strictly increasing; texts are in byte order
 abbrev pub CutsRise : Type 0

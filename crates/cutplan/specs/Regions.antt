@@ -22,7 +22,7 @@ use Rattle.dtable.specs.declared.table.Table.{Table}
 use Rattle.dtable.specs.Plan.{PlanParts, has_kind}
 use Rattle.cutplan.specs.declared.region.Region.{Region}
 use Rattle.cutplan.specs.declared.region.Region.TheVariants.{Below, At, Between, Above, Other, Every}
-use Rattle.cutplan.specs.Values.{kind_read, is_value, rising}
+use Rattle.cutplan.specs.Values.{kind_read, is_value, sort_values}
 
 -- the literals of a test
 abbrev pub test_literals : Test → List Value
@@ -55,7 +55,7 @@ pub record Column : Type 0 where
 abbrev pub column_of : PlanParts → Table → ℕ → Input → Column
 column_of p t column input = record {
   kind = kind_read p input.origin;
-  cuts = rising (filter (has_kind (kind_read p input.origin)) (column_literals t column input.values));
+  cuts = sort_values (filter (has_kind (kind_read p input.origin)) (column_literals t column input.values));
   values = input.values;
 }
 
@@ -80,21 +80,21 @@ from_cut low (high ∷ more) = At low ∷ Between low high ∷ from_cut high mor
 
 -- the regions of numbers or days: the values below the first cut, and the regions from the first
 -- cut upwards; without cuts, all values are one region
-abbrev pub ordered : List Value → List Region
-ordered [] = Every ∷ []
-ordered (c ∷ cs) = Below c ∷ from_cut c cs
+abbrev pub regions_of_order : List Value → List Region
+regions_of_order [] = Every ∷ []
+regions_of_order (c ∷ cs) = Below c ∷ from_cut c cs
 
 -- the regions of texts: each named text, and all other texts
-abbrev pub named : List Value → List Region
-named [] = Every ∷ []
-named (c ∷ cs) = map At (c ∷ cs) ++ Other (c ∷ cs) ∷ []
+abbrev pub regions_of_names : List Value → List Region
+regions_of_names [] = Every ∷ []
+regions_of_names (c ∷ cs) = map At (c ∷ cs) ++ Other (c ∷ cs) ∷ []
 
 -- all regions of the kind for these cuts, including regions that contain no value
 abbrev pub stretches : Kind → List Value → List Region
-stretches kinds.Number cuts = ordered cuts
-stretches kinds.Text cuts = named cuts
+stretches kinds.Number cuts = regions_of_order cuts
+stretches kinds.Text cuts = regions_of_names cuts
 stretches kinds.Flag cuts = At (Flag false) ∷ At (Flag true) ∷ []
-stretches kinds.Day cuts = ordered cuts
+stretches kinds.Day cuts = regions_of_order cuts
 
 -- the value lies in the region
 abbrev pub is_in : Region → Value → Bool

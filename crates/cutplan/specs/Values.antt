@@ -15,12 +15,12 @@ use Rattle.feel_tests.specs.declared.value.Value.TheVariants.{Number, Text, Flag
 use Rattle.dtable.specs.declared.table.Origin.{Origin}
 use Rattle.dtable.specs.declared.table.Origin.TheVariants.{Given, Earlier}
 use Rattle.dtable.specs.declared.table.Table.{Table}
-use Rattle.dtable.specs.Plan.{PlanParts, seen_kind}
+use Rattle.dtable.specs.Plan.{PlanParts, read_kind_of}
 
 -- the kind of the values of an output of an earlier table; each input of a plan reads an output
 -- that exists
 abbrev pub kind_of_output : List Table → ℕ → ℕ → Kind
-kind_of_output tables table column = option_map_or (λ t. option_map_or (λ o. seen_kind t.hit o.kind) (slice_get t.outputs column) kinds.Number) (slice_get tables table) kinds.Number
+kind_of_output tables table column = option_map_or (λ t. option_map_or (λ o. read_kind_of t.hit o.kind) (slice_get t.outputs column) kinds.Number) (slice_get tables table) kinds.Number
 
 -- the kind of the values that an input reads
 abbrev pub kind_read : PlanParts → Origin → Kind
@@ -43,14 +43,14 @@ is_before (Day a) (Day b) = int_lt a b
 is_before _ _ = false
 
 -- the list with the value inserted before the first greater value
-abbrev pub placed : Value → List Value → List Value
-placed v [] = v ∷ []
-placed v (c ∷ cs) = if is_before v c then v ∷ c ∷ cs else c ∷ placed v cs
+abbrev pub insert_value : Value → List Value → List Value
+insert_value v [] = v ∷ []
+insert_value v (c ∷ cs) = if is_before v c then v ∷ c ∷ cs else c ∷ insert_value v cs
 
 -- the cuts with one more value, unless it is already among them
 abbrev pub with_value : List Value → Value → List Value
-with_value cuts v = if list_any (λ c. is_equal c v) cuts then cuts else placed v cuts
+with_value cuts v = if list_any (λ c. is_equal c v) cuts then cuts else insert_value v cuts
 
 -- the values in increasing order, without repeats
-abbrev pub rising : List Value → List Value
-rising values = fold with_value [] values
+abbrev pub sort_values : List Value → List Value
+sort_values values = fold with_value [] values

@@ -2,13 +2,13 @@
 ghost use Rattle.std.specs.Prelude.{◌≡◌, IfOk, map, slice_get};
 ghost use Rattle.cutplan.specs.Values.{kind_read, kind_of_output};
 ghost use Rattle.cutplan.specs.Regions.{column_of, regions, table_regions};
-ghost use Rattle.dtable.specs.Plan.{seen_kind};
+ghost use Rattle.dtable.specs.Plan.{read_kind_of};
 ghost use Rattle.feel_tests.specs.declared.kind.Kind.TheVariants as kinds;
 ghost use Rattle.std.specs.Option.{option_map_or};
 
 use crate::cuts::cuts_of;
 use crate::region::Region;
-use crate::stretch::{listed, stretches};
+use crate::regions_from_cuts::{allowed_regions, regions_between};
 use dtable::{Input, Origin, Plan, Sequence, Table};
 use feel_tests::Kind;
 use std::alloc::{AllocError, Global};
@@ -41,8 +41,8 @@ pub fn column_regions(
 {
     let kind = kind_read(plan, input.origin);
     let cuts = cuts_of(alloc, kind, table, place, &input.values)?;
-    let all = stretches(alloc, kind, cuts)?;
-    listed(alloc, &input.values, all)
+    let all = regions_between(alloc, kind, cuts)?;
+    allowed_regions(alloc, &input.values, all)
 }
 
 /// Returns the kind of the values that an input reads. In a plan, every input reads a name or an
@@ -69,11 +69,11 @@ fn kind_of_output(tables: &[Table], table: usize, column: usize) -> Kind
 }
 
 fn kind_in(table: &Table, column: usize) -> Kind
-    ensures { result ≡ option_map_or (λ o. seen_kind table.now.hit o.kind)
+    ensures { result ≡ option_map_or (λ o. read_kind_of table.now.hit o.kind)
         (slice_get table.now.outputs column) kinds.Number }
 {
     match table.outputs.as_slice().get(column) {
-        Some(output) => table.hit.seen_kind(output.kind),
+        Some(output) => table.hit.read_kind_of(output.kind),
         None => Kind::Number,
     }
 }

@@ -4,24 +4,24 @@ ghost use Rattle.dtable.specs.Environment.{answers_of, table_value};
 ghost use Rattle.dtable.specs.HitPolicy.{Gives, IsFaultOf, by_hit, lists};
 ghost use Rattle.dtable.specs.Priority.{all_ranked, in_priority_order};
 ghost use Rattle.cutplan.specs.Check.{cells, gaps, overlaps};
-ghost use Rattle.cutplan.specs.Found.{IsMatchingMask};
-ghost use Rattle.cutplan.specs.Lent.{kept_answers};
+ghost use Rattle.cutplan.specs.Matching.{IsMatchingMask};
+ghost use Rattle.cutplan.specs.CompiledAnswers.{compiled_answers};
 ghost use Rattle.cutplan.specs.Masks.{has_rule, rules_in, AreMasksOf, IsColumnNumber};
-ghost use Rattle.cutplan.specs.declared.mask.TheConstants.{MASK_RULES};
+ghost use Rattle.cutplan.specs.declared.mask.TheConstants.{MASK_CAPACITY};
 ghost use Rattle.cutplan.specs.Numbered.{cell_limit as CELL_LIMIT, IsTableNumber, cells_of, gaps_of, overlaps_of, IsWide};
-ghost use Rattle.cutplan.specs.Zones.{IsZone};
+ghost use Rattle.cutplan.specs.InputClasses.{IsInputClass};
 
+use crate::compiled_answers::{CompiledAnswers, answers_of_tables, find_answers, ranked_in};
+use crate::compiled_column::{CompiledColumn, compiled_tables};
 use crate::fault::CheckFault;
-use crate::few::{Few, few_of};
-use crate::found::matching_mask;
-use crate::kept::{KeptColumn, columns_of_tables};
-use crate::law::zones_answer_alike;
-use crate::lent::{KeptAnswers, answers_of_tables, lent, ranked_in};
+use crate::input_class::{CompiledName, class_of, compiled_names};
+use crate::law::classes_answer_alike;
 use crate::mask::{INLINE_RULES, list_rules};
+use crate::matching::matching_mask;
 use crate::region::Region;
-use crate::sets::lent_by_set;
+use crate::rule_count::{RuleCount, rule_count_of};
+use crate::subset_answers::find_subset_answers;
 use crate::table_check::{gaps_of, overlaps_of};
-use crate::zone::{KeptName, kept_names, zone_of};
 use dtable::{
     Answer, Answers, AnswersByTable, Env, Fault, Hit, Inputs, Plan, Sequence, Table, Valuer,
     answers_by_hit, lists_of, table_value,
@@ -36,9 +36,9 @@ use std::marker::Model;
 /// The check of a table computes the regions of its columns again.
 pub struct CutPlan<'a> {
     plan: &'a Plan,
-    columns: Sequence<Sequence<KeptColumn>>,
-    answers: Sequence<KeptAnswers>,
-    names: Sequence<KeptName>,
+    columns: Sequence<Sequence<CompiledColumn>>,
+    answers: Sequence<CompiledAnswers>,
+    names: Sequence<CompiledName>,
 }
 
 impl Drop for CutPlan<'_> {
@@ -54,7 +54,7 @@ impl Drop for CutPlan<'_> {
 
 impl<'a> Model for CutPlan<'a> {
     ghost use Rattle.dtable.specs.Plan.{PlanParts};
-    ghost use Rattle.cutplan.specs.Lent.{IsLending};
+    ghost use Rattle.cutplan.specs.CompiledAnswers.{IsLending};
 
     ghost Value = { PlanParts };
 
@@ -65,13 +65,13 @@ impl<'a> Model for CutPlan<'a> {
 
 /// Compiles the plan for its check and for evaluation by masks. The only error is that memory runs
 /// out.
-#[tactic(auto, using(crate::proofs::Keeping::few_rules))]
+#[tactic(auto, using(crate::proofs::Compiling::few_rules))]
 pub fn compile(alloc: Global, plan: &Plan) -> Result<CutPlan<'_>, AllocError>
     ensures { IfOk result (λ made. made ≡ plan.now) }
 {
-    let columns = columns_of_tables(alloc, plan, plan.tables())?;
+    let columns = compiled_tables(alloc, plan, plan.tables())?;
     let answers = answers_of_tables(alloc, plan.tables())?;
-    let names = kept_names(alloc, plan)?;
+    let names = compiled_names(alloc, plan)?;
     Ok(CutPlan {
         plan,
         columns,
@@ -83,7 +83,7 @@ pub fn compile(alloc: Global, plan: &Plan) -> Result<CutPlan<'_>, AllocError>
 impl<'a> Valuer for CutPlan<'a> {
     ghost plan_of = { λ plan. plan };
 
-    ghost in_zone = { λ plan given zone. IsZone plan given zone };
+    ghost in_class = { λ plan given input_class. IsInputClass plan given input_class };
 
     fn plan(&self) -> &Plan {
         self.plan
@@ -95,10 +95,10 @@ impl<'a> Valuer for CutPlan<'a> {
         Ok(Env::new(self.plan.tables(), answers))
     }
 
-    fn zone(&self, inputs: &Inputs) -> Option<u64> {
+    fn input_class(&self, inputs: &Inputs) -> Option<u64> {
         // proof: all inputs in one input class have the same value
-        zones_answer_alike();
-        zone_of(self.plan, self.names.as_slice(), inputs)
+        classes_answer_alike();
+        class_of(self.plan, self.names.as_slice(), inputs)
     }
 }
 
@@ -173,16 +173,16 @@ impl<'a> CutPlan<'a> {
     {
         match self.matching_mask(given, earlier, place, table) {
             Some(mask) => {
-                let kept = self.kept_answers(place, table);
+                let kept = self.compiled_answers(place, table);
                 value_of_mask(alloc, earlier.len() + 1, table, kept, &mask)
             }
-            None => Ok(Answers::made(table_value(alloc, given, earlier, table)?)),
+            None => Ok(Answers::from_sequence(table_value(alloc, given, earlier, table)?)),
         }
     }
 
-    fn kept_answers(&self, place: usize, table: &Table) -> &KeptAnswers
+    fn compiled_answers(&self, place: usize, table: &Table) -> &CompiledAnswers
         requires { slice_get self.now.tables place ≡ Some table.now }
-        ensures { result.now ≡ kept_answers table.now }
+        ensures { result.now ≡ compiled_answers table.now }
     {
         &self.answers.as_slice()[place]
     }
@@ -197,7 +197,7 @@ impl<'a> CutPlan<'a> {
         table: &Table,
     ) -> Option<[u64; 4]>
         requires { slice_get self.now.tables place ≡ Some table.now }
-        ensures few { OnSome result (length table.now.rules ≤ MASK_RULES) }
+        ensures few { OnSome result (length table.now.rules ≤ MASK_CAPACITY) }
         ensures mask { IfSome result (λ mask. IsMatchingMask given.now earlier.now table.now mask) }
     {
         let columns = self.columns.as_slice().get(place)?;
@@ -210,24 +210,24 @@ fn value_of_mask<'k>(
     alloc: Global,
     number: usize,
     table: &Table,
-    kept: &'k KeptAnswers,
+    kept: &'k CompiledAnswers,
     mask: &[u64; 4],
 ) -> Result<Answers<'k>, Fault>
-    requires kept { kept.now ≡ kept_answers table.now }
+    requires kept { kept.now ≡ compiled_answers table.now }
     requires words { length mask.now ≡ 4 }
-    requires few { length table.now.rules ≤ MASK_RULES }
+    requires few { length table.now.rules ≤ MASK_CAPACITY }
     requires within { (place : ℕ) → length table.now.rules ≤ place → place < 256
         → has_rule mask.now place ≡ false }
     ensures { Gives (by_hit table.now.hit number table.now
         (rules_in (length table.now.rules) mask.now)) result }
 {
-    if let Some(answers) = lent_by_set(table, kept, mask) {
-        return Ok(Answers::lent(answers));
+    if let Some(answers) = find_subset_answers(table, kept, mask) {
+        return Ok(Answers::from_slice(answers));
     }
-    match few_of(mask, table.rules.len()) {
-        Few::None => value_of_rules(alloc, number, table, kept, mask, &[]),
-        Few::One(rule) => value_of_rules(alloc, number, table, kept, mask, &[rule]),
-        Few::More => {
+    match rule_count_of(mask, table.rules.len()) {
+        RuleCount::None => value_of_rules(alloc, number, table, kept, mask, &[]),
+        RuleCount::One(rule) => value_of_rules(alloc, number, table, kept, mask, &[rule]),
+        RuleCount::More => {
             let mut rules = SmallVec::<usize, INLINE_RULES>::new(alloc);
             list_rules(mask, table.rules.len(), &mut rules)?;
             value_of_rules(alloc, number, table, kept, mask, rules.as_slice())
@@ -242,25 +242,25 @@ fn value_of_rules<'k>(
     alloc: Global,
     number: usize,
     table: &Table,
-    kept: &'k KeptAnswers,
+    kept: &'k CompiledAnswers,
     mask: &[u64; 4],
     rules: &[usize],
 ) -> Result<Answers<'k>, Fault>
-    requires kept { kept.now ≡ kept_answers table.now }
+    requires kept { kept.now ≡ compiled_answers table.now }
     requires words { length mask.now ≡ 4 }
-    requires few { length table.now.rules ≤ MASK_RULES }
+    requires few { length table.now.rules ≤ MASK_CAPACITY }
     requires rules { rules.now ≡ rules_in (length table.now.rules) mask.now }
     ensures { Gives (by_hit table.now.hit number table.now
         (rules_in (length table.now.rules) mask.now)) result }
 {
-    if let Some(answers) = lent(table, kept, mask, rules) {
-        return Ok(Answers::lent(answers));
+    if let Some(answers) = find_answers(table, kept, mask, rules) {
+        return Ok(Answers::from_slice(answers));
     }
     let answers = match table.hit {
         Hit::O => in_output_order(alloc, table, kept.order.as_slice(), mask)?,
         _ => answers_by_hit(alloc, number, table, rules)?,
     };
-    Ok(Answers::made(answers))
+    Ok(Answers::from_sequence(answers))
 }
 
 // Returns the answers of the table under Output order, if the rules of the mask match. `order` is
@@ -272,7 +272,7 @@ fn in_output_order(
     mask: &[u64; 4],
 ) -> Result<Sequence<Answer>, AllocError>
     requires ranked { order.now ≡ all_ranked table.now }
-    requires few { length table.now.rules ≤ MASK_RULES }
+    requires few { length table.now.rules ≤ MASK_CAPACITY }
     requires words { length mask.now ≡ 4 }
     ensures { IfOk result (λ answers. answers ≡ lists table.now
         (in_priority_order table.now (rules_in (length table.now.rules) mask.now))) }

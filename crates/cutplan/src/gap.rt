@@ -6,9 +6,9 @@ ghost use Rattle.std.specs.List.{list_any};
 ghost use Rattle.cutplan.specs.Check.{cells, covers};
 ghost use Rattle.cutplan.specs.Masks.{AreTableMasks, rules_in};
 ghost use Rattle.cutplan.specs.Places.{ArePlaces, is_gap, places};
-ghost use Rattle.cutplan.specs.Parts.{uncovered, AreRules, HasMasksFrom};
+ghost use Rattle.cutplan.specs.CheckSteps.{uncovered, AreRules, HasMasksFrom};
 ghost use Rattle.cutplan.specs.Numbered.{cell_limit};
-ghost use Rattle.cutplan.specs.declared.mask.TheConstants.{MASK_RULES};
+ghost use Rattle.cutplan.specs.declared.mask.TheConstants.{MASK_CAPACITY};
 
 use crate::mask::{first_rules, meet};
 use crate::region::Region;
@@ -32,7 +32,7 @@ pub fn cell_count(columns: &[Sequence<Region>]) -> usize
 {
     let mut count = 1;
     for regions in columns {
-        count = capped(count, regions.len());
+        count = capped_product(count, regions.len());
     }
     count
 }
@@ -48,7 +48,7 @@ fn has_no_cell(columns: &[Sequence<Region>]) -> bool
 }
 
 // Returns the product, or the limit plus one if the product is greater.
-fn capped(count: usize, factor: usize) -> usize
+fn capped_product(count: usize, factor: usize) -> usize
     ensures { result ≡ min (count * factor) (cell_limit + 1) }
 {
     count.saturating_mul(factor).min(CELL_LIMIT + 1)
@@ -63,7 +63,7 @@ pub fn gaps(
     masks: &[Sequence<[u64; 4]>],
 ) -> Result<Vec<Sequence<Region>>, AllocError>
     requires far { length columns.now < 2 ^ 59 }
-    requires few { length table.now.rules ≤ MASK_RULES }
+    requires few { length table.now.rules ≤ MASK_CAPACITY }
     requires masks { AreTableMasks table.now columns.now masks.now }
     ensures { IfOk result (λ found. found.items
         ≡ filter (λ cell. not (list_any (λ r. covers r.cells cell) table.now.rules))
@@ -73,13 +73,13 @@ pub fn gaps(
         return Ok(Vec::new(alloc));
     }
     let rules = first_rules(table.rules.len());
-    uncovered(alloc, table, 0, columns, masks, &rules)
+    uncovered_cells(alloc, table, 0, columns, masks, &rules)
 }
 
 // Returns the cells of these columns that none of the remaining `rules` covers, in order. `columns`
 // are the columns of the table from the index `place` on, and `masks` are the masks of all its
 // columns.
-fn uncovered(
+fn uncovered_cells(
     alloc: Global,
     table: &Table,
     place: usize,
@@ -88,7 +88,7 @@ fn uncovered(
     rules: &[u64; 4],
 ) -> Result<Vec<Sequence<Region>>, AllocError>
     requires far { place + length columns.now < 2 ^ 59 }
-    requires few { length table.now.rules ≤ MASK_RULES }
+    requires few { length table.now.rules ≤ MASK_CAPACITY }
     requires masks { HasMasksFrom table.now place columns.now masks.now }
     requires rules { AreRules (length table.now.rules) rules.now }
     ensures { IfOk result (λ found. found.items
@@ -101,8 +101,8 @@ fn uncovered(
             let mut found = Vec::new(alloc);
             for (at, region) in regions.as_slice().iter().enumerate() {
                 let alive = meet(rules, &here[at]);
-                let behind = uncovered(alloc, table, place + 1, more, masks, &alive)?;
-                put_behind(alloc, region, behind, &mut found)?;
+                let following = uncovered_cells(alloc, table, place + 1, more, masks, &alive)?;
+                put_after(alloc, region, following, &mut found)?;
             }
             Ok(found)
         }
@@ -116,7 +116,7 @@ fn uncovered_end(
     count: usize,
     rules: &[u64; 4],
 ) -> Result<Vec<Sequence<Region>>, AllocError>
-    requires few { count ≤ MASK_RULES }
+    requires few { count ≤ MASK_CAPACITY }
     requires rules { AreRules count rules.now }
     ensures { IfOk result (λ found. found.items
         ≡ (if length (rules_in count rules.now) == 0 then [] ∷ [] else [])) }
@@ -131,7 +131,7 @@ fn uncovered_end(
 // Returns whether the mask has none of the first `count` rules.
 #[tactic(auto, using(crate::proofs::Meeting::none_is))]
 fn is_none(count: usize, rules: &[u64; 4]) -> bool
-    requires few { count ≤ MASK_RULES }
+    requires few { count ≤ MASK_CAPACITY }
     requires rules { AreRules count rules.now }
     ensures { result ≡ (length (rules_in count rules.now) == 0) }
 {
@@ -139,16 +139,16 @@ fn is_none(count: usize, rules: &[u64; 4]) -> bool
 }
 
 // Appends these cells, each with the region put before it.
-fn put_behind(
+fn put_after(
     alloc: Global,
     region: &Region,
-    behind: Vec<Sequence<Region>>,
+    following: Vec<Sequence<Region>>,
     found: &mut Vec<Sequence<Region>>,
 ) -> Result<(), AllocError>
     ensures { OnOk result (found.new.items
-        ≡ found.old.items ++ map (λ cell. region.now ∷ cell) behind.items) }
+        ≡ found.old.items ++ map (λ cell. region.now ∷ cell) following.items) }
 {
-    for cell in behind {
+    for cell in following {
         let mut whole = cell;
         whole.insert(0, region.duplicate(alloc)?)?;
         found.push(whole)?;
@@ -165,7 +165,7 @@ pub fn gap_places(
     masks: &[Sequence<[u64; 4]>],
 ) -> Result<Option<Vec<u32>>, AllocError>
     requires far { length columns.now < 2 ^ 59 }
-    requires few { length table.now.rules ≤ MASK_RULES }
+    requires few { length table.now.rules ≤ MASK_CAPACITY }
     requires masks { AreTableMasks table.now columns.now masks.now }
     ensures { IfOk result (ArePlaces (cells columns.now) (is_gap table.now)) }
 {
@@ -204,7 +204,7 @@ fn walk_cells(
     walk: &mut Walk,
 ) -> Result<(), AllocError>
     requires far { place + length columns.now < 2 ^ 59 }
-    requires few { length table.now.rules ≤ MASK_RULES }
+    requires few { length table.now.rules ≤ MASK_CAPACITY }
     requires masks { HasMasksFrom table.now place columns.now masks.now }
     requires rules { AreRules (length table.now.rules) rules.now }
     requires room { walk.old.passed + length (cells columns.now) ≤ cell_limit }
@@ -228,7 +228,7 @@ fn walk_cells(
 
 // With no columns left, the cell is a gap if no rule remains.
 fn walk_end(count: usize, rules: &[u64; 4], walk: &mut Walk) -> Result<(), AllocError>
-    requires few { count ≤ MASK_RULES }
+    requires few { count ≤ MASK_CAPACITY }
     requires rules { AreRules count rules.now }
     requires room { walk.old.passed < cell_limit }
     ensures found { OnOk result (walk.new.found.items ≡ walk.old.found.items

@@ -1,9 +1,9 @@
 //! Theorems that relate regions, gaps, overlaps and masks to the values that match. Each function
 //! does nothing; its contract states the theorem.
-ghost use Rattle.cutplan.specs.Laws.{AllowedAreInside, CellsHoldAlike, CutsAreLiterals, CutsRise, FitsAreMatches, GapsAreTold, GapsMatchNothing, OverlapsAreTold, OverlapsMatchTogether, RegionsHoldValues, RegionsPartValues};
+ghost use Rattle.cutplan.specs.Laws.{AllowedAreInside, CellsHoldAlike, CutsAreLiterals, CutsRise, FitsAreMatches, GapIffNoRuleMatches, GapsMatchNothing, OverlapIffTwoRulesMatch, OverlapsMatchTogether, RegionsHoldValues, RegionsPartValues};
 ghost use Rattle.cutplan.specs.Masks.{MasksListMatches};
-ghost use Rattle.cutplan.specs.ZoneWise.{ZonesAreValued};
-ghost use Rattle.cutplan.specs.Zones.{ZonesAnswerAlike};
+ghost use Rattle.cutplan.specs.ClassWise.{ClassesAreValued};
+ghost use Rattle.cutplan.specs.InputClasses.{ClassesAnswerAlike};
 
 /// Within a region of its column, the cell of a rule holds for all values or for none.
 pub fn cells_hold_alike()
@@ -17,8 +17,8 @@ pub fn regions_part_values()
 
 /// No rule matches an allowed tuple of values if and only if the cell of the tuple is among the
 /// gaps.
-pub fn gaps_are_told()
-    ensures { GapsAreTold }
+pub fn gap_iff_no_rule_matches()
+    ensures { GapIffNoRuleMatches }
 {}
 
 /// Each region of a column contains an allowed value.
@@ -28,8 +28,8 @@ pub fn regions_hold_values()
 
 /// Two rules both match some allowed tuple of values if and only if their pair is among the
 /// overlaps.
-pub fn overlaps_are_told()
-    ensures { OverlapsAreTold }
+pub fn overlap_iff_two_rules_match()
+    ensures { OverlapIffTwoRulesMatch }
 {}
 
 /// A rule fits the values that a table reads if and only if it is among the matching rules. For
@@ -89,12 +89,12 @@ pub fn masks_list_matches()
 /// its cells are `<18`, `[18..65]` and `>65`, then 20 and 64 are in one class, and the tables have
 /// the same answers for both. 18 and 20 are in different classes, whatever the tables answer for
 /// them.
-pub fn zones_answer_alike()
-    ensures { ZonesAnswerAlike }
+pub fn classes_answer_alike()
+    ensures { ClassesAnswerAlike }
 {}
 
 /// Tables have the value of an input class for all inputs that lie in it. The literals that cut its
 /// regions are those of the plan and possibly others, such as those of another plan.
-pub fn zones_are_valued()
-    ensures { ZonesAreValued }
+pub fn classes_are_valued()
+    ensures { ClassesAreValued }
 {}

@@ -28,41 +28,41 @@
 //! functions carry the promises, and `law.rt`.
 #![tactic(auto)]
 
-mod asked;
+mod cell_probe;
 mod column;
+mod compiled_answers;
+mod compiled_column;
 mod cut_plan;
 mod cuts;
 mod fault;
-mod few;
-mod found;
 mod gap;
-mod kept;
+mod input_class;
 mod keys;
 mod law;
-mod lent;
 mod lookup;
 mod mask;
+mod matching;
 mod overlap;
 mod region;
-mod rising;
-mod sets;
-mod sharing;
-mod stretch;
+mod regions_from_cuts;
+mod rule_count;
+mod rule_pairs;
+mod sorted_cuts;
+mod subset_answers;
 mod table_check;
 mod violation_law;
 mod violations;
-mod zone;
 
 pub use cut_plan::{CutPlan, compile};
 pub use fault::CheckFault;
 pub use gap::{CELL_LIMIT, cell_count};
 pub use law::{
-    allowed_are_inside, cells_hold_alike, cuts_are_literals, cuts_rise, fits_are_matches,
-    gaps_are_told, gaps_match_nothing, masks_list_matches, overlaps_are_told,
-    overlaps_match_together, regions_hold_values, regions_part_values, zones_answer_alike,
-    zones_are_valued,
+    allowed_are_inside, cells_hold_alike, classes_answer_alike, classes_are_valued,
+    cuts_are_literals, cuts_rise, fits_are_matches, gap_iff_no_rule_matches, gaps_match_nothing,
+    masks_list_matches, overlap_iff_two_rules_match, overlaps_match_together, regions_hold_values,
+    regions_part_values,
 };
 pub use region::Region;
 pub use table_check::{TableCheck, check_table};
-pub use violation_law::harm_is_fault;
-pub use violations::{is_gap_harmful, is_overlap_harmful};
+pub use violation_law::errors_are_faults;
+pub use violations::{gap_is_error, overlap_is_error};

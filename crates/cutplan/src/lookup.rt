@@ -8,10 +8,10 @@ ghost use Rattle.feel_tests.specs.declared.value.Value.{Value};
 ghost use Rattle.feel_tests.specs.declared.value.Value.TheVariants as values;
 ghost use Rattle.cutplan.specs.declared.region.Region.TheVariants.{Other};
 ghost use Rattle.cutplan.specs.Regions.{is_in};
-ghost use Rattle.cutplan.specs.Found.{bytes_of, has_at, AreRisingTexts, OthersRise};
-ghost use Rattle.cutplan.specs.Kept.{IsMaskOf};
+ghost use Rattle.cutplan.specs.Matching.{bytes_of, has_at, AreRisingTexts, OthersRise};
+ghost use Rattle.cutplan.specs.CompiledColumns.{IsMaskOf};
 
-use crate::kept::KeptColumn;
+use crate::compiled_column::CompiledColumn;
 use crate::keys::{key_of_integer, key_of_text};
 use crate::region::{Region, is_among, is_in, is_less, is_value};
 use feel_tests::{Text, Value};
@@ -22,7 +22,7 @@ const FEW_KEYS: usize = 16;
 
 /// Returns the mask of the region that contains the value, if the value is of the column's kind and
 /// lies in a region.
-pub fn mask_of<'c>(column: &'c KeptColumn, value: &Value) -> Option<&'c [u64; 4]>
+pub fn mask_of<'c>(column: &'c CompiledColumn, value: &Value) -> Option<&'c [u64; 4]>
     requires { OthersRise column.now.regions }
     ensures { IfSome result (λ mask. IsMaskOf column.now value.now mask.now) }
 {
@@ -43,15 +43,15 @@ pub fn place_of(regions: &[Region], keys: &[u64], value: &Value) -> Option<usize
     requires { OthersRise regions.now }
     ensures { IfSome result (λ place. IsTrue (has_at regions.now place value.now)) }
 {
-    match likely_place(regions, keys, value) {
+    match candidate_place(regions, keys, value) {
         Some(place) => Some(place),
-        None => place_sought(regions, value),
+        None => place_by_search(regions, value),
     }
 }
 
 // Returns the index that the value's key suggests, if the region there contains the value. The
 // index for a flag is the flag itself.
-fn likely_place(regions: &[Region], keys: &[u64], value: &Value) -> Option<usize>
+fn candidate_place(regions: &[Region], keys: &[u64], value: &Value) -> Option<usize>
     requires { OthersRise regions.now }
     ensures { IfSome result (λ place. IsTrue (has_at regions.now place value.now)) }
 {
@@ -99,7 +99,7 @@ fn place_of_text(regions: &[Region], keys: &[u64], text: &Text) -> Option<usize>
     requires { OthersRise regions.now }
     ensures { IfSome result (λ place. IsTrue (has_at regions.now place (values.Text text.now))) }
 {
-    let place = likely(keys, key_of_text(text), regions.len());
+    let place = candidate(keys, key_of_text(text), regions.len());
     if has_text_at(regions, place, text) {
         Some(place)
     } else {
@@ -109,7 +109,7 @@ fn place_of_text(regions: &[Region], keys: &[u64], text: &Text) -> Option<usize>
 
 // Returns the index of the key, or the last of `count` indices if there is no such key: a text that
 // is not named lies in the last region.
-fn likely(keys: &[u64], key: u64, count: usize) -> usize {
+fn candidate(keys: &[u64], key: u64, count: usize) -> usize {
     let place = if keys.len() > FEW_KEYS {
         keys.binary_search(&key).ok()
     } else {
@@ -180,11 +180,11 @@ fn last_up_to(keys: &[u64], key: u64) -> usize {
 
 // Returns the region that a binary search finds, for a value with a key that does not lead to its
 // region.
-fn place_sought(regions: &[Region], value: &Value) -> Option<usize>
+fn place_by_search(regions: &[Region], value: &Value) -> Option<usize>
     requires { OthersRise regions.now }
     ensures { IfSome result (λ place. IsTrue (has_at regions.now place value.now)) }
 {
-    let place = sought(regions, value);
+    let place = find_place(regions, value);
     if has_at(regions, place, value) {
         Some(place)
     } else {
@@ -194,7 +194,7 @@ fn place_sought(regions: &[Region], value: &Value) -> Option<usize>
 
 // Returns the index where the search ends, or the last index if it finds nothing. The caller checks
 // the region there.
-fn sought(regions: &[Region], value: &Value) -> usize {
+fn find_place(regions: &[Region], value: &Value) -> usize {
     match regions.binary_search_by(|region| order(region, value)) {
         Ok(place) => place,
         Err(_) => regions.len().saturating_sub(1),

@@ -1,27 +1,27 @@
 //! Masks: sets of the rules of a table, as 256 bits in four words.
 ghost use Rattle.std.specs.Prelude.{◌≡◌, ◌<◌, ◌≤◌, ◌==◌, ◌&&◌, ◌||◌, ◌++◌, ℕ, [], false, length, nat_lt, OnOk};
 ghost use Rattle.std.specs.Int.{bit_at};
-ghost use Rattle.cutplan.specs.Found.{places_set};
+ghost use Rattle.cutplan.specs.Matching.{places_set};
 ghost use Rattle.cutplan.specs.Masks.{has_rule, rules_in, Marks};
-ghost use Rattle.cutplan.specs.Parts.{first_value, holds_among};
-ghost use Rattle.cutplan.specs.declared.mask.TheConstants.{MASK_RULES};
+ghost use Rattle.cutplan.specs.CheckSteps.{first_value, holds_among};
+ghost use Rattle.cutplan.specs.declared.mask.TheConstants.{MASK_CAPACITY};
 
-use crate::asked::Asked;
+use crate::cell_probe::CellProbe;
 use crate::region::Region;
 use feel_tests::Value;
 use smallvec::SmallVec;
 use std::alloc::AllocError;
 
 /// The number of rules that a mask has bits for. No table has more rules.
-pub const MASK_RULES: usize = 256;
+pub const MASK_CAPACITY: usize = 256;
 
 /// The number of rules that are listed without an allocation.
 pub const INLINE_RULES: usize = 8;
 
 /// Returns the rules whose cell holds in the region. There is one `CellProbe` for each rule, and
 /// `first` is the first value of the region.
-pub fn mask_of(asked: &mut [Asked<'_>], region: &Region, first: &Option<Value>) -> [u64; 4]
-    requires few { length asked.old ≤ MASK_RULES }
+pub fn mask_of(asked: &mut [CellProbe<'_>], region: &Region, first: &Option<Value>) -> [u64; 4]
+    requires few { length asked.old ≤ MASK_CAPACITY }
     requires first { first.now ≡ first_value region.now }
     ensures marks { Marks (holds_among asked.old region.now) result }
     ensures same { asked.new ≡ asked.old }
@@ -37,7 +37,7 @@ pub fn mask_of(asked: &mut [Asked<'_>], region: &Region, first: &Option<Value>) 
 
 fn insert_if(mask: &mut [u64; 4], place: usize, is_wanted: bool)
     requires words { length mask.old ≡ 4 }
-    requires within { place < MASK_RULES }
+    requires within { place < MASK_CAPACITY }
     ensures words { length mask.new ≡ 4 }
     ensures has { (other : ℕ) → other < 256 → has_rule mask.new other
         ≡ (has_rule mask.old other || (is_wanted && (other == place))) }
@@ -49,7 +49,7 @@ fn insert_if(mask: &mut [u64; 4], place: usize, is_wanted: bool)
 
 fn insert(mask: &mut [u64; 4], place: usize)
     requires words { length mask.old ≡ 4 }
-    requires within { place < MASK_RULES }
+    requires within { place < MASK_CAPACITY }
     ensures words { length mask.new ≡ 4 }
     ensures has { (other : ℕ) → other < 256 → has_rule mask.new other
         ≡ (has_rule mask.old other || (other == place)) }
@@ -75,7 +75,7 @@ pub fn meet(one: &[u64; 4], other: &[u64; 4]) -> [u64; 4]
 
 /// Returns the mask of the first `count` rules.
 pub fn first_rules(count: usize) -> [u64; 4]
-    requires { count ≤ MASK_RULES }
+    requires { count ≤ MASK_CAPACITY }
     ensures { Marks (λ place. nat_lt place count) result }
 {
     if count <= 64 {
@@ -111,7 +111,7 @@ pub fn list_rules(
     found: &mut SmallVec<usize, INLINE_RULES>,
 ) -> Result<(), AllocError>
     requires words { length mask.now ≡ 4 }
-    requires few { count ≤ MASK_RULES }
+    requires few { count ≤ MASK_CAPACITY }
     requires within { (place : ℕ) → count ≤ place → place < 256 → has_rule mask.now place ≡ false }
     requires none { found.old.items ≡ [] }
     ensures { OnOk result (found.new.items ≡ rules_in count mask.now) }
@@ -128,7 +128,7 @@ fn push_places(
     first: usize,
     found: &mut SmallVec<usize, INLINE_RULES>,
 ) -> Result<(), AllocError>
-    requires { first < MASK_RULES }
+    requires { first < MASK_CAPACITY }
     ensures { OnOk result ((width : ℕ) → width ≡ 64 → found.new.items
         ≡ found.old.items ++ places_set word first width) }
 {

@@ -7,10 +7,10 @@ ghost use Rattle.std.specs.Prelude.{◌≡◌, ◌+◌, ◌-◌, ◌<◌, ◌≤
 ghost use Rattle.std.specs.List.{list_all};
 ghost use Rattle.cutplan.specs.Check.{pairs, pairs_with};
 ghost use Rattle.cutplan.specs.Masks.{has_rule};
-ghost use Rattle.cutplan.specs.Parts.{are_whole, share_all};
-ghost use Rattle.cutplan.specs.declared.mask.TheConstants.{MASK_RULES};
+ghost use Rattle.cutplan.specs.CheckSteps.{are_whole, share_all};
+ghost use Rattle.cutplan.specs.declared.mask.TheConstants.{MASK_CAPACITY};
 
-use crate::sharing::{has_rule, partners};
+use crate::rule_pairs::{has_rule, partners};
 use dtable::Sequence;
 use std::alloc::{AllocError, Global};
 
@@ -21,7 +21,7 @@ pub fn overlaps(
     count: usize,
     columns: &[Sequence<[u64; 4]>],
 ) -> Result<Vec<(usize, usize)>, AllocError>
-    requires few { count ≤ MASK_RULES }
+    requires few { count ≤ MASK_CAPACITY }
     requires whole { IsTrue (list_all are_whole columns.now) }
     ensures { IfOk result (λ found. found.items
         ≡ filter (λ pair. share_all columns.now (pair.0 - 1) (pair.1 - 1)) (pairs count)) }
@@ -42,7 +42,7 @@ fn push_pairs(
     found: &mut Vec<(usize, usize)>,
 ) -> Result<(), AllocError>
     requires within { first < count }
-    requires few { count ≤ MASK_RULES }
+    requires few { count ≤ MASK_CAPACITY }
     requires words { length others.now ≡ 4 }
     ensures { OnOk result (found.new.items ≡ found.old.items
         ++ filter (λ pair. has_rule others.now (pair.1 - 1)) (pairs_with count (first + 1))) }
@@ -59,7 +59,7 @@ fn push_pair(
     others: &[u64; 4],
     found: &mut Vec<(usize, usize)>,
 ) -> Result<(), AllocError>
-    requires within { (first < MASK_RULES) × (second < MASK_RULES) }
+    requires within { (first < MASK_CAPACITY) × (second < MASK_CAPACITY) }
     requires words { length others.now ≡ 4 }
     ensures { OnOk result (found.new.items ≡ found.old.items
         ++ (if has_rule others.now second then (first + 1, second + 1) ∷ [] else [])) }

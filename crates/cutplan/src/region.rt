@@ -149,7 +149,7 @@ pub fn next(value: &Value) -> Option<Value>
     }
 }
 
-#[tactic(auto, using(crate::proofs::Ranges::number_behind, crate::proofs::Ranges::no_number_behind))]
+#[tactic(auto, using(crate::proofs::Ranges::number_after, crate::proofs::Ranges::no_number_after))]
 fn next_number(number: Fixed) -> Option<Value>
     ensures { result ≡ next (values.Number number) }
 {
@@ -159,7 +159,7 @@ fn next_number(number: Fixed) -> Option<Value>
     }
 }
 
-#[tactic(auto, using(crate::proofs::Ranges::day_behind, crate::proofs::Ranges::no_day_behind))]
+#[tactic(auto, using(crate::proofs::Ranges::day_after, crate::proofs::Ranges::no_day_after))]
 fn next_day(day: Day) -> Option<Value>
     ensures { result ≡ next (values.Day day) }
 {

@@ -4,12 +4,12 @@ ghost use Rattle.cutplan.specs.Check.{cells, gaps, overlaps};
 ghost use Rattle.cutplan.specs.Numbered.{cell_limit as CELL_LIMIT, IsTableNumber, cells_of, overlaps_of, IsWide};
 ghost use Rattle.cutplan.specs.Places.{ArePlaces, is_gap, is_gap_of, regions_of};
 ghost use Rattle.cutplan.specs.Regions.{table_regions};
-ghost use Rattle.cutplan.specs.declared.mask.TheConstants.{MASK_RULES};
+ghost use Rattle.cutplan.specs.declared.mask.TheConstants.{MASK_CAPACITY};
 
 use crate::column::table_regions;
+use crate::compiled_column::masks_of_columns;
 use crate::fault::CheckFault;
 use crate::gap::{gap_places, gaps, is_wide};
-use crate::kept::masks_of_columns;
 use crate::overlap::overlaps;
 use crate::region::Region;
 use dtable::{Plan, Sequence, Table};
@@ -42,7 +42,7 @@ pub fn check_table(alloc: Global, plan: &Plan, table: usize) -> Result<TableChec
 }
 
 fn check_of(alloc: Global, plan: &Plan, table: &Table) -> Result<TableCheck, AllocError>
-    requires { length table.now.rules ≤ MASK_RULES }
+    requires { length table.now.rules ≤ MASK_CAPACITY }
     ensures overlaps { IfOk result (λ check. check.overlaps.items ≡ overlaps plan.now table.now) }
     ensures columns { IfOk result (λ check. check.columns ≡ table_regions plan.now table.now) }
     ensures gaps { IfOk result (λ check. ArePlaces (cells (table_regions plan.now table.now))
@@ -65,7 +65,7 @@ pub fn overlaps_of(
     plan: &Plan,
     table: &Table,
 ) -> Result<Vec<(usize, usize)>, AllocError>
-    requires { length table.now.rules ≤ MASK_RULES }
+    requires { length table.now.rules ≤ MASK_CAPACITY }
     ensures { IfOk result (λ found. found.items ≡ overlaps plan.now table.now) }
 {
     let columns = table_regions(alloc, plan, table)?;
@@ -80,7 +80,7 @@ pub fn gaps_of(
     plan: &Plan,
     table: &Table,
 ) -> Result<Vec<Sequence<Region>>, CheckFault>
-    requires { length table.now.rules ≤ MASK_RULES }
+    requires { length table.now.rules ≤ MASK_CAPACITY }
     ensures listed { IfOk result (λ found. found.items ≡ gaps plan.now table.now) }
     ensures narrow { OnOk result (length (cells (table_regions plan.now table.now)) ≤ CELL_LIMIT) }
     ensures wide { IfErr result (IsWide (length (cells (table_regions plan.now table.now)))) }

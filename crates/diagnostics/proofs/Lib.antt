@@ -1,3 +1,3 @@
-pub mod ShownTexts
+pub mod PrintableTexts
 pub mod OneEdits
 pub mod Positions

@@ -115,8 +115,8 @@ front_alike [] one other edit = edit
 front_alike (x ∷ xs) one other edit = begins_alike x (xs ++ one) (xs ++ other) (front_alike xs one other edit)
 
 -- a byte in front of both that the edit leaves alone
-edited_behind : (byte : ℕ) (one other front back old new : List ℕ) → IsEdit old new → byte ∷ one ≡ front ++ (old ++ back) → byte ∷ other ≡ front ++ (new ++ back) → IsOneEdit one other
-edited_behind byte one other (x ∷ xs) back old new edit one_is other_is = record {
+edited_after : (byte : ℕ) (one other front back old new : List ℕ) → IsEdit old new → byte ∷ one ≡ front ++ (old ++ back) → byte ∷ other ≡ front ++ (new ++ back) → IsOneEdit one other
+edited_after byte one other (x ∷ xs) back old new edit one_is other_is = record {
   front = xs;
   back = back;
   old = old;
@@ -125,35 +125,35 @@ edited_behind byte one other (x ∷ xs) back old new edit one_is other_is = reco
   one_is = ap (drop 1) one_is;
   other_is = ap (drop 1) other_is;
 }
-edited_behind byte one other [] back _ _ (more added) one_is other_is =
+edited_after byte one other [] back _ _ (more added) one_is other_is =
     let same : other ≡ byte ∷ one = ap (drop 1) other_is ∙ sym one_is in
     goes_back other one (from_without other one (omega (arith, ap length same), ap (drop 1) same))
-edited_behind byte one other [] back _ _ (less gone) one_is other_is =
+edited_after byte one other [] back _ _ (less gone) one_is other_is =
     let same : one ≡ byte ∷ other = ap (drop 1) one_is ∙ sym other_is in
     from_without one other (omega (arith, ap length same), ap (drop 1) same)
-edited_behind byte one other [] back _ _ (another old new differs) one_is other_is =
+edited_after byte one other [] back _ _ (another old new differs) one_is other_is =
     absurd (differs (sym (ap (λ it. slice_index it 0) one_is) ∙ ap (λ it. slice_index it 0) other_is))
-edited_behind byte one other [] back _ _ (exchanged first second differs) one_is other_is =
+edited_after byte one other [] back _ _ (exchanged first second differs) one_is other_is =
     absurd (differs (sym (ap (λ it. slice_index it 0) one_is) ∙ ap (λ it. slice_index it 0) other_is))
 
-edited_behind_front : (front one other : List ℕ) → IsOneEdit (front ++ one) (front ++ other) → IsOneEdit one other
-edited_behind_front [] one other edit = edit
-edited_behind_front (x ∷ xs) one other edit =
-    edited_behind_front xs one other
-    (edited_behind x (xs ++ one) (xs ++ other) edit.front edit.back edit.old edit.new edit.edit edit.one_is edit.other_is)
+edited_after_front : (front one other : List ℕ) → IsOneEdit (front ++ one) (front ++ other) → IsOneEdit one other
+edited_after_front [] one other edit = edit
+edited_after_front (x ∷ xs) one other edit =
+    edited_after_front xs one other
+    (edited_after x (xs ++ one) (xs ++ other) edit.front edit.back edit.old edit.new edit.edit edit.one_is edit.other_is)
 
 -- what is left of a list from a place on
 rest_is : (place : ℕ) (text : List ℕ) → place ≤ length text → take (length text - place) (drop place text) ≡ drop place text
 rest_is place text within = take_all (length text - place) (drop place text) (omega (arith, length-drop place text))
 
 -- words that begin alike are one edit apart exactly where what follows is
-pub behind_common : (one other : List ℕ) (place : ℕ) (result : Bool) → take place one ≡ take place other → place ≤ length one → place ≤ length other
+pub after_common : (one other : List ℕ) (place : ℕ) (result : Bool) → take place one ≡ take place other → place ≤ length one → place ≤ length other
     → (IsTrue result ↔ IsOneEdit (take (length one - place) (drop place one)) (take (length other - place) (drop place other))) → IsTrue result ↔ IsOneEdit one other
-behind_common one other place result alike within_one within_other is =
+after_common one other place result alike within_one within_other is =
     let whole_one : take place one ++ drop place one ≡ one = take-append-drop place one in
     let whole_other : take place one ++ drop place other ≡ other = ap (λ it. it ++ drop place other) alike ∙ take-append-drop place other in
     let rests : IsTrue result ↔ IsOneEdit (drop place one) (drop place other) = rw (rest_is place one within_one, rest_is place other within_other) at is in (
       λ it. subst (λ it. IsOneEdit one it) whole_other (subst (λ it. IsOneEdit it (take place one ++ drop place other)) whole_one
           (front_alike (take place one) (drop place one) (drop place other) (rests.0 it))),
-      λ edit. rests.1 (edited_behind_front (take place one) (drop place one) (drop place other) (subst (λ it. IsOneEdit it (take place one ++ drop place other)) (sym whole_one) (subst (λ it. IsOneEdit one it) (sym whole_other) edit))),
+      λ edit. rests.1 (edited_after_front (take place one) (drop place one) (drop place other) (subst (λ it. IsOneEdit it (take place one ++ drop place other)) (sym whole_one) (subst (λ it. IsOneEdit one it) (sym whole_other) edit))),
     )

@@ -1,3 +1,3 @@
-pub mod Shown
+pub mod Printable
 pub mod Edits
 pub mod Position

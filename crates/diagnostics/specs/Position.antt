@@ -20,7 +20,7 @@ abbrev pub IsOneLine : List ℕ → Type 0
 IsOneLine text = list_all (λ byte. not (is_line_feed byte)) text ≡ true
 
 -- the place right behind a text: its line, by the line feeds of the text, and its column, by the characters that begin behind the last of them
-pub record IsBehind (text : List ℕ) (position : Position) : Type 0 where
+pub record IsAfter (text : List ℕ) (position : Position) : Type 0 where
   pub lines : List ℕ
   pub begun : List ℕ
   pub text_is : text ≡ lines ++ begun

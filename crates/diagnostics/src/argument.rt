@@ -1,7 +1,7 @@
 //! Which byte of an argument is meant.
 
-use crate::page::Page;
-use crate::words::{argument_words, cell_words};
+use crate::message::Message;
+use crate::texts::{argument_words, cell_words};
 use faults::CellFault;
 use std::alloc::{AllocError, Global};
 
@@ -10,19 +10,19 @@ pub fn explain_literal(
     alloc: Global,
     argument: &str,
     fault: &CellFault,
-) -> Result<Page, AllocError> {
-    let mut page = Page::new(alloc);
-    add_literal(&mut page, argument, fault)?;
-    Ok(page)
+) -> Result<Message, AllocError> {
+    let mut message = Message::new(alloc);
+    add_literal(&mut message, argument, fault)?;
+    Ok(message)
 }
 
-fn add_literal(page: &mut Page, argument: &str, fault: &CellFault) -> Result<(), AllocError> {
+fn add_literal(message: &mut Message, argument: &str, fault: &CellFault) -> Result<(), AllocError> {
     let literal = match argument.split_once('=') {
         Some((_, literal)) => literal,
         None => "",
     };
     let front = argument.len().saturating_sub(literal.len());
-    page.mark(argument, front.saturating_add(fault.at))?;
-    page.line(&[cell_words(fault.cause)])?;
-    page.words(argument_words(4))
+    message.mark(argument, front.saturating_add(fault.at))?;
+    message.line(&[cell_words(fault.cause)])?;
+    message.words(argument_words(4))
 }

@@ -1,9 +1,9 @@
 //! Which column of a file of claims or balances is meant.
 
 use crate::file_texts::{file_words, record_words, refused_record_words};
-use crate::page::Page;
+use crate::message::Message;
 use crate::places::Step;
-use crate::spot::{count_at, value_at};
+use crate::plan_node::{count_at, value_at};
 use csv::{ByteRecord, ReaderBuilder};
 use faults::{FileFault, RowFault};
 use std::alloc::{AllocError, Global};
@@ -18,17 +18,17 @@ pub enum FileKind {
 
 /// What is amiss with a needed column of a header.
 #[derive(Clone, Copy, PartialEq, Eq)]
-enum Amiss {
+enum HeaderProblem {
     Missing,
     Twice,
 }
 
-impl Amiss {
+impl HeaderProblem {
     // What the fault of a file says of its columns; nothing where it is about something else.
-    fn of(fault: FileFault) -> Option<Amiss> {
+    fn of(fault: FileFault) -> Option<HeaderProblem> {
         match fault {
-            FileFault::MissingColumn => Some(Amiss::Missing),
-            FileFault::DuplicateColumn => Some(Amiss::Twice),
+            FileFault::MissingColumn => Some(HeaderProblem::Missing),
+            FileFault::DuplicateColumn => Some(HeaderProblem::Twice),
             FileFault::TooLarge | FileFault::NoHeader | FileFault::OutOfMemory => None,
         }
     }
@@ -42,15 +42,15 @@ pub fn explain_file(
     plan: &[u8],
     kind: FileKind,
     fault: FileFault,
-) -> Result<Page, AllocError> {
-    let mut page = Page::new(alloc);
-    page.line(&[name])?;
-    if let Some(amiss) = Amiss::of(fault) {
+) -> Result<Message, AllocError> {
+    let mut message = Message::new(alloc);
+    message.line(&[name])?;
+    if let Some(problem) = HeaderProblem::of(fault) {
         let header = header_of(alloc, text)?;
-        add_columns(alloc, &mut page, &header, plan, kind, amiss)?;
+        add_columns(alloc, &mut message, &header, plan, kind, problem)?;
     }
-    page.words(file_words(fault))?;
-    Ok(page)
+    message.words(file_words(fault))?;
+    Ok(message)
 }
 
 /// What the fault of a record of balances means, in a file of this name.
@@ -60,19 +60,19 @@ pub fn explain_record(
     text: &[u8],
     number: usize,
     fault: &RowFault,
-) -> Result<Page, AllocError> {
-    let mut page = Page::new(alloc);
+) -> Result<Message, AllocError> {
+    let mut message = Message::new(alloc);
     let header = header_of(alloc, text)?;
     let column = column_name(&header, fault.column);
     let record = format!(in alloc; "{name}, record {number} behind the header")?;
     if column.is_empty() {
-        page.line(&[record.as_str()])?;
+        message.line(&[record.as_str()])?;
     } else {
-        page.line(&[record.as_str(), ", column ", column])?;
+        message.line(&[record.as_str(), ", column ", column])?;
     }
-    page.line(&[record_words(fault.cause)])?;
-    page.words(refused_record_words())?;
-    Ok(page)
+    message.line(&[record_words(fault.cause)])?;
+    message.words(refused_record_words())?;
+    Ok(message)
 }
 
 // The name of a column by its number from 1; nothing where there is none or it is no text.
@@ -98,37 +98,37 @@ fn header_of(alloc: Global, text: &[u8]) -> Result<ByteRecord, AllocError> {
 // Names the needed columns with which this is amiss.
 fn add_columns(
     alloc: Global,
-    page: &mut Page,
+    message: &mut Message,
     header: &ByteRecord,
     plan: &[u8],
     kind: FileKind,
-    amiss: Amiss,
+    problem: HeaderProblem,
 ) -> Result<(), AllocError> {
-    for name in needed(kind) {
-        add_column(page, header, name, amiss)?;
+    for name in required_columns(kind) {
+        add_column(message, header, name, problem)?;
     }
     let Ok(members) = toml::table_from_slice(alloc, plan) else {
         return Ok(());
     };
     let document = Value::Table(members);
-    add_since(page, header, &document, (3, "family"), amiss)?;
+    add_since(message, header, &document, (3, "family"), problem)?;
     match kind {
-        FileKind::Claims => add_fields(page, header, &document, amiss),
-        FileKind::Balances => add_since(page, header, &document, (2, "year"), amiss),
+        FileKind::Claims => add_fields(message, header, &document, problem),
+        FileKind::Balances => add_since(message, header, &document, (2, "year"), problem),
     }
 }
 
 // Names the plan's fields among those columns.
 fn add_fields(
-    page: &mut Page,
+    message: &mut Message,
     header: &ByteRecord,
     plan: &Value,
-    amiss: Amiss,
+    problem: HeaderProblem,
 ) -> Result<(), AllocError> {
     for place in 0..count_at(plan, &[], "fields") {
         let steps = [Step::Key("fields"), Step::Item(place), Step::Key("name")];
         if let Some(name) = value_at(plan, &steps).and_then(Value::as_str) {
-            add_column(page, header, name, amiss)?;
+            add_column(message, header, name, problem)?;
         }
     }
     Ok(())
@@ -136,22 +136,22 @@ fn add_fields(
 
 // Names a column among those that is needed from a version of the plan on.
 fn add_since(
-    page: &mut Page,
+    message: &mut Message,
     header: &ByteRecord,
     plan: &Value,
     needed: (i64, &str),
-    amiss: Amiss,
+    problem: HeaderProblem,
 ) -> Result<(), AllocError> {
     let (first, name) = needed;
     let steps = [Step::Key("version")];
     match value_at(plan, &steps).and_then(Value::as_integer) {
-        Some(version) if version >= first => add_column(page, header, name, amiss),
+        Some(version) if version >= first => add_column(message, header, name, problem),
         _ => Ok(()),
     }
 }
 
 // The columns that each such file needs.
-fn needed(kind: FileKind) -> &'static [&'static str] {
+fn required_columns(kind: FileKind) -> &'static [&'static str] {
     match kind {
         FileKind::Claims => &["claim", "member", "service", "billed"],
         FileKind::Balances => &["member", "met", "oop", "paid"],
@@ -159,10 +159,10 @@ fn needed(kind: FileKind) -> &'static [&'static str] {
 }
 
 fn add_column(
-    page: &mut Page,
+    message: &mut Message,
     header: &ByteRecord,
     name: &str,
-    amiss: Amiss,
+    problem: HeaderProblem,
 ) -> Result<(), AllocError> {
     let mut count = 0usize;
     for place in 0..header.len() {
@@ -170,9 +170,12 @@ fn add_column(
             count = count.saturating_add(1);
         }
     }
-    match amiss {
-        Amiss::Missing if count == 0 => page.line(&["the header has no column ", name]),
-        Amiss::Twice if count > 1 => page.line(&["the header has more than one column ", name]),
-        Amiss::Missing | Amiss::Twice => Ok(()),
+    match problem {
+        HeaderProblem::Missing if count == 0 => message.line(&["the header has no column ", name]),
+        HeaderProblem::Twice if count > 1 => message.line(&[
+            "the header has more than one column ",
+            name,
+        ]),
+        HeaderProblem::Missing | HeaderProblem::Twice => Ok(()),
     }
 }

@@ -7,12 +7,12 @@ ghost use Rattle.diagnostics.specs.Edits.{DoNotMeet, IsOneEdit, IsWithoutFirst, 
 pub fn is_one_edit(one: &[u8], other: &[u8]) -> bool
     ensures { IsTrue result ↔ IsOneEdit one.now other.now }
 {
-    let front = common(one, other);
+    let front = common_length(one, other);
     is_edit_of_front(&one[front..], &other[front..])
 }
 
 // How many first bytes they have in common.
-fn common(one: &[u8], other: &[u8]) -> usize
+fn common_length(one: &[u8], other: &[u8]) -> usize
     ensures within_one { result ≤ length one.now }
     ensures within_other { result ≤ length other.now }
     ensures alike { take result one.now ≡ take result other.now }

@@ -1,24 +1,24 @@
 //! The table of texts: what each refusal of a run's files means, and what to do. `docs/FAULTS.md` has the same texts.
 
-use crate::words::{Words, both, memory};
+use crate::texts::{Explanation, cause_and_remedy, memory};
 use faults::{FileFault, RowCause};
 
 /// The words of a fault of the terms, by its number.
-pub fn terms_words(number: u8) -> Words {
+pub fn terms_words(number: u8) -> Explanation {
     match number {
-        1 => both(
+        1 => cause_and_remedy(
             "`run`: the plan has no roles, so that it settles no claims",
             "add `[roles]`",
         ),
-        2 => both(
+        2 => cause_and_remedy(
             "`run`: more than 64 files",
             "run them in several parts, the balances of each from the one before",
         ),
-        3 => both(
+        3 => cause_and_remedy(
             "`run`: file P is no file of claims under this plan, for the cause F below; it is the first such",
             "correct that file",
         ),
-        _ => both(
+        _ => cause_and_remedy(
             "`run`: the balances are no such file, for the cause F below",
             "correct it",
         ),
@@ -26,30 +26,30 @@ pub fn terms_words(number: u8) -> Words {
 }
 
 /// The words of a file's fault.
-pub fn file_words(fault: FileFault) -> Words {
+pub fn file_words(fault: FileFault) -> Explanation {
     match fault {
-        FileFault::TooLarge => both(
+        FileFault::TooLarge => cause_and_remedy(
             "the file has more than 16,777,216 bytes",
             "split it; a provider may have several files",
         ),
-        FileFault::NoHeader => both(
+        FileFault::NoHeader => cause_and_remedy(
             "the file has no record: it is empty, or has empty lines alone",
             "give it a header",
         ),
-        FileFault::MissingColumn => both(
+        FileFault::MissingColumn => cause_and_remedy(
             "the header lacks a column that is needed: `claim`, `member`, `service`, `billed` and the plan's fields; of balances `member`, `met`, `oop`, `paid`, and from version 2 on `year`; of both under version 3 `family`",
             "add the column",
         ),
         FileFault::DuplicateColumn => {
-            both("the header has a needed column twice", "rename one of them")
+            cause_and_remedy("the header has a needed column twice", "rename one of them")
         }
         FileFault::OutOfMemory => memory(),
     }
 }
 
 /// The words of balances of which a record is refused; `record_words` says why it is.
-pub fn refused_record_words() -> Words {
-    both(
+pub fn refused_record_words() -> Explanation {
+    cause_and_remedy(
         "`run`: record R of the balances, behind the header, is refused for the cause C below, at column K of the header",
         "correct that record",
     )

@@ -1,6 +1,6 @@
 //! The kinds of a plan's columns, as its document has them.
 
-use crate::spot::{Column, items_behind, tables, text_at, text_behind};
+use crate::plan_node::{Column, items_after, tables, text_after, text_at};
 use toml::Value;
 
 /// A kind of values.
@@ -14,7 +14,7 @@ pub enum Kind {
 
 impl Kind {
     // The kind that a plan calls so, if it is one.
-    fn called(word: &str) -> Option<Kind> {
+    fn of_word(word: &str) -> Option<Kind> {
         match word {
             "number" => Some(Kind::Number),
             "text" => Some(Kind::Text),
@@ -33,7 +33,7 @@ impl Kind {
 /// The kind of a column, if the document tells it.
 pub fn kind_of(document: &Value, column: &Column<'_>) -> Option<Kind> {
     if !column.is_input {
-        return Kind::called(column.kind);
+        return Kind::of_word(column.kind);
     }
     match kind_of_own(document, column.name) {
         Some(kind) => Some(kind),
@@ -43,12 +43,12 @@ pub fn kind_of(document: &Value, column: &Column<'_>) -> Option<Kind> {
 
 // The kind of the field or output with this name.
 fn kind_of_own(document: &Value, name: &str) -> Option<Kind> {
-    if let Some(kind) = kind_among(items_behind(Some(document), "fields"), name) {
+    if let Some(kind) = kind_among(items_after(Some(document), "fields"), name) {
         return Some(kind);
     }
     for table in tables(document) {
-        if let Some(kind) = kind_among(items_behind(Some(table), "outputs"), name) {
-            return Some(seen_kind(table, kind));
+        if let Some(kind) = kind_among(items_after(Some(table), "outputs"), name) {
+            return Some(read_kind_of(table, kind));
         }
     }
     None
@@ -56,16 +56,16 @@ fn kind_of_own(document: &Value, name: &str) -> Option<Kind> {
 
 fn kind_among(entries: &[Value], name: &str) -> Option<Kind> {
     for entry in entries {
-        if text_behind(Some(entry), "name") == Some(name) {
-            return Kind::called(text_at(entry, &[], "kind"));
+        if text_after(Some(entry), "name") == Some(name) {
+            return Kind::of_word(text_at(entry, &[], "kind"));
         }
     }
     None
 }
 
 // The kind that later tables see of an output: a count is a number.
-fn seen_kind(table: &Value, kind: Kind) -> Kind {
-    if text_behind(Some(table), "hit") == Some("C#") {
+fn read_kind_of(table: &Value, kind: Kind) -> Kind {
+    if text_after(Some(table), "hit") == Some("C#") {
         Kind::Number
     } else {
         kind

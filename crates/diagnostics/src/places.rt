@@ -72,7 +72,7 @@ impl Places {
     }
 
     /// The offset of the value that the steps lead to from the top, or of the last one on the way that is there.
-    pub fn nearest(&self, steps: &[Step]) -> usize {
+    pub fn nearest_node(&self, steps: &[Step]) -> usize {
         let mut here = 0;
         for step in steps {
             match self.child(here, *step) {

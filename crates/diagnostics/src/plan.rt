@@ -1,9 +1,9 @@
 //! What a plan's fault means, and where it stands.
 
-use crate::here::add_amiss;
-use crate::page::Page;
-use crate::spot::{add_what, value_at, way_of};
-use crate::words::{cell_words, plan_words};
+use crate::hints::add_hints;
+use crate::message::Message;
+use crate::plan_node::{add_what, value_at, way_of};
+use crate::texts::{cell_words, plan_words};
 use faults::{CellFault, PlanCause, PlanFault};
 use std::alloc::{AllocError, Global};
 use toml::Value;
@@ -14,29 +14,29 @@ pub fn explain_plan(
     name: &str,
     text: &[u8],
     fault: &PlanFault,
-) -> Result<Page, AllocError> {
-    let mut page = Page::new(alloc);
-    add_text(alloc, &mut page, name, text, fault)?;
-    page.words(plan_words(fault.cause))?;
-    Ok(page)
+) -> Result<Message, AllocError> {
+    let mut message = Message::new(alloc);
+    add_text(alloc, &mut message, name, text, fault)?;
+    message.words(plan_words(fault.cause))?;
+    Ok(message)
 }
 
 fn add_text(
     alloc: Global,
-    page: &mut Page,
+    message: &mut Message,
     name: &str,
     text: &[u8],
     fault: &PlanFault,
 ) -> Result<(), AllocError> {
     match toml::table_from_slice(alloc, text) {
-        Ok(members) => add_place(page, name, text, &Value::Table(members), fault),
-        Err(refusal) => add_refusal(page, name, text, &refusal),
+        Ok(members) => add_place(message, name, text, &Value::Table(members), fault),
+        Err(refusal) => add_refusal(message, name, text, &refusal),
     }
 }
 
 // Where a text ceases to be a document, and why.
 fn add_refusal(
-    page: &mut Page,
+    message: &mut Message,
     name: &str,
     text: &[u8],
     refusal: &toml::de::Error,
@@ -48,12 +48,12 @@ fn add_refusal(
         Some(span) => span.start,
         None => 0,
     };
-    page.place(name, text, at)?;
-    page.line(&[refusal.message()])
+    message.place(name, text, at)?;
+    message.line(&[refusal.message()])
 }
 
 fn add_place(
-    page: &mut Page,
+    message: &mut Message,
     name: &str,
     text: &[u8],
     document: &Value,
@@ -61,22 +61,26 @@ fn add_place(
 ) -> Result<(), AllocError> {
     let way = way_of(document, fault);
     if let Ok(text) = str::from_utf8(text) {
-        page.place_of(name, text, way.as_slice())?;
+        message.place_of(name, text, way.as_slice())?;
     }
-    add_what(page, document, fault)?;
+    add_what(message, document, fault)?;
     let value = value_at(document, way.as_slice());
     if let PlanCause::Cell(cell) = fault.cause {
-        add_cell(page, value, cell)?;
+        add_cell(message, value, cell)?;
     }
-    add_amiss(page, document, value, fault)
+    add_hints(message, document, value, fault)
 }
 
 // The text of a cell or literal with a mark at its fault, and what that is.
-fn add_cell(page: &mut Page, value: Option<&Value>, fault: CellFault) -> Result<(), AllocError> {
+fn add_cell(
+    message: &mut Message,
+    value: Option<&Value>,
+    fault: CellFault,
+) -> Result<(), AllocError> {
     if let Some(value) = value
         && let Some(text) = value.as_str()
     {
-        page.mark(text, fault.at)?;
+        message.mark(text, fault.at)?;
     }
-    page.line(&[cell_words(fault.cause)])
+    message.line(&[cell_words(fault.cause)])
 }

@@ -1,7 +1,7 @@
 //! Lines and columns.
 
 ghost use Rattle.std.specs.Prelude.{take};
-ghost use Rattle.diagnostics.specs.Position.{IsBehind};
+ghost use Rattle.diagnostics.specs.Position.{IsAfter};
 
 /// A place in a text: lines and columns count from 1, columns in characters.
 #[derive(Clone, Copy, PartialEq, Eq)]
@@ -12,14 +12,14 @@ pub struct Position {
 
 /// The place of the byte at this offset; behind a shorter text, where it ends.
 pub fn position_of(text: &[u8], at: usize) -> Position
-    ensures { IsBehind (take at text.now) result }
+    ensures { IsAfter (take at text.now) result }
 {
-    position_behind(&text[..at.min(text.len())])
+    position_after(&text[..at.min(text.len())])
 }
 
 // The place right behind a text.
-fn position_behind(text: &[u8]) -> Position
-    ensures { IsBehind text.now result }
+fn position_after(text: &[u8]) -> Position
+    ensures { IsAfter text.now result }
 {
     let mut line = 1;
     let mut column = 1;

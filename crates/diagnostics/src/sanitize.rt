@@ -1,7 +1,7 @@
 //! Texts of others, as they may stand on a terminal.
 
 ghost use Rattle.std.specs.Prelude.{◌≡◌, ◌++◌, OnOk, string_bytes};
-ghost use Rattle.diagnostics.specs.Shown.{shown_as, shown_text};
+ghost use Rattle.diagnostics.specs.Printable.{shown_as, shown_text};
 
 use std::alloc::AllocError;
 
@@ -9,7 +9,7 @@ use std::alloc::AllocError;
 const REPLACEMENT: char = '\u{fffd}';
 
 /// A character as it may stand on a terminal: U+FFFD in place of a control character.
-pub fn shown(character: char) -> char
+pub fn printable(character: char) -> char
     ensures { result ≡ shown_as character }
 {
     if character.is_control() {
@@ -20,11 +20,11 @@ pub fn shown(character: char) -> char
 }
 
 /// Appends a text of others, with U+FFFD in place of each control character.
-pub fn push_shown(text: &mut String, words: &str) -> Result<(), AllocError>
+pub fn push_printable(text: &mut String, words: &str) -> Result<(), AllocError>
     ensures { OnOk result (string_bytes text.new ≡ string_bytes text.old ++ shown_text words.now) }
 {
     for character in words.chars() {
-        text.push(shown(character))?;
+        text.push(printable(character))?;
     }
     Ok(())
 }

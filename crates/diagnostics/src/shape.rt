@@ -18,7 +18,7 @@ pub enum Shape {
     /// A value without keys of its own.
     Plain,
     /// The value of a key that nothing reads.
-    Unread,
+    UnusedKey,
 }
 
 impl Shape {
@@ -58,7 +58,7 @@ impl Shape {
     }
 
     /// What stands behind a key of such a value.
-    pub fn behind(self, key: &str) -> Shape {
+    pub fn key_shape(self, key: &str) -> Shape {
         match (self, key) {
             (Shape::Plan, "fields") => Shape::Fields,
             (Shape::Plan, "tables") => Shape::Tables,
@@ -78,7 +78,7 @@ impl Shape {
             Shape::Inputs => Shape::Input,
             Shape::Outputs => Shape::Output,
             Shape::Rules => Shape::Rule,
-            Shape::Unread => Shape::Unread,
+            Shape::UnusedKey => Shape::UnusedKey,
             _ => Shape::Plain,
         }
     }

@@ -1,8 +1,8 @@
 //! What a fault of the tables means, and of which table and input.
 
-use crate::page::Page;
-use crate::spot::{add_input_words, input_way};
-use crate::words::tables_words;
+use crate::message::Message;
+use crate::plan_node::{add_input_words, input_way};
+use crate::texts::tables_words;
 use faults::Fault;
 use std::alloc::{AllocError, Global};
 use toml::Value;
@@ -13,8 +13,8 @@ pub fn explain_tables(
     name: &str,
     text: &[u8],
     fault: &Fault,
-) -> Result<Page, AllocError> {
-    let mut page = Page::new(alloc);
+) -> Result<Message, AllocError> {
+    let mut message = Message::new(alloc);
     let (table, input) = match fault {
         Fault::Outside { table, column } => (*table, *column),
         Fault::NoRule { table } | Fault::Clash { table } | Fault::Range { table } => (*table, 0),
@@ -23,35 +23,35 @@ pub fn explain_tables(
     if table > 0
         && let Ok(text) = str::from_utf8(text)
     {
-        add_table(alloc, &mut page, name, text, table, input)?;
+        add_table(alloc, &mut message, name, text, table, input)?;
     }
-    page.words(tables_words(fault))?;
-    Ok(page)
+    message.words(tables_words(fault))?;
+    Ok(message)
 }
 
 // Where the table, or its input, stands in the plan's text, if that is a document.
 fn add_table(
     alloc: Global,
-    page: &mut Page,
+    message: &mut Message,
     name: &str,
     text: &str,
     table: usize,
     input: usize,
 ) -> Result<(), AllocError> {
     match toml::table_from_str(alloc, text) {
-        Ok(members) => add_input(page, name, text, &Value::Table(members), table, input),
+        Ok(members) => add_input(message, name, text, &Value::Table(members), table, input),
         Err(_) => Ok(()),
     }
 }
 
 fn add_input(
-    page: &mut Page,
+    message: &mut Message,
     name: &str,
     text: &str,
     document: &Value,
     table: usize,
     input: usize,
 ) -> Result<(), AllocError> {
-    page.place_of(name, text, input_way(table, input).as_slice())?;
-    add_input_words(page, document, table, input)
+    message.place_of(name, text, input_way(table, input).as_slice())?;
+    add_input_words(message, document, table, input)
 }

@@ -10,7 +10,7 @@ use toml::Value;
 
 /// A key that nothing reads.
 #[derive(Drop)]
-pub struct Unread {
+pub struct UnusedKey {
     /// Where it stands first.
     pub position: Position,
     pub key: String,
@@ -19,7 +19,7 @@ pub struct Unread {
 }
 
 /// The keys of a plan's text that nothing reads, in their order; what stands below one is not told again.
-pub fn unread_keys(alloc: Global, text: &str) -> Result<Vec<Unread>, AllocError> {
+pub fn unread_keys(alloc: Global, text: &str) -> Result<Vec<UnusedKey>, AllocError> {
     let places = places_of(alloc, text)?;
     let families = keeps_families(alloc, text);
     let mut shapes: Vec<Shape> = Vec::new(alloc);
@@ -28,15 +28,15 @@ pub fn unread_keys(alloc: Global, text: &str) -> Result<Vec<Unread>, AllocError>
     for node in places.nodes() {
         let within = shapes.get(node.parent).copied();
         let shape = shape_of(node, within, families);
-        if shape == Shape::Unread
+        if shape == Shape::UnusedKey
             && let Some(within) = within
             && within.has_keys()
             && let Some(key) = &node.key
         {
-            unread.push(Unread {
+            unread.push(UnusedKey {
                 position: positions.next(node.at),
                 key: key.clone()?,
-                near: near(key.as_str(), within, families),
+                near: nearest_key(key.as_str(), within, families),
             })?;
         }
         shapes.push(shape)?;
@@ -52,16 +52,16 @@ fn shape_of(node: &Node, within: Option<Shape>, families: bool) -> Shape {
         (Some(within), Some(key)) => {
             let is_key = within.keys().contains(&key.as_str());
             if is_key || (families && within.family_keys().contains(&key.as_str())) {
-                within.behind(key.as_str())
+                within.key_shape(key.as_str())
             } else {
-                Shape::Unread
+                Shape::UnusedKey
             }
         }
     }
 }
 
 // The key of such a table that is one edit away.
-fn near(key: &str, within: Shape, families: bool) -> Option<&'static str> {
+fn nearest_key(key: &str, within: Shape, families: bool) -> Option<&'static str> {
     match near_of(key, within.keys()) {
         None if families => near_of(key, within.family_keys()),
         near => near,

@@ -12,7 +12,7 @@ use Rattle.toml.specs.Data.{Data, Items, no_items, item}
 use Rattle.dtable.specs.declared.table.InputData.{InputData}
 use Rattle.dtable.specs.declared.table.Output.{Output}
 use Rattle.dtable.specs.declared.table.Table.{Table}
-use Rattle.dtable.specs.Document.{EachBehind}
+use Rattle.dtable.specs.Document.{EachAfter}
 use Rattle.dtable.specs.NameForm.{family_names, is_among, names_taken, reserved_names}
 use Rattle.dtable.specs.Names.{accumulator_names, claim_names, names_of}
 use Rattle.dtable.specs.Plan.{PlanParts, AreDistinct, keeps_families, plan_names}
@@ -107,14 +107,14 @@ taken-push names taken other known name there =
     ]
 
 -- new names are distinct, one after another, if the names before them are in use
-distinct-behind : {A : Type 0} (name_of : A → List ℕ) (R : List (List ℕ) → Data → A → Type 0) → ((taken : List (List ℕ)) (d : Data) (x : A) → R taken d x → is_among (name_of x) taken ≡ false)
-    → (front taken : List (List ℕ)) (ds : Items) (xs : List A) → AreDistinct front → AreTaken front taken → EachBehind name_of R taken ds xs → AreDistinct (front ++ map name_of xs)
-distinct-behind name_of R fresh front taken no_items [] distinct known h = rw append-nil distinct
-distinct-behind name_of R fresh front taken no_items (x ∷ xs) distinct known h = absurd h
-distinct-behind name_of R fresh front taken (item e es) [] distinct known h = absurd h
-distinct-behind name_of R fresh front taken (item e es) (x ∷ xs) distinct known h =
+distinct-following : {A : Type 0} (name_of : A → List ℕ) (R : List (List ℕ) → Data → A → Type 0) → ((taken : List (List ℕ)) (d : Data) (x : A) → R taken d x → is_among (name_of x) taken ≡ false)
+    → (front taken : List (List ℕ)) (ds : Items) (xs : List A) → AreDistinct front → AreTaken front taken → EachAfter name_of R taken ds xs → AreDistinct (front ++ map name_of xs)
+distinct-following name_of R fresh front taken no_items [] distinct known h = rw append-nil distinct
+distinct-following name_of R fresh front taken no_items (x ∷ xs) distinct known h = absurd h
+distinct-following name_of R fresh front taken (item e es) [] distinct known h = absurd h
+distinct-following name_of R fresh front taken (item e es) (x ∷ xs) distinct known h =
     let more = distinct-push front (name_of x) distinct (not_taken front taken (name_of x) known (fresh taken e x h.0)) in
-    rw append_assoc at (distinct-behind name_of R fresh (front ++ name_of x ∷ []) (taken ++ name_of x ∷ []) es xs more (taken-push front taken (name_of x) known) h.1)
+    rw append_assoc at (distinct-following name_of R fresh (front ++ name_of x ∷ []) (taken ++ name_of x ∷ []) es xs more (taken-push front taken (name_of x) known) h.1)
 
 -- the names pass a test that computes
 all_new : List (List ℕ) → Bool
@@ -165,13 +165,13 @@ fresh-field : (taken : List (List ℕ)) (d : Data) (f : InputData) → IsField t
 fresh-field taken d f h = h.name.new
 
 -- the names that tables may read from outside are distinct
-fields-distinct : (families : Bool) (ds : Items) (fields : List InputData) → EachBehind (λ f. f.name) IsField (names_taken families) ds fields → AreDistinct (data_names (names_of families fields))
+fields-distinct : (families : Bool) (ds : Items) (fields : List InputData) → EachAfter (λ f. f.name) IsField (names_taken families) ds fields → AreDistinct (data_names (names_of families fields))
 unfolding own_first
 fields-distinct families ds fields h =
     let accumulators = data_names (accumulator_names families) in
     let claims = data_names (claim_names families) in
-    let behind = distinct-behind (λ f. f.name) IsField fresh-field (own_first families) (names_taken families) ds fields (own-distinct families) (own-taken families) h in
-    let swapped = distinct-swapped accumulators (claims ++ data_names fields) (subst AreDistinct (append_assoc accumulators claims (data_names fields)) behind) in
+    let following = distinct-following (λ f. f.name) IsField fresh-field (own_first families) (names_taken families) ds fields (own-distinct families) (own-taken families) h in
+    let swapped = distinct-swapped accumulators (claims ++ data_names fields) (subst AreDistinct (append_assoc accumulators claims (data_names fields)) following) in
     let named : data_names (names_of families fields) ≡ (claims ++ data_names fields) ++ accumulators =
     map-append (λ d. d.name) (claim_names families) (fields ++ accumulator_names families)
     ∙ ap (λ ns. claims ++ ns) (map-append (λ d. d.name) fields (accumulator_names families)) ∙ sym (append_assoc claims (data_names fields) accumulators) in
@@ -204,19 +204,19 @@ fresh-output t taken d o h = h.name.new
 
 -- the names of the outputs are distinct from these and from each other
 tables-distinct : (names : List InputData) (earlier : List Table) (ds : Items) (ts : List Table) → AreDistinct (data_names names ++ outputs_of earlier)
-    → EachBehind seen_of (IsTable names) (map seen_of earlier) ds ts → AreDistinct (data_names names ++ outputs_of (earlier ++ ts))
+    → EachAfter seen_of (IsTable names) (map seen_of earlier) ds ts → AreDistinct (data_names names ++ outputs_of (earlier ++ ts))
 tables-distinct names earlier no_items [] distinct h = rw append-nil distinct
 tables-distinct names earlier no_items (t ∷ ts) distinct h = absurd h
 tables-distinct names earlier (item d ds) [] distinct h = absurd h
 tables-distinct names earlier (item d ds) (t ∷ ts) distinct h =
     let front = data_names names ++ outputs_of earlier in
     let columns = h.0.outputs in
-    let more = distinct-behind (λ o. o.name) (IsOutput t.hit) (fresh-output t) front (taken_names names (map seen_of earlier)) columns.entries t.outputs distinct (names-taken names earlier) columns.each in
+    let more = distinct-following (λ o. o.name) (IsOutput t.hit) (fresh-output t) front (taken_names names (map seen_of earlier)) columns.entries t.outputs distinct (names-taken names earlier) columns.each in
     let here : front ++ output_names t.outputs ≡ data_names names ++ outputs_of (earlier ++ t ∷ []) =
     append_assoc (data_names names) (outputs_of earlier) (output_names t.outputs) ∙ ap (λ ns. data_names names ++ ns) (sym (outputs-more earlier t)) in
-    let behind = subst (λ ss. EachBehind seen_of (IsTable names) ss ds ts) (sym (map-append seen_of earlier (t ∷ []))) h.1 in
+    let following = subst (λ ss. EachAfter seen_of (IsTable names) ss ds ts) (sym (map-append seen_of earlier (t ∷ []))) h.1 in
     subst (λ us. AreDistinct (data_names names ++ outputs_of us)) (append_assoc earlier (t ∷ []) ts)
-    (tables-distinct names (earlier ++ t ∷ []) ds ts (subst AreDistinct here more) behind)
+    (tables-distinct names (earlier ++ t ∷ []) ds ts (subst AreDistinct here more) following)
 
 pub distinct-document : (d : Data) (p : PlanParts) → IsPlanDocument d p → AreDistinct (plan_names p)
 unfolding outputs_of

@@ -4,7 +4,7 @@ use Rattle.std.proofs.lemmas.List.{take_more, append-nil}
 use Rattle.toml.specs.Data.{Data, Items, no_items, item}
 use Rattle.toml.specs.View.{view, items_view}
 use Rattle.toml.specs.declared.value.Value.{Value}
-use Rattle.dtable.specs.Document.{item_count, Optionally, Each, EachBehind, EachUnder}
+use Rattle.dtable.specs.Document.{item_count, Optionally, Each, EachAfter, EachUnder}
 
 -- there are as many items as values
 pub item_count-view : (vs : List Value) → item_count (items_view vs) ≡ length vs
@@ -61,57 +61,57 @@ module _ {A : Type 0} (R : Data → A → Type 0) where
       ap (λ z. z ∷ xs) (once d x y h.0 k.0) ∙ ap (λ zs. y ∷ zs) (Each-same once ds xs ys h.1 k.1)
 
 module _ {A S : Type 0} (seen : A → S) (R : List S → Data → A → Type 0) where
-  EachBehind-push : (front : List S) (vs : List Value) (v : Value) (xs : List A) (x : A) → EachBehind seen R front (items_view vs) xs → R (front ++ map seen xs) (view v) x
-      → EachBehind seen R front (items_view (vs ++ v ∷ [])) (xs ++ x ∷ [])
-  EachBehind-push front [] v [] x h last = (rw (append-nil front) at last, tt)
-  EachBehind-push front [] v (y ∷ ys) x h last = absurd h
-  EachBehind-push front (w ∷ vs) v [] x h last = absurd h
-  EachBehind-push front (w ∷ vs) v (y ∷ ys) x h last = (h.0, EachBehind-push (front ++ seen y ∷ []) vs v ys x h.1 (rw append_assoc last))
+  EachAfter-push : (front : List S) (vs : List Value) (v : Value) (xs : List A) (x : A) → EachAfter seen R front (items_view vs) xs → R (front ++ map seen xs) (view v) x
+      → EachAfter seen R front (items_view (vs ++ v ∷ [])) (xs ++ x ∷ [])
+  EachAfter-push front [] v [] x h last = (rw (append-nil front) at last, tt)
+  EachAfter-push front [] v (y ∷ ys) x h last = absurd h
+  EachAfter-push front (w ∷ vs) v [] x h last = absurd h
+  EachAfter-push front (w ∷ vs) v (y ∷ ys) x h last = (h.0, EachAfter-push (front ++ seen y ∷ []) vs v ys x h.1 (rw append_assoc last))
 
   -- the list, extended by one more value
-  pub EachBehind-more : (front : List S) (vs : List Value) (k : ℕ) (v : Value) (xs : List A) (x : A) → k < length vs → v ≡ get_or vs k v
-      → EachBehind seen R front (items_view (take k vs)) xs → R (front ++ map seen xs) (view v) x → EachBehind seen R front (items_view (take (k + 1) vs)) (xs ++ x ∷ [])
-  EachBehind-more front vs k v xs x within here before last =
-      let pushed = EachBehind-push front (take k vs) v xs x before last in
+  pub EachAfter-more : (front : List S) (vs : List Value) (k : ℕ) (v : Value) (xs : List A) (x : A) → k < length vs → v ≡ get_or vs k v
+      → EachAfter seen R front (items_view (take k vs)) xs → R (front ++ map seen xs) (view v) x → EachAfter seen R front (items_view (take (k + 1) vs)) (xs ++ x ∷ [])
+  EachAfter-more front vs k v xs x within here before last =
+      let pushed = EachAfter-push front (take k vs) v xs x before last in
       let same : take (k + 1) vs ≡ take k vs ++ v ∷ [] = take_more vs k v within ∙ ap (λ w. take k vs ++ w ∷ []) (sym here) in
       rw same pushed
 
   -- a value without a meaning, in view of the elements before it, makes the list meaningless
-  pub EachBehind-none : ((front : List S) (d : Data) (x y : A) → R front d x → R front d y → seen x ≡ seen y)
+  pub EachAfter-none : ((front : List S) (d : Data) (x y : A) → R front d x → R front d y → seen x ≡ seen y)
       → (front : List S) (vs : List Value) (k : ℕ) (v : Value) (xs ys : List A) → k < length vs → v ≡ get_or vs k v
-      → EachBehind seen R front (items_view (take k vs)) xs → ((x : A) → ¬ R (front ++ map seen xs) (view v) x) → ¬ EachBehind seen R front (items_view vs) ys
-  EachBehind-none once front [] k v xs ys within here before none h = absurd (omega arith)
-  EachBehind-none once front (w ∷ vs) k v xs [] within here before none h = h
-  EachBehind-none once front (w ∷ vs) zero v [] (y ∷ ys) within here before none h = none y (rw (here, append-nil front) h.0)
-  EachBehind-none once front (w ∷ vs) zero v (x ∷ xs) (y ∷ ys) within here before none h = before
-  EachBehind-none once front (w ∷ vs) (suc k) v [] (y ∷ ys) within here before none h = before
-  EachBehind-none once front (w ∷ vs) (suc k) v (x ∷ xs) (y ∷ ys) within here before none h =
+      → EachAfter seen R front (items_view (take k vs)) xs → ((x : A) → ¬ R (front ++ map seen xs) (view v) x) → ¬ EachAfter seen R front (items_view vs) ys
+  EachAfter-none once front [] k v xs ys within here before none h = absurd (omega arith)
+  EachAfter-none once front (w ∷ vs) k v xs [] within here before none h = h
+  EachAfter-none once front (w ∷ vs) zero v [] (y ∷ ys) within here before none h = none y (rw (here, append-nil front) h.0)
+  EachAfter-none once front (w ∷ vs) zero v (x ∷ xs) (y ∷ ys) within here before none h = before
+  EachAfter-none once front (w ∷ vs) (suc k) v [] (y ∷ ys) within here before none h = before
+  EachAfter-none once front (w ∷ vs) (suc k) v (x ∷ xs) (y ∷ ys) within here before none h =
       let same = once front (view w) x y before.0 h.0 in
-      EachBehind-none once (front ++ seen x ∷ []) vs k v xs ys (omega arith) here before.1 (λ z r. none z (rw append_assoc at r)) (rw same h.1)
+      EachAfter-none once (front ++ seen x ∷ []) vs k v xs ys (omega arith) here before.1 (λ z r. none z (rw append_assoc at r)) (rw same h.1)
 
   -- a list has at most one meaning if each value does, in view of the elements before it
-  pub EachBehind-same : ((front : List S) (d : Data) (x y : A) → R front d x → R front d y → x ≡ y) → (front : List S) (ds : Items) (xs ys : List A)
-      → EachBehind seen R front ds xs → EachBehind seen R front ds ys → xs ≡ ys
-  EachBehind-same once front no_items [] [] h k = refl
-  EachBehind-same once front no_items [] (y ∷ ys) h k = absurd k
-  EachBehind-same once front no_items (x ∷ xs) ys h k = absurd h
-  EachBehind-same once front (item d ds) [] ys h k = absurd h
-  EachBehind-same once front (item d ds) (x ∷ xs) [] h k = absurd k
-  EachBehind-same once front (item d ds) (x ∷ xs) (y ∷ ys) h k =
+  pub EachAfter-same : ((front : List S) (d : Data) (x y : A) → R front d x → R front d y → x ≡ y) → (front : List S) (ds : Items) (xs ys : List A)
+      → EachAfter seen R front ds xs → EachAfter seen R front ds ys → xs ≡ ys
+  EachAfter-same once front no_items [] [] h k = refl
+  EachAfter-same once front no_items [] (y ∷ ys) h k = absurd k
+  EachAfter-same once front no_items (x ∷ xs) ys h k = absurd h
+  EachAfter-same once front (item d ds) [] ys h k = absurd h
+  EachAfter-same once front (item d ds) (x ∷ xs) [] h k = absurd k
+  EachAfter-same once front (item d ds) (x ∷ xs) (y ∷ ys) h k =
       let same : x ≡ y = once front d x y h.0 k.0 in
-      ap (λ z. z ∷ xs) same ∙ ap (λ zs. y ∷ zs) (EachBehind-same once (front ++ seen y ∷ []) ds xs ys (rw same at h.1) k.1)
+      ap (λ z. z ∷ xs) same ∙ ap (λ zs. y ∷ zs) (EachAfter-same once (front ++ seen y ∷ []) ds xs ys (rw same at h.1) k.1)
 
   -- the later values see the same if each value has one visible part
-  pub EachBehind-seen : ((front : List S) (d : Data) (x y : A) → R front d x → R front d y → seen x ≡ seen y) → (front : List S) (ds : Items) (xs ys : List A)
-      → EachBehind seen R front ds xs → EachBehind seen R front ds ys → map seen xs ≡ map seen ys
-  EachBehind-seen once front no_items [] [] h k = refl
-  EachBehind-seen once front no_items [] (y ∷ ys) h k = absurd k
-  EachBehind-seen once front no_items (x ∷ xs) ys h k = absurd h
-  EachBehind-seen once front (item d ds) [] ys h k = absurd h
-  EachBehind-seen once front (item d ds) (x ∷ xs) [] h k = absurd k
-  EachBehind-seen once front (item d ds) (x ∷ xs) (y ∷ ys) h k =
+  pub EachAfter-seen : ((front : List S) (d : Data) (x y : A) → R front d x → R front d y → seen x ≡ seen y) → (front : List S) (ds : Items) (xs ys : List A)
+      → EachAfter seen R front ds xs → EachAfter seen R front ds ys → map seen xs ≡ map seen ys
+  EachAfter-seen once front no_items [] [] h k = refl
+  EachAfter-seen once front no_items [] (y ∷ ys) h k = absurd k
+  EachAfter-seen once front no_items (x ∷ xs) ys h k = absurd h
+  EachAfter-seen once front (item d ds) [] ys h k = absurd h
+  EachAfter-seen once front (item d ds) (x ∷ xs) [] h k = absurd k
+  EachAfter-seen once front (item d ds) (x ∷ xs) (y ∷ ys) h k =
       let same : seen x ≡ seen y = once front d x y h.0 k.0 in
-      ap (λ s. s ∷ map seen xs) same ∙ ap (λ ss. seen y ∷ ss) (EachBehind-seen once (front ++ seen y ∷ []) ds xs ys (rw same at h.1) k.1)
+      ap (λ s. s ∷ map seen xs) same ∙ ap (λ ss. seen y ∷ ss) (EachAfter-seen once (front ++ seen y ∷ []) ds xs ys (rw same at h.1) k.1)
 
 module _ {C A : Type 0} (R : C → Data → A → Type 0) where
   EachUnder-push : (cs : List C) (c : C) (vs : List Value) (v : Value) (xs : List A) (x : A) → EachUnder R cs (items_view vs) xs → R c (view v) x

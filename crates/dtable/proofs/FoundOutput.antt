@@ -75,13 +75,13 @@ found name first [] origin e = cc
 found name first (t ∷ ts) origin e = found_by name first t ts origin (found name (suc first) ts origin) (position (is_single_of name) (seen_of t)) refl e
 
 -- the table and the output are within the lists, and the output has the name
-pub record StandsThere (name : List ℕ) (ts : List Table) (table column : ℕ) : Type 0 where
+pub record IsLocatedThere (name : List ℕ) (ts : List Table) (table column : ℕ) : Type 0 where
   pub table_within : table < length ts
   pub column_within : (d : Table) → column < length (get_or ts table d).outputs
   pub named : (d : Table) (o : Output) → (get_or (get_or ts table d).outputs column o).name ≡ name
 
-stands_there : (name : List ℕ) (ts : List Table) (table column : ℕ) → IsFound name 0 ts (Earlier table column) → StandsThere name ts table column
-stands_there name ts table column f =
+is_located_there : (name : List ℕ) (ts : List Table) (table column : ℕ) → IsFound name 0 ts (Earlier table column) → IsLocatedThere name ts table column
+is_located_there name ts table column f =
     let there = f.there in
     let tables : table ≡ 0 + f.table = cc in
     let columns : column ≡ f.column = cc in
@@ -95,11 +95,11 @@ stands_there name ts table column f =
       named = λ d o. rw (table_at d, get_or_from_slice_get f.t.outputs column f.output o output_at) ((bytes_eq-Decides f.output.name name).0 f.named);
     }
 
-stands_by : (name : List ℕ) (ts : List Table) (table column : ℕ) (p : Option ℕ) → or_else (option_map Given p) (earlier_origin 0 (map seen_of ts) name) ≡ Some (Earlier table column)
-    → StandsThere name ts table column
-stands_by name ts table column (Some place) e = cc
-stands_by name ts table column None e = stands_there name ts table column (found name 0 ts (Earlier table column) e)
+is_located_by : (name : List ℕ) (ts : List Table) (table column : ℕ) (p : Option ℕ) → or_else (option_map Given p) (earlier_origin 0 (map seen_of ts) name) ≡ Some (Earlier table column)
+    → IsLocatedThere name ts table column
+is_located_by name ts table column (Some place) e = cc
+is_located_by name ts table column None e = is_located_there name ts table column (found name 0 ts (Earlier table column) e)
 
 -- the output of an earlier table whose value a name refers to
-pub stands_at : (names : List InputData) (ts : List Table) (name : List ℕ) (table column : ℕ) → origin_of names (map seen_of ts) name ≡ Some (Earlier table column) → StandsThere name ts table column
-stands_at names ts name table column e = stands_by name ts table column (position (λ d. bytes_eq d.name name) names) e
+pub is_located_at : (names : List InputData) (ts : List Table) (name : List ℕ) (table column : ℕ) → origin_of names (map seen_of ts) name ≡ Some (Earlier table column) → IsLocatedThere name ts table column
+is_located_at names ts name table column e = is_located_by name ts table column (position (λ d. bytes_eq d.name name) names) e

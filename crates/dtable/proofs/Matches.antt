@@ -20,21 +20,21 @@ filter_numbers p n =
     let zero_more : 0 + n ≡ n = omega arith in
     ap (λ k. filter p (range_with_len 0 k)) (add-one n) ∙ ap (filter p) (range_more 0 n ∙ ap (λ k. range_with_len 0 n ++ k ∷ []) zero_more) ∙ filter-append p (range_with_len 0 n) (n ∷ [])
 
-standing_at : {X : Type 0} (xs : List X) (n : ℕ) (x : X) → n < length xs → x ≡ get_or xs n x → slice_get xs n ≡ Some x
-standing_at [] n x below standing = absurd (omega (arith, below))
-standing_at (y ∷ ys) zero x below standing = ap Some (sym standing)
-standing_at (y ∷ ys) (suc n) x below standing = standing_at ys n x (omega (arith, below)) standing
+present_at : {X : Type 0} (xs : List X) (n : ℕ) (x : X) → n < length xs → x ≡ get_or xs n x → slice_get xs n ≡ Some x
+present_at [] n x below present = absurd (omega (arith, below))
+present_at (y ∷ ys) zero x below present = ap Some (sym present)
+present_at (y ∷ ys) (suc n) x below present = present_at ys n x (omega (arith, below)) present
 
 rule_at : (given : List Slot) (earlier : List (List Answer)) (t : Table) (n : ℕ) (r : Rule) → n < length t.rules → r ≡ get_or t.rules n r
     → rule_matches given earlier t n ≡ cells_hold given earlier t.inputs r.cells
-rule_at given earlier t n r below standing = ap (λ found. option_map_or (λ r. cells_hold given earlier t.inputs r.cells) found false) (standing_at t.rules n r below standing)
+rule_at given earlier t n r below present = ap (λ found. option_map_or (λ r. cells_hold given earlier t.inputs r.cells) found false) (present_at t.rules n r below present)
 
 pub match_more : (given : List Slot) (earlier : List (List Answer)) (t : Table) (n : ℕ) (r : Rule) → n < length t.rules → r ≡ get_or t.rules n r → cells_hold given earlier t.inputs r.cells ≡ true
     → filter (rule_matches given earlier t) (range_with_len 0 (n + 1)) ≡ filter (rule_matches given earlier t) (range_with_len 0 n) ++ n ∷ []
-match_more given earlier t n r below standing holds =
-    filter_numbers (rule_matches given earlier t) n ∙ ap (λ b. filter (rule_matches given earlier t) (range_with_len 0 n) ++ cond b (n ∷ []) []) (rule_at given earlier t n r below standing ∙ holds)
+match_more given earlier t n r below present holds =
+    filter_numbers (rule_matches given earlier t) n ∙ ap (λ b. filter (rule_matches given earlier t) (range_with_len 0 n) ++ cond b (n ∷ []) []) (rule_at given earlier t n r below present ∙ holds)
 
 pub no_match_more : (given : List Slot) (earlier : List (List Answer)) (t : Table) (n : ℕ) (r : Rule) → n < length t.rules → r ≡ get_or t.rules n r → cells_hold given earlier t.inputs r.cells ≡ false
     → filter (rule_matches given earlier t) (range_with_len 0 (n + 1)) ≡ filter (rule_matches given earlier t) (range_with_len 0 n)
-no_match_more given earlier t n r below standing holds =
-    filter_numbers (rule_matches given earlier t) n ∙ ap (λ b. filter (rule_matches given earlier t) (range_with_len 0 n) ++ cond b (n ∷ []) []) (rule_at given earlier t n r below standing ∙ holds) ∙ append-nil (filter (rule_matches given earlier t) (range_with_len 0 n))
+no_match_more given earlier t n r below present holds =
+    filter_numbers (rule_matches given earlier t) n ∙ ap (λ b. filter (rule_matches given earlier t) (range_with_len 0 n) ++ cond b (n ∷ []) []) (rule_at given earlier t n r below present ∙ holds) ∙ append-nil (filter (rule_matches given earlier t) (range_with_len 0 n))

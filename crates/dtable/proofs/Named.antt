@@ -14,10 +14,10 @@ found_at tables i answers name = option_and_then (λ t. answer_in t.outputs answ
 
 named_here : (tables : List Table) (answers : List (List Answer)) (name : List ℕ) (i : ℕ) (d : List Answer) (t : Table) → i < length answers → slice_get tables i ≡ Some t
     → answer_of (drop i tables) (drop i answers) name ≡ or_else (found_at tables i (get_or answers i d) name) (answer_of (drop (i + 1) tables) (drop (i + 1) answers) name)
-named_here tables answers name i d t below standing =
-    ap (λ ts. answer_of ts (drop i answers) name) (drop_more tables i t (slice_get_within tables i t standing) ∙ ap (λ h. h ∷ drop (i + 1) tables) (get_or_from_slice_get tables i t t standing))
+named_here tables answers name i d t below present =
+    ap (λ ts. answer_of ts (drop i answers) name) (drop_more tables i t (slice_get_within tables i t present) ∙ ap (λ h. h ∷ drop (i + 1) tables) (get_or_from_slice_get tables i t t present))
     ∙ ap (λ more. answer_of (t ∷ drop (i + 1) tables) more name) (drop_more answers i d below)
-    ∙ ap (λ o. or_else (option_and_then (λ t. answer_in t.outputs (get_or answers i d) name) o) (answer_of (drop (i + 1) tables) (drop (i + 1) answers) name)) (sym standing)
+    ∙ ap (λ o. or_else (option_and_then (λ t. answer_in t.outputs (get_or answers i d) name) o) (answer_of (drop (i + 1) tables) (drop (i + 1) answers) name)) (sym present)
 
 named_past : (tables : List Table) (answers : List (List Answer)) (name : List ℕ) (i : ℕ) (d : List Answer) → length tables ≤ i → slice_get tables i ≡ None
     → answer_of (drop i tables) (drop i answers) name ≡ or_else (found_at tables i (get_or answers i d) name) (answer_of (drop (i + 1) tables) (drop (i + 1) answers) name)

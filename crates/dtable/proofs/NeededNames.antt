@@ -19,14 +19,14 @@ inputs_within : (names : List InputData) (earlier : List Table) (place : ℕ) (i
 inputs_within names earlier place [] known read = absurd (false≢true read)
 inputs_within names earlier place (i ∷ is) known read =
     let both = and_parts (is_known names earlier i.origin) (list_all (λ i. is_known names earlier i.origin) is) known in
-    ⊎_elim (λ here. origin_within names earlier place i.origin both.0 here) (λ behind. inputs_within names earlier place is both.1 behind)
+    ⊎_elim (λ here. origin_within names earlier place i.origin both.0 here) (λ following. inputs_within names earlier place is both.1 following)
     (or_cases (reads place i.origin) (list_any (λ i. reads place i.origin) is) read)
 
 tables_within : (names : List InputData) (earlier tables : List Table) (place : ℕ) → are_known names earlier tables ≡ true → needs tables place ≡ true → place < length names
 tables_within names earlier [] place known read = absurd (false≢true read)
 tables_within names earlier (t ∷ ts) place known read =
     let both = and_parts (list_all (λ i. is_known names earlier i.origin) t.inputs) (are_known names (earlier ++ t ∷ []) ts) known in
-    ⊎_elim (λ here. inputs_within names earlier place t.inputs both.0 here) (λ behind. tables_within names (earlier ++ t ∷ []) ts place both.1 behind)
+    ⊎_elim (λ here. inputs_within names earlier place t.inputs both.0 here) (λ following. tables_within names (earlier ++ t ∷ []) ts place both.1 following)
     (or_cases (list_any (λ i. reads place i.origin) t.inputs) (needs ts place) read)
 
 -- a name that the tables of a plan read is one of its names

@@ -26,9 +26,9 @@ abbrev pub column_named : List Output → List ℕ → Option ℕ
 column_named os name = position (λ o. bytes_eq o.name name) os
 
 -- a suffix of distinct names is distinct
-pub distinct_behind : (xs ys : List (List ℕ)) → AreDistinct (xs ++ ys) → AreDistinct ys
-distinct_behind [] ys h = h
-distinct_behind (x ∷ xs) ys h = distinct_behind xs ys (λ i j d before within. h (suc i) (suc j) d (omega (arith, before)) (omega (arith, within)))
+pub distinct_after : (xs ys : List (List ℕ)) → AreDistinct (xs ++ ys) → AreDistinct ys
+distinct_after [] ys h = h
+distinct_after (x ∷ xs) ys h = distinct_after xs ys (λ i j d before within. h (suc i) (suc j) d (omega (arith, before)) (omega (arith, within)))
 
 no_output : Output
 no_output = record { name = []; kind = kinds.Number; priority = None; fallback = None }
@@ -46,9 +46,9 @@ column_name os name c d at =
 abbrev IsNone : List ℕ → List (List ℕ) → Type 0
 IsNone name names = (k : ℕ) (d : List ℕ) → k < length names → get_or names k d ≢ name
 
-none_behind : (xs ys : List (List ℕ)) (name : List ℕ) → IsNone name (xs ++ ys) → IsNone name ys
-none_behind [] ys name none = none
-none_behind (x ∷ xs) ys name none = none_behind xs ys name (λ k d below. none (suc k) d (omega (arith, below)))
+none_after : (xs ys : List (List ℕ)) (name : List ℕ) → IsNone name (xs ++ ys) → IsNone name ys
+none_after [] ys name none = none
+none_after (x ∷ xs) ys name none = none_after xs ys name (λ k d below. none (suc k) d (omega (arith, below)))
 
 answers_by : (t : Table) (ts : List Table) (a : List Answer) (more : List (List Answer)) (name : List ℕ) → IsNone name (names_of_outputs (t ∷ ts)) → answer_of ts more name ≡ None
     → (found : Option ℕ) → column_named t.outputs name ≡ found → answer_of (t ∷ ts) (a ∷ more) name ≡ None
@@ -62,7 +62,7 @@ answers_none : (ts : List Table) (answers : List (List Answer)) (name : List ℕ
 answers_none [] answers name none = refl
 answers_none (t ∷ ts) [] name none = refl
 answers_none (t ∷ ts) (a ∷ more) name none =
-    let rest = answers_none ts more name (none_behind (names_in t) (names_of_outputs ts) name none) in
+    let rest = answers_none ts more name (none_after (names_in t) (names_of_outputs ts) name none) in
     answers_by t ts a more name none rest (column_named t.outputs name) refl
 
 -- if a column of a table has the name, no later table has it
@@ -89,7 +89,7 @@ named_at (u ∷ ts) (a ∷ more) name zero c t distinct at is =
     ap (λ (found : Option ℕ). or_else (option_and_then (slice_get a) found) (answer_of ts more name)) same
     ∙ or_else-none (slice_get a c) (answer_of ts more name) (answers_none ts more name (none_later u ts name c distinct same))
 named_at (u ∷ ts) [] name (suc i) c t distinct at is = named_end (drop i ts) name
-named_at (u ∷ ts) (a ∷ more) name (suc i) c t distinct at is = named_at ts more name i c t (distinct_behind (names_in u) (names_of_outputs ts) distinct) at is
+named_at (u ∷ ts) (a ∷ more) name (suc i) c t distinct at is = named_at ts more name i c t (distinct_after (names_in u) (names_of_outputs ts) distinct) at is
 
 -- if the table at an index does not have the name, a later table has the answer
 passed : (ts : List Table) (answers : List (List Answer)) (name : List ℕ) (i : ℕ) (t : Table) → slice_get ts i ≡ Some t → column_named t.outputs name ≡ None

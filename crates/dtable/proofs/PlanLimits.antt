@@ -9,7 +9,7 @@ use Rattle.feel_tests.specs.declared.value.Value.{Value}
 use Rattle.dtable.specs.declared.table.InputData.{InputData}
 use Rattle.dtable.specs.declared.table.Output.{Output}
 use Rattle.dtable.specs.declared.table.Table.{Table}
-use Rattle.dtable.specs.Document.{item_count, Each, EachBehind, Optionally}
+use Rattle.dtable.specs.Document.{item_count, Each, EachAfter, Optionally}
 use Rattle.dtable.specs.Limits.{priority_limit}
 use Rattle.dtable.specs.Plan.{PlanParts, IsTableWithin, IsWithin}
 use Rattle.dtable.specs.PlanFile.{ArePriorities, IsField, IsInput, IsOutput, IsPlanDocument, IsPriority, IsRule, IsTable}
@@ -22,19 +22,19 @@ each-length R no_items (x ∷ xs) h = absurd h
 each-length R (item d ds) [] h = absurd h
 each-length R (item d ds) (x ∷ xs) h = ap suc (each-length R ds xs h.1)
 
-each_behind-length : {A S : Type 0} (seen : A → S) (R : List S → Data → A → Type 0) (front : List S) (ds : Items) (xs : List A) → EachBehind seen R front ds xs → length xs ≡ item_count ds
-each_behind-length seen R front no_items [] h = refl
-each_behind-length seen R front no_items (x ∷ xs) h = absurd h
-each_behind-length seen R front (item d ds) [] h = absurd h
-each_behind-length seen R front (item d ds) (x ∷ xs) h = ap suc (each_behind-length seen R (front ++ seen x ∷ []) ds xs h.1)
+each_after-length : {A S : Type 0} (seen : A → S) (R : List S → Data → A → Type 0) (front : List S) (ds : Items) (xs : List A) → EachAfter seen R front ds xs → length xs ≡ item_count ds
+each_after-length seen R front no_items [] h = refl
+each_after-length seen R front no_items (x ∷ xs) h = absurd h
+each_after-length seen R front (item d ds) [] h = absurd h
+each_after-length seen R front (item d ds) (x ∷ xs) h = ap suc (each_after-length seen R (front ++ seen x ∷ []) ds xs h.1)
 
 -- a property of what each item denotes, in view of the elements before it
-each_behind-has : {A S : Type 0} (seen : A → S) (R : List S → Data → A → Type 0) (P : A → Type 0) → ((front : List S) (d : Data) (x : A) → R front d x → P x)
-    → (front : List S) (ds : Items) (xs : List A) → EachBehind seen R front ds xs → All P xs
-each_behind-has seen R P has front no_items [] h = All-nil P
-each_behind-has seen R P has front no_items (x ∷ xs) h = absurd h
-each_behind-has seen R P has front (item d ds) [] h = absurd h
-each_behind-has seen R P has front (item d ds) (x ∷ xs) h = All-cons P x xs (has front d x h.0) (each_behind-has seen R P has (front ++ seen x ∷ []) ds xs h.1)
+each_after-has : {A S : Type 0} (seen : A → S) (R : List S → Data → A → Type 0) (P : A → Type 0) → ((front : List S) (d : Data) (x : A) → R front d x → P x)
+    → (front : List S) (ds : Items) (xs : List A) → EachAfter seen R front ds xs → All P xs
+each_after-has seen R P has front no_items [] h = All-nil P
+each_after-has seen R P has front no_items (x ∷ xs) h = absurd h
+each_after-has seen R P has front (item d ds) [] h = absurd h
+each_after-has seen R P has front (item d ds) (x ∷ xs) h = All-cons P x xs (has front d x h.0) (each_after-has seen R P has (front ++ seen x ∷ []) ds xs h.1)
 
 -- the priority list is within its limit
 abbrev HasPriorityWithin : Output → Type 0
@@ -45,7 +45,7 @@ priority-within kind o None h = tt
 priority-within kind None (Some list) h = absurd h
 priority-within kind (Some d) (Some list) h =
     let within = h.spelled.within in
-    let count = each_behind-length (λ v. v) (IsPriority kind) [] h.entries list h.spelled.each in
+    let count = each_after-length (λ v. v) (IsPriority kind) [] h.entries list h.spelled.each in
     omega (arith, within, count)
 
 output-within : (t : Table) (taken : List (List ℕ)) (d : Data) (o : Output) → IsOutput t.hit taken d o → HasPriorityWithin o
@@ -55,7 +55,7 @@ table-within : (names : List InputData) (earlier : List (List SeenOutput)) (d : 
 table-within names earlier d t h =
     let inputs = each-length (IsInput names earlier) h.inputs.entries t.inputs h.inputs.each in
     let most_inputs = h.inputs.within in
-    let outputs = each_behind-length (λ o. o.name) (IsOutput t.hit) _ h.outputs.entries t.outputs h.outputs.each in
+    let outputs = each_after-length (λ o. o.name) (IsOutput t.hit) _ h.outputs.entries t.outputs h.outputs.each in
     let most_outputs = h.outputs.within in
     let rules = each-length (IsRule names earlier t.inputs t.outputs) h.rules.entries t.rules h.rules.each in
     let most_rules = h.rules.within in
@@ -63,17 +63,17 @@ table-within names earlier d t h =
       inputs = omega (arith, inputs, most_inputs);
       outputs = omega (arith, outputs, most_outputs);
       rules = omega (arith, rules, most_rules);
-      priorities = each_behind-has (λ o. o.name) (IsOutput t.hit) HasPriorityWithin (output-within t) _ h.outputs.entries t.outputs h.outputs.each;
+      priorities = each_after-has (λ o. o.name) (IsOutput t.hit) HasPriorityWithin (output-within t) _ h.outputs.entries t.outputs h.outputs.each;
     }
 
 pub within-document : (d : Data) (p : PlanParts) (h : IsPlanDocument d p) → IsWithin h.names.fields p.tables
 within-document d p h =
-    let fields = each_behind-length (λ f. f.name) IsField _ h.names.entries h.names.fields h.names.spelled.each in
+    let fields = each_after-length (λ f. f.name) IsField _ h.names.entries h.names.fields h.names.spelled.each in
     let most_fields = h.names.spelled.within in
-    let tables = each_behind-length seen_of (IsTable p.names) [] h.tables.entries p.tables h.tables.spelled.each in
+    let tables = each_after-length seen_of (IsTable p.names) [] h.tables.entries p.tables h.tables.spelled.each in
     let most_tables = h.tables.spelled.within in
     record {
       few_fields = omega (arith, fields, most_fields);
       few_tables = omega (arith, tables, most_tables);
-      each_table = each_behind-has seen_of (IsTable p.names) IsTableWithin (table-within p.names) [] h.tables.entries p.tables h.tables.spelled.each;
+      each_table = each_after-has seen_of (IsTable p.names) IsTableWithin (table-within p.names) [] h.tables.entries p.tables h.tables.spelled.each;
     }

@@ -12,7 +12,7 @@ use Rattle.dtable.specs.declared.table.Output.{Output}
 use Rattle.dtable.specs.declared.table.Table.{Table}
 use Rattle.feel_tests.specs.Words.{is_name_start, is_name_byte}
 use Rattle.dtable.specs.NameForm.{family_names, is_among, names_taken, reserved_names, has_name_form}
-use Rattle.dtable.specs.Plan.{gives_one, same_kind, seen_kind}
+use Rattle.dtable.specs.Plan.{gives_one, same_kind, read_kind_of}
 use Rattle.dtable.specs.Scope.{SeenOutput, seen_output, seen_of, data_names, output_names, seen_names, taken_names, is_single_of}
 
 or_assoc : (a b c : Bool) → (a || (b || c)) ≡ ((a || b) || c)
@@ -105,18 +105,18 @@ pub position-given : (name : List ℕ) (t : Table) → gives_one t.hit ≡ true 
 position-given name t one = rw (position-single name t, one)
 
 -- the kind that later tables see in a list is the declared kind
-pub seen_kind-listed : (hit : Hit) (kind : Kind) → gives_one hit ≡ false → seen_kind hit kind ≡ kind
-seen_kind-listed hits.U kind list = refl
-seen_kind-listed hits.A kind list = refl
-seen_kind-listed hits.P kind list = refl
-seen_kind-listed hits.F kind list = refl
-seen_kind-listed hits.O kind list = refl
-seen_kind-listed hits.R kind list = refl
-seen_kind-listed hits.C kind list = refl
-seen_kind-listed hits.Sum kind list = refl
-seen_kind-listed hits.Min kind list = refl
-seen_kind-listed hits.Max kind list = refl
-seen_kind-listed hits.Count kind list = cc
+pub read_kind_of-listed : (hit : Hit) (kind : Kind) → gives_one hit ≡ false → read_kind_of hit kind ≡ kind
+read_kind_of-listed hits.U kind list = refl
+read_kind_of-listed hits.A kind list = refl
+read_kind_of-listed hits.P kind list = refl
+read_kind_of-listed hits.F kind list = refl
+read_kind_of-listed hits.O kind list = refl
+read_kind_of-listed hits.R kind list = refl
+read_kind_of-listed hits.C kind list = refl
+read_kind_of-listed hits.Sum kind list = refl
+read_kind_of-listed hits.Min kind list = refl
+read_kind_of-listed hits.Max kind list = refl
+read_kind_of-listed hits.Count kind list = cc
 
 -- the output lists texts and has the name
 abbrev pub lists_text_as : List ℕ → SeenOutput → Bool
@@ -125,7 +125,7 @@ lists_text_as name o = bytes_eq o.name name && (not o.is_single && same_kind kin
 pub texts-listed : (name : List ℕ) (hit : Hit) (os : List Output) → gives_one hit ≡ false
     → list_any (λ o. bytes_eq o.name name && same_kind kinds.Text o.kind) os ≡ list_any (lists_text_as name) (map (seen_output hit) os)
 texts-listed name hit [] list = refl
-texts-listed name hit (o ∷ os) list = rw (list, seen_kind-listed hit o.kind list, texts-listed name hit os list)
+texts-listed name hit (o ∷ os) list = rw (list, read_kind_of-listed hit o.kind list, texts-listed name hit os list)
 
 and_false : (b : Bool) → (b && false) ≡ false
 and_false true = refl

@@ -10,7 +10,7 @@ use Rattle.dtable.specs.declared.roles.FamilyRoles.{FamilyRoles}
 use Rattle.dtable.specs.declared.roles.Roles.{Roles}
 use Rattle.dtable.specs.declared.roles.Source.{Source}
 use Rattle.dtable.specs.declared.roles.Source.TheVariants.{Literal, Input as InputSource, Output as OutputSource}
-use Rattle.dtable.specs.declared.reading.roles.Asked.{Asked}
+use Rattle.dtable.specs.declared.reading.roles.RoleKind.{RoleKind}
 use Rattle.dtable.specs.declared.table.InputData.{InputData}
 use Rattle.dtable.specs.declared.table.Input.{Input}
 use Rattle.dtable.specs.declared.table.Origin.TheVariants.{Given, Earlier}
@@ -21,7 +21,7 @@ use Rattle.dtable.specs.Plan.{PlanParts, has_families, keeps_families}
 use Rattle.dtable.specs.PlanFile.{IsEntry, IsCellUnder, IsRule, AreRules, IsTable, AreTables, AreTablesOf, AreNames, IsPlanDocument, SpellsOnePlan}
 use Rattle.dtable.specs.RoleFile.{IsSource, IsRole, AreFamilyRoles, AreLimits, AreRoles, AreRemarks, asked_kind}
 use Rattle.dtable.specs.Scope.{SeenOutput, seen_of, taken_names}
-use Rattle.dtable.proofs.Entries.{Optionally-same, Each-same, EachBehind-same, EachUnder-same}
+use Rattle.dtable.proofs.Entries.{Optionally-same, Each-same, EachAfter-same, EachUnder-same}
 use Rattle.dtable.proofs.ReadParts.{IsHit-same, AreNames-same, IsLiteral-same, IsCell-same, AreInputs-same, AreOutputs-same, version-same}
 
 module _ (once_cell : SpellsOneCell) (once_value : SpellsOneValue) where
@@ -58,9 +58,9 @@ module _ (once_cell : SpellsOneCell) (once_value : SpellsOneValue) where
   AreTablesOf-same names d ts us h k =
       let entries : k.entries ≡ h.entries = same_Some k.entries h.entries (sym k.written ∙ h.written) in
       let other : AreTables names h.entries us = rw entries at k.spelled in
-      EachBehind-same seen_of (IsTable names) (IsTable-same names) [] h.entries ts us h.spelled.each other.each
+      EachAfter-same seen_of (IsTable names) (IsTable-same names) [] h.entries ts us h.spelled.each other.each
 
-  IsSource-same : (names : List InputData) (earlier : List (List SeenOutput)) (ask : Asked) (text : List ℕ) (r s : Source) → IsSource names earlier ask text r → IsSource names earlier ask text s → r ≡ s
+  IsSource-same : (names : List InputData) (earlier : List (List SeenOutput)) (ask : RoleKind) (text : List ℕ) (r s : Source) → IsSource names earlier ask text r → IsSource names earlier ask text s → r ≡ s
   IsSource-same names earlier ask text (Literal v) (Literal w) h k = ap Literal (once_value (asked_kind ask) text v w h.spelled k.spelled)
   IsSource-same names earlier ask text (Literal v) (InputSource q) h k = absurd (k.0 v h.spelled)
   IsSource-same names earlier ask text (Literal v) (OutputSource m) h k = absurd (k.0 v h.spelled)
@@ -76,7 +76,7 @@ module _ (once_cell : SpellsOneCell) (once_value : SpellsOneValue) where
       let clash : Earlier h.1.table h.1.column ≡ Given q = same_Some (Earlier h.1.table h.1.column) (Given q) (sym h.1.known ∙ k.1.known) in cc
   IsSource-same names earlier ask text (OutputSource n) (OutputSource m) h k = ap OutputSource (h.1.same ∙ sym k.1.same)
 
-  IsRole-same : (names : List InputData) (earlier : List (List SeenOutput)) (ask : Asked) (key : List ℕ) (d : Data) (r s : Source) → IsRole names earlier ask key d r → IsRole names earlier ask key d s → r ≡ s
+  IsRole-same : (names : List InputData) (earlier : List (List SeenOutput)) (ask : RoleKind) (key : List ℕ) (d : Data) (r s : Source) → IsRole names earlier ask key d r → IsRole names earlier ask key d s → r ≡ s
   IsRole-same names earlier ask key d r s h k =
       let texts : k.text ≡ h.text = same_Some k.text h.text (sym k.written ∙ h.written) in
       IsSource-same names earlier ask h.text r s h.spelled (rw texts at k.spelled)

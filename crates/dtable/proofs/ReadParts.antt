@@ -20,11 +20,11 @@ use Rattle.dtable.specs.Document.{Optionally}
 use Rattle.dtable.specs.NameForm.{is_among, names_taken}
 use Rattle.dtable.specs.Names.{names_of}
 use Rattle.faults.specs.declared.plan_fault.PlanFault.{PlanFault}
-use Rattle.dtable.specs.Plan.{PlanParts, has_families, is_ranked, seen_kind}
+use Rattle.dtable.specs.Plan.{PlanParts, has_families, is_ranked, read_kind_of}
 use Rattle.dtable.specs.Reading.{Reads}
 use Rattle.dtable.specs.PlanFile.{IsEntry, is_listed, kind_word, hit_word, IsNamed, IsNewlyNamed, IsOfKind, IsLiteral, IsCellOf, IsCell, IsField, AreFields, IsInput, IsPriority, ArePriorities, IsOutput, IsHit, AreInputs, AreOutputs, IsTable, AreTables, AreNames, AreTablesOf, IsPlanDocument, IsVersionOf}
 use Rattle.dtable.specs.Scope.{SeenOutput, seen_of, seen_output, origin_of, kind_at, taken_names}
-use Rattle.dtable.proofs.Entries.{Optionally-same, Each-same, EachBehind-same, EachBehind-seen}
+use Rattle.dtable.proofs.Entries.{Optionally-same, Each-same, EachAfter-same, EachAfter-seen}
 
 -- a word denotes at most one kind, and at most one hit policy
 kind_of_word : List ℕ → Kind
@@ -94,7 +94,7 @@ IsField-same taken d f g h k =
     ap (λ n. made n f.kind) (IsField-name taken d f g h k) ∙ ap (made g.name) (IsOfKind-same d f.kind g.kind h.kind k.kind)
 
 pub AreFields-same : (families : Bool) (ds : Items) (fs gs : List InputData) → AreFields families ds fs → AreFields families ds gs → fs ≡ gs
-AreFields-same families ds fs gs h k = EachBehind-same (λ f. f.name) IsField IsField-same (names_taken families) ds fs gs h.each k.each
+AreFields-same families ds fs gs h k = EachAfter-same (λ f. f.name) IsField IsField-same (names_taken families) ds fs gs h.each k.each
 
 pub AreNames-same : (families : Bool) (document : Data) (ms ns : List InputData) → AreNames families document ms → AreNames families document ns → ms ≡ ns
 AreNames-same families document ms ns h k =
@@ -126,7 +126,7 @@ module _ (once : SpellsOneValue) where
   ArePriorities-same kind d vs ws h k =
       let entries : k.entries ≡ h.entries = same_Some k.entries h.entries (sym k.written ∙ h.written) in
       let other = rw entries at k.spelled in
-      EachBehind-same (λ v. v) (IsPriority kind) (IsPriority-same kind) [] h.entries vs ws h.spelled.each other.each
+      EachAfter-same (λ v. v) (IsPriority kind) (IsPriority-same kind) [] h.entries vs ws h.spelled.each other.each
 
   -- an entry denotes at most one output
   pub IsOutput-same : (hit : Hit) (taken : List (List ℕ)) (d : Data) (o p : Output) → IsOutput hit taken d o → IsOutput hit taken d p → o ≡ p
@@ -134,7 +134,7 @@ module _ (once : SpellsOneValue) where
       let names : o.name ≡ p.name = IsNamed-same d o.name p.name h.name.named k.name.named in
       let kinds : o.kind ≡ p.kind = IsOfKind-same d o.kind p.kind h.kind k.kind in
       let lists : o.priority ≡ p.priority = Optionally-same (ArePriorities p.kind) (ArePriorities-same p.kind) (get (codes "priority") d) o.priority p.priority (rw kinds at h.priority) k.priority in
-      let defaults : o.fallback ≡ p.fallback = Optionally-same (IsLiteral (seen_kind hit p.kind)) (IsLiteral-same (seen_kind hit p.kind)) (get (codes "default") d) o.fallback p.fallback (rw kinds at h.fallback) k.fallback in
+      let defaults : o.fallback ≡ p.fallback = Optionally-same (IsLiteral (read_kind_of hit p.kind)) (IsLiteral-same (read_kind_of hit p.kind)) (get (codes "default") d) o.fallback p.fallback (rw kinds at h.fallback) k.fallback in
       let made : List ℕ → Kind → Option (List Value) → Option Value → Output = λ n j l f. record { name = n; kind = j; priority = l; fallback = f } in
       ap (λ n. made n o.kind o.priority o.fallback) names ∙ ap (λ j. made p.name j o.priority o.fallback) kinds
       ∙ ap (λ l. made p.name p.kind l o.fallback) lists ∙ ap (made p.name p.kind p.priority) defaults
@@ -142,7 +142,7 @@ module _ (once : SpellsOneValue) where
   pub AreOutputs-same : (hit : Hit) (taken : List (List ℕ)) (d : Data) (os ps : List Output) → AreOutputs hit taken d os → AreOutputs hit taken d ps → os ≡ ps
   AreOutputs-same hit taken d os ps h k =
       let entries : k.entries ≡ h.entries = same_Some k.entries h.entries (sym k.written ∙ h.written) in
-      EachBehind-same (λ o. o.name) (IsOutput hit) (IsOutput-same hit) taken h.entries os ps h.each (rw entries at k.each)
+      EachAfter-same (λ o. o.name) (IsOutput hit) (IsOutput-same hit) taken h.entries os ps h.each (rw entries at k.each)
 
   -- the tables that an entry may denote look the same to later tables
   pub IsTable-seen : (names : List InputData) (earlier : List (List SeenOutput)) (d : Data) (t u : Table) → IsTable names earlier d t → IsTable names earlier d u → seen_of t ≡ seen_of u
@@ -152,7 +152,7 @@ module _ (once : SpellsOneValue) where
       ap (λ g. map (seen_output g) t.outputs) same_hits ∙ ap (map (seen_output u.hit)) outputs
 
   pub AreTables-seen : (names : List InputData) (ds : Items) (ts us : List Table) → AreTables names ds ts → AreTables names ds us → map seen_of ts ≡ map seen_of us
-  AreTables-seen names ds ts us h k = EachBehind-seen seen_of (IsTable names) (IsTable-seen names) [] ds ts us h.each k.each
+  AreTables-seen names ds ts us h k = EachAfter-seen seen_of (IsTable names) (IsTable-seen names) [] ds ts us h.each k.each
 
   pub AreTablesOf-seen : (names : List InputData) (document : Data) (ts us : List Table) → AreTablesOf names document ts → AreTablesOf names document us → map seen_of ts ≡ map seen_of us
   AreTablesOf-seen names document ts us h k =
@@ -225,7 +225,7 @@ IsOutput-no_priority hit taken d kind known none o h =
     let same : o.kind ≡ kind = IsOfKind-same d o.kind kind h.kind known in
     none o.priority (rw same at h.priority)
 
-pub IsOutput-no_fallback : (hit : Hit) (taken : List (List ℕ)) (d : Data) (kind : Kind) → IsOfKind d kind → ((f : Option Value) → ¬ Optionally (IsLiteral (seen_kind hit kind)) (get (codes "default") d) f) → (o : Output) → ¬ IsOutput hit taken d o
+pub IsOutput-no_fallback : (hit : Hit) (taken : List (List ℕ)) (d : Data) (kind : Kind) → IsOfKind d kind → ((f : Option Value) → ¬ Optionally (IsLiteral (read_kind_of hit kind)) (get (codes "default") d) f) → (o : Output) → ¬ IsOutput hit taken d o
 IsOutput-no_fallback hit taken d kind known none o h =
     let same : o.kind ≡ kind = IsOfKind-same d o.kind kind h.kind known in
     none o.fallback (rw same at h.fallback)

@@ -26,8 +26,8 @@ use Rattle.dtable.specs.declared.roles.FamilyRoles.{FamilyRoles}
 use Rattle.dtable.specs.declared.roles.Roles.{Roles}
 use Rattle.dtable.specs.declared.roles.Source.{Source}
 use Rattle.dtable.specs.declared.roles.Source.TheVariants.{Literal, Input as InputSource, Output as OutputSource}
-use Rattle.dtable.specs.declared.reading.roles.Asked.{Asked}
-use Rattle.dtable.specs.declared.reading.roles.Asked.TheVariants as asked
+use Rattle.dtable.specs.declared.reading.roles.RoleKind.{RoleKind}
+use Rattle.dtable.specs.declared.reading.roles.RoleKind.TheVariants as asked
 use Rattle.dtable.specs.declared.table.InputData.{InputData}
 use Rattle.dtable.specs.declared.table.Input.{Input}
 use Rattle.dtable.specs.declared.table.Origin.{Origin}
@@ -35,16 +35,16 @@ use Rattle.dtable.specs.declared.table.Origin.TheVariants.{Given, Earlier}
 use Rattle.dtable.specs.declared.table.Output.{Output}
 use Rattle.dtable.specs.declared.table.Rule.{Rule}
 use Rattle.dtable.specs.declared.table.Table.{Table}
-use Rattle.dtable.specs.Document.{optional_array_at, Optionally, Each, EachBehind, EachUnder}
+use Rattle.dtable.specs.Document.{optional_array_at, Optionally, Each, EachAfter, EachUnder}
 use Rattle.dtable.specs.Environment.{or_else}
-use Rattle.dtable.specs.Plan.{PlanParts, IsPlan, same_kind, has_kind, gives_one, seen_kind, is_known, are_known, entry_fits, rule_fits, is_ranked, meets_demands, default_fits, some_output, source_fits, remarks_fit, family_roles_fit, roles_fit, has_families, keeps_families}
+use Rattle.dtable.specs.Plan.{PlanParts, IsPlan, same_kind, has_kind, gives_one, read_kind_of, is_known, are_known, entry_fits, rule_fits, is_ranked, satisfies_constraints, default_fits, some_output, source_fits, remarks_fit, family_roles_fit, roles_fit, has_families, keeps_families}
 use Rattle.dtable.specs.PlanFile.{IsLiteral, IsEntry, IsInput, IsOutput, IsRule, IsCellUnder, AreFields, AreNames, IsTable, AreTables, AreTablesOf, IsPlanDocument, IsPlanText, IsVersionOf}
 use Rattle.dtable.specs.RoleFile.{IsSource, IsRole, AreFamilyRoles, AreRoles, AreRemarks, asked_kind, lists_texts}
 use Rattle.dtable.specs.Scope.{SeenOutput, seen_output, seen_of, earlier_origin, kind_at}
 use Rattle.dtable.proofs.DistinctNames.{distinct-document}
 use Rattle.dtable.proofs.FoundOutput.{IsFound, found}
 use Rattle.dtable.proofs.PlanLimits.{within-document}
-use Rattle.dtable.proofs.ReadNames.{seen_kind-listed}
+use Rattle.dtable.proofs.ReadNames.{read_kind_of-listed}
 use Rattle.dtable.proofs.ReadParts.{AreTablesOf-seen, names-same, version-same}
 
 is_true : (b : Bool) → b ≡ true → IsTrue b
@@ -78,12 +78,12 @@ each_all R test pass no_items (x ∷ xs) h = absurd h
 each_all R test pass (item d ds) [] h = absurd h
 each_all R test pass (item d ds) (x ∷ xs) h = both (test x) (list_all test xs) (pass d x h.0) (each_all R test pass ds xs h.1)
 
-each_behind_all : {A S : Type 0} (seen : A → S) (R : List S → Data → A → Type 0) (test : A → Bool) → ((front : List S) (d : Data) (x : A) → R front d x → test x ≡ true)
-    → (front : List S) (ds : Items) (xs : List A) → EachBehind seen R front ds xs → list_all test xs ≡ true
-each_behind_all seen R test pass front no_items [] h = refl
-each_behind_all seen R test pass front no_items (x ∷ xs) h = absurd h
-each_behind_all seen R test pass front (item d ds) [] h = absurd h
-each_behind_all seen R test pass front (item d ds) (x ∷ xs) h = both (test x) (list_all test xs) (pass front d x h.0) (each_behind_all seen R test pass (front ++ seen x ∷ []) ds xs h.1)
+each_after_all : {A S : Type 0} (seen : A → S) (R : List S → Data → A → Type 0) (test : A → Bool) → ((front : List S) (d : Data) (x : A) → R front d x → test x ≡ true)
+    → (front : List S) (ds : Items) (xs : List A) → EachAfter seen R front ds xs → list_all test xs ≡ true
+each_after_all seen R test pass front no_items [] h = refl
+each_after_all seen R test pass front no_items (x ∷ xs) h = absurd h
+each_after_all seen R test pass front (item d ds) [] h = absurd h
+each_after_all seen R test pass front (item d ds) (x ∷ xs) h = both (test x) (list_all test xs) (pass front d x h.0) (each_after_all seen R test pass (front ++ seen x ∷ []) ds xs h.1)
 
 each_under_length : {C A : Type 0} (R : C → Data → A → Type 0) (cs : List C) (ds : Items) (xs : List A) → EachUnder R cs ds xs → length xs ≡ length cs
 each_under_length R [] no_items [] h = refl
@@ -116,8 +116,8 @@ rule_fits-of names earlier t d r h =
 rules_fit : (names : List InputData) (earlier : List (List SeenOutput)) (d : Data) (t : Table) → IsTable names earlier d t → list_all (rule_fits t) t.rules ≡ true
 rules_fit names earlier d t h = each_all (IsRule names earlier t.inputs t.outputs) (rule_fits t) (rule_fits-of names earlier t) h.rules.entries t.rules h.rules.each
 
-demands_met : (names : List InputData) (earlier : List (List SeenOutput)) (d : Data) (t : Table) → IsTable names earlier d t → meets_demands t.hit t.outputs ≡ true
-demands_met names earlier d t h = true_of (meets_demands t.hit t.outputs) h.demands
+demands_met : (names : List InputData) (earlier : List (List SeenOutput)) (d : Data) (t : Table) → IsTable names earlier d t → satisfies_constraints t.hit t.outputs ≡ true
+demands_met names earlier d t h = true_of (satisfies_constraints t.hit t.outputs) h.demands
 
 -- defaults fit
 default_ok : (k : Kind) (o : Option Data) (f : Option Value) → Optionally (IsLiteral k) o f → option_map_or (has_kind k) f true ≡ true
@@ -127,10 +127,10 @@ default_ok k (Some d) None h = absurd h
 default_ok k (Some d) (Some v) h = has_kind-of k v h.of_kind
 
 default_fits-of : (hit : Hit) (taken : List (List ℕ)) (d : Data) (o : Output) → IsOutput hit taken d o → default_fits hit o ≡ true
-default_fits-of hit taken d o h = default_ok (seen_kind hit o.kind) (get (codes "default") d) o.fallback h.fallback
+default_fits-of hit taken d o h = default_ok (read_kind_of hit o.kind) (get (codes "default") d) o.fallback h.fallback
 
 defaults_fit : (names : List InputData) (earlier : List (List SeenOutput)) (d : Data) (t : Table) → IsTable names earlier d t → list_all (default_fits t.hit) t.outputs ≡ true
-defaults_fit names earlier d t h = each_behind_all (λ o. o.name) (IsOutput t.hit) (default_fits t.hit) (default_fits-of t.hit) _ h.outputs.entries t.outputs h.outputs.each
+defaults_fit names earlier d t h = each_after_all (λ o. o.name) (IsOutput t.hit) (default_fits t.hit) (default_fits-of t.hit) _ h.outputs.entries t.outputs h.outputs.each
 
 -- origins are known
 known_earlier : (names : List InputData) (ts : List Table) (name : List ℕ) (origin : Origin) → IsFound name 0 ts origin → is_known names ts origin ≡ true
@@ -153,7 +153,7 @@ known_origin names ts d i h = known_by names ts i.name i.origin (position (λ e.
 known_inputs : (names : List InputData) (ts : List Table) (d : Data) (t : Table) → IsTable names (map seen_of ts) d t → list_all (λ i. is_known names ts i.origin) t.inputs ≡ true
 known_inputs names ts d t h = each_all (IsInput names (map seen_of ts)) (λ i. is_known names ts i.origin) (known_origin names ts) h.inputs.entries t.inputs h.inputs.each
 
-known_tables : (names : List InputData) (earlier : List Table) (ds : Items) (ts : List Table) → EachBehind seen_of (IsTable names) (map seen_of earlier) ds ts → are_known names earlier ts ≡ true
+known_tables : (names : List InputData) (earlier : List Table) (ds : Items) (ts : List Table) → EachAfter seen_of (IsTable names) (map seen_of earlier) ds ts → are_known names earlier ts ≡ true
 known_tables names earlier no_items [] h = refl
 known_tables names earlier no_items (t ∷ ts) h = absurd h
 known_tables names earlier (item d ds) [] h = absurd h
@@ -177,47 +177,47 @@ given_fits : (kind : Kind) (o : Option InputData) → option_map (λ d. d.kind) 
 given_fits kind None e = cc
 given_fits kind (Some d) e = rw (same_Some d.kind kind e) (same_kind-refl kind)
 
-found_kind : (names : List InputData) (ts : List Table) (name : List ℕ) (origin : Origin) (kind : Kind) → (f : IsFound name 0 ts origin) → kind_at names (map seen_of ts) (Earlier f.table f.column) ≡ Some kind → seen_kind f.t.hit f.output.kind ≡ kind
+found_kind : (names : List InputData) (ts : List Table) (name : List ℕ) (origin : Origin) (kind : Kind) → (f : IsFound name 0 ts origin) → kind_at names (map seen_of ts) (Earlier f.table f.column) ≡ Some kind → read_kind_of f.t.hit f.output.kind ≡ kind
 found_kind names ts name origin kind f k =
     let tables : slice_get (map seen_of ts) f.table ≡ Some (seen_of f.t) = slice_get-map seen_of ts f.table ∙ ap (option_map seen_of) f.t_at in
     let outputs : slice_get (seen_of f.t) f.column ≡ Some (seen_output f.t.hit f.output) = slice_get-map (seen_output f.t.hit) f.t.outputs f.column ∙ ap (option_map (seen_output f.t.hit)) f.output_at in
-    same_Some (seen_kind f.t.hit f.output.kind) kind (rw (tables, outputs) at k)
+    same_Some (read_kind_of f.t.hit f.output.kind) kind (rw (tables, outputs) at k)
 
 found_fits : (names : List InputData) (ts : List Table) (name : List ℕ) (kind : Kind) (table column : ℕ) → IsFound name 0 ts (Earlier table column) → kind_at names (map seen_of ts) (Earlier table column) ≡ Some kind
-    → some_output (λ hit o. gives_one hit && same_kind kind (seen_kind hit o.kind)) ts name ≡ true
+    → some_output (λ hit o. gives_one hit && same_kind kind (read_kind_of hit o.kind)) ts name ≡ true
 found_fits names ts name kind table column f k =
     let there = f.there in
     let tables : table ≡ 0 + f.table = cc in
     let columns : column ≡ f.column = cc in
     let place : table ≡ f.table = omega (arith, tables) in
-    let kinds_same : seen_kind f.t.hit f.output.kind ≡ kind = found_kind names ts name (Earlier table column) kind f (rw (place, columns) at k) in
-    let fits : same_kind kind (seen_kind f.t.hit f.output.kind) ≡ true = rw kinds_same (same_kind-refl kind) in
-    any_at (λ t. list_any (λ o. bytes_eq o.name name && (gives_one t.hit && same_kind kind (seen_kind t.hit o.kind))) t.outputs) ts f.table f.t f.t_at
-    (any_at (λ o. bytes_eq o.name name && (gives_one f.t.hit && same_kind kind (seen_kind f.t.hit o.kind))) f.t.outputs f.column f.output f.output_at
-    (both (bytes_eq f.output.name name) (gives_one f.t.hit && same_kind kind (seen_kind f.t.hit f.output.kind)) f.named
-    (both (gives_one f.t.hit) (same_kind kind (seen_kind f.t.hit f.output.kind)) f.one fits)))
+    let kinds_same : read_kind_of f.t.hit f.output.kind ≡ kind = found_kind names ts name (Earlier table column) kind f (rw (place, columns) at k) in
+    let fits : same_kind kind (read_kind_of f.t.hit f.output.kind) ≡ true = rw kinds_same (same_kind-refl kind) in
+    any_at (λ t. list_any (λ o. bytes_eq o.name name && (gives_one t.hit && same_kind kind (read_kind_of t.hit o.kind))) t.outputs) ts f.table f.t f.t_at
+    (any_at (λ o. bytes_eq o.name name && (gives_one f.t.hit && same_kind kind (read_kind_of f.t.hit o.kind))) f.t.outputs f.column f.output f.output_at
+    (both (bytes_eq f.output.name name) (gives_one f.t.hit && same_kind kind (read_kind_of f.t.hit f.output.kind)) f.named
+    (both (gives_one f.t.hit) (same_kind kind (read_kind_of f.t.hit f.output.kind)) f.one fits)))
 
 output_fits_by : (names : List InputData) (ts : List Table) (name : List ℕ) (kind : Kind) (table column : ℕ) (p : Option ℕ)
     → or_else (option_map Given p) (earlier_origin 0 (map seen_of ts) name) ≡ Some (Earlier table column) → kind_at names (map seen_of ts) (Earlier table column) ≡ Some kind
-    → some_output (λ hit o. gives_one hit && same_kind kind (seen_kind hit o.kind)) ts name ≡ true
+    → some_output (λ hit o. gives_one hit && same_kind kind (read_kind_of hit o.kind)) ts name ≡ true
 output_fits_by names ts name kind table column (Some place) e k = cc
 output_fits_by names ts name kind table column None e k = found_fits names ts name kind table column (found name 0 ts (Earlier table column) e) k
 
-source_by : (p : PlanParts) (ask : Asked) (text : List ℕ) (source : Source) → IsSource p.names (map seen_of p.tables) ask text source → source_fits p.names p.tables (asked_kind ask) source ≡ true
+source_by : (p : PlanParts) (ask : RoleKind) (text : List ℕ) (source : Source) → IsSource p.names (map seen_of p.tables) ask text source → source_fits p.names p.tables (asked_kind ask) source ≡ true
 source_by p ask text (Literal value) h = has_kind-of (asked_kind ask) value h.of_kind
 source_by p ask text (InputSource place) h = given_fits (asked_kind ask) (slice_get p.names place) h.1.of_kind
 source_by p ask text (OutputSource name) h =
     rw h.1.same (output_fits_by p.names p.tables text (asked_kind ask) h.1.table h.1.column (position (λ d. bytes_eq d.name text) p.names) h.1.known h.1.of_kind)
 
-source_ok : (p : PlanParts) (ask : Asked) (key : List ℕ) (d : Data) (source : Source) → IsRole p.names (map seen_of p.tables) ask key d source → source_fits p.names p.tables (asked_kind ask) source ≡ true
+source_ok : (p : PlanParts) (ask : RoleKind) (key : List ℕ) (d : Data) (source : Source) → IsRole p.names (map seen_of p.tables) ask key d source → source_fits p.names p.tables (asked_kind ask) source ≡ true
 source_ok p ask key d source h = source_by p ask h.text source h.spelled
 
 -- remarks fit
-text_same : (hit : Hit) (kind : Kind) → (not (gives_one hit) && same_kind kinds.Text (seen_kind hit kind)) ≡ (not (gives_one hit) && same_kind kinds.Text kind)
+text_same : (hit : Hit) (kind : Kind) → (not (gives_one hit) && same_kind kinds.Text (read_kind_of hit kind)) ≡ (not (gives_one hit) && same_kind kinds.Text kind)
 text_same hit kind =
     elim (cases_Bool (gives_one hit)) [
       | inl one ↦ rw one
-      | inr list ↦ rw (seen_kind-listed hit kind list)
+      | inr list ↦ rw (read_kind_of-listed hit kind list)
     ]
 
 texts_same : (name : List ℕ) (hit : Hit) (os : List Output)
@@ -272,9 +272,9 @@ IsPlan-of d p h =
       limits = within-document d p h;
       distinct = distinct-document d p h;
       origins = is_true (are_known p.names [] p.tables) (known_tables p.names [] h.tables.entries p.tables tables);
-      rules = is_true (list_all (λ t. list_all (rule_fits t) t.rules) p.tables) (each_behind_all seen_of (IsTable p.names) (λ t. list_all (rule_fits t) t.rules) (rules_fit p.names) [] h.tables.entries p.tables tables);
-      demands = is_true (list_all (λ t. meets_demands t.hit t.outputs) p.tables) (each_behind_all seen_of (IsTable p.names) (λ t. meets_demands t.hit t.outputs) (demands_met p.names) [] h.tables.entries p.tables tables);
-      defaults = is_true (list_all (λ t. list_all (default_fits t.hit) t.outputs) p.tables) (each_behind_all seen_of (IsTable p.names) (λ t. list_all (default_fits t.hit) t.outputs) (defaults_fit p.names) [] h.tables.entries p.tables tables);
+      rules = is_true (list_all (λ t. list_all (rule_fits t) t.rules) p.tables) (each_after_all seen_of (IsTable p.names) (λ t. list_all (rule_fits t) t.rules) (rules_fit p.names) [] h.tables.entries p.tables tables);
+      demands = is_true (list_all (λ t. satisfies_constraints t.hit t.outputs) p.tables) (each_after_all seen_of (IsTable p.names) (λ t. satisfies_constraints t.hit t.outputs) (demands_met p.names) [] h.tables.entries p.tables tables);
+      defaults = is_true (list_all (λ t. list_all (default_fits t.hit) t.outputs) p.tables) (each_after_all seen_of (IsTable p.names) (λ t. list_all (default_fits t.hit) t.outputs) (defaults_fit p.names) [] h.tables.entries p.tables tables);
       roles = is_true (option_map_or (roles_fit p) p.roles true) (roles_ok p (get (codes "roles") d) p.roles h.roles);
     }
 

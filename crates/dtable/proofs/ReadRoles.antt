@@ -12,7 +12,7 @@ use Rattle.dtable.specs.declared.roles.FamilyRoles.{FamilyRoles}
 use Rattle.dtable.specs.declared.roles.Roles.{Roles}
 use Rattle.dtable.specs.declared.roles.Source.{Source}
 use Rattle.dtable.specs.declared.roles.Source.TheVariants.{Literal, Input, Output}
-use Rattle.dtable.specs.declared.reading.roles.Asked.{Asked}
+use Rattle.dtable.specs.declared.reading.roles.RoleKind.{RoleKind}
 use Rattle.dtable.specs.declared.table.InputData.{InputData}
 use Rattle.dtable.specs.declared.table.Origin.{Origin}
 use Rattle.dtable.specs.declared.table.Origin.TheVariants.{Given, Earlier}
@@ -38,34 +38,34 @@ module _ (names : List InputData) (earlier : List (List SeenOutput)) where
       other (subst (λ o. kind_at names earlier o ≡ Some kind) same h.of_kind)
 
   -- a string that is not a literal
-  pub source_named : (asked : Asked) (text : List ℕ) → SpellsNone (asked_kind asked) text → (s : Source) → IsNamedSource names earlier (asked_kind asked) text s → IsSource names earlier asked text s
+  pub source_named : (asked : RoleKind) (text : List ℕ) → SpellsNone (asked_kind asked) text → (s : Source) → IsNamedSource names earlier (asked_kind asked) text s → IsSource names earlier asked text s
   source_named asked text none (Literal value) h = absurd h
   source_named asked text none (Input place) h = (none, h)
   source_named asked text none (Output name) h = (none, h)
 
-  pub named_source : (asked : Asked) (text : List ℕ) → SpellsNone (asked_kind asked) text → (s : Source) → IsSource names earlier asked text s → IsNamedSource names earlier (asked_kind asked) text s
+  pub named_source : (asked : RoleKind) (text : List ℕ) → SpellsNone (asked_kind asked) text → (s : Source) → IsSource names earlier asked text s → IsNamedSource names earlier (asked_kind asked) text s
   named_source asked text none (Literal value) h = none value h.spelled
   named_source asked text none (Input place) h = h.1
   named_source asked text none (Output name) h = h.1
 
   -- a string that is a literal
-  literal_unmet : SpellsOneValue → (asked : Asked) (text : List ℕ) (value : Value) → SpellsValue (asked_kind asked) text value → ¬ Meets asked value → (s : Source) → ¬ IsSource names earlier asked text s
+  literal_unmet : SpellsOneValue → (asked : RoleKind) (text : List ℕ) (value : Value) → SpellsValue (asked_kind asked) text value → ¬ Meets asked value → (s : Source) → ¬ IsSource names earlier asked text s
   literal_unmet once asked text value spelled unmet (Literal other) h =
       let same : other ≡ value = once (asked_kind asked) text other value h.spelled spelled in
       unmet (rw same at h.meets)
   literal_unmet once asked text value spelled unmet (Input place) h = h.0 value spelled
   literal_unmet once asked text value spelled unmet (Output name) h = h.0 value spelled
 
-  pub source_literal : SpellsOneValue → (asked : Asked) (text : List ℕ) (value : Value) → SpellsValue (asked_kind asked) text value → kind_of value ≡ asked_kind asked → (r : Result Source PlanFault)
+  pub source_literal : SpellsOneValue → (asked : RoleKind) (text : List ℕ) (value : Value) → SpellsValue (asked_kind asked) text value → kind_of value ≡ asked_kind asked → (r : Result Source PlanFault)
       → IfOk r (λ s. s ≡ Literal value) → OnOk r (Meets asked value) → OnErr r (¬ Meets asked value) → Reads (IsSource names earlier asked text) r
   source_literal once asked text value spelled kind (Ok s) same meets unmet = rw same (record { spelled = spelled; of_kind = kind; meets = meets })
   source_literal once asked text value spelled kind (Err fault) same meets unmet = λ memory. literal_unmet once asked text value spelled unmet
 
   -- the string at a role's key
-  pub role_made : (asked : Asked) (key : List ℕ) (d : Data) (text : List ℕ) → string_at key d ≡ Some text → (s : Source) → IsSource names earlier asked text s → IsRole names earlier asked key d s
+  pub role_made : (asked : RoleKind) (key : List ℕ) (d : Data) (text : List ℕ) → string_at key d ≡ Some text → (s : Source) → IsSource names earlier asked text s → IsRole names earlier asked key d s
   role_made asked key d text read s h = record { text = text; written = read; spelled = h }
 
-  pub role_source : (asked : Asked) (key : List ℕ) (d : Data) (text : List ℕ) → string_at key d ≡ Some text → (s : Source) → IsRole names earlier asked key d s → IsSource names earlier asked text s
+  pub role_source : (asked : RoleKind) (key : List ℕ) (d : Data) (text : List ℕ) → string_at key d ≡ Some text → (s : Source) → IsRole names earlier asked key d s → IsSource names earlier asked text s
   role_source asked key d text read s h =
       let same : h.text ≡ text = same_Some h.text text (sym h.written ∙ read) in
       rw same at h.spelled

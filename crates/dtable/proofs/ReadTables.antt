@@ -15,11 +15,11 @@ use Rattle.dtable.specs.declared.table.Input.{Input}
 use Rattle.dtable.specs.declared.table.Output.{Output}
 use Rattle.dtable.specs.declared.table.Rule.{Rule}
 use Rattle.dtable.specs.declared.table.Table.{Table}
-use Rattle.dtable.specs.Document.{array_at, item_count, EachBehind}
-use Rattle.dtable.specs.Plan.{meets_demands}
+use Rattle.dtable.specs.Document.{array_at, item_count, EachAfter}
+use Rattle.dtable.specs.Plan.{satisfies_constraints}
 use Rattle.dtable.specs.PlanFile.{IsPriority, ArePriorityEntries, IsRow, IsHit, IsInput, IsOutput, IsRule, AreInputs, AreOutputs, AreRules, IsTable, AreTables}
 use Rattle.dtable.specs.Scope.{SeenOutput, seen_of, taken_names}
-use Rattle.dtable.proofs.Entries.{Each-none, EachBehind-more, EachBehind-none, EachUnder-none, EachUnder-count}
+use Rattle.dtable.proofs.Entries.{Each-none, EachAfter-more, EachAfter-none, EachUnder-none, EachUnder-count}
 use Rattle.dtable.proofs.ReadParts.{IsPriority-same, IsNamed-same, IsHit-same, AreInputs-same, AreOutputs-same, IsTable-seen}
 
 -- an entry that is not an input leaves no inputs
@@ -34,20 +34,20 @@ IsOutput-name hit taken d o p h k = IsNamed-same d o.name p.name h.name.named k.
 
 -- an entry that is not an output, in view of the outputs before it, leaves no outputs
 pub AreOutputs-none : (hit : Hit) (taken : List (List ℕ)) (entry : Data) (vs : List Entry) (k : ℕ) (v : Entry) (os : List Output) → array_at (codes "outputs") entry ≡ Some (items_view vs) → k < length vs → v ≡ get_or vs k v
-    → EachBehind (λ o. o.name) (IsOutput hit) taken (items_view (take k vs)) os → ((o : Output) → ¬ IsOutput hit (taken ++ map (λ p. p.name) os) (view v) o) → (ps : List Output) → ¬ AreOutputs hit taken entry ps
+    → EachAfter (λ o. o.name) (IsOutput hit) taken (items_view (take k vs)) os → ((o : Output) → ¬ IsOutput hit (taken ++ map (λ p. p.name) os) (view v) o) → (ps : List Output) → ¬ AreOutputs hit taken entry ps
 AreOutputs-none hit taken entry vs k v os read within here before none ps h =
     let same : h.entries ≡ items_view vs = same_Some h.entries (items_view vs) (sym h.written ∙ read) in
-    EachBehind-none (λ o. o.name) (IsOutput hit) (IsOutput-name hit) taken vs k v os ps within here before none (rw same at h.each)
+    EachAfter-none (λ o. o.name) (IsOutput hit) (IsOutput-name hit) taken vs k v os ps within here before none (rw same at h.each)
 
 -- a priority list, extended by one value, and an entry that is not a priority
-pub ArePriorities-more : (kind : Kind) (vs : List Entry) (k : ℕ) (v : Entry) (list : List Value) (w : Value) → k < length vs → v ≡ get_or vs k v → EachBehind (λ x. x) (IsPriority kind) [] (items_view (take k vs)) list
-    → IsPriority kind list (view v) w → EachBehind (λ x. x) (IsPriority kind) [] (items_view (take (k + 1) vs)) (list ++ w ∷ [])
-ArePriorities-more kind vs k v list w within here before last = EachBehind-more (λ x. x) (IsPriority kind) [] vs k v list w within here before (rw (map-id list) last)
+pub ArePriorities-more : (kind : Kind) (vs : List Entry) (k : ℕ) (v : Entry) (list : List Value) (w : Value) → k < length vs → v ≡ get_or vs k v → EachAfter (λ x. x) (IsPriority kind) [] (items_view (take k vs)) list
+    → IsPriority kind list (view v) w → EachAfter (λ x. x) (IsPriority kind) [] (items_view (take (k + 1) vs)) (list ++ w ∷ [])
+ArePriorities-more kind vs k v list w within here before last = EachAfter-more (λ x. x) (IsPriority kind) [] vs k v list w within here before (rw (map-id list) last)
 
-pub ArePriorities-none : SpellsOneValue → (kind : Kind) (vs : List Entry) (k : ℕ) (v : Entry) (list more : List Value) → k < length vs → v ≡ get_or vs k v → EachBehind (λ x. x) (IsPriority kind) [] (items_view (take k vs)) list
+pub ArePriorities-none : SpellsOneValue → (kind : Kind) (vs : List Entry) (k : ℕ) (v : Entry) (list more : List Value) → k < length vs → v ≡ get_or vs k v → EachAfter (λ x. x) (IsPriority kind) [] (items_view (take k vs)) list
     → ((w : Value) → ¬ IsPriority kind list (view v) w) → ¬ ArePriorityEntries kind (items_view vs) more
 ArePriorities-none once kind vs k v list more within here before none h =
-    EachBehind-none (λ x. x) (IsPriority kind) (IsPriority-same once kind) [] vs k v list more within here before (λ w p. none w (rw (map-id list) at p)) h.each
+    EachAfter-none (λ x. x) (IsPriority kind) (IsPriority-same once kind) [] vs k v list more within here before (λ w p. none w (rw (map-id list) at p)) h.each
 
 -- an entry that is not a rule leaves no rules
 pub AreRules-none : (names : List InputData) (earlier : List (List SeenOutput)) (is : List Input) (os : List Output) (entry : Data) (vs : List Entry) (k : ℕ) (v : Entry) → array_at (codes "rules") entry ≡ Some (items_view vs) → k < length vs → v ≡ get_or vs k v
@@ -85,11 +85,11 @@ module _ (once_value : SpellsOneValue) where
   same_outputs names earlier d hit is os t k h hits = AreOutputs-same once_value hit (taken_names names earlier) d t.outputs os (rw hits at h.outputs) k.outputs
 
   pub IsTable-unmet : (names : List InputData) (earlier : List (List SeenOutput)) (d : Data) (hit : Hit) (is : List Input) (os : List Output) → HasColumns names earlier d hit is os
-      → meets_demands hit os ≡ false → (t : Table) → ¬ IsTable names earlier d t
+      → satisfies_constraints hit os ≡ false → (t : Table) → ¬ IsTable names earlier d t
   IsTable-unmet names earlier d hit is os k unmet t h =
       let hits : t.hit ≡ hit = IsHit-same (get (codes "hit") d) t.hit hit h.hit k.word in
       let outputs : t.outputs ≡ os = same_outputs names earlier d hit is os t k h hits in
-      let met : meets_demands hit os ≡ true = rw (hits, outputs) at h.demands in
+      let met : satisfies_constraints hit os ≡ true = rw (hits, outputs) at h.demands in
       false≢true (sym unmet ∙ met)
 
   pub IsTable-no_rules : SpellsOneCell → (names : List InputData) (earlier : List (List SeenOutput)) (d : Data) (hit : Hit) (is : List Input) (os : List Output) → HasColumns names earlier d hit is os
@@ -102,6 +102,6 @@ module _ (once_value : SpellsOneValue) where
 
   -- an entry that is not a table, in view of the tables before it, leaves no tables
   pub AreTables-none : (names : List InputData) (vs : List Entry) (k : ℕ) (v : Entry) (ts us : List Table) → k < length vs → v ≡ get_or vs k v
-      → EachBehind seen_of (IsTable names) [] (items_view (take k vs)) ts → ((t : Table) → ¬ IsTable names (map seen_of ts) (view v) t) → ¬ AreTables names (items_view vs) us
+      → EachAfter seen_of (IsTable names) [] (items_view (take k vs)) ts → ((t : Table) → ¬ IsTable names (map seen_of ts) (view v) t) → ¬ AreTables names (items_view vs) us
   AreTables-none names vs k v ts us within here before none h =
-      EachBehind-none seen_of (IsTable names) (IsTable-seen once_value names) [] vs k v ts us within here before none h.each
+      EachAfter-none seen_of (IsTable names) (IsTable-seen once_value names) [] vs k v ts us within here before none h.each

@@ -10,7 +10,7 @@ use Rattle.std.proofs.lemmas.List.Elements.{filter_map-append}
 use Rattle.std.proofs.lemmas.List.Sums.{fold-append}
 use Rattle.feel_tests.specs.declared.value.Value.{Value}
 use Rattle.dtable.specs.declared.environment.Answer.TheVariants.{One}
-use Rattle.dtable.specs.HitPolicy.{joined, ones}
+use Rattle.dtable.specs.HitPolicy.{combine, ones}
 
 -- a list after a push is the expected list with one more item
 pub pushed_more : {A : Type 0} (before after wanted next : List A) (item made : A) → after ≡ before ++ item ∷ [] → before ≡ wanted → item ≡ made
@@ -27,20 +27,20 @@ filter_map_more h xs i d below =
     ap (filter_map h) (take_more xs i d below) ∙ filter_map-append h (take i xs) (get_or xs i d ∷ []) ∙ ap (λ ys. filter_map h (take i xs) ++ ys) (filter_map-one h (get_or xs i d))
 
 -- the aggregate of a concatenation
-reduce-more : (join : ℤ → ℤ → ℤ) (xs : List ℤ) (o : Option ℤ) → reduce join (xs ++ option_to_list o) ≡ joined join (reduce join xs) o
+reduce-more : (join : ℤ → ℤ → ℤ) (xs : List ℤ) (o : Option ℤ) → reduce join (xs ++ option_to_list o) ≡ combine join (reduce join xs) o
 reduce-more join [] None = refl
 reduce-more join [] (Some x) = refl
 reduce-more join (x ∷ xs) None = ap (λ ys. Some (fold join x ys)) (append-nil xs)
 reduce-more join (x ∷ xs) (Some y) = ap Some (fold-append join x xs (y ∷ []))
 
 pub numbers_more : (join : ℤ → ℤ → ℤ) (h : ℕ → Option ℤ) (xs : List ℕ) (i : ℕ) (d : ℕ) → i < length xs
-    → reduce join (filter_map h (take (i + 1) xs)) ≡ joined join (reduce join (filter_map h (take i xs))) (h (get_or xs i d))
+    → reduce join (filter_map h (take (i + 1) xs)) ≡ combine join (reduce join (filter_map h (take i xs))) (h (get_or xs i d))
 numbers_more join h xs i d below =
     ap (reduce join) (filter_map_more h xs i d below) ∙ reduce-more join (filter_map h (take i xs)) (h (get_or xs i d))
 
 -- an aggregate after one more number is the expected aggregate
-pub joined_more : (join : ℤ → ℤ → ℤ) (before after wanted next one made : Option ℤ) → after ≡ joined join before one → before ≡ wanted → one ≡ made
-    → next ≡ joined join wanted made → after ≡ next
+pub joined_more : (join : ℤ → ℤ → ℤ) (before after wanted next one made : Option ℤ) → after ≡ combine join before one → before ≡ wanted → one ≡ made
+    → next ≡ combine join wanted made → after ≡ next
 joined_more join before after wanted next one made with_one so_far is step = cc
 
 -- the values of the outputs, extended by one
@@ -60,14 +60,14 @@ below_greatest m (ℤ.negsuc n) e = omega (arith, ints)
 
 -- a sum of n numbers is at most n times as far from zero as a number can be
 pub low_more : (n : ℕ) (sum units : Option ℤ) → IfSome sum (λ s. neg_ℤ (pos (greatest_units * n)) ≤ℤ s) → IfSome units IsInRange
-    → IfSome (joined ◌+ℤ◌ sum units) (λ s. neg_ℤ (pos (greatest_units * (n + 1))) ≤ℤ s)
+    → IfSome (combine ◌+ℤ◌ sum units) (λ s. neg_ℤ (pos (greatest_units * (n + 1))) ≤ℤ s)
 low_more n None None low range = tt
 low_more n None (Some u) low range = let here = above_least greatest_units u range in omega (arith, ints)
 low_more n (Some s) None low range = omega (arith, ints)
 low_more n (Some s) (Some u) low range = let here = above_least greatest_units u range in omega (arith, ints)
 
 pub high_more : (n : ℕ) (sum units : Option ℤ) → IfSome sum (λ s. s ≤ℤ pos (greatest_units * n)) → IfSome units IsInRange
-    → IfSome (joined ◌+ℤ◌ sum units) (λ s. s ≤ℤ pos (greatest_units * (n + 1)))
+    → IfSome (combine ◌+ℤ◌ sum units) (λ s. s ≤ℤ pos (greatest_units * (n + 1)))
 high_more n None None high range = tt
 high_more n None (Some u) high range = let here = below_greatest greatest_units u range in omega (arith, ints)
 high_more n (Some s) None high range = omega (arith, ints)

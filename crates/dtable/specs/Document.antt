@@ -40,11 +40,11 @@ Each R (item d ds) [] = ⊥
 Each R (item d ds) (x ∷ xs) = R d x × Each R ds xs
 
 -- each item denotes the element at its position, in view of the elements before it
-abbrev pub EachBehind : {A S : Type 0} → (A → S) → (List S → Data → A → Type 0) → List S → Items → List A → Type 0
-EachBehind seen R front no_items [] = Unit {0}
-EachBehind seen R front no_items (x ∷ xs) = ⊥
-EachBehind seen R front (item d ds) [] = ⊥
-EachBehind seen R front (item d ds) (x ∷ xs) = R front d x × EachBehind seen R (front ++ seen x ∷ []) ds xs
+abbrev pub EachAfter : {A S : Type 0} → (A → S) → (List S → Data → A → Type 0) → List S → Items → List A → Type 0
+EachAfter seen R front no_items [] = Unit {0}
+EachAfter seen R front no_items (x ∷ xs) = ⊥
+EachAfter seen R front (item d ds) [] = ⊥
+EachAfter seen R front (item d ds) (x ∷ xs) = R front d x × EachAfter seen R (front ++ seen x ∷ []) ds xs
 
 -- each item of a row denotes the element at its position, in view of its column
 abbrev pub EachUnder : {C A : Type 0} → (C → Data → A → Type 0) → List C → Items → List A → Type 0

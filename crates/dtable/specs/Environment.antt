@@ -14,8 +14,8 @@ use Rattle.dtable.specs.Matching.{matching, first_outside}
 use Rattle.dtable.specs.HitPolicy.{TableValue, by_hit}
 
 -- the number of the table that follows these
-abbrev pub number_behind : List (List Answer) → ℕ
-number_behind earlier = length earlier + 1
+abbrev pub number_after : List (List Answer) → ℕ
+number_after earlier = length earlier + 1
 
 -- the value of a table; if a column is outside its allowed values, that fault comes first
 abbrev pub inside : Option ℕ → ℕ → TableValue → TableValue
@@ -25,7 +25,7 @@ inside (Some column) number value = Err (Outside number (column + 1))
 -- the value of a table, by the given values and the answers of the tables before it
 abbrev pub table_value : List Slot → List (List Answer) → Table → TableValue
 table_value given earlier t =
-    inside (first_outside given earlier t) (number_behind earlier) (by_hit t.hit (number_behind earlier) t (matching given earlier t))
+    inside (first_outside given earlier t) (number_after earlier) (by_hit t.hit (number_after earlier) t (matching given earlier t))
 
 -- continues with the answers of a table, or ends with its fault
 abbrev pub and_then : {X : Type 0} → TableValue → (List Answer → Result X Fault) → Result X Fault

@@ -17,7 +17,7 @@ use Rattle.faults.specs.declared.fault.Fault.TheVariants.{NoRule, Clash, Range, 
 use Rattle.dtable.specs.declared.hit.Hit.{Hit}
 use Rattle.dtable.specs.declared.hit.Hit.TheVariants as hits
 use Rattle.dtable.specs.declared.table.Table.{Table}
-use Rattle.dtable.specs.Priority.{entries_of, highest, in_priority_order}
+use Rattle.dtable.specs.Priority.{entries_of, highest_rule, in_priority_order}
 
 -- unless memory ran out, the fault is the expected one
 abbrev pub IsFaultOf : {X : Type 0} → Result X Fault → Fault → Type 0
@@ -40,13 +40,13 @@ abbrev pub lists : Table → List ℕ → List Answer
 lists t rules = map (λ column. Many (column_of t rules column)) (range_with_len 0 (length t.outputs))
 
 -- no rule matches: the defaults if every output has one, and otherwise a fault
-abbrev pub unmatched : ℕ → Table → TableValue
-unmatched number t =
+abbrev pub no_match_value : ℕ → Table → TableValue
+no_match_value number t =
     if list_all (λ o. is_some o.fallback) t.outputs then Ok (ones (filter_map (λ o. o.fallback) t.outputs)) else Err (NoRule number)
 
 -- Unique: the entries of the only match; two or more matches clash
 abbrev pub unique : ℕ → Table → List ℕ → TableValue
-unique number t [] = unmatched number t
+unique number t [] = no_match_value number t
 unique number t (rule ∷ []) = Ok (ones (entries_of t rule))
 unique number t (rule ∷ other ∷ others) = Err (Clash number)
 
@@ -56,12 +56,12 @@ agree t rule other = pointwise is_equal (entries_of t rule) (entries_of t other)
 
 -- Any: the entries of the matches if all agree; matches that disagree clash
 abbrev pub any : ℕ → Table → List ℕ → TableValue
-any number t [] = unmatched number t
+any number t [] = no_match_value number t
 any number t (rule ∷ others) = if list_all (agree t rule) others then Ok (ones (entries_of t rule)) else Err (Clash number)
 
 -- the entries of one rule, if there is one
 abbrev pub of_rule : ℕ → Table → Option ℕ → TableValue
-of_rule number t None = unmatched number t
+of_rule number t None = no_match_value number t
 of_rule number t (Some rule) = Ok (ones (entries_of t rule))
 
 -- First: the entries of the first match
@@ -86,42 +86,42 @@ abbrev pub number_answer : ℕ → ℤ → TableValue
 number_answer number units = if nat_le (unsigned_abs units) greatest_units then Ok (One (Number units) ∷ []) else Err (Range number)
 
 -- an aggregate with one more number, if there is one
-abbrev pub joined : (ℤ → ℤ → ℤ) → Option ℤ → Option ℤ → Option ℤ
-joined join so_far None = so_far
-joined join None (Some units) = Some units
-joined join (Some so_far) (Some units) = Some (join so_far units)
+abbrev pub combine : (ℤ → ℤ → ℤ) → Option ℤ → Option ℤ → Option ℤ
+combine join so_far None = so_far
+combine join None (Some units) = Some units
+combine join (Some so_far) (Some units) = Some (join so_far units)
 
 -- a sum to which any number can be added within 128 bits
 abbrev pub IsFarFromOverflow : ℤ → Type 0
 IsFarFromOverflow sum = (neg_ℤ (pos (2 ^ 126)) ≤ℤ sum) × (sum ≤ℤ pos (2 ^ 126))
 
 -- the aggregate of the matches' numbers; without any, no rule matches
-abbrev pub aggregated : ℕ → Table → Option ℤ → TableValue
-aggregated number t None = unmatched number t
-aggregated number t (Some units) = number_answer number units
+abbrev pub aggregate_value : ℕ → Table → Option ℤ → TableValue
+aggregate_value number t None = no_match_value number t
+aggregate_value number t (Some units) = number_answer number units
 
 -- the units of a count
 abbrev pub count_units : ℕ → ℤ
 count_units count = pos (count * 10000)
 
 -- `C#`: the number of matching rules
-abbrev pub counted : ℕ → Table → List ℕ → TableValue
-counted number t [] = unmatched number t
-counted number t (rule ∷ others) = number_answer number (count_units (length (rule ∷ others)))
+abbrev pub match_count : ℕ → Table → List ℕ → TableValue
+match_count number t [] = no_match_value number t
+match_count number t (rule ∷ others) = number_answer number (count_units (length (rule ∷ others)))
 
 -- the value of a table by its hit policy, from the rules that match
 abbrev pub by_hit : Hit → ℕ → Table → List ℕ → TableValue
 by_hit hits.U number t rules = unique number t rules
 by_hit hits.A number t rules = any number t rules
-by_hit hits.P number t rules = of_rule number t (highest t rules)
+by_hit hits.P number t rules = of_rule number t (highest_rule t rules)
 by_hit hits.F number t rules = first number t rules
 by_hit hits.O number t rules = Ok (lists t (in_priority_order t rules))
 by_hit hits.R number t rules = Ok (lists t rules)
 by_hit hits.C number t rules = Ok (lists t rules)
-by_hit hits.Sum number t rules = aggregated number t (reduce ◌+ℤ◌ (numbers_of t rules))
-by_hit hits.Min number t rules = aggregated number t (reduce int_min (numbers_of t rules))
-by_hit hits.Max number t rules = aggregated number t (reduce int_max (numbers_of t rules))
-by_hit hits.Count number t rules = counted number t rules
+by_hit hits.Sum number t rules = aggregate_value number t (reduce ◌+ℤ◌ (numbers_of t rules))
+by_hit hits.Min number t rules = aggregate_value number t (reduce int_min (numbers_of t rules))
+by_hit hits.Max number t rules = aggregate_value number t (reduce int_max (numbers_of t rules))
+by_hit hits.Count number t rules = match_count number t rules
 
 -- unless memory ran out, the result is the expected one
 abbrev pub Gives : {X : Type 0} → Result X Fault → Result X Fault → Type 0

@@ -28,12 +28,12 @@ abbrev pub Takes : List Slot → ℕ → Kind → Type 0
 Takes given place kind = kind_at given place ≡ Some kind
 
 -- the slots after the one at this index is set to a value
-abbrev pub filled : List Slot → ℕ → Value → List Slot
-filled given place value = slice_set given place (record { kind = kind_of value; value = Some value })
+abbrev pub fill_slot : List Slot → ℕ → Value → List Slot
+fill_slot given place value = slice_set given place (record { kind = kind_of value; value = Some value })
 
 -- the slots after the one at this index, of this kind, loses its value
-abbrev pub emptied : List Slot → ℕ → Kind → List Slot
-emptied given place kind = slice_set given place (record { kind = kind; value = None })
+abbrev pub empty_slot : List Slot → ℕ → Kind → List Slot
+empty_slot given place kind = slice_set given place (record { kind = kind; value = None })
 
 -- the input reads the name at this index
 abbrev pub reads : ℕ → Origin → Bool

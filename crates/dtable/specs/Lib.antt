@@ -6,7 +6,7 @@ pub mod Matching
 pub mod Priority
 pub mod HitPolicy
 pub mod Environment
-pub mod Held
+pub mod OwnedAnswers
 pub mod Document
 pub mod NameForm
 pub mod Scope

@@ -6,25 +6,25 @@ use Rattle.feel_tests.specs.declared.kind.Kind.TheVariants.{Number, Text, Day}
 use Rattle.dtable.specs.declared.table.InputData.{InputData}
 
 -- a name with its kind
-abbrev pub named : List ℕ → Kind → InputData
-named name kind = record { name = name; kind = kind }
+abbrev pub named_input : List ℕ → Kind → InputData
+named_input name kind = record { name = name; kind = kind }
 
 -- the names of every claim: its number, its member's family if the plan has families, its member,
 -- the day of service and the billed amount
 abbrev pub claim_names : Bool → List InputData
-claim_names false = named (codes "claim") Text ∷ named (codes "member") Text ∷ named (codes "service") Day ∷ named (codes "billed") Number ∷ []
+claim_names false = named_input (codes "claim") Text ∷ named_input (codes "member") Text ∷ named_input (codes "service") Day ∷ named_input (codes "billed") Number ∷ []
 claim_names true =
-    named (codes "claim") Text ∷ named (codes "family") Text ∷ named (codes "member") Text ∷ named (codes "service") Day
-    ∷ named (codes "billed") Number ∷ []
+    named_input (codes "claim") Text ∷ named_input (codes "family") Text ∷ named_input (codes "member") Text ∷ named_input (codes "service") Day
+    ∷ named_input (codes "billed") Number ∷ []
 
 -- the names of a member's accumulators: the deductible met, the amount paid out of pocket, and the
 -- amount paid by the plan; if the plan has families, also the family's deductible met and its
 -- amount paid out of pocket
 abbrev pub accumulator_names : Bool → List InputData
-accumulator_names false = named (codes "met") Number ∷ named (codes "oop") Number ∷ named (codes "paid") Number ∷ []
+accumulator_names false = named_input (codes "met") Number ∷ named_input (codes "oop") Number ∷ named_input (codes "paid") Number ∷ []
 accumulator_names true =
-    named (codes "met") Number ∷ named (codes "oop") Number ∷ named (codes "paid") Number ∷ named (codes "fmet") Number
-    ∷ named (codes "foop") Number ∷ []
+    named_input (codes "met") Number ∷ named_input (codes "oop") Number ∷ named_input (codes "paid") Number ∷ named_input (codes "fmet") Number
+    ∷ named_input (codes "foop") Number ∷ []
 
 -- all names of a plan with these fields, in order
 abbrev pub names_of : Bool → List InputData → List InputData

@@ -73,9 +73,9 @@ gives_one _ = true
 
 -- the kind of the values that later tables and roles see in an output of the declared kind: a
 -- number if rules are counted
-abbrev pub seen_kind : Hit → Kind → Kind
-seen_kind Count written = kinds.Number
-seen_kind _ written = written
+abbrev pub read_kind_of : Hit → Kind → Kind
+read_kind_of Count written = kinds.Number
+read_kind_of _ written = written
 
 -- the origin is one of the names, or an output of an earlier table with a single value
 abbrev pub is_known : List InputData → List Table → Origin → Bool
@@ -104,18 +104,18 @@ rule_fits t r =
 
 -- the constraints of a hit policy on the outputs: `P` and `O` need a priority list, an aggregator
 -- needs exactly one output, and all aggregators but `C#` need numbers
-abbrev pub meets_demands : Hit → List TableOutput → Bool
-meets_demands P outputs = list_any (λ o. is_some o.priority) outputs
-meets_demands O outputs = list_any (λ o. is_some o.priority) outputs
-meets_demands Sum outputs = (length outputs == 1) && list_all (λ o. same_kind o.kind kinds.Number) outputs
-meets_demands Min outputs = (length outputs == 1) && list_all (λ o. same_kind o.kind kinds.Number) outputs
-meets_demands Max outputs = (length outputs == 1) && list_all (λ o. same_kind o.kind kinds.Number) outputs
-meets_demands Count outputs = length outputs == 1
-meets_demands _ outputs = true
+abbrev pub satisfies_constraints : Hit → List TableOutput → Bool
+satisfies_constraints P outputs = list_any (λ o. is_some o.priority) outputs
+satisfies_constraints O outputs = list_any (λ o. is_some o.priority) outputs
+satisfies_constraints Sum outputs = (length outputs == 1) && list_all (λ o. same_kind o.kind kinds.Number) outputs
+satisfies_constraints Min outputs = (length outputs == 1) && list_all (λ o. same_kind o.kind kinds.Number) outputs
+satisfies_constraints Max outputs = (length outputs == 1) && list_all (λ o. same_kind o.kind kinds.Number) outputs
+satisfies_constraints Count outputs = length outputs == 1
+satisfies_constraints _ outputs = true
 
 -- the default, if there is one, is of the kind that later tables see in its output
 abbrev pub default_fits : Hit → TableOutput → Bool
-default_fits hit output = option_map_or (has_kind (seen_kind hit output.kind)) output.fallback true
+default_fits hit output = option_map_or (has_kind (read_kind_of hit output.kind)) output.fallback true
 
 -- an output of a table has the name and passes the test
 abbrev pub some_output : (Hit → TableOutput → Bool) → List Table → List ℕ → Bool
@@ -126,7 +126,7 @@ some_output test tables name = list_any (λ t. list_any (λ o. bytes_eq o.name n
 abbrev pub source_fits : List InputData → List Table → Kind → Source → Bool
 source_fits names tables kind (Literal value) = has_kind kind value
 source_fits names tables kind (Input place) = option_map_or (λ d. same_kind kind d.kind) (slice_get names place) false
-source_fits names tables kind (Output name) = some_output (λ hit o. gives_one hit && same_kind kind (seen_kind hit o.kind)) tables name
+source_fits names tables kind (Output name) = some_output (λ hit o. gives_one hit && same_kind kind (read_kind_of hit o.kind)) tables name
 
 -- the name of the remarks, if there is one, is that of an output that lists texts
 abbrev pub remarks_fit : List Table → Option (List ℕ) → Bool
@@ -179,6 +179,6 @@ pub record IsPlan (p : PlanParts) : Type 0 where
   pub distinct : AreDistinct (plan_names p)
   pub origins : IsTrue (are_known p.names [] p.tables)
   pub rules : IsTrue (list_all (λ t. list_all (rule_fits t) t.rules) p.tables)
-  pub demands : IsTrue (list_all (λ t. meets_demands t.hit t.outputs) p.tables)
+  pub demands : IsTrue (list_all (λ t. satisfies_constraints t.hit t.outputs) p.tables)
   pub defaults : IsTrue (list_all (λ t. list_all (default_fits t.hit) t.outputs) p.tables)
   pub roles : IsTrue (option_map_or (roles_fit p) p.roles true)

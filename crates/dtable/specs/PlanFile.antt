@@ -16,11 +16,11 @@ use Rattle.dtable.specs.declared.table.Input.{Input}
 use Rattle.dtable.specs.declared.table.Output.{Output}
 use Rattle.dtable.specs.declared.table.Rule.{Rule}
 use Rattle.dtable.specs.declared.table.Table.{Table}
-use Rattle.dtable.specs.Document.{string_at, array_at, optional_array_at, item_count, Optionally, Each, EachBehind, EachUnder}
+use Rattle.dtable.specs.Document.{string_at, array_at, optional_array_at, item_count, Optionally, Each, EachAfter, EachUnder}
 use Rattle.dtable.specs.Limits.{plan_limit_bytes, fields_limit, tables_limit, inputs_limit, outputs_limit, rules_limit, priority_limit, name_limit_bytes}
 use Rattle.dtable.specs.NameForm.{has_name_form, is_among, names_taken}
 use Rattle.dtable.specs.Names.{names_of}
-use Rattle.dtable.specs.Plan.{PlanParts, IsVersion, is_ranked, keeps_families, meets_demands, seen_kind}
+use Rattle.dtable.specs.Plan.{PlanParts, IsVersion, is_ranked, keeps_families, satisfies_constraints, read_kind_of}
 use Rattle.dtable.specs.RoleFile.{AreRoles}
 use Rattle.dtable.specs.Scope.{SeenOutput, seen_of, origin_of, kind_at, taken_names}
 
@@ -87,7 +87,7 @@ pub record IsField (taken : List (List ℕ)) (entry : Data) (field : InputData) 
 -- the entries of `fields`: their number is within the limit, and their names are distinct
 pub record AreFields (families : Bool) (entries : Items) (fields : List InputData) : Type 0 where
   pub within : item_count entries ≤ fields_limit
-  pub each : EachBehind (λ f. f.name) IsField (names_taken families) entries fields
+  pub each : EachAfter (λ f. f.name) IsField (names_taken families) entries fields
 
 -- an entry of `inputs`: the name of a single value that is known before the table, and its allowed
 -- values if they are restricted
@@ -108,7 +108,7 @@ pub record IsPriority (kind : Kind) (front : List Value) (entry : Data) (value :
 -- the entries of `priority`: distinct literals of the kind, highest first, within the limit
 pub record ArePriorityEntries (kind : Kind) (entries : Items) (list : List Value) : Type 0 where
   pub within : item_count entries ≤ priority_limit
-  pub each : EachBehind (λ v. v) (IsPriority kind) [] entries list
+  pub each : EachAfter (λ v. v) (IsPriority kind) [] entries list
 
 -- the array `priority`
 pub record ArePriorities (kind : Kind) (array : Data) (list : List Value) : Type 0 where
@@ -122,7 +122,7 @@ pub record IsOutput (hit : Hit) (taken : List (List ℕ)) (entry : Data) (output
   pub name : IsNewlyNamed taken entry output.name
   pub kind : IsOfKind entry output.kind
   pub priority : Optionally (ArePriorities output.kind) (get (codes "priority") entry) output.priority
-  pub fallback : Optionally (IsLiteral (seen_kind hit output.kind)) (get (codes "default") entry) output.fallback
+  pub fallback : Optionally (IsLiteral (read_kind_of hit output.kind)) (get (codes "default") entry) output.fallback
 
 -- an entry of `then` for its output: a literal of the declared kind, in the priority list if there
 -- is one
@@ -168,7 +168,7 @@ pub record AreOutputs (hit : Hit) (taken : List (List ℕ)) (entry : Data) (outp
   pub written : array_at (codes "outputs") entry ≡ Some entries
   pub some : 0 < item_count entries
   pub within : item_count entries ≤ outputs_limit
-  pub each : EachBehind (λ o. o.name) (IsOutput hit) taken entries outputs
+  pub each : EachAfter (λ o. o.name) (IsOutput hit) taken entries outputs
 
 -- the array `rules`: within the limit
 pub record AreRules (names : List InputData) (earlier : List (List SeenOutput)) (inputs : List Input) (outputs : List Output) (entry : Data) (rules : List Rule) : Type 0 where
@@ -182,13 +182,13 @@ pub record IsTable (names : List InputData) (earlier : List (List SeenOutput)) (
   pub hit : IsHit (get (codes "hit") entry) t.hit
   pub inputs : AreInputs names earlier entry t.inputs
   pub outputs : AreOutputs t.hit (taken_names names earlier) entry t.outputs
-  pub demands : IsTrue (meets_demands t.hit t.outputs)
+  pub demands : IsTrue (satisfies_constraints t.hit t.outputs)
   pub rules : AreRules names earlier t.inputs t.outputs entry t.rules
 
 -- the entries of `tables`, each by the tables before it, within the limit
 pub record AreTables (names : List InputData) (entries : Items) (tables : List Table) : Type 0 where
   pub within : item_count entries ≤ tables_limit
-  pub each : EachBehind seen_of (IsTable names) [] entries tables
+  pub each : EachAfter seen_of (IsTable names) [] entries tables
 
 -- the names of a plan by the optional key `fields` of its document
 pub record AreNames (families : Bool) (document : Data) (names : List InputData) : Type 0 where

@@ -14,8 +14,8 @@ use Rattle.dtable.specs.declared.roles.FamilyRoles.{FamilyRoles}
 use Rattle.dtable.specs.declared.roles.Roles.{Roles}
 use Rattle.dtable.specs.declared.roles.Source.{Source}
 use Rattle.dtable.specs.declared.roles.Source.TheVariants.{Literal, Input, Output}
-use Rattle.dtable.specs.declared.reading.roles.Asked.{Asked}
-use Rattle.dtable.specs.declared.reading.roles.Asked.TheVariants.{Flag, Money, Rate}
+use Rattle.dtable.specs.declared.reading.roles.RoleKind.{RoleKind}
+use Rattle.dtable.specs.declared.reading.roles.RoleKind.TheVariants.{Flag, Money, Rate}
 use Rattle.dtable.specs.declared.table.InputData.{InputData}
 use Rattle.dtable.specs.declared.table.Origin.TheVariants.{Given, Earlier}
 use Rattle.dtable.specs.Document.{string_at, Optionally}
@@ -23,20 +23,20 @@ use Rattle.dtable.specs.Plan.{same_kind}
 use Rattle.dtable.specs.Scope.{SeenOutput, origin_of, kind_at}
 
 -- the kind of a required value
-abbrev pub asked_kind : Asked → Kind
+abbrev pub asked_kind : RoleKind → Kind
 asked_kind Flag = kinds.Flag
 asked_kind Money = kinds.Number
 asked_kind Rate = kinds.Number
 
 -- the value meets the requirement: any flag, an amount of money, or a rate
-abbrev pub Meets : Asked → Value → Type 0
+abbrev pub Meets : RoleKind → Value → Type 0
 Meets Flag value = Unit {0}
 Meets Money (values.Number units) = IsMoney units
 Meets Rate (values.Number units) = IsRate units
 Meets _ _ = ⊥
 
 -- the text denotes a literal that meets the requirement
-pub record IsLiteralSource (asked : Asked) (text : List ℕ) (value : Value) : Type 0 where
+pub record IsLiteralSource (asked : RoleKind) (text : List ℕ) (value : Value) : Type 0 where
   pub spelled : SpellsValue (asked_kind asked) text value
   pub of_kind : kind_of value ≡ asked_kind asked
   pub meets : Meets asked value
@@ -66,13 +66,13 @@ SpellsNone kind text = (value : Value) → ¬ SpellsValue kind text value
 
 -- a role's string: a literal that meets the requirement, or otherwise the name of a single value of
 -- that kind
-abbrev pub IsSource : List InputData → List (List SeenOutput) → Asked → List ℕ → Source → Type 0
+abbrev pub IsSource : List InputData → List (List SeenOutput) → RoleKind → List ℕ → Source → Type 0
 IsSource names earlier asked text (Literal value) = IsLiteralSource asked text value
 IsSource names earlier asked text (Input place) = SpellsNone (asked_kind asked) text × IsNamedSource names earlier (asked_kind asked) text (Input place)
 IsSource names earlier asked text (Output name) = SpellsNone (asked_kind asked) text × IsNamedSource names earlier (asked_kind asked) text (Output name)
 
 -- the string at a role's key denotes this source
-pub record IsRole (names : List InputData) (earlier : List (List SeenOutput)) (asked : Asked) (key : List ℕ) (roles : Data) (source : Source) : Type 0 where
+pub record IsRole (names : List InputData) (earlier : List (List SeenOutput)) (asked : RoleKind) (key : List ℕ) (roles : Data) (source : Source) : Type 0 where
   pub text : List ℕ
   pub written : string_at key roles ≡ Some text
   pub spelled : IsSource names earlier asked text source

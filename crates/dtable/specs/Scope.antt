@@ -11,7 +11,7 @@ use Rattle.dtable.specs.declared.table.Output.{Output}
 use Rattle.dtable.specs.declared.table.Table.{Table}
 use Rattle.dtable.specs.Environment.{or_else}
 use Rattle.dtable.specs.NameForm.{reserved_names}
-use Rattle.dtable.specs.Plan.{gives_one, seen_kind}
+use Rattle.dtable.specs.Plan.{gives_one, read_kind_of}
 
 -- an output as later tables see it: its name, the kind of its values, and whether it has a single
 -- value and not a list
@@ -22,7 +22,7 @@ pub record SeenOutput : Type 0 where
 
 -- an output of a table with this hit policy, as later tables see it
 abbrev pub seen_output : Hit → Output → SeenOutput
-seen_output hit output = record { name = output.name; kind = seen_kind hit output.kind; is_single = gives_one hit }
+seen_output hit output = record { name = output.name; kind = read_kind_of hit output.kind; is_single = gives_one hit }
 
 -- a table as later tables see it: its outputs
 abbrev pub seen_of : Table → List SeenOutput

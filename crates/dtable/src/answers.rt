@@ -12,7 +12,7 @@ const INLINE_TABLES: usize = 5;
 
 /// The answers of a table, one for each output. Contracts see them as a list.
 pub struct Answers<'a> {
-    held: Held<'a>,
+    held: AnswerList<'a>,
 }
 
 impl Drop for Answers<'_> {
@@ -24,7 +24,7 @@ impl Drop for Answers<'_> {
 
 /// The place where a table's answers are stored.
 #[derive(Drop)]
-enum Held<'a> {
+enum AnswerList<'a> {
     /// The answers belong to a value that serves many evaluations.
     Lent(&'a [Answer]),
     /// The answers were made for this evaluation.
@@ -34,7 +34,7 @@ enum Held<'a> {
 impl<'a> Model for Answers<'a> {
     ghost use Rattle.std.specs.Prelude.{List};
     ghost use Rattle.dtable.specs.declared.environment.Answer.{Answer};
-    ghost use Rattle.dtable.specs.Held.{answers_held};
+    ghost use Rattle.dtable.specs.OwnedAnswers.{answers_held};
 
     ghost Value = { List Answer };
 
@@ -45,27 +45,27 @@ impl<'a> Default for Answers<'a> {
     /// Returns an empty list of answers.
     fn default() -> Answers<'a> {
         Answers {
-            held: Held::Lent(&[]),
+            held: AnswerList::Lent(&[]),
         }
     }
 }
 
 impl<'a> Answers<'a> {
     /// Wraps answers that another value owns.
-    pub fn lent(answers: &'a [Answer]) -> Answers<'a>
+    pub fn from_slice(answers: &'a [Answer]) -> Answers<'a>
         ensures { result ≡ answers.now }
     {
         Answers {
-            held: Held::Lent(answers),
+            held: AnswerList::Lent(answers),
         }
     }
 
     /// Wraps answers that were made for this evaluation.
-    pub fn made(answers: Sequence<Answer>) -> Answers<'a>
+    pub fn from_sequence(answers: Sequence<Answer>) -> Answers<'a>
         ensures { result ≡ answers }
     {
         Answers {
-            held: Held::Made(answers),
+            held: AnswerList::Made(answers),
         }
     }
 
@@ -74,8 +74,8 @@ impl<'a> Answers<'a> {
         ensures { result.now ≡ self.now }
     {
         match &self.held {
-            Held::Lent(answers) => answers,
-            Held::Made(answers) => answers.as_slice(),
+            AnswerList::Lent(answers) => answers,
+            AnswerList::Made(answers) => answers.as_slice(),
         }
     }
 }

@@ -1,6 +1,6 @@
 //! The evaluation of a plan's tables (DMN 1.4, decision tables).
 ghost use Rattle.std.specs.Prelude.{◌≡◌, ◌≤◌, ◌<◌, ◌^◌, [], length};
-ghost use Rattle.dtable.specs.Environment.{answers_of, table_value, number_behind};
+ghost use Rattle.dtable.specs.Environment.{answers_of, table_value, number_after};
 ghost use Rattle.dtable.specs.HitPolicy.{Gives, by_hit};
 
 mod lists;
@@ -27,7 +27,7 @@ impl Valuer for Plan {
     ghost plan_of = { λ plan. plan };
 
     // A plan that is not compiled has no zones.
-    ghost in_zone = { λ plan given zone. ⊥ };
+    ghost in_class = { λ plan given input_class. ⊥ };
 
     fn plan(&self) -> &Plan {
         self
@@ -38,7 +38,7 @@ impl Valuer for Plan {
         Ok(Env::new(self.tables(), answers))
     }
 
-    fn zone(&self, _inputs: &Inputs) -> Option<u64> {
+    fn input_class(&self, _inputs: &Inputs) -> Option<u64> {
         None
     }
 }
@@ -54,7 +54,7 @@ fn answers_of<'a>(
     let mut answers = AnswersByTable::new(alloc);
     for table in tables {
         let next = table_value(alloc, given, answers.as_slice(), table)?;
-        answers.push(Answers::made(next))?;
+        answers.push(Answers::from_sequence(next))?;
     }
     Ok(answers)
 }
@@ -92,13 +92,13 @@ pub fn answers_by_hit(
     match table.hit {
         Hit::U => single::unique(alloc, number, table, rules),
         Hit::A => single::any(alloc, number, table, rules),
-        Hit::P => single::of_rule(alloc, number, table, priority::highest(table, rules)),
+        Hit::P => single::of_rule(alloc, number, table, priority::highest_rule(table, rules)),
         Hit::F => single::of_rule(alloc, number, table, rules.first().copied()),
         Hit::O => lists::in_output_order(alloc, table, rules),
         Hit::R | Hit::C => lists::in_rule_order(alloc, table, rules),
         Hit::Sum => numbers::sum(alloc, number, table, rules),
-        Hit::Min => numbers::least(alloc, number, table, rules),
-        Hit::Max => numbers::greatest(alloc, number, table, rules),
-        Hit::Count => numbers::counted(alloc, number, table, rules),
+        Hit::Min => numbers::least_number(alloc, number, table, rules),
+        Hit::Max => numbers::greatest_number(alloc, number, table, rules),
+        Hit::Count => numbers::match_count(alloc, number, table, rules),
     }
 }

@@ -1,6 +1,6 @@
 //! Hit policies.
 ghost use Rattle.std.specs.Prelude.{◌≡◌};
-ghost use Rattle.dtable.specs.Plan.{gives_one, seen_kind};
+ghost use Rattle.dtable.specs.Plan.{gives_one, read_kind_of};
 
 use feel_tests::Kind;
 
@@ -42,8 +42,8 @@ impl Hit {
 
     /// Returns the kind of the values that later tables and roles see in an output of the declared
     /// kind.
-    pub fn seen_kind(self, written: Kind) -> Kind
-        ensures { result ≡ seen_kind self written }
+    pub fn read_kind_of(self, written: Kind) -> Kind
+        ensures { result ≡ read_kind_of self written }
     {
         match self {
             Hit::Count => Kind::Number,

@@ -4,7 +4,7 @@ ghost use Rattle.std.specs.Option.{option_copied};
 ghost use Rattle.feel_tests.specs.declared.kind.Kind.TheVariants as kinds;
 ghost use Rattle.feel_tests.specs.declared.value.Value.TheVariants as values;
 ghost use Rattle.feel_tests.specs.Value.{kind_of};
-ghost use Rattle.dtable.specs.Inputs.{emptied, empty_slots, filled, kind_at, value_at, Takes};
+ghost use Rattle.dtable.specs.Inputs.{empty_slot, empty_slots, fill_slot, kind_at, value_at, Takes};
 
 use crate::plan::Plan;
 use feel_tests::{Kind, Text, Value};
@@ -44,7 +44,7 @@ impl Slot {
         ensures kind { self.new.kind ≡ self.old.kind }
     {
         match &mut self.value {
-            Some(Value::Text(standing)) => standing.copy_from(text)?,
+            Some(Value::Text(present)) => present.copy_from(text)?,
             _ => self.value = Some(Value::Text(Text::new(alloc, text.as_str())?)),
         }
         Ok(())
@@ -100,7 +100,7 @@ impl Inputs {
     /// Sets the value of the name at an index from 0. An earlier value is replaced.
     pub fn set(&mut self, place: usize, value: Value)
         requires { Takes self.old place (kind_of value) }
-        ensures { self.new ≡ filled self.old place value }
+        ensures { self.new ≡ fill_slot self.old place value }
     {
         let kind = value.kind();
         self.slots[place] = Slot {
@@ -114,8 +114,8 @@ impl Inputs {
     /// unchanged.
     pub fn set_text(&mut self, alloc: Global, place: usize, text: &Text) -> Result<(), AllocError>
         requires { Takes self.old place kinds.Text }
-        ensures set { OnOk result (self.new ≡ filled self.old place (values.Text text.now)) }
-        ensures refused { OnErr result (self.new ≡ emptied self.old place kinds.Text) }
+        ensures set { OnOk result (self.new ≡ fill_slot self.old place (values.Text text.now)) }
+        ensures refused { OnErr result (self.new ≡ empty_slot self.old place kinds.Text) }
         ensures kinds { map (λ s. s.kind) self.new ≡ map (λ s. s.kind) self.old }
     {
         self.slots[place].set_text(alloc, text)

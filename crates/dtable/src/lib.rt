@@ -14,10 +14,10 @@
 #![tactic(auto)]
 
 mod answers;
-mod demands;
 mod environment;
 mod evaluation;
 mod hit;
+mod hit_constraints;
 mod inputs;
 mod name;
 mod output_place;
@@ -28,7 +28,6 @@ mod table;
 mod valuer;
 
 pub use answers::{Answers, AnswersByTable};
-pub use demands::has_kind;
 pub use environment::{Answer, Env};
 pub use evaluation::matching::value_read;
 pub use evaluation::{
@@ -38,6 +37,7 @@ pub use evaluation::{
 pub use faults::{Fault, PlanCause, PlanFault};
 pub use feel_tests::Sequence;
 pub use hit::Hit;
+pub use hit_constraints::has_kind;
 pub use inputs::{Inputs, Slot};
 pub use name::{NAME_LIMIT_BYTES, Name};
 pub use output_place::OutputPlace;

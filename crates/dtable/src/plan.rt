@@ -7,7 +7,7 @@ ghost use Rattle.dtable.specs.declared.environment.Answer.{Answer};
 ghost use Rattle.dtable.specs.Environment.{answer_of, answer_at};
 ghost use Rattle.dtable.specs.Limits.{name_limit_bytes};
 ghost use Rattle.dtable.specs.Inputs.{needs, is_served, IsReady};
-ghost use Rattle.dtable.specs.Names.{named, claim_names, accumulator_names, names_of};
+ghost use Rattle.dtable.specs.Names.{named_input, claim_names, accumulator_names, names_of};
 ghost use Rattle.dtable.specs.Plan.{IsPlan, has_families, has_years, keeps_families, keeps_years};
 
 use crate::inputs::Inputs;
@@ -210,9 +210,9 @@ fn for_claim(
 
 fn push_number(alloc: Global, name: &str, names: &mut Sequence<InputData>) -> Result<(), AllocError>
     requires { length name.now ≤ name_limit_bytes }
-    ensures { OnOk result (names.new ≡ names.old ++ named name.now kinds.Number ∷ []) }
+    ensures { OnOk result (names.new ≡ names.old ++ named_input name.now kinds.Number ∷ []) }
 {
-    names.push(named(alloc, name, Kind::Number)?)
+    names.push(named_input(alloc, name, Kind::Number)?)
 }
 
 fn put_first(
@@ -222,14 +222,14 @@ fn put_first(
     names: &mut Sequence<InputData>,
 ) -> Result<(), AllocError>
     requires { length name.now ≤ name_limit_bytes }
-    ensures { OnOk result (names.new ≡ named name.now kind ∷ names.old) }
+    ensures { OnOk result (names.new ≡ named_input name.now kind ∷ names.old) }
 {
-    names.insert(0, named(alloc, name, kind)?)
+    names.insert(0, named_input(alloc, name, kind)?)
 }
 
-fn named(alloc: Global, name: &str, kind: Kind) -> Result<InputData, AllocError>
+fn named_input(alloc: Global, name: &str, kind: Kind) -> Result<InputData, AllocError>
     requires { length name.now ≤ name_limit_bytes }
-    ensures { IfOk result (λ made. made ≡ named name.now kind) }
+    ensures { IfOk result (λ made. made ≡ named_input name.now kind) }
 {
     Ok(InputData {
         name: Name::new(alloc, name)?,

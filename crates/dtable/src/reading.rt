@@ -25,12 +25,12 @@ mod scope;
 mod tables;
 
 use crate::plan::{Plan, has_families};
-use document::{read_document, required};
+use document::{read_document, required_value};
 use faults::{PlanCause, PlanFault};
 use feel_tests::{text_spells_at_most_one_cell, text_spells_at_most_one_value};
 pub use limits::PLAN_LIMIT_BYTES;
 use names::read_names;
-use place::Place;
+use place::FaultLocation;
 use roles::read_roles;
 use std::alloc::Global;
 use tables::read_tables;
@@ -49,7 +49,7 @@ pub fn read_plan(alloc: Global, text: &[u8]) -> Result<Plan, PlanFault>
         → (plan : PlanParts) → ¬ IsPlanText text.now plan) }
 {
     if text.len() > PLAN_LIMIT_BYTES {
-        return Err(Place::TEXT.fault(PlanCause::Limit));
+        return Err(FaultLocation::TEXT.fault(PlanCause::Limit));
     }
     let document = read_document(alloc, text)?;
     plan_of(alloc, &document)
@@ -86,12 +86,12 @@ fn plan_of(alloc: Global, document: &Value) -> Result<Plan, PlanFault>
 fn read_version(document: &Value) -> Result<u8, PlanFault>
     ensures { Reads (IsVersionOf (view document.now)) result }
 {
-    let version = required(document, "version", Place::TEXT)?;
+    let version = required_value(document, "version", FaultLocation::TEXT)?;
     match version.as_integer() {
         Some(1) => Ok(1),
         Some(2) => Ok(2),
         Some(3) => Ok(3),
-        Some(_) => Err(Place::TEXT.fault(PlanCause::Unknown)),
-        None => Err(Place::TEXT.fault(PlanCause::Kind)),
+        Some(_) => Err(FaultLocation::TEXT.fault(PlanCause::Unknown)),
+        None => Err(FaultLocation::TEXT.fault(PlanCause::Kind)),
     }
 }

@@ -18,7 +18,7 @@ pub trait Valuer {
     ghost plan_of: { Self → PlanParts };
 
     /// The inputs lie in the zone with this number.
-    ghost in_zone: { Self → List Slot → ℕ → Type 0 };
+    ghost in_class: { Self → List Slot → ℕ → Type 0 };
 
     /// Returns the plan.
     fn plan(&self) -> &Plan
@@ -33,8 +33,8 @@ pub trait Valuer {
 
     /// Returns the number of the zone that contains the inputs, if it is known. A zone is a class
     /// of inputs for which the tables have the same value.
-    fn zone(&self, inputs: &Inputs) -> Option<u64>
-        ensures inside { IfSome result (in_zone self.now inputs.now) }
-        ensures alike { IfSome result (λ zone. (other : List Slot) → in_zone self.now other zone
+    fn input_class(&self, inputs: &Inputs) -> Option<u64>
+        ensures inside { IfSome result (in_class self.now inputs.now) }
+        ensures alike { IfSome result (λ input_class. (other : List Slot) → in_class self.now other input_class
             → env (plan_of self.now) other ≡ env (plan_of self.now) inputs.now) };
 }

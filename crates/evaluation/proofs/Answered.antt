@@ -23,11 +23,11 @@ use Rattle.dtable.specs.declared.inputs.Slot.{Slot}
 use Rattle.dtable.specs.declared.table.Output.{Output}
 use Rattle.dtable.specs.declared.table.Rule.{Rule}
 use Rattle.dtable.specs.declared.table.Table.{Table}
-use Rattle.dtable.specs.Environment.{Environment, env, answers_of, and_then, inside, number_behind, table_value, answer_in, answer_of, or_else}
-use Rattle.dtable.specs.HitPolicy.{TableValue, ones, lists, column_of, unmatched, unique, any, agree, of_rule, numbers_of, number_answer, aggregated, count_units, counted, by_hit}
+use Rattle.dtable.specs.Environment.{Environment, env, answers_of, and_then, inside, number_after, table_value, answer_in, answer_of, or_else}
+use Rattle.dtable.specs.HitPolicy.{TableValue, ones, lists, column_of, no_match_value, unique, any, agree, of_rule, numbers_of, number_answer, aggregate_value, count_units, match_count, by_hit}
 use Rattle.dtable.specs.Matching.{matching, rule_matches, cells_hold, first_outside}
-use Rattle.dtable.specs.Plan.{PlanParts, IsPlan, rule_fits, meets_demands, same_kind}
-use Rattle.dtable.specs.Priority.{entries_of, highest, in_priority_order, precedes}
+use Rattle.dtable.specs.Plan.{PlanParts, IsPlan, rule_fits, satisfies_constraints, same_kind}
+use Rattle.dtable.specs.Priority.{entries_of, highest_rule, in_priority_order, precedes}
 use Rattle.evaluation.specs.ValueText.{AreAnswered}
 
 -- these answers, as the value of a table
@@ -53,8 +53,8 @@ entries_fit : (t : Table) (rules : List Rule) (place : ℕ) → list_all (rule_f
 entries_fit t [] place fits some = absurd (false≢true some)
 entries_fit t (r ∷ rs) zero fits some =
     let this = (and_parts (rule_fits t r) (list_all (rule_fits t) rs) fits).0 in
-    let behind = (and_parts (length r.cells == length t.inputs) _ this).1 in
-    eqb-true (length r.entries) (length t.outputs) (and_parts (length r.entries == length t.outputs) _ behind).0
+    let following = (and_parts (length r.cells == length t.inputs) _ this).1 in
+    eqb-true (length r.entries) (length t.outputs) (and_parts (length r.entries == length t.outputs) _ following).0
 entries_fit t (r ∷ rs) (suc place) fits some = entries_fit t rs place (and_parts (rule_fits t r) (list_all (rule_fits t) rs) fits).1 some
 
 matches_some : (test : Rule → Bool) (o : Option Rule) → option_map_or test o false ≡ true → is_some o ≡ true
@@ -91,7 +91,7 @@ defaults_whole (o ∷ os) all =
       default_here None some whole = absurd (false≢true some)
       default_here (Some value) some whole = ap suc whole
 
-unmatched_whole : (number : ℕ) (t : Table) (answers : List Answer) → unmatched number t ≡ Ok answers → IsWhole t answers
+unmatched_whole : (number : ℕ) (t : Table) (answers : List Answer) → no_match_value number t ≡ Ok answers → IsWhole t answers
 unmatched_whole number t answers same =
     elim (cases_Bool (list_all (λ (o : Output). is_some o.fallback) t.outputs)) [
       | inl all ↦ ones_whole t _ answers (defaults_whole t.outputs all) (rw all at same)
@@ -141,11 +141,11 @@ number_whole number t units answers one same =
       | inr beyond ↦ absurd (let wrong = rw beyond at same in cc)
     ]
 
-aggregated_whole : (number : ℕ) (t : Table) (units : Option ℤ) (answers : List Answer) → length t.outputs ≡ 1 → aggregated number t units ≡ Ok answers → IsWhole t answers
+aggregated_whole : (number : ℕ) (t : Table) (units : Option ℤ) (answers : List Answer) → length t.outputs ≡ 1 → aggregate_value number t units ≡ Ok answers → IsWhole t answers
 aggregated_whole number t None answers one same = unmatched_whole number t answers same
 aggregated_whole number t (Some units) answers one same = number_whole number t units answers one same
 
-counted_whole : (number : ℕ) (t : Table) (rules : List ℕ) (answers : List Answer) → length t.outputs ≡ 1 → counted number t rules ≡ Ok answers → IsWhole t answers
+counted_whole : (number : ℕ) (t : Table) (rules : List ℕ) (answers : List Answer) → length t.outputs ≡ 1 → match_count number t rules ≡ Ok answers → IsWhole t answers
 counted_whole number t [] answers one same = unmatched_whole number t answers same
 counted_whole number t (r ∷ rs) answers one same = number_whole number t (count_units (length (r ∷ rs))) answers one same
 
@@ -155,10 +155,10 @@ are_numbers t = list_all (λ (o : Output). same_kind o.kind kinds.Number) t.outp
 one_output : (t : Table) (rest : Bool) → (length t.outputs == 1 && rest) ≡ true → length t.outputs ≡ 1
 one_output t rest demand = eqb-true (length t.outputs) 1 (and_parts (length t.outputs == 1) rest demand).0
 
-by_hit_whole : (hit : Hit) (number : ℕ) (t : Table) (rules : List ℕ) (answers : List Answer) → AreWhole t rules → meets_demands hit t.outputs ≡ true → by_hit hit number t rules ≡ Ok answers → IsWhole t answers
+by_hit_whole : (hit : Hit) (number : ℕ) (t : Table) (rules : List ℕ) (answers : List Answer) → AreWhole t rules → satisfies_constraints hit t.outputs ≡ true → by_hit hit number t rules ≡ Ok answers → IsWhole t answers
 by_hit_whole hits.U number t rules answers whole demand same = unique_whole number t rules answers whole same
 by_hit_whole hits.A number t rules answers whole demand same = any_whole number t rules answers whole same
-by_hit_whole hits.P number t rules answers whole demand same = of_rule_whole number t (highest t rules) answers (λ r found. found_whole t (λ rule. not (list_any (λ other. precedes t other rule) rules)) rules r whole found) same
+by_hit_whole hits.P number t rules answers whole demand same = of_rule_whole number t (highest_rule t rules) answers (λ r found. found_whole t (λ rule. not (list_any (λ other. precedes t other rule) rules)) rules r whole found) same
 by_hit_whole hits.F number t rules answers whole demand same = of_rule_whole number t (slice_get rules 0) answers (λ r found. first_whole t rules r whole found) same
 by_hit_whole hits.O number t rules answers whole demand same = lists_whole t (in_priority_order t rules) answers same
 by_hit_whole hits.R number t rules answers whole demand same = lists_whole t rules answers same
@@ -172,11 +172,11 @@ inside_value : (outside : Option ℕ) (number : ℕ) (value : TableValue) (answe
 inside_value None number value answers same = same
 inside_value (Some column) number value answers same = absurd (cc)
 
-table_whole : (given : List Slot) (earlier : List (List Answer)) (t : Table) (answers : List Answer) → list_all (rule_fits t) t.rules ≡ true → meets_demands t.hit t.outputs ≡ true
+table_whole : (given : List Slot) (earlier : List (List Answer)) (t : Table) (answers : List Answer) → list_all (rule_fits t) t.rules ≡ true → satisfies_constraints t.hit t.outputs ≡ true
     → table_value given earlier t ≡ Ok answers → IsWhole t answers
 table_whole given earlier t answers fits demand same =
-    by_hit_whole t.hit (number_behind earlier) t (matching given earlier t) answers (matching_whole given earlier t fits) demand
-    (inside_value (first_outside given earlier t) (number_behind earlier) _ answers same)
+    by_hit_whole t.hit (number_after earlier) t (matching given earlier t) answers (matching_whole given earlier t fits) demand
+    (inside_value (first_outside given earlier t) (number_after earlier) _ answers same)
 
 -- each table has its answers
 abbrev AllWhole : List Table → List (List Answer) → Type 0
@@ -189,26 +189,26 @@ step_value (Ok answers) next x same = (answers, refl, same)
 step_value (Err fault) next x same = absurd (cc)
 
 answers_whole : (given : List Slot) (earlier : List (List Answer)) (tables : List Table) (all : List (List Answer)) → list_all (λ (t : Table). list_all (rule_fits t) t.rules) tables ≡ true
-    → list_all (λ (t : Table). meets_demands t.hit t.outputs) tables ≡ true → answers_of given earlier tables ≡ Ok all → (more : List (List Answer)) × (all ≡ earlier ++ more) × AllWhole tables more
+    → list_all (λ (t : Table). satisfies_constraints t.hit t.outputs) tables ≡ true → answers_of given earlier tables ≡ Ok all → (more : List (List Answer)) × (all ≡ earlier ++ more) × AllWhole tables more
 answers_whole given earlier [] all fits demands same = ([], (let equal : earlier ≡ all = cc in sym equal ∙ sym (append-nil earlier)), tt)
 answers_whole given earlier (t ∷ ts) all fits demands same =
     let fit = and_parts (list_all (rule_fits t) t.rules) (list_all (λ (x : Table). list_all (rule_fits x) x.rules) ts) fits in
-    let demand = and_parts (meets_demands t.hit t.outputs) (list_all (λ (x : Table). meets_demands x.hit x.outputs) ts) demands in
+    let demand = and_parts (satisfies_constraints t.hit t.outputs) (list_all (λ (x : Table). satisfies_constraints x.hit x.outputs) ts) demands in
     let step = step_value (table_value given earlier t) _ all same in
     let rest = answers_whole given (earlier ++ step.0 ∷ []) ts all fit.1 demand.1 step.2 in
     (step.0 ∷ rest.0, rest.1 ∙ append_assoc earlier (step.0 ∷ []) rest.0, (table_whole given earlier t step.0 fit.0 demand.0 step.1, rest.2))
 
 -- the first output of a name, where some output has it, is one of the outputs
 named_within : (outputs : List Output) (place : ℕ) (o : Output) → slice_get outputs place ≡ Some o → position_or_len (λ (x : Output). bytes_eq x.name o.name) outputs < length outputs
-named_within [] place o standing = absurd (none-some o standing)
-named_within (x ∷ xs) zero o standing =
-    let same : bytes_eq x.name o.name ≡ true = (bytes_eq-Decides x.name o.name).1 (ap (λ (p : Output). p.name) (same_Some x o standing)) in
+named_within [] place o present = absurd (none-some o present)
+named_within (x ∷ xs) zero o present =
+    let same : bytes_eq x.name o.name ≡ true = (bytes_eq-Decides x.name o.name).1 (ap (λ (p : Output). p.name) (same_Some x o present)) in
     rw same (omega arith)
-named_within (x ∷ xs) (suc place) o standing =
-    let behind = named_within xs place o standing in
+named_within (x ∷ xs) (suc place) o present =
+    let following = named_within xs place o present in
     elim (cases_Bool (bytes_eq x.name o.name)) [
       | inl same ↦ rw same (omega arith)
-      | inr other ↦ rw other (omega (arith, behind))
+      | inr other ↦ rw other (omega (arith, following))
     ]
 
 within_some : (answers : List Answer) (place : ℕ) → place < length answers → is_some (slice_get answers place) ≡ true
@@ -218,8 +218,8 @@ within_some (a ∷ more) (suc place) within = within_some more place (omega arit
 
 answered_here : (outputs : List Output) (answers : List Answer) (place : ℕ) (o : Output) → length answers ≡ length outputs → slice_get outputs place ≡ Some o
     → is_some (answer_in outputs answers o.name) ≡ true
-answered_here outputs answers place o whole standing =
-    let within = named_within outputs place o standing in
+answered_here outputs answers place o whole present =
+    let within = named_within outputs place o present in
     let found : position (λ (x : Output). bytes_eq x.name o.name) outputs ≡ Some (position_or_len (λ (x : Output). bytes_eq x.name o.name) outputs) =
     ap (λ test. cond test (Some (position_or_len (λ (x : Output). bytes_eq x.name o.name) outputs)) None) (lt-ltb _ _ within) in
     rw found (within_some answers _ (omega (arith, within, whole)))
@@ -234,13 +234,13 @@ second_some (Some a) p some = refl
 
 answered : (tables : List Table) (all : List (List Answer)) (table place : ℕ) (t : Table) (o : Output) → AllWhole tables all → slice_get tables table ≡ Some t → slice_get t.outputs place ≡ Some o
     → is_some (answer_of tables all o.name) ≡ true
-answered [] all table place t o whole at standing = absurd (none-some t at)
-answered (x ∷ xs) [] table place t o whole at standing = absurd whole
-answered (x ∷ xs) (answers ∷ more) zero place t o whole at standing =
-    let here : slice_get x.outputs place ≡ Some o = subst (λ (y : Table). slice_get y.outputs place ≡ Some o) (sym (same_Some x t at)) standing in
+answered [] all table place t o whole at present = absurd (none-some t at)
+answered (x ∷ xs) [] table place t o whole at present = absurd whole
+answered (x ∷ xs) (answers ∷ more) zero place t o whole at present =
+    let here : slice_get x.outputs place ≡ Some o = subst (λ (y : Table). slice_get y.outputs place ≡ Some o) (sym (same_Some x t at)) present in
     first_some _ _ (answered_here x.outputs answers place o whole.0 here)
-answered (x ∷ xs) (answers ∷ more) (suc table) place t o whole at standing =
-    second_some _ _ (answered xs more table place t o whole.1 at standing)
+answered (x ∷ xs) (answers ∷ more) (suc table) place t o whole at present =
+    second_some _ _ (answered xs more table place t o whole.1 at present)
 
 env_parts : (plan : PlanParts) (given : List Slot) (values : Environment) (r : Result (List (List Answer)) Fault) → answers_of given [] plan.tables ≡ r → env plan given ≡ Ok values
     → (values.tables ≡ plan.tables) × (r ≡ Ok values.answers)
@@ -254,8 +254,8 @@ env_parts plan given values (Err fault) is same =
 
 -- where the tables have a value, each output has an answer
 pub AreAnswered-from_env : (plan : PlanParts) (given : List Slot) (values : Environment) → IsPlan plan → env plan given ≡ Ok values → AreAnswered values plan.tables
-AreAnswered-from_env plan given values sound same table place t o at standing =
+AreAnswered-from_env plan given values sound same table place t o at present =
     let parts = env_parts plan given values _ refl same in
     let all = answers_whole given [] plan.tables values.answers sound.rules sound.demands parts.1 in
     let whole : AllWhole plan.tables values.answers = subst (AllWhole plan.tables) (sym all.1) all.2 in
-    subst (λ tables. is_some (answer_of tables values.answers o.name) ≡ true) (sym parts.0) (answered plan.tables values.answers table place t o whole at standing)
+    subst (λ tables. is_some (answer_of tables values.answers o.name) ≡ true) (sym parts.0) (answered plan.tables values.answers table place t o whole at present)

@@ -11,7 +11,7 @@ use Rattle.feel_tests.specs.declared.value.Value.{Value}
 use Rattle.feel_tests.specs.Value.{kind_of}
 use Rattle.dtable.specs.declared.inputs.Slot.{Slot}
 use Rattle.dtable.specs.declared.table.InputData.{InputData}
-use Rattle.dtable.specs.Inputs.{value_at, kind_at, empty_slots, filled, Takes}
+use Rattle.dtable.specs.Inputs.{value_at, kind_at, empty_slots, fill_slot, Takes}
 use Rattle.evaluation.specs.Arguments.{argument_texts, Assignment, IsSplit, NamesData, IsArgument, EachArgument, AreApart, Gives, assigned}
 
 -- a reference that is there leads to a value
@@ -31,9 +31,9 @@ a_value (Some reference) given some same = (reference.now, sym same)
 -- the data of this name stands at the place
 pub names_data : (names : List InputData) (text name literal : List ℕ) (place : ℕ) (input : InputData) → IsSplit text name literal → slice_get names place ≡ Some input → input.name ≡ name
     → NamesData names text place input literal
-names_data names text name literal place input split standing same =
+names_data names text name literal place input split present same =
     let P : List ℕ → Type 0 = λ n. IsSplit text n literal in
-    record { split = subst P (sym same) split; standing = standing }
+    record { split = subst P (sym same) split; present = present }
 
 -- the text of an argument
 pub argument_texts-at : (arguments : List (Bor (List ℕ))) (place : ℕ) (d : Bor (List ℕ)) → place < length arguments → slice_get (argument_texts arguments) place ≡ Some (get_or arguments place d).now
@@ -117,28 +117,28 @@ takes_within (s ∷ ss) (suc place) kind takes = omega (arith, takes_within ss p
 -- the place of an argument takes its value
 pub argument_taken : (names : List InputData) (arguments : List (List ℕ)) (given : List Slot) (text : List ℕ) (a : Assignment) → Gives names arguments given → IsArgument names text a → Takes given a.place (kind_of a.value)
 argument_taken names arguments given text a before argument =
-    before.kinds a.place ∙ ap (option_map (λ (d : InputData). d.kind)) argument.named.standing ∙ ap Some (sym argument.of_kind)
+    before.kinds a.place ∙ ap (option_map (λ (d : InputData). d.kind)) argument.named.present ∙ ap Some (sym argument.of_kind)
 
 -- one more argument gives one more value
 pub Gives-more : (names : List InputData) (arguments : List (List ℕ)) (given : List Slot) (text : List ℕ) (a : Assignment) → Gives names arguments given → IsArgument names text a
-    → value_at given a.place ≡ None → Gives names (arguments ++ text ∷ []) (filled given a.place a.value)
+    → value_at given a.place ≡ None → Gives names (arguments ++ text ∷ []) (fill_slot given a.place a.value)
 Gives-more names arguments given text a before argument fresh =
     let unassigned : assigned before.assignments a.place ≡ None = sym (before.found a.place) ∙ fresh in
     let taken : Takes given a.place (kind_of a.value) = argument_taken names arguments given text a before argument in
     let within : a.place < length given = takes_within given a.place _ taken in
     let slot : Slot = record { kind = kind_of a.value; value = Some a.value } in
-    let here : slice_get (filled given a.place a.value) a.place ≡ Some slot = slice_get-set_same given a.place slot within in
+    let here : slice_get (fill_slot given a.place a.value) a.place ≡ Some slot = slice_get-set_same given a.place slot within in
     record {
       assignments = before.assignments ++ a ∷ [];
       each = EachArgument-push names arguments before.assignments text a before.each argument;
       once = AreApart-push before.assignments a before.once unassigned;
       kinds = λ place. ⊎_elim
-          (λ (same : a.place ≡ place). subst (λ p. kind_at (filled given a.place a.value) p ≡ option_map (λ (d : InputData). d.kind) (slice_get names p)) same
+          (λ (same : a.place ≡ place). subst (λ p. kind_at (fill_slot given a.place a.value) p ≡ option_map (λ (d : InputData). d.kind) (slice_get names p)) same
           (ap (option_map (λ (s : Slot). s.kind)) here ∙ sym taken ∙ before.kinds a.place))
           (λ (other : a.place ≢ place). ap (option_map (λ (s : Slot). s.kind)) (slice_get-set_other given a.place place slot (λ e. other (sym e))) ∙ before.kinds place)
           (cases_eq a.place place);
       found = λ place. ⊎_elim
-          (λ (same : a.place ≡ place). subst (λ p. value_at (filled given a.place a.value) p ≡ assigned (before.assignments ++ a ∷ []) p) same
+          (λ (same : a.place ≡ place). subst (λ p. value_at (fill_slot given a.place a.value) p ≡ assigned (before.assignments ++ a ∷ []) p) same
           (ap (option_and_then (λ (s : Slot). s.value)) here
           ∙ sym (assigned-push before.assignments a a.place unassigned ∙ ap (λ test. cond test (Some a.value) None) ((Decides-eqb a.place a.place).1 refl))))
           (λ (other : a.place ≢ place). ap (option_and_then (λ (s : Slot). s.value)) (slice_get-set_other given a.place place slot (λ e. other (sym e)))
@@ -149,7 +149,7 @@ Gives-more names arguments given text a before argument fresh =
 -- and so does the next of the arguments
 pub Gives-next : (names : List InputData) (arguments : List (Bor (List ℕ))) (place : ℕ) (d : Bor (List ℕ)) (given : List Slot) (a : Assignment) → Gives names (take place (argument_texts arguments)) given
     → place < length arguments → IsArgument names (get_or arguments place d).now a → value_at given a.place ≡ None
-    → Gives names (take (place + 1) (argument_texts arguments)) (filled given a.place a.value)
+    → Gives names (take (place + 1) (argument_texts arguments)) (fill_slot given a.place a.value)
 Gives-next names arguments place d given a before within argument fresh =
-    let P : List (List ℕ) → Type 0 = λ texts. Gives names texts (filled given a.place a.value) in
+    let P : List (List ℕ) → Type 0 = λ texts. Gives names texts (fill_slot given a.place a.value) in
     subst P (sym (argument_texts-more arguments place d within)) (Gives-more names _ given _ a before argument fresh)

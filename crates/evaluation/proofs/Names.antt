@@ -8,15 +8,15 @@ use Rattle.dtable.specs.Scope.{data_names}
 
 -- the name at a place
 pub data_names-at : (names : List InputData) (place : ℕ) (input : InputData) → place < length names → input ≡ get_or names place input → slice_get (data_names names) place ≡ Some input.name
-data_names-at names place input within standing =
-    slice_get-map (λ (d : InputData). d.name) names place ∙ ap (λ o. option_map (λ (d : InputData). d.name) o) (slice_get_read names (length names) place input refl within standing)
+data_names-at names place input within present =
+    slice_get-map (λ (d : InputData). d.name) names place ∙ ap (λ o. option_map (λ (d : InputData). d.name) o) (slice_get_read names (length names) place input refl within present)
 
 -- where no data before a place has the name, nor the one there, none has it up to there
 pub unnamed_more : (names : List InputData) (name : List ℕ) (place : ℕ) (input : InputData) → place < length names → input ≡ get_or names place input → input.name ≢ name
     → ((k : ℕ) → k < place → slice_get (data_names names) k ≢ Some name) → (k : ℕ) → k < place + 1 → slice_get (data_names names) k ≢ Some name
-unnamed_more names name place input within standing other below =
+unnamed_more names name place input within present other below =
     below_more (λ k. slice_get (data_names names) k ≢ Some name) place below
-    (λ e. other (same_Some _ _ (sym (data_names-at names place input within standing) ∙ e)))
+    (λ e. other (same_Some _ _ (sym (data_names-at names place input within present) ∙ e)))
 
 -- a name that stands at no place is not among the names
 pub unknown_name : (names : List InputData) (name : List ℕ) (place : ℕ) → length names ≤ place

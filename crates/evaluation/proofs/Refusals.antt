@@ -22,11 +22,11 @@ use Rattle.evaluation.specs.Stop.{IsArgumentFault, IsMemoryFault, IsStopOfArgume
 -- the first argument that gives no value is the refusal
 pub refuses_argument : (names : List InputData) (arguments : List (List ℕ)) (given : List Slot) (place : ℕ) (text : List ℕ) (fault : ArgumentFault) (s : ValueStop) → Gives names (take place arguments) given
     → slice_get arguments place ≡ Some text → (¬ IsMemoryFault fault → IsArgumentFault names given text fault) → IsStopOfArgument (place + 1) fault s → RefusesArguments names arguments s
-refuses_argument names arguments given place text fault (stop.Argument number same) gives standing is_fault made =
+refuses_argument names arguments given place text fault (stop.Argument number same) gives present is_fault made =
     let P : ArgumentFault → Type 0 = λ f. IsArgumentFault names given text f in
-    record { place = place; counted = made.0; text = text; standing = standing; given = given; gives = gives; fault_is = subst P (sym made.1) (is_fault made.2) }
-refuses_argument names arguments given place text fault stop.NoMemory gives standing is_fault made = tt
-refuses_argument names arguments given place text fault _ gives standing is_fault made = absurd made
+    record { place = place; counted = made.0; text = text; present = present; given = given; gives = gives; fault_is = subst P (sym made.1) (is_fault made.2) }
+refuses_argument names arguments given place text fault stop.NoMemory gives present is_fault made = tt
+refuses_argument names arguments given place text fault _ gives present is_fault made = absurd made
 
 -- a plan's fault is the refusal of a command that takes a plan alone
 pub refuses_spelling : (text : List ℕ) (fault : PlanFault) (s : ValueStop) → (fault.cause ≢ cause.OutOfMemory → (plan : PlanParts) → ¬ IsPlanText text plan) → IsStopOfPlan fault s → RefusesPlan text s

@@ -16,9 +16,9 @@ SplitsInParts bytes parts =
     (λ x. (bytes ≡ x.0.now ++ (equals_sign ∷ x.1.now)) × ((i : ℕ) → i < length x.0.now → get_or x.0.now i 0 ≢ equals_sign))
 
 pub IsSplit-from_parts : (bytes : List ℕ) (parts : Option (Bor (List ℕ) × Bor (List ℕ))) → SplitsInParts bytes parts → IfSome parts (λ x. IsSplit bytes x.0.now x.1.now)
-IsSplit-from_parts bytes None told = tt
-IsSplit-from_parts bytes (Some x) told = record { joined = told.0; first = not_contained equals_sign x.0.now told.1 }
+IsSplit-from_parts bytes None reported = tt
+IsSplit-from_parts bytes (Some x) reported = record { joined = reported.0; first = not_contained equals_sign x.0.now reported.1 }
 
 pub no_split : (bytes : List ℕ) (parts : Option (Bor (List ℕ) × Bor (List ℕ))) → SplitsInParts bytes parts → IfNone parts (¬ Contains bytes equals_sign)
-no_split bytes None told = not_contained equals_sign bytes told
-no_split bytes (Some x) told = tt
+no_split bytes None reported = not_contained equals_sign bytes reported
+no_split bytes (Some x) reported = tt

@@ -25,7 +25,7 @@ pub record IsSplit (text name literal : List ℕ) : Type 0 where
 -- the argument's name is that of the input data at a place, and the literal stands behind it
 pub record NamesData (names : List InputData) (text : List ℕ) (place : ℕ) (input : InputData) (literal : List ℕ) : Type 0 where
   pub split : IsSplit text input.name literal
-  pub standing : slice_get names place ≡ Some input
+  pub present : slice_get names place ≡ Some input
 
 -- a name's place, and the value that is given for it
 pub record Assignment : Type 0 where
@@ -72,7 +72,7 @@ IsReadyBelow end tables given = (place : ℕ) → place < end → IsTrue (needs 
 pub record IsFirstMissing (names : List InputData) (tables : List Table) (given : List Slot) (name : List ℕ) : Type 0 where
   pub place : ℕ
   pub input : InputData
-  pub standing : slice_get names place ≡ Some input
+  pub present : slice_get names place ≡ Some input
   pub named : input.name ≡ name
   pub read : IsTrue (needs tables place)
   pub missing : value_at given place ≡ None

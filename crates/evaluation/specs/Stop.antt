@@ -104,7 +104,7 @@ pub record IsFirstBadArgument (names : List InputData) (arguments : List (List �
   pub place : ℕ
   pub counted : number ≡ place + 1
   pub text : List ℕ
-  pub standing : slice_get arguments place ≡ Some text
+  pub present : slice_get arguments place ≡ Some text
   pub given : List Slot
   pub gives : Gives names (take place arguments) given
   pub fault_is : IsArgumentFault names given text fault

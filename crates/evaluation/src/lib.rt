@@ -16,6 +16,6 @@ mod stop;
 mod value;
 
 pub use faults::{LINE_LIMIT_BYTES, Refusal};
-pub use stop::line::Line;
+pub use stop::line::ErrorLine;
 pub use stop::{ArgumentFault, ValueStop};
 pub use value::do_value;

@@ -6,7 +6,7 @@ ghost use Rattle.fixpoint.specs.Out.{writer_of, has_failed};
 ghost use Rattle.evaluation.specs.Stop.{PutsUntil};
 
 use crate::stop::ValueStop;
-use fixpoint::{Cut, Out, put_all};
+use fixpoint::{Out, ShortWrite, put_all};
 use std::io::Write;
 
 /// Hands the text to the writer. A writer that fails in its midst is a refusal.
@@ -18,6 +18,6 @@ pub fn put_text<W: Write>(text: &[u8], out: &mut Out<W>) -> Result<(), ValueStop
 {
     match put_all(text, out) {
         Ok(()) => Ok(()),
-        Err(Cut { written }) => Err(ValueStop::Write { written }),
+        Err(ShortWrite { written }) => Err(ValueStop::Write { written }),
     }
 }

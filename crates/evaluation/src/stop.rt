@@ -8,7 +8,7 @@ pub mod line;
 use dtable::{Fault, Name, PlanCause, PlanFault};
 use faults::{LINE_LIMIT_BYTES, Refusal};
 use feel_tests::{CellCause, CellFault};
-use line::Line;
+use line::ErrorLine;
 use std::alloc::{AllocError, AllocFailed};
 use thiserror::Error;
 
@@ -87,7 +87,7 @@ impl ValueStop {
         ensures fits { result ≤ LINE_LIMIT_BYTES }
         ensures written { take result buffer.new ≡ stop_line self.now }
     {
-        let mut line = Line::new();
+        let mut line = ErrorLine::new();
         match self {
             ValueStop::Plan(fault) => line.put_plan_fault(fault),
             ValueStop::Argument { number, fault } => line.put_argument_fault(*number, fault),

@@ -57,44 +57,44 @@ pub string_denied : (kind : Kind) (text inside : List ℕ) (f : Refusal) → ski
 string_denied kind text inside f skipped d memory (Text bytes) rest h = d memory bytes rest h.1
 string_denied kind text inside f skipped d memory (Number units) rest h = word_no_quote text (Digits h.1) rest inside (λ e. omega (arith, e)) h.2 skipped
 string_denied kind text inside f skipped d memory (Flag flag) rest h = word_no_quote text (Name (flag_text flag)) rest inside (λ e. omega (arith, e)) h.1 skipped
-string_denied kind text inside f skipped d memory (Day day) rest h = word_no_quote text (Name date_word) h.1.behind_word inside (λ e. omega (arith, e)) h.1.word skipped
+string_denied kind text inside f skipped d memory (Day day) rest h = word_no_quote text (Name date_word) h.1.after_word inside (λ e. omega (arith, e)) h.1.word skipped
 
 pub name_denied : (kind : Kind) (text letters after : List ℕ) → Begins text (Name letters) after → (letters ≡ codes "true" → ⊥) → (letters ≡ codes "false" → ⊥) → (letters ≡ date_word → ⊥) → (value : Value) (rest : List ℕ) → IsLiteral kind text value rest → ⊥
 name_denied kind text letters after b no_true no_false no_date (Number units) rest h = number_name text h.1 rest letters after h.2 b
 name_denied kind text letters after b no_true no_false no_date (Text bytes) rest h = string_name text bytes rest letters after h.1 b
 name_denied kind text letters after b no_true no_false no_date (Flag true) rest h = no_true (one_name text letters after (flag_text true) rest b h.1).0
 name_denied kind text letters after b no_true no_false no_date (Flag false) rest h = no_false (one_name text letters after (flag_text false) rest b h.1).0
-name_denied kind text letters after b no_true no_false no_date (Day day) rest h = no_date (one_name text letters after date_word h.1.behind_word b h.1.word).0
+name_denied kind text letters after b no_true no_false no_date (Day day) rest h = no_date (one_name text letters after date_word h.1.after_word b h.1.word).0
 
 -- ---- dates
 
-pub date_denied : (kind : Kind) (text behind_word : List ℕ) → Begins text (Name date_word) behind_word → ((day : ℤ) (rest : List ℕ) → ¬ IsDate text day rest) → (value : Value) (rest : List ℕ) → IsLiteral kind text value rest → ⊥
-date_denied kind text behind_word b none (Day day) rest h = none day rest h.1
-date_denied kind text behind_word b none value rest h = omega (arith, literal_tag kind text value rest (Name date_word) behind_word b h)
+pub date_denied : (kind : Kind) (text after_word : List ℕ) → Begins text (Name date_word) after_word → ((day : ℤ) (rest : List ℕ) → ¬ IsDate text day rest) → (value : Value) (rest : List ℕ) → IsLiteral kind text value rest → ⊥
+date_denied kind text after_word b none (Day day) rest h = none day rest h.1
+date_denied kind text after_word b none value rest h = omega (arith, literal_tag kind text value rest (Name date_word) after_word b h)
 
-pub date_no_open : (text behind_word : List ℕ) → Begins text (Name date_word) behind_word → ((rest : List ℕ) → ¬ Begins behind_word (Sign symbols.OpenRound) rest) → (day : ℤ) (rest : List ℕ) → ¬ IsDate text day rest
-date_no_open text behind_word b none day rest h =
-    let words = one_name text date_word h.behind_word date_word behind_word h.word b in
-    none h.behind_open (subst (λ (t : List ℕ). Begins t (Sign symbols.OpenRound) h.behind_open) words.1 h.opens)
+pub date_no_open : (text after_word : List ℕ) → Begins text (Name date_word) after_word → ((rest : List ℕ) → ¬ Begins after_word (Sign symbols.OpenRound) rest) → (day : ℤ) (rest : List ℕ) → ¬ IsDate text day rest
+date_no_open text after_word b none day rest h =
+    let words = one_name text date_word h.after_word date_word after_word h.word b in
+    none h.after_open (subst (λ (t : List ℕ). Begins t (Sign symbols.OpenRound) h.after_open) words.1 h.opens)
 
 -- the text is not a date if no string follows the word and the parenthesis
-date_string : (text behind_word behind_open : List ℕ) → Begins text (Name date_word) behind_word → Begins behind_word (Sign symbols.OpenRound) behind_open → (day : ℤ) (rest : List ℕ) (h : IsDate text day rest) → Begins behind_open (Quoted h.date) h.behind_string
-date_string text behind_word behind_open b o day rest h =
-    let words = one_name text date_word h.behind_word date_word behind_word h.word b in
-    let opens = one_sign behind_word symbols.OpenRound h.behind_open symbols.OpenRound behind_open (subst (λ (t : List ℕ). Begins t (Sign symbols.OpenRound) h.behind_open) words.1 h.opens) o in
-    subst (λ (t : List ℕ). Begins t (Quoted h.date) h.behind_string) opens.1 h.string
+date_string : (text after_word after_open : List ℕ) → Begins text (Name date_word) after_word → Begins after_word (Sign symbols.OpenRound) after_open → (day : ℤ) (rest : List ℕ) (h : IsDate text day rest) → Begins after_open (Quoted h.date) h.after_string
+date_string text after_word after_open b o day rest h =
+    let words = one_name text date_word h.after_word date_word after_word h.word b in
+    let opens = one_sign after_word symbols.OpenRound h.after_open symbols.OpenRound after_open (subst (λ (t : List ℕ). Begins t (Sign symbols.OpenRound) h.after_open) words.1 h.opens) o in
+    subst (λ (t : List ℕ). Begins t (Quoted h.date) h.after_string) opens.1 h.string
 
-pub date_no_string : (text behind_word behind_open : List ℕ) → Begins text (Name date_word) behind_word → Begins behind_word (Sign symbols.OpenRound) behind_open → ((bytes rest : List ℕ) → ¬ Begins behind_open (Quoted bytes) rest) → (day : ℤ) (rest : List ℕ) → ¬ IsDate text day rest
-date_no_string text behind_word behind_open b o none day rest h = none h.date h.behind_string (date_string text behind_word behind_open b o day rest h)
+pub date_no_string : (text after_word after_open : List ℕ) → Begins text (Name date_word) after_word → Begins after_word (Sign symbols.OpenRound) after_open → ((bytes rest : List ℕ) → ¬ Begins after_open (Quoted bytes) rest) → (day : ℤ) (rest : List ℕ) → ¬ IsDate text day rest
+date_no_string text after_word after_open b o none day rest h = none h.date h.after_string (date_string text after_word after_open b o day rest h)
 
-pub date_no_close : (text behind_word behind_open date behind_string : List ℕ) → Begins text (Name date_word) behind_word → Begins behind_word (Sign symbols.OpenRound) behind_open → Begins behind_open (Quoted date) behind_string → ((rest : List ℕ) → ¬ Begins behind_string (Sign symbols.CloseRound) rest) → (day : ℤ) (rest : List ℕ) → ¬ IsDate text day rest
-date_no_close text behind_word behind_open date behind_string b o q none day rest h =
-    let strings = one_string behind_open h.date h.behind_string date behind_string (date_string text behind_word behind_open b o day rest h) q in
+pub date_no_close : (text after_word after_open date after_string : List ℕ) → Begins text (Name date_word) after_word → Begins after_word (Sign symbols.OpenRound) after_open → Begins after_open (Quoted date) after_string → ((rest : List ℕ) → ¬ Begins after_string (Sign symbols.CloseRound) rest) → (day : ℤ) (rest : List ℕ) → ¬ IsDate text day rest
+date_no_close text after_word after_open date after_string b o q none day rest h =
+    let strings = one_string after_open h.date h.after_string date after_string (date_string text after_word after_open b o day rest h) q in
     none rest (subst (λ (t : List ℕ). Begins t (Sign symbols.CloseRound) rest) strings.1 h.closes)
 
-pub date_bad : (text behind_word behind_open date behind_string : List ℕ) → Begins text (Name date_word) behind_word → Begins behind_word (Sign symbols.OpenRound) behind_open → Begins behind_open (Quoted date) behind_string → ((day : ℤ) → ¬ IsDateText date day) → (day : ℤ) (rest : List ℕ) → ¬ IsDate text day rest
-date_bad text behind_word behind_open date behind_string b o q none day rest h =
-    let strings = one_string behind_open h.date h.behind_string date behind_string (date_string text behind_word behind_open b o day rest h) q in
+pub date_bad : (text after_word after_open date after_string : List ℕ) → Begins text (Name date_word) after_word → Begins after_word (Sign symbols.OpenRound) after_open → Begins after_open (Quoted date) after_string → ((day : ℤ) → ¬ IsDateText date day) → (day : ℤ) (rest : List ℕ) → ¬ IsDate text day rest
+date_bad text after_word after_open date after_string b o q none day rest h =
+    let strings = one_string after_open h.date h.after_string date after_string (date_string text after_word after_open b o day rest h) q in
     none day (subst (λ (t : List ℕ). IsDateText t day) strings.0 h.is_date)
 
 pub date_long : (date : List ℕ) → 256 < length date → (day : ℤ) → ¬ IsDateText date day
@@ -153,33 +153,33 @@ plain_denied kind text f none d memory (Between low low_in high high_in) rest h 
 pub span_no_low : (kind : Kind) (low_in : Bool) (text : List ℕ) (f : Refusal) → DeniesPart (IsLiteral kind text) f → DeniesPart (IsSpanTest kind low_in text) f
 span_no_low kind low_in text f d memory (Equal value) rest h = h
 span_no_low kind low_in text f d memory (Compare op value) rest h = h
-span_no_low kind low_in text f d memory (Between low in_low high high_in) rest h = d memory low h.1.behind_low h.1.has_low
+span_no_low kind low_in text f d memory (Between low in_low high high_in) rest h = d memory low h.1.after_low h.1.has_low
 
-pub span_no_dots : (kind : Kind) (low_in : Bool) (text : List ℕ) (from : Value) (behind_low : List ℕ) (f : Refusal) → IsLiteral kind text from behind_low → ((rest : List ℕ) → ¬ Begins behind_low (Sign symbols.Dots) rest) → DeniesPart (IsSpanTest kind low_in text) f
-span_no_dots kind low_in text from behind_low f l d memory (Equal value) rest h = h
-span_no_dots kind low_in text from behind_low f l d memory (Compare op value) rest h = h
-span_no_dots kind low_in text from behind_low f l d memory (Between low in_low high high_in) rest h =
+pub span_no_dots : (kind : Kind) (low_in : Bool) (text : List ℕ) (from : Value) (after_low : List ℕ) (f : Refusal) → IsLiteral kind text from after_low → ((rest : List ℕ) → ¬ Begins after_low (Sign symbols.Dots) rest) → DeniesPart (IsSpanTest kind low_in text) f
+span_no_dots kind low_in text from after_low f l d memory (Equal value) rest h = h
+span_no_dots kind low_in text from after_low f l d memory (Compare op value) rest h = h
+span_no_dots kind low_in text from after_low f l d memory (Between low in_low high high_in) rest h =
     let span = h.1 in
-    let lows = literal_rest kind text low span.behind_low from behind_low span.has_low l in
-    d span.behind_dots (subst (λ (t : List ℕ). Begins t (Sign symbols.Dots) span.behind_dots) lows span.dots)
+    let lows = literal_rest kind text low span.after_low from after_low span.has_low l in
+    d span.after_dots (subst (λ (t : List ℕ). Begins t (Sign symbols.Dots) span.after_dots) lows span.dots)
 
-pub span_no_high : (kind : Kind) (low_in : Bool) (text : List ℕ) (from : Value) (behind_low behind_dots : List ℕ) (f : Refusal) → IsLiteral kind text from behind_low → Begins behind_low (Sign symbols.Dots) behind_dots → DeniesPart (IsLiteral kind behind_dots) f → DeniesPart (IsSpanTest kind low_in text) f
-span_no_high kind low_in text from behind_low behind_dots f l b d memory (Equal value) rest h = h
-span_no_high kind low_in text from behind_low behind_dots f l b d memory (Compare op value) rest h = h
-span_no_high kind low_in text from behind_low behind_dots f l b d memory (Between low in_low high high_in) rest h =
+pub span_no_high : (kind : Kind) (low_in : Bool) (text : List ℕ) (from : Value) (after_low after_dots : List ℕ) (f : Refusal) → IsLiteral kind text from after_low → Begins after_low (Sign symbols.Dots) after_dots → DeniesPart (IsLiteral kind after_dots) f → DeniesPart (IsSpanTest kind low_in text) f
+span_no_high kind low_in text from after_low after_dots f l b d memory (Equal value) rest h = h
+span_no_high kind low_in text from after_low after_dots f l b d memory (Compare op value) rest h = h
+span_no_high kind low_in text from after_low after_dots f l b d memory (Between low in_low high high_in) rest h =
     let span = h.1 in
-    let lows = literal_rest kind text low span.behind_low from behind_low span.has_low l in
-    let dots = one_sign behind_low symbols.Dots span.behind_dots symbols.Dots behind_dots (subst (λ (t : List ℕ). Begins t (Sign symbols.Dots) span.behind_dots) lows span.dots) b in
-    d memory high span.behind_high (subst (λ (t : List ℕ). IsLiteral kind t high span.behind_high) dots.1 span.has_high)
+    let lows = literal_rest kind text low span.after_low from after_low span.has_low l in
+    let dots = one_sign after_low symbols.Dots span.after_dots symbols.Dots after_dots (subst (λ (t : List ℕ). Begins t (Sign symbols.Dots) span.after_dots) lows span.dots) b in
+    d memory high span.after_high (subst (λ (t : List ℕ). IsLiteral kind t high span.after_high) dots.1 span.has_high)
 
-pub span_no_end : (kind : Kind) (low_in : Bool) (text : List ℕ) (from to : Value) (behind_low behind_dots behind_high : List ℕ) (f : Refusal) → IsLiteral kind text from behind_low → Begins behind_low (Sign symbols.Dots) behind_dots → IsLiteral kind behind_dots to behind_high → ((high_in : Bool) (rest : List ℕ) → ¬ IsEnd behind_high high_in rest) → DeniesPart (IsSpanTest kind low_in text) f
-span_no_end kind low_in text from to behind_low behind_dots behind_high f l b m d memory (Equal value) rest h = h
-span_no_end kind low_in text from to behind_low behind_dots behind_high f l b m d memory (Compare op value) rest h = h
-span_no_end kind low_in text from to behind_low behind_dots behind_high f l b m d memory (Between low in_low high high_in) rest h =
+pub span_no_end : (kind : Kind) (low_in : Bool) (text : List ℕ) (from to : Value) (after_low after_dots after_high : List ℕ) (f : Refusal) → IsLiteral kind text from after_low → Begins after_low (Sign symbols.Dots) after_dots → IsLiteral kind after_dots to after_high → ((high_in : Bool) (rest : List ℕ) → ¬ IsEnd after_high high_in rest) → DeniesPart (IsSpanTest kind low_in text) f
+span_no_end kind low_in text from to after_low after_dots after_high f l b m d memory (Equal value) rest h = h
+span_no_end kind low_in text from to after_low after_dots after_high f l b m d memory (Compare op value) rest h = h
+span_no_end kind low_in text from to after_low after_dots after_high f l b m d memory (Between low in_low high high_in) rest h =
     let span = h.1 in
-    let lows = literal_rest kind text low span.behind_low from behind_low span.has_low l in
-    let dots = one_sign behind_low symbols.Dots span.behind_dots symbols.Dots behind_dots (subst (λ (t : List ℕ). Begins t (Sign symbols.Dots) span.behind_dots) lows span.dots) b in
-    let highs = literal_rest kind behind_dots high span.behind_high to behind_high (subst (λ (t : List ℕ). IsLiteral kind t high span.behind_high) dots.1 span.has_high) m in
+    let lows = literal_rest kind text low span.after_low from after_low span.has_low l in
+    let dots = one_sign after_low symbols.Dots span.after_dots symbols.Dots after_dots (subst (λ (t : List ℕ). Begins t (Sign symbols.Dots) span.after_dots) lows span.dots) b in
+    let highs = literal_rest kind after_dots high span.after_high to after_high (subst (λ (t : List ℕ). IsLiteral kind t high span.after_high) dots.1 span.has_high) m in
     d high_in rest (span.bracket, subst (λ (t : List ℕ). Begins t (Sign span.bracket) rest) highs span.closes, span.end_is)
 
 pub end_denied : (text : List ℕ) (s : Symbol) (after : List ℕ) → Begins text (Sign s) after → end_in s ≡ None → (high_in : Bool) (rest : List ℕ) → IsEnd text high_in rest → ⊥

@@ -9,7 +9,7 @@ use Rattle.std.specs.Str.Parse.{AllDigits}
 use Rattle.std.proofs.lemmas.Str.Parse.{digit_from_value}
 use Rattle.std.proofs.lemmas.Bool.Decides.{nat_tests}
 use Rattle.fixpoint.specs.NumberText.{IsNumberText, dot_text}
-use Rattle.feel_tests.specs.Words.{Word, Sign, Digits, Quoted, Name, Spells, Begins, IsName, is_name_start, escaped, quoted, skip_white, symbol_text}
+use Rattle.feel_tests.specs.Words.{Word, Sign, Digits, Quoted, Name, Spells, Begins, IsName, is_name_start, escaped, quote_text, skip_white, symbol_text}
 use Rattle.feel_tests.specs.Symbols.{symbols}
 use Rattle.feel_tests.specs.Fronts.{number_len, name_len}
 use Rattle.feel_tests.specs.declared.symbol.Symbol.{Symbol}
@@ -177,7 +177,7 @@ begins_name text bytes skipped some within =
     }
 
 -- the bytes of a string, and the text after it
-string_joined : (text rest : List ℕ) → quoted text ++ rest ≡ 34 ∷ (escaped text ++ 34 ∷ rest)
+string_joined : (text rest : List ℕ) → quote_text text ++ rest ≡ 34 ∷ (escaped text ++ 34 ∷ rest)
 string_joined text rest = ap (λ (t : List ℕ). 34 ∷ t) (append_assoc (escaped text) (34 ∷ []) rest)
 
 tail_is : (a b : ℕ) (xs ys : List ℕ) → a ∷ xs ≡ b ∷ ys → xs ≡ ys
@@ -188,11 +188,11 @@ no_string_class inside other after longer e spelled apart =
     let same : 1 ≡ class_of longer = ap first_class e ∙ class_front other after longer spelled in
     apart (sym same)
 
-over_string : (inside bytes rest other after : List ℕ) (longer : Word) → inside ≡ escaped bytes ++ 34 ∷ rest → 34 ∷ inside ≡ other ++ after → Spells other longer → length other ≤ length (quoted bytes)
+over_string : (inside bytes rest other after : List ℕ) (longer : Word) → inside ≡ escaped bytes ++ 34 ∷ rest → 34 ∷ inside ≡ other ++ after → Spells other longer → length other ≤ length (quote_text bytes)
 over_string inside bytes rest other after (Quoted text) is e spelled =
     let there : 34 ∷ inside ≡ 34 ∷ (escaped text ++ 34 ∷ after) = e ∙ ap (λ (o : List ℕ). o ++ after) spelled ∙ string_joined text after in
     let one = (escaped_one bytes text rest after (sym is ∙ tail_is 34 34 inside (escaped text ++ 34 ∷ after) there)).0 in
-    let len : length (quoted text) ≡ length (quoted bytes) = ap (λ (t : List ℕ). length (quoted t)) (sym one) in
+    let len : length (quote_text text) ≡ length (quote_text bytes) = ap (λ (t : List ℕ). length (quote_text t)) (sym one) in
     rw spelled (omega (arith, len))
 over_string inside bytes rest other after (Sign symbol) is e spelled = absurd (no_string_class inside other after (Sign symbol) e spelled (omega arith))
 over_string inside bytes rest other after (Digits digits) is e spelled = absurd (no_string_class inside other after (Digits digits) e spelled (omega arith))
@@ -200,7 +200,7 @@ over_string inside bytes rest other after (Name letters) is e spelled = absurd (
 
 pub begins_quoted : (text inside bytes rest : List ℕ) → skip_white text ≡ 34 ∷ inside → inside ≡ escaped bytes ++ 34 ∷ rest → Begins text (Quoted bytes) rest
 begins_quoted text inside bytes rest skipped is = record {
-  front = quoted bytes;
+  front = quote_text bytes;
   joined = skipped ∙ ap (λ (t : List ℕ). 34 ∷ t) is ∙ sym (string_joined bytes rest);
   spelled = refl;
   longest = λ other after longer e spelled. over_string inside bytes rest other after longer is (sym skipped ∙ e) spelled;
@@ -258,13 +258,13 @@ same_word front one other e f =
     absurd (omega (arith, same))
 
 -- a text begins with at most one word
-pub begins_one : (text : List ℕ) (one : Word) (after : List ℕ) (other : Word) (behind : List ℕ) → Begins text one after → Begins text other behind → (one ≡ other) × (after ≡ behind)
-begins_one text one after other behind b c =
+pub begins_one : (text : List ℕ) (one : Word) (after : List ℕ) (other : Word) (following : List ℕ) → Begins text one after → Begins text other following → (one ≡ other) × (after ≡ following)
+begins_one text one after other following b c =
     let less : length b.front ≤ length c.front = c.longest b.front after one b.joined b.spelled in
-    let more : length c.front ≤ length b.front = b.longest c.front behind other c.joined c.spelled in
+    let more : length c.front ≤ length b.front = b.longest c.front following other c.joined c.spelled in
     let len : length b.front ≡ length c.front = omega (arith, less, more) in
-    let fronts : b.front ≡ c.front = sym (take_at b.front after (length c.front) len) ∙ ap (λ (t : List ℕ). take (length c.front) t) (sym b.joined ∙ c.joined) ∙ take_at c.front behind (length c.front) refl in
-    let rests : after ≡ behind = sym (drop_at b.front after (length c.front) len) ∙ ap (λ (t : List ℕ). drop (length c.front) t) (sym b.joined ∙ c.joined) ∙ drop_at c.front behind (length c.front) refl in
+    let fronts : b.front ≡ c.front = sym (take_at b.front after (length c.front) len) ∙ ap (λ (t : List ℕ). take (length c.front) t) (sym b.joined ∙ c.joined) ∙ take_at c.front following (length c.front) refl in
+    let rests : after ≡ following = sym (drop_at b.front after (length c.front) len) ∙ ap (λ (t : List ℕ). drop (length c.front) t) (sym b.joined ∙ c.joined) ∙ drop_at c.front following (length c.front) refl in
     (same_word b.front one other b.spelled (subst (λ (f : List ℕ). Spells f other) (sym fronts) c.spelled), rests)
 
 -- a word is not empty

@@ -47,7 +47,7 @@ digits_take (b ∷ bs) = digits_take_at b bs (is_ascii_digit b) refl (digits_tak
 -- ---- no longer start of the text is a number
 
 unsigned_len_is : (bytes rest : List ℕ) (w f : ℕ) → digits_len bytes ≡ w → drop w bytes ≡ rest → fraction_len rest ≡ f → unsigned_len bytes ≡ w + f
-unsigned_len_is bytes rest w f whole behind fraction = rw (whole, behind, fraction) refl
+unsigned_len_is bytes rest w f whole following fraction = rw (whole, following, fraction) refl
 
 pub unsigned_most : (whole fraction after : List ℕ) → AllDigits 10 whole → AllDigits 10 fraction → length (whole ++ dot_text fraction) ≤ unsigned_len ((whole ++ dot_text fraction) ++ after)
 unsigned_most whole [] after hw hf =

@@ -53,7 +53,7 @@ literal_first kind text (Number units) rest h = record { word = Digits h.1; afte
 literal_first kind text (Text bytes) rest h = record { word = Quoted bytes; after = rest; begins = h.1; tag = refl }
 literal_first kind text (Flag true) rest h = record { word = Name (flag_text true); after = rest; begins = h.1; tag = refl }
 literal_first kind text (Flag false) rest h = record { word = Name (flag_text false); after = rest; begins = h.1; tag = refl }
-literal_first kind text (Day day) rest h = record { word = Name date_word; after = h.1.behind_word; begins = h.1.word; tag = refl }
+literal_first kind text (Day day) rest h = record { word = Name date_word; after = h.1.after_word; begins = h.1.word; tag = refl }
 
 pub literal_tag : (kind : Kind) (text : List ℕ) (value : Value) (rest : List ℕ) (word : Word) (after : List ℕ) → Begins text word after → IsLiteral kind text value rest → word_tag word ≡ value_tag value
 literal_tag kind text value rest word after b h =
@@ -84,29 +84,29 @@ pub literal_no_sign : (kind : Kind) (text : List ℕ) (value : Value) (rest : Li
 literal_no_sign kind text value rest s after b h = literal_no_word kind text value rest (Sign s) after (omega arith) b h
 
 -- the date of a text and the text after it are unique
-pub one_date : (text : List ℕ) (day other : ℤ) (after behind : List ℕ) (h : IsDate text day after) (k : IsDate text other behind) → (h.date ≡ k.date) × (after ≡ behind)
-one_date text day other after behind h k =
-    let words = one_name text date_word h.behind_word date_word k.behind_word h.word k.word in
-    let opens = one_sign h.behind_word symbols.OpenRound h.behind_open symbols.OpenRound k.behind_open h.opens (subst (λ (t : List ℕ). Begins t (Sign symbols.OpenRound) k.behind_open) (sym words.1) k.opens) in
-    let strings = one_string h.behind_open h.date h.behind_string k.date k.behind_string h.string (subst (λ (t : List ℕ). Begins t (Quoted k.date) k.behind_string) (sym opens.1) k.string) in
-    let closes = one_sign h.behind_string symbols.CloseRound after symbols.CloseRound behind h.closes (subst (λ (t : List ℕ). Begins t (Sign symbols.CloseRound) behind) (sym strings.1) k.closes) in
+pub one_date : (text : List ℕ) (day other : ℤ) (after following : List ℕ) (h : IsDate text day after) (k : IsDate text other following) → (h.date ≡ k.date) × (after ≡ following)
+one_date text day other after following h k =
+    let words = one_name text date_word h.after_word date_word k.after_word h.word k.word in
+    let opens = one_sign h.after_word symbols.OpenRound h.after_open symbols.OpenRound k.after_open h.opens (subst (λ (t : List ℕ). Begins t (Sign symbols.OpenRound) k.after_open) (sym words.1) k.opens) in
+    let strings = one_string h.after_open h.date h.after_string k.date k.after_string h.string (subst (λ (t : List ℕ). Begins t (Quoted k.date) k.after_string) (sym opens.1) k.string) in
+    let closes = one_sign h.after_string symbols.CloseRound after symbols.CloseRound following h.closes (subst (λ (t : List ℕ). Begins t (Sign symbols.CloseRound) following) (sym strings.1) k.closes) in
     (strings.0, closes.1)
 
-same_tags : (kind : Kind) (text : List ℕ) (one : Value) (after : List ℕ) (other : Value) (behind : List ℕ) → IsLiteral kind text one after → IsLiteral kind text other behind → value_tag one ≡ value_tag other
-same_tags kind text one after other behind h k =
+same_tags : (kind : Kind) (text : List ℕ) (one : Value) (after : List ℕ) (other : Value) (following : List ℕ) → IsLiteral kind text one after → IsLiteral kind text other following → value_tag one ≡ value_tag other
+same_tags kind text one after other following h k =
     let first = literal_first kind text one after h in
-    sym first.tag ∙ literal_tag kind text other behind first.word first.after first.begins k
+    sym first.tag ∙ literal_tag kind text other following first.word first.after first.begins k
 
-rest_at : (kind : Kind) (text : List ℕ) (one : Value) (after : List ℕ) (other : Value) (behind : List ℕ) → value_tag one ≡ value_tag other → IsLiteral kind text one after → IsLiteral kind text other behind → after ≡ behind
-rest_at kind text (Number a) after (Number b) behind e h k = (one_number text h.1 after k.1 behind h.2 k.2).1
-rest_at kind text (Text a) after (Text b) behind e h k = (one_string text a after b behind h.1 k.1).1
-rest_at kind text (Flag a) after (Flag b) behind e h k = (one_name text (flag_text a) after (flag_text b) behind h.1 k.1).1
-rest_at kind text (Day a) after (Day b) behind e h k = (one_date text a b after behind h.1 k.1).1
-rest_at kind text one after other behind e h k = absurd (omega (arith, e))
+rest_at : (kind : Kind) (text : List ℕ) (one : Value) (after : List ℕ) (other : Value) (following : List ℕ) → value_tag one ≡ value_tag other → IsLiteral kind text one after → IsLiteral kind text other following → after ≡ following
+rest_at kind text (Number a) after (Number b) following e h k = (one_number text h.1 after k.1 following h.2 k.2).1
+rest_at kind text (Text a) after (Text b) following e h k = (one_string text a after b following h.1 k.1).1
+rest_at kind text (Flag a) after (Flag b) following e h k = (one_name text (flag_text a) after (flag_text b) following h.1 k.1).1
+rest_at kind text (Day a) after (Day b) following e h k = (one_date text a b after following h.1 k.1).1
+rest_at kind text one after other following e h k = absurd (omega (arith, e))
 
 -- the text after a literal is unique
-pub literal_rest : (kind : Kind) (text : List ℕ) (one : Value) (after : List ℕ) (other : Value) (behind : List ℕ) → IsLiteral kind text one after → IsLiteral kind text other behind → after ≡ behind
-literal_rest kind text one after other behind h k = rest_at kind text one after other behind (same_tags kind text one after other behind h k) h k
+pub literal_rest : (kind : Kind) (text : List ℕ) (one : Value) (after : List ℕ) (other : Value) (following : List ℕ) → IsLiteral kind text one after → IsLiteral kind text other following → after ≡ following
+literal_rest kind text one after other following h k = rest_at kind text one after other following (same_tags kind text one after other following h k) h k
 
 flag_one : (a b : Bool) → flag_text a ≡ flag_text b → a ≡ b
 flag_one true true e = refl
@@ -114,20 +114,20 @@ flag_one false false e = refl
 flag_one true false e = let l : 4 ≡ 5 = ap length e in absurd (omega (arith, l))
 flag_one false true e = let l : 5 ≡ 4 = ap length e in absurd (omega (arith, l))
 
-value_at : DenotesAtMostOne → (kind : Kind) (text : List ℕ) (one : Value) (after : List ℕ) (other : Value) (behind : List ℕ) → value_tag one ≡ value_tag other → IsLiteral kind text one after → IsLiteral kind text other behind → one ≡ other
-value_at law kind text (Number a) after (Number b) behind e h k =
-    let same = (one_number text h.1 after k.1 behind h.2 k.2).0 in
+value_at : DenotesAtMostOne → (kind : Kind) (text : List ℕ) (one : Value) (after : List ℕ) (other : Value) (following : List ℕ) → value_tag one ≡ value_tag other → IsLiteral kind text one after → IsLiteral kind text other following → one ≡ other
+value_at law kind text (Number a) after (Number b) following e h k =
+    let same = (one_number text h.1 after k.1 following h.2 k.2).0 in
     ap Number (law k.1 a b (subst (λ (d : List ℕ). Denotes d a) same h.3) k.3)
-value_at law kind text (Text a) after (Text b) behind e h k = ap Text (one_string text a after b behind h.1 k.1).0
-value_at law kind text (Flag a) after (Flag b) behind e h k = ap Flag (flag_one a b (one_name text (flag_text a) after (flag_text b) behind h.1 k.1).0)
-value_at law kind text (Day a) after (Day b) behind e h k =
-    let same = (one_date text a b after behind h.1 k.1).0 in
+value_at law kind text (Text a) after (Text b) following e h k = ap Text (one_string text a after b following h.1 k.1).0
+value_at law kind text (Flag a) after (Flag b) following e h k = ap Flag (flag_one a b (one_name text (flag_text a) after (flag_text b) following h.1 k.1).0)
+value_at law kind text (Day a) after (Day b) following e h k =
+    let same = (one_date text a b after following h.1 k.1).0 in
     ap Day (date_one k.1.date a b (subst (λ (t : List ℕ). IsDateText t a) same h.1.is_date) k.1.is_date)
-value_at law kind text one after other behind e h k = absurd (omega (arith, e))
+value_at law kind text one after other following e h k = absurd (omega (arith, e))
 
 -- the value of a literal is unique
-pub literal_value : DenotesAtMostOne → (kind : Kind) (text : List ℕ) (one : Value) (after : List ℕ) (other : Value) (behind : List ℕ) → IsLiteral kind text one after → IsLiteral kind text other behind → one ≡ other
-literal_value law kind text one after other behind h k = value_at law kind text one after other behind (same_tags kind text one after other behind h k) h k
+pub literal_value : DenotesAtMostOne → (kind : Kind) (text : List ℕ) (one : Value) (after : List ℕ) (other : Value) (following : List ℕ) → IsLiteral kind text one after → IsLiteral kind text other following → one ≡ other
+literal_value law kind text one after other following h k = value_at law kind text one after other following (same_tags kind text one after other following h k) h k
 
 -- an operator is not a bracket
 pub no_bracket : (op : Op) (s : Symbol) (low_in : Bool) → op_symbol op ≡ s → start_in s ≡ Some low_in → ⊥
@@ -137,30 +137,30 @@ no_bracket More s low_in e h = let n : start_in s ≡ None = subst (λ z. start_
 no_bracket AtLeast s low_in e h = let n : start_in s ≡ None = subst (λ z. start_in z ≡ None) e refl in cc
 
 -- the text after a span is unique
-pub span_rest : (kind : Kind) (text : List ℕ) (low : Value) (high : Value) (high_in : Bool) (after : List ℕ) (from : Value) (to : Value) (to_in : Bool) (behind : List ℕ) → IsSpan kind text low high high_in after → IsSpan kind text from to to_in behind → after ≡ behind
-span_rest kind text low high high_in after from to to_in behind h k =
-    let lows = literal_rest kind text low h.behind_low from k.behind_low h.has_low k.has_low in
-    let dots = one_sign h.behind_low _ h.behind_dots _ k.behind_dots h.dots (subst (λ (t : List ℕ). Begins t _ k.behind_dots) (sym lows) k.dots) in
-    let highs = literal_rest kind h.behind_dots high h.behind_high to k.behind_high h.has_high (subst (λ (t : List ℕ). IsLiteral kind t to k.behind_high) (sym dots.1) k.has_high) in
-    (one_sign h.behind_high h.bracket after k.bracket behind h.closes (subst (λ (t : List ℕ). Begins t (Sign k.bracket) behind) (sym highs) k.closes)).1
+pub span_rest : (kind : Kind) (text : List ℕ) (low : Value) (high : Value) (high_in : Bool) (after : List ℕ) (from : Value) (to : Value) (to_in : Bool) (following : List ℕ) → IsSpan kind text low high high_in after → IsSpan kind text from to to_in following → after ≡ following
+span_rest kind text low high high_in after from to to_in following h k =
+    let lows = literal_rest kind text low h.after_low from k.after_low h.has_low k.has_low in
+    let dots = one_sign h.after_low _ h.after_dots _ k.after_dots h.dots (subst (λ (t : List ℕ). Begins t _ k.after_dots) (sym lows) k.dots) in
+    let highs = literal_rest kind h.after_dots high h.after_high to k.after_high h.has_high (subst (λ (t : List ℕ). IsLiteral kind t to k.after_high) (sym dots.1) k.has_high) in
+    (one_sign h.after_high h.bracket after k.bracket following h.closes (subst (λ (t : List ℕ). Begins t (Sign k.bracket) following) (sym highs) k.closes)).1
 
 -- the text after a test is unique
-pub test_rest : (kind : Kind) (text : List ℕ) (one : Test) (after : List ℕ) (other : Test) (behind : List ℕ) → IsTest kind text one after → IsTest kind text other behind → after ≡ behind
-test_rest kind text (Equal a) after (Equal b) behind h k = literal_rest kind text a after b behind h k
-test_rest kind text (Equal a) after (Compare op b) behind h k = absurd (literal_no_sign kind text a after (op_symbol op) k.literal k.operator h)
-test_rest kind text (Equal a) after (Between low low_in high high_in) behind h k = absurd (literal_no_sign kind text a after k.bracket k.span k.opens h)
-test_rest kind text (Compare op a) after (Equal b) behind h k = absurd (literal_no_sign kind text b behind (op_symbol op) h.literal h.operator k)
-test_rest kind text (Compare op a) after (Compare po b) behind h k =
+pub test_rest : (kind : Kind) (text : List ℕ) (one : Test) (after : List ℕ) (other : Test) (following : List ℕ) → IsTest kind text one after → IsTest kind text other following → after ≡ following
+test_rest kind text (Equal a) after (Equal b) following h k = literal_rest kind text a after b following h k
+test_rest kind text (Equal a) after (Compare op b) following h k = absurd (literal_no_sign kind text a after (op_symbol op) k.literal k.operator h)
+test_rest kind text (Equal a) after (Between low low_in high high_in) following h k = absurd (literal_no_sign kind text a after k.bracket k.span k.opens h)
+test_rest kind text (Compare op a) after (Equal b) following h k = absurd (literal_no_sign kind text b following (op_symbol op) h.literal h.operator k)
+test_rest kind text (Compare op a) after (Compare po b) following h k =
     let one = one_sign text (op_symbol op) h.literal (op_symbol po) k.literal h.operator k.operator in
-    literal_rest kind h.literal a after b behind h.has_literal (subst (λ (t : List ℕ). IsLiteral kind t b behind) (sym one.1) k.has_literal)
-test_rest kind text (Compare op a) after (Between low low_in high high_in) behind h k =
+    literal_rest kind h.literal a after b following h.has_literal (subst (λ (t : List ℕ). IsLiteral kind t b following) (sym one.1) k.has_literal)
+test_rest kind text (Compare op a) after (Between low low_in high high_in) following h k =
     absurd (no_bracket op k.bracket low_in (one_sign text (op_symbol op) h.literal k.bracket k.span h.operator k.opens).0 k.start_is)
-test_rest kind text (Between low low_in high high_in) after (Equal b) behind h k = absurd (literal_no_sign kind text b behind h.bracket h.span h.opens k)
-test_rest kind text (Between low low_in high high_in) after (Compare op b) behind h k =
+test_rest kind text (Between low low_in high high_in) after (Equal b) following h k = absurd (literal_no_sign kind text b following h.bracket h.span h.opens k)
+test_rest kind text (Between low low_in high high_in) after (Compare op b) following h k =
     absurd (no_bracket op h.bracket low_in (one_sign text (op_symbol op) k.literal h.bracket h.span k.operator h.opens).0 h.start_is)
-test_rest kind text (Between low low_in high high_in) after (Between from from_in to to_in) behind h k =
+test_rest kind text (Between low low_in high high_in) after (Between from from_in to to_in) following h k =
     let one = one_sign text h.bracket h.span k.bracket k.span h.opens k.opens in
-    span_rest kind h.span low high high_in after from to to_in behind h.has_span (subst (λ (t : List ℕ). IsSpan kind t from to to_in behind) (sym one.1) k.has_span)
+    span_rest kind h.span low high high_in after from to to_in following h.has_span (subst (λ (t : List ℕ). IsSpan kind t from to to_in following) (sym one.1) k.has_span)
 
 -- an operator belongs to one comparison
 pub op_one : (op po : Op) → op_symbol op ≡ op_symbol po → op ≡ po
@@ -172,35 +172,35 @@ op_one op po e = some_is op po (sym (op_back op) ∙ ap op_of e ∙ op_back po)
     op_back More = refl
     op_back AtLeast = refl
 
-span_value : DenotesAtMostOne → (kind : Kind) (text : List ℕ) (low : Value) (high : Value) (high_in : Bool) (after : List ℕ) (from : Value) (to : Value) (to_in : Bool) (behind : List ℕ) → IsSpan kind text low high high_in after → IsSpan kind text from to to_in behind → (low ≡ from) × (high ≡ to) × (high_in ≡ to_in)
-span_value law kind text low high high_in after from to to_in behind h k =
-    let lows = literal_rest kind text low h.behind_low from k.behind_low h.has_low k.has_low in
-    let dots = one_sign h.behind_low _ h.behind_dots _ k.behind_dots h.dots (subst (λ (t : List ℕ). Begins t _ k.behind_dots) (sym lows) k.dots) in
-    let to_there = subst (λ (t : List ℕ). IsLiteral kind t to k.behind_high) (sym dots.1) k.has_high in
-    let highs = literal_rest kind h.behind_dots high h.behind_high to k.behind_high h.has_high to_there in
-    let ends = one_sign h.behind_high h.bracket after k.bracket behind h.closes (subst (λ (t : List ℕ). Begins t (Sign k.bracket) behind) (sym highs) k.closes) in
-    (literal_value law kind text low h.behind_low from k.behind_low h.has_low k.has_low, literal_value law kind h.behind_dots high h.behind_high to k.behind_high h.has_high to_there, some_is high_in to_in (sym h.end_is ∙ ap end_in ends.0 ∙ k.end_is))
+span_value : DenotesAtMostOne → (kind : Kind) (text : List ℕ) (low : Value) (high : Value) (high_in : Bool) (after : List ℕ) (from : Value) (to : Value) (to_in : Bool) (following : List ℕ) → IsSpan kind text low high high_in after → IsSpan kind text from to to_in following → (low ≡ from) × (high ≡ to) × (high_in ≡ to_in)
+span_value law kind text low high high_in after from to to_in following h k =
+    let lows = literal_rest kind text low h.after_low from k.after_low h.has_low k.has_low in
+    let dots = one_sign h.after_low _ h.after_dots _ k.after_dots h.dots (subst (λ (t : List ℕ). Begins t _ k.after_dots) (sym lows) k.dots) in
+    let to_there = subst (λ (t : List ℕ). IsLiteral kind t to k.after_high) (sym dots.1) k.has_high in
+    let highs = literal_rest kind h.after_dots high h.after_high to k.after_high h.has_high to_there in
+    let ends = one_sign h.after_high h.bracket after k.bracket following h.closes (subst (λ (t : List ℕ). Begins t (Sign k.bracket) following) (sym highs) k.closes) in
+    (literal_value law kind text low h.after_low from k.after_low h.has_low k.has_low, literal_value law kind h.after_dots high h.after_high to k.after_high h.has_high to_there, some_is high_in to_in (sym h.end_is ∙ ap end_in ends.0 ∙ k.end_is))
 
 -- a text begins with at most one test
-pub test_value : DenotesAtMostOne → (kind : Kind) (text : List ℕ) (one : Test) (after : List ℕ) (other : Test) (behind : List ℕ) → IsTest kind text one after → IsTest kind text other behind → one ≡ other
-test_value law kind text (Equal a) after (Equal b) behind h k = ap Equal (literal_value law kind text a after b behind h k)
-test_value law kind text (Equal a) after (Compare op b) behind h k = absurd (literal_no_sign kind text a after (op_symbol op) k.literal k.operator h)
-test_value law kind text (Equal a) after (Between low low_in high high_in) behind h k = absurd (literal_no_sign kind text a after k.bracket k.span k.opens h)
-test_value law kind text (Compare op a) after (Equal b) behind h k = absurd (literal_no_sign kind text b behind (op_symbol op) h.literal h.operator k)
-test_value law kind text (Compare op a) after (Compare po b) behind h k =
+pub test_value : DenotesAtMostOne → (kind : Kind) (text : List ℕ) (one : Test) (after : List ℕ) (other : Test) (following : List ℕ) → IsTest kind text one after → IsTest kind text other following → one ≡ other
+test_value law kind text (Equal a) after (Equal b) following h k = ap Equal (literal_value law kind text a after b following h k)
+test_value law kind text (Equal a) after (Compare op b) following h k = absurd (literal_no_sign kind text a after (op_symbol op) k.literal k.operator h)
+test_value law kind text (Equal a) after (Between low low_in high high_in) following h k = absurd (literal_no_sign kind text a after k.bracket k.span k.opens h)
+test_value law kind text (Compare op a) after (Equal b) following h k = absurd (literal_no_sign kind text b following (op_symbol op) h.literal h.operator k)
+test_value law kind text (Compare op a) after (Compare po b) following h k =
     let one = one_sign text (op_symbol op) h.literal (op_symbol po) k.literal h.operator k.operator in
     let ops = op_one op po one.0 in
-    let values = literal_value law kind h.literal a after b behind h.has_literal (subst (λ (t : List ℕ). IsLiteral kind t b behind) (sym one.1) k.has_literal) in
+    let values = literal_value law kind h.literal a after b following h.has_literal (subst (λ (t : List ℕ). IsLiteral kind t b following) (sym one.1) k.has_literal) in
     rw (ops, values) refl
-test_value law kind text (Compare op a) after (Between low low_in high high_in) behind h k =
+test_value law kind text (Compare op a) after (Between low low_in high high_in) following h k =
     absurd (no_bracket op k.bracket low_in (one_sign text (op_symbol op) h.literal k.bracket k.span h.operator k.opens).0 k.start_is)
-test_value law kind text (Between low low_in high high_in) after (Equal b) behind h k = absurd (literal_no_sign kind text b behind h.bracket h.span h.opens k)
-test_value law kind text (Between low low_in high high_in) after (Compare op b) behind h k =
+test_value law kind text (Between low low_in high high_in) after (Equal b) following h k = absurd (literal_no_sign kind text b following h.bracket h.span h.opens k)
+test_value law kind text (Between low low_in high high_in) after (Compare op b) following h k =
     absurd (no_bracket op h.bracket low_in (one_sign text (op_symbol op) k.literal h.bracket h.span k.operator h.opens).0 h.start_is)
-test_value law kind text (Between low low_in high high_in) after (Between from from_in to to_in) behind h k =
+test_value law kind text (Between low low_in high high_in) after (Between from from_in to to_in) following h k =
     let one = one_sign text h.bracket h.span k.bracket k.span h.opens k.opens in
     let starts = some_is low_in from_in (sym h.start_is ∙ ap start_in one.0 ∙ k.start_is) in
-    let ends = span_value law kind h.span low high high_in after from to to_in behind h.has_span (subst (λ (t : List ℕ). IsSpan kind t from to to_in behind) (sym one.1) k.has_span) in
+    let ends = span_value law kind h.span low high high_in after from to to_in following h.has_span (subst (λ (t : List ℕ). IsSpan kind t from to to_in following) (sym one.1) k.has_span) in
     let lows = ends.0 in
     let highs = ends.1 in
     let high_ins = ends.2 in

@@ -18,8 +18,8 @@ written b = elim (cases_Bool (eqb b 34 || eqb b 92)) [ inl t ↦ slashed t | inr
 pub byte_bare : (b : ℕ) → (eqb b 34 || eqb b 92) ≡ false → escaped_byte b ≡ b ∷ []
 byte_bare b e = rw e refl
 
-pub byte_behind : (b : ℕ) → (eqb b 34 || eqb b 92) ≡ true → escaped_byte b ≡ 92 ∷ b ∷ []
-byte_behind b e = rw e refl
+pub byte_after : (b : ℕ) → (eqb b 34 || eqb b 92) ≡ true → escaped_byte b ≡ 92 ∷ b ∷ []
+byte_after b e = rw e refl
 
 bare_no_quote : (b : ℕ) → (eqb b 34 || eqb b 92) ≡ false → b ≡ 34 → ⊥
 bare_no_quote b e is = let x : (eqb 34 34 || eqb 34 92) ≡ false = subst (λ (z : ℕ). (eqb z 34 || eqb z 92) ≡ false) is e in false≢true (sym x)
@@ -33,13 +33,13 @@ byte_one x y xs ys (bare p) (bare q) e =
     let f : x ∷ xs ≡ y ∷ ys = sym (ap (λ (t : List ℕ). t ++ xs) (byte_bare x p)) ∙ e ∙ ap (λ (t : List ℕ). t ++ ys) (byte_bare y q) in
     heads x y xs ys f
 byte_one x y xs ys (bare p) (slashed q) e =
-    let f : x ∷ xs ≡ 92 ∷ y ∷ ys = sym (ap (λ (t : List ℕ). t ++ xs) (byte_bare x p)) ∙ e ∙ ap (λ (t : List ℕ). t ++ ys) (byte_behind y q) in
+    let f : x ∷ xs ≡ 92 ∷ y ∷ ys = sym (ap (λ (t : List ℕ). t ++ xs) (byte_bare x p)) ∙ e ∙ ap (λ (t : List ℕ). t ++ ys) (byte_after y q) in
     absurd (bare_no_backslash x p (heads x 92 xs (y ∷ ys) f).0)
 byte_one x y xs ys (slashed p) (bare q) e =
-    let f : 92 ∷ x ∷ xs ≡ y ∷ ys = sym (ap (λ (t : List ℕ). t ++ xs) (byte_behind x p)) ∙ e ∙ ap (λ (t : List ℕ). t ++ ys) (byte_bare y q) in
+    let f : 92 ∷ x ∷ xs ≡ y ∷ ys = sym (ap (λ (t : List ℕ). t ++ xs) (byte_after x p)) ∙ e ∙ ap (λ (t : List ℕ). t ++ ys) (byte_bare y q) in
     absurd (bare_no_backslash y q (sym (heads 92 y (x ∷ xs) ys f).0))
 byte_one x y xs ys (slashed p) (slashed q) e =
-    let f : 92 ∷ x ∷ xs ≡ 92 ∷ y ∷ ys = sym (ap (λ (t : List ℕ). t ++ xs) (byte_behind x p)) ∙ e ∙ ap (λ (t : List ℕ). t ++ ys) (byte_behind y q) in
+    let f : 92 ∷ x ∷ xs ≡ 92 ∷ y ∷ ys = sym (ap (λ (t : List ℕ). t ++ xs) (byte_after x p)) ∙ e ∙ ap (λ (t : List ℕ). t ++ ys) (byte_after y q) in
     heads x y xs ys (heads 92 92 (x ∷ xs) (y ∷ ys) f).1
 
 two_marks : (a : ℕ) → a ≡ 92 → a ≡ 34 → ⊥
@@ -51,60 +51,60 @@ byte_no_quote x xs rest (bare p) e =
     let f : x ∷ xs ≡ 34 ∷ rest = sym (ap (λ (t : List ℕ). t ++ xs) (byte_bare x p)) ∙ e in
     bare_no_quote x p (heads x 34 xs rest f).0
 byte_no_quote x xs rest (slashed p) e =
-    let f : 92 ∷ x ∷ xs ≡ 34 ∷ rest = sym (ap (λ (t : List ℕ). t ++ xs) (byte_behind x p)) ∙ e in
+    let f : 92 ∷ x ∷ xs ≡ 34 ∷ rest = sym (ap (λ (t : List ℕ). t ++ xs) (byte_after x p)) ∙ e in
     two_marks 92 refl (heads 92 34 (x ∷ xs) rest f).0
 
 -- the bytes between the quotes denote one text
-pub escaped_one : (xs ys after behind : List ℕ) → escaped xs ++ 34 ∷ after ≡ escaped ys ++ 34 ∷ behind → (xs ≡ ys) × (after ≡ behind)
-escaped_one [] [] after behind e = (refl, (heads 34 34 after behind e).1)
-escaped_one [] (y ∷ ys) after behind e =
-    absurd (byte_no_quote y (escaped ys ++ 34 ∷ behind) after (written y) (sym (append_assoc (escaped_byte y) (escaped ys) (34 ∷ behind)) ∙ sym e))
-escaped_one (x ∷ xs) [] after behind e =
-    absurd (byte_no_quote x (escaped xs ++ 34 ∷ after) behind (written x) (sym (append_assoc (escaped_byte x) (escaped xs) (34 ∷ after)) ∙ e))
-escaped_one (x ∷ xs) (y ∷ ys) after behind e =
-    let f = sym (append_assoc (escaped_byte x) (escaped xs) (34 ∷ after)) ∙ e ∙ append_assoc (escaped_byte y) (escaped ys) (34 ∷ behind) in
-    let one = byte_one x y (escaped xs ++ 34 ∷ after) (escaped ys ++ 34 ∷ behind) (written x) (written y) f in
-    let more = escaped_one xs ys after behind one.1 in
+pub escaped_one : (xs ys after following : List ℕ) → escaped xs ++ 34 ∷ after ≡ escaped ys ++ 34 ∷ following → (xs ≡ ys) × (after ≡ following)
+escaped_one [] [] after following e = (refl, (heads 34 34 after following e).1)
+escaped_one [] (y ∷ ys) after following e =
+    absurd (byte_no_quote y (escaped ys ++ 34 ∷ following) after (written y) (sym (append_assoc (escaped_byte y) (escaped ys) (34 ∷ following)) ∙ sym e))
+escaped_one (x ∷ xs) [] after following e =
+    absurd (byte_no_quote x (escaped xs ++ 34 ∷ after) following (written x) (sym (append_assoc (escaped_byte x) (escaped xs) (34 ∷ after)) ∙ e))
+escaped_one (x ∷ xs) (y ∷ ys) after following e =
+    let f = sym (append_assoc (escaped_byte x) (escaped xs) (34 ∷ after)) ∙ e ∙ append_assoc (escaped_byte y) (escaped ys) (34 ∷ following) in
+    let one = byte_one x y (escaped xs ++ 34 ∷ after) (escaped ys ++ 34 ∷ following) (written x) (written y) f in
+    let more = escaped_one xs ys after following one.1 in
     (ap2 one.0 more.0, more.1)
   where
     ap2 : {a b : ℕ} {s t : List ℕ} → a ≡ b → s ≡ t → a ∷ s ≡ b ∷ t
     ap2 p q = cc
 
 -- the bytes read so far are a prefix of the text between the quotes
-pub escaped_front : (xs ys rest behind : List ℕ) → escaped xs ++ rest ≡ escaped ys ++ 34 ∷ behind → (zs : List ℕ) × (rest ≡ escaped zs ++ 34 ∷ behind)
-escaped_front [] ys rest behind e = (ys, e)
-escaped_front (x ∷ xs) [] rest behind e =
-    absurd (byte_no_quote x (escaped xs ++ rest) behind (written x) (sym (append_assoc (escaped_byte x) (escaped xs) rest) ∙ e))
-escaped_front (x ∷ xs) (y ∷ ys) rest behind e =
-    let f = sym (append_assoc (escaped_byte x) (escaped xs) rest) ∙ e ∙ append_assoc (escaped_byte y) (escaped ys) (34 ∷ behind) in
-    let one = byte_one x y (escaped xs ++ rest) (escaped ys ++ 34 ∷ behind) (written x) (written y) f in
-    escaped_front xs ys rest behind one.1
+pub escaped_front : (xs ys rest following : List ℕ) → escaped xs ++ rest ≡ escaped ys ++ 34 ∷ following → (zs : List ℕ) × (rest ≡ escaped zs ++ 34 ∷ following)
+escaped_front [] ys rest following e = (ys, e)
+escaped_front (x ∷ xs) [] rest following e =
+    absurd (byte_no_quote x (escaped xs ++ rest) following (written x) (sym (append_assoc (escaped_byte x) (escaped xs) rest) ∙ e))
+escaped_front (x ∷ xs) (y ∷ ys) rest following e =
+    let f = sym (append_assoc (escaped_byte x) (escaped xs) rest) ∙ e ∙ append_assoc (escaped_byte y) (escaped ys) (34 ∷ following) in
+    let one = byte_one x y (escaped xs ++ rest) (escaped ys ++ 34 ∷ following) (written x) (written y) f in
+    escaped_front xs ys rest following one.1
 
 -- if the rest does not begin with a byte of a string, the quotes contain no text
-pub front_no_piece : (bytes ys rest behind : List ℕ) → ((b : ℕ) (after : List ℕ) → ¬ (rest ≡ escaped_byte b ++ after)) → ((after : List ℕ) → ¬ (rest ≡ 34 ∷ after)) → escaped bytes ++ rest ≡ escaped ys ++ 34 ∷ behind → ⊥
-front_no_piece bytes ys rest behind no_byte no_quote e =
-    let front = escaped_front bytes ys rest behind e in
-    no_piece rest front.0 behind no_byte no_quote front.1
+pub front_no_piece : (bytes ys rest following : List ℕ) → ((b : ℕ) (after : List ℕ) → ¬ (rest ≡ escaped_byte b ++ after)) → ((after : List ℕ) → ¬ (rest ≡ 34 ∷ after)) → escaped bytes ++ rest ≡ escaped ys ++ 34 ∷ following → ⊥
+front_no_piece bytes ys rest following no_byte no_quote e =
+    let front = escaped_front bytes ys rest following e in
+    no_piece rest front.0 following no_byte no_quote front.1
   where
-    no_piece : (rest zs behind : List ℕ) → ((b : ℕ) (after : List ℕ) → ¬ (rest ≡ escaped_byte b ++ after)) → ((after : List ℕ) → ¬ (rest ≡ 34 ∷ after)) → rest ≡ escaped zs ++ 34 ∷ behind → ⊥
-    no_piece rest [] behind no_byte no_quote e = no_quote behind e
-    no_piece rest (z ∷ zs) behind no_byte no_quote e = no_byte z (escaped zs ++ 34 ∷ behind) (e ∙ append_assoc (escaped_byte z) (escaped zs) (34 ∷ behind))
+    no_piece : (rest zs following : List ℕ) → ((b : ℕ) (after : List ℕ) → ¬ (rest ≡ escaped_byte b ++ after)) → ((after : List ℕ) → ¬ (rest ≡ 34 ∷ after)) → rest ≡ escaped zs ++ 34 ∷ following → ⊥
+    no_piece rest [] following no_byte no_quote e = no_quote following e
+    no_piece rest (z ∷ zs) following no_byte no_quote e = no_byte z (escaped zs ++ 34 ∷ following) (e ∙ append_assoc (escaped_byte z) (escaped zs) (34 ∷ following))
 
 -- the bytes read so far, extended by one byte
-pub escaped_more : (bytes : List ℕ) (b : ℕ) (behind rest inside : List ℕ) → inside ≡ escaped bytes ++ rest → rest ≡ escaped_byte b ++ behind → inside ≡ escaped (bytes ++ b ∷ []) ++ behind
-escaped_more bytes b behind rest inside e f =
-    e ∙ ap (λ (t : List ℕ). escaped bytes ++ t) f ∙ sym (append_assoc (escaped bytes) (escaped_byte b) behind) ∙ ap (λ (t : List ℕ). t ++ behind) (escaped_push bytes b)
+pub escaped_more : (bytes : List ℕ) (b : ℕ) (following rest inside : List ℕ) → inside ≡ escaped bytes ++ rest → rest ≡ escaped_byte b ++ following → inside ≡ escaped (bytes ++ b ∷ []) ++ following
+escaped_more bytes b following rest inside e f =
+    e ∙ ap (λ (t : List ℕ). escaped bytes ++ t) f ∙ sym (append_assoc (escaped bytes) (escaped_byte b) following) ∙ ap (λ (t : List ℕ). t ++ following) (escaped_push bytes b)
   where
     escaped_push : (bytes : List ℕ) (b : ℕ) → escaped bytes ++ escaped_byte b ≡ escaped (bytes ++ b ∷ [])
     escaped_push [] b = sym (append-nil (escaped_byte b))
     escaped_push (x ∷ xs) b = append_assoc (escaped_byte x) (escaped xs) (escaped_byte b) ∙ ap (λ (t : List ℕ). escaped_byte x ++ t) (escaped_push xs b)
 
-pub piece_shorter : (b : ℕ) (behind rest : List ℕ) → rest ≡ escaped_byte b ++ behind → length behind < length rest
-piece_shorter b behind rest e = rw e (shorter b behind (written b))
+pub piece_shorter : (b : ℕ) (following rest : List ℕ) → rest ≡ escaped_byte b ++ following → length following < length rest
+piece_shorter b following rest e = rw e (shorter b following (written b))
   where
-    shorter : (b : ℕ) (behind : List ℕ) → Written b → length behind < length (escaped_byte b ++ behind)
-    shorter b behind (bare p) = rw (byte_bare b p) (omega arith)
-    shorter b behind (slashed p) = rw (byte_behind b p) (omega arith)
+    shorter : (b : ℕ) (following : List ℕ) → Written b → length following < length (escaped_byte b ++ following)
+    shorter b following (bare p) = rw (byte_bare b p) (omega arith)
+    shorter b following (slashed p) = rw (byte_after b p) (omega arith)
 
 -- ---- the pieces, by the first two bytes
 
@@ -119,7 +119,7 @@ is_slashed [] some s w = absurd (omega arith)
 is_slashed (b ∷ []) some s w = absurd (omega arith)
 is_slashed (b ∷ e ∷ bs) some s w =
     let p : (eqb e 34 || eqb e 92) ≡ true = mark e w in
-    ap (λ (t : ℕ). t ∷ e ∷ bs) s ∙ sym (ap (λ (t : List ℕ). t ++ bs) (byte_behind e p))
+    ap (λ (t : ℕ). t ∷ e ∷ bs) s ∙ sym (ap (λ (t : List ℕ). t ++ bs) (byte_after e p))
   where
     mark : (e : ℕ) → (e ≡ 34) ⊎ (e ≡ 92) → (eqb e 34 || eqb e 92) ≡ true
     mark e (inl q) = or_left (eqb e 34) (eqb e 92) (eq-eqb e 34 q)
@@ -147,6 +147,6 @@ slash_no_byte rest s q t b after e = at_byte rest s q t b after e (written b)
         let f : rest ≡ b ∷ after = e ∙ ap (λ (l : List ℕ). l ++ after) (byte_bare b p) in
         bare_no_backslash b p (sym (ap (λ (l : List ℕ). get_or l 0 0) f) ∙ s)
     at_byte rest s q t b after e (slashed p) =
-        let f : rest ≡ 92 ∷ b ∷ after = e ∙ ap (λ (l : List ℕ). l ++ after) (byte_behind b p) in
+        let f : rest ≡ 92 ∷ b ∷ after = e ∙ ap (λ (l : List ℕ). l ++ after) (byte_after b p) in
         let g : get_or rest 1 0 ≡ b = ap (λ (l : List ℕ). get_or l 1 0) f in
         elim (or_cases (eqb b 34) (eqb b 92) p) [ inl w ↦ q (g ∙ eqb-true b 34 w) | inr w ↦ t (g ∙ eqb-true b 92 w) ]

@@ -18,7 +18,7 @@ use Rattle.feel_tests.specs.TextBytes.{IsText}
 use Rattle.feel_tests.specs.DayNumber.{IsDayNumber}
 use Rattle.feel_tests.specs.Calendar.{ymd_text, day_text, IsDateText}
 use Rattle.feel_tests.specs.Value.{flag_text, date_literal}
-use Rattle.feel_tests.specs.Words.{Word, Digits, Quoted, Name, Spells, Begins, is_white, skip_white, escaped_byte, escaped, quoted}
+use Rattle.feel_tests.specs.Words.{Word, Digits, Quoted, Name, Spells, Begins, is_white, skip_white, escaped_byte, escaped, quote_text}
 use Rattle.feel_tests.specs.Grammar.{IsDate}
 use Rattle.feel_tests.specs.Cell.{SpellsValue}
 use Rattle.feel_tests.specs.declared.symbol.Symbol.TheVariants as symbols
@@ -56,8 +56,8 @@ number_dark text h = subst (λ (t : List ℕ). skip_white t ≡ t) (sym h.spelle
 pub number_back : (units : ℤ) → Denotes (shortest_text units) units → SpellsValue kinds.Number (shortest_text units) (Number units)
 number_back units d = ([], (refl, shortest_text units, whole_word (shortest_text units) (Digits (shortest_text units)) (refl, d.worth.text) (number_dark (shortest_text units) d.worth.text), d), refl)
 
-pub text_back : (bytes : List ℕ) → IsText bytes → SpellsValue kinds.Text (quoted bytes) (Text bytes)
-text_back bytes h = ([], (refl, whole_word (quoted bytes) (Quoted bytes) refl refl, h), refl)
+pub text_back : (bytes : List ℕ) → IsText bytes → SpellsValue kinds.Text (quote_text bytes) (Text bytes)
+text_back bytes h = ([], (refl, whole_word (quote_text bytes) (Quoted bytes) refl refl, h), refl)
 
 pub flag_back : (flag : Bool) → SpellsValue kinds.Flag (flag_text flag) (Flag flag)
 flag_back true = ([], (refl, whole_word (flag_text true) (Name (flag_text true)) (refl, (refl, refl)) refl), refl)
@@ -82,9 +82,9 @@ ymd_plain year month place y m p =
 
 date_back : (date : List ℕ) (day : ℤ) → escaped date ≡ date → IsDateText date day → IsDate (codes "date(\"" ++ date ++ codes "\")") day []
 date_back date day plain is = record {
-  behind_word = 40 ∷ 34 ∷ (date ++ 34 ∷ 41 ∷ []);
-  behind_open = 34 ∷ (date ++ 34 ∷ 41 ∷ []);
-  behind_string = 41 ∷ [];
+  after_word = 40 ∷ 34 ∷ (date ++ 34 ∷ 41 ∷ []);
+  after_open = 34 ∷ (date ++ 34 ∷ 41 ∷ []);
+  after_string = 41 ∷ [];
   date = date;
   word = begins_name (codes "date(\"" ++ date ++ codes "\")") (codes "date(\"" ++ date ++ codes "\")") refl (omega arith) (omega arith);
   opens = begins_sign (40 ∷ 34 ∷ (date ++ 34 ∷ 41 ∷ [])) (40 ∷ 34 ∷ (date ++ 34 ∷ 41 ∷ [])) symbols.OpenRound refl refl refl;

@@ -19,15 +19,15 @@ SpellsValue kind text value = (rest : List ℕ) × IsLiteral kind text value res
 
 -- the whole text is `not` and a list of tests in parentheses
 pub record IsNegation (kind : Kind) (text : List ℕ) (tests : List Test) : Type 0 where
-  pub behind_word : List ℕ
-  pub behind_open : List ℕ
-  pub behind_list : List ℕ
+  pub after_word : List ℕ
+  pub after_open : List ℕ
+  pub after_list : List ℕ
   pub rest : List ℕ
-  pub word : Begins text (Name not_word) behind_word
-  pub opens : Begins behind_word (Sign symbols.OpenRound) behind_open
-  pub list : IsList kind behind_open tests behind_list
+  pub word : Begins text (Name not_word) after_word
+  pub opens : Begins after_word (Sign symbols.OpenRound) after_open
+  pub list : IsList kind after_open tests after_list
   pub few : length tests ≤ test_limit
-  pub closes : Begins behind_list (Sign symbols.CloseRound) rest
+  pub closes : Begins after_list (Sign symbols.CloseRound) rest
   pub blank : IsBlank rest
 
 -- the whole text is a cell of the kind: blank or a dash, a list of tests, or `not` and a list

@@ -55,14 +55,14 @@ end_in _ = None
 
 -- the text begins with `date` and a date as a string in parentheses
 pub record IsDate (text : List ℕ) (day : ℤ) (rest : List ℕ) : Type 0 where
-  pub behind_word : List ℕ
-  pub behind_open : List ℕ
-  pub behind_string : List ℕ
+  pub after_word : List ℕ
+  pub after_open : List ℕ
+  pub after_string : List ℕ
   pub date : List ℕ
-  pub word : Begins text (Name date_word) behind_word
-  pub opens : Begins behind_word (Sign symbols.OpenRound) behind_open
-  pub string : Begins behind_open (Quoted date) behind_string
-  pub closes : Begins behind_string (Sign symbols.CloseRound) rest
+  pub word : Begins text (Name date_word) after_word
+  pub opens : Begins after_word (Sign symbols.OpenRound) after_open
+  pub string : Begins after_open (Quoted date) after_string
+  pub closes : Begins after_string (Sign symbols.CloseRound) rest
   pub is_date : IsDateText date day
 
 -- the text begins with a literal of the kind that denotes the value
@@ -75,14 +75,14 @@ IsLiteral kind text (Day day) rest = (kind ≡ kinds.Day) × IsDate text day res
 -- the text begins with a literal, `..`, a literal and a closing bracket, which says whether the
 -- high end belongs to the interval
 pub record IsSpan (kind : Kind) (text : List ℕ) (low : Value) (high : Value) (high_in : Bool) (rest : List ℕ) : Type 0 where
-  pub behind_low : List ℕ
-  pub behind_dots : List ℕ
-  pub behind_high : List ℕ
+  pub after_low : List ℕ
+  pub after_dots : List ℕ
+  pub after_high : List ℕ
   pub bracket : Symbol
-  pub has_low : IsLiteral kind text low behind_low
-  pub dots : Begins behind_low (Sign symbols.Dots) behind_dots
-  pub has_high : IsLiteral kind behind_dots high behind_high
-  pub closes : Begins behind_high (Sign bracket) rest
+  pub has_low : IsLiteral kind text low after_low
+  pub dots : Begins after_low (Sign symbols.Dots) after_dots
+  pub has_high : IsLiteral kind after_dots high after_high
+  pub closes : Begins after_high (Sign bracket) rest
   pub end_is : end_in bracket ≡ Some high_in
 
 -- the text begins with an operator and a literal of an ordered kind
@@ -111,4 +111,4 @@ IsTest kind text (Between low low_in high high_in) rest = IsInterval kind text l
 abbrev pub IsList : Kind → List ℕ → List Test → List ℕ → Type 0
 IsList kind text [] rest = ⊥
 IsList kind text (test ∷ []) rest = IsTest kind text test rest
-IsList kind text (test ∷ next ∷ more) rest = (behind_test : List ℕ) × (behind_comma : List ℕ) × IsTest kind text test behind_test × Begins behind_test (Sign symbols.Comma) behind_comma × IsList kind behind_comma (next ∷ more) rest
+IsList kind text (test ∷ next ∷ more) rest = (after_test : List ℕ) × (after_comma : List ℕ) × IsTest kind text test after_test × Begins after_test (Sign symbols.Comma) after_comma × IsList kind after_comma (next ∷ more) rest

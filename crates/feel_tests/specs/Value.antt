@@ -1,7 +1,7 @@
 -- Values: their kinds and their literals (DMN 1.4, S-FEEL).
 use Rattle.std.specs.Prelude.{ℕ, ℤ, Bool, true, false, List, ◌++◌, codes}
 use Rattle.fixpoint.specs.NumberText.{shortest_text}
-use Rattle.feel_tests.specs.Words.{quoted}
+use Rattle.feel_tests.specs.Words.{quote_text}
 use Rattle.feel_tests.specs.Calendar.{day_text}
 use Rattle.feel_tests.specs.declared.kind.Kind.{Kind}
 use Rattle.feel_tests.specs.declared.kind.Kind.TheVariants as kind
@@ -28,6 +28,6 @@ date_literal day = codes "date(\"" ++ day_text day ++ codes "\")"
 -- `date("YYYY-MM-DD")`
 abbrev pub literal_text : Value → List ℕ
 literal_text (Number n) = shortest_text n
-literal_text (Text t) = quoted t
+literal_text (Text t) = quote_text t
 literal_text (Flag b) = flag_text b
 literal_text (Day d) = date_literal d

@@ -56,8 +56,8 @@ abbrev pub escaped : List ℕ → List ℕ
 escaped bytes = flat_map escaped_byte bytes
 
 -- a string: a text in double quotes
-abbrev pub quoted : List ℕ → List ℕ
-quoted bytes = 34 ∷ (escaped bytes ++ 34 ∷ [])
+abbrev pub quote_text : List ℕ → List ℕ
+quote_text bytes = 34 ∷ (escaped bytes ++ 34 ∷ [])
 
 -- a word: a symbol, a number by its bytes, a string by the text that it denotes, or a name
 pub data Word : Type 0 where
@@ -70,7 +70,7 @@ pub data Word : Type 0 where
 abbrev pub Spells : List ℕ → Word → Type 0
 Spells bytes (Sign symbol) = bytes ≡ symbol_text symbol
 Spells bytes (Digits digits) = (bytes ≡ digits) × IsNumberText bytes
-Spells bytes (Quoted text) = bytes ≡ quoted text
+Spells bytes (Quoted text) = bytes ≡ quote_text text
 Spells bytes (Name letters) = (bytes ≡ letters) × IsName bytes
 
 -- after white space, the text begins with the word, and no longer word is possible there; then the

@@ -1,7 +1,7 @@
 //! Laws of literals and cells, to be cited by other proofs. The calls have no effect.
 ghost use Rattle.std.specs.Prelude.{◌≤◌, length};
 ghost use Rattle.fixpoint.specs.NumberText.{shortest_text};
-ghost use Rattle.feel_tests.specs.Words.{quoted};
+ghost use Rattle.feel_tests.specs.Words.{quote_text};
 ghost use Rattle.feel_tests.specs.Value.{kind_of, literal_text, flag_text, date_literal};
 ghost use Rattle.feel_tests.specs.Cell.{SpellsValue, SpellsOneCell, SpellsOneValue};
 ghost use Rattle.feel_tests.specs.Plain.{SpellsOnePlain};
@@ -58,7 +58,7 @@ fn number_spells(number: Fixed)
 
 fn text_spells(text: &str)
     requires { length text.now ≤ text_limit_bytes }
-    ensures { SpellsValue kinds.Text (quoted text.now) (values.Text text.now) }
+    ensures { SpellsValue kinds.Text (quote_text text.now) (values.Text text.now) }
 {
     // proof: the text is UTF-8 within its limit
     let _bytes = text.as_bytes();

@@ -1,7 +1,7 @@
 //! Literals of values, as cells have them.
 ghost use Rattle.std.specs.Prelude.{◌≡◌, ◌++◌, IfOk, OnOk, OnErr};
 ghost use Rattle.feel_tests.specs.Value.{date_literal, literal_text};
-ghost use Rattle.feel_tests.specs.Words.{quoted, escaped_byte};
+ghost use Rattle.feel_tests.specs.Words.{quote_text, escaped_byte};
 ghost use Rattle.fixpoint.specs.NumberText.{shortest_text};
 
 use crate::dates::text_of;
@@ -37,15 +37,15 @@ fn write_number(number: Fixed, out: &mut Vec<u8>) -> Result<(), AllocError>
 }
 
 fn write_quoted(bytes: &[u8], out: &mut Vec<u8>) -> Result<(), AllocError>
-    ensures ok { OnOk result (out.new.items ≡ out.old.items ++ quoted bytes.now) }
+    ensures ok { OnOk result (out.new.items ≡ out.old.items ++ quote_text bytes.now) }
     ensures err { OnErr result (out.new.items ≡ out.old.items) }
 {
-    let literal = quoted(*out.allocator(), bytes)?;
+    let literal = quote_text(*out.allocator(), bytes)?;
     out.extend_from_slice(&literal)
 }
 
-fn quoted(alloc: Global, bytes: &[u8]) -> Result<Vec<u8>, AllocError>
-    ensures { IfOk result (λ literal. literal.items ≡ quoted bytes.now) }
+fn quote_text(alloc: Global, bytes: &[u8]) -> Result<Vec<u8>, AllocError>
+    ensures { IfOk result (λ literal. literal.items ≡ quote_text bytes.now) }
 {
     let mut literal = Vec::new(alloc);
     literal.push(b'"')?;

@@ -113,21 +113,21 @@ fn date_at<'a>(
     alloc: Global,
     kind: Kind,
     text: &[u8],
-    behind_word: &'a [u8],
+    after_word: &'a [u8],
 ) -> Result<(Value, &'a [u8]), Refusal>
-    requires { Begins text.now (Name date_word) behind_word.now }
+    requires { Begins text.now (Name date_word) after_word.now }
     ensures ok { IfOk result (λ found. IsLiteral kind text.now found.0 found.1.now) }
     ensures refused { IfErr result (DeniesPart (IsLiteral kind text.now)) }
 {
     if kind != Kind::Day {
         return Err(Refusal::at(text, CellCause::WrongKind));
     }
-    let behind_open = symbol_at(behind_word, Symbol::OpenRound)?;
-    let (date, behind_string) = quoted_at(alloc, behind_open)?;
+    let after_open = symbol_at(after_word, Symbol::OpenRound)?;
+    let (date, after_string) = quoted_at(alloc, after_open)?;
     if date.len() > TEXT_LIMIT_BYTES {
-        return Err(Refusal::at(behind_open, CellCause::Literal));
+        return Err(Refusal::at(after_open, CellCause::Literal));
     }
-    let rest = symbol_at(behind_string, Symbol::CloseRound)?;
+    let rest = symbol_at(after_string, Symbol::CloseRound)?;
     match day_of(&date) {
         Some(day) => Ok((Value::Day(day), rest)),
         None => Err(Refusal::at(text, CellCause::BadDate)),

@@ -64,8 +64,8 @@ fn cell_of(alloc: Global, kind: Kind, text: &[u8]) -> Result<Cell, Refusal>
         blank_end(rest)?;
         return Ok(Cell::Dash);
     }
-    if let Some(behind_word) = after_not(text) {
-        return negation_of(alloc, kind, text, behind_word);
+    if let Some(after_word) = after_not(text) {
+        return negation_of(alloc, kind, text, after_word);
     }
     let (tests, rest) = list_at(alloc, kind, text)?;
     blank_end(rest)?;
@@ -74,14 +74,14 @@ fn cell_of(alloc: Global, kind: Kind, text: &[u8]) -> Result<Cell, Refusal>
 
 // Reads a cell from a text that begins with `not`; the text after that word must be a list in
 // parentheses.
-fn negation_of(alloc: Global, kind: Kind, text: &[u8], behind_word: &[u8]) -> Result<Cell, Refusal>
-    requires { Begins text.now (Name not_word) behind_word.now }
+fn negation_of(alloc: Global, kind: Kind, text: &[u8], after_word: &[u8]) -> Result<Cell, Refusal>
+    requires { Begins text.now (Name not_word) after_word.now }
     ensures ok { IfOk result (SpellsCell kind text.now) }
     ensures refused { IfErr result (Denies (SpellsCell kind text.now)) }
 {
-    let behind_open = symbol_at(behind_word, Symbol::OpenRound)?;
-    let (tests, behind_list) = list_at(alloc, kind, behind_open)?;
-    let rest = symbol_at(behind_list, Symbol::CloseRound)?;
+    let after_open = symbol_at(after_word, Symbol::OpenRound)?;
+    let (tests, after_list) = list_at(alloc, kind, after_open)?;
+    let rest = symbol_at(after_list, Symbol::CloseRound)?;
     blank_end(rest)?;
     Ok(Cell::NoneOf(tests))
 }
@@ -114,15 +114,15 @@ fn list_at(alloc: Global, kind: Kind, text: &[u8]) -> Result<(Tests, &[u8]), Ref
     let (first, mut rest) = test_at(alloc, kind, text)?;
     let mut tests = Tests::one(alloc, first);
     for _count in 1..TEST_LIMIT {
-        let Some(behind_comma) = after_symbol(rest, Symbol::Comma) else {
+        let Some(after_comma) = after_symbol(rest, Symbol::Comma) else {
             return Ok((tests, rest));
         };
-        let (test, behind_test) = test_at(alloc, kind, behind_comma)?;
+        let (test, after_test) = test_at(alloc, kind, after_comma)?;
         tests.push(test)?;
-        rest = behind_test;
+        rest = after_test;
     }
     match after_symbol(rest, Symbol::Comma) {
-        Some(behind_comma) => Err(too_many(behind_comma)),
+        Some(after_comma) => Err(too_many(after_comma)),
         None => Ok((tests, rest)),
     }
 }

@@ -38,10 +38,10 @@ fn inside_at<'a>(
     let mut rest = inside;
     'pieces: loop {
         match first_piece(rest) {
-            Piece::Close(behind) => return Ok((bytes, behind)),
-            Piece::Byte(byte, behind) => {
+            Piece::Close(following) => return Ok((bytes, following)),
+            Piece::Byte(byte, following) => {
                 bytes.push(byte)?;
-                rest = behind;
+                rest = following;
             }
             Piece::BadEscape => return Err(Refusal::at(rest, CellCause::BadEscape)),
             Piece::End => return Err(Refusal::at(text, CellCause::Token)),
@@ -67,17 +67,17 @@ fn first_piece(rest: &[u8]) -> Piece<'_>
 {
     match rest {
         [] => Piece::End,
-        [b'"', behind @ ..] => Piece::Close(behind),
-        [b'\\', behind @ ..] => escape(behind),
-        [byte, behind @ ..] => Piece::Byte(*byte, behind),
+        [b'"', following @ ..] => Piece::Close(following),
+        [b'\\', following @ ..] => escape(following),
+        [byte, following @ ..] => Piece::Byte(*byte, following),
     }
 }
 
 // Returns the part that begins with a backslash, from the text after the backslash.
-fn escape(behind: &[u8]) -> Piece<'_>
-    ensures { IsPiece (92 ∷ behind.now) result }
+fn escape(following: &[u8]) -> Piece<'_>
+    ensures { IsPiece (92 ∷ following.now) result }
 {
-    match behind {
+    match following {
         [] => Piece::End,
         [b'"', rest @ ..] => Piece::Byte(b'"', rest),
         [b'\\', rest @ ..] => Piece::Byte(b'\\', rest),

@@ -92,10 +92,10 @@ fn span_at(alloc: Global, kind: Kind, low_in: bool, text: &[u8]) -> Result<(Test
     ensures ok { IfOk result (λ found. IsSpanTest kind low_in text.now found.0 found.1.now) }
     ensures refused { IfErr result (DeniesPart (IsSpanTest kind low_in text.now)) }
 {
-    let (low, behind_low) = literal_at(alloc, kind, text)?;
-    let behind_dots = symbol_at(behind_low, Symbol::Dots)?;
-    let (high, behind_high) = literal_at(alloc, kind, behind_dots)?;
-    let (high_in, rest) = end_at(behind_high)?;
+    let (low, after_low) = literal_at(alloc, kind, text)?;
+    let after_dots = symbol_at(after_low, Symbol::Dots)?;
+    let (high, after_high) = literal_at(alloc, kind, after_dots)?;
+    let (high_in, rest) = end_at(after_high)?;
     let test = Test::Between {
         low,
         low_in,

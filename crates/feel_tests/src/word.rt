@@ -24,7 +24,7 @@ pub fn first_token(text: &[u8]) -> Token<'_>
     ensures { IsToken text.now result }
 {
     let bytes = skip_white(text);
-    if let Some(inside) = behind_quote(bytes) {
+    if let Some(inside) = after_quote(bytes) {
         return Token::Quote(inside);
     }
     let len = name_len(bytes);
@@ -43,7 +43,7 @@ pub fn first_token(text: &[u8]) -> Token<'_>
     }
 }
 
-fn behind_quote(bytes: &[u8]) -> Option<&[u8]>
+fn after_quote(bytes: &[u8]) -> Option<&[u8]>
     ensures some { IfSome result (λ inside. bytes.now ≡ 34 ∷ inside.now) }
     ensures none { IfNone result ((inside : List ℕ) → ¬ (bytes.now ≡ 34 ∷ inside)) }
 {

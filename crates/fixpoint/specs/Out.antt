@@ -2,7 +2,7 @@
 -- `BoundedBuffer`.
 use Rattle.std.specs.Prelude.{◌<◌, ℕ, Bool, List, length, take, Option}
 use Rattle.std.specs.Io.KnownBytes.{Appends}
-use Rattle.fixpoint.specs.declared.held_text.HeldText.{HeldText}
+use Rattle.fixpoint.specs.declared.bounded_buffer.BoundedBuffer.{BoundedBuffer}
 use Rattle.fixpoint.specs.declared.out.Out.{Out}
 
 -- the writer of an `Out`
@@ -14,7 +14,7 @@ abbrev pub has_failed : {W : Type 0} → Out W → Bool
 has_failed out = out.failed
 
 -- the bytes in a bounded buffer
-abbrev pub held_in : HeldText → List ℕ
+abbrev pub held_in : BoundedBuffer → List ℕ
 held_in held = held.text.items
 
 -- the writer took this number of bytes from the start of the text, and not all of them

@@ -79,7 +79,7 @@ impl Fixed {
         ensures fits { result ≤ 24 }
         ensures written { take result buffer.new ≡ shortest_text self }
     {
-        writing::shortest(self.units, buffer)
+        writing::write_shortest(self.units, buffer)
     }
 
     /// Returns the exact sum, or `None` if it is out of range.

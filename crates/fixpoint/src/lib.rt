@@ -12,21 +12,21 @@
 //! numbers, their texts and money; then read `fixed.rt`, and `out.rt` with `specs/Out.antt`.
 #![tactic(auto)]
 
+mod bounded_buffer;
 mod fault;
 mod fixed;
-mod held_text;
 mod laws;
 mod out;
 mod reading;
 mod rounding;
-mod whole_text;
+mod whole_write;
 mod writing;
 
+pub use bounded_buffer::BoundedBuffer;
 pub use fault::NumFault;
 pub use fixed::{Fixed, MAX_UNITS, UNITS_PER_ONE};
-pub use held_text::HeldText;
 pub use laws::{
     money_text_denotes, products_are_rounded, shortest_text_denotes, text_denotes_at_most_one,
 };
 pub use out::{Failed, Out};
-pub use whole_text::{Cut, put_all};
+pub use whole_write::{ShortWrite, put_all};

@@ -9,7 +9,7 @@ use crate::reading::without_end_zeros;
 use itoa::Buffer;
 
 /// Writes the shortest text of the number with these units and returns its length.
-pub fn shortest(units: i64, buffer: &mut [u8; 24]) -> usize
+pub fn write_shortest(units: i64, buffer: &mut [u8; 24]) -> usize
     requires { IsInRange units }
     ensures fits { result ≤ 24 }
     ensures written { take result buffer.new ≡ shortest_text units }

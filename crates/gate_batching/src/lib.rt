@@ -14,6 +14,6 @@
 #![tactic(auto)]
 
 mod backlog;
-mod turns;
+mod batching;
 
-pub use turns::{OFFERS_LIMIT, TAKES_LIMIT, Turn, Turns};
+pub use batching::{BatchTurn, GateBatching, OFFERS_LIMIT, TAKES_LIMIT};

@@ -35,10 +35,10 @@ next-shorter cfg s fields field (c ∷ rest) p e = elim (cases_Bool (is_end (ste
 ]
 
 -- no record is after the end of a text
-none-behind : (cfg : Config) (n : ℕ) → AreRecords cfg state.StartRecord [] (records_from cfg n state.StartRecord [])
+none-following : (cfg : Config) (n : ℕ) → AreRecords cfg state.StartRecord [] (records_from cfg n state.StartRecord [])
 unfolding next_record records_from Reached
-none-behind cfg zero = (state.StartRecord, [], (refl, refl), refl)
-none-behind cfg (suc n) = (state.StartRecord, [], (refl, refl), refl)
+none-following cfg zero = (state.StartRecord, [], (refl, refl), refl)
+none-following cfg (suc n) = (state.StartRecord, [], (refl, refl), refl)
 
 -- a read at the end of the text is the last one
 last-read : (cfg : Config) (s : State) (p : Read) → next_record cfg s [] [] [] ≡ Some p → (p.1 ≡ state.StartRecord) × (p.2 ≡ [])
@@ -56,7 +56,7 @@ all-records cfg (suc n) s xs few = by (λ q ys fewer. all-records cfg n q ys few
   where
     tail : ((q : State) (ys : List ℕ) → length ys < n → AreRecords cfg q ys (records_from cfg n q ys)) → (ys : List ℕ) (p : Read) → xs ≡ ys
         → next_record cfg s [] [] ys ≡ Some p → AreRecords cfg p.1 p.2 (records_from cfg n p.1 p.2)
-    tail all [] p same e = let last = last-read cfg s p e in rw (last.0, last.1) (none-behind cfg n)
+    tail all [] p same e = let last = last-read cfg s p e in rw (last.0, last.1) (none-following cfg n)
     tail all (y ∷ ys) p same e =
         let shorter = next-shorter cfg s [] [] (y ∷ ys) p e in
         let sizes = ap length same in

@@ -17,9 +17,9 @@ use Rattle.settlement.specs.declared.acc.Acc.{Acc}
 use Rattle.settlement.specs.declared.account.Balance.{Balance}
 use Rattle.settlement.specs.Claim.{nothing_yet}
 use Rattle.settlement.specs.Opening.{begun_beside, joins, no_balance, opening}
-use Rattle.intake_csv.specs.Households.{AreOnceBy, HasJoined, Members, balance_in, begins, met_of, oop_of, refused_behind}
+use Rattle.intake_csv.specs.FamilyYears.{AreOnceBy, HasJoined, Members, balance_in, begins, met_of, oop_of, refused_after}
 use Rattle.intake_csv.specs.Balances.{AreOnce, AreOnceIn, Book, Entry, Holder, JoinsIn, accounts_from, accounts_in, accounts_of, book_of, books_of, found_in, holder_of, is_holder}
-use Rattle.intake_csv.proofs.Households.{bytes-turned, looked, once-sorted}
+use Rattle.intake_csv.proofs.FamilyYears.{bytes-turned, looked, once-sorted}
 
 -- the members of a family in a year, or none if the family has no balances
 abbrev pub members_at : List Book → Holder → Members
@@ -109,8 +109,8 @@ in-book : (book : Book) (rest : List Entry) (a : Account) → AreOnceBy bytes_eq
     → opening (flat_map (accounts_in a.year) book ++ rest) a ≡ begins_among (unwrap_or (lookup (bytes_eq a.family) book) []) a.member
 in-book [] rest a once none = none
 in-book (h ∷ hs) rest a once none =
-    let behind = flat_map (accounts_in a.year) hs ++ rest in
-    let others : opening behind a ≡ begins_among (unwrap_or (lookup (bytes_eq a.family) hs) []) a.member = in-book hs rest a once.1 none in
+    let following = flat_map (accounts_in a.year) hs ++ rest in
+    let others : opening following a ≡ begins_among (unwrap_or (lookup (bytes_eq a.family) hs) []) a.member = in-book hs rest a once.1 none in
     let first = ap (λ (es : List Entry). opening es a) (append_assoc (accounts_in a.year h) (flat_map (accounts_in a.year) hs) rest) in
     let turned : bytes_eq a.family h.0 ≡ bytes_eq h.0 a.family = bytes-turned a.family h.0 in
     let year : is_holder (h.0, a.year) (holder_of a) ≡ bytes_eq h.0 a.family = ap (λ (b : Bool). bytes_eq h.0 a.family && b) (year-self a.year) ∙ and-true (bytes_eq h.0 a.family) in
@@ -118,11 +118,11 @@ in-book (h ∷ hs) rest a once none =
       | inl here ↦
           let same : h.0 ≡ a.family = (bytes_eq-Decides h.0 a.family).0 here in
           let nobody : lookup (bytes_eq a.family) hs ≡ None = ap (λ name. lookup (bytes_eq name) hs) (sym same) ∙ once.0 in
-          let nothing : opening behind a ≡ nothing_yet = others ∙ ap (λ (o : Option Members). begins_among (unwrap_or o []) a.member) nobody in
-          first ∙ in-house a.year h.0 h.1 behind a (year ∙ here) nothing
+          let nothing : opening following a ≡ nothing_yet = others ∙ ap (λ (o : Option Members). begins_among (unwrap_or o []) a.member) nobody in
+          first ∙ in-house a.year h.0 h.1 following a (year ∙ here) nothing
           ∙ sym (ap (λ (b : Bool). begins_among (unwrap_or (cond b (Some h.1) (lookup (bytes_eq a.family) hs)) []) a.member) (turned ∙ here))
       | inr other ↦
-          first ∙ passed-house a.year h.0 h.1 behind a (year ∙ other) ∙ others
+          first ∙ passed-house a.year h.0 h.1 following a (year ∙ other) ∙ others
           ∙ sym (ap (λ (b : Bool). begins_among (unwrap_or (cond b (Some h.1) (lookup (bytes_eq a.family) hs)) []) a.member) (turned ∙ other))
     ]
 
@@ -153,8 +153,8 @@ begun_none books family member year once is =
 
 -- the refusal of a member of a family that has balances
 pub refused_some : (found : Option Members) (members : Members) (member : List ℕ) (balance : Balance) → found ≡ Some members
-    → refused_behind members (balance_in members member) balance ≡ option_and_then (λ ms. refused_behind ms (balance_in ms member) balance) found
-refused_some found members member balance is = ap (option_and_then (λ ms. refused_behind ms (balance_in ms member) balance)) (sym is)
+    → refused_after members (balance_in members member) balance ≡ option_and_then (λ ms. refused_after ms (balance_in ms member) balance) found
+refused_some found members member balance is = ap (option_and_then (λ ms. refused_after ms (balance_in ms member) balance)) (sym is)
 
 -- an appended empty book changes no lookup
 room-same : (books : List Book) (k : ℕ) → get_or (books ++ [] ∷ []) k [] ≡ get_or books k []
@@ -164,22 +164,22 @@ room-same (b ∷ bs) zero = refl
 room-same (b ∷ bs) (suc k) = room-same bs k
 
 -- an empty map has an empty book
-empty-book : {Y : Type 0} (households : BTreeMap (String Y) Members) → households.entries ≡ [] → book_of households ≡ []
-empty-book households empty = ap (λ es. map (λ e. (string_bytes e.0, e.1)) es) empty
+empty-book : {Y : Type 0} (family_years : BTreeMap (String Y) Members) → family_years.entries ≡ [] → book_of family_years ≡ []
+empty-book family_years empty = ap (λ es. map (λ e. (string_bytes e.0, e.1)) es) empty
 
-more-books : {Y : Type 0} (years : List (BTreeMap (String Y) Members)) (households : BTreeMap (String Y) Members) → households.entries ≡ []
-    → books_of (years ++ households ∷ []) ≡ books_of years ++ [] ∷ []
-more-books years households empty = map-append book_of years (households ∷ []) ∙ ap (λ b. books_of years ++ b ∷ []) (empty-book households empty)
+more-books : {Y : Type 0} (years : List (BTreeMap (String Y) Members)) (family_years : BTreeMap (String Y) Members) → family_years.entries ≡ []
+    → books_of (years ++ family_years ∷ []) ≡ books_of years ++ [] ∷ []
+more-books years family_years empty = map-append book_of years (family_years ∷ []) ∙ ap (λ b. books_of years ++ b ∷ []) (empty-book family_years empty)
 
 -- the lookups in books, and the families' distinctness, after an empty map is appended
-pub room_found : {Y : Type 0} (years : List (BTreeMap (String Y) Members)) (households : BTreeMap (String Y) Members) (q : Holder) → households.entries ≡ []
-    → found_in (books_of (years ++ households ∷ [])) q ≡ found_in (books_of years) q
-room_found years households q empty =
-    ap (λ bs. lookup (bytes_eq q.0) (get_or bs q.1 [])) (more-books years households empty) ∙ ap (lookup (bytes_eq q.0)) (room-same (books_of years) q.1)
+pub room_found : {Y : Type 0} (years : List (BTreeMap (String Y) Members)) (family_years : BTreeMap (String Y) Members) (q : Holder) → family_years.entries ≡ []
+    → found_in (books_of (years ++ family_years ∷ [])) q ≡ found_in (books_of years) q
+room_found years family_years q empty =
+    ap (λ bs. lookup (bytes_eq q.0) (get_or bs q.1 [])) (more-books years family_years empty) ∙ ap (lookup (bytes_eq q.0)) (room-same (books_of years) q.1)
 
-pub room_kept : {Y : Type 0} (years : List (BTreeMap (String Y) Members)) (households : BTreeMap (String Y) Members) → households.entries ≡ []
-    → AreOnce (books_of years) → AreOnce (books_of (years ++ households ∷ []))
-room_kept years households empty once = subst AreOnce (sym (more-books years households empty)) (All-push AreOnceIn (books_of years) [] once (record { families = tt; members = All-nil (λ household. AreOnceBy bytes_eq household.1) }))
+pub room_kept : {Y : Type 0} (years : List (BTreeMap (String Y) Members)) (family_years : BTreeMap (String Y) Members) → family_years.entries ≡ []
+    → AreOnce (books_of years) → AreOnce (books_of (years ++ family_years ∷ []))
+room_kept years family_years empty once = subst AreOnce (sym (more-books years family_years empty)) (All-push AreOnceIn (books_of years) [] once (record { families = tt; members = All-nil (λ family_year. AreOnceBy bytes_eq family_year.1) }))
 
 -- the book of a year, from its map
 book-at : {Y : Type 0} (years : List (BTreeMap (String Y) Members)) (y : ℕ) (d : BTreeMap (String Y) Members) → y < length years
@@ -189,14 +189,14 @@ book-at (m ∷ ms) zero d within = refl
 book-at (m ∷ ms) (suc y) d within = book-at ms y d (omega (arith, within))
 
 -- the families and members stay distinct after the map of a year is replaced
-pub put_once : {Y : Type 0} (years : List (BTreeMap (String Y) Members)) (y : ℕ) (d households : BTreeMap (String Y) Members) → y < length years → IsOrdered string_cmp households
-    → (All (λ household. AreOnceBy bytes_eq household.1) (book_of (get_or years y d)) → All (λ household. AreOnceBy bytes_eq household.1) (book_of households))
-    → AreOnce (books_of years) → AreOnce (books_of (set years y households))
-put_once years y d households within ordered kept once =
+pub put_once : {Y : Type 0} (years : List (BTreeMap (String Y) Members)) (y : ℕ) (d family_years : BTreeMap (String Y) Members) → y < length years → IsOrdered string_cmp family_years
+    → (All (λ family_year. AreOnceBy bytes_eq family_year.1) (book_of (get_or years y d)) → All (λ family_year. AreOnceBy bytes_eq family_year.1) (book_of family_years))
+    → AreOnce (books_of years) → AreOnce (books_of (set years y family_years))
+put_once years y d family_years within ordered kept once =
     let size : length (books_of years) ≡ length years = length-map years book_of in
     let before : AreOnceIn (book_of (get_or years y d)) = rw (← book-at years y d within) (All-get_or AreOnceIn (books_of years) y [] (omega (arith, within, size)) once) in
-    let after : AreOnceIn (book_of households) = record { families = once-sorted households.entries ordered; members = kept before.members } in
-    subst AreOnce (sym (map-set book_of years y households)) (All-set AreOnceIn (books_of years) y (book_of households) after once)
+    let after : AreOnceIn (book_of family_years) = record { families = once-sorted family_years.entries ordered; members = kept before.members } in
+    subst AreOnce (sym (map-set book_of years y family_years)) (All-set AreOnceIn (books_of years) y (book_of family_years) after once)
 
 -- a year after the last book has no book
 book-none : (books : List Book) (y : ℕ) → ¬ (y < length books) → get_or books y [] ≡ []
@@ -222,12 +222,12 @@ there-within years y family there = elim (cases_lt y (length years)) [
 ]
 
 -- a lookup in the map of a year is a lookup in the books
-pub found-there : {Y : Type 0} (years : List (BTreeMap (String Y) Members)) (y place : ℕ) (households : BTreeMap (String Y) Members) (family : List ℕ) (found : Option Members)
-    → place ≡ y → households ≡ get_or years place households → IsSome (found_in (books_of years) (family, y)) → found ≡ get_by_text households family
+pub found-there : {Y : Type 0} (years : List (BTreeMap (String Y) Members)) (y place : ℕ) (family_years : BTreeMap (String Y) Members) (family : List ℕ) (found : Option Members)
+    → place ≡ y → family_years ≡ get_or years place family_years → IsSome (found_in (books_of years) (family, y)) → found ≡ get_by_text family_years family
     → found_in (books_of years) (family, y) ≡ found
-found-there years y place households family found same stands there is =
-    let standing : get_or years y households ≡ households = ap (λ (n : ℕ). get_or years n households) (sym same) ∙ sym stands in
-    sym (is ∙ ap (λ m. get_by_text m family) (sym standing) ∙ found_within years y households family (there-within years y family there))
+found-there years y place family_years family found same located there is =
+    let present : get_or years y family_years ≡ family_years = ap (λ (n : ℕ). get_or years n family_years) (sym same) ∙ sym located in
+    sym (is ∙ ap (λ m. get_by_text m family) (sym present) ∙ found_within years y family_years family (there-within years y family there))
 
 put-book : (books : List Book) (y : ℕ) (book : Book) (family : List ℕ) (members : Members) (q : Holder) → y < length books
     → ((p : List ℕ) → lookup (bytes_eq p) book ≡ cond (bytes_eq family p) (Some members) (lookup (bytes_eq p) (get_or books y [])))
@@ -247,25 +247,25 @@ put-book books y book family members q within more = elim (cases_eq q.1 y) [
 ]
 
 -- the lookups after the members of a family in a year are replaced
-pub put_found : {Y : Type 0} (years : List (BTreeMap (String Y) Members)) (y : ℕ) (d households : BTreeMap (String Y) Members) (family : List ℕ) (members : Members) (q : Holder)
-    → y < length years → ((p : List ℕ) → get_by_text households p ≡ cond (bytes_eq family p) (Some members) (get_by_text (get_or years y d) p))
-    → found_in (books_of (set years y households)) q ≡ cond (is_holder (family, y) q) (Some members) (found_in (books_of years) q)
-put_found years y d households family members q within updated =
+pub put_found : {Y : Type 0} (years : List (BTreeMap (String Y) Members)) (y : ℕ) (d family_years : BTreeMap (String Y) Members) (family : List ℕ) (members : Members) (q : Holder)
+    → y < length years → ((p : List ℕ) → get_by_text family_years p ≡ cond (bytes_eq family p) (Some members) (get_by_text (get_or years y d) p))
+    → found_in (books_of (set years y family_years)) q ≡ cond (is_holder (family, y) q) (Some members) (found_in (books_of years) q)
+put_found years y d family_years family members q within updated =
     let size : length (books_of years) ≡ length years = length-map years book_of in
     let at = book-at years y d within in
-    let more : (p : List ℕ) → lookup (bytes_eq p) (book_of households) ≡ cond (bytes_eq family p) (Some members) (lookup (bytes_eq p) (get_or (books_of years) y [])) =
-    λ p. sym (looked households.entries p) ∙ updated p ∙ ap (cond (bytes_eq family p) (Some members)) (looked (get_or years y d).entries p ∙ ap (lookup (bytes_eq p)) (sym at)) in
-    ap (λ bs. found_in bs q) (map-set book_of years y households) ∙ put-book (books_of years) y (book_of households) family members q (omega (arith, within, size)) more
+    let more : (p : List ℕ) → lookup (bytes_eq p) (book_of family_years) ≡ cond (bytes_eq family p) (Some members) (lookup (bytes_eq p) (get_or (books_of years) y [])) =
+    λ p. sym (looked family_years.entries p) ∙ updated p ∙ ap (cond (bytes_eq family p) (Some members)) (looked (get_or years y d).entries p ∙ ap (lookup (bytes_eq p)) (sym at)) in
+    ap (λ bs. found_in bs q) (map-set book_of years y family_years) ∙ put-book (books_of years) y (book_of family_years) family members q (omega (arith, within, size)) more
 
 -- the books after one more member is added to a family in a year
-pub joins_in : {Y U E : Type 0} (years : List (BTreeMap (String Y) Members)) (y : ℕ) (d households : BTreeMap (String Y) Members) (family member : List ℕ) (balance : Balance) (before after : Members)
+pub joins_in : {Y U E : Type 0} (years : List (BTreeMap (String Y) Members)) (y : ℕ) (d family_years : BTreeMap (String Y) Members) (family member : List ℕ) (balance : Balance) (before after : Members)
     → (joined : Result U E) → y < length years → found_in (books_of years) (family, y) ≡ Some before
-    → ((p : List ℕ) → get_by_text households p ≡ cond (bytes_eq family p) (Some after) (get_by_text (get_or years y d) p))
-    → OnOk joined (HasJoined member balance before after) → OnOk joined (JoinsIn (family, y) member balance (books_of years) (books_of (set years y households)))
-joins_in years y d households family member balance before after (Ok u) within is updated has =
+    → ((p : List ℕ) → get_by_text family_years p ≡ cond (bytes_eq family p) (Some after) (get_by_text (get_or years y d) p))
+    → OnOk joined (HasJoined member balance before after) → OnOk joined (JoinsIn (family, y) member balance (books_of years) (books_of (set years y family_years)))
+joins_in years y d family_years family member balance before after (Ok u) within is updated has =
     let old = books_of years in
-    let new = books_of (set years y households) in
-    let put : (q : Holder) → found_in new q ≡ cond (is_holder (family, y) q) (Some after) (found_in old q) = λ q. put_found years y d households family after q within updated in
+    let new = books_of (set years y family_years) in
+    let put : (q : Holder) → found_in new q ≡ cond (is_holder (family, y) q) (Some after) (found_in old q) = λ q. put_found years y d family_years family after q within updated in
     let itself : is_holder (family, y) (family, y) ≡ true = rw ((bytes_eq-Decides family family).1 refl, year-self y) refl in
     record {
       own = λ other found.
@@ -277,7 +277,7 @@ joins_in years y d households family member balance before after (Ok u) within i
           };
       others = λ other unlike. put other ∙ ap (λ (b : Bool). cond b (Some after) (found_in old other)) unlike;
     }
-joins_in years y d households family member balance before after (Err e) within is updated has = tt
+joins_in years y d family_years family member balance before after (Err e) within is updated has = tt
 
 -- an empty list of books has no repeated family
 pub none_once : {Y : Type 0} (years : List (BTreeMap (String Y) Members)) → years ≡ [] → AreOnce (books_of years)

@@ -11,9 +11,9 @@ use Rattle.feel_tests.specs.declared.value.Value.TheVariants.{Number, Text, Flag
 use Rattle.dtable.specs.declared.table.InputData.{InputData}
 use Rattle.dtable.specs.Names.{accumulator_names, names_of}
 use Rattle.intake_csv.specs.Records.{Fields}
-use Rattle.intake_csv.specs.Columns.{AreColumnsOf, claim_columns, fields_among, have_family, kind_under, needed, own_columns}
+use Rattle.intake_csv.specs.Columns.{AreColumnsOf, claim_columns, fields_among, have_family, kind_under, required_column, own_columns}
 use Rattle.intake_csv.specs.Rows.{AreValues, HoldsUnder, claim_values}
-use Rattle.settlement.specs.Given.{behind_family}
+use Rattle.settlement.specs.Bindings.{after_family}
 use Rattle.settlement.specs.declared.claim.Claim.{Claim}
 use Rattle.intake_csv.specs.declared.column.Column.{Column}
 use Rattle.intake_csv.specs.declared.column.Content.{Content}
@@ -44,7 +44,7 @@ fields-among true fields =
 
 -- the values in the columns of fields have the fields' kinds
 kinds-under : (header row : Fields) (fields : List InputData) (columns : List Column) (values : List Value)
-    → AreColumnsOf header (map (λ d. needed d.name (Plain d.kind)) fields) columns → AreValues row columns values → map kind_of values ≡ map (λ d. d.kind) fields
+    → AreColumnsOf header (map (λ d. required_column d.name (Plain d.kind)) fields) columns → AreValues row columns values → map kind_of values ≡ map (λ d. d.kind) fields
 kinds-under header row [] [] [] h k = refl
 kinds-under header row [] [] (v ∷ vs) h k = absurd k
 kinds-under header row [] (c ∷ cs) values h k = absurd h
@@ -62,8 +62,8 @@ kind-there row column content v k is = spelled-kind (kind_under column.content) 
 -- a claim has a family if and only if there is a column for it, and its fields have the kinds of
 -- the plan's fields
 claim-by : (header row : Fields) (families : Bool) (family : Option (List ℕ)) (fields : List InputData) (columns : List Column) (claim : Claim)
-    → AreColumnsOf header (own_columns families ++ map (λ d. needed d.name (Plain d.kind)) fields) columns
-    → AreValues row columns (Text claim.id ∷ behind_family family (Text claim.member ∷ Day claim.service ∷ Number claim.billed ∷ claim.fields))
+    → AreColumnsOf header (own_columns families ++ map (λ d. required_column d.name (Plain d.kind)) fields) columns
+    → AreValues row columns (Text claim.id ∷ after_family family (Text claim.member ∷ Day claim.service ∷ Number claim.billed ∷ claim.fields))
     → (is_some family ≡ families) × (map kind_of claim.fields ≡ map (λ d. d.kind) fields)
 claim-by header row false family fields [] claim h k = absurd h
 claim-by header row false family fields (a ∷ []) claim h k = absurd h.1
@@ -88,6 +88,6 @@ pub claim-has : (header row : Fields) (names : List InputData) (families : Bool)
 claim-has header row names families fields columns claim is h k =
     let have : have_family names ≡ families = ap have_family is ∙ have_family-names families fields in
     let among : fields_among names ≡ fields = ap fields_among is ∙ fields-among families fields in
-    let own = subst (λ (b : Bool). AreColumnsOf header (own_columns b ++ map (λ d. needed d.name (Plain d.kind)) (fields_among names)) columns) have h in
-    let all = subst (λ (fs : List InputData). AreColumnsOf header (own_columns families ++ map (λ d. needed d.name (Plain d.kind)) fs) columns) among own in
+    let own = subst (λ (b : Bool). AreColumnsOf header (own_columns b ++ map (λ d. required_column d.name (Plain d.kind)) (fields_among names)) columns) have h in
+    let all = subst (λ (fs : List InputData). AreColumnsOf header (own_columns families ++ map (λ d. required_column d.name (Plain d.kind)) fs) columns) among own in
     claim-by header row families claim.family fields columns claim all k

@@ -12,7 +12,7 @@ use Rattle.std.proofs.lemmas.List.Quantifiers.{Any-push, all_pairs_push}
 use Rattle.std.proofs.lemmas.Option.{slice_get-get_or}
 use Rattle.std.proofs.lemmas.Slice.Eq.{bytes_eq-Decides}
 use Rattle.dtable.specs.Plan.{has_families, has_years}
-use Rattle.settlement.specs.Accounts.{Account, is_household, is_same, part}
+use Rattle.settlement.specs.Accounts.{Account, is_family_year, is_same, part}
 use Rattle.settlement.specs.Accumulators.{AreInRange}
 use Rattle.settlement.specs.Amount.{is_in_range}
 use Rattle.settlement.specs.declared.acc.Acc.{Acc}
@@ -20,19 +20,19 @@ use Rattle.settlement.specs.declared.account.Balance.{Balance}
 use Rattle.settlement.specs.Opening.{joins, opening}
 use Rattle.intake_csv.specs.Records.{Fields}
 use Rattle.intake_csv.specs.Record.{family_contents}
-use Rattle.intake_csv.specs.Columns.{IsSheet, balance_columns, family_columns, year_columns}
-use Rattle.intake_csv.specs.Households.{HasJoined, Members, balance_in, begins, met_of, oop_of, refused_behind}
+use Rattle.intake_csv.specs.Columns.{IsHeaderedFile, balance_columns, family_columns, year_columns}
+use Rattle.intake_csv.specs.FamilyYears.{HasJoined, Members, balance_in, begins, met_of, oop_of, refused_after}
 use Rattle.intake_csv.specs.Balances.{AreBalances, AreOnce, Book, Entry, Holder, HoldsEntries, IsBalanceLayout, IsEntry, IsRecordFault, JoinsIn, RefusesRecord, TakesEntry, accounts_of, balance_of, found_in, holder_of, is_holder, opening_with, refusal_cause, refusal_place, year_contents}
 use Rattle.intake_csv.specs.declared.column.Layout.{Layout}
 use Rattle.intake_csv.specs.declared.column.Column.{Column}
 use Rattle.intake_csv.specs.declared.column.Content.TheVariants.{Identifier, Money}
-use Rattle.intake_csv.specs.declared.household.Refusal.{Refusal}
-use Rattle.intake_csv.specs.declared.household.Refusal.TheVariants.{Again, Met, Oop}
+use Rattle.intake_csv.specs.declared.family_year.Refusal.{Refusal}
+use Rattle.intake_csv.specs.declared.family_year.Refusal.TheVariants.{Again, Met, Oop}
 use Rattle.faults.specs.declared.file_fault.RowFault.{RowFault}
 use Rattle.intake_csv.proofs.Books.{begins_among, joined-house, joined-other, members_at, opened-books, year-self}
-use Rattle.intake_csv.proofs.Households.{bytes-turned, lacking}
+use Rattle.intake_csv.proofs.FamilyYears.{bytes-turned, lacking}
 use Rattle.intake_csv.proofs.Lists.{AllZip-grow, any-more, drop-after, next-at}
-use Rattle.intake_csv.proofs.Ranges.{begun-range, entry-amounts, free-sums, household-range}
+use Rattle.intake_csv.proofs.Ranges.{begun-range, entry-amounts, free-sums, family_year-range}
 
 -- families and years that compare as equal are equal
 holder-same : (a b : Holder) → is_holder a b ≡ true → a ≡ b
@@ -50,7 +50,7 @@ holder-self a = rw ((bytes_eq-Decides a.0 a.0).1 refl, year-self a.1) refl
 
 -- accounts that compare as equal are equal
 account-same : (a b : Account) → is_same a b ≡ true → a ≡ b
-account-same a b e = elim (cases_Bool (is_household a b)) [
+account-same a b e = elim (cases_Bool (is_family_year a b)) [
   | inr other ↦ absurd (false≢true (rw other at e))
   | inl house ↦
       let members : bytes_eq a.member b.member ≡ true = rw house at e in
@@ -121,11 +121,11 @@ module _ (account : Account) (balance : Balance) (old new : List Book) (puts : P
   ]
 
   -- the opening accumulators of an account afterwards
-  puts-opened : AreOnce old → AreOnce new → (q : Account) → opening (accounts_of new) q ≡ joins (is_same account q) (is_household account q) balance (opening (accounts_of old) q)
+  puts-opened : AreOnce old → AreOnce new → (q : Account) → opening (accounts_of new) q ≡ joins (is_same account q) (is_family_year account q) balance (opening (accounts_of old) q)
   puts-opened once_old once_new q =
       let own = bytes_eq account.member q.member in
       let first = opened-books new q once_new in
-      let last = ap (joins (is_same account q) (is_household account q) balance) (opened-books old q once_old) in
+      let last = ap (joins (is_same account q) (is_family_year account q) balance) (opened-books old q once_old) in
       elim (cases_Bool (is_holder (holder_of account) (holder_of q))) [
         | inl here ↦
             let same : holder_of account ≡ holder_of q = holder-same (holder_of account) (holder_of q) here in
@@ -166,19 +166,19 @@ joins-turned false mine false yours b c acc apart =
 
 -- the opening accumulators of an account after one more entry of a new account
 opening-more : (es : List Entry) (account : Account) (balance : Balance) (q : Account) → All (λ e. e.0 ≢ account) es
-    → opening (es ++ (account, balance) ∷ []) q ≡ joins (is_same account q) (is_household account q) balance (opening es q)
+    → opening (es ++ (account, balance) ∷ []) q ≡ joins (is_same account q) (is_family_year account q) balance (opening es q)
 opening-more [] account balance q none = refl
 opening-more (e ∷ es) account balance q none =
     let apart : is_same e.0 q ≡ true → is_same account q ≡ true → ⊥ =
     λ first other. All-head (λ e. e.0 ≢ account) e es none (account-same e.0 q first ∙ sym (account-same account q other)) in
-    ap (joins (is_same e.0 q) (is_household e.0 q) e.1) (opening-more es account balance q (All-tail (λ e. e.0 ≢ account) e es none))
-    ∙ joins-turned (is_same e.0 q) (is_household e.0 q) (is_same account q) (is_household account q) e.1 balance (opening es q) apart
+    ap (joins (is_same e.0 q) (is_family_year e.0 q) e.1) (opening-more es account balance q (All-tail (λ e. e.0 ≢ account) e es none))
+    ∙ joins-turned (is_same e.0 q) (is_family_year e.0 q) (is_same account q) (is_family_year account q) e.1 balance (opening es q) apart
 
 -- the opening accumulators of the new entry's own account
 opening-own : (es : List Entry) (account : Account) (balance : Balance) → All (λ e. e.0 ≢ account) es
     → opening (es ++ (account, balance) ∷ []) account ≡ joins true true balance (opening es account)
 opening-own es account balance none =
-    opening-more es account balance account none ∙ ap (λ (b : Bool). joins b (is_household account account) balance (opening es account)) (account-self account)
+    opening-more es account balance account none ∙ ap (λ (b : Bool). joins b (is_family_year account account) balance (opening es account)) (account-self account)
     ∙ ap (λ (b : Bool). joins true b balance (opening es account)) (holder-self (holder_of account))
 
 -- the opening accumulators of all accounts stay in range after an entry of a new account, if those
@@ -188,11 +188,11 @@ range-more : (es : List Entry) (account : Account) (balance : Balance) → All (
 range-more es account balance none before joined q =
     let own = bytes_eq account.member q.member in
     let more = opening-more es account balance q none in
-    elim (cases_Bool (is_household account q)) [
+    elim (cases_Bool (is_family_year account q)) [
       | inl here ↦
           let same : holder_of account ≡ holder_of q = holder-same (holder_of account) (holder_of q) here in
           let is = more ∙ ap (λ (b : Bool). joins (b && own) b balance (opening es q)) here in
-          subst AreInRange (sym is) (household-range es account q balance own same (subst AreInRange (opening-own es account balance none) joined) (before q))
+          subst AreInRange (sym is) (family_year-range es account q balance own same (subst AreInRange (opening-own es account balance none) joined) (before q))
       | inr other ↦
           let is = more ∙ ap (λ (b : Bool). joins (b && own) b balance (opening es q)) other ∙ joined-other balance (opening es q) in
           subst AreInRange (sym is) (before q)
@@ -232,11 +232,11 @@ holds-more entries account balance old new once h absent puts =
             All-push (λ e. e.0 ≢ q) entries (account, balance) (h.lacking q (sym is ∙ lacks)) (account-apart account q other)
       ];
       given = λ q.
-          puts-opened account balance old new puts h.once once q ∙ ap (joins (is_same account q) (is_household account q) balance) (h.given q) ∙ sym (opening-more entries account balance q none);
+          puts-opened account balance old new puts h.once once q ∙ ap (joins (is_same account q) (is_family_year account q) balance) (h.given q) ∙ sym (opening-more entries account balance q none);
     }
 
 -- the account of an entry that is not refused has no balance yet
-pub free-none : (found : Option Members) (member : List ℕ) (balance : Balance) → option_and_then (λ ms. refused_behind ms (balance_in ms member) balance) found ≡ None
+pub free-none : (found : Option Members) (member : List ℕ) (balance : Balance) → option_and_then (λ ms. refused_after ms (balance_in ms member) balance) found ≡ None
     → option_and_then (λ ms. balance_in ms member) found ≡ None
 free-none None member balance free = refl
 free-none (Some members) member balance free = lacking members (balance_in members member) balance free
@@ -258,7 +258,7 @@ copied-there (Some members) is b copied there = ap is_some (sym copied) ∙ ther
 -- the entries after one is added to a family and year with earlier balances
 pub put-joined : {U E : Type 0} (account : Account) (family name : List ℕ) (balance : Balance) (old new : List Book) (put : Result U E) → family ≡ account.family → name ≡ account.member
     → AreOnce new → is_some (found_in old (holder_of account)) ≡ true
-    → option_and_then (λ ms. refused_behind ms (balance_in ms account.member) balance) (found_in old (holder_of account)) ≡ None
+    → option_and_then (λ ms. refused_after ms (balance_in ms account.member) balance) (found_in old (holder_of account)) ≡ None
     → OnOk put (JoinsIn (family, account.year) name balance old new) → OnOk put ((front : List Entry) → HoldsEntries front old → HoldsEntries (front ++ (account, balance) ∷ []) new)
 put-joined account family name balance old new (Ok u) lives named once there free joined =
     let (before, is) = some-there (found_in old (holder_of account)) there in
@@ -267,17 +267,17 @@ put-joined account family name balance old new (Ok u) lives named once there fre
 put-joined account family name balance old new (Err e) lives named once there free joined = tt
 
 -- the entries after one of a new family is added
-pub put-added : {U E : Type 0} (account : Account) (family name : List ℕ) (household : Members) (balance : Balance) (old room new : List Book) (put : Result U E)
-    → family ≡ account.family → name ≡ account.member → household ≡ (name, balance) ∷ [] → AreOnce new → is_some (found_in old (holder_of account)) ≡ false
+pub put-added : {U E : Type 0} (account : Account) (family name : List ℕ) (family_year : Members) (balance : Balance) (old room new : List Book) (put : Result U E)
+    → family ≡ account.family → name ≡ account.member → family_year ≡ (name, balance) ∷ [] → AreOnce new → is_some (found_in old (holder_of account)) ≡ false
     → ((q : Holder) → found_in room q ≡ found_in old q)
-    → OnOk put ((q : Holder) → found_in new q ≡ cond (is_holder (family, account.year) q) (Some household) (found_in room q))
+    → OnOk put ((q : Holder) → found_in new q ≡ cond (is_holder (family, account.year) q) (Some family_year) (found_in room q))
     → OnOk put ((front : List Entry) → HoldsEntries front old → HoldsEntries (front ++ (account, balance) ∷ []) new)
-put-added account family name household balance old room new (Ok u) lives named one once lacks same added =
+put-added account family name family_year balance old room new (Ok u) lives named one once lacks same added =
     let none = none-there (found_in old (holder_of account)) lacks in
     let absent : balance_of old account ≡ None = ap (option_and_then (λ ms. balance_in ms account.member)) none in
     let puts = puts-added account balance old room new none same (rw (one, lives, named) at added) in
     λ front h. holds-more front account balance old new once h absent puts
-put-added account family name household balance old room new (Err e) lives named one once lacks same added = tt
+put-added account family name family_year balance old room new (Err e) lives named one once lacks same added = tt
 
 -- the meaning of a refusal for the members of the family
 abbrev Says : Members → Option Balance → Balance → Refusal → Type 0
@@ -295,7 +295,7 @@ sums-say members balance false oop Met is_met is_oop e = (refl, is_met)
 sums-say members balance false oop Again is_met is_oop e = absurd (cc e)
 sums-say members balance false oop Oop is_met is_oop e = absurd (cc e)
 
-refusal-says : (members : Members) (own : Option Balance) (balance : Balance) (refusal : Refusal) → refused_behind members own balance ≡ Some refusal → Says members own balance refusal
+refusal-says : (members : Members) (own : Option Balance) (balance : Balance) (refusal : Refusal) → refused_after members own balance ≡ Some refusal → Says members own balance refusal
 refusal-says members (Some own) balance Again e = refl
 refusal-says members (Some own) balance Met e = absurd (cc e)
 refusal-says members (Some own) balance Oop e = absurd (cc e)
@@ -304,7 +304,7 @@ refusal-says members None balance refusal e =
 
 -- a refusal comes from the members that are found
 found-says : (found : Option Members) (member : List ℕ) (balance : Balance) (refusal : Refusal)
-    → option_and_then (λ ms. refused_behind ms (balance_in ms member) balance) found ≡ Some refusal → Says (unwrap_or found []) (option_and_then (λ ms. balance_in ms member) found) balance refusal
+    → option_and_then (λ ms. refused_after ms (balance_in ms member) balance) found ≡ Some refusal → Says (unwrap_or found []) (option_and_then (λ ms. balance_in ms member) found) balance refusal
 found-says None member balance refusal e = absurd (cc e)
 found-says (Some members) member balance refusal e = refusal-says members (balance_in members member) balance refusal e
 
@@ -316,8 +316,8 @@ contents-count true false = refl
 contents-count true true = refl
 
 -- each refusal is reported at a column of the layout
-pub told-within : (version : ℕ) (layout : Layout) (refusal : Refusal) → IsBalanceLayout version layout → refusal_place version refusal < length layout.columns
-told-within version layout refusal contents =
+pub reported-within : (version : ℕ) (layout : Layout) (refusal : Refusal) → IsBalanceLayout version layout → refusal_place version refusal < length layout.columns
+reported-within version layout refusal contents =
     let count : length layout.columns ≡ length (family_columns (has_families version)) + length (year_columns (has_years version)) + 4 =
     sym (length-map layout.columns (λ c. c.content)) ∙ ap length contents ∙ contents-count (has_families version) (has_years version) in
     within refusal count
@@ -344,14 +344,14 @@ module _ (version : ℕ) where
     refuses-said : (refusal : Refusal) → Says (members_at balances (holder_of entry.0)) (balance_of balances entry.0) entry.1 refusal
         → ((column : Column) → slice_get layout.columns (refusal_place version refusal) ≡ Some column → fault ≡ record { column = column.place + 1; cause = refusal_cause refusal })
         → IsRecordFault version layout front fields fault
-    refuses-said Again known told =
+    refuses-said Again known reported =
         let d : Column = record { place = 0; content = Identifier } in
-        let stands = slice_get-get_or layout.columns (refusal_place version Again) d (told-within version layout Again contents) in
+        let located = slice_get-get_or layout.columns (refusal_place version Again) d (reported-within version layout Again contents) in
         let column = get_or layout.columns (refusal_place version Again) d in
-        inr (inl (record { entry = entry; read = read; again = h.found entry.0 known; told = record { column = column; stands = stands; fault_is = told column stands } }))
-    refuses-said Met (absent, beyond) told =
+        inr (inl (record { entry = entry; read = read; again = h.found entry.0 known; reported = record { column = column; located = located; fault_is = reported column located } }))
+    refuses-said Met (absent, beyond) reported =
         let d : Column = record { place = 0; content = Identifier } in
-        let stands = slice_get-get_or layout.columns (refusal_place version Met) d (told-within version layout Met contents) in
+        let located = slice_get-get_or layout.columns (refusal_place version Met) d (reported-within version layout Met contents) in
         let column = get_or layout.columns (refusal_place version Met) d in
         let met = ap (λ (acc : Acc). is_in_range acc.fmet) (opened-with front balances entry h absent) in
         inr (inr (record {
@@ -360,11 +360,11 @@ module _ (version : ℕ) where
           new = h.lacking entry.0 absent;
           place = refusal_place version Met;
           sum = inl (met ∙ beyond, refl);
-          told = record { column = column; stands = stands; fault_is = told column stands };
+          reported = record { column = column; located = located; fault_is = reported column located };
         }))
-    refuses-said Oop (absent, within, beyond) told =
+    refuses-said Oop (absent, within, beyond) reported =
         let d : Column = record { place = 0; content = Identifier } in
-        let stands = slice_get-get_or layout.columns (refusal_place version Oop) d (told-within version layout Oop contents) in
+        let located = slice_get-get_or layout.columns (refusal_place version Oop) d (reported-within version layout Oop contents) in
         let column = get_or layout.columns (refusal_place version Oop) d in
         let met = ap (λ (acc : Acc). is_in_range acc.fmet) (opened-with front balances entry h absent) in
         let oop = ap (λ (acc : Acc). is_in_range acc.foop) (opened-with front balances entry h absent) in
@@ -374,20 +374,20 @@ module _ (version : ℕ) where
           new = h.lacking entry.0 absent;
           place = refusal_place version Oop;
           sum = inr (met ∙ within, oop ∙ beyond, refl);
-          told = record { column = column; stands = stands; fault_is = told column stands };
+          reported = record { column = column; located = located; fault_is = reported column located };
         }))
 
   pub refuses-entry : (layout : Layout) (fields : Fields) (entry : Entry) (refusal : Refusal) (balances : List Book) (fault : RowFault)
       → IsBalanceLayout version layout → IsEntry version layout fields entry
-      → option_and_then (λ ms. refused_behind ms (balance_in ms entry.0.member) entry.1) (found_in balances (holder_of entry.0)) ≡ Some refusal
+      → option_and_then (λ ms. refused_after ms (balance_in ms entry.0.member) entry.1) (found_in balances (holder_of entry.0)) ≡ Some refusal
       → ((column : Column) → slice_get layout.columns (refusal_place version refusal) ≡ Some column → fault ≡ record { column = column.place + 1; cause = refusal_cause refusal })
       → (front : List Entry) → HoldsEntries front balances → IsRecordFault version layout front fields fault
-  refuses-entry layout fields entry refusal balances fault contents read refused told front h =
-      refuses-said layout front balances fields entry fault contents read h refusal (found-says (found_in balances (holder_of entry.0)) entry.0.member entry.1 refusal refused) told
+  refuses-entry layout fields entry refusal balances fault contents read refused reported front h =
+      refuses-said layout front balances fields entry fault contents read h refusal (found-says (found_in balances (holder_of entry.0)) entry.0.member entry.1 refusal refused) reported
 
   -- the opening accumulators of the account of an entry that is not refused are in range
   pub takes-entry : (layout : Layout) (fields : Fields) (entry : Entry) (old new : List Book) → IsEntry version layout fields entry
-      → option_and_then (λ ms. refused_behind ms (balance_in ms entry.0.member) entry.1) (found_in old (holder_of entry.0)) ≡ None
+      → option_and_then (λ ms. refused_after ms (balance_in ms entry.0.member) entry.1) (found_in old (holder_of entry.0)) ≡ None
       → ((front : List Entry) → HoldsEntries front old → HoldsEntries (front ++ entry ∷ []) new)
       → (front : List Entry) → HoldsEntries front old → TakesEntry version layout front fields new
   takes-entry layout fields entry old new read free put front h =
@@ -430,14 +430,14 @@ module _ (version : ℕ) where
 
   -- the case that one more record is refused
   pub refused-next : (text : List ℕ) (layout : Layout) (all : List Fields) (count : ℕ) (fields : Fields) (more : List Fields) (balances : List Book) (fault : RowFault)
-      → IsSheet (balance_columns version) text layout (drop 1 all) → drop (count + 1) all ≡ fields ∷ more → ReadBefore layout (drop 1 all) count balances
+      → IsHeaderedFile (balance_columns version) text layout (drop 1 all) → drop (count + 1) all ≡ fields ∷ more → ReadBefore layout (drop 1 all) count balances
       → ((front : List Entry) → HoldsEntries front balances → IsRecordFault version layout front fields fault) → RefusesRecord version text (count + 1) fault
-  refused-next text layout all count fields more balances fault sheet next before reason =
+  refused-next text layout all count fields more balances fault headered_file next before reason =
       let back : count + 1 - 1 ≡ count = omega arith in
       record {
         layout = layout;
         records = drop 1 all;
-        sheet = sheet;
+        headered_file = headered_file;
         front = before.entries;
         read = record { each = rw back before.each; distinct = before.holds.distinct; in_range = before.in_range };
         fields = fields;
@@ -447,16 +447,16 @@ module _ (version : ℕ) where
       }
 
   -- the case that all records have entries
-  pub read-all : (text : List ℕ) (layout : Layout) (all : List Fields) (count : ℕ) (balances : List Book) → IsSheet (balance_columns version) text layout (drop 1 all)
+  pub read-all : (text : List ℕ) (layout : Layout) (all : List Fields) (count : ℕ) (balances : List Book) → IsHeaderedFile (balance_columns version) text layout (drop 1 all)
       → drop (count + 1) all ≡ [] → ReadBefore layout (drop 1 all) count balances → AreBalances version text balances
-  read-all text layout all count balances sheet over before =
+  read-all text layout all count balances headered_file over before =
       let taken = rw append-nil at (sym (ap (λ rest. take count (drop 1 all) ++ rest) (sym (drop-after all count) ∙ over)) ∙ take-append-drop count (drop 1 all)) in
       let held = before.holds in
       record {
         layout = layout;
         records = drop 1 all;
         entries = before.entries;
-        sheet = sheet;
+        headered_file = headered_file;
         read = record { each = rw (← taken) before.each; distinct = held.distinct; in_range = before.in_range };
         given = held.given;
       }

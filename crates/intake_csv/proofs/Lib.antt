@@ -16,7 +16,7 @@ pub mod OneRow
 pub mod OneList
 pub mod SomeRow
 pub mod Spelling
-pub mod Households
+pub mod FamilyYears
 pub mod AsciiFields
-pub mod Judging
-pub mod UnderColumns
+pub mod Validation
+pub mod ColumnValues

@@ -57,8 +57,8 @@ any-here : {A : Type 0} (P : A → Type 0) (x : A) (xs : List A) → P x → Any
 any-here P x xs has = (0, x, omega arith, refl, has)
 
 -- a property of some item after the first one holds for some item
-any-behind : {A : Type 0} (P : A → Type 0) (x : A) (xs : List A) → Any P xs → Any P (x ∷ xs)
-any-behind P x xs (k, y, within, is, has) = (suc k, y, omega (arith, within), is, has)
+any-following : {A : Type 0} (P : A → Type 0) (x : A) (xs : List A) → Any P xs → Any P (x ∷ xs)
+any-following P x xs (k, y, within, is, has) = (suc k, y, omega (arith, within), is, has)
 
 -- a property of the first item of a list that is not empty holds for some item
 pub any-first : {A : Type 0} (P : A → Type 0) (xs : List A) (d : A) → 1 ≤ length xs → P (get_or xs 0 d) → Any P xs
@@ -69,18 +69,18 @@ any-first P (x ∷ xs) d some has = any-here P x xs has
 pub any-at : {A : Type 0} (P : A → Type 0) (k : ℕ) (xs : List A) (d : A) → k < length xs → P (get_or xs k d) → Any P xs
 any-at P k [] d within has = absurd (omega (arith, within))
 any-at P zero (x ∷ xs) d within has = any-here P x xs has
-any-at P (suc k) (x ∷ xs) d within has = any-behind P x xs (any-at P k xs d (omega (arith, within)) has)
+any-at P (suc k) (x ∷ xs) d within has = any-following P x xs (any-at P k xs d (omega (arith, within)) has)
 
 any-taken : {A : Type 0} (P : A → Type 0) (n : ℕ) (xs : List A) → Any P (take n xs) → Any P xs
 any-taken P zero xs (k, x, within, is, has) = absurd (omega (arith, within))
 any-taken P (suc n) [] some = some
 any-taken P (suc n) (y ∷ ys) (zero, x, within, is, has) = (zero, x, omega arith, is, has)
-any-taken P (suc n) (y ∷ ys) (suc k, x, within, is, has) = any-behind P y ys (any-taken P n ys (k, x, omega (arith, within), is, has))
+any-taken P (suc n) (y ∷ ys) (suc k, x, within, is, has) = any-following P y ys (any-taken P n ys (k, x, omega (arith, within), is, has))
 
 any-dropped : {A : Type 0} (P : A → Type 0) (k : ℕ) (xs : List A) → Any P (drop k xs) → Any P xs
 any-dropped P zero xs some = some
 any-dropped P (suc k) [] some = some
-any-dropped P (suc k) (y ∷ ys) some = any-behind P y ys (any-dropped P k ys some)
+any-dropped P (suc k) (y ∷ ys) some = any-following P y ys (any-dropped P k ys some)
 
 -- a property of some item of a sublist holds for some item
 pub any-within : {A : Type 0} (P : A → Type 0) (k n : ℕ) (xs : List A) → Any P (take n (drop k xs)) → Any P xs
@@ -104,18 +104,18 @@ drop-after [] k = drop-nothing (k + 1) ∙ sym (drop-nothing k)
 drop-after (x ∷ xs) k = rw add-one refl
 
 -- the first item after k dropped ones
-first-behind : {A : Type 0} (xs : List A) (k : ℕ) (x : A) (more : List A) → drop k xs ≡ x ∷ more → (slice_get xs k ≡ Some x) × (take (k + 1) xs ≡ take k xs ++ x ∷ [])
-first-behind [] k x more e = absurd (cc (sym (drop-nothing k) ∙ e))
-first-behind (y ∷ ys) zero x more e = let same : y ≡ x = cc e in (ap Some same, ap (λ z. z ∷ []) same)
-first-behind (y ∷ ys) (suc k) x more e =
-    let h = first-behind ys k x more e in
+first-following : {A : Type 0} (xs : List A) (k : ℕ) (x : A) (more : List A) → drop k xs ≡ x ∷ more → (slice_get xs k ≡ Some x) × (take (k + 1) xs ≡ take k xs ++ x ∷ [])
+first-following [] k x more e = absurd (cc (sym (drop-nothing k) ∙ e))
+first-following (y ∷ ys) zero x more e = let same : y ≡ x = cc e in (ap Some same, ap (λ z. z ∷ []) same)
+first-following (y ∷ ys) (suc k) x more e =
+    let h = first-following ys k x more e in
     let after : suc k + 1 ≡ suc (k + 1) = omega arith in
     (h.0, rw after (ap (λ zs. y ∷ zs) h.1))
 
 -- the first item after k + 1 dropped ones
 pub next-at : {A : Type 0} (all : List A) (k : ℕ) (x : A) (more : List A) → drop (k + 1) all ≡ x ∷ more
     → (slice_get (drop 1 all) k ≡ Some x) × (take (k + 1) (drop 1 all) ≡ take k (drop 1 all) ++ x ∷ [])
-next-at all k x more e = first-behind (drop 1 all) k x more (sym (drop-after all k) ∙ e)
+next-at all k x more e = first-following (drop 1 all) k x more (sym (drop-after all k) ∙ e)
 
 -- the items after one more dropped item, which exists
 pub one-more : {A : Type 0} (xs : List A) (k : ℕ) (x : A) (more : List A) → drop k xs ≡ x ∷ more → (k < length xs) × (drop (k + 1) xs ≡ more)

@@ -8,10 +8,10 @@ use Rattle.fixpoint.specs.NumberText.{DenotesAtMostOne}
 use Rattle.feel_tests.specs.Plain.{SpellsOnePlain}
 use Rattle.feel_tests.specs.declared.value.Value.{Value}
 use Rattle.feel_tests.specs.declared.value.Value.TheVariants.{Number, Text, Day}
-use Rattle.settlement.specs.Given.{behind_family}
+use Rattle.settlement.specs.Bindings.{after_family}
 use Rattle.settlement.specs.declared.claim.Claim.{Claim}
 use Rattle.intake_csv.specs.Records.{Fields}
-use Rattle.intake_csv.specs.Laws.{BeginLike, BeginWith, StandApart}
+use Rattle.intake_csv.specs.Laws.{BeginLike, BeginWith, LieApart}
 use Rattle.intake_csv.specs.Rows.{AreRowsLeft, AreValues, GivesRow, HasFault, HasValues, HoldsUnder, IsFaultyUnder, IsFaultlessUnder, IsFirstFault, IsRow, RowsLeft, claim_in, claim_values, claims_in, is_claim}
 use Rattle.intake_csv.specs.declared.column.Column.{Column}
 use Rattle.intake_csv.specs.declared.column.Layout.{Layout}
@@ -38,9 +38,9 @@ neither-less a b less more = elim (cases_lt a b) [
 ]
 
 -- columns with distinct places are determined by their places
-place-tells : (columns : List Column) (i j : ℕ) (c d : Column) → StandApart columns → i < length columns → j < length columns → get_or columns i c ≡ c → get_or columns j d ≡ d
+place-reports : (columns : List Column) (i j : ℕ) (c d : Column) → LieApart columns → i < length columns → j < length columns → get_or columns i c ≡ c → get_or columns j d ≡ d
     → c.place ≡ d.place → c ≡ d
-place-tells columns i j c d apart inside within is was place =
+place-reports columns i j c d apart inside within is was place =
     let there : get_or columns j c ≡ d = get_or-any columns j c d within ∙ was in
     let places : (get_or columns i c).place ≡ (get_or columns j c).place = ap (λ (x : Column). x.place) is ∙ place ∙ sym (ap (λ (x : Column). x.place) there) in
     let index = neither-less i j (λ less. apart i j c less within places) (λ more. apart j i c more inside (sym places)) in
@@ -69,7 +69,7 @@ same-place place other column others a b c = omega (arith, a, b, c)
 -- the values determine whether there is a family: the value after a family is the member, a text,
 -- and the value after a member is the date of service
 family-one : (f g : Option (List ℕ)) (id other m n : List ℕ) (s t u v : ℤ) (vs ws : List Value)
-    → Text id ∷ behind_family f (Text m ∷ Day s ∷ Number u ∷ vs) ≡ Text other ∷ behind_family g (Text n ∷ Day t ∷ Number v ∷ ws)
+    → Text id ∷ after_family f (Text m ∷ Day s ∷ Number u ∷ vs) ≡ Text other ∷ after_family g (Text n ∷ Day t ∷ Number v ∷ ws)
     → (f ≡ g) × (Text m ∷ Day s ∷ Number u ∷ vs ≡ Text n ∷ Day t ∷ Number v ∷ ws)
 family-one None None id other m n s t u v vs ws e = (refl, cc e)
 family-one None (Some g) id other m n s t u v vs ws e = absurd (cc e)
@@ -126,23 +126,23 @@ module _ (one : DenotesAtMostOne) (plain : SpellsOnePlain) where
       let (v, held) = value-at fields layout.columns vs k c h.1 within in
       held-under fields c v fault.cause (rw is at held) has.1
 
-  first-one : (fields : Fields) (columns : List Column) (f g : RowFault) → StandApart columns → IsFirstFault fields columns f → IsFirstFault fields columns g → f ≡ g
+  first-one : (fields : Fields) (columns : List Column) (f g : RowFault) → LieApart columns → IsFirstFault fields columns f → IsFirstFault fields columns g → f ≡ g
   first-one fields columns f g apart h k =
       let column = neither-less f.column g.column (none-left-of fields columns f g h k) (none-left-of fields columns g f k h) in
       let (i, c, inside, is, has) = h.faulty in
       let (j, d, within, was, had) = k.faulty in
       let place = same-place c.place d.place f.column g.column has.0 had.0 column in
-      let same = place-tells columns i j c d apart inside within is was place in
+      let same = place-reports columns i j c d apart inside within is was place in
       let cause = cause-under fields c f.cause g.cause has.1 (rw (← same) at had.1) in
       λ n. record { column = column n; cause = cause n }
 
-  fault-one : (layout : Layout) (fields : Fields) (f g : RowFault) → StandApart layout.columns → HasFault layout fields f → HasFault layout fields g → f ≡ g
+  fault-one : (layout : Layout) (fields : Fields) (f g : RowFault) → LieApart layout.columns → HasFault layout fields f → HasFault layout fields g → f ≡ g
   fault-one layout fields f g apart (inl h) (inl k) = h.1 ∙ sym k.1
   fault-one layout fields f g apart (inl h) (inr k) = absurd (h.0 k.0)
   fault-one layout fields f g apart (inr h) (inl k) = absurd (k.0 h.0)
   fault-one layout fields f g apart (inr h) (inr k) = first-one fields layout.columns f g apart h.1 k.1
 
-  row-one : (layout : Layout) (number place : ℕ) (fields : Fields) (row other : Row) → StandApart layout.columns
+  row-one : (layout : Layout) (number place : ℕ) (fields : Fields) (row other : Row) → LieApart layout.columns
       → IsRow layout number place fields row → IsRow layout number place fields other → row ≡ other
   row-one layout number place fields (Good n p c) (Good m q d) apart h k =
       let claims = claim-one c d (values-one fields layout.columns (claim_values c) (claim_values d) h.2.1 k.2.1) in
@@ -176,9 +176,9 @@ first-row old new fields row rows next h =
     (h.each [] rows row fields refl there)
 
 -- the rows after the first one remain after the next record
-pub rows-behind : (old new : RowsLeft) (row first : Row) (rows : List Row) → GivesRow old new row → claims_in row ≡ claims_in first → AreRowsLeft old (first ∷ rows)
+pub rows-following : (old new : RowsLeft) (row first : Row) (rows : List Row) → GivesRow old new row → claims_in row ≡ claims_in first → AreRowsLeft old (first ∷ rows)
     → AreRowsLeft new rows
-rows-behind old new row first rows g alike h = record { as_many = as_many; each = each }
+rows-following old new row first rows g alike h = record { as_many = as_many; each = each }
   where
     as_many : length rows ≡ length new.records
     as_many = let sizes = h.as_many ∙ ap length g.next in omega (arith, sizes)
@@ -193,7 +193,7 @@ rows-behind old new row first rows g alike h = record { as_many = as_many; each 
         moved-row old.layout new.layout (old.number + length (first ∷ before)) (new.number + length before) (old.place + count_by is_claim (first ∷ before)) (new.place + count_by is_claim before)
         found r (sym g.layout) numbered placed (h.each (first ∷ before) after r found (ap (λ xs. first ∷ xs) e) there)
 
-pub begin-with : DenotesAtMostOne → SpellsOnePlain → (old new : RowsLeft) (row : Row) (rows : List Row) → StandApart old.layout.columns → GivesRow old new row → AreRowsLeft old rows
+pub begin-with : DenotesAtMostOne → SpellsOnePlain → (old new : RowsLeft) (row : Row) (rows : List Row) → LieApart old.layout.columns → GivesRow old new row → AreRowsLeft old rows
     → BeginWith row new rows
 begin-with one plain old new row [] apart g h = let sizes = h.as_many ∙ ap length g.next in absurd (omega (arith, sizes))
 begin-with one plain old new row (r ∷ rs) apart g h =
@@ -201,7 +201,7 @@ begin-with one plain old new row (r ∷ rs) apart g h =
     record {
       rest = rs;
       rows_are = ap (λ x. x ∷ rs) same;
-      rest_left = rows-behind old new row r rs g (ap claims_in (sym same)) h;
+      rest_left = rows-following old new row r rs g (ap claims_in (sym same)) h;
     }
 
 pub begin-like : DenotesAtMostOne → SpellsOnePlain → (old new : RowsLeft) (row : Row) (rows : List Row) → GivesRow old new row → AreRowsLeft old rows → BeginLike row new rows
@@ -213,5 +213,5 @@ begin-like one plain old new row (r ∷ rs) g h =
       rest = rs;
       rows_are = refl;
       claims = alike.0;
-      rest_left = rows-behind old new row r rs g (sym alike.1) h;
+      rest_left = rows-following old new row r rs g (sym alike.1) h;
     }

@@ -6,30 +6,30 @@ use Rattle.std.proofs.lemmas.List.{get_or-map, get_or_append_left, length-append
 use Rattle.dtable.specs.declared.table.InputData.{InputData}
 use Rattle.dtable.specs.Names.{accumulator_names, claim_names}
 use Rattle.dtable.specs.Plan.{AreDistinct, IsPlan, PlanParts, keeps_families, plan_names}
-use Rattle.intake_csv.specs.Columns.{AreColumnsOf, claim_columns, fields_among, have_family, needed, own_columns}
-use Rattle.intake_csv.specs.Laws.{StandApart}
+use Rattle.intake_csv.specs.Columns.{AreColumnsOf, claim_columns, fields_among, have_family, required_column, own_columns}
+use Rattle.intake_csv.specs.Laws.{LieApart}
 use Rattle.intake_csv.specs.Records.{Fields}
 use Rattle.intake_csv.specs.declared.column.Column.{Column}
 use Rattle.intake_csv.specs.declared.column.Content.TheVariants.{Plain}
-use Rattle.intake_csv.specs.declared.column.Needed.{Needed}
+use Rattle.intake_csv.specs.declared.column.RequiredColumn.{RequiredColumn}
 use Rattle.intake_csv.proofs.ClaimFields.{fields-among, have_family-names}
 use Rattle.intake_csv.proofs.OneFile.{HaveDistinctNames, columns-apart}
 
 -- a prefix of distinct names is distinct
-distinct-front : (front behind : List (List ℕ)) → AreDistinct (front ++ behind) → AreDistinct front
-distinct-front front behind h i j d before within =
-    let long = length-append front behind in
+distinct-front : (front following : List (List ℕ)) → AreDistinct (front ++ following) → AreDistinct front
+distinct-front front following h i j d before within =
+    let long = length-append front following in
     let apart = h i j d before (omega (arith, long, within)) in
-    λ same. apart (get_or_append_left front behind d i (omega arith) ∙ same ∙ sym (get_or_append_left front behind d j within))
+    λ same. apart (get_or_append_left front following d i (omega arith) ∙ same ∙ sym (get_or_append_left front following d j within))
 
 -- required columns with distinct names, from the list of their names
-titles-distinct : (columns : List Needed) → AreDistinct (map (λ c. c.name) columns) → HaveDistinctNames columns
+titles-distinct : (columns : List RequiredColumn) → AreDistinct (map (λ c. c.name) columns) → HaveDistinctNames columns
 titles-distinct columns h i j d before within =
-    let long = length-map columns (λ (c : Needed). c.name) in
+    let long = length-map columns (λ (c : RequiredColumn). c.name) in
     let apart = h i j d.name before (omega (arith, long, within)) in
     λ same. apart (get_or-map (λ c. c.name) columns i d d.name (omega arith) ∙ same ∙ sym (get_or-map (λ c. c.name) columns j d d.name within))
 
-field_names : (fields : List InputData) → map (λ c. c.name) (map (λ d. needed d.name (Plain d.kind)) fields) ≡ map (λ d. d.name) fields
+field_names : (fields : List InputData) → map (λ c. c.name) (map (λ d. required_column d.name (Plain d.kind)) fields) ≡ map (λ d. d.name) fields
 field_names [] = refl
 field_names (f ∷ fs) = ap (λ ns. f.name ∷ ns) (field_names fs)
 
@@ -41,7 +41,7 @@ own_titles true = refl
 titles : (families : Bool) (names fields : List InputData) → have_family names ≡ families → fields_among names ≡ fields
     → map (λ c. c.name) (claim_columns names) ≡ map (λ d. d.name) (claim_names families) ++ map (λ d. d.name) fields
 titles families names fields have among =
-    let of : List InputData → List Needed = λ fs. map (λ d. needed d.name (Plain d.kind)) fs in
+    let of : List InputData → List RequiredColumn = λ fs. map (λ d. required_column d.name (Plain d.kind)) fs in
     ap (λ (b : Bool). map (λ c. c.name) (own_columns b ++ of (fields_among names))) have ∙ ap (λ (fs : List InputData). map (λ c. c.name) (own_columns families ++ of fs)) among
     ∙ map-append (λ c. c.name) (own_columns families) (of fields) ∙ ap (λ ns. ns ++ map (λ c. c.name) (of fields)) (own_titles families)
     ∙ ap (λ ns. map (λ d. d.name) (claim_names families) ++ ns) (field_names fields)
@@ -63,5 +63,5 @@ columns-distinct plan is =
     (subst AreDistinct (sym (titles families plan.names is.fields have among)) (distinct-front (own ++ fields) (accumulators ++ outputs) (subst AreDistinct all is.distinct)))
 
 -- the required columns have distinct places in every file that has them
-pub columns-apart-under : (plan : PlanParts) (header : Fields) (columns : List Column) → IsPlan plan → AreColumnsOf header (claim_columns plan.names) columns → StandApart columns
+pub columns-apart-under : (plan : PlanParts) (header : Fields) (columns : List Column) → IsPlan plan → AreColumnsOf header (claim_columns plan.names) columns → LieApart columns
 columns-apart-under plan header columns is has = columns-apart header (claim_columns plan.names) columns (columns-distinct plan is) has

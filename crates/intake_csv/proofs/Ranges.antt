@@ -8,21 +8,21 @@ use Rattle.fixpoint.specs.Number.{greatest_units}
 use Rattle.feel_tests.specs.declared.value.Value.{Value}
 use Rattle.feel_tests.specs.declared.value.Value.TheVariants.{Number, Text}
 use Rattle.dtable.specs.Plan.{has_families, has_years}
-use Rattle.settlement.specs.Accounts.{Account, is_household, part}
+use Rattle.settlement.specs.Accounts.{Account, is_family_year, part}
 use Rattle.settlement.specs.Accumulators.{AreInRange, are_in_range}
 use Rattle.settlement.specs.Amount.{is_in_range}
-use Rattle.settlement.specs.Given.{behind_family}
+use Rattle.settlement.specs.Bindings.{after_family}
 use Rattle.settlement.specs.Opening.{joins, opening}
 use Rattle.settlement.specs.declared.acc.Acc.{Acc}
 use Rattle.settlement.specs.declared.account.Balance.{Balance}
 use Rattle.intake_csv.specs.Records.{Fields}
 use Rattle.intake_csv.specs.Rows.{AreValues, HoldsUnder}
-use Rattle.intake_csv.specs.Households.{Members, balance_in, begins, met_of, oop_of, refused_behind}
+use Rattle.intake_csv.specs.FamilyYears.{Members, balance_in, begins, met_of, oop_of, refused_after}
 use Rattle.intake_csv.specs.Balances.{Entry, Holder, IsEntry, balance_values, entry_values, family_in, holder_of, is_holder, year_values}
 use Rattle.intake_csv.specs.declared.column.Column.{Column}
 use Rattle.intake_csv.specs.declared.column.Layout.{Layout}
-use Rattle.intake_csv.specs.declared.household.Refusal.{Refusal}
-use Rattle.intake_csv.specs.declared.household.Refusal.TheVariants.{Met, Oop}
+use Rattle.intake_csv.specs.declared.family_year.Refusal.{Refusal}
+use Rattle.intake_csv.specs.declared.family_year.Refusal.TheVariants.{Met, Oop}
 
 -- the amounts of a balance are in range
 pub record AmountsInRange (balance : Balance) : Type 0 where
@@ -37,10 +37,10 @@ number-held fields column units h =
     grind (arith, nat_tests)
 
 -- the values after the first one
-values-behind : (fields : Fields) (columns : List Column) (value : Value) (values : List Value) → AreValues fields columns (value ∷ values)
+values-following : (fields : Fields) (columns : List Column) (value : Value) (values : List Value) → AreValues fields columns (value ∷ values)
     → (rest : List Column) × AreValues fields rest values
-values-behind fields [] value values h = absurd h
-values-behind fields (c ∷ cs) value values h = (cs, h.1)
+values-following fields [] value values h = absurd h
+values-following fields (c ∷ cs) value values h = (cs, h.1)
 
 amounts-held : (fields : Fields) (columns : List Column) (balance : Balance) → AreValues fields columns (balance_values balance) → AmountsInRange balance
 amounts-held fields [] balance h = absurd h
@@ -52,30 +52,30 @@ amounts-held fields (a ∷ b ∷ c ∷ cs) balance h = record {
   paid = number-held fields c balance.paid h.1.1.0;
 }
 
-behind-year : (years : Bool) (fields : Fields) (columns : List Column) (year : ℕ) (balance : Balance) → AreValues fields columns (year_values years year ++ balance_values balance)
+following-year : (years : Bool) (fields : Fields) (columns : List Column) (year : ℕ) (balance : Balance) → AreValues fields columns (year_values years year ++ balance_values balance)
     → AmountsInRange balance
-behind-year false fields columns year balance h = amounts-held fields columns balance h
-behind-year true fields columns year balance h =
-    let (rest, held) = values-behind fields columns _ (balance_values balance) h in
+following-year false fields columns year balance h = amounts-held fields columns balance h
+following-year true fields columns year balance h =
+    let (rest, held) = values-following fields columns _ (balance_values balance) h in
     amounts-held fields rest balance held
 
-behind-member : (years : Bool) (fields : Fields) (columns : List Column) (account : Account) (balance : Balance)
+following-member : (years : Bool) (fields : Fields) (columns : List Column) (account : Account) (balance : Balance)
     → AreValues fields columns (Text account.member ∷ (year_values years account.year ++ balance_values balance)) → AmountsInRange balance
-behind-member years fields columns account balance h =
-    let (rest, held) = values-behind fields columns (Text account.member) (year_values years account.year ++ balance_values balance) h in
-    behind-year years fields rest account.year balance held
+following-member years fields columns account balance h =
+    let (rest, held) = values-following fields columns (Text account.member) (year_values years account.year ++ balance_values balance) h in
+    following-year years fields rest account.year balance held
 
-behind-all : (families years : Bool) (fields : Fields) (columns : List Column) (account : Account) (balance : Balance)
-    → AreValues fields columns (behind_family (family_in families account) (Text account.member ∷ (year_values years account.year ++ balance_values balance))) → AmountsInRange balance
-behind-all false years fields columns account balance h = behind-member years fields columns account balance h
-behind-all true years fields columns account balance h =
-    let (rest, held) = values-behind fields columns (Text account.family) (Text account.member ∷ (year_values years account.year ++ balance_values balance)) h in
-    behind-member years fields rest account balance held
+following-all : (families years : Bool) (fields : Fields) (columns : List Column) (account : Account) (balance : Balance)
+    → AreValues fields columns (after_family (family_in families account) (Text account.member ∷ (year_values years account.year ++ balance_values balance))) → AmountsInRange balance
+following-all false years fields columns account balance h = following-member years fields columns account balance h
+following-all true years fields columns account balance h =
+    let (rest, held) = values-following fields columns (Text account.family) (Text account.member ∷ (year_values years account.year ++ balance_values balance)) h in
+    following-member years fields rest account balance held
 
 -- the amounts of an entry in a record are in range
 pub entry-amounts : (version : ℕ) (layout : Layout) (fields : Fields) (entry : Entry) → IsEntry version layout fields entry → AmountsInRange entry.1
 entry-amounts version layout fields entry read =
-    behind-all (has_families version) (has_years version) fields layout.columns entry.0 entry.1 read.values.1
+    following-all (has_families version) (has_years version) fields layout.columns entry.0 entry.1 read.values.1
 
 -- the sums over the members and one more balance are in range
 pub record SumsInRange (members : Members) (balance : Balance) : Type 0 where
@@ -88,9 +88,9 @@ sums-free members balance true true is_met is_oop e = record { met = is_met; oop
 sums-free members balance true false is_met is_oop e = absurd (cc e)
 sums-free members balance false oop is_met is_oop e = absurd (cc e)
 
-free-behind : (members : Members) (own : Option Balance) (balance : Balance) → refused_behind members own balance ≡ None → SumsInRange members balance
-free-behind members (Some own) balance e = absurd (cc e)
-free-behind members None balance e =
+free-following : (members : Members) (own : Option Balance) (balance : Balance) → refused_after members own balance ≡ None → SumsInRange members balance
+free-following members (Some own) balance e = absurd (cc e)
+free-following members None balance e =
     sums-free members balance (is_in_range (met_of members +ℤ balance.met)) (is_in_range (oop_of members +ℤ balance.oop)) refl refl e
 
 nothing-before : (x : ℤ) → pos 0 +ℤ x ≡ x
@@ -98,10 +98,10 @@ nothing-before x = omega (arith, ints)
 
 -- the sums are in range with a member that is not refused
 pub free-sums : (found : Option Members) (member : List ℕ) (balance : Balance) → AmountsInRange balance
-    → option_and_then (λ ms. refused_behind ms (balance_in ms member) balance) found ≡ None → SumsInRange (unwrap_or found []) balance
+    → option_and_then (λ ms. refused_after ms (balance_in ms member) balance) found ≡ None → SumsInRange (unwrap_or found []) balance
 free-sums None member balance amounts free =
     record { met = ap is_in_range (nothing-before balance.met) ∙ amounts.met; oop = ap is_in_range (nothing-before balance.oop) ∙ amounts.oop }
-free-sums (Some members) member balance amounts free = free-behind members (balance_in members member) balance free
+free-sums (Some members) member balance amounts free = free-following members (balance_in members member) balance free
 
 -- the opening accumulators of the new account are in range
 pub begun-range : (balance : Balance) (members : Members) → AmountsInRange balance → SumsInRange members balance → AreInRange (joins true true balance (begins members None))
@@ -113,16 +113,16 @@ shared-sums : (entries : List Entry) (a b : Account) → holder_of a ≡ holder_
 shared-sums [] a b same = (refl, refl)
 shared-sums (e ∷ es) a b same =
     let (met, oop) = shared-sums es a b same in
-    let house : is_household e.0 a ≡ is_household e.0 b = ap (λ (h : Holder). is_holder (holder_of e.0) h) same in (
+    let house : is_family_year e.0 a ≡ is_family_year e.0 b = ap (λ (h : Holder). is_holder (holder_of e.0) h) same in (
       ap₂ (λ (sum : ℤ) (here : Bool). sum +ℤ part here e.1.met) met house,
       ap₂ (λ (sum : ℤ) (here : Bool). sum +ℤ part here e.1.oop) oop house,
     )
 
 -- the opening accumulators of an account stay in range with the balance of another account of its
 -- family and year, if those of that account are in range
-pub household-range : (entries : List Entry) (a b : Account) (balance : Balance) (own : Bool) → holder_of a ≡ holder_of b → AreInRange (joins true true balance (opening entries a))
+pub family_year-range : (entries : List Entry) (a b : Account) (balance : Balance) (own : Bool) → holder_of a ≡ holder_of b → AreInRange (joins true true balance (opening entries a))
     → AreInRange (opening entries b) → AreInRange (joins own true balance (opening entries b))
-household-range entries a b balance own same joined before =
+family_year-range entries a b balance own same joined before =
     let (met, oop) = shared-sums entries a b same in
     let alike : joins true true balance (opening entries a) ≡ joins true true balance (opening entries b) =
     λ i. record { met = balance.met; oop = balance.oop; paid = balance.paid; fmet = met i +ℤ balance.met; foop = oop i +ℤ balance.oop } in

@@ -10,9 +10,9 @@ use Rattle.feel_tests.specs.declared.value.Value.TheVariants.{Number, Text, Flag
 use Rattle.feel_tests.specs.Calendar.{year_text}
 use Rattle.dtable.specs.Plan.{has_families, has_years}
 use Rattle.dtable.specs.declared.table.InputData.{InputData}
-use Rattle.settlement.specs.Given.{behind_family}
+use Rattle.settlement.specs.Bindings.{after_family}
 use Rattle.intake_csv.specs.Records.{Fields}
-use Rattle.intake_csv.specs.Columns.{AreColumnsOf, balance_columns, claim_columns, family_columns, fields_among, have_family, needed, own_columns, year_columns}
+use Rattle.intake_csv.specs.Columns.{AreColumnsOf, balance_columns, claim_columns, family_columns, fields_among, have_family, required_column, own_columns, year_columns}
 use Rattle.intake_csv.specs.Fields.{Holds}
 use Rattle.intake_csv.specs.Rows.{HoldsUnder}
 use Rattle.intake_csv.specs.Record.{IsClaimLayout, IsClaimShaped, family_contents, is_identifier}
@@ -20,7 +20,7 @@ use Rattle.intake_csv.specs.Values.{BeginsWithMoney}
 use Rattle.intake_csv.specs.Balances.{AreAmounts, IsBalanceLayout, IsEntryShaped, IsKept, year_contents, year_values}
 use Rattle.intake_csv.specs.declared.column.Column.{Column}
 use Rattle.intake_csv.specs.declared.column.Layout.{Layout}
-use Rattle.intake_csv.specs.declared.column.Needed.{Needed}
+use Rattle.intake_csv.specs.declared.column.RequiredColumn.{RequiredColumn}
 use Rattle.intake_csv.specs.declared.column.Content.{Content}
 use Rattle.intake_csv.specs.declared.column.Content.TheVariants.{Identifier, Money, Plain, Year}
 
@@ -44,7 +44,7 @@ three_and : (w x y b c d : Value) (ys : List Value) → w ≡ b → x ≡ c → 
 three_and w x y b c d ys f g h = rw (f, g, h) refl
 
 -- the values of a claim from the member onwards
-record IsShapedBehind (values : List Value) : Type 0 where
+record IsShapedAfter (values : List Value) : Type 0 where
   pub member : List ℕ
   pub service : ℤ
   pub billed : ℤ
@@ -52,15 +52,15 @@ record IsShapedBehind (values : List Value) : Type 0 where
   pub values_are : values ≡ Text member ∷ Day service ∷ Number billed ∷ fields
   pub money : IsMoney billed
 
-shaped-behind : (fields : Fields) (columns : List Column) (values : List Value) (rest : List Content)
-    → map (λ c. c.content) columns ≡ Identifier ∷ Plain kinds.Day ∷ Money ∷ rest → AllZip (HoldsUnder fields) columns values → IsShapedBehind values
-shaped-behind fields [] values rest e h = absurd (cc e)
-shaped-behind fields (b ∷ []) values rest e h = absurd (cc e)
-shaped-behind fields (b ∷ c ∷ []) values rest e h = absurd (cc e)
-shaped-behind fields (b ∷ c ∷ d ∷ ds) [] rest e h = absurd h
-shaped-behind fields (b ∷ c ∷ d ∷ ds) (w ∷ []) rest e h = absurd h.1
-shaped-behind fields (b ∷ c ∷ d ∷ ds) (w ∷ x ∷ []) rest e h = absurd h.1.1
-shaped-behind fields (b ∷ c ∷ d ∷ ds) (w ∷ x ∷ y ∷ ys) rest e h =
+shaped-following : (fields : Fields) (columns : List Column) (values : List Value) (rest : List Content)
+    → map (λ c. c.content) columns ≡ Identifier ∷ Plain kinds.Day ∷ Money ∷ rest → AllZip (HoldsUnder fields) columns values → IsShapedAfter values
+shaped-following fields [] values rest e h = absurd (cc e)
+shaped-following fields (b ∷ []) values rest e h = absurd (cc e)
+shaped-following fields (b ∷ c ∷ []) values rest e h = absurd (cc e)
+shaped-following fields (b ∷ c ∷ d ∷ ds) [] rest e h = absurd h
+shaped-following fields (b ∷ c ∷ d ∷ ds) (w ∷ []) rest e h = absurd h.1
+shaped-following fields (b ∷ c ∷ d ∷ ds) (w ∷ x ∷ []) rest e h = absurd h.1.1
+shaped-following fields (b ∷ c ∷ d ∷ ds) (w ∷ x ∷ y ∷ ys) rest e h =
     let eb : b.content ≡ Identifier = cc e in
     let ec : c.content ≡ Plain kinds.Day = cc e in
     let ed : d.content ≡ Money = cc e in
@@ -79,7 +79,7 @@ claim-shaped false fields (a ∷ columns) (v ∷ values) rest e h =
     let ea : a.content ≡ Identifier = cc e in
     let others : map (λ c. c.content) columns ≡ Identifier ∷ Plain kinds.Day ∷ Money ∷ rest = cc e in
     let (id, is_id) = text_value a.content h.0.bytes v ea h.0.holds in
-    let b = shaped-behind fields columns values rest others h.1 in
+    let b = shaped-following fields columns values rest others h.1 in
     record {
       id = id;
       family = None;
@@ -99,7 +99,7 @@ claim-shaped true fields (a ∷ b ∷ columns) (v ∷ w ∷ values) rest e h =
     let others : map (λ c. c.content) columns ≡ Identifier ∷ Plain kinds.Day ∷ Money ∷ rest = cc e in
     let (id, is_id) = text_value a.content h.0.bytes v ea h.0.holds in
     let (family, is_family) = text_value b.content h.1.0.bytes w eb h.1.0.holds in
-    let s = shaped-behind fields columns values rest others h.1.1 in
+    let s = shaped-following fields columns values rest others h.1.1 in
     record {
       id = id;
       family = Some family;
@@ -161,12 +161,12 @@ second-begins values rest met h first =
 -- the second of three amounts is followed by the third
 pub third-begins : (values rest last : List Value) (met oop : ℤ) → AreAmounts values → values ≡ Number met ∷ rest → rest ≡ Number oop ∷ last → BeginsWithMoney last
 third-begins values rest last met oop h first second =
-    let behind : rest ≡ Number h.balance.oop ∷ Number h.balance.paid ∷ [] = cc (sym first ∙ h.values_are) in
-    let left : last ≡ Number h.balance.paid ∷ [] = cc (sym second ∙ behind) in
+    let following : rest ≡ Number h.balance.oop ∷ Number h.balance.paid ∷ [] = cc (sym first ∙ h.values_are) in
+    let left : last ≡ Number h.balance.paid ∷ [] = cc (sym second ∙ following) in
     (h.balance.paid, [], left, h.paid_money)
 
 -- the values of an entry from the member onwards
-record IsEntryBehind (years : Bool) (values : List Value) : Type 0 where
+record IsEntryAfter (years : Bool) (values : List Value) : Type 0 where
   pub member : List ℕ
   pub year : ℕ
   pub amounts : List Value
@@ -174,11 +174,11 @@ record IsEntryBehind (years : Bool) (values : List Value) : Type 0 where
   pub kept : IsKept years year
   pub are_amounts : AreAmounts amounts
 
-entry-behind : (years : Bool) (fields : Fields) (columns : List Column) (values : List Value)
-    → map (λ c. c.content) columns ≡ Identifier ∷ (year_contents years ++ Money ∷ Money ∷ Money ∷ []) → AllZip (HoldsUnder fields) columns values → IsEntryBehind years values
-entry-behind years fields [] values e h = absurd (cc e)
-entry-behind years fields (a ∷ columns) [] e h = absurd h
-entry-behind false fields (a ∷ columns) (v ∷ values) e h =
+entry-following : (years : Bool) (fields : Fields) (columns : List Column) (values : List Value)
+    → map (λ c. c.content) columns ≡ Identifier ∷ (year_contents years ++ Money ∷ Money ∷ Money ∷ []) → AllZip (HoldsUnder fields) columns values → IsEntryAfter years values
+entry-following years fields [] values e h = absurd (cc e)
+entry-following years fields (a ∷ columns) [] e h = absurd h
+entry-following false fields (a ∷ columns) (v ∷ values) e h =
     let ea : a.content ≡ Identifier = cc e in
     let others : map (λ c. c.content) columns ≡ Money ∷ Money ∷ Money ∷ [] = cc e in
     let (member, is_member) = text_value a.content h.0.bytes v ea h.0.holds in
@@ -190,9 +190,9 @@ entry-behind false fields (a ∷ columns) (v ∷ values) e h =
       kept = refl;
       are_amounts = amounts fields columns values others h.1;
     }
-entry-behind true fields (a ∷ []) (v ∷ values) e h = absurd (cc e)
-entry-behind true fields (a ∷ b ∷ columns) (v ∷ []) e h = absurd h.1
-entry-behind true fields (a ∷ b ∷ columns) (v ∷ w ∷ values) e h =
+entry-following true fields (a ∷ []) (v ∷ values) e h = absurd (cc e)
+entry-following true fields (a ∷ b ∷ columns) (v ∷ []) e h = absurd h.1
+entry-following true fields (a ∷ b ∷ columns) (v ∷ w ∷ values) e h =
     let ea : a.content ≡ Identifier = cc e in
     let eb : b.content ≡ Year = cc e in
     let others : map (λ c. c.content) columns ≡ Money ∷ Money ∷ Money ∷ [] = cc e in
@@ -211,15 +211,15 @@ entry-behind true fields (a ∷ b ∷ columns) (v ∷ w ∷ values) e h =
 record IsEntryBy (families years : Bool) (values : List Value) : Type 0 where
   pub family : Option (List ℕ)
   pub has_family : is_some family ≡ families
-  pub behind : List Value
-  pub values_are : values ≡ behind_family family behind
-  pub entry : IsEntryBehind years behind
+  pub following : List Value
+  pub values_are : values ≡ after_family family following
+  pub entry : IsEntryAfter years following
 
 entry-by : (families years : Bool) (fields : Fields) (columns : List Column) (values : List Value)
     → map (λ c. c.content) columns ≡ family_contents families ++ Identifier ∷ (year_contents years ++ Money ∷ Money ∷ Money ∷ []) → AllZip (HoldsUnder fields) columns values
     → IsEntryBy families years values
 entry-by false years fields columns values e h =
-    record { family = None; has_family = refl; behind = values; values_are = refl; entry = entry-behind years fields columns values e h }
+    record { family = None; has_family = refl; following = values; values_are = refl; entry = entry-following years fields columns values e h }
 entry-by true years fields [] values e h = absurd (cc e)
 entry-by true years fields (a ∷ columns) [] e h = absurd h
 entry-by true years fields (a ∷ columns) (v ∷ values) e h =
@@ -229,9 +229,9 @@ entry-by true years fields (a ∷ columns) (v ∷ values) e h =
     record {
       family = Some family;
       has_family = refl;
-      behind = values;
+      following = values;
       values_are = ap (λ (f : Value). f ∷ values) is_family;
-      entry = entry-behind years fields columns values others h.1;
+      entry = entry-following years fields columns values others h.1;
     }
 
 -- the values of an entry of balances
@@ -246,7 +246,7 @@ entry-shaped version fields columns values e h =
       member = s.entry.member;
       year = s.entry.year;
       amounts = s.entry.amounts;
-      values_are = s.values_are ∙ ap (behind_family s.family) s.entry.values_are;
+      values_are = s.values_are ∙ ap (after_family s.family) s.entry.values_are;
       kept = s.entry.kept;
       are_amounts = s.entry.are_amounts;
     }
@@ -257,7 +257,7 @@ record AreOwnColumns (families : Bool) (columns : List Column) : Type 0 where
   pub fields : List Content
   pub contents : map (λ c. c.content) columns ≡ Identifier ∷ (family_contents families ++ Identifier ∷ Plain kinds.Day ∷ Money ∷ fields)
 
-own-columns : (families : Bool) (more : List Needed) (header : Fields) (columns : List Column) → AreColumnsOf header (own_columns families ++ more) columns → AreOwnColumns families columns
+own-columns : (families : Bool) (more : List RequiredColumn) (header : Fields) (columns : List Column) → AreColumnsOf header (own_columns families ++ more) columns → AreOwnColumns families columns
 own-columns false more header [] h = absurd h
 own-columns false more header (a ∷ []) h = absurd h.1
 own-columns false more header (a ∷ b ∷ []) h = absurd h.1.1
@@ -278,12 +278,12 @@ own-columns true more header (a ∷ b ∷ c ∷ d ∷ e ∷ es) h =
 
 pub claim-layout : (names : List InputData) (header : Fields) (layout : Layout) → AreColumnsOf header (claim_columns names) layout.columns → IsClaimLayout layout
 claim-layout names header layout h =
-    let own = own-columns (have_family names) (map (λ d. needed d.name (Plain d.kind)) (fields_among names)) header layout.columns h in
+    let own = own-columns (have_family names) (map (λ d. required_column d.name (Plain d.kind)) (fields_among names)) header layout.columns h in
     let contents : Bool → Type 0 = λ b. map (λ c. c.content) layout.columns ≡ Identifier ∷ (family_contents b ++ Identifier ∷ Plain kinds.Day ∷ Money ∷ own.fields) in
     record { fields = own.fields; contents = subst contents (sym own.third) own.contents }
 
 -- the columns of a file of balances
-amount-layout : (header : Fields) (columns : List Column) → AreColumnsOf header (needed (codes "met") Money ∷ needed (codes "oop") Money ∷ needed (codes "paid") Money ∷ []) columns
+amount-layout : (header : Fields) (columns : List Column) → AreColumnsOf header (required_column (codes "met") Money ∷ required_column (codes "oop") Money ∷ required_column (codes "paid") Money ∷ []) columns
     → map (λ c. c.content) columns ≡ Money ∷ Money ∷ Money ∷ []
 amount-layout header [] h = absurd h
 amount-layout header (b ∷ []) h = absurd h.1
@@ -291,21 +291,21 @@ amount-layout header (b ∷ c ∷ []) h = absurd h.1.1
 amount-layout header (b ∷ c ∷ d ∷ z ∷ zs) h = absurd h.1.1.1
 amount-layout header (b ∷ c ∷ d ∷ []) h = rw (h.0.content, h.1.0.content, h.1.1.0.content) refl
 
-behind-layout : (years : Bool) (header : Fields) (columns : List Column)
-    → AreColumnsOf header (needed (codes "member") Identifier ∷ (year_columns years ++ needed (codes "met") Money ∷ needed (codes "oop") Money ∷ needed (codes "paid") Money ∷ [])) columns
+following-layout : (years : Bool) (header : Fields) (columns : List Column)
+    → AreColumnsOf header (required_column (codes "member") Identifier ∷ (year_columns years ++ required_column (codes "met") Money ∷ required_column (codes "oop") Money ∷ required_column (codes "paid") Money ∷ [])) columns
     → map (λ c. c.content) columns ≡ Identifier ∷ (year_contents years ++ Money ∷ Money ∷ Money ∷ [])
-behind-layout years header [] h = absurd h
-behind-layout false header (a ∷ columns) h = rw (h.0.content, amount-layout header columns h.1) refl
-behind-layout true header (a ∷ []) h = absurd h.1
-behind-layout true header (a ∷ b ∷ columns) h = rw (h.0.content, h.1.0.content, amount-layout header columns h.1.1) refl
+following-layout years header [] h = absurd h
+following-layout false header (a ∷ columns) h = rw (h.0.content, amount-layout header columns h.1) refl
+following-layout true header (a ∷ []) h = absurd h.1
+following-layout true header (a ∷ b ∷ columns) h = rw (h.0.content, h.1.0.content, amount-layout header columns h.1.1) refl
 
 layout-by : (families years : Bool) (header : Fields) (columns : List Column)
-    → AreColumnsOf header (family_columns families ++ needed (codes "member") Identifier
-    ∷ (year_columns years ++ needed (codes "met") Money ∷ needed (codes "oop") Money ∷ needed (codes "paid") Money ∷ [])) columns
+    → AreColumnsOf header (family_columns families ++ required_column (codes "member") Identifier
+    ∷ (year_columns years ++ required_column (codes "met") Money ∷ required_column (codes "oop") Money ∷ required_column (codes "paid") Money ∷ [])) columns
     → map (λ c. c.content) columns ≡ family_contents families ++ Identifier ∷ (year_contents years ++ Money ∷ Money ∷ Money ∷ [])
-layout-by false years header columns h = behind-layout years header columns h
+layout-by false years header columns h = following-layout years header columns h
 layout-by true years header [] h = absurd h
-layout-by true years header (a ∷ columns) h = rw (h.0.content, behind-layout years header columns h.1) refl
+layout-by true years header (a ∷ columns) h = rw (h.0.content, following-layout years header columns h.1) refl
 
 pub balance-layout : (version : ℕ) (header : Fields) (layout : Layout) → AreColumnsOf header (balance_columns version) layout.columns → IsBalanceLayout version layout
 balance-layout version header layout h = layout-by (has_families version) (has_years version) header layout.columns h

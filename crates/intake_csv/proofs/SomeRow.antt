@@ -14,14 +14,14 @@ use Rattle.feel_tests.specs.declared.value.Value.TheVariants.{Number, Text, Flag
 use Rattle.dtable.specs.declared.table.InputData.{InputData}
 use Rattle.settlement.specs.declared.claim.Claim.{Claim}
 use Rattle.intake_csv.specs.Records.{Fields}
-use Rattle.intake_csv.specs.Columns.{AreColumnsOf, IsSheet, claim_columns, fields_among, have_family, needed, own_columns}
+use Rattle.intake_csv.specs.Columns.{AreColumnsOf, IsHeaderedFile, claim_columns, fields_among, have_family, required_column, own_columns}
 use Rattle.intake_csv.specs.Fields.{Holds, IsFaultless, IsFaulty, Spells}
 use Rattle.intake_csv.specs.Rows.{AreRows, AreValues, HoldsUnder, IsFaultlessUnder, IsFaultyUnder, IsFirstFault, IsRow, claim_values, claims_in, field_count, is_claim}
 use Rattle.intake_csv.specs.declared.column.Column.{Column}
 use Rattle.intake_csv.specs.declared.column.Content.{Content}
 use Rattle.intake_csv.specs.declared.column.Content.TheVariants.{Identifier, Money, Plain, Year}
 use Rattle.intake_csv.specs.declared.column.Layout.{Layout}
-use Rattle.intake_csv.specs.declared.column.Needed.{Needed}
+use Rattle.intake_csv.specs.declared.column.RequiredColumn.{RequiredColumn}
 use Rattle.faults.specs.declared.file_fault.RowCause.{RowCause}
 use Rattle.faults.specs.declared.file_fault.RowCause.TheVariants.{Utf8, TooLong, EmptyId, Value as NoValue, NotCents, Negative}
 use Rattle.faults.specs.declared.file_fault.RowFault.{RowFault}
@@ -101,8 +101,8 @@ module _ (fields : Fields) where
   abbrev IsLeftFaultless : ℕ → Column → Type 0
   IsLeftFaultless column c = c.place + 1 < column → IsFaultlessUnder fields c
 
-  behind : (f : RowFault) (c : Column) (cs : List Column) → Any (IsOf f) cs → Any (IsOf f) (c ∷ cs)
-  behind f c cs (k, x, within, is, has) = (suc k, x, omega (arith, within), is, has)
+  following : (f : RowFault) (c : Column) (cs : List Column) → Any (IsOf f) cs → Any (IsOf f) (c ∷ cs)
+  following f c cs (k, x, within, is, has) = (suc k, x, omega (arith, within), is, has)
 
   -- the fault of the first column is the first fault if no column to the left of it has one
   first_here : (c : Column) (cs : List Column) (cause : RowCause) → IsFaultyUnder fields cause c → All (IsLeftFaultless (c.place + 1)) cs
@@ -117,7 +117,7 @@ module _ (fields : Fields) where
   join c cs (inl (v, holds, none)) (inr (f, first)) = inr (
     f,
     record {
-      faulty = behind f c cs first.faulty;
+      faulty = following f c cs first.faulty;
       first = All-cons (IsLeftFaultless f.column) c cs (λ before. none) first.first;
     },
   )
@@ -133,18 +133,18 @@ module _ (fields : Fields) where
     | inr least ↦ inr (
       f,
       record {
-        faulty = behind f c cs first.faulty;
+        faulty = following f c cs first.faulty;
         first = All-cons (IsLeftFaultless f.column) c cs (λ before. absurd (omega (arith, before, least))) first.first;
       },
     )
   ]
 
-  all_columns : (header : Fields) (needed : List Needed) (columns : List Column) → AreColumnsOf header needed columns → length fields ≡ length header → ¬ ¬ AllOf columns
+  all_columns : (header : Fields) (required_column : List RequiredColumn) (columns : List Column) → AreColumnsOf header required_column columns → length fields ≡ length header → ¬ ¬ AllOf columns
   all_columns header [] [] h same k = k (inl ([], tt, All-nil (IsFaultlessUnder fields)))
   all_columns header [] (c ∷ cs) h same k = absurd h
   all_columns header (n ∷ ns) [] h same k = absurd h
   all_columns header (n ∷ ns) (c ∷ cs) h same k =
-      let within = (field_at-get_or header c.place n.name h.0.stands).0 in
+      let within = (field_at-get_or header c.place n.name h.0.located).0 in
       let bytes = get_or fields c.place [] in
       let e = field_at-within fields c.place (omega (arith, within, same)) in
       field c.content bytes (λ f. all_columns header ns cs h.1 same (λ all. k (join c cs (under_field c bytes e f) all)))
@@ -153,23 +153,23 @@ three : (w x y b c d : Value) (ys : List Value) → w ≡ b → x ≡ c → y �
 three w x y b c d ys f g h = rw (f, g, h) refl
 
 -- the values begin with a member, a date of service and a billed amount
-record AreBehind (vs : List Value) : Type 0 where
+record AreAfter (vs : List Value) : Type 0 where
   pub member : List ℕ
   pub service : ℤ
   pub billed : ℤ
   pub fields : List Value
   pub values : Text member ∷ Day service ∷ Number billed ∷ fields ≡ vs
 
-behind-of : (header row : Fields) (more : List Needed) (columns : List Column) (vs : List Value)
-    → AreColumnsOf header (needed (codes "member") Identifier ∷ needed (codes "service") (Plain kinds.Day) ∷ needed (codes "billed") Money ∷ more) columns → AreValues row columns vs
-    → AreBehind vs
-behind-of header row more [] vs h values = absurd h
-behind-of header row more (b ∷ []) vs h values = absurd h.1
-behind-of header row more (b ∷ c ∷ []) vs h values = absurd h.1.1
-behind-of header row more (b ∷ c ∷ d ∷ ds) [] h values = absurd values
-behind-of header row more (b ∷ c ∷ d ∷ ds) (w ∷ []) h values = absurd values.1
-behind-of header row more (b ∷ c ∷ d ∷ ds) (w ∷ x ∷ []) h values = absurd values.1.1
-behind-of header row more (b ∷ c ∷ d ∷ ds) (w ∷ x ∷ y ∷ ys) h values =
+following-of : (header row : Fields) (more : List RequiredColumn) (columns : List Column) (vs : List Value)
+    → AreColumnsOf header (required_column (codes "member") Identifier ∷ required_column (codes "service") (Plain kinds.Day) ∷ required_column (codes "billed") Money ∷ more) columns → AreValues row columns vs
+    → AreAfter vs
+following-of header row more [] vs h values = absurd h
+following-of header row more (b ∷ []) vs h values = absurd h.1
+following-of header row more (b ∷ c ∷ []) vs h values = absurd h.1.1
+following-of header row more (b ∷ c ∷ d ∷ ds) [] h values = absurd values
+following-of header row more (b ∷ c ∷ d ∷ ds) (w ∷ []) h values = absurd values.1
+following-of header row more (b ∷ c ∷ d ∷ ds) (w ∷ x ∷ []) h values = absurd values.1.1
+following-of header row more (b ∷ c ∷ d ∷ ds) (w ∷ x ∷ y ∷ ys) h values =
     let (member, is_member) = text_value b.content values.0.bytes w h.0.content values.0.holds in
     let (day, is_day) = day_value c.content values.1.0.bytes x h.1.0.content values.1.0.holds in
     let (units, is_units, money) = money_value d.content values.1.1.0.bytes y h.1.1.0.content values.1.1.0.holds in
@@ -180,13 +180,13 @@ record ClaimOf (vs : List Value) : Type 0 where
   pub claim : Claim
   pub values : claim_values claim ≡ vs
 
-claim-by : (header row : Fields) (families : Bool) (more : List Needed) (columns : List Column) (vs : List Value) → AreColumnsOf header (own_columns families ++ more) columns
+claim-by : (header row : Fields) (families : Bool) (more : List RequiredColumn) (columns : List Column) (vs : List Value) → AreColumnsOf header (own_columns families ++ more) columns
     → AreValues row columns vs → ClaimOf vs
 claim-by header row families more [] vs h values = absurd h
 claim-by header row families more (a ∷ columns) [] h values = absurd values
 claim-by header row false more (a ∷ columns) (v ∷ vs) h values =
     let (id, is_id) = text_value a.content values.0.bytes v h.0.content values.0.holds in
-    let b = behind-of header row more columns vs h.1 values.1 in
+    let b = following-of header row more columns vs h.1 values.1 in
     record {
       claim = record { id = id; family = None; member = b.member; service = b.service; billed = b.billed; fields = b.fields };
       values = ap (λ ws. Text id ∷ ws) b.values ∙ ap (λ w. w ∷ vs) (sym is_id);
@@ -196,7 +196,7 @@ claim-by header row true more (a ∷ b ∷ columns) (v ∷ []) h values = absurd
 claim-by header row true more (a ∷ b ∷ columns) (v ∷ w ∷ vs) h values =
     let (id, is_id) = text_value a.content values.0.bytes v h.0.content values.0.holds in
     let (family, is_family) = text_value b.content values.1.0.bytes w h.1.0.content values.1.0.holds in
-    let b = behind-of header row more columns vs h.1.1 values.1.1 in
+    let b = following-of header row more columns vs h.1.1 values.1.1 in
     record {
       claim = record { id = id; family = Some family; member = b.member; service = b.service; billed = b.billed; fields = b.fields };
       values = ap (λ xs. Text id ∷ Text family ∷ xs) b.values ∙ ap (λ x. Text id ∷ x ∷ vs) (sym is_family) ∙ ap (λ x. x ∷ w ∷ vs) (sym is_id);
@@ -204,7 +204,7 @@ claim-by header row true more (a ∷ b ∷ columns) (v ∷ w ∷ vs) h values =
 
 claim-of : (header row : Fields) (names : List InputData) (columns : List Column) (vs : List Value) → AreColumnsOf header (claim_columns names) columns
     → AreValues row columns vs → ClaimOf vs
-claim-of header row names columns vs h values = claim-by header row (have_family names) (map (λ d. needed d.name (Plain d.kind)) (fields_among names)) columns vs h values
+claim-of header row names columns vs h values = claim-by header row (have_family names) (map (λ d. required_column d.name (Plain d.kind)) (fields_among names)) columns vs h values
 
 -- the header of a claim file determines the contents of the columns
 record HasColumns (names : List InputData) (layout : Layout) : Type 0 where
@@ -264,7 +264,7 @@ some_rows names layout number place (f ∷ records) h k = some_row names layout 
     k (record { rows = r.row ∷ rs.rows; are = row_more layout number place f records r.row rs.rows r.is rs.are })))
 
 -- no claim file lacks a list of rows
-pub file_rows : (names : List InputData) (text : List ℕ) (layout : Layout) (records : List Fields) → IsSheet (claim_columns names) text layout records → ¬ ¬ RowsOf names text
-file_rows names text layout records sheet k =
-    some_rows names layout 1 0 records (record { header = sheet.header; width = sheet.width; columns = sheet.columns }) (λ rs.
-    k (record { rows = rs.rows; are = record { layout = layout; records = records; sheet = sheet; are_rows = rs.are } }))
+pub file_rows : (names : List InputData) (text : List ℕ) (layout : Layout) (records : List Fields) → IsHeaderedFile (claim_columns names) text layout records → ¬ ¬ RowsOf names text
+file_rows names text layout records headered_file k =
+    some_rows names layout 1 0 records (record { header = headered_file.header; width = headered_file.width; columns = headered_file.columns }) (λ rs.
+    k (record { rows = rs.rows; are = record { layout = layout; records = records; headered_file = headered_file; are_rows = rs.are } }))

@@ -14,13 +14,13 @@ use Rattle.dtable.specs.Plan.{has_families, has_years}
 use Rattle.settlement.specs.Accounts.{Account}
 use Rattle.settlement.specs.Accumulators.{AreInRange}
 use Rattle.settlement.specs.Amount.{is_in_range}
-use Rattle.settlement.specs.Given.{behind_family}
+use Rattle.settlement.specs.Bindings.{after_family}
 use Rattle.settlement.specs.Opening.{opening}
 use Rattle.settlement.specs.declared.acc.Acc.{Acc}
 use Rattle.settlement.specs.declared.account.Balance.{Balance}
 use Rattle.intake_csv.specs.Records.{Fields}
-use Rattle.intake_csv.specs.Columns.{IsSheet, HasFileFault, balance_columns, member_place, met_place, oop_place}
-use Rattle.intake_csv.specs.Households.{AreOnceBy, HasJoined, Members, balance_in}
+use Rattle.intake_csv.specs.Columns.{IsHeaderedFile, HasFileFault, balance_columns, member_place, met_place, oop_place}
+use Rattle.intake_csv.specs.FamilyYears.{AreOnceBy, HasJoined, Members, balance_in}
 use Rattle.intake_csv.specs.Record.{family_contents}
 use Rattle.intake_csv.specs.Rows.{HasValues, HasFault}
 use Rattle.fixpoint.specs.Money.{IsMoney}
@@ -34,8 +34,8 @@ use Rattle.faults.specs.declared.file_fault.RowCause.{RowCause}
 use Rattle.faults.specs.declared.file_fault.RowCause.TheVariants.{Repeated, Sum}
 use Rattle.faults.specs.declared.file_fault.BalanceFault.{BalanceFault}
 use Rattle.faults.specs.declared.file_fault.BalanceFault.TheVariants.{File, Row, OutOfMemory}
-use Rattle.intake_csv.specs.declared.household.Refusal.{Refusal}
-use Rattle.intake_csv.specs.declared.household.Refusal.TheVariants.{Again, Met, Oop}
+use Rattle.intake_csv.specs.declared.family_year.Refusal.{Refusal}
+use Rattle.intake_csv.specs.declared.family_year.Refusal.TheVariants.{Again, Met, Oop}
 
 -- a family in a year, which is 0 if the plan does not keep accumulators by benefit year
 abbrev pub Holder : Type 0
@@ -59,7 +59,7 @@ Book = List (List ℕ × Members)
 
 -- the accounts of a family's members in a year, with their balances
 abbrev pub accounts_in : ℕ → List ℕ × Members → List Entry
-accounts_in year household = map (λ m. (record { family = household.0; member = m.0; year = year }, m.1)) household.1
+accounts_in year family_year = map (λ m. (record { family = family_year.0; member = m.0; year = year }, m.1)) family_year.1
 
 -- the accounts of books, where the first book is that of this year and each other one is that of
 -- the next year
@@ -82,7 +82,7 @@ balance_of books account = option_and_then (λ members. balance_in members accou
 -- the families of a book are distinct, and so are the members of each family
 pub record AreOnceIn (book : Book) : Type 0 where
   pub families : AreOnceBy bytes_eq book
-  pub members : All (λ household. AreOnceBy bytes_eq household.1) book
+  pub members : All (λ family_year. AreOnceBy bytes_eq family_year.1) book
 
 -- this holds for every book
 abbrev pub AreOnce : List Book → Type 0
@@ -105,7 +105,7 @@ family_in false account = None
 -- the values of an entry under a plan of this version, in the order of the required columns
 abbrev pub entry_values : ℕ → Entry → List Value
 entry_values version entry =
-    behind_family (family_in (has_families version) entry.0)
+    after_family (family_in (has_families version) entry.0)
     (Text entry.0.member ∷ (year_values (has_years version) entry.0.year ++ balance_values entry.1))
 
 -- the year is valid: from 1 to 9999 if the plan keeps accumulators by benefit year, and otherwise 0
@@ -133,7 +133,7 @@ pub record AreEntries (version : ℕ) (layout : Layout) (records : List Fields) 
 
 -- the book of a map, in the order of the map's keys
 abbrev pub book_of : {Y : Type 0} → BTreeMap (String Y) Members → Book
-book_of households = map (λ e. (string_bytes e.0, e.1)) households.entries
+book_of family_years = map (λ e. (string_bytes e.0, e.1)) family_years.entries
 
 -- the books of a list of maps
 abbrev pub books_of : {Y : Type 0} → List (BTreeMap (String Y) Members) → List Book
@@ -145,14 +145,14 @@ pub record AreBalances (version : ℕ) (text : List ℕ) (balances : List Book) 
   pub layout : Layout
   pub records : List Fields
   pub entries : List Entry
-  pub sheet : IsSheet (balance_columns version) text layout records
+  pub headered_file : IsHeaderedFile (balance_columns version) text layout records
   pub read : AreEntries version layout records entries
   pub given : (account : Account) → opening (accounts_of balances) account ≡ opening entries account
 
 -- the fault has this cause and is at the required column with this place
-pub record IsToldAt (layout : Layout) (place : ℕ) (cause : RowCause) (fault : RowFault) : Type 0 where
+pub record IsReportedAt (layout : Layout) (place : ℕ) (cause : RowCause) (fault : RowFault) : Type 0 where
   pub column : Column
-  pub stands : slice_get layout.columns place ≡ Some column
+  pub located : slice_get layout.columns place ≡ Some column
   pub fault_is : fault ≡ record { column = column.place + 1; cause = cause }
 
 -- the record has an entry of an earlier account, and the fault is at the member's column
@@ -160,7 +160,7 @@ pub record IsRepeated (version : ℕ) (layout : Layout) (front : List Entry) (fi
   pub entry : Entry
   pub read : IsEntry version layout fields entry
   pub again : Any (λ e. e.0 ≡ entry.0) front
-  pub told : IsToldAt layout (member_place version) Repeated fault
+  pub reported : IsReportedAt layout (member_place version) Repeated fault
 
 -- the opening accumulators of the entry's account, by this entry and the earlier ones
 abbrev pub opening_with : List Entry → Entry → Acc
@@ -181,7 +181,7 @@ pub record IsBeyondSum (version : ℕ) (layout : Layout) (front : List Entry) (f
   pub new : All (λ e. e.0 ≢ entry.0) front
   pub place : ℕ
   pub sum : IsSumPlace version (opening_with front entry) place
-  pub told : IsToldAt layout place Sum fault
+  pub reported : IsReportedAt layout place Sum fault
 
 -- the fault of a record that follows these entries
 abbrev pub IsRecordFault : ℕ → Layout → List Entry → Fields → RowFault → Type 0
@@ -193,7 +193,7 @@ IsRecordFault version layout front fields fault =
 pub record RefusesRecord (version : ℕ) (text : List ℕ) (number : ℕ) (fault : RowFault) : Type 0 where
   pub layout : Layout
   pub records : List Fields
-  pub sheet : IsSheet (balance_columns version) text layout records
+  pub headered_file : IsHeaderedFile (balance_columns version) text layout records
   pub front : List Entry
   pub read : AreEntries version layout (take (number - 1) records) front
   pub fields : Fields
@@ -277,7 +277,7 @@ pub record IsEntryShaped (version : ℕ) (values : List Value) : Type 0 where
   pub member : List ℕ
   pub year : ℕ
   pub amounts : List Value
-  pub values_are : values ≡ behind_family family (Text member ∷ (year_values (has_years version) year ++ amounts))
+  pub values_are : values ≡ after_family family (Text member ∷ (year_values (has_years version) year ++ amounts))
   pub kept : IsKept (has_years version) year
   pub are_amounts : AreAmounts amounts
 

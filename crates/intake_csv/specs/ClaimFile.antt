@@ -1,12 +1,12 @@
 -- A provider's file whose header has the required columns of claims.
 use Rattle.std.specs.Prelude.{◌≡◌, ℕ, List, drop}
 use Rattle.dtable.specs.declared.table.InputData.{InputData}
-use Rattle.intake_csv.specs.Columns.{IsSheet, claim_columns}
-use Rattle.intake_csv.specs.Laws.{StandApart}
+use Rattle.intake_csv.specs.Columns.{IsHeaderedFile, claim_columns}
+use Rattle.intake_csv.specs.Laws.{LieApart}
 use Rattle.intake_csv.specs.Record.{IsClaimLayout}
 use Rattle.intake_csv.specs.Records.{records_of}
 use Rattle.intake_csv.specs.Rows.{RowsLeft}
-use Rattle.intake_csv.specs.Sheet.{IsWithin}
+use Rattle.intake_csv.specs.HeaderedFile.{IsWithin}
 use Rattle.intake_csv.specs.declared.column.Layout.{Layout}
 use Rattle.intake_csv.specs.declared.records.Stage.TheVariants.{Reading}
 
@@ -17,7 +17,7 @@ pub record FileParts : Type 0 where
 
 -- the header has the required columns of claims under a plan with these names
 abbrev pub IsFileUnder : List InputData → FileParts → Type 0
-IsFileUnder names file = IsSheet (claim_columns names) file.text file.layout (drop 1 (records_of file.text))
+IsFileUnder names file = IsHeaderedFile (claim_columns names) file.text file.layout (drop 1 (records_of file.text))
 
 -- the claim file is that of the text, under a plan with these names
 pub record IsFileOf (names : List InputData) (text : List ℕ) (file : FileParts) : Type 0 where
@@ -29,9 +29,9 @@ abbrev pub rows_of : FileParts → RowsLeft
 rows_of file = record { layout = file.layout; number = 1; place = 0; records = drop 1 (records_of file.text); stage = Reading }
 
 -- the invariant of a claim file
-pub record IsJudged (text : List ℕ) (layout : Layout) : Type 0 where
+pub record IsValidated (text : List ℕ) (layout : Layout) : Type 0 where
   pub names : List InputData
-  pub under : IsSheet (claim_columns names) text layout (drop 1 (records_of text))
+  pub under : IsHeaderedFile (claim_columns names) text layout (drop 1 (records_of text))
   pub within : IsWithin layout
   pub columns : IsClaimLayout layout
-  pub apart : StandApart layout.columns
+  pub apart : LieApart layout.columns

@@ -11,7 +11,7 @@ use Rattle.dtable.specs.declared.table.InputData.{InputData}
 use Rattle.intake_csv.specs.Records.{Fields, AreRecordsOf}
 use Rattle.intake_csv.specs.declared.column.Content.{Content}
 use Rattle.intake_csv.specs.declared.column.Content.TheVariants.{Identifier, Money, Plain, Year}
-use Rattle.intake_csv.specs.declared.column.Needed.{Needed}
+use Rattle.intake_csv.specs.declared.column.RequiredColumn.{RequiredColumn}
 use Rattle.intake_csv.specs.declared.column.Column.{Column}
 use Rattle.intake_csv.specs.declared.column.Layout.{Layout}
 use Rattle.faults.specs.declared.file_fault.FileFault.{FileFault}
@@ -26,8 +26,8 @@ kind_under Year = kinds.Text
 kind_under (Plain kind) = kind
 
 -- a required column with a name and a content
-abbrev pub needed : List ℕ → Content → Needed
-needed name content = record { name = name; content = content }
+abbrev pub required_column : List ℕ → Content → RequiredColumn
+required_column name content = record { name = name; content = content }
 
 -- the plan with these names keeps accumulators for families: only then the second name is `family`
 abbrev pub have_family : List InputData → Bool
@@ -39,43 +39,43 @@ names_before false = 4
 names_before true = 5
 
 -- the number of a plan's names after its fields, with families or without them
-abbrev pub names_behind : Bool → ℕ
-names_behind false = 3
-names_behind true = 5
+abbrev pub names_after : Bool → ℕ
+names_after false = 3
+names_after true = 5
 
 -- the fields of a plan: its names without the built-in names before and after them
 abbrev pub fields_between : Bool → List InputData → List InputData
-fields_between families names = take (length names - names_behind families - names_before families) (drop (names_before families) names)
+fields_between families names = take (length names - names_after families - names_before families) (drop (names_before families) names)
 
 -- the fields of a plan, by its names alone
 abbrev pub fields_among : List InputData → List InputData
 fields_among names = fields_between (have_family names) names
 
 -- the column of the family, if the plan keeps accumulators for families
-abbrev pub family_columns : Bool → List Needed
-family_columns true = needed (codes "family") Identifier ∷ []
+abbrev pub family_columns : Bool → List RequiredColumn
+family_columns true = required_column (codes "family") Identifier ∷ []
 family_columns false = []
 
 -- the required columns of every claim
-abbrev pub own_columns : Bool → List Needed
+abbrev pub own_columns : Bool → List RequiredColumn
 own_columns families =
-    needed (codes "claim") Identifier ∷ (family_columns families ++ needed (codes "member") Identifier
-    ∷ needed (codes "service") (Plain kinds.Day) ∷ needed (codes "billed") Money ∷ [])
+    required_column (codes "claim") Identifier ∷ (family_columns families ++ required_column (codes "member") Identifier
+    ∷ required_column (codes "service") (Plain kinds.Day) ∷ required_column (codes "billed") Money ∷ [])
 
 -- the required columns of a claim file: those of every claim, and one for each field of the plan
-abbrev pub claim_columns : List InputData → List Needed
-claim_columns names = own_columns (have_family names) ++ map (λ d. needed d.name (Plain d.kind)) (fields_among names)
+abbrev pub claim_columns : List InputData → List RequiredColumn
+claim_columns names = own_columns (have_family names) ++ map (λ d. required_column d.name (Plain d.kind)) (fields_among names)
 
 -- the column of a balance's year, if the plan keeps accumulators by benefit year
-abbrev pub year_columns : Bool → List Needed
-year_columns true = needed (codes "year") Year ∷ []
+abbrev pub year_columns : Bool → List RequiredColumn
+year_columns true = required_column (codes "year") Year ∷ []
 year_columns false = []
 
 -- the required columns of a file of balances under a plan of this version
-abbrev pub balance_columns : ℕ → List Needed
+abbrev pub balance_columns : ℕ → List RequiredColumn
 balance_columns version =
-    family_columns (has_families version) ++ needed (codes "member") Identifier
-    ∷ (year_columns (has_years version) ++ needed (codes "met") Money ∷ needed (codes "oop") Money ∷ needed (codes "paid") Money ∷ [])
+    family_columns (has_families version) ++ required_column (codes "member") Identifier
+    ∷ (year_columns (has_years version) ++ required_column (codes "met") Money ∷ required_column (codes "oop") Money ∷ required_column (codes "paid") Money ∷ [])
 
 -- the place of the member's column among the required ones
 abbrev pub member_place : ℕ → ℕ
@@ -94,14 +94,14 @@ abbrev pub times : List ℕ → Fields → ℕ
 times name header = count_by (λ other. bytes_eq other name) header
 
 -- the header has the required name exactly once, and the column has its place
-pub record IsColumnOf (header : Fields) (n : Needed) (c : Column) : Type 0 where
+pub record IsColumnOf (header : Fields) (n : RequiredColumn) (c : Column) : Type 0 where
   pub once : times n.name header ≡ 1
-  pub stands : field_at header c.place ≡ Some n.name
+  pub located : field_at header c.place ≡ Some n.name
   pub content : c.content ≡ n.content
 
 -- the header has each required name exactly once, and these are the columns in the order of the
 -- required ones
-abbrev pub AreColumnsOf : Fields → List Needed → List Column → Type 0
+abbrev pub AreColumnsOf : Fields → List RequiredColumn → List Column → Type 0
 AreColumnsOf header = AllZip (IsColumnOf header)
 
 -- the text is within the size limit, and these are its header and the records after it
@@ -110,44 +110,44 @@ pub record IsFile (text : List ℕ) (header : Fields) (records : List Fields) : 
   pub read : AreRecordsOf text (header ∷ records)
 
 -- the text is a file with the required columns
-pub record IsSheet (needed : List Needed) (text : List ℕ) (layout : Layout) (records : List Fields) : Type 0 where
+pub record IsHeaderedFile (required_column : List RequiredColumn) (text : List ℕ) (layout : Layout) (records : List Fields) : Type 0 where
   pub header : Fields
   pub file : IsFile text header records
   pub width : layout.width ≡ length header
-  pub columns : AreColumnsOf header needed layout.columns
+  pub columns : AreColumnsOf header required_column layout.columns
 
 -- the name does not occur in the header
-abbrev pub IsMissing : Fields → Needed → Type 0
+abbrev pub IsMissing : Fields → RequiredColumn → Type 0
 IsMissing header n = times n.name header ≡ 0
 
 -- the name occurs in the header
-abbrev pub IsThere : Fields → Needed → Type 0
+abbrev pub IsThere : Fields → RequiredColumn → Type 0
 IsThere header n = 0 < times n.name header
 
 -- the name occurs more than once in the header
-abbrev pub IsRepeated : Fields → Needed → Type 0
+abbrev pub IsRepeated : Fields → RequiredColumn → Type 0
 IsRepeated header n = 1 < times n.name header
 
 -- the text is a file whose header lacks a required column
-pub record LacksColumn (needed : List Needed) (text : List ℕ) : Type 0 where
+pub record LacksColumn (required_column : List RequiredColumn) (text : List ℕ) : Type 0 where
   pub header : Fields
   pub records : List Fields
   pub file : IsFile text header records
-  pub missing : Any (IsMissing header) needed
+  pub missing : Any (IsMissing header) required_column
 
 -- the text is a file whose header has all required columns, and one of them more than once
-pub record RepeatsColumn (needed : List Needed) (text : List ℕ) : Type 0 where
+pub record RepeatsColumn (required_column : List RequiredColumn) (text : List ℕ) : Type 0 where
   pub header : Fields
   pub records : List Fields
   pub file : IsFile text header records
-  pub all : All (IsThere header) needed
-  pub repeated : Any (IsRepeated header) needed
+  pub all : All (IsThere header) required_column
+  pub repeated : Any (IsRepeated header) required_column
 
 -- the text is not a file with the required columns, for this reason; nothing is stated if memory
 -- runs out
-abbrev pub HasFileFault : List Needed → List ℕ → FileFault → Type 0
-HasFileFault needed text TooLarge = file_limit_bytes < length text
-HasFileFault needed text NoHeader = (length text ≤ file_limit_bytes) × AreRecordsOf text []
-HasFileFault needed text MissingColumn = LacksColumn needed text
-HasFileFault needed text DuplicateColumn = RepeatsColumn needed text
-HasFileFault needed text OutOfMemory = Unit {0}
+abbrev pub HasFileFault : List RequiredColumn → List ℕ → FileFault → Type 0
+HasFileFault required_column text TooLarge = file_limit_bytes < length text
+HasFileFault required_column text NoHeader = (length text ≤ file_limit_bytes) × AreRecordsOf text []
+HasFileFault required_column text MissingColumn = LacksColumn required_column text
+HasFileFault required_column text DuplicateColumn = RepeatsColumn required_column text
+HasFileFault required_column text OutOfMemory = Unit {0}

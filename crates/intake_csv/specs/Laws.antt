@@ -7,7 +7,7 @@ use Rattle.dtable.specs.Plan.{IsPlan, PlanParts, keeps_families}
 use Rattle.settlement.specs.declared.claim.Claim.{Claim}
 use Rattle.settlement.specs.Claim.{IsClaimOf}
 use Rattle.intake_csv.specs.Records.{Fields}
-use Rattle.intake_csv.specs.Columns.{IsSheet, claim_columns}
+use Rattle.intake_csv.specs.Columns.{IsHeaderedFile, claim_columns}
 use Rattle.intake_csv.specs.Rows.{AreRowsLeft, AreRowsOf, GivesRow, HasValues, IsAtStart, RowsLeft, claim_in, claim_values}
 use Rattle.intake_csv.specs.declared.column.Column.{Column}
 use Rattle.intake_csv.specs.declared.column.Layout.{Layout}
@@ -16,11 +16,11 @@ use Rattle.intake_csv.specs.declared.rows.Row.{Row}
 -- a claim in a record of a claim file fits the plan of the file
 abbrev pub ClaimsHaveFields : Type 0
 ClaimsHaveFields = (plan : PlanParts) (fields : List InputData) (text : List ℕ) (layout : Layout) (records : List Fields) (row : Fields) (claim : Claim)
-    → plan.names ≡ names_of (keeps_families plan) fields → IsSheet (claim_columns plan.names) text layout records → HasValues layout row (claim_values claim) → IsClaimOf plan claim
+    → plan.names ≡ names_of (keeps_families plan) fields → IsHeaderedFile (claim_columns plan.names) text layout records → HasValues layout row (claim_values claim) → IsClaimOf plan claim
 
 -- the columns have pairwise distinct places in the header
-abbrev pub StandApart : List Column → Type 0
-StandApart columns = AllPairs (λ a b. a.place ≢ b.place) columns
+abbrev pub LieApart : List Column → Type 0
+LieApart columns = AllPairs (λ a b. a.place ≢ b.place) columns
 
 -- the remaining rows of a reader at the start of a text are the rows of the text
 abbrev pub StartHasTheRows : Type 0
@@ -36,7 +36,7 @@ pub record BeginWith (row : Row) (left : RowsLeft) (rows : List Row) : Type 0 wh
 -- the row that a reader returns is the first of its remaining rows, if the columns have distinct
 -- places
 abbrev pub GivenRowIsTheFirst : Type 0
-GivenRowIsTheFirst = (old new : RowsLeft) (row : Row) (rows : List Row) → StandApart old.layout.columns → GivesRow old new row → AreRowsLeft old rows
+GivenRowIsTheFirst = (old new : RowsLeft) (row : Row) (rows : List Row) → LieApart old.layout.columns → GivesRow old new row → AreRowsLeft old rows
     → BeginWith row new rows
 
 -- the first of the rows has the same claim as this row, or neither has one, and the others are the
@@ -64,7 +64,7 @@ pub record RowsOf (names : List InputData) (text : List ℕ) : Type 0 where
 
 -- no claim file lacks a list of rows
 abbrev pub FilesHaveRows : Type 0
-FilesHaveRows = (names : List InputData) (text : List ℕ) (layout : Layout) (records : List Fields) → IsSheet (claim_columns names) text layout records
+FilesHaveRows = (names : List InputData) (text : List ℕ) (layout : Layout) (records : List Fields) → IsHeaderedFile (claim_columns names) text layout records
     → ¬ ¬ RowsOf names text
 
 -- a reader without remaining records has no remaining rows

@@ -5,7 +5,7 @@ use Rattle.fixpoint.specs.Money.{IsMoney}
 use Rattle.feel_tests.specs.declared.kind.Kind.TheVariants as kinds
 use Rattle.feel_tests.specs.declared.value.Value.{Value}
 use Rattle.feel_tests.specs.declared.value.Value.TheVariants.{Number, Text, Day}
-use Rattle.settlement.specs.Given.{behind_family}
+use Rattle.settlement.specs.Bindings.{after_family}
 use Rattle.settlement.specs.declared.claim.Claim.{Claim}
 use Rattle.intake_csv.specs.declared.column.Content.{Content}
 use Rattle.intake_csv.specs.declared.column.Content.TheVariants.{Identifier, Money, Plain}
@@ -63,7 +63,7 @@ pub record IsClaimShaped (families : Bool) (values : List Value) : Type 0 where
   pub service : ℤ
   pub billed : ℤ
   pub fields : List Value
-  pub values_are : values ≡ Text id ∷ behind_family family (Text member ∷ Day service ∷ Number billed ∷ fields)
+  pub values_are : values ≡ Text id ∷ after_family family (Text member ∷ Day service ∷ Number billed ∷ fields)
   pub money : IsMoney billed
 
 -- the result of reading these columns: their values if they have no fault, and otherwise the first

@@ -6,9 +6,9 @@ use Rattle.feel_tests.specs.declared.value.Value.{Value}
 use Rattle.feel_tests.specs.declared.value.Value.TheVariants.{Number, Text, Day}
 use Rattle.dtable.specs.declared.table.InputData.{InputData}
 use Rattle.settlement.specs.declared.claim.Claim.{Claim}
-use Rattle.settlement.specs.Given.{behind_family}
+use Rattle.settlement.specs.Bindings.{after_family}
 use Rattle.intake_csv.specs.Records.{Fields}
-use Rattle.intake_csv.specs.Columns.{IsSheet, claim_columns}
+use Rattle.intake_csv.specs.Columns.{IsHeaderedFile, claim_columns}
 use Rattle.intake_csv.specs.Fields.{Holds, IsFaulty}
 use Rattle.intake_csv.specs.declared.column.Column.{Column}
 use Rattle.intake_csv.specs.declared.column.Layout.{Layout}
@@ -67,7 +67,7 @@ IsRecordRead layout fields (Err fault) = HasFault layout fields fault
 
 -- the values of a claim, in the order of the required columns
 abbrev pub claim_values : Claim → List Value
-claim_values claim = Text claim.id ∷ behind_family claim.family (Text claim.member ∷ Day claim.service ∷ Number claim.billed ∷ claim.fields)
+claim_values claim = Text claim.id ∷ after_family claim.family (Text claim.member ∷ Day claim.service ∷ Number claim.billed ∷ claim.fields)
 
 -- the row is that of the record with this number, if `place` claims precede it
 abbrev pub IsRow : Layout → ℕ → ℕ → Fields → Row → Type 0
@@ -90,7 +90,7 @@ pub record AreRows (layout : Layout) (number place : ℕ) (records : List Fields
 pub record AreRowsOf (names : List InputData) (text : List ℕ) (rows : List Row) : Type 0 where
   pub layout : Layout
   pub records : List Fields
-  pub sheet : IsSheet (claim_columns names) text layout records
+  pub headered_file : IsHeaderedFile (claim_columns names) text layout records
   pub are_rows : AreRows layout 1 0 records rows
 
 -- a reader of rows in contracts: its layout, the number of the next record, the number of claims
@@ -108,7 +108,7 @@ AreRowsLeft left rows = AreRows left.layout left.number left.place left.records 
 
 -- the reader is at the first record after the header of the text
 pub record IsAtStart (names : List InputData) (text : List ℕ) (left : RowsLeft) : Type 0 where
-  pub sheet : IsSheet (claim_columns names) text left.layout left.records
+  pub headered_file : IsHeaderedFile (claim_columns names) text left.layout left.records
   pub number : left.number ≡ 1
   pub place : left.place ≡ 0
   pub stage : left.stage ≡ Reading

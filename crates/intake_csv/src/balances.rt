@@ -9,17 +9,17 @@ ghost use Rattle.settlement.specs.Accounts.{named_or};
 ghost use Rattle.settlement.specs.Opening.{opening};
 ghost use Rattle.intake_csv.specs.Balances.{AreAmounts, AreBalances, AreOnce, BeginsWithYear, Entry as AnyEntry, Holder as AnyHolder, HasBalanceFault, HoldsEntries, IsBalanceLayout, JoinsIn, IsEntryShaped, IsKeptUnder, IsRecordFault, TakesEntry, TakesYear, accounts_of, balance_values, books_of, entry_values, found_in, is_holder, refusal_cause, refusal_place};
 ghost use Rattle.intake_csv.specs.Columns.{balance_columns, member_place, met_place, year_columns};
-ghost use Rattle.intake_csv.specs.Households.{AreOnceBy, balance_in, refused_behind};
+ghost use Rattle.intake_csv.specs.FamilyYears.{AreOnceBy, balance_in, refused_after};
 ghost use Rattle.intake_csv.specs.Rows.{HasFault};
-ghost use Rattle.intake_csv.specs.Sheet.{IsSheetOf, IsWithin};
+ghost use Rattle.intake_csv.specs.HeaderedFile.{IsHeaderedFileOf, IsWithin};
 ghost use Rattle.intake_csv.specs.declared.column.Column.{Column as AnyColumn};
 
 use crate::claim::push_family;
-use crate::column::{Content, Layout, Needed, push_column};
-use crate::household::{Household, Refusal};
-use crate::line::Line;
+use crate::column::{Content, Layout, RequiredColumn, push_column};
+use crate::csv_record::CsvRecord;
+use crate::family_year::{FamilyYear, Refusal};
+use crate::headered_file::{HeaderedFile, read_headered_file};
 use crate::record::read_record;
-use crate::sheet::{Sheet, read_sheet};
 use crate::values::{take_family, take_money, take_text};
 use dtable::{Plan, Sequence, has_families, has_years};
 use faults::{BalanceFault, FileFault, RowCause, RowFault};
@@ -38,7 +38,7 @@ use std::vec;
 /// is its own family.
 #[derive(Drop)]
 pub struct Balances {
-    years: Vec<BTreeMap<String, Household>>,
+    years: Vec<BTreeMap<String, FamilyYear>>,
 }
 
 impl Model for Balances {
@@ -72,15 +72,15 @@ fn read_by(alloc: Global, version: u8, text: &[u8]) -> Result<Balances, BalanceF
     ensures ok { IfOk result (AreBalances version text.now) }
     ensures fault { IfErr result (HasBalanceFault version text.now) }
 {
-    let sheet = balance_sheet(alloc, version, text)?;
-    let Sheet {
+    let headered_file = balance_file(alloc, version, text)?;
+    let HeaderedFile {
         layout,
         mut records,
-    } = sheet;
+    } = headered_file;
     let mut balances = Balances {
         years: Vec::new(alloc),
     };
-    let mut record = Line::new(alloc);
+    let mut record = CsvRecord::new(alloc);
     let mut number: usize = 0;
     while record.read(&mut records)? {
         number += 1;
@@ -92,13 +92,17 @@ fn read_by(alloc: Global, version: u8, text: &[u8]) -> Result<Balances, BalanceF
     Ok(balances)
 }
 
-fn balance_sheet<'t>(alloc: Global, version: u8, text: &'t [u8]) -> Result<Sheet<'t>, BalanceFault>
-    ensures ok { IfOk result (IsSheetOf (balance_columns version) text.now) }
+fn balance_file<'t>(
+    alloc: Global,
+    version: u8,
+    text: &'t [u8],
+) -> Result<HeaderedFile<'t>, BalanceFault>
+    ensures ok { IfOk result (IsHeaderedFileOf (balance_columns version) text.now) }
     ensures fault { IfErr result (HasBalanceFault version text.now) }
 {
     let needed = balance_columns(alloc, version)?;
-    match read_sheet(alloc, needed.as_slice(), text) {
-        Ok(sheet) => Ok(sheet),
+    match read_headered_file(alloc, needed.as_slice(), text) {
+        Ok(headered_file) => Ok(headered_file),
         Err(FileFault::OutOfMemory) => Err(BalanceFault::OutOfMemory),
         Err(fault) => Err(BalanceFault::File(fault)),
     }
@@ -146,13 +150,13 @@ impl Balances {
             (record { family = family.now; member = member.now; year = year }) }
     {
         match self.find(family, year) {
-            Some(household) => household.opening(member),
+            Some(family_year) => family_year.opening(member),
             None => Acc::zero(),
         }
     }
 
     #[tactic(auto, using(crate::proofs::Books::found_within, crate::proofs::Books::found_beyond))]
-    fn find(&self, family: &str, year: u16) -> Option<&Household>
+    fn find(&self, family: &str, year: u16) -> Option<&FamilyYear>
         ensures found { option_copied result ≡ found_in self.now (family.now, year) }
         ensures once { AreOnce self.now }
     {
@@ -169,7 +173,7 @@ impl Balances {
         alloc: Global,
         version: u8,
         layout: &Layout,
-        row: &Line,
+        row: &CsvRecord,
     ) -> Result<Result<(), RowFault>, AllocError>
         requires within { IsWithin layout.now }
         requires balances { IsBalanceLayout version layout.now }
@@ -195,11 +199,11 @@ impl Balances {
     fn refusal(&self, entry: &Entry) -> Option<Refusal>
         ensures { result ≡ option_and_then
             (λ members.
-            refused_behind members (balance_in members entry.now.member) entry.now.balance)
+            refused_after members (balance_in members entry.now.member) entry.now.balance)
             (found_in self.now (named_or entry.now.family entry.now.member, entry.now.year)) }
     {
         match self.find(entry.family(), entry.year) {
-            Some(household) => household.refusal(entry.member.as_str(), entry.balance),
+            Some(family_year) => family_year.refusal(entry.member.as_str(), entry.balance),
             None => None,
         }
     }
@@ -208,7 +212,7 @@ impl Balances {
     fn put(&mut self, alloc: Global, entry: Entry) -> Result<(), AllocError>
         requires { option_and_then
             (λ members.
-            refused_behind members (balance_in members entry.member) entry.balance)
+            refused_after members (balance_in members entry.member) entry.balance)
             (found_in self.old (named_or entry.family entry.member, entry.year)) ≡ None }
         ensures { OnOk result ((front : List AnyEntry) → HoldsEntries front self.old
             → HoldsEntries (front ++ (
@@ -231,9 +235,9 @@ impl Balances {
             );
         }
         let family = String::from_str(alloc, entry.family())?;
-        let household = Household::new(alloc, name, entry.balance);
+        let family_year = FamilyYear::new(alloc, name, entry.balance);
         make_room(alloc, &mut self.years, entry.year)?;
-        add(&mut self.years, family, entry.year, household)
+        add(&mut self.years, family, entry.year, family_year)
     }
 }
 
@@ -295,7 +299,7 @@ fn refusal_cause(refusal: Refusal) -> RowCause
 
 fn make_room(
     alloc: Global,
-    years: &mut Vec<BTreeMap<String, Household>>,
+    years: &mut Vec<BTreeMap<String, FamilyYear>>,
     year: u16,
 ) -> Result<(), AllocError>
     ensures same { (holder : AnyHolder) → found_in (books_of years.new.items) holder
@@ -312,7 +316,7 @@ fn make_room(
 
 // Appends a year without balances.
 #[tactic(auto, using(crate::proofs::Books::room_found, crate::proofs::Books::room_kept))]
-fn add_year(alloc: Global, years: &mut Vec<BTreeMap<String, Household>>) -> Result<(), AllocError>
+fn add_year(alloc: Global, years: &mut Vec<BTreeMap<String, FamilyYear>>) -> Result<(), AllocError>
     ensures same { (holder : AnyHolder) → found_in (books_of years.new.items) holder
         ≡ found_in (books_of years.old.items) holder }
     ensures once { AreOnce (books_of years.old.items) → AreOnce (books_of years.new.items) }
@@ -324,21 +328,21 @@ fn add_year(alloc: Global, years: &mut Vec<BTreeMap<String, Household>>) -> Resu
 
 // Adds a new family to a year that has an entry.
 fn add(
-    years: &mut Vec<BTreeMap<String, Household>>,
+    years: &mut Vec<BTreeMap<String, FamilyYear>>,
     family: String,
     year: u16,
-    household: Household,
+    family_year: FamilyYear,
 ) -> Result<(), AllocError>
     requires room { year < length years.old.items }
-    requires once { AreOnceBy bytes_eq household }
+    requires once { AreOnceBy bytes_eq family_year }
     ensures added { OnOk result ((holder : AnyHolder)
         → found_in (books_of years.new.items) holder
         ≡ cond (is_holder (string_bytes family, year) holder)
-        (Some household)
+        (Some family_year)
         (found_in (books_of years.old.items) holder)) }
     ensures once { AreOnce (books_of years.old.items) → AreOnce (books_of years.new.items) }
 {
-    match years[usize::from(year)].insert(family, household) {
+    match years[usize::from(year)].insert(family, family_year) {
         Ok(_) => Ok(()),
         Err(_) => Err(AllocError),
     }
@@ -346,7 +350,7 @@ fn add(
 
 // Adds a member, whose balance is not refused, to its family.
 fn join(
-    years: &mut Vec<BTreeMap<String, Household>>,
+    years: &mut Vec<BTreeMap<String, FamilyYear>>,
     family: &str,
     year: u16,
     member: String,
@@ -355,19 +359,19 @@ fn join(
     requires there { IsSome (found_in (books_of years.old.items) (family.now, year)) }
     requires free { option_and_then
         (λ members.
-        refused_behind members (balance_in members (string_bytes member)) balance)
+        refused_after members (balance_in members (string_bytes member)) balance)
         (found_in (books_of years.old.items) (family.now, year)) ≡ None }
     ensures joined { OnOk result (JoinsIn (family.now, year) (string_bytes member) balance
         (books_of years.old.items) (books_of years.new.items)) }
     ensures once { AreOnce (books_of years.old.items) → AreOnce (books_of years.new.items) }
 {
     match years[usize::from(year)].get_mut(family) {
-        Some(household) => household.join(member, balance),
+        Some(family_year) => family_year.join(member, balance),
         None => unreachable!(),
     }
 }
 
-fn balance_columns(alloc: Global, version: u8) -> Result<Sequence<Needed>, AllocError>
+fn balance_columns(alloc: Global, version: u8) -> Result<Sequence<RequiredColumn>, AllocError>
     ensures { IfOk result (λ needed. needed ≡ balance_columns version) }
 {
     let mut needed = Sequence::new(alloc);
@@ -381,7 +385,11 @@ fn balance_columns(alloc: Global, version: u8) -> Result<Sequence<Needed>, Alloc
 }
 
 // Appends the column of the year, if the plan keeps accumulators by benefit year.
-fn push_year(alloc: Global, needed: &mut Sequence<Needed>, years: bool) -> Result<(), AllocError>
+fn push_year(
+    alloc: Global,
+    needed: &mut Sequence<RequiredColumn>,
+    years: bool,
+) -> Result<(), AllocError>
     ensures { OnOk result (needed.new ≡ needed.old ++ year_columns years) }
 {
     if years {

@@ -1,17 +1,17 @@
 //! The reader of claims, which makes each claim directly from its record.
 ghost use Rattle.std.specs.Prelude.{◌≡◌, ◌<◌, ◌++◌, ◌^◌, length, map, IfOk, IfErr, IfSome, IfNone, OnOk};
 ghost use Rattle.std.specs.List.{All, Any};
-ghost use Rattle.intake_csv.specs.Columns.{claim_columns, family_columns, needed, own_columns};
+ghost use Rattle.intake_csv.specs.Columns.{claim_columns, family_columns, required_column, own_columns};
 ghost use Rattle.intake_csv.specs.declared.column.Content.TheVariants as contents;
-ghost use Rattle.intake_csv.specs.Judged.{IsRefusedUnder};
+ghost use Rattle.intake_csv.specs.Validated.{IsRefusedUnder};
 ghost use Rattle.intake_csv.specs.Record.{AreFromMember, GoesOnAs, IsClaimLayout, has_family_column, is_identifier};
 ghost use Rattle.intake_csv.specs.Rows.{AreValues, HasFault, HasValues, claim_values};
-ghost use Rattle.intake_csv.specs.Sheet.{IsWithin};
+ghost use Rattle.intake_csv.specs.HeaderedFile.{IsWithin};
 
-use crate::column::{Column, Content, Layout, Needed, push_column};
-use crate::judge::first_fault;
-use crate::line::Line;
-use crate::under::{day_under, money_under, text_under, values_under};
+use crate::column::{Column, Content, Layout, RequiredColumn, push_column};
+use crate::column_values::{day_of_column, money_of_column, text_of_column, values_of_columns};
+use crate::csv_record::CsvRecord;
+use crate::validation::first_fault;
 use dtable::{InputData, Plan, Sequence};
 use faults::{RowCause, RowFault};
 use feel_tests::{Kind, Text};
@@ -19,16 +19,16 @@ use settlement::{Claim, fields_of};
 use std::alloc::{AllocError, Global};
 
 /// Returns the required columns of a claim file under a plan.
-pub fn claim_columns(alloc: Global, plan: &Plan) -> Result<Sequence<Needed>, AllocError>
-    ensures { IfOk result (λ needed. needed ≡ claim_columns plan.now.names) }
+pub fn claim_columns(alloc: Global, plan: &Plan) -> Result<Sequence<RequiredColumn>, AllocError>
+    ensures { IfOk result (λ required_column. required_column ≡ claim_columns plan.now.names) }
 {
     let mut needed = own_columns(alloc, plan.keeps_families())?;
     push_fields(alloc, &mut needed, fields_of(plan))?;
     Ok(needed)
 }
 
-fn own_columns(alloc: Global, families: bool) -> Result<Sequence<Needed>, AllocError>
-    ensures { IfOk result (λ needed. needed ≡ own_columns families) }
+fn own_columns(alloc: Global, families: bool) -> Result<Sequence<RequiredColumn>, AllocError>
+    ensures { IfOk result (λ required_column. required_column ≡ own_columns families) }
 {
     let mut needed = Sequence::new(alloc);
     push_column(alloc, &mut needed, "claim", Content::Identifier)?;
@@ -42,10 +42,10 @@ fn own_columns(alloc: Global, families: bool) -> Result<Sequence<Needed>, AllocE
 /// Appends the column of the family, if the plan keeps accumulators for families.
 pub fn push_family(
     alloc: Global,
-    needed: &mut Sequence<Needed>,
+    needed: &mut Sequence<RequiredColumn>,
     families: bool,
 ) -> Result<(), AllocError>
-    ensures { OnOk result (needed.new ≡ needed.old ++ family_columns families) }
+    ensures { OnOk result (required_column.new ≡ required_column.old ++ family_columns families) }
 {
     if families {
         push_column(alloc, needed, "family", Content::Identifier)
@@ -56,11 +56,11 @@ pub fn push_family(
 
 fn push_fields(
     alloc: Global,
-    columns: &mut Sequence<Needed>,
+    columns: &mut Sequence<RequiredColumn>,
     fields: &[InputData],
 ) -> Result<(), AllocError>
     ensures { OnOk result (columns.new
-        ≡ columns.old ++ map (λ d. needed d.name (contents.Plain d.kind)) fields.now) }
+        ≡ columns.old ++ map (λ d. required_column d.name (contents.Plain d.kind)) fields.now) }
 {
     for field in fields {
         push_column(
@@ -78,7 +78,7 @@ fn push_fields(
 pub fn read_claim(
     alloc: Global,
     layout: &Layout,
-    row: &Line,
+    row: &CsvRecord,
 ) -> Result<Result<Claim, RowFault>, AllocError>
     requires within { IsWithin layout.now }
     requires claims { IsClaimLayout layout.now }
@@ -92,7 +92,7 @@ pub fn read_claim(
             cause: RowCause::FieldCount,
         }));
     }
-    if let Some(claim) = claim_under(alloc, layout, row)? {
+    if let Some(claim) = claim_of_record(alloc, layout, row)? {
         return Ok(Ok(claim));
     }
     match first_fault(alloc, layout.columns.as_slice(), row)? {
@@ -102,7 +102,11 @@ pub fn read_claim(
 }
 
 // Returns the claim of these columns, or `None` if a field is refused.
-fn claim_under(alloc: Global, layout: &Layout, row: &Line) -> Result<Option<Claim>, AllocError>
+fn claim_of_record(
+    alloc: Global,
+    layout: &Layout,
+    row: &CsvRecord,
+) -> Result<Option<Claim>, AllocError>
     requires within { All (λ c. c.place < length row.now) layout.now.columns }
     requires small { length row.now < 2 ^ 64 }
     requires claims { IsClaimLayout layout.now }
@@ -111,31 +115,31 @@ fn claim_under(alloc: Global, layout: &Layout, row: &Line) -> Result<Option<Clai
     ensures none { IfOk result (λ read. IfNone read
         (Any (IsRefusedUnder row.now) layout.now.columns)) }
 {
-    let [id, behind @ ..] = layout.columns.as_slice() else {
+    let [id, following @ ..] = layout.columns.as_slice() else {
         unreachable!();
     };
-    let Some(id) = text_under(alloc, *id, row)? else {
+    let Some(id) = text_of_column(alloc, *id, row)? else {
         return Ok(None);
     };
     if !has_family_column(layout) {
-        return claim_behind(alloc, id, None, behind, row);
+        return claim_after_id(alloc, id, None, following, row);
     }
-    let [family, behind @ ..] = behind else {
+    let [family, following @ ..] = following else {
         unreachable!();
     };
-    let Some(family) = text_under(alloc, *family, row)? else {
+    let Some(family) = text_of_column(alloc, *family, row)? else {
         return Ok(None);
     };
-    claim_behind(alloc, id, Some(family), behind, row)
+    claim_after_id(alloc, id, Some(family), following, row)
 }
 
 // Returns the claim with this identifier and family. The columns are those from the member onwards.
-fn claim_behind(
+fn claim_after_id(
     alloc: Global,
     id: Text,
     family: Option<Text>,
     columns: &[Column],
-    row: &Line,
+    row: &CsvRecord,
 ) -> Result<Option<Claim>, AllocError>
     requires within { All (λ c. c.place < length row.now) columns.now }
     requires small { length row.now < 2 ^ 64 }
@@ -146,16 +150,16 @@ fn claim_behind(
     let [member, service, billed, fields @ ..] = columns else {
         unreachable!();
     };
-    let Some(member) = text_under(alloc, *member, row)? else {
+    let Some(member) = text_of_column(alloc, *member, row)? else {
         return Ok(None);
     };
-    let Some(service) = day_under(alloc, *service, row)? else {
+    let Some(service) = day_of_column(alloc, *service, row)? else {
         return Ok(None);
     };
-    let Some(billed) = money_under(alloc, *billed, row)? else {
+    let Some(billed) = money_of_column(alloc, *billed, row)? else {
         return Ok(None);
     };
-    let Some(fields) = values_under(alloc, fields, row)? else {
+    let Some(fields) = values_of_columns(alloc, fields, row)? else {
         return Ok(None);
     };
     Ok(Some(Claim {

@@ -8,13 +8,13 @@ ghost use Rattle.std.specs.Prelude.{◌≡◌, IfOk, IfErr};
 ghost use Rattle.csv.specs.Records.{fields_of};
 ghost use Rattle.intake_csv.specs.ClaimFile.{IsFileOf, rows_of};
 ghost use Rattle.intake_csv.specs.Columns.{HasFileFault, claim_columns};
-ghost use Rattle.intake_csv.specs.Laws.{StandApart};
+ghost use Rattle.intake_csv.specs.Laws.{LieApart};
 
 use crate::claim::claim_columns;
 use crate::column::Layout;
+use crate::headered_file::read_headered_file;
 use crate::records::Records;
 use crate::rows::Rows;
-use crate::sheet::read_sheet;
 use csv::ByteRecord;
 use dtable::Plan;
 use faults::FileFault;
@@ -29,13 +29,13 @@ pub struct ClaimFile<'t> {
 }
 
 impl<'t> Model for ClaimFile<'t> {
-    ghost use Rattle.intake_csv.specs.ClaimFile.{FileParts, IsJudged};
+    ghost use Rattle.intake_csv.specs.ClaimFile.{FileParts, IsValidated};
 
     ghost Value = { FileParts };
 
     ghost view = { λ f. record { text = f.text.now; layout = f.layout } };
 
-    ghost invariant = { λ f. IsJudged f.text.now f.layout };
+    ghost invariant = { λ f. IsValidated f.text.now f.layout };
 }
 
 impl<'t> ClaimFile<'t> {
@@ -48,10 +48,10 @@ impl<'t> ClaimFile<'t> {
         // proof: the plan's names are distinct, so the columns have distinct places
         let _names = plan.names();
         let needed = claim_columns(alloc, plan)?;
-        let sheet = read_sheet(alloc, needed.as_slice(), text)?;
+        let headered_file = read_headered_file(alloc, needed.as_slice(), text)?;
         Ok(ClaimFile {
             text,
-            layout: sheet.layout,
+            layout: headered_file.layout,
         })
     }
 
@@ -65,7 +65,7 @@ impl<'t> ClaimFile<'t> {
     /// Returns a reader of the file's rows, at the first record after the header.
     pub fn rows(&self, alloc: Global) -> Result<Rows<'t>, AllocError>
         ensures start { IfOk result (λ rows. rows ≡ rows_of self.now) }
-        ensures apart { IfOk result (λ rows. StandApart rows.layout.columns) }
+        ensures apart { IfOk result (λ rows. LieApart rows.layout.columns) }
     {
         let layout = self.layout.duplicate(alloc)?;
         let mut records = Records::new(alloc, self.text);
@@ -73,6 +73,6 @@ impl<'t> ClaimFile<'t> {
         if !records.read(&mut header)? {
             unreachable!();
         }
-        Ok(Rows::behind_header(alloc, layout, records))
+        Ok(Rows::after_header(alloc, layout, records))
     }
 }

@@ -1,6 +1,6 @@
 //! The required columns of a file, and their places in its header.
 ghost use Rattle.std.specs.Prelude.{◌≡◌, ◌++◌, ◌∷◌, [], IfOk, OnOk};
-ghost use Rattle.intake_csv.specs.Columns.{kind_under, needed};
+ghost use Rattle.intake_csv.specs.Columns.{kind_under, required_column};
 
 use dtable::Sequence;
 use feel_tests::Kind;
@@ -36,18 +36,18 @@ impl Content {
 
 /// A required column of a file.
 #[derive(Drop)]
-pub struct Needed {
-    pub name: Title,
+pub struct RequiredColumn {
+    pub name: HeaderCell,
     pub content: Content,
 }
 
 /// The name of a column in a header. Contracts see it as its bytes.
 #[derive(Drop)]
-pub struct Title {
+pub struct HeaderCell {
     text: String,
 }
 
-impl Model for Title {
+impl Model for HeaderCell {
     ghost use Rattle.std.specs.Prelude.{List, ℕ, string_bytes};
 
     ghost Value = { List ℕ };
@@ -55,12 +55,12 @@ impl Model for Title {
     ghost view = { λ t. string_bytes t.text };
 }
 
-impl Title {
+impl HeaderCell {
     /// Copies a name.
-    pub fn new(alloc: Global, text: &str) -> Result<Title, AllocError>
+    pub fn new(alloc: Global, text: &str) -> Result<HeaderCell, AllocError>
         ensures { IfOk result (λ title. title ≡ text.now) }
     {
-        Ok(Title {
+        Ok(HeaderCell {
             text: String::from_str(alloc, text)?,
         })
     }
@@ -76,20 +76,24 @@ impl Title {
 /// Appends the required column with this name and content.
 pub fn push_column(
     alloc: Global,
-    columns: &mut Sequence<Needed>,
+    columns: &mut Sequence<RequiredColumn>,
     name: &str,
     content: Content,
 ) -> Result<(), AllocError>
-    ensures { OnOk result (columns.new ≡ columns.old ++ needed name.now content ∷ []) }
+    ensures { OnOk result (columns.new ≡ columns.old ++ required_column name.now content ∷ []) }
 {
-    columns.push(needed_column(alloc, name, content)?)
+    columns.push(required_column(alloc, name, content)?)
 }
 
-fn needed_column(alloc: Global, name: &str, content: Content) -> Result<Needed, AllocError>
-    ensures { IfOk result (λ made. made ≡ needed name.now content) }
+fn required_column(
+    alloc: Global,
+    name: &str,
+    content: Content,
+) -> Result<RequiredColumn, AllocError>
+    ensures { IfOk result (λ made. made ≡ required_column name.now content) }
 {
-    Ok(Needed {
-        name: Title::new(alloc, name)?,
+    Ok(RequiredColumn {
+        name: HeaderCell::new(alloc, name)?,
         content,
     })
 }

@@ -3,10 +3,10 @@ ghost use Rattle.std.specs.Prelude.{◌≡◌, ◌<◌, ◌++◌, ◌∷◌, [],
 ghost use Rattle.std.specs.Str.{bytes_eq};
 ghost use Rattle.csv.specs.Records.{fields_of};
 ghost use Rattle.intake_csv.specs.Columns.{AreColumnsOf};
-ghost use Rattle.intake_csv.specs.Header.{AreFound, HasColumnFault, MissesColumn, StandsAs, stands_after};
-ghost use Rattle.intake_csv.specs.declared.column.Needed.{Needed as AnyNeeded};
+ghost use Rattle.intake_csv.specs.Header.{AreFound, HasColumnFault, MissesColumn, MatchesAs, comes_after};
+ghost use Rattle.intake_csv.specs.declared.column.RequiredColumn.{RequiredColumn as AnyNeeded};
 
-use crate::column::{Column, Needed};
+use crate::column::{Column, RequiredColumn};
 use csv::ByteRecord;
 use dtable::Sequence;
 use faults::FileFault;
@@ -14,7 +14,7 @@ use std::alloc::Global;
 
 /// The occurrences of a name in a header.
 #[derive(Clone, Copy, PartialEq, Eq)]
-pub enum Standing {
+pub enum ColumnMatch {
     /// The name does not occur.
     Missing,
     /// The name occurs only at this place, from 0.
@@ -23,15 +23,15 @@ pub enum Standing {
     Repeated,
 }
 
-impl Standing {
+impl ColumnMatch {
     // Returns the occurrences in a header with one more place, which has the name if `here` is
     // true.
-    fn after(self, place: usize, here: bool) -> Standing
-        ensures { result ≡ stands_after self place here }
+    fn after(self, place: usize, here: bool) -> ColumnMatch
+        ensures { result ≡ comes_after self place here }
     {
         match self {
-            Standing::Missing if here => Standing::Once(place),
-            Standing::Once(_) if here => Standing::Repeated,
+            ColumnMatch::Missing if here => ColumnMatch::Once(place),
+            ColumnMatch::Once(_) if here => ColumnMatch::Repeated,
             _ => self,
         }
     }
@@ -48,7 +48,7 @@ struct Found {
 /// reported before a repeated one.
 pub fn find_columns(
     alloc: Global,
-    needed: &[Needed],
+    needed: &[RequiredColumn],
     header: &ByteRecord,
 ) -> Result<Sequence<Column>, FileFault>
     ensures ok { IfOk result (AreColumnsOf (fields_of header.now) needed.now) }
@@ -67,32 +67,36 @@ pub fn find_columns(
     Ok(found.columns)
 }
 
-fn find_column(found: &mut Found, needed: &Needed, header: &ByteRecord) -> Result<(), FileFault>
+fn find_column(
+    found: &mut Found,
+    needed: &RequiredColumn,
+    header: &ByteRecord,
+) -> Result<(), FileFault>
     ensures found { OnOk result ((front : List AnyNeeded)
         → AreFound (fields_of header.now) front found.old
         → AreFound (fields_of header.now) (front ++ needed.now ∷ []) found.new) }
     ensures missing { IfErr result (MissesColumn (fields_of header.now) needed.now) }
 {
-    match stands_as(header, needed.name.as_bytes()) {
-        Standing::Missing => return Err(FileFault::MissingColumn),
-        Standing::Once(place) => found.columns.push(Column {
+    match column_match(header, needed.name.as_bytes()) {
+        ColumnMatch::Missing => return Err(FileFault::MissingColumn),
+        ColumnMatch::Once(place) => found.columns.push(Column {
             place,
             content: needed.content,
         })?,
-        Standing::Repeated => found.repeated = true,
+        ColumnMatch::Repeated => found.repeated = true,
     }
     Ok(())
 }
 
 /// Returns the occurrences of the name in the header.
-pub fn stands_as(header: &ByteRecord, name: &[u8]) -> Standing
-    ensures { StandsAs name.now (fields_of header.now) result }
+pub fn column_match(header: &ByteRecord, name: &[u8]) -> ColumnMatch
+    ensures { MatchesAs name.now (fields_of header.now) result }
 {
-    let mut standing = Standing::Missing;
+    let mut present = ColumnMatch::Missing;
     for place in 0..header.len() {
-        standing = standing.after(place, has_name(header, place, name));
+        present = present.after(place, has_name(header, place, name));
     }
-    standing
+    present
 }
 
 fn has_name(header: &ByteRecord, place: usize, name: &[u8]) -> bool

@@ -12,32 +12,32 @@
 #![tactic(auto)]
 
 mod balances;
-mod brief;
 mod claim;
 mod claim_file;
 mod column;
+mod column_values;
+mod csv_record;
+mod family_year;
 mod field;
 mod header;
-mod household;
-mod judge;
+mod headered_file;
 mod laws;
-mod line;
 mod record;
 mod records;
+mod row_summary;
 mod rows;
-mod sheet;
-mod under;
+mod validation;
 mod values;
 
 pub use balances::{Balances, read_balances};
-pub use brief::{Brief, Claimant};
 pub use claim_file::ClaimFile;
+pub use csv_record::CsvRecord;
 pub use faults::{BalanceFault, FileFault, RowCause, RowFault};
+pub use headered_file::FILE_LIMIT_BYTES;
 pub use laws::{
     claims_have_the_plan_s_fields, files_have_rows, given_row_has_the_claim,
     given_row_is_the_first, no_records_give_no_rows, reader_begins_with_all_rows,
     text_has_one_list_of_rows,
 };
-pub use line::Line;
+pub use row_summary::{IdColumns, RowSummary};
 pub use rows::{Row, Rows};
-pub use sheet::FILE_LIMIT_BYTES;

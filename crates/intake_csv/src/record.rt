@@ -2,13 +2,13 @@
 ghost use Rattle.std.specs.Prelude.{◌≡◌, ◌<◌, ◌+◌, ◌++◌, ◌∷◌, ◌^◌, [], List, length, IfOk, IfErr, OnOk};
 ghost use Rattle.std.specs.List.{All};
 ghost use Rattle.intake_csv.specs.Rows.{AreValues, HasValues, HasFault, HoldsUnder, IsFirstFault, IsFaultyUnder, IsFaultlessUnder};
-ghost use Rattle.intake_csv.specs.Sheet.{IsWithin};
+ghost use Rattle.intake_csv.specs.HeaderedFile.{IsWithin};
 ghost use Rattle.intake_csv.specs.Record.{IsLeftmost, IsReadSoFar};
 ghost use Rattle.intake_csv.specs.declared.column.Column.{Column as AnyColumn};
 
 use crate::column::{Column, Layout};
+use crate::csv_record::CsvRecord;
 use crate::field::read_text;
-use crate::line::Line;
 use faults::{RowCause, RowFault};
 use feel_tests::Value;
 use std::alloc::{AllocError, Global};
@@ -18,7 +18,7 @@ use std::alloc::{AllocError, Global};
 pub fn read_record(
     alloc: Global,
     layout: &Layout,
-    row: &Line,
+    row: &CsvRecord,
 ) -> Result<Result<Vec<Value>, RowFault>, AllocError>
     requires { IsWithin layout.now }
     ensures values { IfOk result (λ read. IfOk read (λ values.
@@ -42,15 +42,15 @@ struct Reading {
 }
 
 impl Reading {
-    fn read(&mut self, alloc: Global, column: Column, row: &Line) -> Result<(), AllocError>
+    fn read(&mut self, alloc: Global, column: Column, row: &CsvRecord) -> Result<(), AllocError>
         requires within { column.place < length row.now }
         requires small { length row.now < 2 ^ 64 }
         ensures { OnOk result ((front : List AnyColumn) → IsReadSoFar row.now front self.old
             → IsReadSoFar row.now (front ++ column ∷ []) self.new) }
     {
-        match read_under(alloc, column, row)? {
+        match read_column(alloc, column, row)? {
             Ok(value) => self.values.push(value)?,
-            Err(fault) => self.first = Some(leftmost(self.first, fault)),
+            Err(fault) => self.first = Some(leftmost_fault(self.first, fault)),
         }
         Ok(())
     }
@@ -61,7 +61,7 @@ impl Reading {
 fn read_values(
     alloc: Global,
     columns: &[Column],
-    row: &Line,
+    row: &CsvRecord,
 ) -> Result<Result<Vec<Value>, RowFault>, AllocError>
     requires within { All (λ c. c.place < length row.now) columns.now }
     requires small { length row.now < 2 ^ 64 }
@@ -84,10 +84,10 @@ fn read_values(
 
 /// Returns the value of a column, or the fault of its field.
 #[inline(always)]
-pub fn read_under(
+pub fn read_column(
     alloc: Global,
     column: Column,
-    row: &Line,
+    row: &CsvRecord,
 ) -> Result<Result<Value, RowFault>, AllocError>
     requires within { column.place < length row.now }
     requires small { length row.now < 2 ^ 64 }
@@ -117,7 +117,7 @@ pub fn read_under(
 }
 
 /// Returns the fault whose column comes first in the header.
-pub fn leftmost(first: Option<RowFault>, fault: RowFault) -> RowFault
+pub fn leftmost_fault(first: Option<RowFault>, fault: RowFault) -> RowFault
     ensures { IsLeftmost first fault result }
 {
     match first {

@@ -1,19 +1,19 @@
 //! The rows of a provider's claim file.
 ghost use Rattle.std.specs.Prelude.{◌≡◌, ◌≤◌, true, Ok, None, IfOk, IfErr, OnErr, drop, is_err, length};
-ghost use Rattle.intake_csv.specs.Brief.{GivesBrief};
+ghost use Rattle.intake_csv.specs.RowSummary.{GivesSummary};
 ghost use Rattle.intake_csv.specs.Rows.{Gives, IsHead};
 ghost use Rattle.intake_csv.specs.Record.{IsClaimLayout};
 ghost use Rattle.intake_csv.specs.Records.{records_of};
-ghost use Rattle.intake_csv.specs.Sheet.{IsWithin};
+ghost use Rattle.intake_csv.specs.HeaderedFile.{IsWithin};
 ghost use Rattle.intake_csv.specs.declared.records.Stage.TheVariants.{Reading, Over, Failed};
 ghost use Rattle.intake_csv.specs.Limits.{file_limit_bytes};
 
-use crate::brief::Brief;
 use crate::claim::read_claim;
 use crate::column::Layout;
-use crate::judge::judge_claim;
-use crate::line::Line;
+use crate::csv_record::CsvRecord;
 use crate::records::Records;
+use crate::row_summary::RowSummary;
+use crate::validation::validate_claim;
 use faults::RowFault;
 use settlement::Claim;
 use std::alloc::{AllocError, Global};
@@ -42,7 +42,7 @@ pub struct Rows<'t> {
     alloc: Global,
     layout: Layout,
     records: Records<'t>,
-    current: Line,
+    current: CsvRecord,
     next: usize,
     claims: usize,
 }
@@ -64,7 +64,7 @@ impl<'t> Model for Rows<'t> {
     ghost use Rattle.std.specs.Prelude.{◌≡◌, ◌<◌, ◌≤◌, false, drop, length};
     ghost use Rattle.intake_csv.specs.Records.{is_failed, records_of};
     ghost use Rattle.intake_csv.specs.Rows.{RowsLeft};
-    ghost use Rattle.intake_csv.specs.Sheet.{IsWithin};
+    ghost use Rattle.intake_csv.specs.HeaderedFile.{IsWithin};
     ghost use Rattle.intake_csv.specs.Record.{IsClaimLayout};
     ghost use Rattle.intake_csv.specs.Limits.{file_limit_bytes};
 
@@ -88,7 +88,7 @@ impl<'t> Model for Rows<'t> {
 
 impl<'t> Rows<'t> {
     /// Begins at the first record after a validated header.
-    pub(crate) fn behind_header(alloc: Global, layout: Layout, records: Records<'t>) -> Rows<'t>
+    pub(crate) fn after_header(alloc: Global, layout: Layout, records: Records<'t>) -> Rows<'t>
         requires within { IsWithin layout }
         requires columns { IsClaimLayout layout }
         requires small { length records.text ≤ file_limit_bytes }
@@ -105,7 +105,7 @@ impl<'t> Rows<'t> {
             alloc,
             layout,
             records,
-            current: Line::new(alloc),
+            current: CsvRecord::new(alloc),
             next: 1,
             claims: 0,
         }
@@ -150,8 +150,8 @@ impl<'t> Rows<'t> {
 
     /// Reads the summary of the next row, and leaves its record in `line`. After the last row,
     /// every call returns `None`. If memory runs out, every later call returns the error again.
-    pub fn next_brief(&mut self, line: &mut Line) -> Result<Option<Brief>, AllocError>
-        ensures gives { IfOk result (GivesBrief self.old self.new line.new) }
+    pub fn next_summary(&mut self, line: &mut CsvRecord) -> Result<Option<RowSummary>, AllocError>
+        ensures gives { IfOk result (GivesSummary self.old self.new line.new) }
         ensures over { self.old.stage ≡ Over → result ≡ Ok None }
         ensures refused { OnErr result (self.new ≡ record self.old { stage = Failed }) }
         ensures failed { self.old.stage ≡ Failed → is_err result ≡ true }
@@ -162,20 +162,20 @@ impl<'t> Rows<'t> {
             Err(AllocError) => return Err(AllocError),
         }
         let number = self.next;
-        match judge_claim(self.alloc, &self.layout, line) {
-            Ok(Ok(claimant)) => {
+        match validate_claim(self.alloc, &self.layout, line) {
+            Ok(Ok(id_columns)) => {
                 let place = self.claims;
                 self.next += 1;
                 self.claims += 1;
-                Ok(Some(Brief::Good {
+                Ok(Some(RowSummary::Good {
                     number,
                     place,
-                    claimant,
+                    id_columns,
                 }))
             }
             Ok(Err(fault)) => {
                 self.next += 1;
-                Ok(Some(Brief::Bad { number, fault }))
+                Ok(Some(RowSummary::Bad { number, fault }))
             }
             Err(AllocError) => {
                 self.records.fail();

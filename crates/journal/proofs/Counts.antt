@@ -4,7 +4,7 @@ use Rattle.std.proofs.lemmas.Bool.{cond-true, cond-false, cases_eq, cases_lt, bo
 use Rattle.std.proofs.lemmas.List.{get_or_past}
 use Rattle.settlement.specs.declared.claim.Claim.{Claim}
 use Rattle.journal.specs.Terms.{Terms, claims_in, claims_of, claims_in_all, all_claims}
-use Rattle.journal.specs.Events.{accept_in, accepts, accepted, place_in, places, is_intake}
+use Rattle.journal.specs.Events.{accept_in, accepts, accepted_count, place_in, places, is_intake}
 use Rattle.journal.specs.Lawful.{Sound}
 use Rattle.journal.specs.declared.event.Event.{Event}
 use Rattle.journal.specs.declared.event.Event.TheVariants.{Accept, End, Close, Take, Decide}
@@ -115,12 +115,12 @@ counted_event n Close J known = sym (sum_to-zero n)
 counted_event n (Take k) J known = sym (sum_to-zero n)
 counted_event n (Decide k o) J known = sym (sum_to-zero n)
 
-accepted_by_known : (n : ℕ) (J : List Event) → Known n J → accepted J ≡ sum_to n (λ p. length (places J p))
+accepted_by_known : (n : ℕ) (J : List Event) → Known n J → accepted_count J ≡ sum_to n (λ p. length (places J p))
 accepted_by_known n [] known = sym (sum_to-zero n)
 accepted_by_known n (event ∷ J) known =
-    let rest : accepted J ≡ sum_to n (λ p. length (places J p)) = accepted_by_known n J (known_rest n event J known) in
+    let rest : accepted_count J ≡ sum_to n (λ p. length (places J p)) = accepted_by_known n J (known_rest n event J known) in
     let here : length (accept_in event) ≡ sum_to n (λ p. length (place_in p event)) = counted_event n event J known in
-    let split : length (accept_in event ++ accepts J) ≡ length (accept_in event) + accepted J = length-append (accept_in event) (accepts J) in
+    let split : length (accept_in event ++ accepts J) ≡ length (accept_in event) + accepted_count J = length-append (accept_in event) (accepts J) in
     let together : sum_to n (λ p. length (place_in p event) + length (places J p)) ≡ sum_to n (λ p. length (place_in p event)) + sum_to n (λ p. length (places J p)) =
     sum_to-add n (λ p. length (place_in p event)) (λ p. length (places J p)) in
     let each : sum_to n (λ p. length (places (event ∷ J) p)) ≡ sum_to n (λ p. length (place_in p event) + length (places J p)) =
@@ -128,7 +128,7 @@ accepted_by_known n (event ∷ J) known =
     omega arith
 
 -- the number of accepted claims is the sum over the providers
-pub accepted_by_provider : (T : Terms) (J : List Event) → Sound T J → accepted J ≡ sum_to (length T.files) (λ p. length (places J p))
+pub accepted_by_provider : (T : Terms) (J : List Event) → Sound T J → accepted_count J ≡ sum_to (length T.files) (λ p. length (places J p))
 accepted_by_provider T J S =
     accepted_by_known (length T.files) J
     (λ p h.
@@ -136,9 +136,9 @@ accepted_by_provider T J S =
     claims_known T.files p (omega arith))
 
 -- at most all claims are accepted
-pub accepted_within : (T : Terms) (J : List Event) → Sound T J → accepted J ≤ all_claims T
+pub accepted_within : (T : Terms) (J : List Event) → Sound T J → accepted_count J ≤ all_claims T
 accepted_within T J S =
-    let mine : accepted J ≡ sum_to (length T.files) (λ p. length (places J p)) = accepted_by_provider T J S in
+    let mine : accepted_count J ≡ sum_to (length T.files) (λ p. length (places J p)) = accepted_by_provider T J S in
     let all : claims_in_all T.files ≡ sum_to (length T.files) (λ p. length (claims_in T.files p)) = claims_by_provider T.files in
     let less : sum_to (length T.files) (λ p. length (places J p)) ≤ sum_to (length T.files) (λ p. length (claims_in T.files p)) =
     sum_to-le (length T.files) (λ p. length (places J p)) (λ p. length (claims_in T.files p)) (λ p l m. S.within p) in
@@ -146,7 +146,7 @@ accepted_within T J S =
 
 -- all claims are accepted if those of each provider are
 pub accepted_all : (T : Terms) (J : List Event) → Sound T J
-    → ((p : ℕ) → 1 ≤ p → p ≤ length T.files → length (places J p) ≡ length (claims_of T p)) → accepted J ≡ all_claims T
+    → ((p : ℕ) → 1 ≤ p → p ≤ length T.files → length (places J p) ≡ length (claims_of T p)) → accepted_count J ≡ all_claims T
 accepted_all T J S each =
     accepted_by_provider T J S
     ∙ sum_to-same (length T.files) (λ p. length (places J p)) (λ p. length (claims_in T.files p)) each
@@ -155,10 +155,10 @@ accepted_all T J S each =
 -- a prefix of the journal that accepts exactly this number of claims
 pub record Front (count : ℕ) (J : List Event) : Type 0 where
   pub index : ℕ
-  pub exactly : accepted (take index J) ≡ count
+  pub exactly : accepted_count (take index J) ≡ count
 
 -- the number of accepted claims grows one by one
-pub front_of : (count : ℕ) (J : List Event) → count ≤ accepted J → Front count J
+pub front_of : (count : ℕ) (J : List Event) → count ≤ accepted_count J → Front count J
 front_of zero J h = record { index = zero; exactly = refl }
 front_of (suc count) [] h = let none : ⊥ = omega arith in absurd none
 front_of (suc count) (Accept p place ∷ J) h =
@@ -178,11 +178,11 @@ front_of (suc count) (Decide k o ∷ J) h =
     record { index = suc f.index; exactly = f.exactly }
 
 -- a longer prefix accepts at least as many claims
-pub accepted_longer : (i j : ℕ) (J : List Event) → i ≤ j → accepted (take i J) ≤ accepted (take j J)
-accepted_longer i j J h = subst (λ w. accepted w ≤ accepted (take j J)) (take-take i j J h) (accepted-take i (take j J))
+pub accepted_longer : (i j : ℕ) (J : List Event) → i ≤ j → accepted_count (take i J) ≤ accepted_count (take j J)
+accepted_longer i j J h = subst (λ w. accepted_count w ≤ accepted_count (take j J)) (take-take i j J h) (accepted-take i (take j J))
 
 -- a journal without accepts and ends has accepted no claim
-pub none_accepted : (J : List Event) → ((i : ℕ) (event : Event) → slice_get J i ≡ Some event → is_intake event ≡ false) → accepted J ≡ 0
+pub none_accepted : (J : List Event) → ((i : ℕ) (event : Event) → slice_get J i ≡ Some event → is_intake event ≡ false) → accepted_count J ≡ 0
 none_accepted [] h = refl
 none_accepted (Accept p place ∷ J) h = absurd (both_ways true (h zero (Accept p place) refl) refl)
 none_accepted (End p ∷ J) h = none_accepted J (λ i event there. h (suc i) event there)

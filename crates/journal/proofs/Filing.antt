@@ -6,11 +6,11 @@ use Rattle.std.proofs.lemmas.List.{length_push, take-append-le, take_all}
 use Rattle.std.proofs.lemmas.List.Concat.{flat_map-append}
 use Rattle.settlement.specs.declared.claim.Claim.{Claim}
 use Rattle.journal.specs.Terms.{Terms}
-use Rattle.journal.specs.Events.{Filed, accept_in, accepted, accepts, places}
+use Rattle.journal.specs.Events.{Filed, accept_in, accepted_count, accepts, places}
 use Rattle.journal.specs.Lawful.{IsNextClaim, Lawful}
 use Rattle.journal.specs.declared.event.Event.{Event}
 use Rattle.journal.specs.declared.event.Event.TheVariants.{Accept, End, Close, Take, Decide}
-use Rattle.journal.proofs.Marks.{end_stands}
+use Rattle.journal.proofs.Marks.{end_located}
 use Rattle.journal.specs.Order.{IsInOrder, IsInTurn, filed_from, in_file_order}
 
 abbrev filed : ℕ → ℕ → Filed
@@ -112,38 +112,38 @@ next_filed first (file ∷ rest) n zero full there =
     ]
 next_filed first (file ∷ rest) n (suc d) full there =
     let own = filed_from first 0 (length file) in
-    let behind = in_file_order (suc first) rest in
+    let following = in_file_order (suc first) rest in
     let long : length own ≡ length file = length-filed first 0 (length file) in
     let self : first + 0 ≡ first = omega arith in
-    let whole : count (first + 0) (take n (own ++ behind)) ≡ length file = full 0 (omega arith) in
+    let whole : count (first + 0) (take n (own ++ following)) ≡ length file = full 0 (omega arith) in
     elim (cases_lt n (length file)) [
       | inl inside ↦
-          let now : take n (own ++ behind) ≡ take n own = take-append-le n own behind (omega (arith, long, inside)) in
-          let counted : count (first + 0) (take n (own ++ behind)) ≡ n =
-          ap (λ q. count q (take n (own ++ behind))) self ∙ ap (count first) now ∙ count_own first 0 (length file) n (omega (arith, inside)) in
+          let now : take n (own ++ following) ≡ take n own = take-append-le n own following (omega (arith, long, inside)) in
+          let counted : count (first + 0) (take n (own ++ following)) ≡ n =
+          ap (λ q. count q (take n (own ++ following))) self ∙ ap (count first) now ∙ count_own first 0 (length file) n (omega (arith, inside)) in
           absurd (omega (arith, counted, whole, inside))
       | inr past ↦
           let m = n - length file in
           let sum : n ≡ length own + m = omega (arith, long, past) in
           let more : suc n ≡ length own + suc m = omega (arith, sum) in
-          let split : take n (own ++ behind) ≡ own ++ take m behind = ap (λ i. take i (own ++ behind)) sum ∙ take_over own behind m in
+          let split : take n (own ++ following) ≡ own ++ take m following = ap (λ i. take i (own ++ following)) sum ∙ take_over own following m in
           let moved : (q : ℕ) → first + suc q ≡ suc first + q = λ q. omega arith in
-          let seen : (q : ℕ) → count (first + suc q) (take n (own ++ behind)) ≡ count (suc first + q) (take m behind) =
+          let seen : (q : ℕ) → count (first + suc q) (take n (own ++ following)) ≡ count (suc first + q) (take m following) =
           λ q.
           let not_own : first ≡ suc first + q → ⊥ = λ e. omega (arith, e) in
           let none : count (suc first + q) own ≡ 0 = count_other first 0 (length file) (suc first + q) not_own in
-          let both : count (suc first + q) (own ++ take m behind) ≡ count (suc first + q) own + count (suc first + q) (take m behind) = count-append (suc first + q) own (take m behind) in
-          ap (λ p. count p (take n (own ++ behind))) (moved q) ∙ ap (count (suc first + q)) split ∙ omega (arith, both, none) in
+          let both : count (suc first + q) (own ++ take m following) ≡ count (suc first + q) own + count (suc first + q) (take m following) = count-append (suc first + q) own (take m following) in
+          ap (λ p. count p (take n (own ++ following))) (moved q) ∙ ap (count (suc first + q)) split ∙ omega (arith, both, none) in
           let next =
           next_filed (suc first) rest m d
           (λ q below. sym (seen q) ∙ full (suc q) (omega (arith, below)))
           (subst (λ c. c < length (file_at rest d)) (seen d) there) in
-          ap (λ i. take i (own ++ behind)) more ∙ take_over own behind (suc m)
+          ap (λ i. take i (own ++ following)) more ∙ take_over own following (suc m)
           ∙ ap (λ w. own ++ w) next
-          ∙ sym (append_assoc own (take m behind) (filed (suc first + d) (count (suc first + d) (take m behind)) ∷ []))
-          ∙ ap (λ w. w ++ filed (suc first + d) (count (suc first + d) (take m behind)) ∷ []) (sym split)
-          ∙ ap (λ c. take n (own ++ behind) ++ filed (suc first + d) c ∷ []) (sym (seen d))
-          ∙ ap (λ p. take n (own ++ behind) ++ filed p (count (first + suc d) (take n (own ++ behind))) ∷ []) (sym (moved d))
+          ∙ sym (append_assoc own (take m following) (filed (suc first + d) (count (suc first + d) (take m following)) ∷ []))
+          ∙ ap (λ w. w ++ filed (suc first + d) (count (suc first + d) (take m following)) ∷ []) (sym split)
+          ∙ ap (λ c. take n (own ++ following) ++ filed (suc first + d) c ∷ []) (sym (seen d))
+          ∙ ap (λ p. take n (own ++ following) ++ filed p (count (first + suc d) (take n (own ++ following))) ∷ []) (sym (moved d))
     ]
 
 -- an accept adds its claim to the accepted ones
@@ -154,7 +154,7 @@ pub stays_so : (T : Terms) (J : List Event) (provider place : ℕ) → Lawful T 
     → IsInOrder T (J ++ Accept provider place ∷ [])
 stays_so T J zero place L O turn N = absurd (let there = N.there in omega (arith, there))
 stays_so T J (suc d) place L O turn N =
-    let n = accepted J in
+    let n = accepted_count J in
     let order = in_file_order 1 T.files in
     let taken = take n order in
     let moved : (q : ℕ) → 1 + q ≡ suc q = λ q. omega arith in
@@ -162,12 +162,12 @@ stays_so T J (suc d) place L O turn N =
     λ q. ap (λ p. count p taken) (moved q) ∙ ap (count (suc q)) (sym O) ∙ ap length (sym (places_are J (suc q))) in
     let full : (q : ℕ) → q < d → count (1 + q) taken ≡ length (file_at T.files q) =
     λ q below.
-    let e = end_stands J (suc q) (turn (suc q) (omega arith) (omega (arith, below))) in
+    let e = end_located J (suc q) (turn (suc q) (omega arith) (omega (arith, below))) in
     counted q ∙ (L.sound.ends e.index (suc q) e.at).whole in
     let here : count (1 + d) taken ≡ place = counted d ∙ sym N.place_is in
     let next = next_filed 1 T.files n d full (subst (λ c. c < length (file_at T.files d)) (sym here) N.there) in
     let X = J ++ Accept (suc d) place ∷ [] in
-    let grown : accepted X ≡ suc n = ap length (accepts_more J (suc d) place) ∙ length_push (accepts J) (filed (suc d) place) ∙ omega arith in
+    let grown : accepted_count X ≡ suc n = ap length (accepts_more J (suc d) place) ∙ length_push (accepts J) (filed (suc d) place) ∙ omega arith in
     accepts_more J (suc d) place
     ∙ ap (λ w. w ++ filed (suc d) place ∷ []) O
     ∙ ap (λ c. taken ++ filed (suc d) c ∷ []) (sym here)

@@ -9,7 +9,7 @@ use Rattle.settlement.specs.declared.outcome.Outcome.{Outcome}
 use Rattle.journal.specs.Settled.{outcome_of}
 use Rattle.settlement.specs.Accounts.{account_of}
 use Rattle.journal.specs.Terms.{Terms, IsProvider, claims_of}
-use Rattle.journal.specs.Events.{accepted, places, is_end, ended, closed, is_close, IsJob, IsSettled, reached, all_ended, due}
+use Rattle.journal.specs.Events.{accepted_count, places, is_end, has_end, closed, is_close, IsJob, IsSettled, reached, all_ended, due}
 use Rattle.journal.specs.Lawful.{Lawful, IsNextClaim, IsNextEnd, IsNextDecision, Fits, closing}
 use Rattle.journal.specs.Gate.{GateAt, Continues, LeadsTo, OfferReply, EndReply, TakeReply, FinishReply, Offers, Ends, Takes, MayFinish, Finishes, Stops, Adds, AddsAndCloses}
 use Rattle.journal.specs.Laws.{Goes}
@@ -62,7 +62,7 @@ or_none true = refl
 or_none false = refl
 
 -- the event is not an accept, an end or a close
-module _ (T : Terms) (J : List Event) (event : Event) (none : accepted (event ∷ []) ≡ 0) (no_end : (p : ℕ) → is_end p event ≡ false) (no_close : is_close event ≡ false) where
+module _ (T : Terms) (J : List Event) (event : Event) (none : accepted_count (event ∷ []) ≡ 0) (no_end : (p : ℕ) → is_end p event ≡ false) (no_close : is_close event ≡ false) where
   same_test : (test : Event → Bool) → test event ≡ false → list_any test (J ++ event ∷ []) ≡ list_any test J
   same_test test fails =
       list_any-append test J (event ∷ [])
@@ -73,17 +73,17 @@ module _ (T : Terms) (J : List Event) (event : Event) (none : accepted (event �
   same_ends zero = refl
   same_ends (suc n) =
       ap (λ w. w && all_ended n (J ++ event ∷ [])) (same_test (is_end (suc n)) (no_end (suc n)))
-      ∙ ap (λ w. ended J (suc n) && w) (same_ends n)
+      ∙ ap (λ w. has_end J (suc n) && w) (same_ends n)
 
-  same_accepted : accepted (J ++ event ∷ []) ≡ accepted J
+  same_accepted : accepted_count (J ++ event ∷ []) ≡ accepted_count J
   same_accepted =
-      let both : accepted (J ++ event ∷ []) ≡ accepted J + accepted (event ∷ []) = accepted-append J (event ∷ []) in
+      let both : accepted_count (J ++ event ∷ []) ≡ accepted_count J + accepted_count (event ∷ []) = accepted-append J (event ∷ []) in
       omega arith
 
   same_due : due T (J ++ event ∷ []) ≡ due T J
   same_due =
       ap (λ w. reached T.cutoff w || all_ended (length T.files) (J ++ event ∷ [])) same_accepted
-      ∙ ap (λ w. reached T.cutoff (accepted J) || w) (same_ends (length T.files))
+      ∙ ap (λ w. reached T.cutoff (accepted_count J) || w) (same_ends (length T.files))
 
   quiet : Lawful T J → closing T (J ++ event ∷ []) ≡ J ++ event ∷ []
   quiet L = no_closing T J event L same_due (same_test is_close no_close)
@@ -132,23 +132,23 @@ finish_goes old new position claim acc decision FinishReply.Stopped L may h = st
 finish_goes old new position claim acc decision FinishReply.AlreadyDecided L may h = stays old new L h.2
 finish_goes old new position claim acc decision FinishReply.Recorded L may h =
     let settled : IsSettled old.terms old.journal position decision =
-    record { claim = claim; stands = may.job.stands; value = may.settled ∙ ap (outcome_of old.terms.plan claim) may.job.left } in
-    let fits : IsNextDecision old.terms old.journal position decision = record { behind = may.in_work; once = h.1; settled = settled } in
+    record { claim = claim; located = may.job.located; value = may.settled ∙ ap (outcome_of old.terms.plan claim) may.job.left } in
+    let fits : IsNextDecision old.terms old.journal position decision = record { following = may.in_work; once = h.1; settled = settled } in
     adds old new (Decide position decision) L h.0 fits (quiet old.terms old.journal (Decide position decision) refl (λ p. refl) refl L) h.2
 finish_goes old new position claim acc decision FinishReply.NoMemory L may h = stays old new L h
 
 job_stays : (T : Terms) (J K : List Event) (position : ℕ) (claim : Claim) (acc : Acc) → IsJob T J position claim acc → IsJob T (J ++ K) position claim acc
 job_stays T J K position claim acc job =
-    let below : position < accepted J = claim_at_within T J position claim job.stands in
-    let within : position ≤ accepted J = omega arith in
+    let below : position < accepted_count J = claim_at_within T J position claim job.located in
+    let within : position ≤ accepted_count J = omega arith in
     record {
-      stands = claim_at-append T J K position below ∙ job.stands;
+      located = claim_at-append T J K position below ∙ job.located;
       left = job.left ∙ sym (before-append T J K position (account_of T.plan claim) within);
     }
 
-pub jobs_stay : (old new : GateAt) (position : ℕ) (claim : Claim) (acc : Acc)
+pub jobs_are_stable : (old new : GateAt) (position : ℕ) (claim : Claim) (acc : Acc)
     → LeadsTo old new → IsJob old.terms old.journal position claim acc → IsJob new.terms new.journal position claim acc
-jobs_stay old new position claim acc leads job =
+jobs_are_stable old new position claim acc leads job =
     let longer : IsJob old.terms (old.journal ++ leads.journal.rest) position claim acc = job_stays old.terms old.journal leads.journal.rest position claim acc job in
     let same : IsJob old.terms new.journal position claim acc = subst (λ w. IsJob old.terms w position claim acc) (sym leads.journal.whole) longer in
     subst (λ w. IsJob w new.journal position claim acc) (sym leads.terms) same

@@ -34,17 +34,17 @@ flat_map-append f (x ∷ xs) ys = ap (λ w. f x ++ w) (flat_map-append f xs ys) 
 pub record Found {A : Type 0} (test : A → Bool) (xs : List A) : Type 0 where
   pub index : ℕ
   pub element : A
-  pub stands : slice_get xs index ≡ Some element
+  pub located : slice_get xs index ≡ Some element
   pub passes : test element ≡ true
 
 pub found : {A : Type 0} (test : A → Bool) (xs : List A) → list_any test xs ≡ true → Found test xs
 found test [] h = absurd (both_ways false refl h)
 found test (x ∷ xs) h =
     elim (or_cases (test x) (list_any test xs) h) [
-      | inl here ↦ record { index = zero; element = x; stands = refl; passes = here }
+      | inl here ↦ record { index = zero; element = x; located = refl; passes = here }
       | inr later ↦
           let f = found test xs later in
-          record { index = suc f.index; element = f.element; stands = f.stands; passes = f.passes }
+          record { index = suc f.index; element = f.element; located = f.located; passes = f.passes }
     ]
 
 pub list_any-at : {A : Type 0} (test : A → Bool) (xs : List A) (i : ℕ) (x : A) → slice_get xs i ≡ Some x → test x ≡ true → list_any test xs ≡ true

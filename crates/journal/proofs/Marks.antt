@@ -2,7 +2,7 @@
 use Rattle.std.proofs.Common.{◌≡◌, ℕ, true, false, List, refl, ap, subst, eqb-true}
 use Rattle.std.proofs.lemmas.Bool.{both_ways}
 use Rattle.settlement.specs.declared.outcome.Outcome.{Outcome}
-use Rattle.journal.specs.Events.{At, is_end, ended, is_close, closed, is_take, taken, is_decide, decided}
+use Rattle.journal.specs.Events.{At, is_end, has_end, is_close, closed, is_take, has_take, is_decide, has_decision}
 use Rattle.journal.specs.declared.event.Event.{Event}
 use Rattle.journal.specs.declared.event.Event.TheVariants.{Accept, End, Close, Take, Decide}
 use Rattle.journal.proofs.Grown.{found}
@@ -41,33 +41,33 @@ decide_is k (End p) h = absurd (both_ways false refl h)
 decide_is k (Take j) h = absurd (both_ways false refl h)
 
 -- the event is at some index
-pub record Stands (J : List Event) (event : Event) : Type 0 where
+pub record IsLocated (J : List Event) (event : Event) : Type 0 where
   pub index : ℕ
   pub at : At J index event
 
-pub close_stands : (J : List Event) → closed J ≡ true → Stands J Close
-close_stands J h =
+pub close_located : (J : List Event) → closed J ≡ true → IsLocated J Close
+close_located J h =
     let f = found is_close J h in
-    record { index = f.index; at = subst (λ w. At J f.index w) (close_is f.element f.passes) f.stands }
+    record { index = f.index; at = subst (λ w. At J f.index w) (close_is f.element f.passes) f.located }
 
-pub end_stands : (J : List Event) (p : ℕ) → ended J p ≡ true → Stands J (End p)
-end_stands J p h =
+pub end_located : (J : List Event) (p : ℕ) → has_end J p ≡ true → IsLocated J (End p)
+end_located J p h =
     let f = found (is_end p) J h in
-    record { index = f.index; at = subst (λ w. At J f.index w) (end_is p f.element f.passes) f.stands }
+    record { index = f.index; at = subst (λ w. At J f.index w) (end_is p f.element f.passes) f.located }
 
-pub take_stands : (J : List Event) (k : ℕ) → taken J k ≡ true → Stands J (Take k)
-take_stands J k h =
+pub take_located : (J : List Event) (k : ℕ) → has_take J k ≡ true → IsLocated J (Take k)
+take_located J k h =
     let f = found (is_take k) J h in
-    record { index = f.index; at = subst (λ w. At J f.index w) (take_is k f.element f.passes) f.stands }
+    record { index = f.index; at = subst (λ w. At J f.index w) (take_is k f.element f.passes) f.located }
 
 -- a decision of the position is at some index
-pub record DecisionStands (J : List Event) (k : ℕ) : Type 0 where
+pub record DecisionIsLocated (J : List Event) (k : ℕ) : Type 0 where
   pub index : ℕ
   pub decision : Outcome
   pub at : At J index (Decide k decision)
 
-pub decision_stands : (J : List Event) (k : ℕ) → decided J k ≡ true → DecisionStands J k
-decision_stands J k h =
+pub decision_located : (J : List Event) (k : ℕ) → has_decision J k ≡ true → DecisionIsLocated J k
+decision_located J k h =
     let f = found (is_decide k) J h in
     let d = decide_is k f.element f.passes in
-    record { index = f.index; decision = d.decision; at = subst (λ w. At J f.index w) d.is f.stands }
+    record { index = f.index; decision = d.decision; at = subst (λ w. At J f.index w) d.is f.located }

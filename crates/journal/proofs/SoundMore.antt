@@ -4,18 +4,18 @@ use Rattle.std.proofs.lemmas.Bool.{both_ways}
 use Rattle.std.proofs.lemmas.List.{length_push, take-append-le}
 use Rattle.settlement.specs.declared.outcome.Outcome.{Outcome}
 use Rattle.journal.specs.Terms.{Terms, claims_of}
-use Rattle.journal.specs.Events.{At, accepted, places, ended, closed, taken, decided, is_close, is_intake, lane_at, due}
-use Rattle.journal.specs.Lawful.{counted, EndsWhole, ClosesWhenDue, TakesInTurn, DecidesRight, Sound, IsReady, IsNextClaim, IsNextEnd, IsNextClose, IsNextDecision, Fits}
+use Rattle.journal.specs.Events.{At, accepted_count, places, has_end, closed, has_take, has_decision, is_close, is_intake, lane_at, due}
+use Rattle.journal.specs.Lawful.{numbers_below, EndsWhole, ClosesWhenDue, TakesInTurn, DecidesRight, Sound, IsReady, IsNextClaim, IsNextEnd, IsNextClose, IsNextDecision, Fits}
 use Rattle.journal.specs.declared.event.Event.{Event}
 use Rattle.journal.specs.declared.event.Event.TheVariants.{Accept, End, Close, Take, Decide}
 use Rattle.journal.proofs.Grown.{earlier, newest, grown, list_any-at}
 use Rattle.journal.proofs.Appends.{same, next, placed, accepted-take, lane_at-append, IsSettled-append}
 
-counted_push : (xs : List ℕ) (x : ℕ) → x ≡ length xs → xs ≡ counted (length xs) → xs ++ x ∷ [] ≡ counted (length (xs ++ x ∷ []))
+counted_push : (xs : List ℕ) (x : ℕ) → x ≡ length xs → xs ≡ numbers_below (length xs) → xs ++ x ∷ [] ≡ numbers_below (length (xs ++ x ∷ []))
 counted_push xs x is h =
     let long : length (xs ++ x ∷ []) ≡ suc (length xs) = length_push xs x ∙ add-one (length xs) in
-    let here : xs ++ x ∷ [] ≡ counted (length xs) ++ length xs ∷ [] = ap (λ w. w ++ x ∷ []) h ∙ ap (λ w. counted (length xs) ++ w ∷ []) is in
-    here ∙ ap counted (sym long)
+    let here : xs ++ x ∷ [] ≡ numbers_below (length xs) ++ length xs ∷ [] = ap (λ w. w ++ x ∷ []) h ∙ ap (λ w. numbers_below (length xs) ++ w ∷ []) is in
+    here ∙ ap numbers_below (sym long)
 
 -- a closed journal accepts no more claims and ends no more providers
 no_intake : (T : Terms) (J : List Event) (event : Event) → Fits T J event → closed J ≡ true → is_intake event ≡ false
@@ -26,13 +26,13 @@ no_intake T J (Take k) f h = refl
 no_intake T J (Decide k o) f h = refl
 
 module _ (T : Terms) (J : List Event) (event : Event) (S : Sound T J) (fits : Fits T J event) where
-  in_order_more : (provider : ℕ) → places (J ++ event ∷ []) provider ≡ counted (length (places (J ++ event ∷ []) provider))
+  in_order_more : (provider : ℕ) → places (J ++ event ∷ []) provider ≡ numbers_below (length (places (J ++ event ∷ []) provider))
   in_order_more provider =
       elim (placed J event provider) [
-        | same e ↦ subst (λ w. w ≡ counted (length w)) (sym e) (S.in_order provider)
+        | same e ↦ subst (λ w. w ≡ numbers_below (length w)) (sym e) (S.in_order provider)
         | next place is e ↦
             let f : IsNextClaim T J provider place = subst (Fits T J) is fits in
-            subst (λ w. w ≡ counted (length w)) (sym e) (counted_push (places J provider) place f.place_is (S.in_order provider))
+            subst (λ w. w ≡ numbers_below (length w)) (sym e) (counted_push (places J provider) place f.place_is (S.in_order provider))
       ]
 
   within_more : (provider : ℕ) → length (places (J ++ event ∷ []) provider) ≤ length (claims_of T provider)
@@ -70,8 +70,8 @@ module _ (T : Terms) (J : List Event) (event : Event) (S : Sound T J) (fits : Fi
             record {
               known = old.known;
               whole = ap length stay ∙ old.whole;
-              behind = ap (λ w. places w provider) front ∙ old.behind ∙ sym stay;
-              once = ap (λ w. ended w provider) front ∙ old.once;
+              following = ap (λ w. places w provider) front ∙ old.following ∙ sym stay;
+              once = ap (λ w. has_end w provider) front ∙ old.once;
             }
         | newest at is front ↦
             let f : IsNextEnd T J provider = subst (Fits T J) is fits in
@@ -79,8 +79,8 @@ module _ (T : Terms) (J : List Event) (event : Event) (S : Sound T J) (fits : Fi
             record {
               known = f.known;
               whole = ap length stay ∙ f.whole;
-              behind = ap (λ w. places w provider) front ∙ sym stay;
-              once = ap (λ w. ended w provider) front ∙ f.once;
+              following = ap (λ w. places w provider) front ∙ sym stay;
+              once = ap (λ w. has_end w provider) front ∙ f.once;
             }
       ]
 
@@ -114,7 +114,7 @@ module _ (T : Terms) (J : List Event) (event : Event) (S : Sound T J) (fits : Fi
             }
       ]
 
-  member_stays : (k : ℕ) → k < accepted J → lane_at T (J ++ event ∷ []) k ≡ lane_at T J k
+  member_stays : (k : ℕ) → k < accepted_count J → lane_at T (J ++ event ∷ []) k ≡ lane_at T J k
   member_stays k below = lane_at-append T J (event ∷ []) k below
 
   takes_more : (i k : ℕ) → At (J ++ event ∷ []) i (Take k) → TakesInTurn T (J ++ event ∷ []) i k
@@ -122,22 +122,22 @@ module _ (T : Terms) (J : List Event) (event : Event) (S : Sound T J) (fits : Fi
       elim (grown J event (Take k) i h) [
         | earlier at front below ↦
             let old = S.takes i k at in
-            let within : accepted (take i J) ≤ accepted J = accepted-take i J in
-            let here : k < accepted (take i J) = old.behind in
+            let within : accepted_count (take i J) ≤ accepted_count J = accepted-take i J in
+            let here : k < accepted_count (take i J) = old.following in
             record {
-              behind = subst (λ w. k < accepted w) (sym front) old.behind;
-              once = ap (λ w. taken w k) front ∙ old.once;
+              following = subst (λ w. k < accepted_count w) (sym front) old.following;
+              once = ap (λ w. has_take w k) front ∙ old.once;
               in_turn = λ j l m.
-                  ap (λ w. decided w j) front ∙ old.in_turn j l (sym (member_stays j (omega arith)) ∙ m ∙ member_stays k (omega arith));
+                  ap (λ w. has_decision w j) front ∙ old.in_turn j l (sym (member_stays j (omega arith)) ∙ m ∙ member_stays k (omega arith));
             }
         | newest at is front ↦
             let f : IsReady T J k = subst (Fits T J) is fits in
-            let here : k < accepted J = f.behind in
+            let here : k < accepted_count J = f.following in
             record {
-              behind = subst (λ w. k < accepted w) (sym front) f.behind;
-              once = ap (λ w. taken w k) front ∙ f.once;
+              following = subst (λ w. k < accepted_count w) (sym front) f.following;
+              once = ap (λ w. has_take w k) front ∙ f.once;
               in_turn = λ j l m.
-                  ap (λ w. decided w j) front ∙ f.in_turn j l (sym (member_stays j (omega arith)) ∙ m ∙ member_stays k (omega arith));
+                  ap (λ w. has_decision w j) front ∙ f.in_turn j l (sym (member_stays j (omega arith)) ∙ m ∙ member_stays k (omega arith));
             }
       ]
 
@@ -147,15 +147,15 @@ module _ (T : Terms) (J : List Event) (event : Event) (S : Sound T J) (fits : Fi
         | earlier at front below ↦
             let old = S.decides i k decision at in
             record {
-              behind = ap (λ w. taken w k) front ∙ old.behind;
-              once = ap (λ w. decided w k) front ∙ old.once;
+              following = ap (λ w. has_take w k) front ∙ old.following;
+              once = ap (λ w. has_decision w k) front ∙ old.once;
               settled = IsSettled-append T J (event ∷ []) k decision old.settled;
             }
         | newest at is front ↦
             let f : IsNextDecision T J k decision = subst (Fits T J) is fits in
             record {
-              behind = ap (λ w. taken w k) front ∙ f.behind;
-              once = ap (λ w. decided w k) front ∙ f.once;
+              following = ap (λ w. has_take w k) front ∙ f.following;
+              once = ap (λ w. has_decision w k) front ∙ f.once;
               settled = IsSettled-append T J (event ∷ []) k decision f.settled;
             }
       ]

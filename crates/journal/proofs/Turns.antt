@@ -9,13 +9,13 @@ use Rattle.std.proofs.lemmas.Slice.Eq.{bytes_eq-Decides}
 use Rattle.settlement.specs.declared.claim.Claim.{Claim}
 use Rattle.settlement.specs.Accounts.{family_of}
 use Rattle.journal.specs.Terms.{Terms}
-use Rattle.journal.specs.Events.{At, claims, claim_at, lane_at, is_of, is_take, taken, is_decide, decided, positions_in, positions}
+use Rattle.journal.specs.Events.{At, claims, claim_at, lane_at, is_of, is_take, has_take, is_decide, has_decision, positions_in, positions}
 use Rattle.journal.specs.Lawful.{Sound, Lawful}
 use Rattle.journal.specs.Turns.{Step, TakeOf, DecisionOf, steps_in, steps, one_by_one, BeginsWith}
 use Rattle.journal.specs.declared.event.Event.{Event}
 use Rattle.journal.specs.declared.event.Event.TheVariants.{Accept, End, Close, Take, Decide}
 use Rattle.journal.proofs.Fronts.{same_head, same_tail}
-use Rattle.journal.proofs.Marks.{decision_stands, take_stands}
+use Rattle.journal.proofs.Marks.{decision_located, take_located}
 
 abbrev is_taken : ℕ → Step → Bool
 is_taken k (TakeOf j) = j == k
@@ -59,8 +59,8 @@ not_first : (k : ℕ) (b : ℕ) (s : Step) → TakeOf b ≡ s → is_taken k s �
 not_first k b s is fresh e = both_ways (is_taken k s) fresh (ap (is_taken k) (sym is) ∙ eq-eqb b k e)
 
 -- two steps before lists of steps
-behind_two : (b : ℕ) (s t : Step) (xs ys r : List Step) → TakeOf b ≡ s → DecisionOf b ≡ t → ys ≡ xs ++ r → TakeOf b ∷ DecisionOf b ∷ ys ≡ s ∷ t ∷ (xs ++ r)
-behind_two b s t xs ys r p q h =
+after_two : (b : ℕ) (s t : Step) (xs ys r : List Step) → TakeOf b ≡ s → DecisionOf b ≡ t → ys ≡ xs ++ r → TakeOf b ∷ DecisionOf b ∷ ys ≡ s ∷ t ∷ (xs ++ r)
+after_two b s t xs ys r p q h =
     ap (λ w. TakeOf b ∷ DecisionOf b ∷ w) h ∙ ap (λ w. w ∷ DecisionOf b ∷ (xs ++ r)) p ∙ ap (λ w. s ∷ w ∷ (xs ++ r)) q
 
 -- the next take: the earlier claims are decided, and the claim is not taken
@@ -106,19 +106,19 @@ put_take (b ∷ ks) (s ∷ t ∷ S) n k rising h before fresh front =
           ]
     ] in
     let rest = put_take ks S (suc b) k rising.1 next.1 later (or_parts (is_taken k t) (list_any (is_taken k) S) parts.1).1 (record { rest = front.rest; is = left }) in
-    record { rest = rest.rest; is = behind_two b s t (S ++ TakeOf k ∷ []) (one_by_one ks) rest.rest is is_two rest.is }
+    record { rest = rest.rest; is = after_two b s t (S ++ TakeOf k ∷ []) (one_by_one ks) rest.rest is is_two rest.is }
 
 -- the next decision: the claim is taken and not decided
 put_decision : (ks : List ℕ) (S : List Step) (k : ℕ) → list_any (is_taken k) S ≡ true → list_any (is_decided k) S ≡ false
     → BeginsWith S (one_by_one ks) → BeginsWith (S ++ DecisionOf k ∷ []) (one_by_one ks)
-put_decision ks [] k behind fresh front = absurd (both_ways false refl behind)
-put_decision [] (s ∷ S) k behind fresh front =
+put_decision ks [] k following fresh front = absurd (both_ways false refl following)
+put_decision [] (s ∷ S) k following fresh front =
     let long : 0 ≡ suc (length (S ++ front.rest)) = ap length front.is in
     let none : ⊥ = omega arith in
     absurd none
-put_decision (b ∷ ks) (s ∷ []) k behind fresh front =
+put_decision (b ∷ ks) (s ∷ []) k following fresh front =
     let is : TakeOf b ≡ s = same_head (TakeOf b) s (DecisionOf b ∷ one_by_one ks) front.rest front.is in
-    elim (or_cases (is_taken k s) false behind) [
+    elim (or_cases (is_taken k s) false following) [
       | inl here ↦
           let same : b ≡ k = eqb-true b k (ap (is_taken k) is ∙ here) in
           record {
@@ -127,7 +127,7 @@ put_decision (b ∷ ks) (s ∷ []) k behind fresh front =
           }
       | inr none ↦ absurd (both_ways false refl none)
     ]
-put_decision (b ∷ ks) (s ∷ t ∷ S) k behind fresh front =
+put_decision (b ∷ ks) (s ∷ t ∷ S) k following fresh front =
     let is : TakeOf b ≡ s = same_head (TakeOf b) s (DecisionOf b ∷ one_by_one ks) (t ∷ (S ++ front.rest)) front.is in
     let two : DecisionOf b ∷ one_by_one ks ≡ t ∷ (S ++ front.rest) = same_tail (TakeOf b) s (DecisionOf b ∷ one_by_one ks) (t ∷ (S ++ front.rest)) front.is in
     let is_two : DecisionOf b ≡ t = same_head (DecisionOf b) t (one_by_one ks) (S ++ front.rest) two in
@@ -136,7 +136,7 @@ put_decision (b ∷ ks) (s ∷ t ∷ S) k behind fresh front =
     let more = or_parts (is_decided k t) (list_any (is_decided k) S) parts.1 in
     let other : b ≢ k = λ e. both_ways (is_decided k t) more.0 (ap (is_decided k) (sym is_two) ∙ eq-eqb b k e) in
     let taken_later : list_any (is_taken k) S ≡ true =
-    elim (or_cases (is_taken k s) (is_taken k t || list_any (is_taken k) S) behind) [
+    elim (or_cases (is_taken k s) (is_taken k t || list_any (is_taken k) S) following) [
       | inl here ↦ absurd (other (eqb-true b k (ap (is_taken k) is ∙ here)))
       | inr later ↦
           elim (or_cases (is_taken k t) (list_any (is_taken k) S) later) [
@@ -145,7 +145,7 @@ put_decision (b ∷ ks) (s ∷ t ∷ S) k behind fresh front =
           ]
     ] in
     let rest = put_decision ks S k taken_later more.1 (record { rest = front.rest; is = left }) in
-    record { rest = rest.rest; is = behind_two b s t (S ++ DecisionOf k ∷ []) (one_by_one ks) rest.rest is is_two rest.is }
+    record { rest = rest.rest; is = after_two b s t (S ++ DecisionOf k ∷ []) (one_by_one ks) rest.rest is is_two rest.is }
 
 -- an element passes the test in one of the lists if and only if it does in their concatenation
 flat_map-any : {X A : Type 0} (test : A → Bool) (f : X → List A) (xs : List X) (i : ℕ) (x : X) → slice_get xs i ≡ Some x → list_any test (f x) ≡ true → list_any test (flat_map f xs) ≡ true
@@ -255,31 +255,31 @@ module _ (T : Terms) (J : List Event) (S : Sound T J) (member : List ℕ) where
   abbrev so_far : ℕ → List Step
   so_far i = flat_map (steps_in (claims T J) member) (take i J)
 
-  taken_step : (i k : ℕ) → is_of member (claim_at T J k) ≡ true → taken (take i J) k ≡ true → list_any (is_taken k) (so_far i) ≡ true
+  taken_step : (i k : ℕ) → is_of member (claim_at T J k) ≡ true → has_take (take i J) k ≡ true → list_any (is_taken k) (so_far i) ≡ true
   taken_step i k mine h =
-      let s = take_stands (take i J) k h in
+      let s = take_located (take i J) k h in
       flat_map-any (is_taken k) (steps_in (claims T J) member) (take i J) s.index (Take k) s.at
       (ap (list_any (is_taken k)) (cond-true (is_of member (claim_at T J k)) (TakeOf k ∷ []) [] mine) ∙ or_left (k == k) false (eq-eqb k k refl))
 
-  decided_step : (i k : ℕ) → is_of member (claim_at T J k) ≡ true → decided (take i J) k ≡ true → list_any (is_decided k) (so_far i) ≡ true
+  decided_step : (i k : ℕ) → is_of member (claim_at T J k) ≡ true → has_decision (take i J) k ≡ true → list_any (is_decided k) (so_far i) ≡ true
   decided_step i k mine h =
-      let s = decision_stands (take i J) k h in
+      let s = decision_located (take i J) k h in
       flat_map-any (is_decided k) (steps_in (claims T J) member) (take i J) s.index (Decide k s.decision) s.at
       (ap (list_any (is_decided k)) (cond-true (is_of member (claim_at T J k)) (DecisionOf k ∷ []) [] mine) ∙ or_left (k == k) false (eq-eqb k k refl))
 
-  untaken_step : (i k : ℕ) → taken (take i J) k ≡ false → list_any (is_taken k) (so_far i) ≡ false
+  untaken_step : (i k : ℕ) → has_take (take i J) k ≡ false → list_any (is_taken k) (so_far i) ≡ false
   untaken_step i k once =
       false_from_ne_true (list_any (is_taken k) (so_far i))
       (λ h.
-      both_ways (taken (take i J) k) once
+      both_ways (has_take (take i J) k) once
       (any_imp (λ e. list_any (is_taken k) (steps_in (claims T J) member e)) (is_take k) (take i J) (take_from k)
       (any_in_flat_map (is_taken k) (steps_in (claims T J) member) (take i J) h)))
 
-  undecided_step : (i k : ℕ) → decided (take i J) k ≡ false → list_any (is_decided k) (so_far i) ≡ false
+  undecided_step : (i k : ℕ) → has_decision (take i J) k ≡ false → list_any (is_decided k) (so_far i) ≡ false
   undecided_step i k once =
       false_from_ne_true (list_any (is_decided k) (so_far i))
       (λ h.
-      both_ways (decided (take i J) k) once
+      both_ways (has_decision (take i J) k) once
       (any_imp (λ e. list_any (is_decided k) (steps_in (claims T J) member e)) (is_decide k) (take i J) (decision_from k)
       (any_in_flat_map (is_decided k) (steps_in (claims T J) member) (take i J) h)))
 
@@ -300,7 +300,7 @@ module _ (T : Terms) (J : List Event) (S : Sound T J) (member : List ℕ) where
       → BeginsWith (so_far i ++ DecisionOf k ∷ []) (one_by_one (positions T J member))
   decision_mine i k o at mine front =
       let d = S.decides i k o at in
-      put_decision (positions T J member) (so_far i) k (taken_step i k mine d.behind) (undecided_step i k d.once) front
+      put_decision (positions T J member) (so_far i) k (taken_step i k mine d.following) (undecided_step i k d.once) front
 
   put_by : (i : ℕ) (b : Bool) (s : Step) → BeginsWith (so_far i) (one_by_one (positions T J member))
       → (b ≡ true → BeginsWith (so_far i ++ s ∷ []) (one_by_one (positions T J member))) → BeginsWith (so_far i ++ cond b (s ∷ []) []) (one_by_one (positions T J member))

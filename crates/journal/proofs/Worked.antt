@@ -6,7 +6,7 @@ use Rattle.settlement.specs.declared.claim.Claim.{Claim}
 use Rattle.settlement.specs.declared.outcome.Outcome.{Outcome}
 use Rattle.settlement.specs.Accounts.{family_of}
 use Rattle.journal.specs.Terms.{Terms, IsProvider}
-use Rattle.journal.specs.Events.{closed, lane_at, decided}
+use Rattle.journal.specs.Events.{closed, lane_at, has_decision}
 use Rattle.journal.specs.Lawful.{Lawful, Finished, IsReady, IsNextClaim, IsNextEnd}
 use Rattle.journal.specs.TestWords.{EmptyFileFinishes, NothingIsAccepted, TwoFiles, terms_of, in_work, MembersTakeTurns, AnswersInTurn, AnswersOnce, AnswersStopped, AnswersClosed, gate_at, cutoff_zero}
 use Rattle.journal.specs.declared.event.Event.{Event}
@@ -38,7 +38,7 @@ module _ (w : TwoFiles) where
   taken_first : Lawful (terms_of w) (Accept 1 0 ∷ Take 0 ∷ [])
   taken_first =
       let fits : IsReady (terms_of w) (Accept 1 0 ∷ []) 0 =
-      record { behind = omega arith; once = refl; in_turn = λ k l m. let none : ⊥ = omega arith in absurd none } in
+      record { following = omega arith; once = refl; in_turn = λ k l m. let none : ⊥ = omega arith in absurd none } in
       lawful_more (terms_of w) (Accept 1 0 ∷ []) (Take 0) accepted_first fits
 
   accepted_second : Lawful (terms_of w) (Accept 1 0 ∷ Take 0 ∷ Accept 1 1 ∷ [])
@@ -54,9 +54,9 @@ module _ (w : TwoFiles) where
   waits : ¬ IsReady (terms_of w) in_work 1
   waits r =
       let same : lane_at (terms_of w) in_work 0 ≡ lane_at (terms_of w) in_work 1 = ap Some (sym w.same_family) in
-      both_ways (decided in_work 0) refl (r.in_turn 0 (omega arith) same)
+      both_ways (has_decision in_work 0) refl (r.in_turn 0 (omega arith) same)
 
-  turn : (k : ℕ) → k < 2 → lane_at (terms_of w) in_work k ≡ lane_at (terms_of w) in_work 2 → decided in_work k ≡ true
+  turn : (k : ℕ) → k < 2 → lane_at (terms_of w) in_work k ≡ lane_at (terms_of w) in_work 2 → has_decision in_work k ≡ true
   turn zero l m = absurd (w.other_family (sym (same_Some (family_of w.first) (family_of w.other) m)))
   turn (suc zero) l m = absurd (w.other_family (sym (same_Some (family_of w.second) (family_of w.other) m) ∙ w.same_family))
   turn (suc (suc k)) l m = let none : ⊥ = omega arith in absurd none
@@ -66,7 +66,7 @@ module _ (w : TwoFiles) where
     lawful = accepted_other;
     first_in_work = λ r. both_ways true r.once refl;
     second_waits = waits;
-    other_is_ready = record { behind = omega arith; once = refl; in_turn = turn };
+    other_is_ready = record { following = omega arith; once = refl; in_turn = turn };
   }
 
   not_over : (J : List Event) → closed J ≡ false → ¬ Finished (terms_of w) J
@@ -78,18 +78,18 @@ module _ (w : TwoFiles) where
   none_ready : (k : ℕ) → ¬ IsReady (terms_of w) (Accept 1 0 ∷ Take 0 ∷ []) k
   none_ready zero r = both_ways true r.once refl
   none_ready (suc k) r =
-      let behind : suc k < 1 = r.behind in
+      let following : suc k < 1 = r.following in
       let none : ⊥ = omega arith in
       none
 
   first_ready : IsReady (terms_of w) (Accept 1 0 ∷ []) 0
-  first_ready = record { behind = omega arith; once = refl; in_turn = λ k l m. let none : ⊥ = omega arith in absurd none }
+  first_ready = record { following = omega arith; once = refl; in_turn = λ k l m. let none : ⊥ = omega arith in absurd none }
 
   pub answers_in_turn : AnswersInTurn w
   answers_in_turn = record {
     first_is_accepted = ((refl, refl), refl, refl, refl);
     first_again = ((refl, refl), refl, zero_one, refl);
-    first_is_taken = (refl, not_over (Accept 1 0 ∷ []) refl, record { ready = first_ready; job = record { stands = refl; left = refl } }, refl);
+    first_is_taken = (refl, not_over (Accept 1 0 ∷ []) refl, record { ready = first_ready; job = record { located = refl; left = refl } }, refl);
     nothing_is_ready = (refl, not_over (Accept 1 0 ∷ Take 0 ∷ []) refl, none_ready, refl);
     too_few = ((refl, refl), refl, omega arith, refl);
     first_ends = ((refl, refl), omega arith, refl, refl);
@@ -98,9 +98,9 @@ module _ (w : TwoFiles) where
   }
 
   second_ready : (decision : Outcome) → IsReady (terms_of w) (in_work ++ Decide 0 decision ∷ []) 1
-  second_ready decision = record { behind = omega arith; once = refl; in_turn = before_second } where
+  second_ready decision = record { following = omega arith; once = refl; in_turn = before_second } where
     before_second : (k : ℕ) → k < 1 → lane_at (terms_of w) (in_work ++ Decide 0 decision ∷ []) k ≡ lane_at (terms_of w) (in_work ++ Decide 0 decision ∷ []) 1
-        → decided (in_work ++ Decide 0 decision ∷ []) k ≡ true
+        → has_decision (in_work ++ Decide 0 decision ∷ []) k ≡ true
     before_second zero l m = refl
     before_second (suc k) l m = let none : ⊥ = omega arith in absurd none
 

@@ -5,7 +5,7 @@ use Rattle.std.specs.List.{list_any}
 use Rattle.std.specs.Str.{bytes_eq}
 use Rattle.dtable.specs.Plan.{PlanParts}
 use Rattle.journal.specs.Settled.{outcome_of, accumulated}
-use Rattle.settlement.specs.Accounts.{Account, account_of, family_of, is_household, is_same}
+use Rattle.settlement.specs.Accounts.{Account, account_of, family_of, is_family_year, is_same}
 use Rattle.settlement.specs.declared.acc.Acc.{Acc}
 use Rattle.settlement.specs.declared.claim.Claim.{Claim}
 use Rattle.settlement.specs.declared.outcome.Outcome.{Outcome}
@@ -32,8 +32,8 @@ abbrev pub accepts : List Event → List Filed
 accepts J = flat_map accept_in J
 
 -- the number of accepted claims
-abbrev pub accepted : List Event → ℕ
-accepted J = length (accepts J)
+abbrev pub accepted_count : List Event → ℕ
+accepted_count J = length (accepts J)
 
 abbrev pub place_in : ℕ → Event → List ℕ
 place_in provider (Accept p place) = cond (p == provider) (place ∷ []) []
@@ -48,8 +48,8 @@ is_end provider (End p) = p == provider
 is_end provider _ = false
 
 -- the provider has ended
-abbrev pub ended : List Event → ℕ → Bool
-ended J provider = list_any (is_end provider) J
+abbrev pub has_end : List Event → ℕ → Bool
+has_end J provider = list_any (is_end provider) J
 
 abbrev pub is_close : Event → Bool
 is_close Close = true
@@ -64,16 +64,16 @@ is_take position (Take k) = k == position
 is_take position _ = false
 
 -- the claim at the position was taken
-abbrev pub taken : List Event → ℕ → Bool
-taken J position = list_any (is_take position) J
+abbrev pub has_take : List Event → ℕ → Bool
+has_take J position = list_any (is_take position) J
 
 abbrev pub is_decide : ℕ → Event → Bool
 is_decide position (Decide k o) = k == position
 is_decide position _ = false
 
 -- the claim at the position was decided
-abbrev pub decided : List Event → ℕ → Bool
-decided J position = list_any (is_decide position) J
+abbrev pub has_decision : List Event → ℕ → Bool
+has_decision J position = list_any (is_decide position) J
 
 -- the event is an accept or an end
 abbrev pub is_intake : Event → Bool
@@ -122,7 +122,7 @@ Book = Account → Acc
 abbrev pub noted : PlanParts → Book → Option Claim → Book
 noted plan book None account = book account
 noted plan book (Some claim) account =
-    accumulated (is_same (account_of plan claim) account) (is_household (account_of plan claim) account) (book account) (outcome_of plan claim (book (account_of plan claim)))
+    accumulated (is_same (account_of plan claim) account) (is_family_year (account_of plan claim) account) (book account) (outcome_of plan claim (book (account_of plan claim)))
 
 -- the accumulators of an account before a position: the opening balance, and what the earlier
 -- claims have added
@@ -131,26 +131,26 @@ before T J position = fold (noted T.plan) (opening T.balances) (take position (c
 
 -- the job at a position: its claim, and the accumulators of its account before it
 pub record IsJob (T : Terms) (J : List Event) (position : ℕ) (claim : Claim) (acc : Acc) : Type 0 where
-  pub stands : claim_at T J position ≡ Some claim
+  pub located : claim_at T J position ≡ Some claim
   pub left : acc ≡ before T J position (account_of T.plan claim)
 
 -- the outcome is the settlement of the claim at this position, at the accumulators of its account
 -- before it
 pub record IsSettled (T : Terms) (J : List Event) (position : ℕ) (decision : Outcome) : Type 0 where
   pub claim : Claim
-  pub stands : claim_at T J position ≡ Some claim
+  pub located : claim_at T J position ≡ Some claim
   pub value : decision ≡ outcome_of T.plan claim (before T J position (account_of T.plan claim))
 
 -- the number of accepted claims is the cutoff
 abbrev pub reached : Option ℕ → ℕ → Bool
-reached None accepted = false
-reached (Some cutoff) accepted = accepted == cutoff
+reached None accepted_count = false
+reached (Some cutoff) accepted_count = accepted_count == cutoff
 
 -- the first n providers have ended
 abbrev pub all_ended : ℕ → List Event → Bool
 all_ended zero J = true
-all_ended (suc n) J = ended J (suc n) && all_ended n J
+all_ended (suc n) J = has_end J (suc n) && all_ended n J
 
 -- the close is due: the number of accepted claims is the cutoff, or every provider has ended
 abbrev pub due : Terms → List Event → Bool
-due T J = reached T.cutoff (accepted J) || all_ended (length T.files) J
+due T J = reached T.cutoff (accepted_count J) || all_ended (length T.files) J

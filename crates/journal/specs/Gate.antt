@@ -5,7 +5,7 @@ use Rattle.settlement.specs.declared.claim.Claim.{Claim}
 use Rattle.settlement.specs.declared.outcome.Outcome.{Outcome}
 use Rattle.journal.specs.Terms.{Terms}
 use Rattle.journal.specs.Settled.{outcome_of}
-use Rattle.journal.specs.Events.{accepted, places, ended, closed, taken, decided, IsJob}
+use Rattle.journal.specs.Events.{accepted_count, places, has_end, closed, has_take, has_decision, IsJob}
 use Rattle.journal.specs.Lawful.{Finished, IsReady, closing}
 use Rattle.journal.specs.declared.event.Event.{Event}
 use Rattle.journal.specs.declared.event.Event.TheVariants.{Accept, End, Take, Decide}
@@ -84,7 +84,7 @@ Offers old provider place Closed new = IsRunning old × (closed old.journal ≡ 
 Offers old provider place (OutOfTurn expected) new =
     IsOpen old × (expected ≡ length (places old.journal provider)) × (place ≢ expected) × (new ≡ old)
 Offers old provider place (Accepted position) new =
-    IsOpen old × (place ≡ length (places old.journal provider)) × (position ≡ accepted old.journal) × AddsAndCloses old (Accept provider place) new
+    IsOpen old × (place ≡ length (places old.journal provider)) × (position ≡ accepted_count old.journal) × AddsAndCloses old (Accept provider place) new
 Offers old provider place NoMemory new = new ≡ old
 
 -- `end` of a provider with the given number of claims: the provider ends if that number of claims
@@ -95,9 +95,9 @@ Ends old provider count Closed new = IsRunning old × (closed old.journal ≡ tr
 Ends old provider count (OutOfTurn expected) new =
     IsOpen old × (expected ≡ length (places old.journal provider)) × (expected < count) × (new ≡ old)
 Ends old provider count AlreadyEnded new =
-    IsOpen old × (count ≤ length (places old.journal provider)) × (ended old.journal provider ≡ true) × (new ≡ old)
+    IsOpen old × (count ≤ length (places old.journal provider)) × (has_end old.journal provider ≡ true) × (new ≡ old)
 Ends old provider count Ended new =
-    IsOpen old × (count ≤ length (places old.journal provider)) × (ended old.journal provider ≡ false) × AddsAndCloses old (End provider) new
+    IsOpen old × (count ≤ length (places old.journal provider)) × (has_end old.journal provider ≡ false) × AddsAndCloses old (End provider) new
 Ends old provider count NoMemory new = new ≡ old
 
 -- the job at a ready position
@@ -118,15 +118,15 @@ Takes old NoMemory new = new ≡ old
 -- `finish` of the job at a position with an outcome
 abbrev pub Finishes : GateAt → ℕ → Outcome → FinishReply → GateAt → Type 0
 Finishes old position decision Stopped new = (old.stopped ≡ true) × (new ≡ old)
-Finishes old position decision AlreadyDecided new = IsRunning old × (decided old.journal position ≡ true) × (new ≡ old)
+Finishes old position decision AlreadyDecided new = IsRunning old × (has_decision old.journal position ≡ true) × (new ≡ old)
 Finishes old position decision Recorded new =
-    IsRunning old × (decided old.journal position ≡ false) × Adds old (Decide position decision) new
+    IsRunning old × (has_decision old.journal position ≡ false) × Adds old (Decide position decision) new
 Finishes old position decision NoMemory new = new ≡ old
 
 -- the condition of `finish`: the position was taken, the job is the one at the position, and the
 -- outcome is its settlement
 pub record MayFinish (old : GateAt) (position : ℕ) (claim : Claim) (acc : Acc) (decision : Outcome) : Type 0 where
-  pub in_work : taken old.journal position ≡ true
+  pub in_work : has_take old.journal position ≡ true
   pub job : IsJob old.terms old.journal position claim acc
   pub settled : decision ≡ outcome_of old.terms.plan claim acc
 
@@ -145,7 +145,7 @@ is_any_decision _ = false
 -- `counts` of the gate: the numbers of claims accepted, providers ended and claims decided, and
 -- whether the gate is closed and stopped
 pub record Counts (g : GateAt) (accepts ends decisions : ℕ) (is_closed is_stopped : Bool) : Type 0 where
-  pub accepts_is : accepts ≡ accepted g.journal
+  pub accepts_is : accepts ≡ accepted_count g.journal
   pub ends_is : ends ≡ count_by is_any_end g.journal
   pub decisions_is : decisions ≡ count_by is_any_decision g.journal
   pub closed_is : is_closed ≡ closed g.journal

@@ -4,23 +4,23 @@ use Rattle.settlement.specs.declared.acc.Acc.{Acc}
 use Rattle.settlement.specs.declared.claim.Claim.{Claim}
 use Rattle.settlement.specs.declared.outcome.Outcome.{Outcome}
 use Rattle.journal.specs.Terms.{Terms, IsProvider, claims_of, all_claims, at_most}
-use Rattle.journal.specs.Events.{accepted, IsJob}
+use Rattle.journal.specs.Events.{accepted_count, IsJob}
 use Rattle.journal.specs.Lawful.{Lawful, Finished, Fits, closing}
 use Rattle.journal.specs.Gate.{GateAt, LeadsTo, OfferReply, EndReply, TakeReply, FinishReply, Offers, Ends, Takes, MayFinish, Finishes, Stops}
 use Rattle.journal.specs.declared.event.Event.{Event}
 
 -- the empty journal, with the close if it is due at once, is lawful
-abbrev pub StartsLawful : Type 0
-StartsLawful = (T : Terms) → Lawful T (closing T [])
+abbrev pub EmptyJournalIsLawful : Type 0
+EmptyJournalIsLawful = (T : Terms) → Lawful T (closing T [])
 
 -- a lawful journal stays lawful when an event that fits is appended, followed by the close if it is
 -- then due
-abbrev pub StaysLawful : Type 0
-StaysLawful = (T : Terms) (J : List Event) (event : Event) → Lawful T J → Fits T J event → Lawful T (closing T (J ++ event ∷ []))
+abbrev pub FittingEventKeepsLawful : Type 0
+FittingEventKeepsLawful = (T : Terms) (J : List Event) (event : Event) → Lawful T J → Fits T J event → Lawful T (closing T (J ++ event ∷ []))
 
 -- a finished journal has accepted all claims, or as many as the cutoff if that is less
 abbrev pub FinishedTakesAll : Type 0
-FinishedTakesAll = (T : Terms) (J : List Event) → Finished T J → accepted J ≡ at_most T.cutoff (all_claims T)
+FinishedTakesAll = (T : Terms) (J : List Event) → Finished T J → accepted_count J ≡ at_most T.cutoff (all_claims T)
 
 -- a lawful journal that begins with a finished one is the same journal
 abbrev pub FinishedIsFinal : Type 0
@@ -63,6 +63,6 @@ abbrev pub StopGoes : Type 0
 StopGoes = (old new : GateAt) → Lawful old.terms old.journal → Stops old new → Goes old new
 
 -- if a state leads to another one, a job of the first state is the same job in the second
-abbrev pub JobsStay : Type 0
-JobsStay = (old new : GateAt) (position : ℕ) (claim : Claim) (acc : Acc)
+abbrev pub JobsAreStable : Type 0
+JobsAreStable = (old new : GateAt) (position : ℕ) (claim : Claim) (acc : Acc)
     → LeadsTo old new → IsJob old.terms old.journal position claim acc → IsJob new.terms new.journal position claim acc

@@ -2,7 +2,7 @@
 use Rattle.std.specs.Prelude.{◌≡◌, ◌<◌, ◌≤◌, ℕ, zero, suc, true, List, [], ◌∷◌, ◌++◌, take, length}
 use Rattle.settlement.specs.declared.claim.Claim.{Claim}
 use Rattle.journal.specs.Terms.{Terms}
-use Rattle.journal.specs.Events.{Filed, accepted, accepts, ended}
+use Rattle.journal.specs.Events.{Filed, accepted_count, accepts, has_end}
 use Rattle.journal.specs.Lawful.{IsNextClaim, Lawful}
 use Rattle.journal.specs.declared.event.Event.{Event}
 use Rattle.journal.specs.declared.event.Event.TheVariants.{Accept}
@@ -20,11 +20,11 @@ in_file_order provider (file ∷ rest) = filed_from provider 0 (length file) ++ 
 
 -- the accepted claims are the first ones in the order of the files
 abbrev pub IsInOrder : Terms → List Event → Type 0
-IsInOrder T J = accepts J ≡ take (accepted J) (in_file_order 1 T.files)
+IsInOrder T J = accepts J ≡ take (accepted_count J) (in_file_order 1 T.files)
 
 -- all files before that of the provider have ended
 abbrev pub IsInTurn : List Event → ℕ → Type 0
-IsInTurn J provider = (q : ℕ) → 1 ≤ q → q < provider → ended J q ≡ true
+IsInTurn J provider = (q : ℕ) → 1 ≤ q → q < provider → has_end J q ≡ true
 
 -- the order of the files is preserved if the next claim of a provider is accepted after all earlier
 -- files have ended

@@ -1,6 +1,6 @@
 //! The events of a journal.
 
-use crate::decision::Decision;
+use crate::boxed_outcome::BoxedOutcome;
 
 /// One event of a journal. Providers are numbered from 1, places and positions from 0.
 ///
@@ -32,6 +32,6 @@ pub enum Event {
         /// The position of the claim.
         position: usize,
         /// The outcome of the claim.
-        outcome: Decision,
+        outcome: BoxedOutcome,
     },
 }

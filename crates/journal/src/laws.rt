@@ -1,8 +1,8 @@
 //! Laws of journals and of the states of a gate, to be cited by other proofs. The calls have no
 //! effect.
 ghost use Rattle.journal.specs.Laws.{
-  StartsLawful,
-  StaysLawful,
+  EmptyJournalIsLawful,
+  FittingEventKeepsLawful,
   FinishedTakesAll,
   FinishedIsFinal,
   LeadsToItself,
@@ -13,7 +13,7 @@ ghost use Rattle.journal.specs.Laws.{
   TakeGoes,
   FinishGoes,
   StopGoes,
-  JobsStay,
+  JobsAreStable,
 };
 ghost use Rattle.journal.specs.Order.{StaysInOrder};
 ghost use Rattle.journal.specs.Turns.{TakeTurns};
@@ -21,14 +21,14 @@ ghost use Rattle.journal.specs.Families.{FamiliesAreTheirMembers};
 
 /// The empty journal is lawful. If the close is due at once, the journal with the close alone is
 /// lawful.
-pub fn starts_lawful()
-    ensures { StartsLawful }
+pub fn empty_journal_is_lawful()
+    ensures { EmptyJournalIsLawful }
 {}
 
 /// A lawful journal stays lawful when an event that fits is appended, followed by the close if it
 /// is then due.
-pub fn stays_lawful()
-    ensures { StaysLawful }
+pub fn fitting_event_keeps_lawful()
+    ensures { FittingEventKeepsLawful }
 {}
 
 /// The number of claims that a finished journal has accepted is the number of all claims, or the
@@ -49,13 +49,13 @@ pub fn leads_in_order()
 {}
 
 /// If two states of a gate lead to a third one, one of the two leads to the other.
-pub fn leads_either_way()
+pub fn histories_are_linear()
     ensures { LeadsEither }
 {}
 
 /// Each call of the sequential gate changes a lawful state to a lawful one, and the old state leads
 /// to the new one.
-pub fn gate_stays_lawful()
+pub fn gate_keeps_lawful()
     ensures offer { OfferGoes }
     ensures end { EndGoes }
     ensures take { TakeGoes }
@@ -65,8 +65,8 @@ pub fn gate_stays_lawful()
 
 /// A job that was taken does not change in later states of the gate: its claim and its accumulators
 /// depend only on the claims that were accepted before it.
-pub fn jobs_stay()
-    ensures { JobsStay }
+pub fn jobs_are_stable()
+    ensures { JobsAreStable }
 {}
 
 /// In a lawful journal the claims of a family, those of all its members, are decided one after

@@ -7,16 +7,16 @@
 //! them.
 #![tactic(auto)]
 
-mod decision;
+mod boxed_outcome;
 mod event;
 mod laws;
 
-pub use decision::Decision;
+pub use boxed_outcome::BoxedOutcome;
 pub use event::Event;
 pub use laws::{
-    acceptance_stays_in_order, families_are_their_members, finished_is_final, finished_takes_all,
-    gate_stays_lawful, jobs_stay, leads_either_way, leads_in_order, members_take_turns,
-    starts_lawful, stays_lawful,
+    acceptance_stays_in_order, empty_journal_is_lawful, families_are_their_members,
+    finished_is_final, finished_takes_all, fitting_event_keeps_lawful, gate_keeps_lawful,
+    histories_are_linear, jobs_are_stable, leads_in_order, members_take_turns,
 };
 
 #[cfg(test)]

@@ -23,14 +23,14 @@ fn says_what_is_worked_by_hand() {
 
 #[test]
 fn calls_the_laws() {
-    starts_lawful();
-    stays_lawful();
+    empty_journal_is_lawful();
+    fitting_event_keeps_lawful();
     finished_takes_all();
     finished_is_final();
     leads_in_order();
-    leads_either_way();
-    gate_stays_lawful();
-    jobs_stay();
+    histories_are_linear();
+    gate_keeps_lawful();
+    jobs_are_stable();
     members_take_turns();
     families_are_their_members();
 }

@@ -4,24 +4,24 @@ use Rattle.std.specs.List.{slice_get}
 use Rattle.std.proofs.lemmas.Option.{none-some}
 use Rattle.settlement.specs.Accounts.{Account}
 use Rattle.lanes.specs.Names.{Grows}
-use Rattle.lanes.specs.Chains.{IsKeyOf}
+use Rattle.lanes.specs.FamilyQueues.{IsKeyOf}
 
 -- an unchanged list of names
 pub grows_same : (names : List (List ℕ)) → Grows names names
-grows_same names = record { more = []; behind = sym (append-nil names) }
+grows_same names = record { more = []; following = sym (append-nil names) }
 
 pub grows_still : (old new : List (List ℕ)) → new ≡ old → Grows old new
-grows_still old new same = record { more = []; behind = same ∙ sym (append-nil old) }
+grows_still old new same = record { more = []; following = same ∙ sym (append-nil old) }
 
 -- a list with one more name, or an unchanged list
 pub grows_added : {T E : Type 0} (old new : List (List ℕ)) (name : List ℕ) (r : Result T E) → OnOk r (new ≡ old ++ name ∷ []) → OnErr r (new ≡ old) → Grows old new
-grows_added old new name (Ok x) added refused = record { more = name ∷ []; behind = added }
+grows_added old new name (Ok x) added refused = record { more = name ∷ []; following = added }
 grows_added old new name (Err e) added refused = grows_still old new refused
 
 pub grows_on : (a b c : List (List ℕ)) → Grows a b → Grows b c → Grows a c
 grows_on a b c one two = record {
   more = one.more ++ two.more;
-  behind = two.behind ∙ ap (λ w. w ++ two.more) one.behind ∙ append_assoc a one.more two.more;
+  following = two.following ∙ ap (λ w. w ++ two.more) one.following ∙ append_assoc a one.more two.more;
 }
 
 -- a name has the same number after more names are added
@@ -31,7 +31,7 @@ get-before (y ∷ xs) ys zero x there = there
 get-before (y ∷ xs) ys (suc k) x there = get-before xs ys k x there
 
 pub number_stays : (old new : List (List ℕ)) (k : ℕ) (name : List ℕ) → Grows old new → slice_get old k ≡ Some name → slice_get new k ≡ Some name
-number_stays old new k name grows there = ap (λ w. slice_get w k) grows.behind ∙ get-before old grows.more k name there
+number_stays old new k name grows there = ap (λ w. slice_get w k) grows.following ∙ get-before old grows.more k name there
 
 -- the key of an account whose member is its own family, and of one whose member is not
 pub key_alone : (names : List (List ℕ)) (lane year : ℕ) (account : Account) → slice_get names lane ≡ Some account.family → account.member ≡ account.family

@@ -28,8 +28,8 @@ get-set-within (z ∷ zs) zero x within = refl
 get-set-within (z ∷ zs) (suc i) x within = get-set-within zs i x (omega (arith, within))
 
 -- an item that is read after another one is set has not changed
-pub read-behind : {X : Type 0} (xs : List X) (i j : ℕ) (new x : X) → ¬ (j ≡ i) → j < length xs → x ≡ get_or (slice_set xs i new) j x → slice_get xs j ≡ Some x
-read-behind xs i j new x other within read =
+pub read-following : {X : Type 0} (xs : List X) (i j : ℕ) (new x : X) → ¬ (j ≡ i) → j < length xs → x ≡ get_or (slice_set xs i new) j x → slice_get xs j ≡ Some x
+read-following xs i j new x other within read =
     let size = length-set xs i new in
     sym (get-set-other xs i j new other) ∙ slice_get_read (slice_set xs i new) (length xs) j x (sym size) within read
 

@@ -4,7 +4,7 @@ use Rattle.std.specs.List.{slice_get, slice_set}
 use Rattle.std.proofs.lemmas.Bool.{cases_Bool, cases_eq, cases_order, both_ways, eq-eqb}
 use Rattle.std.proofs.lemmas.List.{length-set, length_push}
 use Rattle.std.proofs.lemmas.Option.{none-some, same_Some, slice_get_within}
-use Rattle.lanes.specs.Chains.{AreLinked, IsEnd, IsFollowedBy, IsLast, IsNext, NoneBehind}
+use Rattle.lanes.specs.FamilyQueues.{AreLinked, IsEnd, IsFollowedBy, IsLast, IsNext, NoneAfter}
 use Rattle.lanes.proofs.Linking.{get-set-other, get-set-within}
 
 -- an item of a longer list is an item of the shorter list or the last one
@@ -27,20 +27,20 @@ get-end [] y = refl
 get-end (z ∷ zs) y = get-end zs y
 
 -- no slot comes after the last one
-none-behind-end : (lanes : List ℕ) (x l : ℕ) → NoneBehind (lanes ++ x ∷ []) l (length lanes)
-none-behind-end lanes x l k behind there =
+none-following-end : (lanes : List ℕ) (x l : ℕ) → NoneAfter (lanes ++ x ∷ []) l (length lanes)
+none-following-end lanes x l k following there =
     let size = length_push lanes x in
     let within = slice_get_within (lanes ++ x ∷ []) k l there in
-    omega (arith, size, within, behind)
+    omega (arith, size, within, following)
 
 -- the added slot is the last of its lane
 new-last : (lanes : List ℕ) (x : ℕ) → IsLast (lanes ++ x ∷ []) x (length lanes)
-new-last lanes x = record { there = get-end lanes x; last = none-behind-end lanes x x }
+new-last lanes x = record { there = get-end lanes x; last = none-following-end lanes x x }
 
 -- the last slot of a lane stays the last if a slot is added to another lane
-none-more : (lanes : List ℕ) (x l k : ℕ) → NoneBehind lanes l k → ¬ (l ≡ x) → NoneBehind (lanes ++ x ∷ []) l k
-none-more lanes x l k none other j behind there = elim (get-push lanes x l j there) [
-  | inl before ↦ none j behind before
+none-more : (lanes : List ℕ) (x l k : ℕ) → NoneAfter lanes l k → ¬ (l ≡ x) → NoneAfter (lanes ++ x ∷ []) l k
+none-more lanes x l k none other j following there = elim (get-push lanes x l j there) [
+  | inl before ↦ none j following before
   | inr last ↦ other (sym last.1)
 ]
 
@@ -51,9 +51,9 @@ followed-more : (lanes : List ℕ) (x l k : ℕ) (next : Option ℕ) → IsFollo
 followed-more lanes x l k None h other = none-more lanes x l k h (other refl)
 followed-more lanes x l k (Some n) h other = record {
   there = get-front lanes x l n h.there;
-  behind = h.behind;
-  first = λ j behind before there. elim (get-push lanes x l j there) [
-    | inl there_before ↦ h.first j behind before there_before
+  following = h.following;
+  first = λ j following before there. elim (get-push lanes x l j there) [
+    | inl there_before ↦ h.first j following before there_before
     | inr last ↦
         let within = slice_get_within lanes n l h.there in
         let at_end = last.0 in
@@ -72,13 +72,13 @@ end-more lanes x l (Some e) h other = last-more lanes x l e h other
 -- the ends of all lanes after a slot is added
 ended-more : (lanes : List ℕ) (end new : ℕ → Option ℕ) (lane : ℕ) → ((l : ℕ) → IsEnd lanes l (end l))
     → ((l : ℕ) → new l ≡ cond (lane == l) (Some (length lanes)) (end l)) → (l : ℕ) → IsEnd (lanes ++ lane ∷ []) l (new l)
-ended-more lanes end new lane h told l = elim (cases_Bool (lane == l)) [
+ended-more lanes end new lane h reported l = elim (cases_Bool (lane == l)) [
   | inl here ↦
       let same : lane ≡ l = eqb-true lane l here in
-      let is : new l ≡ Some (length lanes) = told l ∙ ap (λ b. cond b (Some (length lanes)) (end l)) here in
+      let is : new l ≡ Some (length lanes) = reported l ∙ ap (λ b. cond b (Some (length lanes)) (end l)) here in
       subst (IsEnd (lanes ++ lane ∷ []) l) (sym is) (subst (λ x. IsLast (lanes ++ lane ∷ []) x (length lanes)) same (new-last lanes lane))
   | inr there ↦
-      let is : new l ≡ end l = told l ∙ ap (λ b. cond b (Some (length lanes)) (end l)) there in
+      let is : new l ≡ end l = reported l ∙ ap (λ b. cond b (Some (length lanes)) (end l)) there in
       subst (IsEnd (lanes ++ lane ∷ []) l) (sym is) (end-more lanes lane l (end l) (h l) (λ same. both_ways (lane == l) there (eq-eqb lane l (sym same))))
 ]
 
@@ -86,10 +86,10 @@ ended-more lanes end new lane h told l = elim (cases_Bool (lane == l)) [
 pub linked-first : (lanes : List ℕ) (nexts : List (Option ℕ)) (end new : ℕ → Option ℕ) (lane : ℕ) → AreLinked lanes nexts end
     → length nexts ≡ length lanes → end lane ≡ None → ((l : ℕ) → new l ≡ cond (lane == l) (Some (length lanes)) (end l))
     → AreLinked (lanes ++ lane ∷ []) (nexts ++ None ∷ []) new
-linked-first lanes nexts end new lane h same none told =
+linked-first lanes nexts end new lane h same none reported =
     let empty : (k : ℕ) → ¬ (slice_get lanes k ≡ Some lane) = subst (IsEnd lanes lane) none (h.ended lane) in
     record {
-      ended = ended-more lanes end new lane h.ended told;
+      ended = ended-more lanes end new lane h.ended reported;
       followed = λ k l next in_lane there. elim (get-push lanes lane l k in_lane) [
         | inl before ↦ elim (get-push nexts None next k there) [
           | inl next_before ↦ followed-more lanes lane l k next (h.followed k l next before next_before) (λ _ is. empty k (before ∙ ap Some is))
@@ -104,7 +104,7 @@ linked-first lanes nexts end new lane h same none told =
               let at_end = last.0 in
               absurd (omega (arith, within, at_end, same))
           | inr next_last ↦
-              subst (IsFollowedBy (lanes ++ lane ∷ []) l k) next_last.1 (subst (NoneBehind (lanes ++ lane ∷ []) l) (sym last.0) (none-behind-end lanes lane l))
+              subst (IsFollowedBy (lanes ++ lane ∷ []) l k) next_last.1 (subst (NoneAfter (lanes ++ lane ∷ []) l) (sym last.0) (none-following-end lanes lane l))
         ]
       ];
     }
@@ -127,9 +127,9 @@ follow-followed lanes nexts end lane last h same is_end k l next in_lane there =
               let lane_is : lane ≡ l = same_Some lane l (sym was_last.there ∙ ap (slice_get lanes) (sym is) ∙ before) in
               let follows : IsNext (lanes ++ lane ∷ []) lane last n = record {
                 there = get-end lanes lane;
-                behind = within;
-                first = λ j behind front at. elim (get-push lanes lane lane j at) [
-                  | inl at_before ↦ was_last.last j behind at_before
+                following = within;
+                first = λ j following front at. elim (get-push lanes lane lane j at) [
+                  | inl at_before ↦ was_last.last j following at_before
                   | inr at_end ↦ let e = at_end.0 in absurd (omega (arith, e, front))
                 ];
               } in
@@ -138,12 +138,12 @@ follow-followed lanes nexts end lane last h same is_end k l next in_lane there =
           | inr other ↦
               let followed = h.followed k l next before (sym (get-set-other nexts last k (Some n) other) ∙ next_before) in
               followed-more lanes lane l k next followed (λ none is.
-              let alone : NoneBehind lanes l k = subst (IsFollowedBy lanes l k) none followed in
+              let alone : NoneAfter lanes l k = subst (IsFollowedBy lanes l k) none followed in
               elim (cases_order k last) [
                 | inl equal ↦ other equal
                 | inr unequal ↦ elim unequal [
                   | inl front ↦ alone last front (was_last.there ∙ ap Some (sym is))
-                  | inr behind ↦ was_last.last k behind (before ∙ ap Some is)
+                  | inr following ↦ was_last.last k following (before ∙ ap Some is)
                 ]
               ]
               )
@@ -159,7 +159,7 @@ follow-followed lanes nexts end lane last h same is_end k l next in_lane there =
             let at_end = here.0 in
             absurd (omega (arith, within, at_end, same, size))
         | inr next_last ↦
-            subst (IsFollowedBy (lanes ++ lane ∷ []) l k) next_last.1 (subst (NoneBehind (lanes ++ lane ∷ []) l) (sym here.0) (none-behind-end lanes lane l))
+            subst (IsFollowedBy (lanes ++ lane ∷ []) l k) next_last.1 (subst (NoneAfter (lanes ++ lane ∷ []) l) (sym here.0) (none-following-end lanes lane l))
       ]
     ]
 
@@ -167,7 +167,7 @@ follow-followed lanes nexts end lane last h same is_end k l next in_lane there =
 pub linked-follow : (lanes : List ℕ) (nexts : List (Option ℕ)) (end new : ℕ → Option ℕ) (lane last : ℕ) → AreLinked lanes nexts end
     → length nexts ≡ length lanes → end lane ≡ Some last → ((l : ℕ) → new l ≡ cond (lane == l) (Some (length lanes)) (end l))
     → AreLinked (lanes ++ lane ∷ []) (slice_set nexts last (Some (length lanes)) ++ None ∷ []) new
-linked-follow lanes nexts end new lane last h same is_end told = record {
-  ended = ended-more lanes end new lane h.ended told;
+linked-follow lanes nexts end new lane last h same is_end reported = record {
+  ended = ended-more lanes end new lane h.ended reported;
   followed = follow-followed lanes nexts end lane last h same is_end;
 }

@@ -9,19 +9,19 @@ use Rattle.settlement.specs.Accounts.{family_of}
 use Rattle.settlement.specs.declared.acc.Acc.{Acc}
 use Rattle.settlement.specs.declared.claim.Claim.{Claim}
 use Rattle.lanes.specs.Places.{Phase, Waiting, Ready, InWork, Decided, Place, InTurn, all_decided, is_decided, is_of, is_waiting}
-use Rattle.lanes.specs.Calls.{phase_after, phase_behind, ready_at, released, with_decision, with_phase}
-use Rattle.lanes.proofs.Turns.{Turns, all-free, and-true, lets, step, turns-of}
+use Rattle.lanes.specs.Calls.{phase_after, next_phase, ready_at, release_first, with_decision, with_phase}
+use Rattle.lanes.proofs.ClaimOrder.{Turns, all-free, and-true, lets, step, turns-of}
 
 -- no claim is released if no place is of the family
 released-none : (places : List Place) (m : List ℕ) → ((k : ℕ) (p : Place) → slice_get places k ≡ Some p → is_of m p ≡ false)
-    → released m places ≡ places
+    → release_first m places ≡ places
 released-none [] m none = refl
 released-none (p ∷ ps) m none = rw (none 0 p refl) (ap (λ xs. p ∷ xs) (released-none ps m (λ k q there. none (suc k) q there)))
 
 -- otherwise, the first claim of the family is released
 released-first : (places : List Place) (n : ℕ) (m : List ℕ) (q : Place) → slice_get places n ≡ Some q → is_of m q ≡ true
     → ((k : ℕ) (p : Place) → k < n → slice_get places k ≡ Some p → is_of m p ≡ false)
-    → released m places ≡ with_phase places n (ready_at q.phase)
+    → release_first m places ≡ with_phase places n (ready_at q.phase)
 released-first [] n m q there mine none = absurd (none-some q there)
 released-first (p ∷ ps) zero m q there mine none =
     let same = same_Some p q there in
@@ -45,17 +45,17 @@ decision-last (r ∷ rs) (suc k) left p there none =
 pub decision-next : (places : List Place) (k n : ℕ) (left : Acc) (p q : Place) → slice_get places k ≡ Some p → slice_get places n ≡ Some q → k < n
     → is_of p.account.family q ≡ true → ((j : ℕ) (r : Place) → k < j → j < n → slice_get places j ≡ Some r → is_of p.account.family r ≡ false)
     → with_decision places k left ≡ with_phase (with_phase places k (Decided left)) n (ready_at q.phase)
-decision-next [] k n left p q there next behind mine none = refl
-decision-next (r ∷ rs) k zero left p q there next behind mine none = absurd (omega (arith, behind))
-decision-next (r ∷ rs) zero (suc n) left p q there next behind mine none =
+decision-next [] k n left p q there next following mine none = refl
+decision-next (r ∷ rs) k zero left p q there next following mine none = absurd (omega (arith, following))
+decision-next (r ∷ rs) zero (suc n) left p q there next following mine none =
     let same = same_Some r p there in
     ap (λ xs. (record r { phase = Decided left }) ∷ xs) (
     released-first rs n r.account.family q next (ap (λ (x : Place). is_of x.account.family q) same ∙ mine)
     (λ j x l is. ap (λ (y : Place). is_of y.account.family x) same ∙ none (suc j) x (omega arith) (omega (arith, l)) is)
     )
-decision-next (r ∷ rs) (suc k) (suc n) left p q there next behind mine none =
+decision-next (r ∷ rs) (suc k) (suc n) left p q there next following mine none =
     ap (λ xs. r ∷ xs) (
-    decision-next rs k n left p q there next (omega (arith, behind)) mine (λ j x l m is. none (suc j) x (omega (arith, l)) (omega (arith, m)) is)
+    decision-next rs k n left p q there next (omega (arith, following)) mine (λ j x l m is. none (suc j) x (omega (arith, l)) (omega (arith, m)) is)
     )
 
 -- all claims of a family without places are decided
@@ -65,7 +65,7 @@ all-none (p ∷ ps) m none = rw (none 0 p refl) (all-none ps m (λ k q is. none 
 
 -- the first claim of a family is ready
 pub phase-first : (places : List Place) (claim : Claim) → ((k : ℕ) (p : Place) → slice_get places k ≡ Some p → is_of (family_of claim) p ≡ false)
-    → phase_behind places claim ≡ Ready claim
+    → next_phase places claim ≡ Ready claim
 phase-first places claim none = rw (all-none places (family_of claim) none) refl
 
 -- a waiting claim is not decided
@@ -98,6 +98,6 @@ phase-by (Decided a) claim all is = rw is refl
 -- the phase of a claim after the last one of its family
 pub phase-next : (places : List Place) (k : ℕ) (p : Place) (claim : Claim) → InTurn places → slice_get places k ≡ Some p → is_of (family_of claim) p ≡ true
     → ((j : ℕ) (q : Place) → k < j → slice_get places j ≡ Some q → is_of (family_of claim) q ≡ false)
-    → phase_behind places claim ≡ phase_after p.phase claim
+    → next_phase places claim ≡ phase_after p.phase claim
 phase-next places k p claim h there mine none =
     phase-by p.phase claim (all_decided (family_of claim) places) (all-last all-free places k p (family_of claim) (turns-of places h) there mine none)

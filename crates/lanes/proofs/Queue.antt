@@ -7,8 +7,8 @@ use Rattle.std.proofs.lemmas.List.Sums.{sum_by-cons, sum_by_push}
 use Rattle.std.proofs.lemmas.Option.{none-some}
 use Rattle.lanes.specs.Places.{Phase, Place, is_ready}
 use Rattle.lanes.specs.Calls.{with_phase}
-use Rattle.lanes.specs.Chains.{AreQueued, ready_there}
-use Rattle.lanes.proofs.Turns.{and-true}
+use Rattle.lanes.specs.FamilyQueues.{AreQueued, ready_there}
+use Rattle.lanes.proofs.ClaimOrder.{and-true}
 
 -- one if the flag is true, and zero otherwise
 abbrev one_if : Bool → ℕ

@@ -1,5 +1,5 @@
 pub mod Places
 pub mod Calls
 pub mod Names
-pub mod Lasts
-pub mod Chains
+pub mod LastByKey
+pub mod FamilyQueues

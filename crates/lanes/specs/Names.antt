@@ -16,7 +16,7 @@ IsAbsent names name = (number : ℕ) → ¬ (slice_get names number ≡ Some nam
 -- the new list is the old one with more names appended, or none
 pub record Grows (old new : List (List ℕ)) : Type 0 where
   pub more : List (List ℕ)
-  pub behind : new ≡ old ++ more
+  pub following : new ≡ old ++ more
 
 -- the number of a name
 abbrev pub number_in : BTreeMap (List ℕ) ℕ → List ℕ → Option ℕ

@@ -3,7 +3,7 @@ use Rattle.std.specs.Prelude.{◌≡◌, ℕ, Bool, true, false, cond, not, ◌|
 use Rattle.std.specs.List.{list_all}
 use Rattle.std.specs.Option.{unwrap_or}
 use Rattle.std.specs.Str.{bytes_eq}
-use Rattle.settlement.specs.Accounts.{Account, is_household, is_same}
+use Rattle.settlement.specs.Accounts.{Account, is_family_year, is_same}
 use Rattle.settlement.specs.declared.acc.Acc.{Acc}
 -- the phases of a claim: it waits for an earlier claim of its family, is ready to be taken, is
 -- taken, or is decided
@@ -50,8 +50,8 @@ all_decided family places = list_all (λ place. not (is_of family place) || is_d
 
 -- the accumulators after a claim: the member's own amounts are replaced if `own` is true, and the
 -- family's sums if `shared` is true
-abbrev pub joined : Bool → Bool → Acc → Acc → Acc
-joined own shared left acc = record {
+abbrev pub merge_acc : Bool → Bool → Acc → Acc → Acc
+merge_acc own shared left acc = record {
   met = cond own left.met acc.met;
   oop = cond own left.oop acc.oop;
   paid = cond own left.paid acc.paid;
@@ -61,23 +61,23 @@ joined own shared left acc = record {
 
 -- the accumulators of an account after the claim at a place
 abbrev pub left_by : Account → Acc → Place → Acc
-left_by account acc place = joined (is_same place.account account) (is_household place.account account) (left_in place.phase acc) acc
+left_by account acc place = merge_acc (is_same place.account account) (is_family_year place.account account) (left_in place.phase acc) acc
 
 -- the accumulators of an account after these places: its own amounts are those after its last
 -- decided claim, the family's sums are those after the last decided claim of its family and year,
 -- and without such a claim they are the opening ones
-abbrev pub standing : Account → Acc → List Place → Acc
-standing account opening places = fold (left_by account) opening places
+abbrev pub present : Account → Acc → List Place → Acc
+present account opening places = fold (left_by account) opening places
 
--- the accumulators with the own amounts of `own` and the family's sums of `household`, or the
+-- the accumulators with the own amounts of `own` and the family's sums of `family_year`, or the
 -- opening ones without these
 abbrev pub started : Acc → Option Acc → Option Acc → Acc
-started opening own household = record {
+started opening own family_year = record {
   met = (unwrap_or own opening).met;
   oop = (unwrap_or own opening).oop;
   paid = (unwrap_or own opening).paid;
-  fmet = (unwrap_or household opening).fmet;
-  foop = (unwrap_or household opening).foop;
+  fmet = (unwrap_or family_year opening).fmet;
+  foop = (unwrap_or family_year opening).foop;
 }
 
 -- the phase of the place at a position

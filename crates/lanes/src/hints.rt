@@ -26,19 +26,19 @@ const MIXED_PRIME: u64 = 0x0000_0100_0000_01b3;
 
 /// The key of a name's lookup: its hash, and a number that it may have.
 #[derive(Clone, Copy)]
-pub struct Sought {
+pub struct NameLookup {
     /// The hash of the name's bytes.
     pub bits: u64,
     /// A number that the name may have, which is tried first.
-    pub likely: Option<u32>,
+    pub candidate: Option<u32>,
 }
 
-impl Sought {
+impl NameLookup {
     /// Hashes a name, without a number to try first.
-    pub fn new(name: &Text) -> Sought {
-        Sought {
-            bits: bits_of(name),
-            likely: None,
+    pub fn new(name: &Text) -> NameLookup {
+        NameLookup {
+            bits: hash_of(name),
+            candidate: None,
         }
     }
 }
@@ -87,7 +87,7 @@ impl Hints {
 
     /// Makes more hints if there are too few for the number of names. Earlier hints may get lost.
     /// If memory runs out, the hints are unchanged.
-    pub fn make_enough(&mut self, names: usize) {
+    pub fn grow_for(&mut self, names: usize) {
         let length = self.numbers.len();
         if length / HINTS_A_NAME <= names {
             let more = length.saturating_mul(2).max(FIRST_HINTS);
@@ -96,7 +96,7 @@ impl Hints {
     }
 }
 
-fn bits_of(name: &Text) -> u64 {
+fn hash_of(name: &Text) -> u64 {
     let mut mixed = MIXED_FIRST;
     for byte in name.as_bytes() {
         mixed = (mixed ^ u64::from(*byte)).wrapping_mul(MIXED_PRIME);

@@ -7,20 +7,20 @@
 //! Begin with `specs/Places.antt` and `specs/Calls.antt`; then read `lanes.rt`.
 #![tactic(auto)]
 
-mod ahead;
-mod board;
-mod chains;
-mod ends;
+mod boxed_claim;
+mod family_queues;
 mod hints;
-mod last_claims;
-mod lasts;
+mod index32;
+mod lanes;
+mod last_by_key;
+mod last_by_number;
+mod last_claim_index;
 mod names;
 mod phase;
-mod picked;
-mod short;
+mod prefetcher;
+mod ready_claim;
 mod slot;
-mod stored;
 
-pub use board::Lanes;
-pub use picked::Picked;
-pub use stored::StoredClaim;
+pub use boxed_claim::BoxedClaim;
+pub use lanes::Lanes;
+pub use ready_claim::ReadyClaim;

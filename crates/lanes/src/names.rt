@@ -3,8 +3,8 @@ ghost use Rattle.std.specs.Prelude.{◌≡◌, ◌++◌, ◌∷◌, [], Some, On
 ghost use Rattle.std.specs.List.{slice_get};
 ghost use Rattle.lanes.specs.Names.{AreDistinct, Grows, IsAbsent};
 
-use crate::hints::{Hints, Sought};
-use crate::short::short;
+use crate::hints::{Hints, NameLookup};
+use crate::index32::to_u32;
 use feel_tests::Text;
 use std::alloc::{AllocError, Global};
 use std::collections::BTreeMap;
@@ -47,26 +47,26 @@ impl Names {
     /// Returns the number of a name, and adds the name if it is new. The number in the lookup is
     /// tried first, and then the numbers of the hints.
     #[tactic(auto, using(crate::proofs::Growing::grows_same, crate::proofs::Growing::grows_added))]
-    pub fn number(&mut self, name: &Text, sought: Sought) -> Result<u32, AllocError>
+    pub fn number(&mut self, name: &Text, lookup: NameLookup) -> Result<u32, AllocError>
         ensures number { IfOk result (λ number. slice_get self.new number ≡ Some name.now) }
         ensures grows { Grows self.old self.new }
         ensures distinct { AreDistinct self.new }
     {
-        if let Some(number) = self.tried(name, sought.likely) {
+        if let Some(number) = self.check_candidate(name, lookup.candidate) {
             return Ok(number);
         }
-        if let Some(number) = self.tried(name, self.hints.first_of(sought.bits)) {
+        if let Some(number) = self.check_candidate(name, self.hints.first_of(lookup.bits)) {
             return Ok(number);
         }
-        if let Some(number) = self.tried(name, self.hints.second_of(sought.bits)) {
+        if let Some(number) = self.check_candidate(name, self.hints.second_of(lookup.bits)) {
             return Ok(number);
         }
         match self.find(name) {
             Some(number) => {
-                self.hints.note(sought.bits, number);
+                self.hints.note(lookup.bits, number);
                 Ok(number)
             }
-            None => self.add(name, sought.bits),
+            None => self.add(name, lookup.bits),
         }
     }
 
@@ -83,12 +83,12 @@ impl Names {
     }
 
     // Returns the candidate if it is the number of the name.
-    fn tried(&self, name: &Text, likely: Option<u32>) -> Option<u32>
+    fn check_candidate(&self, name: &Text, candidate: Option<u32>) -> Option<u32>
         ensures found { IfSome result (λ number. slice_get self.now number ≡ Some name.now) }
         ensures distinct { AreDistinct self.now }
     {
         let names = self.names.as_slice();
-        let hint = likely?;
+        let hint = candidate?;
         let there = names.get(hint as usize)?;
         if there.as_str() == name.as_str() {
             Some(hint)
@@ -115,11 +115,11 @@ impl Names {
     {
         let key = Text::new(self.alloc, name.as_str())?;
         let entry = Text::new(self.alloc, name.as_str())?;
-        let number = short(self.names.as_slice().len())?;
+        let number = to_u32(self.names.as_slice().len())?;
         self.names.reserve(1)?;
         let _before = self.numbers.insert(key, number)?;
         self.names.push_reserved(entry);
-        self.hints.make_enough(self.names.len());
+        self.hints.grow_for(self.names.len());
         self.hints.note(bits, number);
         Ok(number)
     }

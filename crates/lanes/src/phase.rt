@@ -3,7 +3,7 @@ ghost use Rattle.std.specs.Prelude.{◌≡◌};
 ghost use Rattle.lanes.specs.Places.{is_decided, is_ready, left_of};
 ghost use Rattle.lanes.specs.Calls.{phase_after};
 
-use crate::stored::StoredClaim;
+use crate::boxed_claim::BoxedClaim;
 use settlement::Acc;
 
 /// The phase of a claim on its way to a decision. A claim that is not taken yet is in a box, so
@@ -11,9 +11,9 @@ use settlement::Acc;
 #[derive(Drop)]
 pub enum Phase {
     /// An earlier claim of its family is not decided yet.
-    Waiting(StoredClaim),
+    Waiting(BoxedClaim),
     /// The claim can be taken.
-    Ready(StoredClaim),
+    Ready(BoxedClaim),
     /// The claim is taken and not decided yet.
     InWork,
     /// The claim is decided, and these are its account's accumulators after it.
@@ -22,7 +22,7 @@ pub enum Phase {
 
 impl Phase {
     /// Returns the phase of the next claim of the family, when that claim is added.
-    pub fn behind(&self, claim: StoredClaim) -> Phase
+    pub fn next_phase(&self, claim: BoxedClaim) -> Phase
         ensures { result ≡ phase_after self.now claim }
     {
         match self {
@@ -39,7 +39,7 @@ impl Phase {
     }
 
     /// Returns the accumulators after the claim, if it is decided.
-    pub fn left(&self) -> Option<Acc>
+    pub fn left_acc(&self) -> Option<Acc>
         ensures { result ≡ left_of self.now }
     {
         match self {

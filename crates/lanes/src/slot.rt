@@ -2,24 +2,24 @@
 ghost use Rattle.std.specs.Prelude.{◌≡◌, true, Option};
 ghost use Rattle.lanes.specs.Places.{Ready, InWork, Decided, is_ready};
 ghost use Rattle.lanes.specs.Calls.{ready_at};
-ghost use Rattle.lanes.specs.Chains.{left_at};
+ghost use Rattle.lanes.specs.FamilyQueues.{left_at};
 
-use crate::lasts::Key;
+use crate::boxed_claim::BoxedClaim;
+use crate::last_by_key::AccumulatorKey;
 use crate::phase::Phase;
-use crate::stored::StoredClaim;
 use settlement::Acc;
 use std::mem::replace;
 
 /// The slot of a claim.
 pub struct Slot {
     /// The key of its account. The number of the family is the number of the lane.
-    pub key: Key,
+    pub key: AccumulatorKey,
     /// The position of the next claim of the lane.
     pub next: Option<u32>,
     /// The position of the last earlier claim of its account.
     pub own: Option<u32>,
     /// The position of the last earlier claim of its family and year.
-    pub household: Option<u32>,
+    pub family_year: Option<u32>,
     /// The phase of the claim.
     pub phase: Phase,
 }
@@ -30,7 +30,7 @@ impl Drop for Slot {
             key: _,
             next: _,
             own: _,
-            household: _,
+            family_year: _,
             phase: _,
         } = self;
     }
@@ -38,7 +38,7 @@ impl Drop for Slot {
 
 impl Slot {
     /// Takes the claim, which must be ready.
-    pub fn pick(&mut self) -> StoredClaim
+    pub fn pick(&mut self) -> BoxedClaim
         requires { is_ready self.old.phase ≡ true }
         ensures ready { self.old.phase ≡ Ready result }
         ensures taken { self.new ≡ record self.old { phase = InWork } }
@@ -73,7 +73,7 @@ pub fn left_at(slots: &[Slot], place: Option<u32>) -> Option<Acc>
 {
     match place {
         Some(position) => match slots.get(position as usize) {
-            Some(slot) => slot.phase.left(),
+            Some(slot) => slot.phase.left_acc(),
             None => None,
         },
         None => None,

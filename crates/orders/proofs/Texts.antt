@@ -12,7 +12,7 @@ use Rattle.intake_csv.specs.Rows.{AreRowsOf, claims_among}
 use Rattle.intake_csv.specs.declared.rows.Row.{Row}
 use Rattle.journal.specs.Settled.{outcome_of}
 use Rattle.journal.specs.Terms.{Terms, at_most, claims_in, claims_in_all}
-use Rattle.journal.specs.Events.{Book, Filed, accepted, accepts, noted}
+use Rattle.journal.specs.Events.{Book, Filed, accepted_count, accepts, noted}
 use Rattle.journal.specs.Laws.{FinishedTakesAll}
 use Rattle.claim_gate.specs.Terms.{AreClaimsOf, AreTermsOf, TermsParts}
 use Rattle.feel_tests.specs.Plain.{SpellsOnePlain}
@@ -91,7 +91,7 @@ one_remittance all law parts other bytes others is alike a b =
     let opened : (account : Account) → opening T.balances account ≡ opening U.balances account = λ account. S.openings account ∙ alike.openings account ∙ sym (V.openings account) in
     let books : ◌≡◌ {A = Book} (opening T.balances) (opening U.balances) = λ i account. opened account i in
     let cutoff : T.cutoff ≡ U.cutoff = S.cutoff ∙ alike.cutoff ∙ sym V.cutoff in
-    let as_many : accepted a.journal ≡ accepted b.journal = all T a.journal a.finished ∙ (λ i. at_most (cutoff i) (claims_in_all (files i))) ∙ sym (all U b.journal b.finished) in
+    let as_many : accepted_count a.journal ≡ accepted_count b.journal = all T a.journal a.finished ∙ (λ i. at_most (cutoff i) (claims_in_all (files i))) ∙ sym (all U b.journal b.finished) in
     let order : accepts a.journal ≡ accepts b.journal = a.ordered ∙ (λ i. take (as_many i) (in_file_order 1 (files i))) ∙ sym b.ordered in
     let outcomes : outcome_by T (accepts a.journal) ≡ outcome_by U (accepts b.journal) =
     outcomes_are T (accepts a.journal) ∙ (λ i. outcomes_of (plan i) (files i) (books i) (order i)) ∙ sym (outcomes_are U (accepts b.journal)) in

@@ -3,7 +3,7 @@ use Rattle.std.specs.Prelude.{◌≡◌, ◌<◌, ℕ, ℤ, List}
 use Rattle.settlement.specs.declared.outcome.Outcome.{Outcome}
 use Rattle.intake_csv.specs.declared.rows.Row.{Row}
 use Rattle.journal.specs.Terms.{Terms}
-use Rattle.journal.specs.Events.{accepted, accepts}
+use Rattle.journal.specs.Events.{accepted_count, accepts}
 use Rattle.journal.specs.Lawful.{Finished}
 use Rattle.journal.specs.declared.event.Event.{Event}
 use Rattle.remit.specs.Decided.{decision_at, paid_outcomes, sum_of}
@@ -14,7 +14,7 @@ use Rattle.orders.specs.Order.{outcome_by, report_by, total_by}
 -- in a finished journal the outcome at each position is the one that the order of acceptance
 -- determines
 abbrev pub DecidedByOrder : Type 0
-DecidedByOrder = (T : Terms) (J : List Event) (position : ℕ) → Finished T J → position < accepted J → decision_at J position ≡ outcome_by T (accepts J) position
+DecidedByOrder = (T : Terms) (J : List Event) (position : ℕ) → Finished T J → position < accepted_count J → decision_at J position ≡ outcome_by T (accepts J) position
 
 -- in a finished journal the totals are those that the order of acceptance determines
 abbrev pub TotalsByOrder : Type 0

@@ -20,14 +20,14 @@ use Rattle.remit.specs.declared.amount.Amount.TheVariants.{Allowed}
 use Rattle.remit.specs.declared.sums.Sums.{Sums}
 
 -- the sum over outcomes and others behind them
-sum_of-append : (amount : Outcome → ℤ) (front behind : List Outcome) → sum_of amount (front ++ behind) ≡ sum_of amount front +ℤ sum_of amount behind
-sum_of-append amount [] behind = sym (+ℤ_idl (sum_of amount behind))
-sum_of-append amount (o ∷ front) behind =
-    ap (λ s. amount o +ℤ s) (sum_of-append amount front behind) ∙ sym (+ℤ_assoc (amount o) (sum_of amount front) (sum_of amount behind))
+sum_of-append : (amount : Outcome → ℤ) (front following : List Outcome) → sum_of amount (front ++ following) ≡ sum_of amount front +ℤ sum_of amount following
+sum_of-append amount [] following = sym (+ℤ_idl (sum_of amount following))
+sum_of-append amount (o ∷ front) following =
+    ap (λ s. amount o +ℤ s) (sum_of-append amount front following) ∙ sym (+ℤ_assoc (amount o) (sum_of amount front) (sum_of amount following))
 
 -- what one event more pays stands behind what those in front pay
 paid-push : (J : List Event) (event : Event) → paid_outcomes (J ++ event ∷ []) ≡ paid_outcomes J ++ paid_in event
-paid-push J event = flat_map-append paid_in J (event ∷ []) ∙ ap (λ behind. paid_outcomes J ++ behind) (append-nil (paid_in event))
+paid-push J event = flat_map-append paid_in J (event ∷ []) ∙ ap (λ following. paid_outcomes J ++ following) (append-nil (paid_in event))
 
 -- a sum with one event more
 sum-more : (amount : Outcome → ℤ) (J : List Event) (event : Event) (count old new : ℕ) → IsSum amount (paid_outcomes J) count old → IsGrown amount (paid_in event) old new
@@ -44,8 +44,8 @@ sums-more : (J : List Event) (event : Event) (count : ℕ) (old new : Sums) → 
     → AreSums (J ++ event ∷ []) (count + 1) new
 sums-more J event count old new before grown = record {
   size = grown.size ∙ before.size;
-  each = λ place amount stands.
-      sum-more (amount_of amount) J event count (slice_index old.units place) (slice_index new.units place) (before.each place amount stands) (grown.each place amount stands);
+  each = λ place amount located.
+      sum-more (amount_of amount) J event count (slice_index old.units place) (slice_index new.units place) (before.each place amount located) (grown.each place amount located);
 }
 
 -- the sums over the events of a journal up to a place, with the one at that place
@@ -76,14 +76,14 @@ pub record AddedTo (decision : Outcome) (old new : List ℕ) (place : ℕ) : Typ
 pub added-next : (decision : Outcome) (old new : List ℕ) (place : ℕ) (amount : Amount) (sum : ℕ) → slice_get amounts place ≡ Some amount → place < length old
     → pos sum ≡ pos (slice_index new place) +ℤ amount_of amount decision → sum ≤ slice_index new place + greatest_units
     → AddedTo decision old new place → AddedTo decision old (set new place sum) (place + 1)
-added-next decision old new place amount sum stands within value bound so_far = record {
+added-next decision old new place amount sum located within value bound so_far = record {
   size = length-set new place sum ∙ so_far.size;
   added = λ at other is less. elim (cases_lt at place) [
     | inl before ↦
         rw (get_or-set_other new place at sum 0 (λ e. omega (arith, before, e))) (so_far.added at other is before)
-    | inr behind ↦
-        let here : at ≡ place = omega (arith, behind, less) in
-        let same : other ≡ amount = same_Some other amount (sym is ∙ ap (slice_get amounts) here ∙ stands) in
+    | inr following ↦
+        let here : at ≡ place = omega (arith, following, less) in
+        let same : other ≡ amount = same_Some other amount (sym is ∙ ap (slice_get amounts) here ∙ located) in
         rw (here, same, get_or-set_same new place sum 0 (rw so_far.size within)) (record {
           value = value ∙ ap (λ s. pos s +ℤ amount_of amount decision) (so_far.others place (omega arith)) ∙ ap (λ a. pos (slice_index old place) +ℤ a) (sym (+ℤ_idr (amount_of amount decision)));
           bound = rw (so_far.others place (omega arith)) at bound;
@@ -110,6 +110,6 @@ texts-beside text value (a ∷ list) (u ∷ units) size each =
     ∙ ap (λ texts. text (value a) ∷ texts) (texts-beside text value list units (omega (arith, size)) (λ place amount is. each (suc place) amount is))
 
 -- the texts of the sums over a journal are those of its totals
-pub sums_told : (J : List Event) (count : ℕ) (sums : Sums) → AreSums J count sums → map (λ sum. money_text (pos sum)) sums.units ≡ map (total_text J) amounts
-sums_told J count sums are =
+pub sums_reported : (J : List Event) (count : ℕ) (sums : Sums) → AreSums J count sums → map (λ sum. money_text (pos sum)) sums.units ≡ map (total_text J) amounts
+sums_reported J count sums are =
     texts-beside money_text (λ amount. sum_of (amount_of amount) (paid_outcomes J)) amounts sums.units are.size (λ place amount is. (are.each place amount is).value)

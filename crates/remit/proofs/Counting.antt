@@ -8,7 +8,7 @@ use Rattle.std.proofs.lemmas.List.{length_push, map-append}
 use Rattle.std.proofs.lemmas.List.Sums.{fold-append}
 use Rattle.dtable.specs.declared.table.InputData.{InputData}
 use Rattle.settlement.specs.declared.outcome.Outcome.{Outcome}
-use Rattle.intake_csv.specs.Laws.{GivenRowIsTheFirst, NoRecordsNoRows, StandApart, StartHasTheRows}
+use Rattle.intake_csv.specs.Laws.{GivenRowIsTheFirst, NoRecordsNoRows, LieApart, StartHasTheRows}
 use Rattle.intake_csv.specs.Rows.{AreRowsLeft, AreRowsOf, GivesRow, IsAtStart, RowsLeft}
 use Rattle.intake_csv.specs.declared.rows.Row.{Row}
 use Rattle.intake_csv.specs.declared.rows.Row.TheVariants.{Good, Bad}
@@ -18,14 +18,14 @@ use Rattle.remit.specs.Counts.{AreCounted, EachIsCounted, IsCounted, LeftIsCount
 use Rattle.remit.specs.Decided.{decided_as}
 use Rattle.remit.specs.Looked.{LaidOut, found_of, looked_up}
 use Rattle.remit.specs.Records.{Deciding}
-use Rattle.remit.specs.Report.{told_by_journal}
+use Rattle.remit.specs.Report.{reported_by_journal}
 use Rattle.remit.specs.declared.counts.FileCounts.{FileCounts}
 use Rattle.remit.specs.declared.counts.RecordCounts.{RecordCounts}
 use Rattle.remit.specs.declared.decisions.Decisions.{Decisions}
 use Rattle.remit.proofs.Filing.{read-all}
 use Rattle.remit.proofs.Looking.{looked-right}
 use Rattle.remit.proofs.Passing.{Passed, passed-all, passed-next, passed-none}
-use Rattle.remit.proofs.Reporting.{are-terms, terms-by, told}
+use Rattle.remit.proofs.Reporting.{are-terms, terms-by, reported}
 
 counts-push : (by : Deciding) (provider : ℕ) (front : List Row) (row : Row)
     → counts_of by provider (front ++ row ∷ []) ≡ counted (counts_of by provider front) (status_of_row by provider row)
@@ -61,7 +61,7 @@ counted-done none by provider start now counts so_far empty left = record {
 
 -- the rows that a reader at its start has left are those of the text
 pub counted-text : StartHasTheRows → (by : Deciding) (provider : ℕ) (names : List InputData) (text : List ℕ) (start : RowsLeft) (counts : RecordCounts)
-    → StandApart start.layout.columns → IsAtStart names text start → ((all : List Row) → AreRowsLeft start all → AreRowsOf names text all)
+    → LieApart start.layout.columns → IsAtStart names text start → ((all : List Row) → AreRowsLeft start all → AreRowsOf names text all)
     → LeftIsCounted by provider start counts → IsCounted by provider names text counts
 counted-text begins by provider names text start counts apart at_start of_text left = record {
   rows = left.rows;
@@ -122,12 +122,12 @@ some-files names (text ∷ texts) each =
     record { files = here.rows ∷ rest.files; are_rows = (here.are_rows, rest.are_rows) }
 
 status-same : (version : ℕ) (f g : ℕ → ℕ → Option Outcome) (provider : ℕ) (row : Row) → ((place : ℕ) → f provider place ≡ g provider place)
-    → status_of_row (told version f) provider row ≡ status_of_row (told version g) provider row
+    → status_of_row (reported version f) provider row ≡ status_of_row (reported version g) provider row
 status-same version f g provider (Good number place claim) same = ap status_of (same place)
 status-same version f g provider (Bad number fault) same = refl
 
 statuses-same : (version : ℕ) (f g : ℕ → ℕ → Option Outcome) (provider : ℕ) (rows : List Row) → ((place : ℕ) → f provider place ≡ g provider place)
-    → map (status_of_row (told version f) provider) rows ≡ map (status_of_row (told version g) provider) rows
+    → map (status_of_row (reported version f) provider) rows ≡ map (status_of_row (reported version g) provider) rows
 statuses-same version f g provider [] same = refl
 statuses-same version f g provider (row ∷ rows) same = ap₂ (λ s ss. s ∷ ss) (status-same version f g provider row same) (statuses-same version f g provider rows same)
 
@@ -152,6 +152,6 @@ counts-alike parts J providers decisions counts finished laid as_many counted_ea
                 ∙ ap (fold counted no_records)
                 (statuses-same decisions.version (found_of decisions) (decided_as J) (suc i) file.rows
                 (λ place. looked-right parts.plan.version providers J decisions laid journal.lawful.sound.in_order (suc i) place (omega arith) known))
-                ∙ ap (λ version. counts_of (told version (decided_as J)) (suc i) file.rows) laid.version_is;
+                ∙ ap (λ version. counts_of (reported version (decided_as J)) (suc i) file.rows) laid.version_is;
           };
     }

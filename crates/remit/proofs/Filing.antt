@@ -5,12 +5,12 @@ use Rattle.std.proofs.lemmas.Grind.{flat_map-append}
 use Rattle.std.proofs.lemmas.List.{take_all, take_more}
 use Rattle.std.proofs.lemmas.Slice.Zip.{AllZip-long, all_zipped_more}
 use Rattle.dtable.specs.declared.table.InputData.{InputData}
-use Rattle.intake_csv.specs.Laws.{StandApart, StartHasTheRows}
+use Rattle.intake_csv.specs.Laws.{LieApart, StartHasTheRows}
 use Rattle.intake_csv.specs.Rows.{AreRowsLeft, AreRowsOf, IsAtStart, RowsLeft}
 use Rattle.intake_csv.specs.declared.rows.Row.{Row}
 use Rattle.remit.specs.Records.{Deciding, record_of, records_of}
 use Rattle.remit.specs.Report.{record_text, text_of}
-use Rattle.remit.specs.Held.{At, IsNoMemory, Writes, at}
+use Rattle.remit.specs.RecordWriter.{At, IsNoMemory, Writes, at}
 use Rattle.remit.specs.Rows.{AreRead, Begin, GivesAll, GivesFirst, IsRead, IsReadFirst, WritesFile, WritesFiles, WritesLeft, files_text, rows_text}
 use Rattle.faults.specs.declared.write_fault.WriteFault.{WriteFault}
 use Rattle.remit.specs.declared.record_writer.RecordWriter.{RecordWriter}
@@ -18,7 +18,7 @@ use Rattle.remit.proofs.Holding.{no-memory, writes-none, writes-then}
 use Rattle.remit.proofs.Passing.{rows-append}
 
 -- all rows of a text, by a reader at its start
-pub read-all : StartHasTheRows → (names : List InputData) (text : List ℕ) (start : RowsLeft) (rows : List Row) → StandApart start.layout.columns → IsAtStart names text start
+pub read-all : StartHasTheRows → (names : List InputData) (text : List ℕ) (start : RowsLeft) (rows : List Row) → LieApart start.layout.columns → IsAtStart names text start
     → ((all : List Row) → AreRowsLeft start all → AreRowsOf names text all) → GivesAll start rows → IsRead names text rows
 read-all begins names text start rows apart at_start of_text gives = record {
   are_rows = of_text rows gives.are_rows;
@@ -26,7 +26,7 @@ read-all begins names text start rows apart at_start of_text gives = record {
 }
 
 -- the first rows of a text, by a reader at its start
-pub read-first : StartHasTheRows → (names : List InputData) (text : List ℕ) (start : RowsLeft) (rows : List Row) → StandApart start.layout.columns → IsAtStart names text start
+pub read-first : StartHasTheRows → (names : List InputData) (text : List ℕ) (start : RowsLeft) (rows : List Row) → LieApart start.layout.columns → IsAtStart names text start
     → GivesFirst start rows → IsReadFirst names text rows
 read-first begins names text start rows apart at_start gives all are = gives apart all (begins names text start all at_start are)
 
@@ -37,35 +37,35 @@ read-none names text all are = record { rest = all; whole_is = refl }
 -- two lists beside each other, in two parts
 pub record Parted {A B : Type 0} (R : A → B → Type 0) (xs ys : List A) (all : List B) : Type 0 where
   pub front : List B
-  pub behind : List B
-  pub all_is : all ≡ front ++ behind
+  pub following : List B
+  pub all_is : all ≡ front ++ following
   pub in_front : AllZip R xs front
-  pub in_behind : AllZip R ys behind
+  pub in_after : AllZip R ys following
 
 parted : {A B : Type 0} (R : A → B → Type 0) (xs ys : List A) (all : List B) → AllZip R (xs ++ ys) all → Parted R xs ys all
-parted R [] ys all h = record { front = []; behind = all; all_is = refl; in_front = tt; in_behind = h }
+parted R [] ys all h = record { front = []; following = all; all_is = refl; in_front = tt; in_after = h }
 parted R (x ∷ xs) ys [] h = absurd h
 parted R (x ∷ xs) ys (b ∷ all) h =
     let rest = parted R xs ys all h.1 in
     record {
       front = b ∷ rest.front;
-      behind = rest.behind;
+      following = rest.following;
       all_is = ap (λ bs. b ∷ bs) rest.all_is;
       in_front = (h.0, rest.in_front);
-      in_behind = rest.in_behind;
+      in_after = rest.in_after;
     }
 
 -- one beside the first, and the others
 pub record Headed {A B : Type 0} (R : A → B → Type 0) (x : A) (xs : List A) (all : List B) : Type 0 where
   pub head : B
-  pub behind : List B
-  pub all_is : all ≡ head ∷ behind
+  pub following : List B
+  pub all_is : all ≡ head ∷ following
   pub beside : R x head
-  pub in_behind : AllZip R xs behind
+  pub in_after : AllZip R xs following
 
 headed : {A B : Type 0} (R : A → B → Type 0) (x : A) (xs : List A) (all : List B) → AllZip R (x ∷ xs) all → Headed R x xs all
 headed R x xs [] h = absurd h
-headed R x xs (b ∷ all) h = record { head = b; behind = all; all_is = refl; beside = h.0; in_behind = h.1 }
+headed R x xs (b ∷ all) h = record { head = b; following = all; all_is = refl; beside = h.0; in_after = h.1 }
 
 none-beside : {A B : Type 0} (R : A → B → Type 0) (all : List B) → AllZip R [] all → all ≡ []
 none-beside R [] h = refl
@@ -82,10 +82,10 @@ read-more names texts files text rows before read = record {
   are_rows = all_zipped_more (AreRowsOf names) texts files text rows before.are_rows read.are_rows;
   only = λ all are.
       let parts = parted (AreRowsOf names) texts (text ∷ []) all are in
-      let last = headed (AreRowsOf names) text [] parts.behind parts.in_behind in
-      let end = none-beside (AreRowsOf names) last.behind last.in_behind in
+      let last = headed (AreRowsOf names) text [] parts.following parts.in_after in
+      let end = none-beside (AreRowsOf names) last.following last.in_after in
       parts.all_is
-      ∙ ap₂ (λ front behind. front ++ behind) (before.only parts.front parts.in_front)
+      ∙ ap₂ (λ front following. front ++ following) (before.only parts.front parts.in_front)
       (last.all_is ∙ ap₂ (λ r rs. r ∷ rs) (read.only last.head last.beside) end);
 }
 
@@ -96,27 +96,27 @@ read-next names texts place d files rows within before read =
     (read-more names (take place texts) files (get_or texts place d) rows before read)
 
 -- the records of files and of others behind them
-records-append : (decided : Deciding) (provider : ℕ) (front behind : List (List Row))
-    → records_of decided provider (front ++ behind) ≡ records_of decided provider front ++ records_of decided (provider + length front) behind
-records-append decided provider [] behind =
+records-append : (decided : Deciding) (provider : ℕ) (front following : List (List Row))
+    → records_of decided provider (front ++ following) ≡ records_of decided provider front ++ records_of decided (provider + length front) following
+records-append decided provider [] following =
     let here : provider + 0 ≡ provider = omega arith in
     rw here refl
-records-append decided provider (rows ∷ front) behind =
+records-append decided provider (rows ∷ front) following =
     let next : suc provider + length front ≡ provider + suc (length front) = omega arith in
-    let rest = rw next at (records-append decided (suc provider) front behind) in
+    let rest = rw next at (records-append decided (suc provider) front following) in
     ap (λ rs. map (record_of decided provider) rows ++ rs) rest ∙ sym (append_assoc (map (record_of decided provider) rows) (records_of decided (suc provider) front) _)
 
 -- the text of files and of others behind them
-pub files-append : (decided : Deciding) (provider : ℕ) (front behind : List (List Row))
-    → files_text decided provider (front ++ behind) ≡ files_text decided provider front ++ files_text decided (provider + length front) behind
-files-append decided provider front behind =
-    ap text_of (records-append decided provider front behind)
-    ∙ flat_map-append record_text (records_of decided provider front) (records_of decided (provider + length front) behind)
+pub files-append : (decided : Deciding) (provider : ℕ) (front following : List (List Row))
+    → files_text decided provider (front ++ following) ≡ files_text decided provider front ++ files_text decided (provider + length front) following
+files-append decided provider front following =
+    ap text_of (records-append decided provider front following)
+    ∙ flat_map-append record_text (records_of decided provider front) (records_of decided (provider + length front) following)
 
 -- the text of a file and of others behind it
-files-cons : (decided : Deciding) (provider : ℕ) (rows : List Row) (behind : List (List Row))
-    → files_text decided provider (rows ∷ behind) ≡ rows_text decided provider rows ++ files_text decided (suc provider) behind
-files-cons decided provider rows behind = flat_map-append record_text (map (record_of decided provider) rows) (records_of decided (suc provider) behind)
+files-cons : (decided : Deciding) (provider : ℕ) (rows : List Row) (following : List (List Row))
+    → files_text decided provider (rows ∷ following) ≡ rows_text decided provider rows ++ files_text decided (suc provider) following
+files-cons decided provider rows following = flat_map-append record_text (map (record_of decided provider) rows) (records_of decided (suc provider) following)
 
 -- the text of the files so far, and of one more
 pub files-push : (decided : Deciding) (files : List (List Row)) (rows : List Row) (place : ℕ) → length files ≡ place
@@ -127,22 +127,22 @@ files-push decided files rows place size =
     ∙ ap (λ text. files_text decided 1 files ++ text) (files-cons decided (1 + length files) rows [] ∙ append-nil _ ∙ ap (λ p. rows_text decided p rows) provider)
 
 -- the files so far, and the first rows of one more, begin the text of whatever rows the files have
-begin-more : (decided : Deciding) (names : List InputData) (texts : List (List ℕ)) (text : List ℕ) (behind : List (List ℕ)) (files : List (List Row)) (rows : List Row)
-    → AreRead names texts files → IsReadFirst names text rows → (all : List (List Row)) → AllZip (AreRowsOf names) (texts ++ text ∷ behind) all
+begin-more : (decided : Deciding) (names : List InputData) (texts : List (List ℕ)) (text : List ℕ) (following : List (List ℕ)) (files : List (List Row)) (rows : List Row)
+    → AreRead names texts files → IsReadFirst names text rows → (all : List (List Row)) → AllZip (AreRowsOf names) (texts ++ text ∷ following) all
     → Begin (files_text decided 1 files ++ rows_text decided (1 + length files) rows) (files_text decided 1 all)
-begin-more decided names texts text behind files rows before first all are =
-    let parts = parted (AreRowsOf names) texts (text ∷ behind) all are in
-    let next = headed (AreRowsOf names) text behind parts.behind parts.in_behind in
+begin-more decided names texts text following files rows before first all are =
+    let parts = parted (AreRowsOf names) texts (text ∷ following) all are in
+    let next = headed (AreRowsOf names) text following parts.following parts.in_after in
     let begins = first next.head next.beside in
     let provider = 1 + length files in
-    let others = files_text decided (suc provider) next.behind in
+    let others = files_text decided (suc provider) next.following in
     record {
       rest = rows_text decided provider begins.rest ++ others;
       whole_is =
           ap (files_text decided 1) (parts.all_is ∙ ap₂ (λ front rest. front ++ rest) (before.only parts.front parts.in_front) next.all_is)
-          ∙ files-append decided 1 files (next.head ∷ next.behind)
+          ∙ files-append decided 1 files (next.head ∷ next.following)
           ∙ ap (λ t. files_text decided 1 files ++ t)
-          (files-cons decided provider next.head next.behind
+          (files-cons decided provider next.head next.following
           ∙ ap (λ t. t ++ others) (ap (rows_text decided provider) begins.whole_is ∙ rows-append decided provider rows begins.rest)
           ∙ append_assoc (rows_text decided provider rows) (rows_text decided provider begins.rest) others)
           ∙ sym (append_assoc (files_text decided 1 files) (rows_text decided provider rows) (rows_text decided provider begins.rest ++ others));
@@ -164,7 +164,7 @@ files-long names texts files read = AllZip-long (AreRowsOf names) texts files re
 
 -- what is written of a reader at the start of a text is written of the text
 pub of-text : StartHasTheRows → (decided : Deciding) (provider : ℕ) (names : List InputData) (text : List ℕ) (start : RowsLeft) (old new : At)
-    (result : Result (Unit {0}) WriteFault) → StandApart start.layout.columns → IsAtStart names text start → ((all : List Row) → AreRowsLeft start all → AreRowsOf names text all)
+    (result : Result (Unit {0}) WriteFault) → LieApart start.layout.columns → IsAtStart names text start → ((all : List Row) → AreRowsLeft start all → AreRowsOf names text all)
     → WritesLeft decided provider start old new result → WritesFile decided provider names text old new result
 of-text begins decided provider names text start old new (Ok done) apart at_start of writes =
     (writes.0, read-all begins names text start writes.0 apart at_start of writes.1, writes.2)
@@ -267,11 +267,11 @@ begin-in-front : (decided : Deciding) (names : List InputData) (xs ys : List (Li
     → ((front : List (List Row)) → AllZip (AreRowsOf names) xs front → Begin text (files_text decided 1 front)) → Begin text (files_text decided 1 all)
 begin-in-front decided names xs ys text all parts begins =
     let begin = begins parts.front parts.in_front in
-    let others = files_text decided (1 + length parts.front) parts.behind in
+    let others = files_text decided (1 + length parts.front) parts.following in
     record {
       rest = begin.rest ++ others;
       whole_is =
-          ap (files_text decided 1) parts.all_is ∙ files-append decided 1 parts.front parts.behind ∙ ap (λ t. t ++ others) begin.whole_is
+          ap (files_text decided 1) parts.all_is ∙ files-append decided 1 parts.front parts.following ∙ ap (λ t. t ++ others) begin.whole_is
           ∙ append_assoc text begin.rest others;
     }
 

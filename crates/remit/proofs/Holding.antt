@@ -8,7 +8,7 @@ use Rattle.csv.specs.Writing.{fields_written, has_written, row_text, writer_pend
 use Rattle.csv.specs.declared.writer.QuoteStyle.TheVariants.{NonNumeric}
 use Rattle.fixpoint.specs.Out.{PutsFront}
 use Rattle.remit.specs.Report.{record_text, report_style}
-use Rattle.remit.specs.Held.{At, Holds, HasFront, IsNoMemory, IsReady, Writes, at, gathered_of}
+use Rattle.remit.specs.RecordWriter.{At, Holds, HasFront, IsNoMemory, IsReady, Writes, at, gathered_of}
 use Rattle.faults.specs.declared.write_fault.WriteCause.TheVariants.{Device}
 use Rattle.faults.specs.declared.write_fault.WriteFault.{WriteFault}
 use Rattle.remit.specs.declared.record_writer.RecordWriter.{RecordWriter}

@@ -2,7 +2,7 @@ pub mod Adding
 pub mod Holding
 pub mod Noting
 pub mod Passing
-pub mod Telling
+pub mod RowSummaries
 pub mod Remarking
 pub mod Filing
 pub mod Looking

@@ -6,7 +6,7 @@ use Rattle.std.proofs.lemmas.Bool.Decides.{nat_tests}
 use Rattle.std.proofs.lemmas.List.{get_or_append_left, get_or_push, length_push}
 use Rattle.std.proofs.lemmas.List.Concat.{flat_map-cons}
 use Rattle.journal.specs.Events.{Filed, accept_in, accepts, place_in, places}
-use Rattle.journal.specs.Lawful.{counted}
+use Rattle.journal.specs.Lawful.{numbers_below}
 use Rattle.journal.specs.declared.event.Event.{Event}
 use Rattle.journal.specs.declared.event.Event.TheVariants.{Accept, End, Close, Take, Decide}
 use Rattle.remit.specs.Decided.{decided_as, decision_at, position_from, position_of}
@@ -58,9 +58,9 @@ here first f fs provider place same is =
     rw (same, found) refl
 
 -- it is another one of the provider
-behind-it : (first : ℕ) (f : Filed) (fs : List Filed) (provider place : ℕ) → (f.provider == provider) ≡ true → f.place ≢ place
+following-it : (first : ℕ) (f : Filed) (fs : List Filed) (provider place : ℕ) → (f.provider == provider) ≡ true → f.place ≢ place
     → position_from first (f ∷ fs) provider place ≡ position_from (suc first) fs provider place
-behind-it first f fs provider place same apart = rw (same, other-number f.place place apart) refl
+following-it first f fs provider place same apart = rw (same, other-number f.place place apart) refl
 
 -- it is another provider's
 not-its : (first : ℕ) (f : Filed) (fs : List Filed) (provider place : ℕ) → (f.provider == provider) ≡ false
@@ -75,10 +75,10 @@ AreFound fs first place provider = (i : ℕ) → FromOn place (places_among prov
 found-first : (f : Filed) (fs : List Filed) (first place provider i : ℕ) → (f.provider == provider) ≡ true → FromOn place (f.place ∷ places_among provider fs)
     → AreFound fs (suc first) (suc place) provider
     → slice_get (first ∷ positions_from (suc first) fs provider) i ≡ position_from first (f ∷ fs) provider (place + i)
-found-first f fs first place provider zero same order behind =
+found-first f fs first place provider zero same order following =
     let at_place : f.place ≡ place + 0 = order 0 0 (omega arith) in
     sym (here first f fs provider (place + 0) same at_place)
-found-first f fs first place provider (suc i) same order behind =
+found-first f fs first place provider (suc i) same order following =
     let at_place : f.place ≡ place + 0 = order 0 0 (omega arith) in
     let apart : f.place ≢ place + suc i = λ e. omega (arith, e, at_place) in
     let others : FromOn (suc place) (places_among provider fs) =
@@ -86,7 +86,7 @@ found-first f fs first place provider (suc i) same order behind =
     let shifted : place + suc j ≡ suc place + j = omega arith in
     order (suc j) d (omega (arith, within)) ∙ shifted in
     let next : suc place + i ≡ place + suc i = omega arith in
-    rw next at (behind i others) ∙ sym (behind-it first f fs provider (place + suc i) same apart)
+    rw next at (following i others) ∙ sym (following-it first f fs provider (place + suc i) same apart)
 
 -- where a provider's claims are accepted in the order of their places, the one at a place stands there among their positions
 found-in-order : (fs : List Filed) (first place provider : ℕ) → AreFound fs first place provider
@@ -103,28 +103,28 @@ found-in-order (f ∷ fs) first place provider i order = elim (cases_Bool (f.pro
 ]
 
 -- 0, 1 and so on stand in order from 0 on
-counted-long : (n : ℕ) → length (counted n) ≡ n
+counted-long : (n : ℕ) → length (numbers_below n) ≡ n
 counted-long zero = refl
 counted-long (suc n) =
     let before = counted-long n in
-    let longer = length_push (counted n) n in
+    let longer = length_push (numbers_below n) n in
     omega (arith, before, longer)
 
-counted-in-order : (n : ℕ) → FromOn 0 (counted n)
+counted-in-order : (n : ℕ) → FromOn 0 (numbers_below n)
 counted-in-order zero j d within = absurd (omega (arith, within))
 counted-in-order (suc n) j d within =
     let long = counted-long n in
-    let longer = length_push (counted n) n in
+    let longer = length_push (numbers_below n) n in
     elim (cases_lt j n) [
-      | inl inside ↦ get_or_append_left (counted n) (n ∷ []) d j (omega (arith, inside, long)) ∙ counted-in-order n j d (omega (arith, inside, long))
+      | inl inside ↦ get_or_append_left (numbers_below n) (n ∷ []) d j (omega (arith, inside, long)) ∙ counted-in-order n j d (omega (arith, inside, long))
       | inr last ↦
-          let at_end : length (counted n) ≡ j = omega (arith, within, last, long, longer) in
+          let at_end : length (numbers_below n) ≡ j = omega (arith, within, last, long, longer) in
           let end : n ≡ 0 + j = omega (arith, at_end, long) in
-          get_or_push (counted n) n d j at_end ∙ end
+          get_or_push (numbers_below n) n d j at_end ∙ end
     ]
 
 -- in a journal whose accepts are in order, a claim's position stands at its place among those of its provider
-pub position-in-order : (J : List Event) (provider place : ℕ) → places J provider ≡ counted (length (places J provider))
+pub position-in-order : (J : List Event) (provider place : ℕ) → places J provider ≡ numbers_below (length (places J provider))
     → slice_get (positions_of J provider) place ≡ position_of J provider place
 position-in-order J provider place order =
     let in_order : FromOn 0 (places_among provider (accepts J)) =
@@ -133,7 +133,7 @@ position-in-order J provider place order =
 
 -- what is looked up of a claim is what the journal decides of it
 pub looked-right : (version : ℕ) (providers : ℕ) (J : List Event) (decisions : Decisions) → LaidOut version providers J decisions
-    → ((provider : ℕ) → places J provider ≡ counted (length (places J provider))) → (provider place : ℕ) → 1 ≤ provider → provider ≤ providers
+    → ((provider : ℕ) → places J provider ≡ numbers_below (length (places J provider))) → (provider place : ℕ) → 1 ≤ provider → provider ≤ providers
     → found_of decisions provider place ≡ decided_as J provider place
 looked-right version providers J decisions laid order zero place least most = absurd (omega (arith, least))
 looked-right version providers J decisions laid order (suc i) place least most =

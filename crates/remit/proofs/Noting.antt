@@ -10,7 +10,7 @@ use Rattle.std.proofs.Math.ListN.{set}
 use Rattle.dtable.specs.Environment.{or_else}
 use Rattle.dtable.specs.Plan.{PlanParts}
 use Rattle.settlement.specs.declared.outcome.Outcome.{Outcome}
-use Rattle.journal.specs.Events.{Filed, accept_in, accepted, accepts}
+use Rattle.journal.specs.Events.{Filed, accept_in, accepted_count, accepts}
 use Rattle.journal.specs.declared.event.Event.{Event}
 use Rattle.journal.specs.declared.event.Event.TheVariants.{Accept, Decide}
 use Rattle.remit.specs.Decided.{decision_at, decision_in}
@@ -20,7 +20,7 @@ use Rattle.remit.specs.declared.decisions.Notes.{Notes}
 
 -- the claims accepted with one event more
 accepts-push : (J : List Event) (event : Event) → accepts (J ++ event ∷ []) ≡ accepts J ++ accept_in event
-accepts-push J event = flat_map-append accept_in J (event ∷ []) ∙ ap (λ behind. accepts J ++ behind) (append-nil (accept_in event))
+accepts-push J event = flat_map-append accept_in J (event ∷ []) ∙ ap (λ following. accepts J ++ following) (append-nil (accept_in event))
 
 -- the positions of a provider's claims with one claim more
 positions-push : (first : ℕ) (fs : List Filed) (f : Filed) (provider : ℕ)
@@ -43,7 +43,7 @@ positions-push first (g ∷ fs) f provider =
 pub noted-other : (whole : List Event) (providers : ℕ) (J : List Event) (event : Event) (notes : Notes) → accept_in event ≡ [] → Noted whole providers J [] notes
     → Noted whole providers (J ++ event ∷ []) [] notes
 noted-other whole providers J event notes none noted =
-    let same : accepts (J ++ event ∷ []) ≡ accepts J = accepts-push J event ∙ ap (λ behind. accepts J ++ behind) none ∙ append-nil (accepts J) in
+    let same : accepts (J ++ event ∷ []) ≡ accepts J = accepts-push J event ∙ ap (λ following. accepts J ++ following) none ∙ append-nil (accepts J) in
     record {
       count = noted.count;
       positions = λ i d within. rw same (noted.positions i d within);
@@ -56,8 +56,8 @@ at-end : (J : List Event) → outcome_at J (length J) ≡ None
 at-end J = ap (option_and_then outcome_by) (slice_get_past J (length J) (omega arith))
 
 -- no position is decided by no event, where so many are noted and one more
-undecided-push : (whole accepting : List Event) (items : List ℕ) → length items ≡ accepted accepting
-    → ((k d : ℕ) → k < accepted accepting → outcome_at whole (get_or items k d) ≡ None) → (k d : ℕ)
+undecided-push : (whole accepting : List Event) (items : List ℕ) → length items ≡ accepted_count accepting
+    → ((k d : ℕ) → k < accepted_count accepting → outcome_at whole (get_or items k d) ≡ None) → (k d : ℕ)
     → k < length items + 1 → outcome_at whole (get_or (items ++ length whole ∷ []) k d) ≡ None
 undecided-push whole accepting items size undecided k d within = elim (cases_lt k (length items)) [
   | inl inside ↦ ap (outcome_at whole) (get_or_append_left items (length whole ∷ []) d k inside) ∙ undecided k d (omega (arith, inside, size))
@@ -78,7 +78,7 @@ noted-accept whole providers J event provider place old new is decided notes not
       positions = λ i d within.
           notes.each i d (omega (arith, within, noted.count))
           ∙ ap (λ ps. ps ++ cond (provider == suc i) (length old.decided.items ∷ []) []) (noted.positions i d within)
-          ∙ ap (λ n. positions_of J (suc i) ++ cond (provider == suc i) (n ∷ []) []) (noted.size ∙ sym (zero-add (accepted J)))
+          ∙ ap (λ n. positions_of J (suc i) ++ cond (provider == suc i) (n ∷ []) []) (noted.size ∙ sym (zero-add (accepted_count J)))
           ∙ sym (ap (λ fs. positions_from 0 fs (suc i)) grown ∙ positions-push 0 (accepts J) filed (suc i));
       size = omega (arith, longer, counted, noted.size);
       decided = λ k d within.
@@ -155,10 +155,10 @@ noted-next-decision whole providers accepting J place event notes within is note
 pub record ReplacedTo (decided : List ℕ) (end : ℕ) (old new : List ℕ) (place : ℕ) : Type 0 where
   pub size : length new ≡ length old
   pub front : (k d : ℕ) → k < length old → k < place → get_or new k d ≡ get_or decided (get_or old k d) end
-  pub behind : (k d : ℕ) → place ≤ k → get_or new k d ≡ get_or old k d
+  pub following : (k d : ℕ) → place ≤ k → get_or new k d ≡ get_or old k d
 
 pub replaced-none : (decided : List ℕ) (end : ℕ) (old : List ℕ) → ReplacedTo decided end old old 0
-replaced-none decided end old = record { size = refl; front = λ k d within less. absurd (omega (arith, less)); behind = λ k d least. refl }
+replaced-none decided end old = record { size = refl; front = λ k d within less. absurd (omega (arith, less)); following = λ k d least. refl }
 
 pub replaced-next : (decided : List ℕ) (end : ℕ) (old new : List ℕ) (place value : ℕ) → place < length new → value ≡ get_or decided (get_or new place 0) end
     → ReplacedTo decided end old new place → ReplacedTo decided end old (set new place value) (place + 1)
@@ -170,9 +170,9 @@ replaced-next decided end old new place value within is so_far = record {
         let here : k ≡ place = omega (arith, last, less) in
         rw here
         (get_or-set_same new place value d within ∙ is
-        ∙ ap (λ p. get_or decided p end) (get_or_default new place 0 d within ∙ so_far.behind place d (omega arith)))
+        ∙ ap (λ p. get_or decided p end) (get_or_default new place 0 d within ∙ so_far.following place d (omega arith)))
   ];
-  behind = λ k d least. get_or-set_other new place k value d (λ e. omega (arith, least, e)) ∙ so_far.behind k d (omega (arith, least));
+  following = λ k d least. get_or-set_other new place k value d (λ e. omega (arith, least, e)) ∙ so_far.following k d (omega (arith, least));
 }
 
 pub replaced-all : (decided : List ℕ) (end : ℕ) (old new : List ℕ) (place : ℕ) → length new ≤ place → ReplacedTo decided end old new place → Replaces decided end old new
@@ -185,10 +185,10 @@ replaced-all decided end old new place past so_far = record {
 pub record ListsReplacedTo (decided : List ℕ) (end : ℕ) (old new : List (Vec ℕ)) (place : ℕ) : Type 0 where
   pub size : length new ≡ length old
   pub front : (i : ℕ) (d : Vec ℕ) → i < length old → i < place → Replaces decided end (get_or old i d).items (get_or new i d).items
-  pub behind : (i : ℕ) (d : Vec ℕ) → place ≤ i → get_or new i d ≡ get_or old i d
+  pub following : (i : ℕ) (d : Vec ℕ) → place ≤ i → get_or new i d ≡ get_or old i d
 
 pub lists-none : (decided : List ℕ) (end : ℕ) (old : List (Vec ℕ)) → ListsReplacedTo decided end old old 0
-lists-none decided end old = record { size = refl; front = λ i d within less. absurd (omega (arith, less)); behind = λ i d least. refl }
+lists-none decided end old = record { size = refl; front = λ i d within less. absurd (omega (arith, less)); following = λ i d least. refl }
 
 pub lists-next : (decided : List ℕ) (end : ℕ) (old new : List (Vec ℕ)) (place : ℕ) (list replaced : Vec ℕ) → place < length new → list ≡ get_or new place list
     → Replaces decided end list.items replaced.items → ListsReplacedTo decided end old new place → ListsReplacedTo decided end old (set new place replaced) (place + 1)
@@ -199,10 +199,10 @@ lists-next decided end old new place list replaced within is replaces so_far = r
         rw (get_or-set_other new place i replaced d (λ e. omega (arith, before, e))) (so_far.front i d inside before)
     | inr last ↦
         let here : i ≡ place = omega (arith, last, less) in
-        let old_list : list ≡ get_or old place d = is ∙ get_or_default new place list d within ∙ so_far.behind place d (omega arith) in
+        let old_list : list ≡ get_or old place d = is ∙ get_or_default new place list d within ∙ so_far.following place d (omega arith) in
         rw (here, get_or-set_same new place replaced d within, ← old_list) replaces
   ];
-  behind = λ i d least. get_or-set_other new place i replaced d (λ e. omega (arith, least, e)) ∙ so_far.behind i d (omega (arith, least));
+  following = λ i d least. get_or-set_other new place i replaced d (λ e. omega (arith, least, e)) ∙ so_far.following i d (omega (arith, least));
 }
 
 pub lists-all : (decided : List ℕ) (end : ℕ) (old new : List (Vec ℕ)) (place : ℕ) → length new ≤ place → ListsReplacedTo decided end old new place
@@ -225,26 +225,26 @@ replaced-get decided end old new place replaces = elim (cases_lt place (length o
 ]
 
 -- what stands in a list is the first, or stands behind it
-first-or-behind : (first k bound : ℕ) (rest : List ℕ) (place : ℕ) → first < bound → ((j : ℕ) → slice_get rest j ≡ Some k → k < bound)
+first-or-following : (first k bound : ℕ) (rest : List ℕ) (place : ℕ) → first < bound → ((j : ℕ) → slice_get rest j ≡ Some k → k < bound)
     → slice_get (first ∷ rest) place ≡ Some k → k < bound
-first-or-behind first k bound rest zero within behind is = let here : first ≡ k = cc is in subst (λ n. n < bound) here within
-first-or-behind first k bound rest (suc j) within behind is = behind j is
+first-or-following first k bound rest zero within following is = let here : first ≡ k = cc is in subst (λ n. n < bound) here within
+first-or-following first k bound rest (suc j) within following is = following j is
 
 -- a provider's positions are positions of the claims accepted
 positions-within : (fs : List Filed) (first provider place k : ℕ) → slice_get (positions_from first fs provider) place ≡ Some k → k < first + length fs
 positions-within [] first provider place k is = absurd (cc is)
 positions-within (f ∷ fs) first provider place k is =
-    let behind : (j : ℕ) → slice_get (positions_from (suc first) fs provider) j ≡ Some k → k < first + suc (length fs) =
-    λ j stands. let rest = positions-within fs (suc first) provider j k stands in omega (arith, rest) in
+    let following : (j : ℕ) → slice_get (positions_from (suc first) fs provider) j ≡ Some k → k < first + suc (length fs) =
+    λ j located. let rest = positions-within fs (suc first) provider j k located in omega (arith, rest) in
     elim (cases_Bool (f.provider == provider)) [
       | inl same ↦
-          first-or-behind first k (first + suc (length fs)) (positions_from (suc first) fs provider) place (omega arith) behind (rw same at is)
-      | inr other ↦ behind place (rw other at is)
+          first-or-following first k (first + suc (length fs)) (positions_from (suc first) fs provider) place (omega arith) following (rw same at is)
+      | inr other ↦ following place (rw other at is)
     ]
 
 -- what is found of a position that is replaced is what the journal decides of it
 decided-through : (J : List Event) (providers : ℕ) (notes : Notes) (end : ℕ) → Noted J providers J J notes → (position : Option ℕ)
-    → ((k : ℕ) → position ≡ Some k → k < accepted J)
+    → ((k : ℕ) → position ≡ Some k → k < accepted_count J)
     → option_and_then (outcome_at J) (option_map (λ p. get_or notes.decided.items p end) position) ≡ option_and_then (decision_at J) position
 decided-through J providers notes end noted None within = refl
 decided-through J providers notes end noted (Some k) within = noted.decided k end (within k refl)
@@ -266,9 +266,9 @@ laid version providers J notes end decisions noted replaced version_is accepted_
       let size = replaced.count in
       let d = some-of decisions.places.items (omega (arith, within, count, size)) in
       let index : suc i - 1 ≡ i = omega arith in
-      let stands = slice_get-get_or decisions.places.items i d (omega (arith, within, count, size)) in
+      let located = slice_get-get_or decisions.places.items i d (omega (arith, within, count, size)) in
       let listed : option_and_then (λ (places : Vec ℕ). slice_get places.items place) (slice_get decisions.places.items (suc i - 1)) ≡ slice_get (get_or decisions.places.items i d).items place =
-      rw index (ap (option_and_then (λ (places : Vec ℕ). slice_get places.items place)) stands) in
+      rw index (ap (option_and_then (λ (places : Vec ℕ). slice_get places.items place)) located) in
       let got =
       replaced-get notes.decided.items end (get_or notes.positions.items i d).items (get_or decisions.places.items i d).items place
       (replaced.each i d (omega (arith, within, count))) in

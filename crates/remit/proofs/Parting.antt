@@ -4,8 +4,8 @@ use Rattle.std.specs.Io.KnownBytes.{Appends}
 use Rattle.std.proofs.lemmas.Bool.{false≢true}
 use Rattle.dtable.specs.declared.table.InputData.{InputData}
 use Rattle.intake_csv.specs.declared.rows.Row.{Row}
-use Rattle.remit.specs.Held.{At, Writes, gathered_of}
-use Rattle.remit.specs.Parts.{IsPart}
+use Rattle.remit.specs.RecordWriter.{At, Writes, gathered_of}
+use Rattle.remit.specs.Sections.{IsPart}
 use Rattle.remit.specs.Records.{Deciding}
 use Rattle.remit.specs.Rows.{IsRead, IsReadFirst, WritesFile, rows_text}
 use Rattle.faults.specs.declared.write_fault.WriteFault.{WriteFault}

@@ -2,23 +2,23 @@
 use Rattle.std.proofs.Common.{◌≡◌, ℕ, Bool, Option, Ok, Err, List, [], ◌∷◌, ◌++◌, map, ap, sym, subst, ◌∙◌, refl, append_assoc, append-nil}
 use Rattle.std.proofs.lemmas.Grind.{flat_map-append}
 use Rattle.std.proofs.lemmas.List.{map-append}
-use Rattle.intake_csv.specs.Laws.{GivenRowIsTheFirst, NoRecordsNoRows, StandApart}
+use Rattle.intake_csv.specs.Laws.{GivenRowIsTheFirst, NoRecordsNoRows, LieApart}
 use Rattle.intake_csv.specs.Rows.{AreRowsLeft, GivesRow, RowsLeft}
 use Rattle.intake_csv.specs.declared.rows.Row.{Row}
 use Rattle.remit.specs.Records.{Deciding, record_of}
 use Rattle.remit.specs.Report.{record_text, text_of}
 use Rattle.remit.specs.Rows.{GivesAll, GivesFirst, WritesLeft, rows_text}
-use Rattle.remit.specs.Held.{At, IsNoMemory, Writes, at}
+use Rattle.remit.specs.RecordWriter.{At, IsNoMemory, Writes, at}
 use Rattle.faults.specs.declared.write_fault.WriteFault.{WriteFault}
 use Rattle.remit.specs.declared.record_writer.RecordWriter.{RecordWriter}
 use Rattle.remit.proofs.Holding.{gathers-and-hands, no-memory, writes-none, writes-then}
 
 -- the text of rows and of others behind them
-pub rows-append : (decided : Deciding) (provider : ℕ) (front behind : List Row)
-    → rows_text decided provider (front ++ behind) ≡ rows_text decided provider front ++ rows_text decided provider behind
-rows-append decided provider front behind =
-    ap text_of (map-append (record_of decided provider) front behind)
-    ∙ flat_map-append record_text (map (record_of decided provider) front) (map (record_of decided provider) behind)
+pub rows-append : (decided : Deciding) (provider : ℕ) (front following : List Row)
+    → rows_text decided provider (front ++ following) ≡ rows_text decided provider front ++ rows_text decided provider following
+rows-append decided provider front following =
+    ap text_of (map-append (record_of decided provider) front following)
+    ∙ flat_map-append record_text (map (record_of decided provider) front) (map (record_of decided provider) following)
 
 -- the text of rows and of one behind them
 pub rows-push : (decided : Deciding) (provider : ℕ) (front : List Row) (row : Row)
@@ -35,7 +35,7 @@ pub record Behind (given : List Row) (left : RowsLeft) (rows : List Row) : Type 
 -- a reader has given these rows since its start
 pub record Passed (start now : RowsLeft) (given : List Row) : Type 0 where
   pub forward : (rest : List Row) → AreRowsLeft now rest → AreRowsLeft start (given ++ rest)
-  pub only : StandApart start.layout.columns → (all : List Row) → AreRowsLeft start all → Behind given now all
+  pub only : LieApart start.layout.columns → (all : List Row) → AreRowsLeft start all → Behind given now all
   pub layout : now.layout ≡ start.layout
 
 pub passed-none : (start : RowsLeft) → Passed start start []
@@ -50,12 +50,12 @@ pub passed-next : GivenRowIsTheFirst → (start now next : RowsLeft) (given : Li
 passed-next first start now next given row passed gives head = record {
   forward = λ rest left. subst (AreRowsLeft start) (sym (append_assoc given (row ∷ []) rest)) (passed.forward (row ∷ rest) (head rest left));
   only = λ apart all left.
-      let behind = passed.only apart all left in
-      let apart_now = subst (λ l. StandApart l.columns) (sym passed.layout) apart in
-      let begins = first now next row behind.rest apart_now gives behind.rest_left in
+      let following = passed.only apart all left in
+      let apart_now = subst (λ l. LieApart l.columns) (sym passed.layout) apart in
+      let begins = first now next row following.rest apart_now gives following.rest_left in
       record {
         rest = begins.rest;
-        rows_are = behind.rows_are ∙ ap (λ rows. given ++ rows) begins.rows_are ∙ sym (append_assoc given (row ∷ []) begins.rest);
+        rows_are = following.rows_are ∙ ap (λ rows. given ++ rows) begins.rows_are ∙ sym (append_assoc given (row ∷ []) begins.rest);
         rest_left = begins.rest_left;
       };
   layout = gives.layout ∙ passed.layout;
@@ -65,14 +65,14 @@ pub passed-all : NoRecordsNoRows → (start now : RowsLeft) (given : List Row) �
 passed-all none start now given passed empty left = record {
   are_rows = subst (AreRowsLeft start) (append-nil given) (passed.forward [] left);
   only = λ apart all all_left.
-      let behind = passed.only apart all all_left in
-      behind.rows_are ∙ ap (λ rows. given ++ rows) (none now behind.rest empty behind.rest_left) ∙ append-nil given;
+      let following = passed.only apart all all_left in
+      following.rows_are ∙ ap (λ rows. given ++ rows) (none now following.rest empty following.rest_left) ∙ append-nil given;
 }
 
 pub passed-front : (start now : RowsLeft) (given : List Row) → Passed start now given → GivesFirst start given
 passed-front start now given passed apart all left =
-    let behind = passed.only apart all left in
-    record { rest = behind.rest; whole_is = behind.rows_are }
+    let following = passed.only apart all left in
+    record { rest = following.rest; whole_is = following.rows_are }
 
 -- the rows that a reader has given since its start are written
 pub record RowsSoFar (decided : Deciding) (provider : ℕ) (start now : RowsLeft) (old new : At) : Type 0 where

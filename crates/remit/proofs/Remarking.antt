@@ -1,6 +1,6 @@
 -- The text of no remarks, and of one.
 use Rattle.std.proofs.Common.{◌≡◌, ◌∙◌, ℕ, Some, None, List, [], ◌∷◌, length, slice_get, refl, append-nil}
-use Rattle.remit.specs.Texts.{remarks_text}
+use Rattle.remit.specs.FieldTexts.{remarks_text}
 
 pub none_joined : (remarks : List (List ℕ)) → slice_get remarks 0 ≡ None → remarks_text remarks ≡ []
 none_joined [] none = refl

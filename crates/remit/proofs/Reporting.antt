@@ -17,10 +17,10 @@ use Rattle.journal.specs.Terms.{Terms}
 use Rattle.journal.specs.declared.event.Event.{Event}
 use Rattle.claim_gate.specs.Terms.{AreClaimsOf, IsFinishedOver, IsTermsOf, TermsParts}
 use Rattle.remit.specs.Decided.{decided_as}
-use Rattle.remit.specs.Held.{At, Holds, IsReady, Writes, gathered_of}
+use Rattle.remit.specs.RecordWriter.{At, Holds, IsReady, Writes, gathered_of}
 use Rattle.remit.specs.Looked.{LaidOut, found_of, looked_up}
-use Rattle.remit.specs.Records.{Deciding, claimant_fields, header_fields, line_of, record_of, records_of, told_of, total_fields}
-use Rattle.remit.specs.Report.{IsReport, record_text, report_records, text_of, told_by_journal}
+use Rattle.remit.specs.Records.{Deciding, id_column_fields, header_fields, line_of, record_of, records_of, reported_of, total_fields}
+use Rattle.remit.specs.Report.{IsReport, record_text, report_records, text_of, reported_by_journal}
 use Rattle.remit.specs.Rows.{AreRead, Begin, WritesFiles, files_text}
 use Rattle.remit.specs.Writing.{WritesFront, WritesReport}
 use Rattle.remit.specs.declared.decisions.Decisions.{Decisions}
@@ -51,37 +51,37 @@ are-terms parts files are = record {
 }
 
 -- what records are told by
-abbrev pub told : ℕ → (ℕ → ℕ → Option Outcome) → Deciding
-told version decided = record { version = version; decided = decided }
+abbrev pub reported : ℕ → (ℕ → ℕ → Option Outcome) → Deciding
+reported version decided = record { version = version; decided = decided }
 
 -- what is decided alike is told alike
 record-same : (version : ℕ) (f g : ℕ → ℕ → Option Outcome) (provider : ℕ) (row : Row) → ((place : ℕ) → f provider place ≡ g provider place)
-    → record_of (told version f) provider row ≡ record_of (told version g) provider row
+    → record_of (reported version f) provider row ≡ record_of (reported version g) provider row
 record-same version f g provider (Good number place claim) same =
-    ap (λ o. line_of provider number (claimant_fields version claim) (told_of o)) (same place)
+    ap (λ o. line_of provider number (id_column_fields version claim) (reported_of o)) (same place)
 record-same version f g provider (Bad number fault) same = refl
 
 rows-same : (version : ℕ) (f g : ℕ → ℕ → Option Outcome) (provider : ℕ) (rows : List Row) → ((place : ℕ) → f provider place ≡ g provider place)
-    → map (record_of (told version f) provider) rows ≡ map (record_of (told version g) provider) rows
+    → map (record_of (reported version f) provider) rows ≡ map (record_of (reported version g) provider) rows
 rows-same version f g provider [] same = refl
 rows-same version f g provider (row ∷ rows) same = ap₂ (λ r rs. r ∷ rs) (record-same version f g provider row same) (rows-same version f g provider rows same)
 
 records-same : (version : ℕ) (f g : ℕ → ℕ → Option Outcome) (first : ℕ) (files : List (List Row))
     → ((provider place : ℕ) → first ≤ provider → provider < first + length files → f provider place ≡ g provider place)
-    → records_of (told version f) first files ≡ records_of (told version g) first files
+    → records_of (reported version f) first files ≡ records_of (reported version g) first files
 records-same version f g first [] same = refl
 records-same version f g first (rows ∷ files) same =
-    ap₂ (λ front behind. front ++ behind) (rows-same version f g first rows (λ place. same first place (omega arith) (omega arith)))
+    ap₂ (λ front following. front ++ following) (rows-same version f g first rows (λ place. same first place (omega arith) (omega arith)))
     (records-same version f g (suc first) files (λ provider place least most. same provider place (omega (arith, least)) (omega (arith, most))))
 
 -- what is looked up gives the records of the report
 pub files-alike : (parts : TermsParts) (J : List Event) (providers : ℕ) (decisions : Decisions) (files : List (List Row)) → IsFinishedOver parts J
     → LaidOut parts.plan.version providers J decisions → providers ≡ length parts.files → AllZip (AreRowsOf parts.plan.names) parts.files files
-    → files_text (looked_up decisions) 1 files ≡ files_text (told_by_journal parts.plan.version J) 1 files
+    → files_text (looked_up decisions) 1 files ≡ files_text (reported_by_journal parts.plan.version J) 1 files
 files-alike parts J providers decisions files finished noted as_many are =
     let journal = finished (terms-by parts files) (are-terms parts files are) in
     let long = AllZip-long (AreRowsOf parts.plan.names) parts.files files are in
-    ap (λ version. files_text (told version (found_of decisions)) 1 files) noted.version_is
+    ap (λ version. files_text (reported version (found_of decisions)) 1 files) noted.version_is
     ∙ ap text_of
     (records-same parts.plan.version (found_of decisions) (decided_as J) 1 files
     (λ provider place least most.
@@ -90,14 +90,14 @@ files-alike parts J providers decisions files finished noted as_many are =
 
 -- the report's text, in its three parts
 abbrev pub whole_text : ℕ → List Event → List (List Row) → List ℕ
-whole_text version J files = record_text (header_fields version) ++ (files_text (told_by_journal version J) 1 files ++ record_text (total_fields version J))
+whole_text version J files = record_text (header_fields version) ++ (files_text (reported_by_journal version J) 1 files ++ record_text (total_fields version J))
 
 whole-is : (version : ℕ) (J : List Event) (files : List (List Row)) → text_of (report_records version J files) ≡ whole_text version J files
 whole-is version J files =
-    flat_map-cons record_text (header_fields version) (records_of (told_by_journal version J) 1 files ++ total_fields version J ∷ [])
+    flat_map-cons record_text (header_fields version) (records_of (reported_by_journal version J) 1 files ++ total_fields version J ∷ [])
     ∙ ap (λ t. record_text (header_fields version) ++ t)
-    (flat_map-append record_text (records_of (told_by_journal version J) 1 files) (total_fields version J ∷ [])
-    ∙ ap (λ t. files_text (told_by_journal version J) 1 files ++ t) (append-nil (record_text (total_fields version J))))
+    (flat_map-append record_text (records_of (reported_by_journal version J) 1 files) (total_fields version J ∷ [])
+    ∙ ap (λ t. files_text (reported_by_journal version J) 1 files ++ t) (append-nil (record_text (total_fields version J))))
 
 -- nothing is written yet
 pub record IsFresh (start : At) : Type 0 where
@@ -143,10 +143,10 @@ report-written parts J providers decisions a b c d e finished noted as_many fres
     }
 
 -- so many first elements of a list that begins with as many are these
-front-of : (front behind : List ℕ) (n : ℕ) → n ≡ length front → take n (front ++ behind) ≡ front
-front-of [] behind n is = rw is refl
-front-of (x ∷ front) behind zero is = absurd (omega (arith, is))
-front-of (x ∷ front) behind (suc n) is = ap (λ xs. x ∷ xs) (front-of front behind n (omega (arith, is)))
+front-of : (front following : List ℕ) (n : ℕ) → n ≡ length front → take n (front ++ following) ≡ front
+front-of [] following n is = rw is refl
+front-of (x ∷ front) following zero is = absurd (omega (arith, is))
+front-of (x ∷ front) following (suc n) is = ap (λ xs. x ∷ xs) (front-of front following n (omega (arith, is)))
 
 -- the writing is refused within a text that begins each report
 pub front-written : (parts : TermsParts) (J : List Event) (start end : At) (text : List ℕ) (fault : WriteFault) → IsFresh start → Writes start end text (Err fault)
@@ -171,7 +171,7 @@ none-written parts J contents = record { bytes = []; counted = refl; appended = 
 -- each report begins with the header
 pub begins-header : (parts : TermsParts) (J : List Event) (report : List ℕ) → IsReport parts J report → Begin (record_text (header_fields parts.plan.version)) report
 begins-header parts J report is = record {
-  rest = files_text (told_by_journal parts.plan.version J) 1 is.files ++ record_text (total_fields parts.plan.version J);
+  rest = files_text (reported_by_journal parts.plan.version J) 1 is.files ++ record_text (total_fields parts.plan.version J);
   whole_is = is.bytes_are ∙ whole-is parts.plan.version J is.files;
 }
 

@@ -12,7 +12,7 @@ use Rattle.claim_gate.specs.Terms.{TermsParts}
 use Rattle.remit.specs.Amounts.{amount_of}
 use Rattle.remit.specs.Decided.{paid_outcomes, sum_of}
 use Rattle.remit.specs.Records.{Deciding}
-use Rattle.remit.specs.Report.{told_by_journal}
+use Rattle.remit.specs.Report.{reported_by_journal}
 use Rattle.remit.specs.Rows.{GivesAll, IsRead}
 use Rattle.remit.specs.declared.counts.RecordCounts.{RecordCounts}
 use Rattle.remit.specs.declared.counts.RunCounts.{RunCounts}
@@ -74,7 +74,7 @@ pub record EachIsCounted (by : Deciding) (names : List InputData) (texts : List 
 
 -- the counts are those of the files' records by the decisions of this journal
 abbrev pub AreCounted : TermsParts → List Event → List RecordCounts → Type 0
-AreCounted parts J counts = EachIsCounted (told_by_journal parts.plan.version J) parts.plan.names parts.files counts
+AreCounted parts J counts = EachIsCounted (reported_by_journal parts.plan.version J) parts.plan.names parts.files counts
 
 -- the counts of a run over these terms with this journal, and what its plan pays in all
 pub record AreRunCounts (parts : TermsParts) (J : List Event) (counts : RunCounts) : Type 0 where

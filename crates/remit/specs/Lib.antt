@@ -1,11 +1,11 @@
 pub mod Amounts
 pub mod Decided
-pub mod Texts
+pub mod FieldTexts
 pub mod Records
 pub mod Report
 pub mod Writing
-pub mod Held
+pub mod RecordWriter
 pub mod Looked
 pub mod Rows
-pub mod Parts
+pub mod Sections
 pub mod Counts

@@ -6,7 +6,7 @@ use Rattle.std.specs.Option.{option_and_then}
 use Rattle.fixpoint.specs.Number.{greatest_units}
 use Rattle.dtable.specs.Environment.{or_else}
 use Rattle.settlement.specs.declared.outcome.Outcome.{Outcome}
-use Rattle.journal.specs.Events.{Filed, accepted, accepts}
+use Rattle.journal.specs.Events.{Filed, accepted_count, accepts}
 use Rattle.journal.specs.declared.event.Event.{Event}
 use Rattle.journal.specs.declared.event.Event.TheVariants.{Decide}
 use Rattle.remit.specs.declared.amount.Amount.{Amount}
@@ -45,8 +45,8 @@ outcome_at J place = option_and_then outcome_by (slice_get J place)
 pub record Noted (whole : List Event) (providers : ℕ) (accepting deciding : List Event) (notes : Notes) : Type 0 where
   pub count : length notes.positions.items ≡ providers
   pub positions : (i : ℕ) (d : Vec ℕ) → i < providers → (get_or notes.positions.items i d).items ≡ positions_of accepting (suc i)
-  pub size : length notes.decided.items ≡ accepted accepting
-  pub decided : (k d : ℕ) → k < accepted accepting → outcome_at whole (get_or notes.decided.items k d) ≡ decision_at deciding k
+  pub size : length notes.decided.items ≡ accepted_count accepting
+  pub decided : (k d : ℕ) → k < accepted_count accepting → outcome_at whole (get_or notes.decided.items k d) ≡ decision_at deciding k
 
 -- a position is put behind those of this provider
 pub record NotesPosition (old new : List (Vec ℕ)) (provider position : ℕ) : Type 0 where
@@ -78,7 +78,7 @@ found_of decisions provider place =
 -- the plan's version, how many claims the journal accepts, and of each claim of so many providers what it decides of its position
 pub record LaidOut (version : ℕ) (providers : ℕ) (J : List Event) (decisions : Decisions) : Type 0 where
   pub version_is : decisions.version ≡ version
-  pub accepted_is : decisions.accepted ≡ accepted J
+  pub accepted_is : decisions.accepted ≡ accepted_count J
   pub found : (i place : ℕ) → i < providers → found_of decisions (suc i) place ≡ option_and_then (decision_at J) (slice_get (positions_of J (suc i)) place)
 
 -- what records are told by, as it is found

@@ -12,12 +12,12 @@ use Rattle.faults.specs.ReasonText.{reason_text}
 use Rattle.faults.specs.declared.file_fault.RowFault.{RowFault}
 use Rattle.intake_csv.specs.declared.rows.Row.{Row}
 use Rattle.intake_csv.specs.declared.rows.Row.TheVariants.{Good, Bad}
-use Rattle.journal.specs.Events.{accepted}
+use Rattle.journal.specs.Events.{accepted_count}
 use Rattle.journal.specs.declared.event.Event.{Event}
 use Rattle.remit.specs.declared.amount.Amount.{Amount}
 use Rattle.remit.specs.Amounts.{amounts, name_of, amount_of}
 use Rattle.remit.specs.Decided.{paid_outcomes, sum_of}
-use Rattle.remit.specs.Texts.{fault_text, remarks_text}
+use Rattle.remit.specs.FieldTexts.{fault_text, remarks_text}
 
 -- what records are told by: the plan's version, and what the providers' claims are decided to be, by their places
 pub record Deciding : Type 0 where
@@ -55,8 +55,8 @@ pub record Told : Type 0 where
   pub amounts : List (List ℕ)
   pub remarks : List ℕ
 
-abbrev pub told_fields : Told → List (List ℕ)
-told_fields told = told.status ∷ told.reason ∷ (told.amounts ++ told.remarks ∷ [])
+abbrev pub status_fields : Told → List (List ℕ)
+status_fields reported = reported.status ∷ reported.reason ∷ (reported.amounts ++ reported.remarks ∷ [])
 
 -- the amounts of an outcome, as money
 abbrev pub amounts_of : Outcome → List (List ℕ)
@@ -71,33 +71,33 @@ abbrev pub no_amounts : List (List ℕ)
 no_amounts = map (λ amount. []) amounts
 
 -- a claim that is decided: a pended one has its reason, and no remarks
-abbrev pub told_by : Verdict → Outcome → Told
-told_by Paid decision = record { status = codes "paid"; reason = []; amounts = amounts_of decision; remarks = remarks_text decision.remarks }
-told_by Denied decision = record { status = codes "denied"; reason = []; amounts = zeros; remarks = remarks_text decision.remarks }
-told_by (Pended reason) decision = record { status = codes "pended"; reason = reason_text reason; amounts = zeros; remarks = [] }
+abbrev pub reported_by : Verdict → Outcome → Told
+reported_by Paid decision = record { status = codes "paid"; reason = []; amounts = amounts_of decision; remarks = remarks_text decision.remarks }
+reported_by Denied decision = record { status = codes "denied"; reason = []; amounts = zeros; remarks = remarks_text decision.remarks }
+reported_by (Pended reason) decision = record { status = codes "pended"; reason = reason_text reason; amounts = zeros; remarks = [] }
 
 -- a claim: what it is decided to be, or that it came too late to be accepted
-abbrev pub told_of : Option Outcome → Told
-told_of (Some decision) = told_by decision.verdict decision
-told_of None = record { status = codes "late"; reason = []; amounts = no_amounts; remarks = [] }
+abbrev pub reported_of : Option Outcome → Told
+reported_of (Some decision) = reported_by decision.verdict decision
+reported_of None = record { status = codes "late"; reason = []; amounts = no_amounts; remarks = [] }
 
 -- a record that is no claim
-abbrev pub told_refused : RowFault → Told
-told_refused fault = record { status = codes "refused"; reason = fault_text fault; amounts = no_amounts; remarks = [] }
+abbrev pub reported_refused : RowFault → Told
+reported_refused fault = record { status = codes "refused"; reason = fault_text fault; amounts = no_amounts; remarks = [] }
 
 -- a record of a provider's file: its number, whose it is, and what is told of it
 abbrev pub line_of : ℕ → ℕ → List (List ℕ) → Told → List (List ℕ)
-line_of provider number whose told = decimal provider ∷ decimal number ∷ (whose ++ told_fields told)
+line_of provider number whose reported = decimal provider ∷ decimal number ∷ (whose ++ status_fields reported)
 
 -- the fields that tell whose a claim is; its year is that of its service
-abbrev pub claimant_fields : ℕ → Claim → List (List ℕ)
-claimant_fields version claim = whose_fields version claim.id (family_of claim) claim.member (year_text (year_of claim.service))
+abbrev pub id_column_fields : ℕ → Claim → List (List ℕ)
+id_column_fields version claim = whose_fields version claim.id (family_of claim) claim.member (year_text (year_of claim.service))
 
 -- a row of a provider's file, where this is what records are told by
 abbrev pub record_of : Deciding → ℕ → Row → List (List ℕ)
 record_of by provider (Good number place claim) =
-    line_of provider number (claimant_fields by.version claim) (told_of (by.decided provider place))
-record_of by provider (Bad number fault) = line_of provider number (whose_fields by.version [] [] [] []) (told_refused fault)
+    line_of provider number (id_column_fields by.version claim) (reported_of (by.decided provider place))
+record_of by provider (Bad number fault) = line_of provider number (whose_fields by.version [] [] [] []) (reported_refused fault)
 
 -- the rows of the providers' files, the first of them of this provider: provider by provider, in file order
 abbrev pub records_of : Deciding → ℕ → List (List Row) → List (List (List ℕ))
@@ -114,4 +114,4 @@ total_front version count = codes "total" ∷ decimal count ∷ (whose_fields ve
 
 -- the record at the end: how many claims are accepted, and the sums over the paid claims
 abbrev pub total_fields : ℕ → List Event → List (List ℕ)
-total_fields version J = total_front version (accepted J) ++ (map (total_text J) amounts ++ [] ∷ [])
+total_fields version J = total_front version (accepted_count J) ++ (map (total_text J) amounts ++ [] ∷ [])

@@ -24,12 +24,12 @@ abbrev pub text_of : List (List (List ℕ)) → List ℕ
 text_of records = flat_map record_text records
 
 -- what the records of a journal's report are told by
-abbrev pub told_by_journal : ℕ → List Event → Deciding
-told_by_journal version J = record { version = version; decided = decided_as J }
+abbrev pub reported_by_journal : ℕ → List Event → Deciding
+reported_by_journal version J = record { version = version; decided = decided_as J }
 
 -- the records of the report: the header, each row of each provider's file, and the totals
 abbrev pub report_records : ℕ → List Event → List (List Row) → List (List (List ℕ))
-report_records version J files = header_fields version ∷ (records_of (told_by_journal version J) 1 files ++ total_fields version J ∷ [])
+report_records version J files = header_fields version ∷ (records_of (reported_by_journal version J) 1 files ++ total_fields version J ∷ [])
 
 -- the bytes are the report of these terms and this journal
 pub record IsReport (parts : TermsParts) (J : List Event) (bytes : List ℕ) : Type 0 where

@@ -2,10 +2,10 @@
 use Rattle.std.specs.Prelude.{◌≡◌, ℕ, List, ◌++◌, map, Result, Ok, Err}
 use Rattle.std.specs.List.{AllZip}
 use Rattle.dtable.specs.declared.table.InputData.{InputData}
-use Rattle.intake_csv.specs.Laws.{StandApart}
+use Rattle.intake_csv.specs.Laws.{LieApart}
 use Rattle.intake_csv.specs.Rows.{AreRowsLeft, AreRowsOf, RowsLeft}
 use Rattle.intake_csv.specs.declared.rows.Row.{Row}
-use Rattle.remit.specs.Held.{At, Writes}
+use Rattle.remit.specs.RecordWriter.{At, Writes}
 use Rattle.remit.specs.Records.{Deciding, record_of, records_of}
 use Rattle.remit.specs.Report.{text_of}
 use Rattle.faults.specs.declared.write_fault.WriteFault.{WriteFault}
@@ -26,11 +26,11 @@ pub record Begin {A : Type 0} (front whole : List A) : Type 0 where
 -- these are the rows that a reader has left, and where its columns stand apart no others are
 pub record GivesAll (left : RowsLeft) (rows : List Row) : Type 0 where
   pub are_rows : AreRowsLeft left rows
-  pub only : StandApart left.layout.columns → (all : List Row) → AreRowsLeft left all → all ≡ rows
+  pub only : LieApart left.layout.columns → (all : List Row) → AreRowsLeft left all → all ≡ rows
 
 -- where a reader's columns stand apart, the rows that it has left begin with these
 abbrev pub GivesFirst : RowsLeft → List Row → Type 0
-GivesFirst left front = StandApart left.layout.columns → (all : List Row) → AreRowsLeft left all → Begin front all
+GivesFirst left front = LieApart left.layout.columns → (all : List Row) → AreRowsLeft left all → Begin front all
 
 -- the rows of a reader are written: all of them, or the first ones, and then the writing is refused
 abbrev pub WritesLeft : Deciding → ℕ → RowsLeft → At → At → Result (Unit {0}) WriteFault → Type 0

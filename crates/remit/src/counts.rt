@@ -2,17 +2,17 @@
 ghost use Rattle.std.specs.Prelude.{◌≡◌, ◌≤◌, ◌-◌, [], get_or, length, map, pos, string_bytes, IfOk, OnOk};
 ghost use Rattle.fixpoint.specs.Money.{money_text};
 ghost use Rattle.intake_csv.specs.Records.{Fields};
-ghost use Rattle.intake_csv.specs.Brief.{IsBriefOf};
+ghost use Rattle.intake_csv.specs.RowSummary.{IsSummaryOf};
 ghost use Rattle.intake_csv.specs.declared.rows.Row.{Row as AnyRow};
 ghost use Rattle.remit.specs.Counts.{AreRunCounts, EachIsCounted, IsCounted, LeftIsCounted, counted, no_records, status_of, status_of_row};
-ghost use Rattle.remit.specs.Texts.{fault_text};
+ghost use Rattle.remit.specs.FieldTexts.{fault_text};
 ghost use Rattle.remit.specs.Looked.{looked_up, outcome_in};
 
 use crate::decisions::Decisions;
+use crate::field_texts::{fault_text as reason_of_refusal, sum_text};
 use crate::sums::Sums;
-use crate::texts::{fault_text as reason_of_refusal, sum_text};
 use claim_gate::{Batch, Terms};
-use intake_csv::{Brief, Line, RowFault, Rows};
+use intake_csv::{CsvRecord, RowFault, RowSummary, Rows};
 use settlement::{Outcome, Verdict};
 use std::alloc::{AllocError, Global};
 
@@ -151,20 +151,20 @@ impl FileCounts {
         &mut self,
         decisions: &Decisions,
         provider: usize,
-        brief: &Brief,
+        summary: &RowSummary,
     ) -> Result<(), AllocError>
         requires { 1 ≤ provider }
-        ensures { OnOk result ((source : Fields) (row : AnyRow) → IsBriefOf source brief.now row
+        ensures { OnOk result ((source : Fields) (row : AnyRow) → IsSummaryOf source summary.now row
             → self.new.counts ≡ counted self.old.counts
             (status_of_row (looked_up decisions.now) provider row)) }
     {
-        match brief {
-            Brief::Good { place, .. } => {
+        match summary {
+            RowSummary::Good { place, .. } => {
                 let outcome = decisions.outcome(provider, *place);
                 self.counts.add(RecordStatus::of_outcome(outcome));
                 Ok(())
             }
-            Brief::Bad { fault, .. } => {
+            RowSummary::Bad { fault, .. } => {
                 self.counts.add(RecordStatus::Refused);
                 count_refusal(&mut self.refusals, *fault)
             }
@@ -282,15 +282,15 @@ fn count_rows(
     intake_csv::given_row_is_the_first();
     intake_csv::no_records_give_no_rows();
     let mut rows = rows;
-    let mut source = Line::new(alloc);
+    let mut source = CsvRecord::new(alloc);
     let mut file = FileCounts::new(alloc);
     loop {
-        let Ok(next) = rows.next_brief(&mut source) else {
+        let Ok(next) = rows.next_summary(&mut source) else {
             return Err(AllocError);
         };
-        let Some(brief) = next else {
+        let Some(summary) = next else {
             return Ok(file);
         };
-        file.add(decisions, provider, &brief)?;
+        file.add(decisions, provider, &summary)?;
     }
 }

@@ -77,7 +77,7 @@ impl<'j> Decisions<'j> {
     }
 
     /// How many claims are accepted.
-    pub fn accepted(&self) -> usize
+    pub fn accepted_count(&self) -> usize
         ensures { result ≡ self.now.accepted }
     {
         self.accepted

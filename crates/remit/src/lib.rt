@@ -10,12 +10,12 @@
 mod amount;
 mod counts;
 mod decisions;
-mod parts;
+mod field_texts;
 mod record;
 mod record_writer;
 mod report;
+mod sections;
 mod sums;
-mod texts;
 
 pub use counts::{FileCounts, RecordCounts, RecordStatus, RefusalCount, RunCounts, count_run};
 pub use faults::{WriteCause, WriteFault};

@@ -5,27 +5,27 @@ ghost use Rattle.faults.specs.ReasonText.{reason_text};
 ghost use Rattle.feel_tests.specs.Calendar.{year_of, year_text};
 ghost use Rattle.fixpoint.specs.Money.{money_text};
 ghost use Rattle.dtable.specs.Plan.{has_families, has_years};
-ghost use Rattle.journal.specs.Events.{accepted as accepted_in};
+ghost use Rattle.journal.specs.Events.{accepted_count as accepted_in};
 ghost use Rattle.journal.specs.declared.event.Event.{Event as AnyEvent};
 ghost use Rattle.settlement.specs.Accounts.{family_of};
 ghost use Rattle.settlement.specs.declared.claim.Claim.{Claim as AnyClaim};
-ghost use Rattle.intake_csv.specs.Brief.{DayStandsAt, IsBriefOf, IsClaimantOf, StandsAt};
+ghost use Rattle.intake_csv.specs.RowSummary.{IsDayLocatedAt, IsSummaryOf, AreIdColumnsOf, IsLocatedAt};
 ghost use Rattle.intake_csv.specs.declared.rows.Row.{Row as AnyRow};
 ghost use Rattle.claim_gate.specs.Terms.{texts_of};
 ghost use Rattle.remit.specs.Amounts.{amount_of, name_of};
-ghost use Rattle.remit.specs.Held.{Pushes};
+ghost use Rattle.remit.specs.RecordWriter.{Pushes};
 ghost use Rattle.remit.specs.Looked.{AreSums, looked_up, outcome_in};
-ghost use Rattle.remit.specs.Texts.{remarks_text};
-ghost use Rattle.remit.specs.Records.{front_names, header_fields, record_of, told_by, told_fields, told_of, told_refused, total_fields, total_front, claimant_fields, family_fields, whose_fields, year_fields};
+ghost use Rattle.remit.specs.FieldTexts.{remarks_text};
+ghost use Rattle.remit.specs.Records.{front_names, header_fields, record_of, reported_by, status_fields, reported_of, reported_refused, total_fields, total_front, id_column_fields, family_fields, whose_fields, year_fields};
 
 use crate::amount::{AMOUNTS, Amount};
 use crate::decisions::Decisions;
+use crate::field_texts::{fault_text, join_remarks, reason_text, sum_text};
 use crate::sums::Sums;
-use crate::texts::{fault_text, join_remarks, reason_text, sum_text};
 use csv::ByteRecord;
 use dtable::{has_families, has_years};
 use feel_tests::{day_year, year_text};
-use intake_csv::{Brief, Claimant, Line, RowFault};
+use intake_csv::{CsvRecord, IdColumns, RowFault, RowSummary};
 use itoa::Buffer;
 use settlement::{Money, Outcome, Reason, Verdict};
 use std::alloc::{AllocError, Global};
@@ -54,25 +54,25 @@ pub fn fill_row(
     joined: &mut Vec<u8>,
     decisions: &Decisions,
     provider: usize,
-    brief: &Brief,
-    source: &Line,
+    summary: &RowSummary,
+    source: &CsvRecord,
 ) -> Result<(), AllocError>
     requires { 1 ≤ provider }
-    ensures { OnOk result ((row : AnyRow) → IsBriefOf source.now brief.now row → fields_of line.new ≡ record_of (looked_up decisions.now) provider row) }
+    ensures { OnOk result ((row : AnyRow) → IsSummaryOf source.now summary.now row → fields_of line.new ≡ record_of (looked_up decisions.now) provider row) }
 {
     line.clear();
     push_number(line, provider)?;
-    match brief {
-        Brief::Good {
+    match summary {
+        RowSummary::Good {
             number,
             place,
-            claimant,
+            id_columns,
         } => {
             push_number(line, *number)?;
-            push_claimant(alloc, line, decisions.version(), *claimant, source)?;
+            push_id_columns(alloc, line, decisions.version(), *id_columns, source)?;
             push_claim(alloc, line, joined, decisions.outcome(provider, *place))
         }
-        Brief::Bad { number, fault } => {
+        RowSummary::Bad { number, fault } => {
             push_number(line, *number)?;
             push_whose(line, decisions.version(), b"", b"", b"", b"")?;
             push_refused(alloc, line, *fault)
@@ -88,7 +88,7 @@ pub fn fill_total(
     accepted: usize,
     sums: Sums,
 ) -> Result<(), AllocError>
-    ensures { OnOk result ((J : List AnyEvent) (count : ℕ) → accepted ≡ accepted_in J → AreSums J count sums → fields_of line.new ≡ total_fields version J) }
+    ensures { OnOk result ((J : List AnyEvent) (count : ℕ) → accepted_count ≡ accepted_in J → AreSums J count sums → fields_of line.new ≡ total_fields version J) }
 {
     line.clear();
     push_total_front(line, version, accepted)?;
@@ -107,7 +107,7 @@ fn push_front_names(line: &mut ByteRecord, version: u8) -> Result<(), AllocError
 
 // The fields in front of the totals.
 fn push_total_front(line: &mut ByteRecord, version: u8, accepted: usize) -> Result<(), AllocError>
-    ensures { OnOk result (Pushes line.old line.new (total_front version accepted)) }
+    ensures { OnOk result (Pushes line.old line.new (total_front version accepted_count)) }
 {
     line.push_field(b"total")?;
     push_number(line, accepted)?;
@@ -116,40 +116,40 @@ fn push_total_front(line: &mut ByteRecord, version: u8, accepted: usize) -> Resu
 }
 
 // Whose the claim is, and the year of its service, where there is a field for it.
-fn push_claimant(
+fn push_id_columns(
     alloc: Global,
     line: &mut ByteRecord,
     version: u8,
-    claimant: Claimant,
-    source: &Line,
+    id_columns: IdColumns,
+    source: &CsvRecord,
 ) -> Result<(), AllocError>
-    ensures { OnOk result ((claim : AnyClaim) → IsClaimantOf source.now claimant claim → Pushes line.old line.new (claimant_fields version claim)) }
+    ensures { OnOk result ((claim : AnyClaim) → AreIdColumnsOf source.now id_columns claim → Pushes line.old line.new (id_column_fields version claim)) }
 {
-    let id = field_at(source, claimant.id);
-    let family = family_at(source, claimant);
-    let member = field_at(source, claimant.member);
+    let id = field_at(source, id_columns.id);
+    let family = family_at(source, id_columns);
+    let member = field_at(source, id_columns.member);
     if !has_years(version) {
         return push_whose(line, version, id, family, member, b"");
     }
-    match year_at(alloc, source, claimant.service)? {
+    match year_at(alloc, source, id_columns.service)? {
         Some(year) => push_whose(line, version, id, family, member, year.as_slice()),
         None => push_whose(line, version, id, family, member, b""),
     }
 }
 
 // The field of the family. A claim without a family is its member's.
-fn family_at(source: &Line, claimant: Claimant) -> &[u8]
-    ensures { (claim : AnyClaim) → IsClaimantOf source.now claimant claim → result.now ≡ family_of claim }
+fn family_at(source: &CsvRecord, id_columns: IdColumns) -> &[u8]
+    ensures { (claim : AnyClaim) → AreIdColumnsOf source.now id_columns claim → result.now ≡ family_of claim }
 {
-    match claimant.family {
+    match id_columns.family {
         Some(place) => field_at(source, place),
-        None => field_at(source, claimant.member),
+        None => field_at(source, id_columns.member),
     }
 }
 
 // The year of the day that stands at a place, which has one.
-fn year_at(alloc: Global, source: &Line, place: usize) -> Result<Option<[u8; 4]>, AllocError>
-    ensures { IfOk result (λ year. (day : ℤ) → DayStandsAt source.now place day → year ≡ Some (year_text (year_of day))) }
+fn year_at(alloc: Global, source: &CsvRecord, place: usize) -> Result<Option<[u8; 4]>, AllocError>
+    ensures { IfOk result (λ year. (day : ℤ) → IsDayLocatedAt source.now place day → year ≡ Some (year_text (year_of day))) }
 {
     match source.day(alloc, place)? {
         Some(day) => Ok(Some(year_text(day_year(day.epoch_day())))),
@@ -158,8 +158,8 @@ fn year_at(alloc: Global, source: &Line, place: usize) -> Result<Option<[u8; 4]>
 }
 
 // The record's field at a place, which has one.
-fn field_at(source: &Line, place: usize) -> &[u8]
-    ensures { (text : List ℕ) → StandsAt source.now place text → result.now ≡ text }
+fn field_at(source: &CsvRecord, place: usize) -> &[u8]
+    ensures { (text : List ℕ) → IsLocatedAt source.now place text → result.now ≡ text }
 {
     match source.bytes(place) {
         Some(field) => field,
@@ -213,7 +213,7 @@ fn push_claim(
     joined: &mut Vec<u8>,
     decided: Option<&Outcome>,
 ) -> Result<(), AllocError>
-    ensures { OnOk result (Pushes line.old line.new (told_fields (told_of (outcome_in decided.entry)))) }
+    ensures { OnOk result (Pushes line.old line.new (status_fields (reported_of (outcome_in decided.entry)))) }
 {
     match decided {
         Some(decision) => push_decision(alloc, line, joined, decision),
@@ -230,7 +230,7 @@ fn push_decision(
     joined: &mut Vec<u8>,
     decision: &Outcome,
 ) -> Result<(), AllocError>
-    ensures { OnOk result (Pushes line.old line.new (told_fields (told_by decision.now.verdict decision.now))) }
+    ensures { OnOk result (Pushes line.old line.new (status_fields (reported_by decision.now.verdict decision.now))) }
 {
     match decision.verdict {
         Verdict::Paid => {
@@ -268,7 +268,7 @@ fn push_status(line: &mut ByteRecord, status: &[u8], reason: &[u8]) -> Result<()
 
 // What is told of a record that is no claim.
 fn push_refused(alloc: Global, line: &mut ByteRecord, fault: RowFault) -> Result<(), AllocError>
-    ensures { OnOk result (Pushes line.old line.new (told_fields (told_refused fault))) }
+    ensures { OnOk result (Pushes line.old line.new (status_fields (reported_refused fault))) }
 {
     push_status(line, b"refused", fault_text(alloc, fault)?.as_bytes())?;
     push_repeated(line, b"", AMOUNTS.len() + 1)

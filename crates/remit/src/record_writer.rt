@@ -3,7 +3,7 @@ ghost use Rattle.std.specs.Prelude.{◌≡◌, [], OnOk, false};
 ghost use Rattle.csv.specs.Records.{fields_of};
 ghost use Rattle.csv.specs.Writing.{fields_written, has_written, writer_pending, writer_setup, writer_under};
 ghost use Rattle.fixpoint.specs.Out.{has_failed, writer_of};
-ghost use Rattle.remit.specs.Held.{IsNoMemory, IsReady, Writes, at, gathered_of};
+ghost use Rattle.remit.specs.RecordWriter.{IsNoMemory, IsReady, Writes, at, gathered_of};
 ghost use Rattle.remit.specs.Report.{record_text, report_style};
 
 use csv::{ByteRecord, Terminator, Writer, WriterBuilder};

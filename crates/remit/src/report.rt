@@ -3,13 +3,13 @@ ghost use Rattle.std.specs.Prelude.{◌≡◌, ◌≤◌, ◌-◌, [], get_or, l
 ghost use Rattle.std.specs.Thread.{IsSync};
 ghost use Rattle.dtable.specs.Plan.{PlanParts};
 ghost use Rattle.fixpoint.specs.Out.{has_failed, writer_of};
-ghost use Rattle.journal.specs.Events.{accepted};
-ghost use Rattle.intake_csv.specs.Brief.{IsBriefOf};
+ghost use Rattle.journal.specs.Events.{accepted_count};
+ghost use Rattle.intake_csv.specs.RowSummary.{IsSummaryOf};
 ghost use Rattle.intake_csv.specs.declared.rows.Row.{Row as AnyRow};
 ghost use Rattle.claim_gate.specs.Terms.{IsFinishedOver};
-ghost use Rattle.remit.specs.Held.{IsReady, Writes, at, gathered_of};
+ghost use Rattle.remit.specs.RecordWriter.{IsReady, Writes, at, gathered_of};
 ghost use Rattle.remit.specs.Looked.{looked_up};
-ghost use Rattle.remit.specs.Parts.{MayBePart};
+ghost use Rattle.remit.specs.Sections.{MayBePart};
 ghost use Rattle.remit.specs.Records.{header_fields, record_of, total_fields};
 ghost use Rattle.remit.specs.Report.{record_text};
 ghost use Rattle.remit.specs.Rows.{WritesFile, WritesFiles, WritesLeft};
@@ -17,15 +17,15 @@ ghost use Rattle.remit.specs.Writing.{WritesFront, WritesReport};
 ghost use Rattle.faults.specs.declared.write_fault.WriteCause.TheVariants.{Device, OutOfMemory};
 
 use crate::decisions::Decisions;
-use crate::parts::{NotHeld, part_of};
 use crate::record::{fill_header, fill_row, fill_total};
 use crate::record_writer::RecordWriter;
+use crate::sections::{SectionTooLarge, render_section};
 use crate::sums::Sums;
 use claim_gate::{Batch, Terms};
 use csv::ByteRecord;
 use faults::{WriteCause, WriteFault};
 use fixpoint::Out;
-use intake_csv::{Brief, Line, Rows};
+use intake_csv::{CsvRecord, RowSummary, Rows};
 use journal::Event;
 use std::alloc::{AllocError, Global};
 use std::io::Write;
@@ -170,7 +170,7 @@ fn write_files_in_front<R: Threads + Sync, W: Write>(
     provider: usize,
     report: &mut Report,
     out: &mut Out<W>,
-) -> (Result<Vec<u8>, NotHeld>, Result<(), WriteFault>)
+) -> (Result<Vec<u8>, SectionTooLarge>, Result<(), WriteFault>)
     requires least { 2 ≤ provider }
     requires most { provider ≤ length terms.now.files }
     ensures part { MayBePart (looked_up report.old.decisions.now) provider terms.now.plan.names (get_or terms.now.files (provider - 1) []) result.0 }
@@ -181,10 +181,10 @@ fn write_files_in_front<R: Threads + Sync, W: Write>(
 {
     let (alloc, decisions) = (report.alloc, report.decisions);
     let in_front = provider - 1;
-    let mut make = || -> Result<Vec<u8>, NotHeld>
+    let mut make = || -> Result<Vec<u8>, SectionTooLarge>
         requires { (1 ≤ provider) × (provider ≤ length terms.now.files) }
         ensures { MayBePart (looked_up decisions.entry.now) provider terms.entry.now.plan.names (get_or terms.entry.now.files (provider - 1) []) result }
-    { part_of(alloc, terms, decisions, provider) };
+    { render_section(alloc, terms, decisions, provider) };
     let mut write = || -> Result<(), WriteFault>
         requires { IsSync R.row × (1 ≤ in_front) × (in_front ≤ length terms.now.files) }
         ensures writes { WritesFiles (looked_up report.entry.now.decisions.now) terms.entry.now.plan.names (take in_front terms.entry.now.files)
@@ -271,7 +271,7 @@ impl<'d, 'j> Report<'d, 'j> {
         &mut self,
         terms: &Terms,
         provider: usize,
-        part: Result<Vec<u8>, NotHeld>,
+        part: Result<Vec<u8>, SectionTooLarge>,
         out: &mut Out<W>,
     ) -> Result<(), WriteFault>
         requires least { 1 ≤ provider }
@@ -284,7 +284,7 @@ impl<'d, 'j> Report<'d, 'j> {
     {
         match part {
             Ok(text) => self.writer.write_text(text, out),
-            Err(NotHeld) => self.write_file(terms, provider, out),
+            Err(SectionTooLarge) => self.write_file(terms, provider, out),
         }
     }
 
@@ -327,15 +327,15 @@ impl<'d, 'j> Report<'d, 'j> {
         intake_csv::given_row_is_the_first();
         intake_csv::no_records_give_no_rows();
         let mut rows = rows;
-        let mut source = Line::new(self.alloc);
+        let mut source = CsvRecord::new(self.alloc);
         loop {
-            let Ok(next) = rows.next_brief(&mut source) else {
+            let Ok(next) = rows.next_summary(&mut source) else {
                 return Err(self.writer.no_memory());
             };
-            let Some(brief) = next else {
+            let Some(summary) = next else {
                 return Ok(());
             };
-            self.write_row(provider, &brief, &source, out)?;
+            self.write_row(provider, &summary, &source, out)?;
         }
     }
 
@@ -343,12 +343,12 @@ impl<'d, 'j> Report<'d, 'j> {
     fn write_row<W: Write>(
         &mut self,
         provider: usize,
-        brief: &Brief,
-        source: &Line,
+        summary: &RowSummary,
+        source: &CsvRecord,
         out: &mut Out<W>,
     ) -> Result<(), WriteFault>
         requires { 1 ≤ provider }
-        ensures writes { (row : AnyRow) → IsBriefOf source.now brief.now row
+        ensures writes { (row : AnyRow) → IsSummaryOf source.now summary.now row
             → Writes (at (W.contents (writer_of out.old)) (has_failed out.old) self.old.writer)
             (at (W.contents (writer_of out.new)) (has_failed out.new) self.new.writer)
             (record_text (record_of (looked_up self.old.decisions.now) provider row)) result }
@@ -361,7 +361,7 @@ impl<'d, 'j> Report<'d, 'j> {
             joined,
             self.decisions,
             provider,
-            brief,
+            summary,
             source,
         )
         .is_err()
@@ -387,11 +387,11 @@ impl<'d, 'j> Report<'d, 'j> {
         journal: &[Event],
         out: &mut Out<W>,
     ) -> Result<(), WriteFault>
-        requires { self.old.decisions.now.accepted ≡ accepted journal.now }
+        requires { self.old.decisions.now.accepted ≡ accepted_count journal.now }
         ensures { Writes (at (W.contents (writer_of out.old)) (has_failed out.old) self.old.writer)
             (at (W.contents (writer_of out.new)) (has_failed out.new) self.new.writer) (record_text (total_fields terms.now.plan.version journal.now)) result }
     {
-        let accepted = self.decisions.accepted();
+        let accepted = self.decisions.accepted_count();
         let sums = Sums::over(journal);
         let version = terms.plan().version();
         if fill_total(self.alloc, &mut self.line, version, accepted, sums).is_err() {

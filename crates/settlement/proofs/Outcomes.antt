@@ -13,34 +13,34 @@ use Rattle.settlement.specs.declared.outcome.Outcome.{Outcome}
 use Rattle.faults.specs.declared.reason.Reason.{Reason}
 use Rattle.faults.specs.declared.reason.Reason.TheVariants.{Range}
 use Rattle.faults.specs.declared.role.Role.{Role}
-use Rattle.settlement.specs.declared.terms.RoleTerms.{RoleTerms}
-use Rattle.settlement.specs.Accumulators.{added, after, are_in_range, AreInRange}
-use Rattle.settlement.specs.Given.{given_by}
+use Rattle.settlement.specs.declared.cost_sharing.CostSharing.{CostSharing}
+use Rattle.settlement.specs.Accumulators.{add_amounts, after, are_in_range, AreInRange}
+use Rattle.settlement.specs.Bindings.{given_by}
 use Rattle.settlement.specs.Roles.{value_of, is_true_flag, terms, remarks_of}
 use Rattle.faults.specs.Reason.{reason_of}
-use Rattle.settlement.specs.Settlement.{amounts, paid, denied, pended, by_terms, by_fault, by_tables, outcome}
+use Rattle.settlement.specs.Settlement.{amounts, paid_outcome, denied_outcome, pended_outcome, by_terms, by_fault, by_tables, outcome}
 
 -- adding zero leaves the accumulators in range
-nothing_added : (acc : Acc) → AreInRange acc → AreInRange (added acc (pos 0) (pos 0) (pos 0))
+nothing_added : (acc : Acc) → AreInRange acc → AreInRange (add_amounts acc (pos 0) (pos 0) (pos 0))
 nothing_added acc ranges =
     let met : acc.met +ℤ pos 0 ≡ acc.met = omega (arith, ints) in
     let oop : acc.oop +ℤ pos 0 ≡ acc.oop = omega (arith, ints) in
-    let paid : acc.paid +ℤ pos 0 ≡ acc.paid = omega (arith, ints) in
+    let paid_outcome : acc.paid +ℤ pos 0 ≡ acc.paid = omega (arith, ints) in
     let fmet : acc.fmet +ℤ pos 0 ≡ acc.fmet = omega (arith, ints) in
     let foop : acc.foop +ℤ pos 0 ≡ acc.foop = omega (arith, ints) in
-    rw (met, oop, paid, fmet, foop) ranges
+    rw (met, oop, paid_outcome, fmet, foop) ranges
 
-range_kept : (acc : Acc) (o : Outcome) (fits : Bool) → are_in_range (after acc o) ≡ fits → AreInRange acc → AreInRange (after acc (if fits then o else pended (Range 0)))
+range_kept : (acc : Acc) (o : Outcome) (fits : Bool) → are_in_range (after acc o) ≡ fits → AreInRange acc → AreInRange (after acc (if fits then o else pended_outcome (Range 0)))
 range_kept acc o true is ranges = is
 range_kept acc o false is ranges = nothing_added acc ranges
 
-range_by_terms : (billed : ℤ) (acc : Acc) (remarks : List (List ℕ)) (found : Result RoleTerms Role) → AreInRange acc → AreInRange (after acc (by_terms billed acc remarks found))
+range_by_terms : (billed : ℤ) (acc : Acc) (remarks : List (List ℕ)) (found : Result CostSharing Role) → AreInRange acc → AreInRange (after acc (by_terms billed acc remarks found))
 range_by_terms billed acc remarks (Err role) ranges = nothing_added acc ranges
 range_by_terms billed acc remarks (Ok terms) ranges =
-    let o = paid (amounts billed terms acc) remarks in
+    let o = paid_outcome (amounts billed terms acc) remarks in
     range_kept acc o (are_in_range (after acc o)) refl ranges
 
-range_by_cover : (covered : Bool) (billed : ℤ) (acc : Acc) (remarks : List (List ℕ)) (found : Result RoleTerms Role) → AreInRange acc → AreInRange (after acc (if covered then by_terms billed acc remarks found else denied remarks))
+range_by_cover : (covered : Bool) (billed : ℤ) (acc : Acc) (remarks : List (List ℕ)) (found : Result CostSharing Role) → AreInRange acc → AreInRange (after acc (if covered then by_terms billed acc remarks found else denied_outcome remarks))
 range_by_cover true billed acc remarks found ranges = range_by_terms billed acc remarks found ranges
 range_by_cover false billed acc remarks found ranges = nothing_added acc ranges
 

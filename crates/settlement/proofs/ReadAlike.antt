@@ -18,7 +18,7 @@ use Rattle.dtable.specs.declared.table.Origin.{Origin}
 use Rattle.dtable.specs.declared.table.Origin.TheVariants.{Given, Earlier}
 use Rattle.dtable.specs.declared.table.Rule.{Rule}
 use Rattle.dtable.specs.declared.table.Table.{Table}
-use Rattle.dtable.specs.Environment.{Environment, answers_of, and_then, env, table_value, inside, number_behind}
+use Rattle.dtable.specs.Environment.{Environment, answers_of, and_then, env, table_value, inside, number_after}
 use Rattle.dtable.specs.HitPolicy.{TableValue, by_hit}
 use Rattle.dtable.specs.Inputs.{value_at, reads, needs}
 use Rattle.dtable.specs.Matching.{value_read, holds_of, cells_hold, rule_matches, matching, is_outside, first_outside}
@@ -26,12 +26,12 @@ use Rattle.dtable.specs.Plan.{PlanParts}
 use Rattle.settlement.specs.declared.acc.Acc.{Acc}
 use Rattle.settlement.specs.declared.claim.Claim.{Claim}
 use Rattle.faults.specs.declared.role.Role.{Role}
-use Rattle.settlement.specs.declared.terms.RoleTerms.{RoleTerms}
-use Rattle.settlement.specs.Given.{given_by, values_given}
+use Rattle.settlement.specs.declared.cost_sharing.CostSharing.{CostSharing}
+use Rattle.settlement.specs.Bindings.{given_by, values_given}
 use Rattle.settlement.specs.Reads.{source_reads, limits_read, roles_read, is_read, Serves}
 use Rattle.settlement.specs.Roles.{value_of, is_true_flag, limits, terms, remarks_of}
-use Rattle.settlement.specs.Settlement.{by_roles, by_tables, by_terms, denied, outcome}
-use Rattle.settlement.proofs.AllGiven.{value_given}
+use Rattle.settlement.specs.Settlement.{by_roles, by_tables, by_terms, denied_outcome, outcome}
+use Rattle.settlement.proofs.AllBound.{bound_value}
 
 -- two lists of slots have the same value at each place that passes the test
 abbrev pub AlikeWhere : (ℕ → Bool) → List Slot → List Slot → Type 0
@@ -98,8 +98,8 @@ table_alike given other earlier t alike =
     let place = place_alike given other earlier t.inputs alike in
     let rules = matching_alike given other earlier t alike in
     let at : ℕ → Option ℕ = λ n. cond (nat_lt n (length t.inputs)) (Some n) None in
-    ap (λ n. inside (at n) (number_behind earlier) (by_hit t.hit (number_behind earlier) t (matching given earlier t))) place
-    ∙ ap (λ rules. inside (first_outside other earlier t) (number_behind earlier) (by_hit t.hit (number_behind earlier) t rules)) rules
+    ap (λ n. inside (at n) (number_after earlier) (by_hit t.hit (number_after earlier) t (matching given earlier t))) place
+    ∙ ap (λ rules. inside (first_outside other earlier t) (number_after earlier) (by_hit t.hit (number_after earlier) t rules)) rules
 
 next_alike :
     {X : Type 0} (here : TableValue) (next more : List Answer → Result X Fault) → ((answers : List Answer) → next answers ≡ more answers)
@@ -184,8 +184,8 @@ roles_alike :
     → by_roles roles billed acc given answers ≡ by_roles roles billed acc other answers
 roles_alike roles billed acc given other answers same =
     let remarks = remarks_of answers roles.remarks in
-    ap (λ (cover : Option Value). if is_true_flag cover then by_terms billed acc remarks (terms given answers roles) else denied remarks) same.cover
-    ∙ ap (λ (found : Result RoleTerms Role). if is_true_flag (value_of other answers roles.cover) then by_terms billed acc remarks found else denied remarks)
+    ap (λ (cover : Option Value). if is_true_flag cover then by_terms billed acc remarks (terms given answers roles) else denied_outcome remarks) same.cover
+    ∙ ap (λ (found : Result CostSharing Role). if is_true_flag (value_of other answers roles.cover) then by_terms billed acc remarks found else denied_outcome remarks)
     (terms_alike given other answers roles same)
 
 tables_alike :
@@ -201,7 +201,7 @@ pub outcome_where_served :
     → by_tables plan.roles claim.billed acc given (env plan given) ≡ outcome seen claim acc
 outcome_where_served plan seen claim acc given same serves =
     let other = given_by claim acc in
-    let alike : AlikeWhere (is_read plan) given other = λ place read. serves place read ∙ sym (value_given (values_given claim acc) place) in
+    let alike : AlikeWhere (is_read plan) given other = λ place read. serves place read ∙ sym (bound_value (values_given claim acc) place) in
     let by_table : AlikeWhere (needs plan.tables) given other =
     λ place read. alike place (or_left (needs plan.tables place) (option_map_or (roles_read place) plan.roles false) read) in
     let by_role : AlikeWhere (λ place. option_map_or (roles_read place) plan.roles false) given other =

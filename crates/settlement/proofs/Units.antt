@@ -7,6 +7,6 @@ pub units_there : (found : Option ℤ) (role : Role) (units : ℤ) → Ok units 
 units_there None role units is = absurd cc
 units_there (Some other) role units is = cc
 
-pub units_lacking : (found : Option ℤ) (role told : Role) → Err told ≡ ok_or found role → (found ≡ None) × (told ≡ role)
-units_lacking None role told is = (cc, cc)
-units_lacking (Some other) role told is = absurd cc
+pub units_lacking : (found : Option ℤ) (role reported : Role) → Err reported ≡ ok_or found role → (found ≡ None) × (reported ≡ role)
+units_lacking None role reported is = (cc, cc)
+units_lacking (Some other) role reported is = absurd cc

@@ -36,16 +36,16 @@ abbrev pub account_of : PlanParts → Claim → Account
 account_of plan claim = account_in (account_year plan claim) claim
 
 -- the account in a year of a member who is its own family
-abbrev pub alone : List ℕ → ℕ → Account
-alone member year = record { family = member; member = member; year = year }
+abbrev pub own_account : List ℕ → ℕ → Account
+own_account member year = record { family = member; member = member; year = year }
 
 -- both accounts belong to one family and year
-abbrev pub is_household : Account → Account → Bool
-is_household a b = bytes_eq a.family b.family && (a.year == b.year)
+abbrev pub is_family_year : Account → Account → Bool
+is_family_year a b = bytes_eq a.family b.family && (a.year == b.year)
 
 -- both accounts are equal
 abbrev pub is_same : Account → Account → Bool
-is_same a b = is_household a b && bytes_eq a.member b.member
+is_same a b = is_family_year a b && bytes_eq a.member b.member
 
 -- the amount if it counts, and otherwise zero
 abbrev pub part : Bool → ℤ → ℤ

@@ -5,13 +5,13 @@ use Rattle.settlement.specs.declared.outcome.Outcome.{Outcome}
 use Rattle.settlement.specs.Amount.{is_in_range}
 
 -- the accumulators after these amounts are added to the member's and to the family's
-abbrev pub added : Acc → ℤ → ℤ → ℤ → Acc
-added acc met oop paid = record { met = acc.met +ℤ met; oop = acc.oop +ℤ oop; paid = acc.paid +ℤ paid; fmet = acc.fmet +ℤ met; foop = acc.foop +ℤ oop }
+abbrev pub add_amounts : Acc → ℤ → ℤ → ℤ → Acc
+add_amounts acc met oop paid = record { met = acc.met +ℤ met; oop = acc.oop +ℤ oop; paid = acc.paid +ℤ paid; fmet = acc.fmet +ℤ met; foop = acc.foop +ℤ oop }
 
 -- the accumulators after an outcome: `met` grows by the deductible, `oop` by the member's share,
--- and `paid` by the amount that the plan pays
+-- and `paid_outcome` by the amount that the plan pays
 abbrev pub after : Acc → Outcome → Acc
-after acc outcome = added acc outcome.ded outcome.share outcome.paid
+after acc outcome = add_amounts acc outcome.ded outcome.share outcome.paid
 
 -- each accumulator is in the range of numbers
 abbrev pub are_in_range : Acc → Bool

@@ -1,13 +1,13 @@
 pub mod Amount
 pub mod Claim
 pub mod Fields
-pub mod Given
+pub mod Bindings
 pub mod Reads
-pub mod Placed
+pub mod RoleBindings
 pub mod Roles
 pub mod Remarked
 pub mod Accumulators
 pub mod Accounts
 pub mod Settlement
 pub mod Opening
-pub mod Benefits
+pub mod Determinations

@@ -1,6 +1,6 @@
 -- The opening accumulators of accounts.
 use Rattle.std.specs.Prelude.{ℤ, pos, ◌+ℤ◌, Bool, List, [], ◌∷◌, cond}
-use Rattle.settlement.specs.Accounts.{Account, is_household, is_same, part}
+use Rattle.settlement.specs.Accounts.{Account, is_family_year, is_same, part}
 use Rattle.settlement.specs.Claim.{nothing_yet}
 use Rattle.settlement.specs.declared.acc.Acc.{Acc}
 use Rattle.settlement.specs.declared.account.Balance.{Balance}
@@ -20,7 +20,7 @@ joins own shared balance acc = record {
 -- one, and the family's sums are over the balances of the same family and year
 abbrev pub opening : List (Account × Balance) → Account → Acc
 opening [] account = nothing_yet
-opening (entry ∷ rest) account = joins (is_same entry.0 account) (is_household entry.0 account) entry.1 (opening rest account)
+opening (entry ∷ rest) account = joins (is_same entry.0 account) (is_family_year entry.0 account) entry.1 (opening rest account)
 
 -- the balance whose amounts are all zero
 abbrev pub no_balance : Balance

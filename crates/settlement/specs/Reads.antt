@@ -11,7 +11,7 @@ use Rattle.dtable.specs.Inputs.{needs, value_at}
 use Rattle.dtable.specs.Plan.{PlanParts, IsPlan}
 use Rattle.settlement.specs.declared.acc.Acc.{Acc}
 use Rattle.settlement.specs.declared.claim.Claim.{Claim}
-use Rattle.settlement.specs.Given.{slot_kinds, values_given}
+use Rattle.settlement.specs.Bindings.{slot_kinds, values_given}
 
 -- the role has the value of the name at the place
 abbrev pub source_reads : ℕ → Source → Bool

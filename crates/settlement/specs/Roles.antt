@@ -19,8 +19,8 @@ use Rattle.dtable.specs.Inputs.{value_at}
 use Rattle.dtable.specs.Matching.{single}
 use Rattle.faults.specs.declared.role.Role.{Role}
 use Rattle.faults.specs.declared.role.Role.TheVariants.{Fee, Deductible, Copay, Rate, OopMax, FamilyDeductible, FamilyOopMax}
-use Rattle.settlement.specs.declared.terms.FamilyTerms.{FamilyTerms}
-use Rattle.settlement.specs.declared.terms.RoleTerms.{RoleTerms}
+use Rattle.settlement.specs.declared.cost_sharing.FamilyLimits.{FamilyLimits}
+use Rattle.settlement.specs.declared.cost_sharing.CostSharing.{CostSharing}
 
 -- the answer of the output with this name
 abbrev pub answer_named : Environment → List ℕ → Option Answer
@@ -48,25 +48,25 @@ with_role role None next = Err role
 with_role role (Some units) next = next units
 
 -- the family's limits, which must be amounts of money, or the first role that is not
-abbrev pub family_terms : List Slot → Environment → FamilyRoles → Result FamilyTerms Role
+abbrev pub family_terms : List Slot → Environment → FamilyRoles → Result FamilyLimits Role
 family_terms given env limits =
     with_role FamilyDeductible (units_where is_money (value_of given env limits.deductible)) (λ deductible.
     with_role FamilyOopMax (units_where is_money (value_of given env limits.oop_max)) (λ oop_max.
     Ok (record { deductible = deductible; oop_max = oop_max })))
 
 -- the optional limits of the family, or the first role that is not an amount of money
-abbrev pub limits : List Slot → Environment → Option FamilyRoles → Result (Option FamilyTerms) Role
+abbrev pub limits : List Slot → Environment → Option FamilyRoles → Result (Option FamilyLimits) Role
 limits given env None = Ok None
 limits given env (Some roles) = result_map_both Some (λ role. role) (family_terms given env roles)
 
 -- continues with the family's limits; an invalid limit is the error
-abbrev pub with_limits : {X : Type 0} → Result (Option FamilyTerms) Role → (Option FamilyTerms → Result X Role) → Result X Role
+abbrev pub with_limits : {X : Type 0} → Result (Option FamilyLimits) Role → (Option FamilyLimits → Result X Role) → Result X Role
 with_limits (Err role) next = Err role
 with_limits (Ok family) next = next family
 
 -- the cost sharing of a claim: four amounts of money, a rate and the family's limits, or the first
 -- role, in this order, with an invalid value
-abbrev pub terms : List Slot → Environment → Roles → Result RoleTerms Role
+abbrev pub terms : List Slot → Environment → Roles → Result CostSharing Role
 terms given env roles =
     with_role Fee (units_where is_money (value_of given env roles.fee)) (λ fee.
     with_role Deductible (units_where is_money (value_of given env roles.deductible)) (λ deductible.

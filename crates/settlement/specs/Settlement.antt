@@ -18,9 +18,9 @@ use Rattle.faults.specs.declared.reason.Reason.TheVariants.{Range, Term}
 use Rattle.settlement.specs.declared.outcome.Verdict.{Verdict}
 use Rattle.settlement.specs.declared.outcome.Verdict.TheVariants.{Paid, Denied, Pended}
 use Rattle.faults.specs.declared.role.Role.{Role}
-use Rattle.settlement.specs.declared.terms.RoleTerms.{RoleTerms}
+use Rattle.settlement.specs.declared.cost_sharing.CostSharing.{CostSharing}
 use Rattle.settlement.specs.Accumulators.{after, are_in_range}
-use Rattle.settlement.specs.Given.{given_by}
+use Rattle.settlement.specs.Bindings.{given_by}
 use Rattle.settlement.specs.Roles.{value_of, is_true_flag, terms, remarks_of}
 
 -- what remains of a limit after the used amount, which is never negative
@@ -33,15 +33,15 @@ within_limit None used amount = amount
 within_limit (Some limit) used amount = int_min amount (left_of limit used)
 
 -- the deductible of the family, if there is one
-abbrev pub family_deductible : RoleTerms → Option ℤ
+abbrev pub family_deductible : CostSharing → Option ℤ
 family_deductible terms = option_map (λ f. f.deductible) terms.family
 
 -- the out-of-pocket maximum of the family, if there is one
-abbrev pub family_oop_max : RoleTerms → Option ℤ
+abbrev pub family_oop_max : CostSharing → Option ℤ
 family_oop_max terms = option_map (λ f. f.oop_max) terms.family
 
 -- the amounts of a covered claim, from its billed amount, its cost sharing and the accumulators
-abbrev pub amounts : ℤ → RoleTerms → Acc → Amounts
+abbrev pub amounts : ℤ → CostSharing → Acc → Amounts
 amounts billed terms acc =
     -- the allowed amount is the billed amount, but at most the fee
     let allowed = int_min billed terms.fee in
@@ -59,8 +59,8 @@ amounts billed terms acc =
     record { allowed = allowed; ded = ded; copay = copay; coins = coins; share = share; paid = allowed -ℤ share }
 
 -- the outcome of a paid claim
-abbrev pub paid : Amounts → List (List ℕ) → Outcome
-paid a remarks = record {
+abbrev pub paid_outcome : Amounts → List (List ℕ) → Outcome
+paid_outcome a remarks = record {
   verdict = Paid;
   allowed = a.allowed;
   ded = a.ded;
@@ -72,8 +72,8 @@ paid a remarks = record {
 }
 
 -- the outcome of a claim that is not paid, whose amounts are all zero
-abbrev pub unpaid : Verdict → List (List ℕ) → Outcome
-unpaid verdict remarks = record {
+abbrev pub unpaid_outcome : Verdict → List (List ℕ) → Outcome
+unpaid_outcome verdict remarks = record {
   verdict = verdict;
   allowed = pos 0;
   ded = pos 0;
@@ -85,39 +85,39 @@ unpaid verdict remarks = record {
 }
 
 -- the outcome of a denied claim, with its remarks
-abbrev pub denied : List (List ℕ) → Outcome
-denied remarks = unpaid Denied remarks
+abbrev pub denied_outcome : List (List ℕ) → Outcome
+denied_outcome remarks = unpaid_outcome Denied remarks
 
 -- the outcome of a claim that is pended for review by a person, without remarks
-abbrev pub pended : Reason → Outcome
-pended reason = unpaid (Pended reason) []
+abbrev pub pended_outcome : Reason → Outcome
+pended_outcome reason = unpaid_outcome (Pended reason) []
 
 -- a claim after which an accumulator would be out of range is pended instead; table 0 means that no
 -- table caused it
 abbrev pub within_range : Acc → Outcome → Outcome
-within_range acc outcome = if are_in_range (after acc outcome) then outcome else pended (Range 0)
+within_range acc outcome = if are_in_range (after acc outcome) then outcome else pended_outcome (Range 0)
 
 -- the outcome of a covered claim; a role with an invalid value pends it
-abbrev pub by_terms : ℤ → Acc → List (List ℕ) → Result RoleTerms Role → Outcome
-by_terms billed acc remarks (Err role) = pended (Term role)
-by_terms billed acc remarks (Ok terms) = within_range acc (paid (amounts billed terms acc) remarks)
+abbrev pub by_terms : ℤ → Acc → List (List ℕ) → Result CostSharing Role → Outcome
+by_terms billed acc remarks (Err role) = pended_outcome (Term role)
+by_terms billed acc remarks (Ok terms) = within_range acc (paid_outcome (amounts billed terms acc) remarks)
 
 -- the outcome from the answers of the tables: a claim that is not covered is denied, whatever the
 -- other roles are
 abbrev pub by_roles : Roles → ℤ → Acc → List Slot → Environment → Outcome
 by_roles roles billed acc given env =
     let remarks = remarks_of env roles.remarks in
-    if is_true_flag (value_of given env roles.cover) then by_terms billed acc remarks (terms given env roles) else denied remarks
+    if is_true_flag (value_of given env roles.cover) then by_terms billed acc remarks (terms given env roles) else denied_outcome remarks
 
 -- a fault of the tables pends the claim and is the reason; the case `None` does not occur, since
 -- `env` never runs out of memory
 abbrev pub by_fault : Option Reason → Outcome
-by_fault None = denied []
-by_fault (Some reason) = pended reason
+by_fault None = denied_outcome []
+by_fault (Some reason) = pended_outcome reason
 
 -- the outcome from the result of the tables; a plan without roles covers nothing
 abbrev pub by_tables : Option Roles → ℤ → Acc → List Slot → Result Environment Fault → Outcome
-by_tables None billed acc given answers = denied []
+by_tables None billed acc given answers = denied_outcome []
 by_tables (Some roles) billed acc given (Err fault) = by_fault (reason_of fault)
 by_tables (Some roles) billed acc given (Ok env) = by_roles roles billed acc given env
 

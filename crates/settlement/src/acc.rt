@@ -20,7 +20,7 @@ pub struct Acc {
 impl Acc {
     ghost use Rattle.std.specs.Prelude.{◌≡◌};
     ghost use Rattle.std.specs.Option.{SomeIff};
-    ghost use Rattle.settlement.specs.Accumulators.{added, AreInRange};
+    ghost use Rattle.settlement.specs.Accumulators.{add_amounts, AreInRange};
     ghost use Rattle.settlement.specs.Claim.{nothing_yet};
 
     /// Returns the accumulators of a member without claims.
@@ -40,7 +40,7 @@ impl Acc {
     /// of range.
     pub(crate) fn plus(self, met: Money, oop: Money, paid: Money) -> Option<Acc>
         ensures more { SomeIff result
-            (AreInRange (added self met oop paid)) (added self met oop paid) }
+            (AreInRange (add_amounts self met oop paid)) (add_amounts self met oop paid) }
         ensures before { AreInRange self }
     {
         let fmet = self.fmet.plus(met);

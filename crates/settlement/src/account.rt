@@ -35,7 +35,7 @@ impl Balance {
 
     /// Returns the accumulators of a member with this balance. `fmet` and `foop` are the sums of
     /// its family.
-    pub fn beside(self, fmet: Money, foop: Money) -> Acc
+    pub fn with_family(self, fmet: Money, foop: Money) -> Acc
         ensures { result ≡ begun_beside fmet foop self }
     {
         Acc {

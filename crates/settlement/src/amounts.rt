@@ -3,8 +3,8 @@ ghost use Rattle.std.specs.Prelude.{◌≡◌, ◌+ℤ◌, ◌≤ℤ◌};
 ghost use Rattle.settlement.specs.Settlement.{amounts, family_deductible, family_oop_max, within_limit};
 
 use crate::acc::Acc;
+use crate::cost_sharing::CostSharing;
 use crate::money::Money;
-use crate::terms::RoleTerms;
 
 /// The allowed amount of a covered claim, and how the member and the plan share it.
 #[derive(Clone, Copy)]
@@ -19,19 +19,19 @@ pub struct Amounts {
 
 /// Returns the amounts of a covered claim from its billed amount, its cost sharing and the
 /// accumulators before it.
-pub fn amounts_of(billed: Money, terms: RoleTerms, acc: Acc) -> Amounts
+pub fn amounts_of(billed: Money, terms: CostSharing, acc: Acc) -> Amounts
     ensures { result ≡ amounts billed terms acc }
 {
     let allowed = billed.min(terms.fee);
-    let unmet = allowed.min(terms.deductible.left(acc.met));
-    let ded = within_limit(unmet, family_deductible(&terms), acc.fmet);
-    let behind_ded = allowed.minus(ded);
-    let copay = behind_ded.min(terms.copay);
-    let behind_copay = behind_ded.minus(copay);
-    let coins = behind_copay.part(terms.rate);
-    let taken = taken(allowed, ded, copay, coins);
-    let due = taken.min(terms.oop_max.left(acc.oop));
-    let share = within_limit(due, family_oop_max(&terms), acc.foop);
+    let open_deductible = allowed.min(terms.deductible.remaining(acc.met));
+    let ded = within_limit(open_deductible, family_deductible(&terms), acc.fmet);
+    let after_deductible = allowed.minus(ded);
+    let copay = after_deductible.min(terms.copay);
+    let after_copay = after_deductible.minus(copay);
+    let coins = after_copay.part(terms.rate);
+    let cost_share = cost_share(allowed, ded, copay, coins);
+    let capped_share = cost_share.min(terms.oop_max.remaining(acc.oop));
+    let share = within_limit(capped_share, family_oop_max(&terms), acc.foop);
     Amounts {
         allowed,
         ded,
@@ -48,12 +48,12 @@ fn within_limit(amount: Money, limit: Option<Money>, used: Money) -> Money
     ensures within { result ≤ℤ amount }
 {
     match limit {
-        Some(limit) => amount.min(limit.left(used)),
+        Some(limit) => amount.min(limit.remaining(used)),
         None => amount,
     }
 }
 
-fn family_deductible(terms: &RoleTerms) -> Option<Money>
+fn family_deductible(terms: &CostSharing) -> Option<Money>
     ensures { result ≡ family_deductible terms.now }
 {
     match &terms.family {
@@ -62,7 +62,7 @@ fn family_deductible(terms: &RoleTerms) -> Option<Money>
     }
 }
 
-fn family_oop_max(terms: &RoleTerms) -> Option<Money>
+fn family_oop_max(terms: &CostSharing) -> Option<Money>
     ensures { result ≡ family_oop_max terms.now }
 {
     match &terms.family {
@@ -73,7 +73,7 @@ fn family_oop_max(terms: &RoleTerms) -> Option<Money>
 
 // Returns the member's cost share before the out-of-pocket maximum. It is computed by subtraction
 // from the allowed amount, since the addition of amounts may fail.
-fn taken(allowed: Money, ded: Money, copay: Money, coins: Money) -> Money
+fn cost_share(allowed: Money, ded: Money, copay: Money, coins: Money) -> Money
     requires { (ded +ℤ copay +ℤ coins) ≤ℤ allowed }
     ensures value { result ≡ ded +ℤ copay +ℤ coins }
     ensures within { result ≤ℤ allowed }

@@ -14,14 +14,14 @@ use std::alloc::{AllocError, Global};
 const NAMES_BEFORE: usize = 4;
 
 /// The number of a plan's names after its fields.
-const NAMES_BEHIND: usize = 3;
+const NAMES_AFTER: usize = 3;
 
 /// A plan that keeps accumulators for families has one more name before its fields: `family`.
 const NAMES_BEFORE_WITH_FAMILIES: usize = 5;
 
 /// A plan that keeps accumulators for families has two more names after its fields: `fmet` and
 /// `foop`.
-const NAMES_BEHIND_WITH_FAMILIES: usize = 5;
+const NAMES_AFTER_WITH_FAMILIES: usize = 5;
 
 /// A claim for one service to one member.
 pub struct Claim {
@@ -108,9 +108,9 @@ pub fn fields_of(plan: &Plan) -> &[InputData]
 {
     let names = plan.names();
     if plan.keeps_families() {
-        &names[NAMES_BEFORE_WITH_FAMILIES..names.len() - NAMES_BEHIND_WITH_FAMILIES]
+        &names[NAMES_BEFORE_WITH_FAMILIES..names.len() - NAMES_AFTER_WITH_FAMILIES]
     } else {
-        &names[NAMES_BEFORE..names.len() - NAMES_BEHIND]
+        &names[NAMES_BEFORE..names.len() - NAMES_AFTER]
     }
 }
 

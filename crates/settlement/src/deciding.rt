@@ -5,23 +5,23 @@ ghost use Rattle.dtable.specs.Environment.{env};
 ghost use Rattle.dtable.specs.Inputs.{IsReady};
 ghost use Rattle.dtable.specs.Plan.{PlanParts};
 ghost use Rattle.settlement.specs.declared.claim.Claim.{Claim};
-ghost use Rattle.settlement.specs.declared.benefit.Benefit.{Benefit as BenefitOf};
+ghost use Rattle.settlement.specs.declared.determination.Determination.{Determination as BenefitOf};
 ghost use Rattle.settlement.specs.Accumulators.{after, AreInRange};
-ghost use Rattle.settlement.specs.Benefits.{IsAlike, IsTrueOf, Remembers, benefit_of, by_answers};
+ghost use Rattle.settlement.specs.Determinations.{IsAlike, IsTrueOf, IsCached, determination_of, by_answers};
 ghost use Rattle.settlement.specs.Claim.{IsClaimOf};
-ghost use Rattle.settlement.specs.Placed.{ArePlaced, ArePlacedFor};
+ghost use Rattle.settlement.specs.RoleBindings.{ArePlaced, ArePlacedFor};
 ghost use Rattle.settlement.specs.Settlement.{outcome, by_tables};
 
 use crate::acc::Acc;
-use crate::benefit::{Benefit, are_answered};
+use crate::bindings::{bind_inputs, places_read};
 use crate::claim::Claim;
-use crate::given::{give, places_read};
-use crate::memory::Memory;
+use crate::cost_sharing::{is_covered, remarks, terms_of};
+use crate::determination::{Determination, are_answered};
+use crate::determination_cache::DeterminationCache;
 use crate::money::Money;
 use crate::outcome::Outcome;
-use crate::placed::{RolePlaces, role_places};
-use crate::terms::{is_covered, remarks, terms_of};
-use crate::vocabulary::Vocabulary;
+use crate::remark_table::RemarkTable;
+use crate::role_bindings::{RoleBindings, role_places};
 use dtable::{Env, Inputs, Roles, Sequence, Valuer};
 use faults::Reason;
 use std::alloc::{AllocError, Global};
@@ -33,9 +33,9 @@ pub struct Adjudicator<'v, V: Valuer> {
     valuer: &'v V,
     places: Sequence<usize>,
     inputs: Inputs,
-    roles: RolePlaces,
-    vocabulary: Vocabulary,
-    memory: Memory,
+    roles: RoleBindings,
+    remark_table: RemarkTable,
+    cache: DeterminationCache,
 }
 
 impl<'v, V: Valuer> Drop for Adjudicator<'v, V> {
@@ -45,16 +45,16 @@ impl<'v, V: Valuer> Drop for Adjudicator<'v, V> {
             places: _,
             inputs: _,
             roles: _,
-            vocabulary: _,
-            memory: _,
+            remark_table: _,
+            cache: _,
         } = self;
     }
 }
 
 impl<'v, V: Valuer> Model for Adjudicator<'v, V> {
     ghost use Rattle.dtable.specs.Plan.{PlanParts};
-    ghost use Rattle.settlement.specs.Benefits.{IsTrueOf};
-    ghost use Rattle.settlement.specs.Placed.{ArePlacedFor};
+    ghost use Rattle.settlement.specs.Determinations.{IsTrueOf};
+    ghost use Rattle.settlement.specs.RoleBindings.{ArePlacedFor};
     ghost use Rattle.settlement.specs.Reads.{IsLaidOut};
 
     ghost Value = { PlanParts };
@@ -64,7 +64,7 @@ impl<'v, V: Valuer> Model for Adjudicator<'v, V> {
     ghost invariant = { λ a.
         IsLaidOut (V.plan_of a.valuer.now) a.places a.inputs
         × ArePlacedFor (V.plan_of a.valuer.now) a.roles
-        × IsTrueOf (V.in_zone a.valuer.now) (V.plan_of a.valuer.now) a.memory };
+        × IsTrueOf (V.in_class a.valuer.now) (V.plan_of a.valuer.now) a.cache };
 }
 
 impl<'v, V: Valuer> Adjudicator<'v, V> {
@@ -72,31 +72,31 @@ impl<'v, V: Valuer> Adjudicator<'v, V> {
     pub fn new(alloc: Global, valuer: &'v V) -> Result<Adjudicator<'v, V>, AllocError>
         ensures { IfOk result (λ adjudicator. adjudicator ≡ V.plan_of valuer.now) }
     {
-        let memory = Memory::new(alloc)?;
-        Adjudicator::with_memory(alloc, valuer, memory)
+        let cache = DeterminationCache::new(alloc)?;
+        Adjudicator::with_cache(alloc, valuer, cache)
     }
 
     // The cache must be empty.
-    fn with_memory(
+    fn with_cache(
         alloc: Global,
         valuer: &'v V,
-        memory: Memory,
+        cache: DeterminationCache,
     ) -> Result<Adjudicator<'v, V>, AllocError>
-        requires { (zone : ℕ) (benefit : BenefitOf) → Remembers memory zone benefit → ⊥ }
+        requires { (input_class : ℕ) (determination : BenefitOf) → IsCached cache input_class determination → ⊥ }
         ensures { IfOk result (λ adjudicator. adjudicator ≡ V.plan_of valuer.now) }
     {
         let plan = valuer.plan();
         let places = places_read(alloc, plan)?;
         let inputs = Inputs::new(alloc, plan)?;
         let roles = role_places(plan);
-        let vocabulary = Vocabulary::new(alloc, plan, roles.remarks)?;
+        let remark_table = RemarkTable::new(alloc, plan, roles.remarks)?;
         Ok(Adjudicator {
             valuer,
             places,
             inputs,
             roles,
-            vocabulary,
-            memory,
+            remark_table,
+            cache,
         })
     }
 
@@ -108,14 +108,14 @@ impl<'v, V: Valuer> Adjudicator<'v, V> {
         ensures decided { IfOk result (λ decided. decided ≡ outcome self.old claim.now acc) }
         ensures plan { self.new ≡ self.old }
     {
-        give(alloc, &mut self.inputs, self.places.as_slice(), claim, &acc)?;
-        settled(
+        bind_inputs(alloc, &mut self.inputs, self.places.as_slice(), claim, &acc)?;
+        decide_by_class(
             alloc,
             self.valuer,
             &self.inputs,
             &self.roles,
-            &self.vocabulary,
-            &mut self.memory,
+            &self.remark_table,
+            &mut self.cache,
             claim.billed,
             acc,
         )
@@ -134,84 +134,84 @@ pub fn decide<V: Valuer>(
     requires fields { IsClaimOf (V.plan_of valuer.now) claim.now }
     ensures { IfOk result (λ decided. decided ≡ outcome (V.plan_of valuer.now) claim.now acc) }
 {
-    let mut adjudicator = Adjudicator::with_memory(alloc, valuer, Memory::none(alloc))?;
+    let mut adjudicator = Adjudicator::with_cache(alloc, valuer, DeterminationCache::none(alloc))?;
     adjudicator.decide(alloc, claim, acc)
 }
 
 // Returns the outcome of a claim with these inputs. Its determination comes from the cache, or is
 // stored there for other claims of the same input class.
-fn settled<V: Valuer>(
+fn decide_by_class<V: Valuer>(
     alloc: Global,
     valuer: &V,
     inputs: &Inputs,
-    places: &RolePlaces,
-    vocabulary: &Vocabulary,
-    memory: &mut Memory,
+    places: &RoleBindings,
+    remark_table: &RemarkTable,
+    cache: &mut DeterminationCache,
     billed: Money,
     acc: Acc,
 ) -> Result<Outcome, AllocError>
     requires roles { IsSome (V.plan_of valuer.now).roles }
     requires placed { ArePlacedFor (V.plan_of valuer.now) places.now }
     requires ready { IsReady (V.plan_of valuer.now).tables inputs.now }
-    requires true_yet { IsTrueOf (V.in_zone valuer.now) (V.plan_of valuer.now) memory.old }
+    requires true_yet { IsTrueOf (V.in_class valuer.now) (V.plan_of valuer.now) cache.old }
     ensures decided { let plan = V.plan_of valuer.now in IfOk result (λ decided.
         decided ≡ by_tables plan.roles billed acc inputs.now (env plan inputs.now)) }
-    ensures true_still { IsTrueOf (V.in_zone valuer.now) (V.plan_of valuer.now) memory.new }
+    ensures true_still { IsTrueOf (V.in_class valuer.now) (V.plan_of valuer.now) cache.new }
 {
-    let Some(zone) = zone_of(valuer, inputs, memory) else {
-        memory.count_in_vain();
-        let benefit = benefit_of(alloc, valuer, inputs, places, vocabulary)?;
-        return benefit.outcome(billed, &acc);
+    let Some(input_class) = class_of(valuer, inputs, cache) else {
+        cache.record_miss();
+        let determination = determination_of(alloc, valuer, inputs, places, remark_table)?;
+        return determination.outcome(billed, &acc);
     };
-    if let Some(benefit) = memory.get(zone) {
-        let decided = benefit.outcome(billed, &acc)?;
-        memory.count_found();
+    if let Some(determination) = cache.get(input_class) {
+        let decided = determination.outcome(billed, &acc)?;
+        cache.record_hit();
         return Ok(decided);
     }
-    let benefit = benefit_of(alloc, valuer, inputs, places, vocabulary)?;
-    let decided = benefit.outcome(billed, &acc)?;
+    let determination = determination_of(alloc, valuer, inputs, places, remark_table)?;
+    let decided = determination.outcome(billed, &acc)?;
     // If a role has the value of an input, two claims of one input class may have different
     // determinations.
     if !are_answered(valuer.plan()) {
-        memory.give_up();
+        cache.disable();
         return Ok(decided);
     }
-    memory.keep(zone, benefit);
+    cache.keep(input_class, determination);
     Ok(decided)
 }
 
-fn zone_of<V: Valuer>(valuer: &V, inputs: &Inputs, memory: &Memory) -> Option<u64>
-    ensures inside { IfSome result (V.in_zone valuer.now inputs.now) }
+fn class_of<V: Valuer>(valuer: &V, inputs: &Inputs, cache: &DeterminationCache) -> Option<u64>
+    ensures inside { IfSome result (V.in_class valuer.now inputs.now) }
     ensures alike { IfSome result
-        (IsAlike (V.in_zone valuer.now) (V.plan_of valuer.now) inputs.now) }
+        (IsAlike (V.in_class valuer.now) (V.plan_of valuer.now) inputs.now) }
 {
-    if memory.is_of_use() {
-        valuer.zone(inputs)
+    if cache.is_of_use() {
+        valuer.input_class(inputs)
     } else {
         None
     }
 }
 
 // Returns the determination of a claim with these inputs. A fault of the tables pends the claim.
-fn benefit_of<V: Valuer>(
+fn determination_of<V: Valuer>(
     alloc: Global,
     valuer: &V,
     inputs: &Inputs,
-    places: &RolePlaces,
-    vocabulary: &Vocabulary,
-) -> Result<Benefit, AllocError>
+    places: &RoleBindings,
+    remark_table: &RemarkTable,
+) -> Result<Determination, AllocError>
     requires roles { IsSome (V.plan_of valuer.now).roles }
     requires placed { ArePlacedFor (V.plan_of valuer.now) places.now }
     requires ready { IsReady (V.plan_of valuer.now).tables inputs.now }
-    ensures { let plan = V.plan_of valuer.now in IfOk result (λ benefit.
-        benefit ≡ benefit_of plan.roles inputs.now (env plan inputs.now)) }
+    ensures { let plan = V.plan_of valuer.now in IfOk result (λ determination.
+        determination ≡ determination_of plan.roles inputs.now (env plan inputs.now)) }
 {
     let roles = valuer.plan().roles().unwrap();
     match valuer.value(alloc, inputs) {
-        Ok(env) => by_roles(inputs, &env, roles, places, vocabulary),
+        Ok(env) => by_roles(inputs, &env, roles, places, remark_table),
         Err(fault) => {
             let reason = Reason::of(fault).ok_or(AllocError)?;
-            Ok(Benefit::Pended(reason))
+            Ok(Determination::Pended(reason))
         }
     }
 }
@@ -222,22 +222,22 @@ fn by_roles(
     inputs: &Inputs,
     env: &Env,
     roles: &Roles,
-    places: &RolePlaces,
-    vocabulary: &Vocabulary,
-) -> Result<Benefit, AllocError>
+    places: &RoleBindings,
+    remark_table: &RemarkTable,
+) -> Result<Determination, AllocError>
     requires { ArePlaced env.now.tables roles.now places.now }
-    ensures { IfOk result (λ benefit. benefit ≡ by_answers roles.now inputs.now env.now) }
+    ensures { IfOk result (λ determination. determination ≡ by_answers roles.now inputs.now env.now) }
 {
     if !is_covered(inputs, env, roles, places) {
-        let remarks = remarks(env, &roles.remarks, places.remarks, vocabulary)?;
-        return Ok(Benefit::Denied(remarks));
+        let remarks = remarks(env, &roles.remarks, places.remarks, remark_table)?;
+        return Ok(Determination::Denied(remarks));
     }
     let terms = match terms_of(inputs, env, roles, places) {
         Ok(terms) => terms,
-        Err(role) => return Ok(Benefit::Pended(Reason::Term(role))),
+        Err(role) => return Ok(Determination::Pended(Reason::Term(role))),
     };
-    let remarks = remarks(env, &roles.remarks, places.remarks, vocabulary)?;
-    Ok(Benefit::Covered(terms, remarks))
+    let remarks = remarks(env, &roles.remarks, places.remarks, remark_table)?;
+    Ok(Determination::Covered(terms, remarks))
 }
 
 /// Returns the accumulators after an outcome, or `None` if one of them is out of range. An outcome

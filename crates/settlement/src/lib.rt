@@ -13,18 +13,18 @@
 mod acc;
 mod account;
 mod amounts;
-mod benefit;
+mod bindings;
 mod claim;
+mod cost_sharing;
 mod deciding;
-mod given;
-mod memory;
+mod determination;
+mod determination_cache;
 mod money;
 mod outcome;
-mod placed;
 mod rate;
+mod remark_table;
 mod remarks;
-mod terms;
-mod vocabulary;
+mod role_bindings;
 
 pub use acc::Acc;
 pub use account::{Balance, account_year};

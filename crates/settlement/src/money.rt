@@ -92,7 +92,7 @@ impl Money {
 
     /// Returns what remains of this limit after the `used` amount, and zero if that exceeds the
     /// limit.
-    pub(crate) fn left(self, used: Money) -> Money
+    pub(crate) fn remaining(self, used: Money) -> Money
         ensures { result ≡ left_of self used }
     {
         if used < self {

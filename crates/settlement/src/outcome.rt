@@ -1,6 +1,6 @@
 //! The outcomes of claims.
 ghost use Rattle.std.specs.Prelude.{◌≡◌, []};
-ghost use Rattle.settlement.specs.Settlement.{paid, unpaid, pended, denied};
+ghost use Rattle.settlement.specs.Settlement.{paid_outcome, unpaid_outcome, pended_outcome, denied_outcome};
 
 use crate::amounts::Amounts;
 use crate::money::Money;
@@ -57,8 +57,8 @@ impl Drop for Outcome {
 
 impl Outcome {
     /// Returns the outcome of a paid claim.
-    pub(crate) fn paid(amounts: Amounts, remarks: Remarks) -> Outcome
-        ensures { result ≡ paid amounts remarks }
+    pub(crate) fn paid_outcome(amounts: Amounts, remarks: Remarks) -> Outcome
+        ensures { result ≡ paid_outcome amounts remarks }
     {
         Outcome {
             verdict: Verdict::Paid,
@@ -73,22 +73,22 @@ impl Outcome {
     }
 
     /// Returns the outcome of a denied claim.
-    pub(crate) fn denied(remarks: Remarks) -> Outcome
-        ensures { result ≡ denied remarks }
+    pub(crate) fn denied_outcome(remarks: Remarks) -> Outcome
+        ensures { result ≡ denied_outcome remarks }
     {
-        unpaid(Verdict::Denied, remarks)
+        unpaid_outcome(Verdict::Denied, remarks)
     }
 
     /// Returns the outcome of a pended claim.
-    pub(crate) fn pended(reason: Reason) -> Outcome
-        ensures { result ≡ pended reason }
+    pub(crate) fn pended_outcome(reason: Reason) -> Outcome
+        ensures { result ≡ pended_outcome reason }
     {
-        unpaid(Verdict::Pended(reason), Remarks::none())
+        unpaid_outcome(Verdict::Pended(reason), Remarks::none())
     }
 }
 
-fn unpaid(verdict: Verdict, remarks: Remarks) -> Outcome
-    ensures { result ≡ unpaid verdict remarks }
+fn unpaid_outcome(verdict: Verdict, remarks: Remarks) -> Outcome
+    ensures { result ≡ unpaid_outcome verdict remarks }
 {
     Outcome {
         verdict,

@@ -76,11 +76,11 @@ impl Remarks {
         if texts.is_empty() {
             return Ok(Remarks::none());
         }
-        Remarks::listed(alloc, Listed::Own(texts))
+        Remarks::from_list(alloc, Listed::Own(texts))
     }
 
     /// Returns the remarks whose texts are the words at these places.
-    pub(crate) fn placed(
+    pub(crate) fn from_places(
         alloc: Global,
         words: &Arc<Sequence<Text>>,
         places: SmallVec<u8, INLINE_PLACES>,
@@ -89,10 +89,10 @@ impl Remarks {
             remarks ≡ map (word_at (arc_value words.now)) places.items) }
     {
         let words = words.clone()?;
-        Remarks::listed(alloc, Listed::Placed { words, places })
+        Remarks::from_list(alloc, Listed::Placed { words, places })
     }
 
-    fn listed(alloc: Global, listed: Listed) -> Result<Remarks, AllocError>
+    fn from_list(alloc: Global, listed: Listed) -> Result<Remarks, AllocError>
         ensures { IfOk result (λ remarks. remarks ≡ listed_texts listed) }
     {
         Ok(Remarks {

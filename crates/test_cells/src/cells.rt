@@ -18,14 +18,14 @@ use std::alloc::Global;
 use std::process::Abort;
 
 // Reads the cell once, and returns its fault.
-fn told_of(alloc: Global, kind: Kind, text: &str) -> Option<CellFault> {
+fn reported_of(alloc: Global, kind: Kind, text: &str) -> Option<CellFault> {
     read_cell(alloc, kind, text).err()
 }
 
 // Returns the fault of a text that is not a cell of the kind, even if one allocation is refused.
 fn fault_of(alloc: Global, kind: Kind, text: &str) -> Option<CellFault> {
-    match told_of(alloc, kind, text) {
-        Some(fault) if fault.cause == CellCause::OutOfMemory => told_of(alloc, kind, text),
+    match reported_of(alloc, kind, text) {
+        Some(fault) if fault.cause == CellCause::OutOfMemory => reported_of(alloc, kind, text),
         fault => fault,
     }
 }
@@ -115,7 +115,7 @@ fn hold(rt: &impl Abort, alloc: Global, kind: Kind, rows: &[(&str, &str, bool)])
 }
 
 // Returns `times` copies of a piece between a front and a back.
-fn repeated(
+fn repeat_test(
     rt: &impl Abort,
     alloc: Global,
     front: &str,

@@ -2,7 +2,7 @@
 //! does, and it makes one write for each piece.
 use crate::ending::expects;
 use fixpoint::{
-    Cut, Failed, Fixed, MAX_UNITS, NumFault, money_text_denotes, products_are_rounded,
+    Failed, Fixed, MAX_UNITS, NumFault, ShortWrite, money_text_denotes, products_are_rounded,
     shortest_text_denotes, text_denotes_at_most_one,
 };
 use std::alloc::Global;
@@ -137,26 +137,26 @@ fn are_ordered(least: Fixed, greatest: Fixed) -> bool {
     least.min(greatest) == least && least.max(greatest) == greatest
 }
 
-fn tells(rt: &impl Abort, text: &str, is_cents: bool, is_money: bool) {
+fn reports(rt: &impl Abort, text: &str, is_cents: bool, is_money: bool) {
     let number = number(rt, text);
     expects(rt, number.is_cents() == is_cents, text);
     expects(rt, number.is_money() == is_money, text);
 }
 
-fn tells_rate(rt: &impl Abort, text: &str, is_rate: bool) {
+fn reports_rate(rt: &impl Abort, text: &str, is_rate: bool) {
     expects(rt, number(rt, text).is_rate() == is_rate, text);
 }
 
 #[test]
-fn tells_money_and_rates(rt: HostRuntime) {
-    tells(&rt, "0.01", true, true);
-    tells(&rt, "-0", true, true);
-    tells(&rt, "-0.01", true, false);
-    tells(&rt, "0.001", false, false);
-    tells_rate(&rt, "-0.0001", false);
-    tells_rate(&rt, "0", true);
-    tells_rate(&rt, "1", true);
-    tells_rate(&rt, "1.0001", false);
+fn reports_money_and_rates(rt: HostRuntime) {
+    reports(&rt, "0.01", true, true);
+    reports(&rt, "-0", true, true);
+    reports(&rt, "-0.01", true, false);
+    reports(&rt, "0.001", false, false);
+    reports_rate(&rt, "-0.0001", false);
+    reports_rate(&rt, "0", true);
+    reports_rate(&rt, "1", true);
+    reports_rate(&rt, "1.0001", false);
 }
 
 fn has_money_text(rt: &impl Abort, text: &str, money: &str) {
@@ -192,7 +192,7 @@ fn says_what_is_wrong(rt: HostRuntime) {
     says(
         &rt,
         alloc,
-        &Cut { written: 3 },
+        &ShortWrite { written: 3 },
         "the writer takes no more after 3 bytes",
     );
 }

@@ -3,6 +3,8 @@
 #![tactic(auto)]
 
 #[cfg(test)]
+mod atomic_files;
+#[cfg(test)]
 mod command_line;
 #[cfg(test)]
 mod ending;
@@ -12,5 +14,3 @@ mod explanations;
 mod places;
 #[cfg(test)]
 mod shown_text;
-#[cfg(test)]
-mod whole_text;

@@ -1,7 +1,7 @@
 //! Where things stand in a plan's text.
 use crate::ending::{expects, fail};
 use diagnostics::{
-    Places, Position, Step, Unread, is_one_edit, places_of, position_of, unread_keys,
+    Places, Position, Step, UnusedKey, is_one_edit, places_of, position_of, unread_keys,
 };
 use std::process::Abort;
 
@@ -24,7 +24,7 @@ remark = 'y'
 
 // Ends the test where the value that the steps lead to stands elsewhere.
 fn expects_at(rt: &impl Abort, places: &Places, steps: &[Step], line: usize, column: usize) {
-    let found = position_of(plan().as_bytes(), places.nearest(steps));
+    let found = position_of(plan().as_bytes(), places.nearest_node(steps));
     expects(
         rt,
         found == Position { line, column },
@@ -45,7 +45,7 @@ fn cell(item: usize) -> [Step; 6] {
 }
 
 #[test]
-fn values_are_found_where_they_stand(rt: HostRuntime) {
+fn values_are_found_at_their_places(rt: HostRuntime) {
     match places_of(rt.alloc(), plan()) {
         Ok(places) => {
             let table = [Step::Key("tables"), Step::Item(0)];
@@ -61,7 +61,7 @@ fn values_are_found_where_they_stand(rt: HostRuntime) {
 // Ends the test where another key stands at this place of a list, or on another line, or another key is near it.
 fn expects_unread(
     rt: &impl Abort,
-    unread: &[Unread],
+    unread: &[UnusedKey],
     place: usize,
     line: usize,
     key: &str,
@@ -77,7 +77,7 @@ fn expects_unread(
 }
 
 #[test]
-fn unread_keys_are_told(rt: HostRuntime) {
+fn unread_keys_are_reported(rt: HostRuntime) {
     match unread_keys(rt.alloc(), plan()) {
         Ok(keys) => {
             let unread = keys.as_slice();
@@ -100,7 +100,7 @@ fn expects_one_edit(rt: &impl Abort, one: &str, other: &str, wanted: bool) {
 }
 
 #[test]
-fn one_edit_is_told_from_none_and_two(rt: HostRuntime) {
+fn one_edit_is_reported_from_none_and_two(rt: HostRuntime) {
     expects_one_edit(&rt, "hit", "hi", true);
     expects_one_edit(&rt, "hit", "hitt", true);
     expects_one_edit(&rt, "hit", "hut", true);

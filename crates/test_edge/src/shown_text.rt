@@ -1,12 +1,12 @@
 //! A text of others as it is shown.
 use crate::ending::{expects, fail};
-use diagnostics::push_shown;
+use diagnostics::push_printable;
 use std::alloc::{AllocError, Global};
 
 // A text as it is shown behind another.
 fn shown_behind(alloc: Global, front: &str, text: &str) -> Result<String, AllocError> {
     let mut shown = String::from_str(alloc, front)?;
-    push_shown(&mut shown, text)?;
+    push_printable(&mut shown, text)?;
     Ok(shown)
 }
 

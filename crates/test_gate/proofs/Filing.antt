@@ -6,14 +6,14 @@ use Rattle.std.proofs.lemmas.Bool.{both_ways, or_left}
 use Rattle.std.proofs.lemmas.List.{length-map, length_push}
 use Rattle.std.proofs.lemmas.List.Folds.{list_any-append}
 use Rattle.settlement.specs.declared.claim.Claim.{Claim}
-use Rattle.intake_csv.specs.Laws.{StartHasTheRows, GivenRowIsTheFirst, NoRecordsNoRows, StandApart}
+use Rattle.intake_csv.specs.Laws.{StartHasTheRows, GivenRowIsTheFirst, NoRecordsNoRows, LieApart}
 use Rattle.intake_csv.specs.Rows.{GivesRow, IsAtStart, RowsLeft, claims_among}
 use Rattle.intake_csv.specs.declared.rows.Row.TheVariants.{Good}
 use Rattle.claim_gate.specs.Terms.{TermsParts, AreClaimsOf, IsTermsOf, texts_of, ForTerms}
 use Rattle.journal.specs.Terms.{Terms, claims_of}
-use Rattle.journal.specs.Events.{is_take, taken, IsJob}
+use Rattle.journal.specs.Events.{is_take, has_take, IsJob}
 use Rattle.journal.specs.Gate.{GateAt, Continues, TakeReply, Takes, LeadsTo}
-use Rattle.journal.specs.Laws.{JobsStay}
+use Rattle.journal.specs.Laws.{JobsAreStable}
 use Rattle.journal.specs.declared.event.Event.{Event}
 use Rattle.journal.specs.declared.event.Event.TheVariants.{Take}
 use Rattle.claim_gate.specs.Parts.{GateParts, at}
@@ -34,7 +34,7 @@ zipped_at R (x ∷ xs) (y ∷ ys) zero d e h within = h.0
 zipped_at R (x ∷ xs) (y ∷ ys) (suc i) d e h within = zipped_at R xs ys i d e h.1 (omega arith)
 
 at_start : StartHasTheRows → (terms : TermsParts) (T : Terms) (q : ℕ) (left : RowsLeft)
-    → StandApart left.layout.columns → IsTermsOf terms T → q < length terms.files → IsAtStart terms.plan.names (get_or terms.files q []) left → IsReader T (suc q) left
+    → LieApart left.layout.columns → IsTermsOf terms T → q < length terms.files → IsAtStart terms.plan.names (get_or terms.files q []) left → IsReader T (suc q) left
 at_start rows_law terms T q left apart is within starts =
     let file : AreClaimsOf terms.plan.names (get_or terms.files q []) (get_or T.files q []) =
     zipped_at (AreClaimsOf terms.plan.names) terms.files T.files q [] [] is.files within in
@@ -51,7 +51,7 @@ at_start rows_law terms T q left apart is within starts =
 
 -- a new reader is at the start of a provider's file
 pub reads : StartHasTheRows → (terms : TermsParts) (provider : ℕ) (left : RowsLeft)
-    → StandApart left.layout.columns → 1 ≤ provider → provider ≤ length terms.files → IsAtStart terms.plan.names (get_or terms.files (provider - 1) []) left
+    → LieApart left.layout.columns → 1 ≤ provider → provider ≤ length terms.files → IsAtStart terms.plan.names (get_or terms.files (provider - 1) []) left
     → ForTerms terms (λ T. IsReader T provider left)
 reads rows_law terms zero left apart least most starts T is = let never : ⊥ = omega (arith, least) in absurd never
 reads rows_law terms (suc q) left apart least most starts T is =
@@ -65,9 +65,9 @@ among_texts files texts provider same within =
     let as_many : length files ≡ length texts = sym (length-map files (λ (f : Bor (List ℕ)). f.now)) ∙ ap length same in
     omega (arith, as_many, within)
 
-get_behind : (xs : List Claim) (x : Claim) (ys : List Claim) → slice_get (xs ++ x ∷ ys) (length xs) ≡ Some x
-get_behind [] x ys = refl
-get_behind (z ∷ xs) x ys = get_behind xs x ys
+get_after : (xs : List Claim) (x : Claim) (ys : List Claim) → slice_get (xs ++ x ∷ ys) (length xs) ≡ Some x
+get_after [] x ys = refl
+get_after (z ∷ xs) x ys = get_after xs x ys
 
 -- the claim that the reader returns is the one at its place, and the reader goes on after it
 pub record IsNextOf (T : Terms) (provider number place : ℕ) (claim : Claim) (old new : RowsLeft) : Type 0 where
@@ -82,7 +82,7 @@ gives law T provider number place claim old new r given =
     let at : length r.front ≡ place = r.counted ∙ sym given.is_row.1 in
     let longer : length (r.front ++ claim ∷ []) ≡ length r.front + 1 = length_push r.front claim in
     record {
-      filed = ap (λ cs. slice_get cs place) parted ∙ ap (slice_get (r.front ++ claim ∷ claims_among b.rest)) (sym at) ∙ get_behind r.front claim (claims_among b.rest);
+      filed = ap (λ cs. slice_get cs place) parted ∙ ap (slice_get (r.front ++ claim ∷ claims_among b.rest)) (sym at) ∙ get_after r.front claim (claims_among b.rest);
       reader = record {
         known = r.known;
         front = r.front ++ claim ∷ [];
@@ -90,7 +90,7 @@ gives law T provider number place claim old new r given =
         are_rows = b.rest_left;
         whole = parted ∙ sym (append_assoc r.front (claim ∷ []) (claims_among b.rest));
         counted = longer ∙ ap (λ n. n + 1) r.counted ∙ sym given.place;
-        apart = subst (λ l. StandApart l.columns) (sym given.layout) r.apart;
+        apart = subst (λ l. LieApart l.columns) (sym given.layout) r.apart;
       };
     }
 
@@ -102,22 +102,22 @@ has_claims law T provider count left r none same =
     record { known = r.known; count_is = sym same ∙ sym r.counted ∙ sym (ap length whole) }
 
 -- a reader after the first claims of a provider's file, as many as the place says
-pub record IsBehind (terms : TermsParts) (provider place : ℕ) (left : RowsLeft) : Type 0 where
+pub record IsAfter (terms : TermsParts) (provider place : ℕ) (left : RowsLeft) : Type 0 where
   pub reader : ForTerms terms (λ T. IsReader T provider left)
   pub place_is : left.place ≡ place
 
 -- a job in progress remains so when the journal is continued
-pub goes_on : JobsStay → (old new : GateParts) → new.terms ≡ old.terms → Continues old.journal new.journal → WorkStays old new
+pub goes_on : JobsAreStable → (old new : GateParts) → new.terms ≡ old.terms → Continues old.journal new.journal → WorkStays old new
 goes_on law old new same on job work =
     let before : (T : Terms) → GateAt = λ T. record { terms = T; journal = old.journal; stopped = false } in
-    let behind : (T : Terms) → GateAt = λ T. record { terms = T; journal = new.journal; stopped = false } in
+    let following : (T : Terms) → GateAt = λ T. record { terms = T; journal = new.journal; stopped = false } in
     record {
       is_taken =
-          ap (λ J. taken J job.position) on.whole
+          ap (λ J. has_take J job.position) on.whole
           ∙ list_any-append (is_take job.position) old.journal on.rest
-          ∙ or_left (taken old.journal job.position) (taken on.rest job.position) work.is_taken;
+          ∙ or_left (has_take old.journal job.position) (has_take on.rest job.position) work.is_taken;
       its = λ T is.
-          law (before T) (behind T) job.position job.claim job.acc
+          law (before T) (following T) job.position job.claim job.acc
           (record { terms = refl; journal = on; stop = λ s. absurd (both_ways false refl s) })
           (work.its T (subst (λ p. IsTermsOf p T) same is));
     }
@@ -132,7 +132,7 @@ pub one_more : (old new : GateParts) (event : Event) → new ≡ record old { jo
 one_more old new event is = record { rest = event ∷ []; whole = ap (λ (g : GateParts). g.journal) is }
 
 -- a job that is taken is in progress
-pub at_work : JobsStay → (old new : GateParts) (job : Job) → ForTerms old.terms (λ T. IsJob T old.journal job.position job.claim job.acc)
+pub at_work : JobsAreStable → (old new : GateParts) (job : Job) → ForTerms old.terms (λ T. IsJob T old.journal job.position job.claim job.acc)
     → new ≡ record old { journal = old.journal ++ Take job.position ∷ [] } → IsAtWork new job
 at_work law old new job its is =
     let on : Continues old.journal (old.journal ++ Take job.position ∷ []) = record { rest = Take job.position ∷ []; whole = refl } in
@@ -146,19 +146,19 @@ at_work law old new job its is =
     })
 
 -- a job in progress remains so in every state to which the old one leads
-pub stays_at_work : JobsStay → (earlier later : GateParts) (job : Job) → LeadsTo earlier later → IsAtWork earlier job → IsAtWork later job
+pub stays_at_work : JobsAreStable → (earlier later : GateParts) (job : Job) → LeadsTo earlier later → IsAtWork earlier job → IsAtWork later job
 stays_at_work law earlier later job leads work = goes_on law earlier later leads.terms leads.journal job work
 
-pub work_stays : JobsStay → (earlier later : GateParts) → LeadsTo earlier later → WorkStays earlier later
+pub work_stays : JobsAreStable → (earlier later : GateParts) → LeadsTo earlier later → WorkStays earlier later
 work_stays law earlier later leads = goes_on law earlier later leads.terms leads.journal
 
 -- a job that has come back is still in progress
-pub back_at_work : JobsStay → (earlier later : GateParts) (given back : Job) → LeadsTo earlier later → back ≡ given → IsAtWork earlier given → IsAtWork later back
+pub back_at_work : JobsAreStable → (earlier later : GateParts) (given back : Job) → LeadsTo earlier later → back ≡ given → IsAtWork earlier given → IsAtWork later back
 back_at_work law earlier later given back leads same work =
     subst (IsAtWork later) (sym same) (stays_at_work law earlier later given leads work)
 
 -- a job that a call of the sequential gate has taken is in progress
-pub work_taken : JobsStay → (old new : GateParts) (reply : Result Taken TakeFault) → ForTerms old.terms (λ T. Takes (at T old) (take_reply reply) (at T new))
+pub work_taken : JobsAreStable → (old new : GateParts) (reply : Result Taken TakeFault) → ForTerms old.terms (λ T. Takes (at T old) (take_reply reply) (at T new))
     → IfOk reply (IsWorkOf old new) → IfOk reply (IsTaken new)
 work_taken law old new (Ok Stopped) went work = tt
 work_taken law old new (Ok Over) went work = tt

@@ -1,12 +1,12 @@
 -- Definitions for tests only: the progress of reading a provider's file, and the jobs in progress.
 use Rattle.std.specs.Prelude.{◌≡◌, ℕ, true, List, ◌++◌, length}
 use Rattle.settlement.specs.declared.claim.Claim.{Claim}
-use Rattle.intake_csv.specs.Laws.{StandApart}
+use Rattle.intake_csv.specs.Laws.{LieApart}
 use Rattle.intake_csv.specs.Rows.{AreRowsLeft, RowsLeft, claims_among}
 use Rattle.intake_csv.specs.declared.rows.Row.{Row}
 use Rattle.claim_gate.specs.Terms.{TermsParts, ForTerms}
 use Rattle.journal.specs.Terms.{Terms, IsProvider, claims_of}
-use Rattle.journal.specs.Events.{taken, IsJob}
+use Rattle.journal.specs.Events.{has_take, IsJob}
 use Rattle.claim_gate.specs.Parts.{GateParts}
 use Rattle.claim_gate.specs.Shared.{Known}
 use Rattle.claim_gate.specs.declared.job.Job.{Job}
@@ -22,11 +22,11 @@ pub record IsReader (T : Terms) (provider : ℕ) (left : RowsLeft) : Type 0 wher
   pub are_rows : AreRowsLeft left rows
   pub whole : claims_of T provider ≡ front ++ claims_among rows
   pub counted : length front ≡ left.place
-  pub apart : StandApart left.layout.columns
+  pub apart : LieApart left.layout.columns
 
 -- the job was taken, and it is the job at its position
 pub record IsAtWork (gate : GateParts) (job : Job) : Type 0 where
-  pub is_taken : taken gate.journal job.position ≡ true
+  pub is_taken : has_take gate.journal job.position ≡ true
   pub its : ForTerms gate.terms (λ T. IsJob T gate.journal job.position job.claim job.acc)
 
 -- a job in progress in the old state is in progress in the new one

@@ -86,7 +86,7 @@ fn is_finished<'t>(gate: GateState<'t>, terms: &'t Terms<'t>, words: &[u8]) -> b
 // The calls of a gate to which no claim was offered.
 fn begin_calls(rt: &impl Abort, alloc: Global, terms: &Terms) {
     let mut gate = gate_of(rt, alloc, terms);
-    gate.foresee(&[]);
+    gate.prefetch(&[]);
     expects(rt, has_journal(&gate, b""), "an empty journal");
     expects(rt, is_as_far(&gate, counts(0, 0, 0, false)), "no counts");
     let reply = take_once(&mut gate);

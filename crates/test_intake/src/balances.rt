@@ -11,7 +11,7 @@ const BALANCES: &[u8] = b"member,met,oop,paid\nM1,50.00,10.00,5.00\n";
 
 /// Returns whether the accumulators of a member who is the only one of its family have these
 /// amounts, in ten-thousandths.
-pub(crate) fn same(acc: Acc, met: i64, oop: i64, paid: i64) -> bool {
+pub(crate) fn has_amounts(acc: Acc, met: i64, oop: i64, paid: i64) -> bool {
     acc.met.amount().units() == met
         && acc.oop.amount().units() == oop
         && acc.paid.amount().units() == paid
@@ -32,7 +32,7 @@ fn balances_under(rt: &impl Abort, alloc: Global, plan: &Plan, text: &[u8]) -> B
 
 fn have_members(rt: &impl Abort, balances: Balances, members: &[(&str, i64, i64, i64)]) {
     for (member, met, oop, paid) in members {
-        let found = same(balances.of(member, member, 0), *met, *oop, *paid);
+        let found = has_amounts(balances.of(member, member, 0), *met, *oop, *paid);
         expects(rt, found, member);
     }
 }
@@ -71,7 +71,7 @@ fn have_members_by_year(
     members: &[(&str, u16, i64, i64, i64)],
 ) {
     for (member, year, met, oop, paid) in members {
-        let found = same(balances.of(member, member, *year), *met, *oop, *paid);
+        let found = has_amounts(balances.of(member, member, *year), *met, *oop, *paid);
         expects(rt, found, member);
     }
 }
@@ -428,7 +428,7 @@ fn faults_have_numbers_and_texts(rt: HostRuntime) {
     expects_at(&rt, RowCause::Repeated.number() == 8, 8);
     expects_at(&rt, RowCause::Sum.number() == 9, 9);
     let fault = row(2, 1, RowCause::Repeated);
-    let told = format!(in rt.alloc(); "{fault}").expect(&rt, "memory for a text");
+    let reported = format!(in rt.alloc(); "{fault}").expect(&rt, "memory for a text");
     let wanted = "record 2: column 1: a member occurs twice";
-    expects(&rt, told.as_str() == wanted, wanted);
+    expects(&rt, reported.as_str() == wanted, wanted);
 }

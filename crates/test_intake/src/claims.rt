@@ -46,27 +46,32 @@ pub(crate) fn plan(rt: &impl Abort, alloc: Global, text: &[u8]) -> Plan {
 }
 
 // Writes each row in short: `number.place id member day units values;` or `number!column.cause;`.
-fn told(rt: &impl Abort, alloc: Global, plan: &Plan, text: &[u8]) -> Result<String, AllocError> {
+fn rows_text(
+    rt: &impl Abort,
+    alloc: Global,
+    plan: &Plan,
+    text: &[u8],
+) -> Result<String, AllocError> {
     let file = ClaimFile::new(alloc, plan, text).expect(rt, "a file of claims");
-    told_of(rt, alloc, &file)
+    reported_of(rt, alloc, &file)
 }
 
-fn told_of(rt: &impl Abort, alloc: Global, file: &ClaimFile) -> Result<String, AllocError> {
+fn reported_of(rt: &impl Abort, alloc: Global, file: &ClaimFile) -> Result<String, AllocError> {
     let mut rows = file.rows(alloc)?;
-    told_behind(rt, alloc, &mut rows)
+    reported_after(rt, alloc, &mut rows)
 }
 
-fn told_behind(rt: &impl Abort, alloc: Global, rows: &mut Rows) -> Result<String, AllocError> {
-    let mut told = String::new(alloc);
-    tell_all(&mut told, rows)?;
-    let over = tell_next(&mut told, rows) == Ok(false);
+fn reported_after(rt: &impl Abort, alloc: Global, rows: &mut Rows) -> Result<String, AllocError> {
+    let mut reported = String::new(alloc);
+    write_rows(&mut reported, rows)?;
+    let over = write_next(&mut reported, rows) == Ok(false);
     expects(rt, over, "no row after the last");
-    Ok(told)
+    Ok(reported)
 }
 
-fn tell_all(told: &mut String, rows: &mut Rows) -> Result<(), AllocError> {
+fn write_rows(reported: &mut String, rows: &mut Rows) -> Result<(), AllocError> {
     for _ in 0..u64::MAX {
-        if !tell_next(told, rows)? {
+        if !write_next(reported, rows)? {
             break;
         }
     }
@@ -74,69 +79,69 @@ fn tell_all(told: &mut String, rows: &mut Rows) -> Result<(), AllocError> {
 }
 
 // Writes the next row, and returns whether there was one.
-fn tell_next(told: &mut String, rows: &mut Rows) -> Result<bool, AllocError> {
+fn write_next(reported: &mut String, rows: &mut Rows) -> Result<bool, AllocError> {
     match rows.next()? {
         Some(row) => {
-            tell(told, &row)?;
+            write_row(reported, &row)?;
             Ok(true)
         }
         None => Ok(false),
     }
 }
 
-fn tells(rt: &impl Abort, alloc: Global, plan: &Plan, text: &[u8], wanted: &str) {
-    let told = told(rt, alloc, plan, text).expect(rt, "memory for the rows");
-    expects(rt, told.as_str() == wanted, wanted);
+fn reports(rt: &impl Abort, alloc: Global, plan: &Plan, text: &[u8], wanted: &str) {
+    let reported = rows_text(rt, alloc, plan, text).expect(rt, "memory for the rows");
+    expects(rt, reported.as_str() == wanted, wanted);
 }
 
-fn tell(told: &mut String, row: &Row) -> Result<(), AllocError> {
+fn write_row(reported: &mut String, row: &Row) -> Result<(), AllocError> {
     match row {
         Row::Good {
             number,
             place,
             claim,
         } => {
-            write!(told, "{number}.{place} ")?;
-            tell_claim(told, claim)?;
+            write!(reported, "{number}.{place} ")?;
+            write_claim(reported, claim)?;
         }
         Row::Bad { number, fault } => {
             let cause = fault.cause.number();
-            write!(told, "{number}!{}.{cause};", fault.column)?;
+            write!(reported, "{number}!{}.{cause};", fault.column)?;
         }
     }
     Ok(())
 }
 
-fn tell_claim(told: &mut String, claim: &Claim) -> Result<(), AllocError> {
+fn write_claim(reported: &mut String, claim: &Claim) -> Result<(), AllocError> {
     let day = claim.service.epoch_day();
     let units = claim.billed.amount().units();
-    write!(told, "{}", claim.id.as_str())?;
+    write!(reported, "{}", claim.id.as_str())?;
     if let Some(family) = &claim.family {
-        write!(told, " {}", family.as_str())?;
+        write!(reported, " {}", family.as_str())?;
     }
-    write!(told, " {} {day} {units}", claim.member.as_str())?;
+    write!(reported, " {} {day} {units}", claim.member.as_str())?;
     for value in &claim.fields {
-        tell_value(told, value)?;
+        write_value(reported, value)?;
     }
-    told.push(';')
+    reported.push(';')
 }
 
-fn tell_value(told: &mut String, value: &Value) -> Result<(), AllocError> {
+fn write_value(reported: &mut String, value: &Value) -> Result<(), AllocError> {
     match value {
-        Value::Number(number) => write!(told, " {}", number.units()),
-        Value::Text(text) => write!(told, " {}", text.as_str()),
-        Value::Flag(flag) => write!(told, " {flag}"),
-        Value::Day(day) => write!(told, " {}", day.epoch_day()),
+        Value::Number(number) => write!(reported, " {}", number.units()),
+        Value::Text(text) => write!(reported, " {}", text.as_str()),
+        Value::Flag(flag) => write!(reported, " {flag}"),
+        Value::Day(day) => write!(reported, " {}", day.epoch_day()),
     }
 }
 
 // Requires that the rows of a file with these parts have this text.
 fn reads(rt: &impl Abort, alloc: Global, plan: &Plan, front: &[u8], parts: &[&[u8]], wanted: &str) {
-    let text = joined(alloc, front, parts).expect(rt, "memory for a file");
-    tells(rt, alloc, plan, &text, wanted);
+    let text = join_parts(alloc, front, parts).expect(rt, "memory for a file");
+    reports(rt, alloc, plan, &text, wanted);
 }
 
-fn joined(alloc: Global, front: &[u8], parts: &[&[u8]]) -> Result<Vec<u8>, AllocError> {
+fn join_parts(alloc: Global, front: &[u8], parts: &[&[u8]]) -> Result<Vec<u8>, AllocError> {
     let mut text = Vec::new(alloc);
     text.extend_from_slice(front)?;
     for part in parts {
@@ -168,7 +173,7 @@ const FAULTY: [&[u8]; 16] = [
     b"i,M1,2024-01-01,-0,B\n",
 ];
 
-const FAULTY_TOLD: &str =
+const FAULTY_REPORTED: &str =
     "1.0 a M\"1 19782 10000 A;2!0.1;3!2.4;4!3.5;5!4.6;6!4.7;7!2.3;8!2.2;9.1 i M1 19723 0 B;";
 
 #[test]
@@ -178,11 +183,18 @@ fn each_fault_of_a_record(rt: HostRuntime) {
 }
 
 fn reads_faulty(rt: &impl Abort, alloc: Global, plan: &Plan) {
-    reads(rt, alloc, plan, b"", faulty(), FAULTY_TOLD);
-    reads(rt, alloc, plan, b"\xEF\xBB\xBF", faulty(), FAULTY_TOLD);
+    reads(rt, alloc, plan, b"", faulty_files(), FAULTY_REPORTED);
+    reads(
+        rt,
+        alloc,
+        plan,
+        b"\xEF\xBB\xBF",
+        faulty_files(),
+        FAULTY_REPORTED,
+    );
 }
 
-fn faulty() -> &'static [&'static [u8]] {
+fn faulty_files() -> &'static [&'static [u8]] {
     &FAULTY
 }
 
@@ -198,13 +210,13 @@ const SHUFFLED: &[u8] = b"note,urgent,billed,service,member,claim,days,admitted
 ,true,1,2024-01-01,M,c,1,2024-1-1
 ";
 
-const SHUFFLED_TOLD: &str =
+const SHUFFLED_REPORTED: &str =
     "1.0 a M 19723 10000 15000 true -719162;2!2.5;3!3.6;4!3.7;5!5.4;6!6.4;7!7.5;8!8.5;";
 
 #[test]
 fn faults_of_a_record_come_in_the_header_s_order(rt: HostRuntime) {
     let plan = plan(&rt, rt.alloc(), KINDS);
-    tells(&rt, rt.alloc(), &plan, SHUFFLED, SHUFFLED_TOLD);
+    reports(&rt, rt.alloc(), &plan, SHUFFLED, SHUFFLED_REPORTED);
 }
 
 /// Claim files that are refused as a whole.
@@ -226,7 +238,7 @@ const REFUSED_FILES: [(&[u8], FileFault); 6] = [
     ),
 ];
 
-fn refused(alloc: Global, plan: &Plan, text: &[u8]) -> Option<FileFault> {
+fn file_fault_of(alloc: Global, plan: &Plan, text: &[u8]) -> Option<FileFault> {
     ClaimFile::new(alloc, plan, text).err()
 }
 
@@ -242,13 +254,13 @@ fn refused_files() -> &'static [(&'static [u8], FileFault)] {
 
 fn refuses_files(rt: &impl Abort, alloc: Global, plan: &Plan, files: &[(&[u8], FileFault)]) {
     for (text, fault) in files {
-        let found = refused(alloc, plan, text) == Some(*fault);
+        let found = file_fault_of(alloc, plan, text) == Some(*fault);
         expects(rt, found, "the file's fault");
     }
 }
 
 // Returns the text followed by empty lines, with `size` bytes in all.
-fn filled(alloc: Global, text: &[u8], size: usize) -> Result<Vec<u8>, AllocError> {
+fn fill_text(alloc: Global, text: &[u8], size: usize) -> Result<Vec<u8>, AllocError> {
     let mut filled = Vec::with_capacity(alloc, size)?;
     filled.extend_from_slice(text)?;
     for _ in 0..size.saturating_sub(text.len()) {
@@ -258,10 +270,10 @@ fn filled(alloc: Global, text: &[u8], size: usize) -> Result<Vec<u8>, AllocError
 }
 
 fn check_the_greatest_size(rt: &impl Abort, alloc: Global, plan: &Plan) {
-    let mut text = filled(alloc, HEADER, FILE_LIMIT_BYTES).expect(rt, "memory for a file");
-    expects(rt, refused(alloc, plan, &text).is_none(), "a file");
+    let mut text = fill_text(alloc, HEADER, FILE_LIMIT_BYTES).expect(rt, "memory for a file");
+    expects(rt, file_fault_of(alloc, plan, &text).is_none(), "a file");
     text.push(b'\n').expect(rt, "room");
-    let large = refused(alloc, plan, &text) == Some(FileFault::TooLarge);
+    let large = file_fault_of(alloc, plan, &text) == Some(FileFault::TooLarge);
     expects(rt, large, "a file that is too large");
 }
 
@@ -357,14 +369,14 @@ fn reads_quotings(rt: &impl Abort, alloc: Global, plan: &Plan, header: &[u8]) {
     }
 }
 
-const CLAIMS_TOLD: &str =
+const CLAIMS_REPORTED: &str =
     "1.0 c1 M1 19727 1200000 A;2.1 c2 M1 19754 400000 B;3.2 c3 M1 19755 400000 Z;4.3 c4 M1 19783 1000000 A;";
 
 #[test]
 fn every_prefix_of_a_claim_file_is_answered(rt: HostRuntime) {
     let plan = plan(&rt, rt.alloc(), PLAN);
     check_prefixes(&rt, rt.alloc(), &plan, CLAIMS);
-    tells(&rt, rt.alloc(), &plan, CLAIMS, CLAIMS_TOLD);
+    reports(&rt, rt.alloc(), &plan, CLAIMS, CLAIMS_REPORTED);
 }
 
 fn check_prefixes(rt: &impl Abort, alloc: Global, plan: &Plan, text: &[u8]) {
@@ -446,14 +458,15 @@ e4,B,M1,2024-02-01,30.00,F2
 #[test]
 fn claims_of_families(rt: HostRuntime) {
     let plan = plan(&rt, rt.alloc(), BY_FAMILY);
-    tells_of_families(&rt, rt.alloc(), &plan);
+    reports_of_families(&rt, rt.alloc(), &plan);
 }
 
-const FAMILIES_TOLD: &str = "1.0 e1 F1 M1 19727 1200000 A;2!6.4;3!3.4;4.1 e4 F2 M1 19754 300000 B;";
+const FAMILIES_REPORTED: &str =
+    "1.0 e1 F1 M1 19727 1200000 A;2!6.4;3!3.4;4.1 e4 F2 M1 19754 300000 B;";
 
-fn tells_of_families(rt: &impl Abort, alloc: Global, plan: &Plan) {
-    tells(rt, alloc, plan, FAMILY_CLAIMS, FAMILIES_TOLD);
-    let lacking = refused(alloc, plan, CLAIMS) == Some(FileFault::MissingColumn);
+fn reports_of_families(rt: &impl Abort, alloc: Global, plan: &Plan) {
+    reports(rt, alloc, plan, FAMILY_CLAIMS, FAMILIES_REPORTED);
+    let lacking = file_fault_of(alloc, plan, CLAIMS) == Some(FileFault::MissingColumn);
     expects(rt, lacking, "a missing column");
 }
 

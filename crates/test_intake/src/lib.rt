@@ -5,10 +5,10 @@
 #[cfg(test)]
 mod balances;
 #[cfg(test)]
-mod briefs;
-#[cfg(test)]
 mod claims;
 #[cfg(test)]
 mod ending;
+#[cfg(test)]
+mod summaries;
 #[cfg(test)]
 mod terms;

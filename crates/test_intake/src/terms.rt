@@ -1,5 +1,5 @@
 //! Tests of the inputs of a run by worked examples. A call that runs out of memory is repeated.
-use crate::balances::same;
+use crate::balances::has_amounts;
 use crate::claims::plan;
 use crate::ending::{expects, fail};
 use claim_gate::{FILES_LIMIT, Terms, TermsFault};
@@ -128,7 +128,7 @@ fn claim(rt: &impl Abort, alloc: Global, day: i32, of: Option<&str>, member: &st
 fn opens(rt: &impl Abort, alloc: Global, terms: &Terms, wanted: (&str, i64, i64, i64)) {
     let (member, met, oop, paid) = wanted;
     let claim = claim(rt, alloc, 19_727, None, member);
-    let found = same(terms.opening(&claim), met, oop, paid);
+    let found = has_amounts(terms.opening(&claim), met, oop, paid);
     expects(rt, found, member);
 }
 
@@ -290,8 +290,8 @@ const FAULTS: [(TermsFault, u8, &str); 5] = [
 fn faults_have_numbers_and_texts(rt: HostRuntime) {
     for (fault, number, wanted) in &FAULTS {
         expects(&rt, fault.number() == *number, wanted);
-        let told = format!(in rt.alloc(); "{fault}").expect(&rt, "memory for a text");
-        expects(&rt, told.as_str() == *wanted, wanted);
+        let reported = format!(in rt.alloc(); "{fault}").expect(&rt, "memory for a text");
+        expects(&rt, reported.as_str() == *wanted, wanted);
     }
 }
 

@@ -3,7 +3,7 @@ use crate::testing::{
     Narrow, WhenFull, expects, expects_at, is_cut, is_printed, is_refused, is_whole,
     is_whole_or_none, says,
 };
-use adjudicate::{do_check, do_harmful_check};
+use adjudicate::{do_check, do_errors_check};
 use fixpoint::Out;
 use std::alloc::Global;
 use std::process::Abort;
@@ -11,8 +11,8 @@ use std::process::Abort;
 mod regions;
 
 use regions::{
-    NO_RULES, SOME_HARMFUL, TOLD_AS_HARMFUL, TOLD_OF_TWO_TABLES, TOLD_OF_WIDE_AND_OVERLAPPING,
-    TWO_TABLES, WIDE_AND_OVERLAPPING,
+    NO_RULES, REPORTED_AS_ERRORS, REPORTED_OF_TWO_TABLES, REPORTED_OF_WIDE_AND_OVERLAPPING,
+    SOME_ERRORS, TWO_TABLES, WIDE_AND_OVERLAPPING,
 };
 
 /// One number column, with a gap between two rules that a number has, and one above them.
@@ -24,7 +24,7 @@ outputs = [{name = \"y\", kind = \"number\"}]
 rules = [{when = ['<1'], then = ['1']}, {when = ['[1.0001..5]'], then = ['2']}]
 ";
 
-const TOLD_GAPS: &str = "gap table 1: 1\ngap table 1: >5\ngaps 2 overlaps 0\n";
+const REPORTED_GAPS: &str = "gap table 1: 1\ngap table 1: >5\ngaps 2 overlaps 0\n";
 
 /// One number column, of which both rules have the 5.
 const ONE_OVERLAP: &str = "version = 1
@@ -64,7 +64,7 @@ rules = [{when = ['1,2,3,4,5,6,7,8', '1,2,3,4,5,6,7,8', '1,2,3,4,5,6,7,8', '1,2,
 
 /// A plan, and what is printed.
 const PRINTED: &[(&str, &str)] = &[
-    (TWO_GAPS, TOLD_GAPS),
+    (TWO_GAPS, REPORTED_GAPS),
     (
         ONE_OVERLAP,
         "overlap table 1: rules 1 2\ngaps 0 overlaps 1\n",
@@ -75,8 +75,8 @@ const PRINTED: &[(&str, &str)] = &[
     ),
     (ALLOWED_TEXTS, "gaps 0 overlaps 0\n"),
     (WIDE, "wide table 1\ngaps 0 overlaps 0\n"),
-    (TWO_TABLES, TOLD_OF_TWO_TABLES),
-    (WIDE_AND_OVERLAPPING, TOLD_OF_WIDE_AND_OVERLAPPING),
+    (TWO_TABLES, REPORTED_OF_TWO_TABLES),
+    (WIDE_AND_OVERLAPPING, REPORTED_OF_WIDE_AND_OVERLAPPING),
     (NO_RULES, "gap table 1: - ; -\ngaps 1 overlaps 0\n"),
     ("version = 1\n", "gaps 0 overlaps 0\n"),
 ];
@@ -107,11 +107,15 @@ fn gaps_overlaps_and_wide_tables(rt: HostRuntime) {
 }
 
 #[test]
-fn harmful_gaps_and_overlaps(rt: HostRuntime) {
+fn gaps_and_overlaps_that_are_errors(rt: HostRuntime) {
     let alloc = rt.alloc();
     let mut out = Out::new(Vec::new(alloc));
-    let result = do_harmful_check(alloc, SOME_HARMFUL.as_bytes(), &mut out);
-    expects(&rt, is_printed(result, out, TOLD_AS_HARMFUL), "this text");
+    let result = do_errors_check(alloc, SOME_ERRORS.as_bytes(), &mut out);
+    expects(
+        &rt,
+        is_printed(result, out, REPORTED_AS_ERRORS),
+        "this text",
+    );
 }
 
 #[test]
@@ -130,10 +134,10 @@ fn a_text_that_is_no_plan_is_refused(rt: HostRuntime) {
 fn fills(rt: &impl Abort, alloc: Global, limit: usize, width: usize, when_full: WhenFull) -> bool {
     let mut out = Out::new(Narrow::new(rt, alloc, limit, width, when_full));
     let result = do_check(alloc, TWO_GAPS.as_bytes(), &mut out);
-    if limit < TOLD_GAPS.len() {
-        is_cut(result, out, TOLD_GAPS, limit)
+    if limit < REPORTED_GAPS.len() {
+        is_cut(result, out, REPORTED_GAPS, limit)
     } else {
-        is_whole(result, out, TOLD_GAPS)
+        is_whole(result, out, REPORTED_GAPS)
     }
 }
 
@@ -172,7 +176,7 @@ fn a_check_or_no_memory(rt: HostRuntime) {
     let result = do_check(alloc, TWO_GAPS.as_bytes(), &mut out);
     expects(
         &rt,
-        is_whole_or_none(result, out, TOLD_GAPS),
+        is_whole_or_none(result, out, REPORTED_GAPS),
         "the text or none of it",
     );
 }

@@ -63,7 +63,7 @@ fn the_report_of_no_claims(rt: HostRuntime) {
 #[test]
 fn quotes_and_a_late_claim(rt: HostRuntime) {
     let journal = of_one_denied(&rt, rt.alloc());
-    let files = [texts::quoted()];
+    let files = [texts::quoted_file()];
     expects(
         &rt,
         reports(
@@ -134,7 +134,13 @@ fn a_run_that_admits_nothing_though_memory_is_refused(rt: HostRuntime) {
 }
 
 // The first bytes, and behind them others so many times.
-fn repeated(rt: &impl Abort, alloc: Global, first: &[u8], then: &[u8], count: usize) -> Vec<u8> {
+fn repeat_bytes(
+    rt: &impl Abort,
+    alloc: Global,
+    first: &[u8],
+    then: &[u8],
+    count: usize,
+) -> Vec<u8> {
     let mut text = Vec::new(alloc);
     text.extend_from_slice(first)
         .expect(rt, "memory for a text");
@@ -146,7 +152,7 @@ fn repeated(rt: &impl Abort, alloc: Global, first: &[u8], then: &[u8], count: us
 
 // A file with one record whose member is a text of 257 bytes.
 fn too_long(rt: &impl Abort, alloc: Global) -> Vec<u8> {
-    let mut text = repeated(
+    let mut text = repeat_bytes(
         rt,
         alloc,
         b"claim,member,service,billed,code\nh,",
@@ -206,7 +212,7 @@ fn one_field_records(rt: &impl Abort, alloc: Global, count: usize) -> String {
 
 #[test]
 fn bytes_are_counted_over_pieces(rt: HostRuntime) {
-    let file = repeated(&rt, rt.alloc(), header(), b"x\n", 3_000);
+    let file = repeat_bytes(&rt, rt.alloc(), header(), b"x\n", 3_000);
     let wanted = one_field_records(&rt, rt.alloc(), 3_000);
     let files = [file.as_slice()];
     let mut out = with_room(&rt, rt.alloc(), 66_000, WhenFull::Fails);

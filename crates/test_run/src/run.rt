@@ -75,7 +75,7 @@ h,\xFF,2024-01-01,1.00,A
 ";
 
 /// The same behind a byte order mark, with CRLF at the line ends.
-const REFUSED_BEHIND_A_MARK: &[u8] = b"\xEF\xBB\xBFclaim,member,service,billed,code\r
+const REFUSED_AFTER_A_MARK: &[u8] = b"\xEF\xBB\xBFclaim,member,service,billed,code\r
 a,\"M\"\"1\",2024-02-29,1.00,A\r
 b,M2,2024-01-01\r
 c,,2024-01-01,1.00,A\r
@@ -190,7 +190,7 @@ fn gives_of_file<R: Threads + Wait + Abort + Sync + AllocGlobal>(
 fn files_in_many_forms(rt: HostRuntime) {
     gives_of_file(&rt, header(), None, empty_remittance());
     gives_of_file(&rt, REFUSED, None, REFUSED_REPORT);
-    gives_of_file(&rt, REFUSED_BEHIND_A_MARK, None, REFUSED_REPORT);
+    gives_of_file(&rt, REFUSED_AFTER_A_MARK, None, REFUSED_REPORT);
     gives_of_file(&rt, ONE_EACH, Some(balances()), ONE_EACH_REPORT);
 }
 
@@ -295,7 +295,7 @@ fn a_run_or_no_memory(rt: HostRuntime) {
             expects(&rt, !out.failed(), "no failure");
             expects(
                 &rt,
-                lacks_memory(&stop, out.into_inner().taken()),
+                lacks_memory(&stop, out.into_inner().bytes_taken()),
                 "a want of memory",
             );
         }

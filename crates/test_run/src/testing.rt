@@ -138,7 +138,7 @@ impl Narrow {
     }
 
     /// The bytes that it has got.
-    pub fn taken(&self) -> &[u8] {
+    pub fn bytes_taken(&self) -> &[u8] {
         self.taken.as_slice()
     }
 

@@ -11,9 +11,9 @@ use std::sync::Wait;
 use std::thread::Threads;
 use test_fixtures::{balances, both_files, header, second_file};
 
-mod behind_others;
 mod hostile;
 mod journals;
+mod later_files;
 mod meeting;
 mod met;
 mod refusing;
@@ -67,7 +67,7 @@ fn file_three() -> &'static [u8] {
     THREE.as_bytes()
 }
 
-fn refused() -> &'static [u8] {
+fn refused_file() -> &'static [u8] {
     REFUSED.as_bytes()
 }
 
@@ -142,7 +142,7 @@ fn check_worked<R: Threads + Wait + Abort + Sync>(rt: &R, alloc: Global, plan: &
     runs_over(rt, alloc, plan, both_files(), None, outcomes_of_both());
     let balances = Some(balances());
     runs_over(rt, alloc, plan, both_files(), balances, from_balances());
-    let files = [refused(), header()];
+    let files = [refused_file(), header()];
     runs_over(rt, alloc, plan, &files, None, between_refused());
 }
 
@@ -179,7 +179,7 @@ fn is(fault: RunFault, wanted: RunFault) -> bool {
 }
 
 // Whether a run had this fault.
-fn had(fault: Option<RunFault>, wanted: RunFault) -> bool {
+fn is_wanted_fault(fault: Option<RunFault>, wanted: RunFault) -> bool {
     match fault {
         Some(fault) => is(fault, wanted),
         None => false,
@@ -252,7 +252,7 @@ enum OnGates {
     CalledOff,
     WorkersMeet,
     IntakesMeet,
-    BehindOthers,
+    LaterFiles,
     StoppedGate,
     StoppedOutcomes,
     RefusedOnce,
@@ -285,7 +285,7 @@ fn check_on_gates<R: Threads + Wait + Abort + Sync>(
         OnGates::CalledOff => hostile::check_called_off(rt, alloc, &terms),
         OnGates::WorkersMeet => meeting::check_workers(rt, alloc, &terms),
         OnGates::IntakesMeet => meeting::check_intakes(rt, alloc, &terms),
-        OnGates::BehindOthers => behind_others::goes_on(rt, alloc, &terms),
+        OnGates::LaterFiles => later_files::goes_on(rt, alloc, &terms),
         OnGates::StoppedGate => stopping::check_stopped_gate(rt, alloc, &terms),
         OnGates::StoppedOutcomes => stopping::check_stopped_outcomes(rt, alloc, &terms),
         OnGates::RefusedOnce => refusing::check_refused_once(rt, alloc, &terms),
@@ -336,7 +336,7 @@ fn two_intakes_meet(rt: HostRuntime) {
 
 #[test]
 fn intakes_go_on_where_others_are(rt: HostRuntime) {
-    check(&rt, rt.alloc(), Runs::OnGates(OnGates::BehindOthers));
+    check(&rt, rt.alloc(), Runs::OnGates(OnGates::LaterFiles));
 }
 
 #[test]

@@ -7,18 +7,19 @@ ghost use Rattle.std.specs.Prelude.{◌≡◌};
 
 mod examples;
 mod families;
+mod input_classes;
 mod plans;
-mod zones;
 
 use crate::ending::{expects, fail};
 use dtable::{Plan, PlanFault, Sequence, Valuer, read_plan};
 use examples::{
-    Example, MOST, before_capped, behind_a_pended, capped, first, naming, paid, rates, scored,
-    second, treated, uncapped, unpaid, written,
+    Example, MOST, after_a_pended, before_capped, capped_example, first, naming, paid_examples,
+    rates, scored_examples, second, treated_examples, uncapped_example, unpaid_examples,
+    written_examples,
 };
 use feel_tests::{Day, Kind, PlainFault, TEXT_LIMIT_BYTES, Text, Value, read_plain};
 use fixpoint::Fixed;
-use plans::{chained, faulty, flat, flat_by_year, named, open, rate_of_claim};
+use plans::{chained_plan, faulty_plan, flat_by_year, flat_plan, named_plan, open, rate_of_claim};
 use settlement::{
     Acc, Adjudicator, Claim, Money, Outcome, Remarks, Role, Verdict, account_year, after, decide,
     fields_of,
@@ -54,17 +55,17 @@ pub fn text(rt: &impl Abort, alloc: Global, text: &str) -> Text {
 }
 
 fn value(rt: &impl Abort, alloc: Global, kind: Kind, text: &str) -> Value {
-    match plain(alloc, kind, text) {
+    match plain_value(alloc, kind, text) {
         Ok(value) => value,
         Err(fault) => {
             expects(rt, matches!(fault, PlainFault::OutOfMemory), "a value");
-            plain(alloc, kind, text).expect(rt, "a value")
+            plain_value(alloc, kind, text).expect(rt, "a value")
         }
     }
 }
 
 // This call may be repeated. A function without a contract keeps the proofs of its callers small.
-fn plain(alloc: Global, kind: Kind, text: &str) -> Result<Value, PlainFault> {
+fn plain_value(alloc: Global, kind: Kind, text: &str) -> Result<Value, PlainFault> {
     read_plain(alloc, kind, text)
 }
 
@@ -104,7 +105,13 @@ fn claim(rt: &impl Abort, alloc: Global, plan: &Plan, billed: i64, texts: &[&str
     }
 }
 
-fn decided(rt: &impl Abort, alloc: Global, plan: &Plan, claim: &Claim, before: &Acc) -> Outcome {
+fn decide_claim(
+    rt: &impl Abort,
+    alloc: Global,
+    plan: &Plan,
+    claim: &Claim,
+    before: &Acc,
+) -> Outcome {
     match decided_once(rt, alloc, plan, claim, before) {
         Ok(outcome) => outcome,
         Err(_) => decided_once(rt, alloc, plan, claim, before).expect(rt, "memory for an outcome"),
@@ -146,35 +153,41 @@ fn decided_next<V: Valuer>(
 
 // Writes an outcome as one line: its verdict, amounts and remarks, and the accumulators after it.
 // If `family` is true, the family's sums follow those of the member.
-fn told(rt: &impl Abort, alloc: Global, outcome: &Outcome, before: &Acc, family: bool) -> String {
-    let mut told = String::new(alloc);
-    if tell(&mut told, outcome, before, family).is_err() {
-        told.clear();
-        let again = tell(&mut told, outcome, before, family);
+fn outcome_text(
+    rt: &impl Abort,
+    alloc: Global,
+    outcome: &Outcome,
+    before: &Acc,
+    family: bool,
+) -> String {
+    let mut reported = String::new(alloc);
+    if write_outcome(&mut reported, outcome, before, family).is_err() {
+        reported.clear();
+        let again = write_outcome(&mut reported, outcome, before, family);
         expects(rt, again.is_ok(), "memory for the line");
     }
-    told
+    reported
 }
 
-fn tell(
-    told: &mut String,
+fn write_outcome(
+    reported: &mut String,
     outcome: &Outcome,
     before: &Acc,
     family: bool,
 ) -> Result<(), AllocError> {
-    write!(told, "{:?}", outcome.verdict)?;
-    tell_amounts(told, outcome)?;
+    write!(reported, "{:?}", outcome.verdict)?;
+    write_amounts(reported, outcome)?;
     for place in 0..outcome.remarks.len() {
         if let Some(remark) = outcome.remarks.get(place) {
-            write!(told, " {remark}")?;
+            write!(reported, " {remark}")?;
         }
     }
-    tell_left(told, after(*before, outcome), family)
+    write_left(reported, after(*before, outcome), family)
 }
 
-fn tell_amounts(told: &mut String, outcome: &Outcome) -> Result<(), AllocError> {
-    tell_each(
-        told,
+fn write_amounts(reported: &mut String, outcome: &Outcome) -> Result<(), AllocError> {
+    write_each(
+        reported,
         &[
             outcome.allowed,
             outcome.ded,
@@ -186,41 +199,41 @@ fn tell_amounts(told: &mut String, outcome: &Outcome) -> Result<(), AllocError> 
     )
 }
 
-fn tell_each(told: &mut String, amounts: &[Money]) -> Result<(), AllocError> {
+fn write_each(reported: &mut String, amounts: &[Money]) -> Result<(), AllocError> {
     for amount in amounts {
-        write!(told, " {}", cents(*amount))?;
+        write!(reported, " {}", cents(*amount))?;
     }
     Ok(())
 }
 
-fn tell_left(told: &mut String, left: Option<Acc>, family: bool) -> Result<(), AllocError> {
+fn write_left(reported: &mut String, left: Option<Acc>, family: bool) -> Result<(), AllocError> {
     match left {
-        Some(acc) => tell_acc(told, acc, family),
-        None => told.push_str(", out of range"),
+        Some(acc) => write_acc(reported, acc, family),
+        None => reported.push_str(", out of range"),
     }
 }
 
-fn tell_acc(told: &mut String, acc: Acc, family: bool) -> Result<(), AllocError> {
-    told.push(',')?;
-    tell_each(told, &[acc.met, acc.oop, acc.paid])?;
+fn write_acc(reported: &mut String, acc: Acc, family: bool) -> Result<(), AllocError> {
+    reported.push(',')?;
+    write_each(reported, &[acc.met, acc.oop, acc.paid])?;
     if family {
-        tell_each(told, &[acc.fmet, acc.foop])?;
+        write_each(reported, &[acc.fmet, acc.foop])?;
     }
     Ok(())
 }
 
-fn is_told(rt: &impl Abort, alloc: Global, outcome: Outcome, example: &Example) {
+fn is_reported(rt: &impl Abort, alloc: Global, outcome: Outcome, example: &Example) {
     let (_, _, before, wanted) = example;
-    let told = told(rt, alloc, &outcome, &acc(rt, *before), false);
-    expects(rt, told.as_str() == *wanted, wanted);
+    let reported = outcome_text(rt, alloc, &outcome, &acc(rt, *before), false);
+    expects(rt, reported.as_str() == *wanted, wanted);
     drop(outcome);
 }
 
 fn settles(rt: &impl Abort, alloc: Global, plan: &Plan, example: &Example) {
     let (fields, billed, before, _) = example;
     let claim = claim(rt, alloc, plan, *billed, fields);
-    let outcome = decided(rt, alloc, plan, &claim, &acc(rt, *before));
-    is_told(rt, alloc, outcome, example);
+    let outcome = decide_claim(rt, alloc, plan, &claim, &acc(rt, *before));
+    is_reported(rt, alloc, outcome, example);
     drop(claim);
 }
 
@@ -250,7 +263,7 @@ fn decides(rt: &impl Abort, alloc: Global, text: &str, examples: &[Example]) {
 
 #[test]
 fn amounts_written_in_the_plan(rt: HostRuntime) {
-    decides(&rt, rt.alloc(), flat(), written());
+    decides(&rt, rt.alloc(), flat_plan(), written_examples());
 }
 
 #[test]
@@ -261,29 +274,34 @@ fn a_rate_above_one(rt: HostRuntime) {
 
 #[test]
 fn who_pays_what(rt: HostRuntime) {
-    decides(&rt, rt.alloc(), open(), paid());
+    decides(&rt, rt.alloc(), open(), paid_examples());
 }
 
 #[test]
 fn the_first_role_that_is_not_what_it_must_be(rt: HostRuntime) {
-    decides(&rt, rt.alloc(), open(), unpaid());
+    decides(&rt, rt.alloc(), open(), unpaid_examples());
 }
 
 #[test]
 fn faults_of_the_tables(rt: HostRuntime) {
-    decides(&rt, rt.alloc(), faulty(), scored());
+    decides(&rt, rt.alloc(), faulty_plan(), scored_examples());
 }
 
 #[test]
 fn tables_give_cover_fee_and_remarks(rt: HostRuntime) {
     decides(&rt, rt.alloc(), health_plan(), &[first(), second()]);
-    decides(&rt, rt.alloc(), health_plan(), treated());
+    decides(&rt, rt.alloc(), health_plan(), treated_examples());
 }
 
 // `./check` runs this test once for each of its allocations, with that allocation refused.
 #[test]
 fn tables_in_a_chain_though_memory_is_refused(rt: HostRuntime) {
-    decides(&rt, rt.alloc(), chained(), &[capped(), uncapped()]);
+    decides(
+        &rt,
+        rt.alloc(),
+        chained_plan(),
+        &[capped_example(), uncapped_example()],
+    );
 }
 
 fn desk<'v>(rt: &impl Abort, alloc: Global, plan: &'v Plan) -> Adjudicator<'v, Plan>
@@ -311,7 +329,7 @@ fn settles_next<V: Valuer>(
             decided_next(rt, alloc, desk, plan, example).expect(rt, "memory for an outcome")
         }
     };
-    is_told(rt, alloc, outcome, example);
+    is_reported(rt, alloc, outcome, example);
 }
 
 fn settles_both(rt: &impl Abort, alloc: Global, plan: &Plan, examples: &[Example]) {
@@ -337,12 +355,12 @@ fn one_adjudicator_decides_claims_of_two_codes(rt: HostRuntime) {
 
 #[test]
 fn one_adjudicator_decides_after_a_pended_claim(rt: HostRuntime) {
-    decides_both(&rt, rt.alloc(), health_plan(), behind_a_pended());
+    decides_both(&rt, rt.alloc(), health_plan(), after_a_pended());
 }
 
 #[test]
 fn what_each_claim_and_each_member_has(rt: HostRuntime) {
-    decides_both(&rt, rt.alloc(), named(), naming());
+    decides_both(&rt, rt.alloc(), named_plan(), naming());
 }
 
 // A decision that runs out of memory and is not repeated must not affect the decision of the next
@@ -350,15 +368,15 @@ fn what_each_claim_and_each_member_has(rt: HostRuntime) {
 fn settles_after_a_refusal(rt: &impl Abort, alloc: Global, plan: &Plan) {
     let mut desk = desk(rt, alloc, plan);
     if let Ok(outcome) = decided_next(rt, alloc, &mut desk, plan, &before_capped()) {
-        is_told(rt, alloc, outcome, &before_capped());
+        is_reported(rt, alloc, outcome, &before_capped());
     }
-    settles_next(rt, alloc, &mut desk, plan, &capped());
+    settles_next(rt, alloc, &mut desk, plan, &capped_example());
     drop(desk);
 }
 
 #[test]
 fn an_adjudicator_decides_though_memory_is_refused(rt: HostRuntime) {
-    let plan = plan(&rt, rt.alloc(), chained());
+    let plan = plan(&rt, rt.alloc(), chained_plan());
     settles_after_a_refusal(&rt, rt.alloc(), &plan);
     drop(plan);
 }
@@ -378,7 +396,7 @@ fn some_paid(rt: &impl Abort) -> Outcome {
 
 /// Accumulators, and the text of them after 1.00 more met, 2.00 more out of pocket and 3.00 more
 /// paid.
-fn added() -> &'static [((i64, i64, i64), &'static str)] {
+fn added_examples() -> &'static [((i64, i64, i64), &'static str)] {
     &[
         ((MOST, 0, 0), ", out of range"),
         ((0, MOST, 0), ", out of range"),
@@ -392,15 +410,15 @@ fn added() -> &'static [((i64, i64, i64), &'static str)] {
 }
 
 fn leaves(rt: &impl Abort, alloc: Global, outcome: &Outcome, before: Acc, wanted: &str) {
-    let mut told = String::new(alloc);
-    let written = tell_left(&mut told, after(before, outcome), false);
-    expects(rt, written.is_ok() && told.as_str() == wanted, wanted);
+    let mut reported = String::new(alloc);
+    let written = write_left(&mut reported, after(before, outcome), false);
+    expects(rt, written.is_ok() && reported.as_str() == wanted, wanted);
 }
 
 #[test]
 fn accumulators_leave_the_range_one_by_one(rt: HostRuntime) {
     let outcome = some_paid(&rt);
-    for (before, wanted) in added() {
+    for (before, wanted) in added_examples() {
         leaves(&rt, rt.alloc(), &outcome, acc(&rt, *before), wanted);
     }
     drop(outcome);
@@ -454,7 +472,7 @@ fn year_under(rt: &impl Abort, alloc: Global, text: &str) -> u16 {
 
 #[test]
 fn accumulators_are_kept_by_the_year_under_version_2(rt: HostRuntime) {
-    let year = year_under(&rt, rt.alloc(), flat());
+    let year = year_under(&rt, rt.alloc(), flat_plan());
     expects(&rt, year == 0, "no year");
     let year = year_under(&rt, rt.alloc(), flat_by_year());
     expects(&rt, year == 2024, "the year of service");

@@ -8,13 +8,13 @@ use crate::ending::{expects, fail};
 use crate::settling::{acc, money, text};
 use dtable::Sequence;
 use feel_tests::Day;
-use lanes::{Lanes, Picked, StoredClaim};
+use lanes::{BoxedClaim, Lanes, ReadyClaim};
 use settlement::{Acc, Claim, Money};
 use std::alloc::{AllocFailed, Global};
 use std::process::Abort;
 
 // Returns a claim of a member. The member is its own family unless `of` names one.
-fn claim(rt: &impl Abort, alloc: Global, id: &str, of: Option<&str>, member: &str) -> StoredClaim {
+fn claim(rt: &impl Abort, alloc: Global, id: &str, of: Option<&str>, member: &str) -> BoxedClaim {
     let family = match of {
         Some(family) => Some(text(rt, alloc, family)),
         None => None,
@@ -27,9 +27,9 @@ fn claim(rt: &impl Abort, alloc: Global, id: &str, of: Option<&str>, member: &st
         billed: money(rt, 12_000),
         fields: Sequence::new(alloc),
     };
-    match StoredClaim::new(alloc, claim) {
+    match BoxedClaim::new(alloc, claim) {
         Ok(stored) => stored,
-        Err(refused) => StoredClaim::new(alloc, refused.value).expect(rt, "memory for a claim"),
+        Err(refused) => BoxedClaim::new(alloc, refused.value).expect(rt, "memory for a claim"),
     }
 }
 
@@ -65,13 +65,13 @@ fn add_of(
 // This call may be repeated. A function without a contract keeps the proofs of its callers small.
 fn add_once(
     lanes: &mut Lanes,
-    claim: StoredClaim,
+    claim: BoxedClaim,
     year: u16,
-) -> Result<(), AllocFailed<StoredClaim>> {
+) -> Result<(), AllocFailed<BoxedClaim>> {
     lanes.add(claim, year)
 }
 
-fn add_again(rt: &impl Abort, lanes: &mut Lanes, refused: StoredClaim, year: u16, id: &str) {
+fn add_again(rt: &impl Abort, lanes: &mut Lanes, refused: BoxedClaim, year: u16, id: &str) {
     expects(rt, refused.as_claim().id.as_str() == id, id);
     let Ok(()) = add_once(lanes, refused, year) else {
         fail(rt, "memory for a claim")
@@ -79,7 +79,7 @@ fn add_again(rt: &impl Abort, lanes: &mut Lanes, refused: StoredClaim, year: u16
 }
 
 // Takes a claim. Earlier taken claims stay taken.
-fn take(lanes: &mut Lanes) -> Option<Picked>
+fn take(lanes: &mut Lanes) -> Option<ReadyClaim>
     ensures work { IfSome result (λ picked. IsInWork lanes.new picked.position) }
     ensures others { (position : ℕ) → IsInWork lanes.old position → IsInWork lanes.new position }
 {
@@ -89,7 +89,7 @@ fn take(lanes: &mut Lanes) -> Option<Picked>
 // Requires that this is the claim with the identifier at the position, and that `met` has the
 // amounts met before it by the member and by the family. The account's opening balance has 1.00
 // met. The claim is passed by value, since each function that drops a claim costs seconds of proof.
-fn check_claim(rt: &impl Abort, picked: Picked, position: usize, id: &str, met: (i64, i64)) {
+fn check_claim(rt: &impl Abort, picked: ReadyClaim, position: usize, id: &str, met: (i64, i64)) {
     expects(rt, is_claim(&picked, position, id), id);
     let before = picked.start(acc(rt, (100, 0, 0)));
     let begun = picked.has_begun();
@@ -99,7 +99,7 @@ fn check_claim(rt: &impl Abort, picked: Picked, position: usize, id: &str, met: 
     expects(rt, begun == (met.0 != 100), "an earlier claim");
 }
 
-fn is_claim(picked: &Picked, position: usize, id: &str) -> bool {
+fn is_claim(picked: &ReadyClaim, position: usize, id: &str) -> bool {
     picked.position == position && picked.claim.as_claim().id.as_str() == id
 }
 
@@ -165,19 +165,19 @@ fn go_on(rt: &impl Abort, alloc: Global) {
 }
 
 // Prefetches a claim of a member who has a claim already, and one of a new member.
-fn foresee(rt: &impl Abort, alloc: Global, lanes: &mut Lanes) {
-    lanes.foresee(&[
+fn prefetch(rt: &impl Abort, alloc: Global, lanes: &mut Lanes) {
+    lanes.prefetch(&[
         claim(rt, alloc, "x", None, "M1"),
         claim(rt, alloc, "y", None, "M3"),
     ]);
 }
 
 // A prefetch changes nothing, even if other claims are added than those that were prefetched.
-fn foresee_others(rt: &impl Abort, alloc: Global) {
+fn prefetch_others(rt: &impl Abort, alloc: Global) {
     let mut lanes = Lanes::new(alloc);
     add(rt, alloc, &mut lanes, "a", "M1");
     add(rt, alloc, &mut lanes, "b", "M2");
-    foresee(rt, alloc, &mut lanes);
+    prefetch(rt, alloc, &mut lanes);
     expects(rt, lanes.len() == 2, "two claims");
     add(rt, alloc, &mut lanes, "c", "M2");
     decide_next(rt, &mut lanes, 0, "a", 100, 700);
@@ -228,5 +228,5 @@ fn members_claims_take_turns_though_memory_is_refused(rt: HostRuntime) {
     take_turns(&rt, rt.alloc());
     go_on(&rt, rt.alloc());
     begin_anew(&rt, rt.alloc());
-    foresee_others(&rt, rt.alloc());
+    prefetch_others(&rt, rt.alloc());
 }

@@ -33,15 +33,15 @@ fn a_reason_has_a_word_and_a_place(rt: HostRuntime) {
         table: 2,
         column: 1,
     };
-    expects(&rt, stands(outside, "outside", 2, Some(1)), "outside");
+    expects(&rt, is_reason(outside, "outside", 2, Some(1)), "outside");
     let clash = Reason::Clash { table: 4 };
-    expects(&rt, stands(clash, "clash", 4, None), "a clash");
+    expects(&rt, is_reason(clash, "clash", 4, None), "a clash");
     let term = Reason::Term(Role::Copay);
-    expects(&rt, stands(term, "term", 4, None), "a term");
+    expects(&rt, is_reason(term, "term", 4, None), "a term");
 }
 
 // Returns whether the reason has this word, place and column.
-fn stands(reason: Reason, word: &str, place: usize, column: Option<usize>) -> bool {
+fn is_reason(reason: Reason, word: &str, place: usize, column: Option<usize>) -> bool {
     reason.word() == word && reason.place() == place && reason.column() == column
 }
 

@@ -61,7 +61,7 @@ pub fn value_of<'a>(rt: &impl Abort, alloc: Global, plan: &'a Plan, inputs: &Inp
 }
 
 /// Returns the answers of these outputs, one line for each.
-pub fn shown(rt: &impl Abort, alloc: Global, values: &Env, outputs: &[&str]) -> Vec<u8> {
+pub fn printed_text(rt: &impl Abort, alloc: Global, values: &Env, outputs: &[&str]) -> Vec<u8> {
     let mut text = Vec::new(alloc);
     if write_shown(&mut text, values, outputs).is_err() {
         text.clear();
@@ -97,7 +97,7 @@ pub fn shown_by_place(
 }
 
 /// Returns these answers of a table, one line for each.
-pub fn listed(rt: &impl Abort, alloc: Global, answers: &[Answer]) -> Vec<u8> {
+pub fn listed_text(rt: &impl Abort, alloc: Global, answers: &[Answer]) -> Vec<u8> {
     let mut text = Vec::new(alloc);
     for answer in answers {
         let written = write_line(&mut text, Some(answer));

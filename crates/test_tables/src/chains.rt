@@ -1,11 +1,12 @@
 //! Whole plans, from their texts to their values: chains of tables, lists, and memory that runs
 //! out.
 use crate::answers::{
-    give, give_text, inputs_of, is_text, literal_of, plan_of, shown, shown_by_place, value_of,
+    give, give_text, inputs_of, is_text, literal_of, plan_of, printed_text, shown_by_place,
+    value_of,
 };
 use crate::ending::expects;
 use crate::plans::{chain_plan, sum_and_level_plan};
-use crate::tables::told;
+use crate::tables::answer_text;
 use dtable::{
     InputData, Inputs, Name, Plan, Sequence, all_names, rules_have_one_priority_order,
     text_spells_at_most_one_plan,
@@ -27,7 +28,7 @@ const MET: usize = 5;
 type Claim = (&'static str, &'static str, &'static str, &'static str);
 
 /// Returns the inputs of a claim for the health plan.
-fn claimed(rt: &impl Abort, alloc: Global, plan: &Plan, claim: &Claim) -> Inputs {
+fn claim_inputs(rt: &impl Abort, alloc: Global, plan: &Plan, claim: &Claim) -> Inputs {
     let mut inputs = inputs_of(rt, alloc, plan);
     give(rt, alloc, &mut inputs, CODE, claim.0);
     give(rt, alloc, &mut inputs, BILLED, claim.1);
@@ -44,9 +45,9 @@ fn outputs_of_health() -> &'static [&'static str] {
 
 /// Requires that the health plan has the expected answers for the claim.
 fn is_answered(rt: &impl Abort, alloc: Global, plan: &Plan, claim: &Claim) {
-    let inputs = claimed(rt, alloc, plan, claim);
+    let inputs = claim_inputs(rt, alloc, plan, claim);
     let values = value_of(rt, alloc, plan, &inputs);
-    let text = shown(rt, alloc, &values, outputs_of_health());
+    let text = printed_text(rt, alloc, &values, outputs_of_health());
     expects(rt, is_text(text, claim.3), claim.3);
     let placed = shown_by_place(rt, alloc, plan, &values, outputs_of_health());
     expects(rt, is_text(placed, claim.3), claim.3);
@@ -134,7 +135,7 @@ fn levels() -> &'static [(&'static str, &'static str)] {
 fn a_table_reads_an_earlier_one(rt: HostRuntime) {
     let plan = plan_of(&rt, rt.alloc(), sum_and_level_plan());
     for (x, wanted) in levels() {
-        let text = told(&rt, rt.alloc(), &plan, x, "z");
+        let text = answer_text(&rt, rt.alloc(), &plan, x, "z");
         expects(&rt, is_text(text, wanted), x);
     }
     drop(plan);
@@ -152,7 +153,7 @@ fn chain_answers() -> &'static str {
 
 fn is_chain_answered(rt: &impl Abort, alloc: Global, plan: &Plan, inputs: &Inputs) {
     let values = value_of(rt, alloc, plan, inputs);
-    let text = shown(rt, alloc, &values, outputs_of_chain());
+    let text = printed_text(rt, alloc, &values, outputs_of_chain());
     expects(rt, is_text(text, chain_answers()), chain_answers());
     drop(values);
 }
@@ -178,7 +179,7 @@ fn has_code(names: Sequence<InputData>) -> bool {
 }
 
 #[test]
-fn names_stand_in_order_and_laws_hold(rt: HostRuntime) {
+fn names_are_in_order_and_laws_hold(rt: HostRuntime) {
     rules_have_one_priority_order();
     text_spells_at_most_one_plan();
     let mut fields = Sequence::new(rt.alloc());

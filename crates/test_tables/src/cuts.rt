@@ -13,7 +13,7 @@ use cutplan::{CELL_LIMIT, CheckFault, CutPlan, Region, compile};
 use dtable::{Plan, Sequence};
 use feel_tests::{Literals, Value, append_joined};
 use plans::{
-    allowed_codes, apart, at_five, codes, flag_and_code, no_region_behind_ten_columns,
+    allowed_codes, at_five, codes, disjoint_plan, flag_and_code, no_region_after_ten_columns,
     seventeen_regions, sixteen_regions,
 };
 use std::alloc::{AllocError, Global};
@@ -51,7 +51,7 @@ fn is_pair(pairs: &[(usize, usize)], first: usize, second: usize) -> bool {
 }
 
 // Writes the regions of cells, one line for each cell.
-fn shown(alloc: Global, cells: &[Sequence<Region>]) -> Result<Vec<u8>, AllocError> {
+fn printed_text(alloc: Global, cells: &[Sequence<Region>]) -> Result<Vec<u8>, AllocError> {
     let mut text = Vec::new(alloc);
     for cell in cells {
         write_cell(&mut text, cell.as_slice())?;
@@ -70,13 +70,13 @@ fn write_cell(text: &mut Vec<u8>, cell: &[Region]) -> Result<(), AllocError> {
 
 fn write_region(text: &mut Vec<u8>, region: &Region) -> Result<(), AllocError> {
     match region {
-        Region::Below(cut) => write_behind(text, b"<", cut),
+        Region::Below(cut) => write_after(text, b"<", cut),
         Region::At(value) => value.write_text(text),
         Region::Between(low, high) => {
-            write_behind(text, b">", low)?;
-            write_behind(text, b"<", high)
+            write_after(text, b">", low)?;
+            write_after(text, b"<", high)
         }
-        Region::Above(cut) => write_behind(text, b">", cut),
+        Region::Above(cut) => write_after(text, b">", cut),
         Region::Other(names) => {
             text.extend_from_slice(b"none of ")?;
             append_joined::<Value, Literals>(text, ",", names.as_slice())
@@ -85,7 +85,7 @@ fn write_region(text: &mut Vec<u8>, region: &Region) -> Result<(), AllocError> {
     }
 }
 
-fn write_behind(text: &mut Vec<u8>, mark: &[u8], cut: &Value) -> Result<(), AllocError> {
+fn write_after(text: &mut Vec<u8>, mark: &[u8], cut: &Value) -> Result<(), AllocError> {
     text.extend_from_slice(mark)?;
     cut.write_text(text)
 }
@@ -110,9 +110,9 @@ fn check_cells(rt: &impl Abort, alloc: Global, cells: &[Sequence<Region>], wante
 }
 
 fn text_of(rt: &impl Abort, alloc: Global, cells: &[Sequence<Region>]) -> Vec<u8> {
-    match shown(alloc, cells) {
+    match printed_text(alloc, cells) {
         Ok(text) => text,
-        Err(_) => shown(alloc, cells).expect(rt, "memory for a text"),
+        Err(_) => printed_text(alloc, cells).expect(rt, "memory for a text"),
     }
 }
 
@@ -174,7 +174,13 @@ fn check(
 
 #[test]
 fn numbers_that_no_rule_covers_are_gaps(rt: HostRuntime) {
-    check(&rt, rt.alloc(), apart(), Gaps::Shown("1;\n>5;\n"), None);
+    check(
+        &rt,
+        rt.alloc(),
+        disjoint_plan(),
+        Gaps::Shown("1;\n>5;\n"),
+        None,
+    );
 }
 
 #[test]
@@ -205,7 +211,7 @@ fn a_last_column_without_a_region_leaves_no_gap(rt: HostRuntime) {
     check(
         &rt,
         rt.alloc(),
-        no_region_behind_ten_columns(),
+        no_region_after_ten_columns(),
         Gaps::Shown(""),
         None,
     );

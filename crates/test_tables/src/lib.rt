@@ -11,10 +11,10 @@ mod cuts;
 #[cfg(test)]
 mod ending;
 #[cfg(test)]
-mod harms;
-#[cfg(test)]
 mod plans;
 #[cfg(test)]
 mod reading;
 #[cfg(test)]
 mod tables;
+#[cfg(test)]
+mod violations;

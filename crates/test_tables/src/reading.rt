@@ -212,7 +212,7 @@ fn a_plan_has_its_roles(rt: HostRuntime) {
 type Edit = (&'static str, &'static str, &'static str);
 
 /// Returns the plan with the first occurrence of a part replaced.
-fn edited(rt: &impl Abort, alloc: Global, plan: &str, old: &str, new: &str) -> String {
+fn edit_text(rt: &impl Abort, alloc: Global, plan: &str, old: &str, new: &str) -> String {
     let Some((before, after)) = plan.split_once(old) else {
         fail(rt, "the part in the plan")
     };
@@ -226,11 +226,11 @@ fn fault_of(rt: &impl Abort, alloc: Global, text: &[u8]) -> String {
             drop(plan);
             String::new(alloc)
         }
-        Err(fault) => placed(rt, alloc, fault),
+        Err(fault) => place_text(rt, alloc, fault),
     }
 }
 
-fn placed(rt: &impl Abort, alloc: Global, fault: PlanFault) -> String {
+fn place_text(rt: &impl Abort, alloc: Global, fault: PlanFault) -> String {
     let text = format!(in alloc;
         "{} {} {} {}",
         fault.cause.number(),
@@ -248,7 +248,7 @@ fn is_fault(fault: String, wanted: &str) -> bool {
 /// Requires that each edit breaks the plan with the expected fault.
 fn are_refused(rt: &impl Abort, alloc: Global, plan: &str, edits: &[Edit]) {
     for (old, new, wanted) in edits {
-        let text = edited(rt, alloc, plan, old, new);
+        let text = edit_text(rt, alloc, plan, old, new);
         let fault = fault_of(rt, alloc, text.as_bytes());
         expects(rt, is_fault(fault, wanted), text.as_str());
     }

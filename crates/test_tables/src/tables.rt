@@ -1,5 +1,5 @@
 //! Hit policies by worked examples: the answers of a plan's only table.
-use crate::answers::{give, inputs_of, is_text, listed, literal_of, plan_of, shown};
+use crate::answers::{give, inputs_of, is_text, listed_text, literal_of, plan_of, printed_text};
 use crate::ending::{expects, fail};
 use dtable::{
     Answers, AnswersByTable, Env, Fault, Inputs, Plan, Valuer, answers_by_hit, table_value,
@@ -26,12 +26,12 @@ impl Outputs {
             Outputs::Number => "{name = 'y', kind = 'number'}",
             Outputs::NumberOrNone => "{name = 'y', kind = 'number', default = '0'}",
             Outputs::TextOrSeven => "{name = 'y', kind = 'text', default = '7'}",
-            Outputs::Ranked => ranked(),
+            Outputs::Ranked => ranked_plan(),
         }
     }
 }
 
-fn ranked() -> &'static str {
+fn ranked_plan() -> &'static str {
     r#"{name = 'a', kind = 'text', priority = ['"X"', '"Y"']}, {name = 'b', kind = 'text', priority = ['"H"', '"L"']}, {name = 'c', kind = 'number'}"#
 }
 
@@ -57,7 +57,7 @@ impl Rules {
             Rules::Other => "{when = ['>0'], then = ['1']}, {when = ['>1'], then = ['2']}",
             Rules::Four => four(),
             Rules::Three => three(),
-            Rules::Large => large(),
+            Rules::Large => large_plan(),
             Rules::Back => back(),
             Rules::Twice => r#"{when = ['-'], then = ['"A"']}, {when = ['-'], then = ['"A"']}"#,
             Rules::Above => "{when = ['>5'], then = ['1']}",
@@ -73,7 +73,7 @@ fn three() -> &'static str {
     "{when = ['-'], then = ['1.5']}, {when = ['-'], then = ['2']}, {when = ['-'], then = ['-0.25']}"
 }
 
-fn large() -> &'static str {
+fn large_plan() -> &'static str {
     "{when = ['-'], then = ['99999999999.9999']}, {when = ['-'], then = ['0.0001']}"
 }
 
@@ -194,12 +194,12 @@ fn front() -> &'static str {
     "version = 1\nfields = [{name = 'x', kind = 'number'}]\n[[tables]]\nhit = '"
 }
 
-fn behind_hit() -> &'static str {
+fn after_hit() -> &'static str {
     "'\ninputs = [{name = 'x', values = '[0..5]'}]\noutputs = ["
 }
 
 fn text_over_x(rt: &impl Abort, alloc: Global, hit: &str, outputs: &str, rules: &str) -> String {
-    let (front, after) = (front(), behind_hit());
+    let (front, after) = (front(), after_hit());
     let text = format!(in alloc; "{front}{hit}{after}{outputs}]\nrules = [{rules}]\n");
     text.expect(rt, "memory for a text")
 }
@@ -210,34 +210,34 @@ fn over_x(rt: &impl Abort, alloc: Global, hit: &str, outputs: &str, rules: &str)
 }
 
 /// Returns the answer of the output if `x` is this literal, or the fault of the tables.
-pub fn told(rt: &impl Abort, alloc: Global, plan: &Plan, x: &str, output: &str) -> Vec<u8> {
+pub fn answer_text(rt: &impl Abort, alloc: Global, plan: &Plan, x: &str, output: &str) -> Vec<u8> {
     let mut inputs = inputs_of(rt, alloc, plan);
     give(rt, alloc, &mut inputs, X, x);
     assert!(rt; plan.ready(&inputs));
-    let told = match plan.value(alloc, &inputs) {
-        Ok(values) => told_of(rt, alloc, values, output),
+    let reported = match plan.value(alloc, &inputs) {
+        Ok(values) => reported_of(rt, alloc, values, output),
         Err(fault) => fault_text(rt, alloc, fault),
     };
     drop(inputs);
-    told
+    reported
 }
 
-fn told_of(rt: &impl Abort, alloc: Global, values: Env, output: &str) -> Vec<u8> {
-    let text = shown(rt, alloc, &values, &[output]);
+fn reported_of(rt: &impl Abort, alloc: Global, values: Env, output: &str) -> Vec<u8> {
+    let text = printed_text(rt, alloc, &values, &[output]);
     drop(values);
     text
 }
 
 fn fault_text(rt: &impl Abort, alloc: Global, fault: Fault) -> Vec<u8> {
-    let told = format!(in alloc; "{fault}").expect(rt, "memory for a text");
-    told.into_bytes()
+    let reported = format!(in alloc; "{fault}").expect(rt, "memory for a text");
+    reported.into_bytes()
 }
 
 /// Requires that a table has the answer of its row.
 fn is_answered(rt: &impl Abort, alloc: Global, x: &str, row: &Row) {
     let (hit, outputs, rules, output, wanted) = row;
     let plan = over_x(rt, alloc, hit, outputs.text(), rules.text());
-    let text = told(rt, alloc, &plan, x, output);
+    let text = answer_text(rt, alloc, &plan, x, output);
     drop(plan);
     expects(rt, is_text(text, wanted), wanted);
 }
@@ -263,13 +263,13 @@ fn matches_are_aggregated(rt: HostRuntime) {
     are_answered(&rt, rt.alloc(), numbers());
 }
 
-fn outside() -> &'static str {
+fn outside_plan() -> &'static str {
     "the value of column 1 of table 1 is not allowed"
 }
 
 #[test]
 fn values_outside_and_defaults(rt: HostRuntime) {
-    let row = ("U", Outputs::Number, Rules::Above, "y", outside());
+    let row = ("U", Outputs::Number, Rules::Above, "y", outside_plan());
     is_answered(&rt, rt.alloc(), "6", &row);
     are_answered(&rt, rt.alloc(), defaults());
 }
@@ -305,7 +305,7 @@ fn is_answered_for_matches(rt: &impl Abort, alloc: Global, inputs: &Inputs, plan
         fail(rt, "one table")
     };
     let answers = table_value(alloc, inputs, earlier.as_slice(), table).expect(rt, "answers");
-    let first = listed(rt, alloc, answers.as_slice());
+    let first = listed_text(rt, alloc, answers.as_slice());
     expects(rt, is_text(first, "1\n"), "the first rule's answer");
     drop(answers);
     drop(earlier);
@@ -316,7 +316,7 @@ fn is_answered_for_the_second(rt: &impl Abort, alloc: Global, plan: &Plan) {
         fail(rt, "one table")
     };
     let answers = answers_by_hit(alloc, 1, table, &[1]).expect(rt, "answers");
-    let second = listed(rt, alloc, answers.as_slice());
+    let second = listed_text(rt, alloc, answers.as_slice());
     expects(rt, is_text(second, "2\n"), "the second rule's answer");
     drop(answers);
 }

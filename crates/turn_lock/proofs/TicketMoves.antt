@@ -241,9 +241,9 @@ module _ {T : Type 0} (leads : T → T → Type 0) (first : ℕ) where
 
   -- after the step the pass is idle
   pub settled_idle : (st : Step (Option T)) (me me' : TicketSeat T) (word : ℕ) → Settles leads st me word me' → stage_of me'.0 ≡ Some Idle
-  settled_idle st me me' word told =
-      ⊎_elim (λ (t : leads told.0.also told.0.seen × (me' ≡ (Live (seen_alone told.0 told.0.seen), me.1))). ap (λ (m : TicketSeat T). stage_of m.0) t.1)
-      (λ (t : leads told.0.seen told.0.also × (me' ≡ (Live (seen_alone told.0 told.0.also), me.1))). ap (λ (m : TicketSeat T). stage_of m.0) t.1) told.3
+  settled_idle st me me' word reported =
+      ⊎_elim (λ (t : leads reported.0.also reported.0.seen × (me' ≡ (Live (seen_alone reported.0 reported.0.seen), me.1))). ap (λ (m : TicketSeat T). stage_of m.0) t.1)
+      (λ (t : leads reported.0.seen reported.0.also × (me' ≡ (Live (seen_alone reported.0 reported.0.also), me.1))). ap (λ (m : TicketSeat T). stage_of m.0) t.1) reported.3
 
   pub opens : ((x : T) → leads x x) → first ≤ last_word → (value : T) → Rule (opening (first ∷ first ∷ []) (Some value ∷ []) (newcomer first value))
   opens same small value = record { words = on_words.opens first small value; values = on_values.opens leads first same value }
@@ -265,32 +265,32 @@ module _ {T : Type 0} (leads : T → T → Type 0) (same : (x : T) → leads x x
       subst (λ (x : LiveView T × LiveView T). leads x.0.seen x.1.seen × leads x.0.also x.1.seen × (x.0.next ≤ x.1.next)) (λ i. (live_is k a (sym is ∙ at) i, live_is l b (sym is' ∙ at') i)) (sees, sees', more)
 
   pub settles_remember : (st : Step (Option T)) (me me' : TicketSeat T) (word : ℕ) → Settles leads st me word me' → (a b : LiveView T) → me.0 ≡ Live a → me'.0 ≡ Live b → leads a.seen b.seen × leads a.also b.seen × (a.next ≤ b.next)
-  settles_remember st me me' word told = let k = told.0 in ⊎_elim
-      (λ (t : leads k.also k.seen × (me' ≡ (Live (seen_alone k k.seen), me.1))). both_remembered me me' k (seen_alone k k.seen) told.1 (ap (λ (m : TicketSeat T). m.0) t.1) (same k.seen) t.0 (omega arith))
-      (λ (t : leads k.seen k.also × (me' ≡ (Live (seen_alone k k.also), me.1))). both_remembered me me' k (seen_alone k k.also) told.1 (ap (λ (m : TicketSeat T). m.0) t.1) t.0 (same k.also) (omega arith))
-      told.3
+  settles_remember st me me' word reported = let k = reported.0 in ⊎_elim
+      (λ (t : leads k.also k.seen × (me' ≡ (Live (seen_alone k k.seen), me.1))). both_remembered me me' k (seen_alone k k.seen) reported.1 (ap (λ (m : TicketSeat T). m.0) t.1) (same k.seen) t.0 (omega arith))
+      (λ (t : leads k.seen k.also × (me' ≡ (Live (seen_alone k k.also), me.1))). both_remembered me me' k (seen_alone k k.also) reported.1 (ap (λ (m : TicketSeat T). m.0) t.1) t.0 (same k.also) (omega arith))
+      reported.3
 
   pub looks_remember : (st : Step (Option T)) (me me' : TicketSeat T) (word : ℕ) → Looks st me word me' → (a b : LiveView T) → me.0 ≡ Live a → me'.0 ≡ Live b → leads a.seen b.seen × (a.next ≤ b.next)
-  looks_remember st me me' word told = let k = told.0 in dite (ℕ_discrete word last_word)
-      (λ worn. remembers me me' k (idle_at k word) told.1 (ap (λ (m : TicketSeat T). m.0) (told.5 worn)) (same k.seen) told.2)
-      (λ left. remembers me me' k (looked_at k word) told.1 (ap (λ (m : TicketSeat T). m.0) (told.4 left)) (same k.seen) told.2)
+  looks_remember st me me' word reported = let k = reported.0 in dite (ℕ_discrete word last_word)
+      (λ worn. remembers me me' k (idle_at k word) reported.1 (ap (λ (m : TicketSeat T). m.0) (reported.5 worn)) (same k.seen) reported.2)
+      (λ left. remembers me me' k (looked_at k word) reported.1 (ap (λ (m : TicketSeat T). m.0) (reported.4 left)) (same k.seen) reported.2)
 
   pub draws_remember : (st : Step (Option T)) (me me' : TicketSeat T) (word : ℕ) → Draws st me word me' → (a b : LiveView T) → me.0 ≡ Live a → me'.0 ≡ Live b → leads a.seen b.seen × (a.next ≤ b.next)
-  draws_remember st me me' word told = let k = told.0 in dite (ℕ_discrete word k.next)
-      (λ hit. remembers me me' k (waiting_for k word) told.1 (ap (λ (m : TicketSeat T). m.0) (told.2 hit)) (same k.seen) (omega arith))
-      (λ miss. let more : k.next < word = (told.3 miss).0 in remembers me me' k (idle_at k word) told.1 (ap (λ (m : TicketSeat T). m.0) (told.3 miss).1) (same k.seen) (omega arith))
+  draws_remember st me me' word reported = let k = reported.0 in dite (ℕ_discrete word k.next)
+      (λ hit. remembers me me' k (waiting_for k word) reported.1 (ap (λ (m : TicketSeat T). m.0) (reported.2 hit)) (same k.seen) (omega arith))
+      (λ miss. let more : k.next < word = (reported.3 miss).0 in remembers me me' k (idle_at k word) reported.1 (ap (λ (m : TicketSeat T). m.0) (reported.3 miss).1) (same k.seen) (omega arith))
 
   pub serves_remember : (st : Step (Option T)) (me me' : TicketSeat T) (word : ℕ) → Serves leads st me word me' → (a b : LiveView T) → me.0 ≡ Live a → me'.0 ≡ Live b → leads a.seen b.seen × (a.next ≤ b.next)
-  serves_remember st me me' word told = let k = told.0 in dite (ℕ_discrete word told.1)
-      (λ hit. let b = told.5 hit in remembers me me' b.0 (in_section b.0 told.1 b.1) b.2 (ap (λ (m : TicketSeat T). m.0) b.4) b.3 (omega arith))
-      (λ miss. remembers me me' k k told.2 (ap (λ (m : TicketSeat T). m.0) (told.6 miss) ∙ told.2) (same k.seen) (omega arith))
+  serves_remember st me me' word reported = let k = reported.0 in dite (ℕ_discrete word reported.1)
+      (λ hit. let b = reported.5 hit in remembers me me' b.0 (in_section b.0 reported.1 b.1) b.2 (ap (λ (m : TicketSeat T). m.0) b.4) b.3 (omega arith))
+      (λ miss. remembers me me' k k reported.2 (ap (λ (m : TicketSeat T). m.0) (reported.6 miss) ∙ reported.2) (same k.seen) (omega arith))
 
   pub leaves_remember : (st : Step (Option T)) (me me' : TicketSeat T) (word : ℕ) → next_of me.0 ≡ word + 1 → Leaves leads st me word me' → (a b : LiveView T) → me.0 ≡ Live a → me'.0 ≡ Live b → leads a.seen b.seen × (a.next ≤ b.next)
-  leaves_remember st me me' word saw told = let k = told.0 in let saw' : k.next ≡ word + 1 = sym (ap next_of told.2) ∙ saw in
-      remembers me me' k (after_section k word told.1) told.2 (ap (λ (m : TicketSeat T). m.0) told.6) told.5 (omega arith)
+  leaves_remember st me me' word saw reported = let k = reported.0 in let saw' : k.next ≡ word + 1 = sym (ap next_of reported.2) ∙ saw in
+      remembers me me' k (after_section k word reported.1) reported.2 (ap (λ (m : TicketSeat T). m.0) reported.6) reported.5 (omega arith)
 
   pub exchanges_remember : (me me' : TicketSeat T) (new : Option T) → Exchanges me new me' → (a b : LiveView T) → me.0 ≡ Live a → me'.0 ≡ Live b → leads a.seen b.seen × (a.next ≤ b.next)
-  exchanges_remember me me' new told a b at at' = remembers me me' a a at (ap (λ (m : TicketSeat T). m.0) told.2 ∙ at) (same a.seen) (omega arith) a b at at'
+  exchanges_remember me me' new reported a b at at' = remembers me me' a a at (ap (λ (m : TicketSeat T). m.0) reported.2 ∙ at) (same a.seen) (omega arith) a b at at'
 
 module _ {T : Type 0} (leads : T → T → Type 0) where
   abbrev SameTally : LiveView T → LiveView T → Type 0
@@ -305,29 +305,29 @@ module _ {T : Type 0} (leads : T → T → Type 0) where
   joins_keep_tally k l m is = subst (SameTally k) (live_is (both_known k l) m is) (refl, refl)
 
   pub settles_keep_tally : (st : Step (Option T)) (me me' : TicketSeat T) (word : ℕ) → Settles leads st me word me' → (a b : LiveView T) → me.0 ≡ Live a → me'.0 ≡ Live b → SameTally a b
-  settles_keep_tally st me me' word told = let k = told.0 in ⊎_elim
-      (λ (t : leads k.also k.seen × (me' ≡ (Live (seen_alone k k.seen), me.1))). counts SameTally me me' k (seen_alone k k.seen) told.1 (ap (λ (m : TicketSeat T). m.0) t.1) (refl, refl))
-      (λ (t : leads k.seen k.also × (me' ≡ (Live (seen_alone k k.also), me.1))). counts SameTally me me' k (seen_alone k k.also) told.1 (ap (λ (m : TicketSeat T). m.0) t.1) (refl, refl))
-      told.3
+  settles_keep_tally st me me' word reported = let k = reported.0 in ⊎_elim
+      (λ (t : leads k.also k.seen × (me' ≡ (Live (seen_alone k k.seen), me.1))). counts SameTally me me' k (seen_alone k k.seen) reported.1 (ap (λ (m : TicketSeat T). m.0) t.1) (refl, refl))
+      (λ (t : leads k.seen k.also × (me' ≡ (Live (seen_alone k k.also), me.1))). counts SameTally me me' k (seen_alone k k.also) reported.1 (ap (λ (m : TicketSeat T). m.0) t.1) (refl, refl))
+      reported.3
 
   pub looks_keep_tally : (st : Step (Option T)) (me me' : TicketSeat T) (word : ℕ) → Looks st me word me' → (a b : LiveView T) → me.0 ≡ Live a → me'.0 ≡ Live b → SameTally a b
-  looks_keep_tally st me me' word told = let k = told.0 in dite (ℕ_discrete word last_word)
-      (λ worn. counts SameTally me me' k (idle_at k word) told.1 (ap (λ (m : TicketSeat T). m.0) (told.5 worn)) (refl, refl))
-      (λ left. counts SameTally me me' k (looked_at k word) told.1 (ap (λ (m : TicketSeat T). m.0) (told.4 left)) (refl, refl))
+  looks_keep_tally st me me' word reported = let k = reported.0 in dite (ℕ_discrete word last_word)
+      (λ worn. counts SameTally me me' k (idle_at k word) reported.1 (ap (λ (m : TicketSeat T). m.0) (reported.5 worn)) (refl, refl))
+      (λ left. counts SameTally me me' k (looked_at k word) reported.1 (ap (λ (m : TicketSeat T). m.0) (reported.4 left)) (refl, refl))
 
   pub draws_keep_tally : (st : Step (Option T)) (me me' : TicketSeat T) (word : ℕ) → Draws st me word me' → (a b : LiveView T) → me.0 ≡ Live a → me'.0 ≡ Live b → SameTally a b
-  draws_keep_tally st me me' word told = let k = told.0 in dite (ℕ_discrete word k.next)
-      (λ hit. counts SameTally me me' k (waiting_for k word) told.1 (ap (λ (m : TicketSeat T). m.0) (told.2 hit)) (refl, refl))
-      (λ miss. counts SameTally me me' k (idle_at k word) told.1 (ap (λ (m : TicketSeat T). m.0) (told.3 miss).1) (refl, refl))
+  draws_keep_tally st me me' word reported = let k = reported.0 in dite (ℕ_discrete word k.next)
+      (λ hit. counts SameTally me me' k (waiting_for k word) reported.1 (ap (λ (m : TicketSeat T). m.0) (reported.2 hit)) (refl, refl))
+      (λ miss. counts SameTally me me' k (idle_at k word) reported.1 (ap (λ (m : TicketSeat T). m.0) (reported.3 miss).1) (refl, refl))
 
   pub serves_keep_tally : (st : Step (Option T)) (me me' : TicketSeat T) (word : ℕ) → Serves leads st me word me' → (a b : LiveView T) → me.0 ≡ Live a → me'.0 ≡ Live b → SameTally a b
-  serves_keep_tally st me me' word told = let k = told.0 in dite (ℕ_discrete word told.1)
-      (λ hit. let b = told.5 hit in counts SameTally me me' b.0 (in_section b.0 told.1 b.1) b.2 (ap (λ (m : TicketSeat T). m.0) b.4) (refl, refl))
-      (λ miss. counts SameTally me me' k k told.2 (ap (λ (m : TicketSeat T). m.0) (told.6 miss) ∙ told.2) (refl, refl))
+  serves_keep_tally st me me' word reported = let k = reported.0 in dite (ℕ_discrete word reported.1)
+      (λ hit. let b = reported.5 hit in counts SameTally me me' b.0 (in_section b.0 reported.1 b.1) b.2 (ap (λ (m : TicketSeat T). m.0) b.4) (refl, refl))
+      (λ miss. counts SameTally me me' k k reported.2 (ap (λ (m : TicketSeat T). m.0) (reported.6 miss) ∙ reported.2) (refl, refl))
 
   pub leaves_count : (st : Step (Option T)) (me me' : TicketSeat T) (word : ℕ) → Leaves leads st me word me' → (a b : LiveView T) → me.0 ≡ Live a → me'.0 ≡ Live b → (b.ended ≡ a.ended + 1) × (b.last ≡ a.seen)
-  leaves_count st me me' word told =
-      let k = told.0 in counts (λ (x y : LiveView T). (y.ended ≡ x.ended + 1) × (y.last ≡ x.seen)) me me' k (after_section k word told.1) told.2 (ap (λ (m : TicketSeat T). m.0) told.6) (refl, refl)
+  leaves_count st me me' word reported =
+      let k = reported.0 in counts (λ (x y : LiveView T). (y.ended ≡ x.ended + 1) × (y.last ≡ x.seen)) me me' k (after_section k word reported.1) reported.2 (ap (λ (m : TicketSeat T). m.0) reported.6) (refl, refl)
 
   pub exchanges_keep_tally : (me me' : TicketSeat T) (new : Option T) → Exchanges me new me' → (a b : LiveView T) → me.0 ≡ Live a → me'.0 ≡ Live b → SameTally a b
-  exchanges_keep_tally me me' new told a b at at' = counts SameTally me me' a a at (ap (λ (m : TicketSeat T). m.0) told.2 ∙ at) (refl, refl) a b at at'
+  exchanges_keep_tally me me' new reported a b at at' = counts SameTally me me' a a at (ap (λ (m : TicketSeat T). m.0) reported.2 ∙ at) (refl, refl) a b at at'

@@ -75,10 +75,10 @@ module _ {T : Type 0} where
   -- if the load of a waiting pass finds its ticket, the critical section has begun
   pub begun : (leads : T → T → Type 0) (st : Step (Option T)) (before me me' : TicketSeat T) (ticket word : ℕ) → me ≡ before → stage_of before.0 ≡ Some (Waiting ticket) → Serves leads st me word me' → word ≡ ticket
       → Begins leads ticket before me'
-  begun leads st before me me' ticket word same is told hit =
-      let stage : Some (Waiting told.1) ≡ Some (Waiting ticket) = ap Some (sym told.3) ∙ (ap stage_of (sym told.2) ∙ (ap (λ (m : TicketSeat T). stage_of m.0) same ∙ is)) in
-      let mine : told.1 ≡ ticket = cc in
-      subst (λ (x : TicketSeat T × ℕ). Begins leads x.1 x.0 me') (λ i. (same i, mine i)) (told.5 (hit ∙ sym mine))
+  begun leads st before me me' ticket word same is reported hit =
+      let stage : Some (Waiting reported.1) ≡ Some (Waiting ticket) = ap Some (sym reported.3) ∙ (ap stage_of (sym reported.2) ∙ (ap (λ (m : TicketSeat T). stage_of m.0) same ∙ is)) in
+      let mine : reported.1 ≡ ticket = cc in
+      subst (λ (x : TicketSeat T × ℕ). Begins leads x.1 x.0 me') (λ i. (same i, mine i)) (reported.5 (hit ∙ sym mine))
 
   pub each_set : (K : ℕ → LiveView T → Type 0) (vs : List (TicketView T)) (me : ℕ) (w : LiveView T) → K me w → ((j : ℕ) (k : LiveView T) → j ≢ me → get_elem? vs j ≡ some (Live k) → K j k)
       → (j : ℕ) (k : LiveView T) → get_elem? (set vs me (Live w)) j ≡ some (Live k) → K j k

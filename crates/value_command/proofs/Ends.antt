@@ -5,7 +5,7 @@ use Rattle.std.proofs.lemmas.Option.{same_Some}
 use Rattle.std.specs.Io.KnownBytes.{Keeps}
 use Rattle.evaluation.specs.Stop.{WritesText}
 use Rattle.value_command.specs.Ends.{HasText, IsStatusOf, PutsText}
-use Rattle.console.specs.Place.{BeginsEmpty, Becomes}
+use Rattle.console.specs.AtomicTarget.{BeginsEmpty, Becomes}
 
 -- what is done has written a text
 pub ends_done : {E : Type 0} (IsText : List ℕ → Type 0) (old new : Option (List ℕ)) (answer : Result (Unit {0}) E) (status : ℕ) → OnOk answer (WritesText IsText old new)
@@ -51,24 +51,24 @@ placed_done IsText first second third before after (Err s) status empty kept wri
 pub placed_refused : {S : Type 0} (status_of : S → ℕ) (IsReason : S → Type 0) (resource : S) → status_of resource ≡ 3 → IsReason resource
     → (answer : Result (Unit {0}) S) (status : ℕ) → IfErr answer IsReason
     → MatchResult answer (λ _. (status ≡ 0) ⊎ (status ≡ 3)) (λ s. status ≡ status_of s) → status ≢ 0 → IsStatusOf status_of IsReason status
-placed_refused status_of IsReason resource is_three memory (Ok done) status reason told not_done = elim told [
+placed_refused status_of IsReason resource is_three memory (Ok done) status reason reported not_done = elim reported [
   | inl is_done ↦ absurd (not_done is_done)
   | inr is_status ↦ resource_refused status_of IsReason resource is_three memory status is_status
 ]
-placed_refused status_of IsReason resource is_three memory (Err s) status reason told not_done = record { stop = s; reason = reason; is_status = told }
+placed_refused status_of IsReason resource is_three memory (Err s) status reason reported not_done = record { stop = s; reason = reason; is_status = reported }
 
 -- the same where the text's writer went through a counting one and came back
-pub placed_through : {W E : Type 0} (contents : W → Option (List ℕ)) (IsText : List ℕ → Type 0) (first second third : Option (List ℕ)) (begun held gone ended : W)
+pub placed_through : {W E : Type 0} (contents : W → Option (List ℕ)) (IsText : List ℕ → Type 0) (first second third : Option (List ℕ)) (begun held gone exit_status_of : W)
     (answer : Result (Unit {0}) E) (status : ℕ) → Keeps first second → OnOk answer (WritesText IsText (contents held) (contents gone)) → OnErr answer (status ≢ 0)
-    → (status ≡ 0 → Becomes second third (contents ended)) → held ≡ begun → ended ≡ gone → BeginsEmpty first (contents begun) → status ≡ 0 → PutsText IsText first third
-placed_through contents IsText first second third begun held gone ended answer status kept writes refused becomes same_begun same_gone empty is_done =
+    → (status ≡ 0 → Becomes second third (contents exit_status_of)) → held ≡ begun → exit_status_of ≡ gone → BeginsEmpty first (contents begun) → status ≡ 0 → PutsText IsText first third
+placed_through contents IsText first second third begun held gone exit_status_of answer status kept writes refused becomes same_begun same_gone empty is_done =
     placed_done IsText first second third (contents held) (contents gone) answer status (subst (λ w. BeginsEmpty first (contents w)) (sym same_begun) empty) kept writes refused
     (λ done. subst (λ w. Becomes second third (contents w)) same_gone (becomes done)) is_done
 
 -- a text that was put into a place is one that the command may print
 pub put_is_text : (IsText : List ℕ → Type 0) (first third : Option (List ℕ)) → PutsText IsText first third → HasText IsText
 put_is_text IsText None third put = put
-put_is_text IsText (Some old) third (text, is_text, stands) = record { text = text; is_text = is_text }
+put_is_text IsText (Some old) third (text, is_text, current) = record { text = text; is_text = is_text }
 
 -- where the words that are given are those that are named, what may be printed by the former may be by the latter
 pub text_by_words : (IsText : List (List ℕ) → List ℕ → Type 0) (given named : List (List ℕ)) (status : ℕ) → given ≡ named → (status ≡ 0 → HasText (IsText given)) → status ≡ 0

@@ -46,7 +46,7 @@ pub record ValueIsRefused (whole : Whole) (words : ArgMatches) (status : ℕ) : 
 -- the words name this command, which ends so by the words behind its name
 pub record Ends (matches : ArgMatches) (name : List ℕ) (EndsSo : ArgMatches → Type 0) : Type 0 where
   pub words : ArgMatches
-  pub behind : IsCommand matches name words
+  pub following : IsCommand matches name words
   pub ends_so : EndsSo words
 
 -- help or the version was asked for

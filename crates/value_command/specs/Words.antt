@@ -14,4 +14,4 @@ words_at matches name = unwrap_or (option_map raw_values (matched_of (found_of m
 -- the words name this command, and these are the words behind its name
 pub record IsCommand (matches : ArgMatches) (name : List ℕ) (words : ArgMatches) : Type 0 where
   pub named : subcommand_name_of matches ≡ Some name
-  pub behind : option_map (λ p. p.1) (subcommand_rows_of matches) ≡ Some (rows_of (found_of words))
+  pub following : option_map (λ p. p.1) (subcommand_rows_of matches) ≡ Some (rows_of (found_of words))

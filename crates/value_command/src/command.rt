@@ -7,7 +7,8 @@ use crate::value::value_of;
 use clap::{ArgMatches, Error};
 use console::names::VALUE;
 use console::{
-    DONE, REFUSED, RESOURCE, Sources, USAGE, explains, matches_of, told, usage, words_of,
+    DONE, REFUSED, RESOURCE, Sources, USAGE, explains, matches_of, print_error, program_arguments,
+    usage,
 };
 use std::rt::{Env, Files};
 
@@ -18,7 +19,7 @@ where
     R: Env + Files + Print + Eprint + AllocGlobal,
     ensures known { result ≤ RESOURCE }
 {
-    let words = match words_of(rt) {
+    let words = match program_arguments(rt) {
         Ok(words) => words,
         Err(status) => return status,
     };
@@ -57,6 +58,6 @@ where
 {
     match matches.subcommand_matches(VALUE) {
         Some(words) => value_of(rt, sources, words, explains(words, is_watched)),
-        None => told(rt, "error: this program has the command value alone", USAGE),
+        None => print_error(rt, "error: this program has the command value alone", USAGE),
     }
 }

@@ -1,8 +1,8 @@
 //! What a refusal of `value` means, told behind its line where that is wanted.
 
-use crate::explanation::{About, resource_page, tell_page};
+use crate::explanation::{About, print_message, resource_message};
 use console::names::{ASSIGNMENT, PLAN};
-use diagnostics::{Page, argument_words, explain_literal, explain_plan, explain_tables};
+use diagnostics::{Message, argument_words, explain_literal, explain_plan, explain_tables};
 use evaluation::{ArgumentFault, ValueStop};
 use std::alloc::{AllocError, Global};
 
@@ -15,33 +15,37 @@ pub fn explain_refusal<R: Eprint + AllocGlobal>(
     if let Err(stop) = answer
         && about.explains
     {
-        tell_page(rt, value_page(rt.alloc(), about, stop));
+        print_message(rt, value_message(rt.alloc(), about, stop));
     }
 }
 
 /// What a refusal of `value` means, in lines.
-pub fn value_page(alloc: Global, about: &About, stop: &ValueStop) -> Result<Page, AllocError> {
+pub fn value_message(
+    alloc: Global,
+    about: &About,
+    stop: &ValueStop,
+) -> Result<Message, AllocError> {
     match stop {
         ValueStop::Plan(fault) => explain_plan(alloc, about.word(PLAN), about.plan, fault),
-        ValueStop::Argument { number, fault } => argument_page(alloc, about, *number, fault),
+        ValueStop::Argument { number, fault } => argument_message(alloc, about, *number, fault),
         ValueStop::Tables(fault) => explain_tables(alloc, about.word(PLAN), about.plan, fault),
-        ValueStop::Missing(_) => resource_page(alloc, "missing "),
-        ValueStop::Write { .. } => resource_page(alloc, "write fault at "),
-        ValueStop::NoMemory => resource_page(alloc, "no memory"),
+        ValueStop::Missing(_) => resource_message(alloc, "missing "),
+        ValueStop::Write { .. } => resource_message(alloc, "write fault at "),
+        ValueStop::NoMemory => resource_message(alloc, "no memory"),
     }
 }
 
-fn argument_page(
+fn argument_message(
     alloc: Global,
     about: &About,
     number: usize,
     fault: &ArgumentFault,
-) -> Result<Page, AllocError> {
+) -> Result<Message, AllocError> {
     let argument = about.word_at(ASSIGNMENT, number);
     if let ArgumentFault::Literal(cell) = fault {
         return explain_literal(alloc, argument, cell);
     }
-    let mut page = Page::new(alloc);
+    let mut page = Message::new(alloc);
     page.line(&[argument])?;
     page.words(argument_words(fault.number()))?;
     Ok(page)

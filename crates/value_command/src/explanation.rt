@@ -1,7 +1,7 @@
 //! What a refusal means, told behind its line where that is wanted.
 
 use clap::ArgMatches;
-use diagnostics::Page;
+use diagnostics::Message;
 use std::alloc::{AllocError, Global};
 use std::io;
 
@@ -38,7 +38,7 @@ impl<'a, 'w> About<'a, 'w> {
 }
 
 /// Tells a page. Where there was no memory for it, the line in front of it says all that is said.
-pub fn tell_page<R: Eprint>(rt: &R, page: Result<Page, AllocError>) {
+pub fn print_message<R: Eprint>(rt: &R, page: Result<Message, AllocError>) {
     if let Ok(page) = page {
         let _ = rt.eprint(page.as_str());
     }
@@ -51,7 +51,7 @@ pub fn explain_unreadable<R: Eprint + AllocGlobal>(
     name: &str,
     fault: &io::Error,
 ) {
-    let mut page = Page::new(rt.alloc());
+    let mut page = Message::new(rt.alloc());
     if let Ok(reason) = format!(in rt.alloc(); "{fault}")
         && page.resource(line, name, reason.as_str()).is_ok()
     {
@@ -60,8 +60,8 @@ pub fn explain_unreadable<R: Eprint + AllocGlobal>(
 }
 
 /// What a line that no text gives means, in lines. It is known by its first words.
-pub fn resource_page(alloc: Global, line: &str) -> Result<Page, AllocError> {
-    let mut page = Page::new(alloc);
+pub fn resource_message(alloc: Global, line: &str) -> Result<Message, AllocError> {
+    let mut page = Message::new(alloc);
     page.resource(line, "", "")?;
     Ok(page)
 }

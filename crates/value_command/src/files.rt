@@ -3,7 +3,7 @@
 ghost use Rattle.std.specs.Prelude.{◌≤◌, IfErr, IfOk};
 ghost use Rattle.value_command.specs.Texts.{IsNamedPlan};
 
-use crate::source_text::read_or_tell;
+use crate::source_text::read_or_report;
 use clap::ArgMatches;
 use console::names::PLAN;
 use console::{RESOURCE, Sources, USAGE};
@@ -23,7 +23,7 @@ pub fn plan_of<R: Eprint + AllocGlobal, S: Sources>(
     match matches.get_str(PLAN) {
         Some(name) => {
             let line = "cannot read plan";
-            read_or_tell(rt, sources, name, PLAN_LIMIT_BYTES, line, explains)
+            read_or_report(rt, sources, name, PLAN_LIMIT_BYTES, line, explains)
         }
         None => Err(USAGE),
     }

@@ -4,24 +4,24 @@
 //! `command` chooses the command by the words, where a program has this one alone, and `value` does it. `files` reads the plan, and
 //! `explaining` says what a refusal means.
 //!
-//! The other commands need these as well: `source_text` reads a text by its name, `output` puts results into a file, `telling` prints a refusal's
+//! The other commands need these as well: `source_text` reads a text by its name, `output` puts results into a file, `findings` prints a refusal's
 //! line, and `explanation` prints what the refusal means.
 #![tactic(auto)]
 
 mod command;
+mod error_line;
 mod explaining;
 mod explanation;
 mod files;
 mod output;
 mod source_text;
-mod telling;
 mod value;
 
 pub use command::{matched_status, status};
-pub use explaining::value_page;
-pub use explanation::{About, resource_page, tell_page};
+pub use error_line::exit_status_of;
+pub use explaining::value_message;
+pub use explanation::{About, print_message, resource_message};
 pub use files::plan_of;
-pub use output::{output_of, placed, unwritable};
-pub use source_text::read_or_tell;
-pub use telling::ended;
+pub use output::{commit_output, output_of, report_unwritable};
+pub use source_text::read_or_report;
 pub use value::value_of;

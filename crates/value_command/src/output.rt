@@ -2,12 +2,12 @@
 
 ghost use Rattle.std.specs.Prelude.{◌≡◌, ◌≢◌, ◌≤◌, ◌⊎◌, IfErr, IsOk, MatchResult, OnErr};
 ghost use Rattle.std.specs.Io.KnownBytes.{Keeps};
-ghost use Rattle.console.specs.Place.{Becomes};
+ghost use Rattle.console.specs.AtomicTarget.{Becomes};
 
+use crate::error_line::report_error;
 use crate::explanation::{About, explain_unreadable};
-use crate::telling::tell;
 use console::names::{OUTPUT, STREAM};
-use console::{DONE, FilePlace, Place, RESOURCE, finish, no_memory, told};
+use console::{AtomicFile, AtomicTarget, DONE, RESOURCE, finish, no_memory, print_error};
 use faults::Refusal;
 use std::io;
 use std::rt::Files;
@@ -20,21 +20,21 @@ const CANNOT_WRITE: &str = "cannot write output";
 pub fn output_of<'a, R: Files + Eprint + AllocGlobal>(
     rt: &'a R,
     about: &About,
-) -> Result<Option<FilePlace<'a, R>>, u8>
+) -> Result<Option<AtomicFile<'a, R>>, u8>
     ensures { IfErr result (λ status. status ≡ RESOURCE) }
 {
     match about.words.get_str(OUTPUT) {
         None | Some(STREAM) => Ok(None),
-        Some(path) => match FilePlace::new(rt, path) {
+        Some(path) => match AtomicFile::new(rt, path) {
             Ok(place) => Ok(Some(place)),
-            Err(fault) => Err(unwritable(rt, about, &fault)),
+            Err(fault) => Err(report_unwritable(rt, about, &fault)),
         },
     }
 }
 
 /// Ends the writing of a command's text: it is put into its place where the command is done, and given up where it is refused, or can't be
 /// put there. Answers the command's status.
-pub fn placed<R: Eprint + AllocGlobal, P: Place, S: Refusal>(
+pub fn commit_output<R: Eprint + AllocGlobal, P: AtomicTarget, S: Refusal>(
     rt: &R,
     about: &About,
     place: &mut P,
@@ -44,29 +44,29 @@ pub fn placed<R: Eprint + AllocGlobal, P: Place, S: Refusal>(
     ensures known { result ≤ RESOURCE }
     ensures status { MatchResult answer.now (λ _. (result ≡ DONE) ⊎ (result ≡ RESOURCE)) (λ stop. result ≡ S.status stop) }
     ensures refused { OnErr answer.now (result ≢ DONE) }
-    ensures put { result ≡ DONE → Becomes (P.stands place.old) (P.stands place.new) (P.Text.contents text) }
-    ensures kept { result ≢ DONE → Keeps (P.stands place.old) (P.stands place.new) }
+    ensures put { result ≡ DONE → Becomes (P.current place.old) (P.current place.new) (P.Text.contents text) }
+    ensures kept { result ≢ DONE → Keeps (P.current place.old) (P.current place.new) }
 {
     match answer {
         Ok(()) => match finish(place, text, true) {
             Ok(()) => DONE,
-            Err(fault) => unwritable(rt, about, &fault),
+            Err(fault) => report_unwritable(rt, about, &fault),
         },
         Err(stop) => {
             let _ = finish(place, text, false);
-            tell(rt, stop)
+            report_error(rt, stop)
         }
     }
 }
 
 /// Tells that the results can't be put into the file.
-pub fn unwritable<R: Eprint + AllocGlobal>(rt: &R, about: &About, fault: &io::Error) -> u8
+pub fn report_unwritable<R: Eprint + AllocGlobal>(rt: &R, about: &About, fault: &io::Error) -> u8
     ensures { result ≡ RESOURCE }
 {
     if fault.kind() == io::ErrorKind::OutOfMemory {
         return no_memory(rt);
     }
-    let status = told(rt, CANNOT_WRITE, RESOURCE);
+    let status = print_error(rt, CANNOT_WRITE, RESOURCE);
     if about.explains {
         let path = about.word(OUTPUT);
         explain_unreadable(rt, CANNOT_WRITE, path, fault);

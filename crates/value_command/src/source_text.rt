@@ -4,10 +4,10 @@ ghost use Rattle.std.specs.Prelude.{◌≡◌, IfErr, IfOk};
 ghost use Rattle.console.specs.Reading.{IsReadUpTo};
 
 use crate::explanation::explain_unreadable;
-use console::{RESOURCE, ReadFault, Sources, no_memory, read_text, told};
+use console::{RESOURCE, ReadFault, Sources, no_memory, print_error, read_text};
 
 /// The bytes of the text with this name; where it can't be read, the line is told, and its status answered.
-pub fn read_or_tell<R: Eprint + AllocGlobal, S: Sources>(
+pub fn read_or_report<R: Eprint + AllocGlobal, S: Sources>(
     rt: &R,
     sources: &S,
     name: &str,
@@ -21,7 +21,7 @@ pub fn read_or_tell<R: Eprint + AllocGlobal, S: Sources>(
     match read_text(rt.alloc(), sources, name, limit_bytes) {
         Ok(bytes) => Ok(bytes),
         Err(ReadFault::Unreadable(fault)) => {
-            let status = told(rt, line, RESOURCE);
+            let status = print_error(rt, line, RESOURCE);
             if explains {
                 explain_unreadable(rt, line, name, &fault);
             }

@@ -8,14 +8,14 @@ ghost use Rattle.evaluation.specs.ValueText.{IsValueText};
 ghost use Rattle.value_command.specs.Ends.{HasText, IsStatusOfRefusal, PutsText, ValueIsDone, ValueIsRefused};
 ghost use Rattle.value_command.specs.Words.{words_at};
 
+use crate::error_line::exit_status_of;
 use crate::explaining::explain_refusal;
 use crate::explanation::About;
 use crate::files::plan_of;
-use crate::output::{output_of, placed, unwritable};
-use crate::telling::ended;
+use crate::output::{commit_output, output_of, report_unwritable};
 use clap::ArgMatches;
 use console::names::ASSIGNMENT;
-use console::{DONE, Place, REFUSED, RESOURCE, Sources};
+use console::{AtomicTarget, DONE, REFUSED, RESOURCE, Sources};
 use evaluation::do_value;
 use fixpoint::Out;
 use std::io;
@@ -77,14 +77,14 @@ fn value<R: Print + Eprint + AllocGlobal>(
 {
     let mut out = Out::new(io::writer(rt));
     let answer = do_value(rt.alloc(), plan, assignments, &mut out);
-    let status = ended(rt, &answer);
+    let status = exit_status_of(rt, &answer);
     explain_refusal(rt, about, &answer);
     status
 }
 
 /// The same into a place, which has the whole text then or what stood there before.
 #[tactic(auto, using(crate::proofs::Ends::placed_done, crate::proofs::Ends::kept_twice))]
-fn value_into<R: Eprint + AllocGlobal, P: Place>(
+fn value_into<R: Eprint + AllocGlobal, P: AtomicTarget>(
     rt: &R,
     about: &About,
     plan: &[u8],
@@ -92,17 +92,17 @@ fn value_into<R: Eprint + AllocGlobal, P: Place>(
     place: &mut P,
 ) -> u8
     ensures known { result ≤ RESOURCE }
-    ensures done { result ≡ DONE → PutsText (IsValueText plan.now (argument_texts assignments.now)) (P.stands place.old) (P.stands place.new) }
-    ensures kept { result ≢ DONE → Keeps (P.stands place.old) (P.stands place.new) }
+    ensures done { result ≡ DONE → PutsText (IsValueText plan.now (argument_texts assignments.now)) (P.current place.old) (P.current place.new) }
+    ensures kept { result ≢ DONE → Keeps (P.current place.old) (P.current place.new) }
     ensures refused { result ≢ DONE → IsStatusOfRefusal (IsReason plan.now (argument_texts assignments.now)) result }
 {
     let text = match place.begin() {
         Ok(text) => text,
-        Err(fault) => return unwritable(rt, about, &fault),
+        Err(fault) => return report_unwritable(rt, about, &fault),
     };
     let mut out = Out::new(text);
     let outcome = do_value(rt.alloc(), plan, assignments, &mut out);
-    let status = placed(rt, about, place, out.into_inner(), &outcome);
+    let status = commit_output(rt, about, place, out.into_inner(), &outcome);
     explain_refusal(rt, about, &outcome);
     status
 }

@@ -5,57 +5,70 @@ ghost use Rattle.std.specs.Prelude.{◌≡◌, ◌+◌, ◌<◌, ◌^◌, ◌++�
 ghost use Rattle.std.specs.Bool.{OnTrue};
 ghost use Rattle.fixpoint.specs.Out.{has_failed, writer_of};
 ghost use Rattle.adjudicate.specs.CheckText.{counts_line, overlap_line, rules_text, wide_line};
-ghost use Rattle.adjudicate.specs.Pieces.{EndsText, Puts, at, greatest_count, starting};
-ghost use Rattle.adjudicate.specs.Telling.{text_in};
-ghost use Rattle.adjudicate.specs.Told.{cell_text, told_gap_line, told_lines, told_table_lines, told_text, told_wide_lines};
+ghost use Rattle.adjudicate.specs.BufferedOut.{EndsText, Puts, at, greatest_count, starting};
+ghost use Rattle.adjudicate.specs.Findings.{text_in};
+ghost use Rattle.adjudicate.specs.CheckReport.{cell_text, reported_gap_line, reported_lines, reported_table_lines, reported_text, reported_wide_lines};
 
-use super::pieces::Pieces;
-use super::told::{ColumnText, Telling, ToldPlan, ToldTable, told_plan};
+use super::buffered_out::BufferedOut;
+use super::report::{CheckReport, ColumnText, Findings, TableReport, check_report};
 use dtable::Plan;
-use fixpoint::{Cut, Out};
+use fixpoint::{Out, ShortWrite};
 use itoa::Buffer;
 use std::alloc::{AllocError, Global};
 use std::io::{Write, sink};
 
 /// Checks a plan, whose text has fewer bytes than a count can tell. No text has as many; that is refused here, so that the
 /// count of a write fault is exact.
-pub fn checked(alloc: Global, plan: &Plan, telling: Telling) -> Result<ToldPlan, AllocError>
-    ensures text { IfOk result (λ told. told_text told ≡ text_in telling plan.now) }
-    ensures counted { IfOk result (λ told. length (told_text told) < greatest_count) }
+pub fn checked_report(
+    alloc: Global,
+    plan: &Plan,
+    findings: Findings,
+) -> Result<CheckReport, AllocError>
+    ensures text { IfOk result (λ reported. reported_text reported ≡ text_in findings plan.now) }
+    ensures counted { IfOk result (λ reported. length (reported_text reported) < greatest_count) }
 {
-    let told = told_plan(alloc, plan, telling)?;
-    if !is_counted(alloc, &told) {
+    let reported = check_report(alloc, plan, findings)?;
+    if !is_counted(alloc, &reported) {
         return Err(AllocError);
     }
-    Ok(told)
+    Ok(reported)
 }
 
 // Whether the text has fewer bytes than a count can tell. It is put to nobody for that.
-fn is_counted(alloc: Global, told: &ToldPlan) -> bool
-    ensures { OnTrue result (length (told_text told.now) < greatest_count) }
+fn is_counted(alloc: Global, reported: &CheckReport) -> bool
+    ensures { OnTrue result (length (reported_text reported.now) < greatest_count) }
 {
-    match put_told(alloc, told, &mut Out::new(sink())) {
+    match put_report(alloc, reported, &mut Out::new(sink())) {
         Ok(count) => count < usize::MAX,
         Err(_) => false,
     }
 }
 
 /// Writes the text of what is told, and returns how many bytes it has, or the greatest number where there are more.
-pub fn put_told<W: Write>(alloc: Global, told: &ToldPlan, out: &mut Out<W>) -> Result<usize, Cut>
-    ensures { EndsText (starting (W.contents (writer_of out.old)) (has_failed out.old)) (told_text told.now)
+pub fn put_report<W: Write>(
+    alloc: Global,
+    reported: &CheckReport,
+    out: &mut Out<W>,
+) -> Result<usize, ShortWrite>
+    ensures { EndsText (starting (W.contents (writer_of out.old)) (has_failed out.old)) (reported_text reported.now)
         (W.contents (writer_of out.new)) (has_failed out.new) result }
 {
-    let mut pieces = Pieces::new(alloc);
-    put_tables(1, told.tables.as_slice(), &mut pieces, out);
-    put_counts(told.gaps, told.overlaps, &mut pieces, out);
+    let mut pieces = BufferedOut::new(alloc);
+    put_tables(1, reported.tables.as_slice(), &mut pieces, out);
+    put_counts(reported.gaps, reported.overlaps, &mut pieces, out);
     pieces.end(out)
 }
 
 // The lines of these tables, of which the first has this number.
-fn put_tables<W: Write>(number: usize, tables: &[ToldTable], pieces: &mut Pieces, out: &mut Out<W>)
+fn put_tables<W: Write>(
+    number: usize,
+    tables: &[TableReport],
+    pieces: &mut BufferedOut,
+    out: &mut Out<W>,
+)
     requires { number + length tables.now < 2 ^ 64 }
     ensures { Puts (at (W.contents (writer_of out.old)) (has_failed out.old) pieces.old)
-        (at (W.contents (writer_of out.new)) (has_failed out.new) pieces.new) (told_lines number tables.now) }
+        (at (W.contents (writer_of out.new)) (has_failed out.new) pieces.new) (reported_lines number tables.now) }
 {
     match tables.split_first() {
         Some((table, more)) => {
@@ -67,9 +80,14 @@ fn put_tables<W: Write>(number: usize, tables: &[ToldTable], pieces: &mut Pieces
 }
 
 // The lines of the table with this number.
-fn put_table<W: Write>(number: usize, table: &ToldTable, pieces: &mut Pieces, out: &mut Out<W>)
+fn put_table<W: Write>(
+    number: usize,
+    table: &TableReport,
+    pieces: &mut BufferedOut,
+    out: &mut Out<W>,
+)
     ensures { Puts (at (W.contents (writer_of out.old)) (has_failed out.old) pieces.old)
-        (at (W.contents (writer_of out.new)) (has_failed out.new) pieces.new) (told_table_lines number table.now) }
+        (at (W.contents (writer_of out.new)) (has_failed out.new) pieces.new) (reported_table_lines number table.now) }
 {
     put_overlaps(number, table.overlaps.as_slice(), pieces, out);
     put_wide(number, table.is_wide, pieces, out);
@@ -86,7 +104,7 @@ fn put_table<W: Write>(number: usize, table: &ToldTable, pieces: &mut Pieces, ou
 fn put_overlaps<W: Write>(
     table: usize,
     overlaps: &[(usize, usize)],
-    pieces: &mut Pieces,
+    pieces: &mut BufferedOut,
     out: &mut Out<W>,
 )
     ensures { Puts (at (W.contents (writer_of out.old)) (has_failed out.old) pieces.old)
@@ -102,7 +120,7 @@ fn put_overlap<W: Write>(
     table: usize,
     first: usize,
     second: usize,
-    pieces: &mut Pieces,
+    pieces: &mut BufferedOut,
     out: &mut Out<W>,
 )
     ensures { Puts (at (W.contents (writer_of out.old)) (has_failed out.old) pieces.old)
@@ -113,7 +131,7 @@ fn put_overlap<W: Write>(
 }
 
 // `: rules I J`, and the end of the line.
-fn put_rules<W: Write>(first: usize, second: usize, pieces: &mut Pieces, out: &mut Out<W>)
+fn put_rules<W: Write>(first: usize, second: usize, pieces: &mut BufferedOut, out: &mut Out<W>)
     ensures { Puts (at (W.contents (writer_of out.old)) (has_failed out.old) pieces.old)
         (at (W.contents (writer_of out.new)) (has_failed out.new) pieces.new) (rules_text (first, second)) }
 {
@@ -123,9 +141,9 @@ fn put_rules<W: Write>(first: usize, second: usize, pieces: &mut Pieces, out: &m
 }
 
 // `wide table T`, and the end of the line, if it is wide.
-fn put_wide<W: Write>(table: usize, is_wide: bool, pieces: &mut Pieces, out: &mut Out<W>)
+fn put_wide<W: Write>(table: usize, is_wide: bool, pieces: &mut BufferedOut, out: &mut Out<W>)
     ensures { Puts (at (W.contents (writer_of out.old)) (has_failed out.old) pieces.old)
-        (at (W.contents (writer_of out.new)) (has_failed out.new) pieces.new) (told_wide_lines table is_wide) }
+        (at (W.contents (writer_of out.new)) (has_failed out.new) pieces.new) (reported_wide_lines table is_wide) }
 {
     if is_wide {
         put_numbered("wide table ", table, pieces, out);
@@ -138,11 +156,11 @@ fn put_gaps<W: Write>(
     table: usize,
     columns: &[ColumnText],
     gaps: &[u32],
-    pieces: &mut Pieces,
+    pieces: &mut BufferedOut,
     out: &mut Out<W>,
 )
     ensures { Puts (at (W.contents (writer_of out.old)) (has_failed out.old) pieces.old)
-        (at (W.contents (writer_of out.new)) (has_failed out.new) pieces.new) (flat_map (told_gap_line table columns.now) gaps.now) }
+        (at (W.contents (writer_of out.new)) (has_failed out.new) pieces.new) (flat_map (reported_gap_line table columns.now) gaps.now) }
 {
     for place in gaps {
         put_gap(table, columns, *place as usize, pieces, out);
@@ -154,11 +172,11 @@ fn put_gap<W: Write>(
     table: usize,
     columns: &[ColumnText],
     place: usize,
-    pieces: &mut Pieces,
+    pieces: &mut BufferedOut,
     out: &mut Out<W>,
 )
     ensures { Puts (at (W.contents (writer_of out.old)) (has_failed out.old) pieces.old)
-        (at (W.contents (writer_of out.new)) (has_failed out.new) pieces.new) (told_gap_line table columns.now place) }
+        (at (W.contents (writer_of out.new)) (has_failed out.new) pieces.new) (reported_gap_line table columns.now place) }
 {
     put_numbered("gap table ", table, pieces, out);
     pieces.put(b": ", out);
@@ -167,22 +185,27 @@ fn put_gap<W: Write>(
 }
 
 // The regions of the cell at this place among those of the columns.
-fn put_cell<W: Write>(columns: &[ColumnText], place: usize, pieces: &mut Pieces, out: &mut Out<W>)
+fn put_cell<W: Write>(
+    columns: &[ColumnText],
+    place: usize,
+    pieces: &mut BufferedOut,
+    out: &mut Out<W>,
+)
     ensures { Puts (at (W.contents (writer_of out.old)) (has_failed out.old) pieces.old)
         (at (W.contents (writer_of out.new)) (has_failed out.new) pieces.new) (cell_text columns.now place) }
 {
     match columns.split_first() {
         Some((column, more)) => {
-            let behind = column.behind.max(1);
-            pieces.put(column.region(place / behind), out);
-            put_cell(more, place % behind, pieces, out);
+            let following = column.following.max(1);
+            pieces.put(column.region(place / following), out);
+            put_cell(more, place % following, pieces, out);
         }
         None => {}
     }
 }
 
 // `gaps G overlaps O`, and the end of the line.
-fn put_counts<W: Write>(gaps: usize, overlaps: usize, pieces: &mut Pieces, out: &mut Out<W>)
+fn put_counts<W: Write>(gaps: usize, overlaps: usize, pieces: &mut BufferedOut, out: &mut Out<W>)
     ensures { Puts (at (W.contents (writer_of out.old)) (has_failed out.old) pieces.old)
         (at (W.contents (writer_of out.new)) (has_failed out.new) pieces.new) (counts_line gaps overlaps) }
 {
@@ -192,7 +215,7 @@ fn put_counts<W: Write>(gaps: usize, overlaps: usize, pieces: &mut Pieces, out: 
 }
 
 // Some words, and a number's decimal digits.
-fn put_numbered<W: Write>(words: &str, number: usize, pieces: &mut Pieces, out: &mut Out<W>)
+fn put_numbered<W: Write>(words: &str, number: usize, pieces: &mut BufferedOut, out: &mut Out<W>)
     ensures { Puts (at (W.contents (writer_of out.old)) (has_failed out.old) pieces.old)
         (at (W.contents (writer_of out.new)) (has_failed out.new) pieces.new) (words.now ++ decimal number) }
 {

@@ -5,11 +5,11 @@ ghost use Rattle.adjudicate.specs.Stop.{balance_fault_text, record_fault_text, r
 
 use claim_gate::TermsFault;
 use crew::RunFault;
-use evaluation::Line;
+use evaluation::ErrorLine;
 use intake_csv::{BalanceFault, RowFault};
 
 /// Puts the words of a fault of the terms on an empty line.
-pub fn put_terms_fault(line: &mut Line, fault: &TermsFault)
+pub fn put_terms_fault(line: &mut ErrorLine, fault: &TermsFault)
     requires { length line.old ≡ 0 }
     ensures text { line.new ≡ line.old ++ terms_fault_text fault.now }
     ensures short { length line.new ≤ 100 }
@@ -29,7 +29,7 @@ pub fn put_terms_fault(line: &mut Line, fault: &TermsFault)
 }
 
 /// Puts the words of a fault of a run on an empty line.
-pub fn put_run_fault(line: &mut Line, fault: &RunFault)
+pub fn put_run_fault(line: &mut ErrorLine, fault: &RunFault)
     requires { length line.old ≡ 0 }
     ensures text { line.new ≡ line.old ++ run_fault_text fault.now }
     ensures short { length line.new ≤ 100 }
@@ -39,7 +39,7 @@ pub fn put_run_fault(line: &mut Line, fault: &RunFault)
 }
 
 // Puts what is wrong with the balances behind the line.
-fn put_balance_fault(line: &mut Line, fault: &BalanceFault)
+fn put_balance_fault(line: &mut ErrorLine, fault: &BalanceFault)
     requires { length line.old ≤ 14 }
     ensures text { line.new ≡ line.old ++ balance_fault_text fault.now }
     ensures short { length line.new ≤ 100 }
@@ -55,7 +55,7 @@ fn put_balance_fault(line: &mut Line, fault: &BalanceFault)
 }
 
 // Puts the record with this number, and what is wrong with it, behind the line.
-fn put_record_fault(line: &mut Line, number: usize, fault: &RowFault)
+fn put_record_fault(line: &mut ErrorLine, number: usize, fault: &RowFault)
     requires { length line.old ≤ 14 }
     ensures text { line.new ≡ line.old ++ record_fault_text number fault.now }
     ensures short { length line.new ≤ 100 }

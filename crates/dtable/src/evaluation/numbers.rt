@@ -5,7 +5,7 @@ ghost use Rattle.std.specs.List.{reduce};
 ghost use Rattle.std.specs.Option.{SomeIff, ForSome};
 ghost use Rattle.fixpoint.specs.Number.{IsInRange};
 ghost use Rattle.std.specs.Int.{int_min, int_max};
-ghost use Rattle.dtable.specs.HitPolicy.{Gives, joined, IsFarFromOverflow, aggregated, number_answer, number_in, numbers_of, counted, units_of};
+ghost use Rattle.dtable.specs.HitPolicy.{Gives, combine, IsFarFromOverflow, aggregate_value, number_answer, number_in, numbers_of, match_count, units_of};
 
 use super::single;
 use crate::environment::Answer;
@@ -23,36 +23,36 @@ pub fn sum(
     table: &Table,
     rules: &[usize],
 ) -> Result<Sequence<Answer>, Fault>
-    ensures { Gives (aggregated number table.now
+    ensures { Gives (aggregate_value number table.now
         (reduce ◌+ℤ◌ (numbers_of table.now rules.now))) result }
 {
-    aggregated(alloc, number, table, sum_of(table, rules))
+    aggregate_value(alloc, number, table, sum_of(table, rules))
 }
 
 /// Applies `C<`: the least number.
-pub fn least(
+pub fn least_number(
     alloc: Global,
     number: usize,
     table: &Table,
     rules: &[usize],
 ) -> Result<Sequence<Answer>, Fault>
-    ensures { Gives (aggregated number table.now
+    ensures { Gives (aggregate_value number table.now
         (reduce int_min (numbers_of table.now rules.now))) result }
 {
-    aggregated(alloc, number, table, least_of(table, rules).map(i128::from))
+    aggregate_value(alloc, number, table, least_of(table, rules).map(i128::from))
 }
 
 /// Applies `C>`: the greatest number.
-pub fn greatest(
+pub fn greatest_number(
     alloc: Global,
     number: usize,
     table: &Table,
     rules: &[usize],
 ) -> Result<Sequence<Answer>, Fault>
-    ensures { Gives (aggregated number table.now
+    ensures { Gives (aggregate_value number table.now
         (reduce int_max (numbers_of table.now rules.now))) result }
 {
-    aggregated(
+    aggregate_value(
         alloc,
         number,
         table,
@@ -61,31 +61,31 @@ pub fn greatest(
 }
 
 /// Applies `C#`: the number of matching rules.
-pub fn counted(
+pub fn match_count(
     alloc: Global,
     number: usize,
     table: &Table,
     rules: &[usize],
 ) -> Result<Sequence<Answer>, Fault>
-    ensures { Gives (counted number table.now rules.now) result }
+    ensures { Gives (match_count number table.now rules.now) result }
 {
     if rules.is_empty() {
-        return single::unmatched(alloc, number, table);
+        return single::no_match_value(alloc, number, table);
     }
     number_answer(alloc, number, rules.len() as i128 * UNITS_PER_ONE as i128)
 }
 
-fn aggregated(
+fn aggregate_value(
     alloc: Global,
     number: usize,
     table: &Table,
     units: Option<i128>,
 ) -> Result<Sequence<Answer>, Fault>
-    ensures { Gives (aggregated number table.now units) result }
+    ensures { Gives (aggregate_value number table.now units) result }
 {
     match units {
         Some(units) => number_answer(alloc, number, units),
-        None => single::unmatched(alloc, number, table),
+        None => single::no_match_value(alloc, number, table),
     }
 }
 
@@ -93,7 +93,7 @@ fn aggregated(
 fn number_answer(alloc: Global, number: usize, units: i128) -> Result<Sequence<Answer>, Fault>
     ensures { Gives (number_answer number units) result }
 {
-    match fixed(units) {
+    match fixed_of_units(units) {
         Some(value) => {
             let mut answers = Sequence::new(alloc);
             answers.push(Answer::One(Value::Number(value)))?;
@@ -103,7 +103,7 @@ fn number_answer(alloc: Global, number: usize, units: i128) -> Result<Sequence<A
     }
 }
 
-fn fixed(units: i128) -> Option<Fixed>
+fn fixed_of_units(units: i128) -> Option<Fixed>
     ensures { SomeIff result (IsInRange units) units }
 {
     match i64::try_from(units) {
@@ -127,7 +127,7 @@ fn least_of(table: &Table, rules: &[usize]) -> Option<i64>
 {
     let mut least = None;
     for rule in rules {
-        least = lesser(least, number_in(table, *rule));
+        least = least_of_two(least, number_in(table, *rule));
     }
     least
 }
@@ -137,14 +137,14 @@ fn greatest_of(table: &Table, rules: &[usize]) -> Option<i64>
 {
     let mut greatest = None;
     for rule in rules {
-        greatest = greater(greatest, number_in(table, *rule));
+        greatest = greatest_of_two(greatest, number_in(table, *rule));
     }
     greatest
 }
 
 fn plus(sum: Option<i128>, units: Option<i64>) -> Option<i128>
     requires { ForSome sum IsFarFromOverflow }
-    ensures { result ≡ joined ◌+ℤ◌ sum units }
+    ensures { result ≡ combine ◌+ℤ◌ sum units }
 {
     match (sum, units) {
         (Some(sum), Some(units)) => Some(add(sum, units)),
@@ -160,8 +160,8 @@ fn add(sum: i128, units: i64) -> i128
     sum + i128::from(units)
 }
 
-fn lesser(least: Option<i64>, units: Option<i64>) -> Option<i64>
-    ensures { result ≡ joined int_min least units }
+fn least_of_two(least: Option<i64>, units: Option<i64>) -> Option<i64>
+    ensures { result ≡ combine int_min least units }
 {
     match (least, units) {
         (Some(least), Some(units)) => Some(least.min(units)),
@@ -170,8 +170,8 @@ fn lesser(least: Option<i64>, units: Option<i64>) -> Option<i64>
     }
 }
 
-fn greater(greatest: Option<i64>, units: Option<i64>) -> Option<i64>
-    ensures { result ≡ joined int_max greatest units }
+fn greatest_of_two(greatest: Option<i64>, units: Option<i64>) -> Option<i64>
+    ensures { result ≡ combine int_max greatest units }
 {
     match (greatest, units) {
         (Some(greatest), Some(units)) => Some(greatest.max(units)),

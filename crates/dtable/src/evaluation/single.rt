@@ -3,7 +3,7 @@
 ghost use Rattle.std.specs.Prelude.{◌≡◌, ◌++◌, IfOk, OnOk, is_some};
 ghost use Rattle.std.specs.List.{list_all};
 ghost use Rattle.std.specs.Option.{option_to_list};
-ghost use Rattle.dtable.specs.HitPolicy.{Gives, ones, unmatched, unique, agree, any, of_rule};
+ghost use Rattle.dtable.specs.HitPolicy.{Gives, ones, no_match_value, unique, agree, any, of_rule};
 
 use crate::environment::Answer;
 use crate::table::{Output, Table};
@@ -13,8 +13,12 @@ use std::alloc::{AllocError, Global};
 
 /// Returns the answers if no rule matches: the defaults, or a `NoRule` fault if an output has no
 /// default.
-pub fn unmatched(alloc: Global, number: usize, table: &Table) -> Result<Sequence<Answer>, Fault>
-    ensures { Gives (unmatched number table.now) result }
+pub fn no_match_value(
+    alloc: Global,
+    number: usize,
+    table: &Table,
+) -> Result<Sequence<Answer>, Fault>
+    ensures { Gives (no_match_value number table.now) result }
 {
     let outputs = table.outputs.as_slice();
     if !have_defaults(outputs) {
@@ -56,7 +60,7 @@ pub fn unique(
     ensures { Gives (unique number table.now rules.now) result }
 {
     match rules {
-        [] => unmatched(alloc, number, table),
+        [] => no_match_value(alloc, number, table),
         [rule] => Ok(ones(alloc, table.entries(*rule))?),
         _ => Err(Fault::Clash { table: number }),
     }
@@ -72,7 +76,7 @@ pub fn any(
     ensures { Gives (any number table.now rules.now) result }
 {
     match rules {
-        [] => unmatched(alloc, number, table),
+        [] => no_match_value(alloc, number, table),
         [rule, others @ ..] => {
             if rules_agree(table, *rule, others) {
                 Ok(ones(alloc, table.entries(*rule))?)
@@ -107,7 +111,7 @@ pub fn of_rule(
 {
     match rule {
         Some(rule) => Ok(ones(alloc, table.entries(rule))?),
-        None => unmatched(alloc, number, table),
+        None => no_match_value(alloc, number, table),
     }
 }
 

@@ -5,7 +5,7 @@ ghost use Rattle.toml.specs.Parse.{parse_document};
 ghost use Rattle.toml.specs.View.{view, items_view};
 ghost use Rattle.dtable.specs.Document.{string_at, array_at, optional_array_at, item_count};
 
-use super::place::Place;
+use super::place::FaultLocation;
 use faults::{PlanCause, PlanFault};
 use std::alloc::Global;
 use toml::Value;
@@ -20,13 +20,17 @@ pub fn read_document(alloc: Global, text: &[u8]) -> Result<Value, PlanFault>
 {
     match toml::table_from_slice(alloc, text) {
         Ok(members) => Ok(Value::Table(members)),
-        Err(fault) if fault.is_memory() => Err(Place::TEXT.fault(PlanCause::OutOfMemory)),
-        Err(_) => Err(Place::TEXT.fault(PlanCause::Toml)),
+        Err(fault) if fault.is_memory() => Err(FaultLocation::TEXT.fault(PlanCause::OutOfMemory)),
+        Err(_) => Err(FaultLocation::TEXT.fault(PlanCause::Toml)),
     }
 }
 
 /// Returns the value at a required key. An entry that is not a table has the wrong type.
-pub fn required<'a>(entry: &'a Value, key: &str, place: Place) -> Result<&'a Value, PlanFault>
+pub fn required_value<'a>(
+    entry: &'a Value,
+    key: &str,
+    place: FaultLocation,
+) -> Result<&'a Value, PlanFault>
     ensures ok { IfOk result (λ value. get key.now (view entry.now) ≡ Some (view value.now)) }
     ensures refused { OnErr result (get key.now (view entry.now) ≡ None) }
 {
@@ -38,16 +42,20 @@ pub fn required<'a>(entry: &'a Value, key: &str, place: Place) -> Result<&'a Val
 }
 
 /// Returns the string at a required key.
-pub fn required_text<'a>(entry: &'a Value, key: &str, place: Place) -> Result<&'a str, PlanFault>
+pub fn required_text<'a>(
+    entry: &'a Value,
+    key: &str,
+    place: FaultLocation,
+) -> Result<&'a str, PlanFault>
     ensures ok { IfOk result (λ text. string_at key.now (view entry.now) ≡ Some text.now) }
     ensures refused { OnErr result (string_at key.now (view entry.now) ≡ None) }
 {
-    let value = required(entry, key, place)?;
+    let value = required_value(entry, key, place)?;
     text_of(value, place)
 }
 
 /// Returns the text of a value that must be a string.
-pub fn text_of(value: &Value, place: Place) -> Result<&str, PlanFault>
+pub fn text_of(value: &Value, place: FaultLocation) -> Result<&str, PlanFault>
     ensures ok { IfOk result (λ text. as_str (view value.now) ≡ Some text.now) }
     ensures refused { OnErr result (as_str (view value.now) ≡ None) }
 {
@@ -61,13 +69,13 @@ pub fn text_of(value: &Value, place: Place) -> Result<&str, PlanFault>
 pub fn required_array<'a>(
     entry: &'a Value,
     key: &str,
-    place: Place,
+    place: FaultLocation,
 ) -> Result<&'a [Value], PlanFault>
     ensures ok { IfOk result (λ items. array_at key.now (view entry.now)
         ≡ Some (items_view items.now)) }
     ensures refused { OnErr result (array_at key.now (view entry.now) ≡ None) }
 {
-    let value = required(entry, key, place)?;
+    let value = required_value(entry, key, place)?;
     match value.as_array() {
         Some(items) => Ok(items.as_slice()),
         None => Err(place.fault(PlanCause::Kind)),
@@ -85,13 +93,13 @@ pub fn optional_array<'a>(document: &'a Value, key: &str) -> Result<&'a [Value],
         None => Ok(&[]),
         Some(value) => match value.as_array() {
             Some(items) => Ok(items.as_slice()),
-            None => Err(Place::TEXT.fault(PlanCause::Kind)),
+            None => Err(FaultLocation::TEXT.fault(PlanCause::Kind)),
         },
     }
 }
 
 /// Requires at most `limit` items; `place` is the location of the first item over the limit.
-pub fn check_count(items: &[Value], limit: usize, place: Place) -> Result<(), PlanFault>
+pub fn check_count(items: &[Value], limit: usize, place: FaultLocation) -> Result<(), PlanFault>
     ensures ok { OnOk result (item_count (items_view items.now) ≤ limit) }
     ensures refused { OnErr result (¬ (item_count (items_view items.now) ≤ limit)) }
 {

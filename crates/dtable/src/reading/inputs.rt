@@ -11,7 +11,7 @@ use super::document::{check_count, required_array};
 use super::limits::INPUTS_LIMIT;
 use super::literals::read_cell_entry;
 use super::names::read_name;
-use super::place::Place;
+use super::place::FaultLocation;
 use super::scope::{kind_at, origin_of};
 use crate::table::{Input, InputData, Origin, Table};
 use faults::{PlanCause, PlanFault};
@@ -25,7 +25,7 @@ pub fn read_inputs(
     table: &Value,
     names: &[InputData],
     tables: &[Table],
-    place: Place,
+    place: FaultLocation,
 ) -> Result<Sequence<Input>, PlanFault>
     ensures { Reads (AreInputs names.now (map seen_of tables.now) (view table.now)) result }
 {
@@ -47,7 +47,7 @@ fn read_input(
     entry: &Value,
     names: &[InputData],
     tables: &[Table],
-    place: Place,
+    place: FaultLocation,
 ) -> Result<Input, PlanFault>
     ensures { Reads (IsInput names.now (map seen_of tables.now) (view entry.now)) result }
 {
@@ -69,7 +69,7 @@ fn read_values(
     names: &[InputData],
     tables: &[Table],
     origin: Origin,
-    place: Place,
+    place: FaultLocation,
 ) -> Result<Option<Cell>, PlanFault>
     ensures { Reads (Optionally (IsCell names.now (map seen_of tables.now) origin)
         (get (codes "values") (view entry.now))) result }
@@ -90,7 +90,7 @@ pub fn read_input_cell(
     names: &[InputData],
     tables: &[Table],
     origin: Origin,
-    place: Place,
+    place: FaultLocation,
 ) -> Result<Cell, PlanFault>
     ensures { Reads (IsCell names.now (map seen_of tables.now) origin (view entry.now)) result }
 {

@@ -5,7 +5,7 @@ ghost use Rattle.dtable.specs.PlanFile.{IsCellOf, IsLiteral};
 ghost use Rattle.dtable.specs.Reading.{Reads};
 
 use super::document::text_of;
-use super::place::Place;
+use super::place::FaultLocation;
 use faults::PlanFault;
 use feel_tests::{Cell, Kind, Value as Literal, read_cell, read_value};
 use std::alloc::Global;
@@ -16,7 +16,7 @@ pub fn read_cell_entry(
     alloc: Global,
     entry: &Value,
     kind: Kind,
-    place: Place,
+    place: FaultLocation,
 ) -> Result<Cell, PlanFault>
     ensures { Reads (IsCellOf kind (view entry.now)) result }
 {
@@ -32,7 +32,7 @@ pub fn read_literal_entry(
     alloc: Global,
     entry: &Value,
     kind: Kind,
-    place: Place,
+    place: FaultLocation,
 ) -> Result<Literal, PlanFault>
     ensures { Reads (IsLiteral kind (view entry.now)) result }
 {

@@ -8,7 +8,7 @@ ghost use Rattle.dtable.specs.Scope.{data_names};
 
 use super::document::{check_count, optional_array, required_text};
 use super::limits::FIELDS_LIMIT;
-use super::place::Place;
+use super::place::FaultLocation;
 use super::scope::is_taken_field;
 use crate::name::{NAME_LIMIT_BYTES, Name};
 use crate::plan::all_names;
@@ -51,7 +51,7 @@ fn read_fields(
     check_count(
         entries,
         FIELDS_LIMIT,
-        Place::TEXT.in_column(FIELDS_LIMIT + 1),
+        FaultLocation::TEXT.in_column(FIELDS_LIMIT + 1),
     )?;
     let mut fields = Sequence::new(alloc);
     for (index, entry) in entries.iter().enumerate() {
@@ -60,7 +60,7 @@ fn read_fields(
             families,
             entry,
             fields.as_slice(),
-            Place::TEXT.in_column(index + 1),
+            FaultLocation::TEXT.in_column(index + 1),
         )?;
         fields.push(field)?;
     }
@@ -72,7 +72,7 @@ fn read_field(
     families: bool,
     entry: &Value,
     front: &[InputData],
-    place: Place,
+    place: FaultLocation,
 ) -> Result<InputData, PlanFault>
     ensures { Reads (IsField (names_taken families ++ data_names front.now)
         (view entry.now)) result }
@@ -87,7 +87,7 @@ fn read_field_name(
     families: bool,
     entry: &Value,
     front: &[InputData],
-    place: Place,
+    place: FaultLocation,
 ) -> Result<Name, PlanFault>
     ensures { Reads (IsNewlyNamed (names_taken families ++ data_names front.now)
         (view entry.now)) result }
@@ -100,7 +100,7 @@ fn read_field_name(
 }
 
 /// Reads the name of an entry.
-pub fn read_name(alloc: Global, entry: &Value, place: Place) -> Result<Name, PlanFault>
+pub fn read_name(alloc: Global, entry: &Value, place: FaultLocation) -> Result<Name, PlanFault>
     ensures { Reads (IsNamed (view entry.now)) result }
 {
     let text = required_text(entry, "name", place)?;
@@ -114,7 +114,7 @@ pub fn read_name(alloc: Global, entry: &Value, place: Place) -> Result<Name, Pla
 }
 
 /// Reads the kind of an entry.
-pub fn read_kind(entry: &Value, place: Place) -> Result<Kind, PlanFault>
+pub fn read_kind(entry: &Value, place: FaultLocation) -> Result<Kind, PlanFault>
     ensures { Reads (IsOfKind (view entry.now)) result }
 {
     match required_text(entry, "kind", place)? {

@@ -11,10 +11,10 @@ use super::document::{check_count, required_array};
 use super::limits::{OUTPUTS_LIMIT, PRIORITY_LIMIT};
 use super::literals::read_literal_entry;
 use super::names::{read_kind, read_name};
-use super::place::Place;
+use super::place::FaultLocation;
 use super::scope::is_taken_output;
-use crate::demands::is_listed;
 use crate::hit::Hit;
+use crate::hit_constraints::is_listed;
 use crate::name::Name;
 use crate::table::{Input, InputData, Output, Table};
 use faults::{PlanCause, PlanFault};
@@ -30,7 +30,7 @@ pub fn read_outputs(
     names: &[InputData],
     tables: &[Table],
     inputs: &[Input],
-    place: Place,
+    place: FaultLocation,
 ) -> Result<Sequence<Output>, PlanFault>
     ensures { Reads (AreOutputs hit (taken_names names.now (map seen_of tables.now))
         (view table.now)) result }
@@ -60,7 +60,7 @@ fn read_output(
     names: &[InputData],
     tables: &[Table],
     front: &[Output],
-    place: Place,
+    place: FaultLocation,
 ) -> Result<Output, PlanFault>
     ensures { Reads (IsOutput hit (taken_names names.now (map seen_of tables.now)
         ++ output_names front.now) (view entry.now)) result }
@@ -68,7 +68,7 @@ fn read_output(
     let name = read_new_name(alloc, entry, names, tables, front, place)?;
     let kind = read_kind(entry, place)?;
     let priority = read_priority(alloc, entry, kind, place)?;
-    let fallback = read_fallback(alloc, entry, hit.seen_kind(kind), place)?;
+    let fallback = read_fallback(alloc, entry, hit.read_kind_of(kind), place)?;
     Ok(Output {
         name,
         kind,
@@ -83,7 +83,7 @@ fn read_new_name(
     names: &[InputData],
     tables: &[Table],
     front: &[Output],
-    place: Place,
+    place: FaultLocation,
 ) -> Result<Name, PlanFault>
     ensures { Reads (IsNewlyNamed (taken_names names.now (map seen_of tables.now)
         ++ output_names front.now) (view entry.now)) result }
@@ -99,7 +99,7 @@ fn read_fallback(
     alloc: Global,
     entry: &Value,
     kind: Kind,
-    place: Place,
+    place: FaultLocation,
 ) -> Result<Option<Literal>, PlanFault>
     ensures { Reads (Optionally (IsLiteral kind) (get (codes "default") (view entry.now))) result }
 {
@@ -116,7 +116,7 @@ fn read_priority(
     alloc: Global,
     entry: &Value,
     kind: Kind,
-    place: Place,
+    place: FaultLocation,
 ) -> Result<Option<Sequence<Literal>>, PlanFault>
     ensures { Reads (Optionally (ArePriorities kind)
         (get (codes "priority") (view entry.now))) result }
@@ -134,7 +134,7 @@ fn read_priorities(
     alloc: Global,
     array: &Value,
     kind: Kind,
-    place: Place,
+    place: FaultLocation,
 ) -> Result<Sequence<Literal>, PlanFault>
     ensures { Reads (ArePriorities kind (view array.now)) result }
 {
@@ -148,7 +148,7 @@ fn read_priority_entries(
     alloc: Global,
     entries: &[Value],
     kind: Kind,
-    place: Place,
+    place: FaultLocation,
 ) -> Result<Sequence<Literal>, PlanFault>
     ensures { Reads (ArePriorityEntries kind (items_view entries.now)) result }
 {
@@ -168,7 +168,7 @@ fn read_priority_entry(
     entry: &Value,
     front: &[Literal],
     kind: Kind,
-    place: Place,
+    place: FaultLocation,
 ) -> Result<Literal, PlanFault>
     ensures { Reads (IsPriority kind front.now (view entry.now)) result }
 {

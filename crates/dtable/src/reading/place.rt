@@ -8,36 +8,36 @@ use std::alloc::AllocError;
 /// The location of a fault. Tables, rules and columns are numbered from 1, and 0 means that the
 /// fault is in none.
 #[derive(Clone, Copy)]
-pub struct Place {
+pub struct FaultLocation {
     pub table: usize,
     pub rule: usize,
     pub column: usize,
 }
 
-impl Place {
+impl FaultLocation {
     /// The location of a fault that is in no table, rule or column.
-    pub const TEXT: Place = Place {
+    pub const TEXT: FaultLocation = FaultLocation {
         table: 0,
         rule: 0,
         column: 0,
     };
 
-    pub fn in_table(self, table: usize) -> Place
+    pub fn in_table(self, table: usize) -> FaultLocation
         ensures { result ≡ record self { table = table } }
     {
-        Place { table, ..self }
+        FaultLocation { table, ..self }
     }
 
-    pub fn in_rule(self, rule: usize) -> Place
+    pub fn in_rule(self, rule: usize) -> FaultLocation
         ensures { result ≡ record self { rule = rule } }
     {
-        Place { rule, ..self }
+        FaultLocation { rule, ..self }
     }
 
-    pub fn in_column(self, column: usize) -> Place
+    pub fn in_column(self, column: usize) -> FaultLocation
         ensures { result ≡ record self { column = column } }
     {
-        Place { column, ..self }
+        FaultLocation { column, ..self }
     }
 
     pub fn fault(self, cause: PlanCause) -> PlanFault

@@ -13,7 +13,7 @@ ghost use Rattle.dtable.specs.Reading.{Reads};
 ghost use Rattle.dtable.specs.RoleFile.{AreBenefits, AreFamilyRoles, AreLimits, AreRoles, AreRemarks, AreShares, IsRole, IsSource, IsNamedSource, IsLiteralSource, Meets, asked_kind, lists_texts};
 ghost use Rattle.dtable.specs.Scope.{seen_of};
 
-use super::place::Place;
+use super::place::FaultLocation;
 use super::scope::{kind_at, origin_of};
 use crate::name::Name;
 use crate::roles::{FamilyRoles, Roles, Source};
@@ -25,7 +25,7 @@ use toml::Value;
 
 /// The requirement on a role's value.
 #[derive(Clone, Copy)]
-pub enum Asked {
+pub enum RoleKind {
     /// The value must be a flag.
     Flag,
     /// The value must be an amount of money, which is not negative.
@@ -65,7 +65,7 @@ fn read_role_table(
     ensures { Reads (AreRoles families names.now (map seen_of tables.now) (view roles.now)) result }
 {
     if !roles.is_table() {
-        return Err(Place::TEXT.fault(PlanCause::Kind));
+        return Err(FaultLocation::TEXT.fault(PlanCause::Kind));
     }
     let table = RoleTable {
         roles,
@@ -74,7 +74,7 @@ fn read_role_table(
     };
     let benefits = read_benefits(alloc, &table)?;
     let shares = read_shares(alloc, &table)?;
-    let remarks = read_remarks(alloc, roles, tables, Place::TEXT.in_column(7))?;
+    let remarks = read_remarks(alloc, roles, tables, FaultLocation::TEXT.in_column(7))?;
     let family = read_family_roles(alloc, &table, families)?;
     Ok(Roles {
         cover: benefits.0,
@@ -92,9 +92,9 @@ fn read_benefits(alloc: Global, table: &RoleTable) -> Result<(Source, Source, So
     ensures { Reads (λ read. AreBenefits table.now.names.now (map seen_of table.now.tables.now)
         (view table.now.roles.now) read.0 read.1 read.2) result }
 {
-    let cover = table.read(alloc, "cover", Asked::Flag, 1)?;
-    let fee = table.read(alloc, "fee", Asked::Money, 2)?;
-    let deductible = table.read(alloc, "deductible", Asked::Money, 3)?;
+    let cover = table.read(alloc, "cover", RoleKind::Flag, 1)?;
+    let fee = table.read(alloc, "fee", RoleKind::Money, 2)?;
+    let deductible = table.read(alloc, "deductible", RoleKind::Money, 3)?;
     Ok((cover, fee, deductible))
 }
 
@@ -102,9 +102,9 @@ fn read_shares(alloc: Global, table: &RoleTable) -> Result<(Source, Source, Sour
     ensures { Reads (λ read. AreShares table.now.names.now (map seen_of table.now.tables.now)
         (view table.now.roles.now) read.0 read.1 read.2) result }
 {
-    let copay = table.read(alloc, "copay", Asked::Money, 4)?;
-    let rate = table.read(alloc, "rate", Asked::Rate, 5)?;
-    let oop_max = table.read(alloc, "oop_max", Asked::Money, 6)?;
+    let copay = table.read(alloc, "copay", RoleKind::Money, 4)?;
+    let rate = table.read(alloc, "rate", RoleKind::Rate, 5)?;
+    let oop_max = table.read(alloc, "oop_max", RoleKind::Money, 6)?;
     Ok((copay, rate, oop_max))
 }
 
@@ -129,8 +129,8 @@ fn read_limits(alloc: Global, table: &RoleTable) -> Result<FamilyRoles, PlanFaul
     ensures { Reads (AreLimits table.now.names.now (map seen_of table.now.tables.now)
         (view table.now.roles.now)) result }
 {
-    let deductible = table.read(alloc, "family_deductible", Asked::Money, 8)?;
-    let oop_max = table.read(alloc, "family_oop_max", Asked::Money, 9)?;
+    let deductible = table.read(alloc, "family_deductible", RoleKind::Money, 8)?;
+    let oop_max = table.read(alloc, "family_oop_max", RoleKind::Money, 9)?;
     Ok(FamilyRoles {
         deductible,
         oop_max,
@@ -151,13 +151,13 @@ impl RoleTable<'_> {
         &self,
         alloc: Global,
         key: &str,
-        asked: Asked,
+        asked: RoleKind,
         column: usize,
     ) -> Result<Source, PlanFault>
         ensures { Reads (IsRole self.now.names.now (map seen_of self.now.tables.now) asked key.now
             (view self.now.roles.now)) result }
     {
-        let place = Place::TEXT.in_column(column);
+        let place = FaultLocation::TEXT.in_column(column);
         match text_at(self.roles, key) {
             Some(text) => read_source(alloc, text, asked, self.names, self.tables, place),
             None => Err(place.fault(PlanCause::Role)),
@@ -178,10 +178,10 @@ fn text_at<'a>(entry: &'a Value, key: &str) -> Option<&'a str>
 fn read_source(
     alloc: Global,
     text: &str,
-    asked: Asked,
+    asked: RoleKind,
     names: &[InputData],
     tables: &[Table],
-    place: Place,
+    place: FaultLocation,
 ) -> Result<Source, PlanFault>
     ensures { Reads (IsSource names.now (map seen_of tables.now) asked text.now) result }
 {
@@ -197,7 +197,11 @@ fn read_source(
 }
 
 /// Returns the literal as a source if it meets the requirement.
-fn literal_source(value: Literal, asked: Asked, place: Place) -> Result<Source, PlanFault>
+fn literal_source(
+    value: Literal,
+    asked: RoleKind,
+    place: FaultLocation,
+) -> Result<Source, PlanFault>
     ensures ok { IfOk result (λ source. source ≡ Source.Literal value) }
     ensures meets { OnOk result (Meets asked value) }
     ensures refused { OnErr result (¬ Meets asked value) }
@@ -216,7 +220,7 @@ fn read_named(
     kind: Kind,
     names: &[InputData],
     tables: &[Table],
-    place: Place,
+    place: FaultLocation,
 ) -> Result<Source, PlanFault>
     ensures { Reads (IsNamedSource names.now (map seen_of tables.now) kind text.now) result }
 {
@@ -246,7 +250,7 @@ fn read_remarks(
     alloc: Global,
     roles: &Value,
     tables: &[Table],
-    place: Place,
+    place: FaultLocation,
 ) -> Result<Option<Name>, PlanFault>
     ensures { Reads (Optionally (AreRemarks (map seen_of tables.now))
         (get (codes "remarks") (view roles.now))) result }
@@ -264,7 +268,7 @@ fn read_remarks_name(
     alloc: Global,
     entry: &Value,
     tables: &[Table],
-    place: Place,
+    place: FaultLocation,
 ) -> Result<Name, PlanFault>
     ensures { Reads (AreRemarks (map seen_of tables.now) (view entry.now)) result }
 {
@@ -307,14 +311,14 @@ fn is_text(kind: Kind) -> bool
     matches!(kind, Kind::Text)
 }
 
-impl Asked {
+impl RoleKind {
     fn kind(self) -> Kind
         ensures { result ≡ asked_kind self }
     {
         match self {
-            Asked::Flag => Kind::Flag,
-            Asked::Money => Kind::Number,
-            Asked::Rate => Kind::Number,
+            RoleKind::Flag => Kind::Flag,
+            RoleKind::Money => Kind::Number,
+            RoleKind::Rate => Kind::Number,
         }
     }
 
@@ -322,9 +326,9 @@ impl Asked {
         ensures { IsTrue result ↔ Meets self value.now }
     {
         match (self, value) {
-            (Asked::Flag, _) => true,
-            (Asked::Money, Literal::Number(number)) => number.is_money(),
-            (Asked::Rate, Literal::Number(number)) => number.is_rate(),
+            (RoleKind::Flag, _) => true,
+            (RoleKind::Money, Literal::Number(number)) => number.is_money(),
+            (RoleKind::Rate, Literal::Number(number)) => number.is_rate(),
             _ => false,
         }
     }

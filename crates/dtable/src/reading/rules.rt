@@ -11,8 +11,8 @@ use super::document::{check_count, required_array};
 use super::inputs::read_input_cell;
 use super::limits::RULES_LIMIT;
 use super::literals::read_literal_entry;
-use super::place::Place;
-use crate::demands::is_ranked;
+use super::place::FaultLocation;
+use crate::hit_constraints::is_ranked;
 use crate::table::{Input, InputData, Output, Rule, Table};
 use faults::{PlanCause, PlanFault};
 use feel_tests::{Cell, Sequence, Value as Literal, text_spells_at_most_one_value};
@@ -27,7 +27,7 @@ pub fn read_rules(
     tables: &[Table],
     inputs: &[Input],
     outputs: &[Output],
-    place: Place,
+    place: FaultLocation,
 ) -> Result<Sequence<Rule>, PlanFault>
     ensures { Reads (AreRules names.now (map seen_of tables.now) inputs.now outputs.now
         (view table.now)) result }
@@ -57,7 +57,7 @@ fn read_rule(
     tables: &[Table],
     inputs: &[Input],
     outputs: &[Output],
-    place: Place,
+    place: FaultLocation,
 ) -> Result<Rule, PlanFault>
     ensures { Reads (IsRule names.now (map seen_of tables.now) inputs.now outputs.now
         (view entry.now)) result }
@@ -73,7 +73,7 @@ fn read_when(
     names: &[InputData],
     tables: &[Table],
     inputs: &[Input],
-    place: Place,
+    place: FaultLocation,
 ) -> Result<Sequence<Cell>, PlanFault>
     ensures { Reads (IsRow (IsCellUnder names.now (map seen_of tables.now)) inputs.now
         (codes "when") (view rule.now)) result }
@@ -102,7 +102,7 @@ fn read_then(
     rule: &Value,
     inputs: &[Input],
     outputs: &[Output],
-    place: Place,
+    place: FaultLocation,
 ) -> Result<Sequence<Literal>, PlanFault>
     ensures { Reads (IsRow IsEntry outputs.now (codes "then") (view rule.now)) result }
 {
@@ -121,7 +121,7 @@ fn required_row<'a>(
     rule: &'a Value,
     key: &str,
     columns: usize,
-    place: Place,
+    place: FaultLocation,
 ) -> Result<&'a [Value], PlanFault>
     ensures ok { IfOk result (λ items. array_at key.now (view rule.now)
         ≡ Some (items_view items.now)) }
@@ -140,7 +140,7 @@ fn read_then_entry(
     alloc: Global,
     entry: &Value,
     output: &Output,
-    place: Place,
+    place: FaultLocation,
 ) -> Result<Literal, PlanFault>
     ensures { Reads (IsEntry output.now (view entry.now)) result }
 {

@@ -62,7 +62,7 @@ fn column_kind(table: &Table, column: usize) -> Option<Kind>
     ensures { result ≡ option_map (λ o. o.kind) (slice_get (seen_of table.now) column) }
 {
     match table.outputs.as_slice().get(column) {
-        Some(output) => Some(table.hit.seen_kind(output.kind)),
+        Some(output) => Some(table.hit.read_kind_of(output.kind)),
         None => None,
     }
 }

@@ -10,10 +10,10 @@ use super::document::{check_count, optional_array, text_of};
 use super::inputs::read_inputs;
 use super::limits::TABLES_LIMIT;
 use super::outputs::read_outputs;
-use super::place::Place;
+use super::place::FaultLocation;
 use super::rules::read_rules;
-use crate::demands::meets_demands;
 use crate::hit::Hit;
+use crate::hit_constraints::satisfies_constraints;
 use crate::table::{InputData, Table};
 use faults::{PlanCause, PlanFault};
 use feel_tests::{Sequence, text_spells_at_most_one_cell, text_spells_at_most_one_value};
@@ -42,7 +42,7 @@ fn read_table_entries(
     check_count(
         entries,
         TABLES_LIMIT,
-        Place::TEXT.in_table(TABLES_LIMIT + 1),
+        FaultLocation::TEXT.in_table(TABLES_LIMIT + 1),
     )?;
     // proof: a text denotes at most one value, so a refused text denotes none
     text_spells_at_most_one_value();
@@ -53,7 +53,7 @@ fn read_table_entries(
             entry,
             names,
             tables.as_slice(),
-            Place::TEXT.in_table(index + 1),
+            FaultLocation::TEXT.in_table(index + 1),
         )?;
         tables.push(table)?;
     }
@@ -65,7 +65,7 @@ fn read_table(
     entry: &Value,
     names: &[InputData],
     front: &[Table],
-    place: Place,
+    place: FaultLocation,
 ) -> Result<Table, PlanFault>
     ensures { Reads (IsTable names.now (map seen_of front.now) (view entry.now)) result }
 {
@@ -75,8 +75,8 @@ fn read_table(
     let hit = read_hit(entry, place)?;
     let inputs = read_inputs(alloc, entry, names, front, place)?;
     let outputs = read_outputs(alloc, entry, hit, names, front, inputs.as_slice(), place)?;
-    if !meets_demands(hit, outputs.as_slice()) {
-        return Err(place.fault(unmet(hit)));
+    if !satisfies_constraints(hit, outputs.as_slice()) {
+        return Err(place.fault(violated_constraint(hit)));
     }
     let rules = read_rules(
         alloc,
@@ -95,7 +95,7 @@ fn read_table(
     })
 }
 
-fn read_hit(table: &Value, place: Place) -> Result<Hit, PlanFault>
+fn read_hit(table: &Value, place: FaultLocation) -> Result<Hit, PlanFault>
     ensures { Reads (IsHit (get (codes "hit") (view table.now))) result }
 {
     match table.get("hit") {
@@ -104,7 +104,7 @@ fn read_hit(table: &Value, place: Place) -> Result<Hit, PlanFault>
     }
 }
 
-fn read_hit_word(word: &Value, place: Place) -> Result<Hit, PlanFault>
+fn read_hit_word(word: &Value, place: FaultLocation) -> Result<Hit, PlanFault>
     ensures { Reads (IsHitWord (view word.now)) result }
 {
     match hit_of(text_of(word, place)?) {
@@ -134,7 +134,7 @@ fn hit_of(word: &str) -> Option<Hit>
 }
 
 /// Returns the cause of the fault if the outputs violate the constraints of the hit policy.
-fn unmet(hit: Hit) -> PlanCause {
+fn violated_constraint(hit: Hit) -> PlanCause {
     match hit {
         Hit::P | Hit::O => PlanCause::Priority,
         _ => PlanCause::Hit,

@@ -13,12 +13,12 @@ use std::marker::Model;
 
 /// A line so far: bytes, of which there is room for `LINE_LIMIT_BYTES`.
 #[derive(Drop)]
-pub struct Line {
+pub struct ErrorLine {
     bytes: [u8; LINE_LIMIT_BYTES],
     length: usize,
 }
 
-impl Model for Line {
+impl Model for ErrorLine {
     ghost use Rattle.std.specs.Prelude.{List, ℕ, ◌≤◌, take};
     ghost use Rattle.faults.specs.declared.refusal.TheConstants.{LINE_LIMIT_BYTES};
 
@@ -29,12 +29,12 @@ impl Model for Line {
     ghost invariant = { λ line. line.length ≤ LINE_LIMIT_BYTES };
 }
 
-impl Line {
+impl ErrorLine {
     /// A line without bytes.
     pub fn new() -> Self
         ensures { result ≡ [] }
     {
-        Line {
+        ErrorLine {
             bytes: [0; LINE_LIMIT_BYTES],
             length: 0,
         }

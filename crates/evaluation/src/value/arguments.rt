@@ -69,7 +69,7 @@ fn split_argument(argument: &str) -> Option<(&str, &str)>
 
 // The input data with this name, and its place.
 fn data_named<'a>(names: &'a [InputData], name: &str) -> Option<(usize, &'a InputData)>
-    ensures standing { IfSome result (λ found. slice_get names.now found.0 ≡ Some found.1.now) }
+    ensures present { IfSome result (λ found. slice_get names.now found.0 ≡ Some found.1.now) }
     ensures named { IfSome result (λ found. found.1.now.name ≡ name.now) }
     ensures unknown { IfNone result (¬ Contains (data_names names.now) name.now) }
 {

@@ -132,11 +132,11 @@ fn is_read_as(rt: &impl Abort, alloc: Global, kind: Kind, literal: &str, value: 
 // Returns whether the literal of a value is appended to a text. If memory runs out, the text must
 // be unchanged, and the call is repeated.
 fn is_written(rt: &impl Abort, alloc: Global, value: &Value, wanted: &str) -> bool {
-    let mut out = begun(rt, alloc);
+    let mut out = begin_text(rt, alloc);
     if value.write_text(&mut out).is_err() {
         write_again(rt, value, &mut out);
     }
-    is_behind(out, wanted)
+    is_after(out, wanted)
 }
 
 fn write_again(rt: &impl Abort, value: &Value, out: &mut Vec<u8>) {
@@ -144,11 +144,11 @@ fn write_again(rt: &impl Abort, value: &Value, out: &mut Vec<u8>) {
     value.write_text(out).expect(rt, "memory for a literal");
 }
 
-fn is_behind(out: Vec<u8>, wanted: &str) -> bool {
+fn is_after(out: Vec<u8>, wanted: &str) -> bool {
     out.as_slice().strip_prefix(b"x = ") == Some(wanted.as_bytes())
 }
 
-fn begun(rt: &impl Abort, alloc: Global) -> Vec<u8> {
+fn begin_text(rt: &impl Abort, alloc: Global) -> Vec<u8> {
     match Vec::from_slice(alloc, b"x = ") {
         Ok(out) => out,
         Err(_) => Vec::from_slice(alloc, b"x = ").expect(rt, "memory for a text"),
@@ -353,9 +353,9 @@ fn faults_have_numbers(rt: HostRuntime) {
 }
 
 #[test]
-fn faults_are_told(rt: HostRuntime) {
+fn faults_are_reported(rt: HostRuntime) {
     let cause = CellCause::BadDate;
-    let told = format!(in rt.alloc(); "{}", CellFault { at: 17, cause }).expect(&rt, "memory");
+    let reported = format!(in rt.alloc(); "{}", CellFault { at: 17, cause }).expect(&rt, "memory");
     let wanted = "bad date at byte 17";
-    expects(&rt, told.as_str() == wanted, wanted);
+    expects(&rt, reported.as_str() == wanted, wanted);
 }

@@ -1,7 +1,7 @@
 //! Long texts: strings and lists at their limits and beyond, and the longest cell, which is `not(`,
 //! 64 strings of 256 bytes with commas between them, and `)`. Each prefix of the longest cell is
 //! read too; the prefixes shorter than `not(` are in the table of cells.
-use super::{cell_of, fault_of, field_fault_of, plain_of, repeated};
+use super::{cell_of, fault_of, field_fault_of, plain_of, repeat_test};
 use crate::ending::{expects, expects_at};
 use feel_tests::CellCause::{BadEscape, Literal, Token, TooMany, Trailing, WrongKind};
 use feel_tests::{
@@ -20,7 +20,7 @@ fn long_fault_of(
     times: usize,
     back: &str,
 ) -> Option<CellFault> {
-    let text = repeated(rt, alloc, front, piece, times, back);
+    let text = repeat_test(rt, alloc, front, piece, times, back);
     fault_of(alloc, kind, text.as_str())
 }
 
@@ -84,10 +84,10 @@ fn an_escape_counts_as_one_byte(rt: HostRuntime) {
 
 #[test]
 fn a_field_has_at_most_256_bytes(rt: HostRuntime) {
-    let most = repeated(&rt, rt.alloc(), "", "x", TEXT_LIMIT_BYTES, "");
+    let most = repeat_test(&rt, rt.alloc(), "", "x", TEXT_LIMIT_BYTES, "");
     let fault = field_fault_of(rt.alloc(), Kind::Text, most.as_str());
     expects(&rt, fault.is_none(), "a value");
-    let long = repeated(&rt, rt.alloc(), "", "x", 257, "");
+    let long = repeat_test(&rt, rt.alloc(), "", "x", 257, "");
     let fault = field_fault_of(rt.alloc(), Kind::Text, long.as_str());
     expects(&rt, fault == Some(PlainFault::Bad), "no value");
 }
@@ -97,9 +97,9 @@ fn a_field_has_at_most_256_bytes(rt: HostRuntime) {
 const STEP_BYTES: usize = TEXT_LIMIT_BYTES + 3;
 
 fn longest_cell(rt: &impl Abort, alloc: Global) -> String {
-    let last = repeated(rt, alloc, "\"", "x", TEXT_LIMIT_BYTES, "\")");
-    let string = repeated(rt, alloc, "\"", "x", TEXT_LIMIT_BYTES, "\",");
-    repeated(
+    let last = repeat_test(rt, alloc, "\"", "x", TEXT_LIMIT_BYTES, "\")");
+    let string = repeat_test(rt, alloc, "\"", "x", TEXT_LIMIT_BYTES, "\",");
+    repeat_test(
         rt,
         alloc,
         "not(",
@@ -112,7 +112,7 @@ fn longest_cell(rt: &impl Abort, alloc: Global) -> String {
 #[test]
 fn the_longest_cell_is_read(rt: HostRuntime) {
     let text = longest_cell(&rt, rt.alloc());
-    let field = repeated(&rt, rt.alloc(), "", "x", TEXT_LIMIT_BYTES, "");
+    let field = repeat_test(&rt, rt.alloc(), "", "x", TEXT_LIMIT_BYTES, "");
     let cell = cell_of(&rt, rt.alloc(), Kind::Text, text.as_str());
     let short = plain_of(&rt, rt.alloc(), Kind::Text, "x");
     let long = plain_of(&rt, rt.alloc(), Kind::Text, field.as_str());

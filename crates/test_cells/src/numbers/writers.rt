@@ -2,7 +2,7 @@
 ghost use Rattle.std.specs.Prelude.{◌<◌, length};
 
 use crate::ending::expects;
-use fixpoint::{Cut, Failed, HeldText, Out, put_all};
+use fixpoint::{BoundedBuffer, Failed, Out, ShortWrite, put_all};
 use std::alloc::Global;
 use std::io;
 use std::io::{ErrorKind, Write};
@@ -98,7 +98,7 @@ fn puts_text(
     rt: &impl Abort,
     out: &mut Out<Limited>,
     text: &[u8],
-    wanted: Result<(), Cut>,
+    wanted: Result<(), ShortWrite>,
     failed: bool,
 ) {
     expects(rt, put_all(text, out) == wanted, "the whole text or a cut");
@@ -109,9 +109,9 @@ fn put_texts_until_full(rt: &impl Abort, alloc: Global, when_full: WhenFull) {
     let mut out = Out::new(Limited::new(alloc, 5, when_full));
     puts_text(rt, &mut out, b"", Ok(()), false);
     puts_text(rt, &mut out, b"abcd", Ok(()), false);
-    puts_text(rt, &mut out, b"efg", Err(Cut { written: 1 }), true);
+    puts_text(rt, &mut out, b"efg", Err(ShortWrite { written: 1 }), true);
     puts_text(rt, &mut out, b"", Ok(()), true);
-    puts_text(rt, &mut out, b"fg", Err(Cut { written: 0 }), true);
+    puts_text(rt, &mut out, b"fg", Err(ShortWrite { written: 0 }), true);
     has_taken(rt, out, b"abcde");
 }
 
@@ -123,19 +123,19 @@ fn puts_a_text_until_the_writer_is_full(rt: HostRuntime) {
 
 // Tests one write into a bounded buffer: the number of bytes that it takes, or `None` if it takes
 // none.
-fn takes(rt: &impl Abort, held: &mut HeldText, piece: &[u8], wanted: Option<usize>) {
+fn takes(rt: &impl Abort, held: &mut BoundedBuffer, piece: &[u8], wanted: Option<usize>) {
     expects(rt, held.write(piece).ok() == wanted, "a count or none");
 }
 
 #[test]
 fn a_text_is_held_up_to_its_limit(rt: HostRuntime) {
-    let mut held = HeldText::new(rt.alloc(), 3);
+    let mut held = BoundedBuffer::new(rt.alloc(), 3);
     takes(&rt, &mut held, b"ab", Some(2));
     takes(&rt, &mut held, b"cd", None);
     takes(&rt, &mut held, b"c", Some(1));
     expects(&rt, is_held(held), "three bytes");
 }
 
-fn is_held(held: HeldText) -> bool {
+fn is_held(held: BoundedBuffer) -> bool {
     held.into_text().as_slice() == b"abc".as_slice()
 }

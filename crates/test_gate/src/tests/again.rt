@@ -3,7 +3,7 @@
 //! each of its allocations, with that allocation refused.
 ghost use Rattle.std.specs.Prelude.{◌≡◌, true, IfOk, IfErr, OnErr};
 ghost use Rattle.claim_gate.specs.Terms.{ForTerms};
-ghost use Rattle.journal.specs.Events.{taken, IsJob};
+ghost use Rattle.journal.specs.Events.{has_take, IsJob};
 ghost use Rattle.journal.specs.Gate.{LeadsTo};
 ghost use Rattle.journal.specs.Settled.{outcome_of};
 ghost use Rattle.claim_gate.specs.Replies.{HasClaims, IsFiled};
@@ -12,10 +12,10 @@ ghost use Rattle.test_gate.specs.Words.{IsTaken};
 use super::events::{Word, last_word};
 use super::expects;
 use claim_gate::{
-    Accepted, Counts, Decision, EndFault, Ended, FinishFault, GateState, Job, Offer, OfferFault,
-    Recorded, TakeFault, Taken,
+    Accepted, BoxedOutcome, Counts, EndFault, Ended, FinishFault, GateState, Job, Offer,
+    OfferFault, Recorded, TakeFault, Taken,
 };
-use journal::jobs_stay;
+use journal::jobs_are_stable;
 use settlement::Money;
 use std::alloc::Global;
 use std::process::Abort;
@@ -39,7 +39,7 @@ impl Mark {
     }
 
     // Ends the test if the gate has changed.
-    fn still_stands(&self, rt: &impl Abort, gate: &GateState) {
+    fn still_located(&self, rt: &impl Abort, gate: &GateState) {
         let journal = gate.journal();
         expects(rt, gate.counts() == self.counts, "the counts of before");
         expects(rt, journal.len() == self.length, "the journal of before");
@@ -52,7 +52,7 @@ pub fn is_at(offer: &Offer, provider: usize, place: usize) -> bool {
 }
 
 /// Returns whether a job and its outcome have this position and this paid amount.
-pub fn is_paid(job: &Job, outcome: &Decision, position: usize, paid: Money) -> bool {
+pub fn is_paid(job: &Job, outcome: &BoxedOutcome, position: usize, paid: Money) -> bool {
     job.position == position && outcome.outcome().paid == paid
 }
 
@@ -83,7 +83,7 @@ pub fn offer<'t>(
     match offer_once(gate, offer) {
         Ok(accepted) => Ok(accepted),
         Err((OfferFault::OutOfMemory, back)) => {
-            before.still_stands(rt, gate);
+            before.still_located(rt, gate);
             expects(rt, is_at(&back, provider, place), "the offer");
             offer_once(gate, back)
         }
@@ -116,7 +116,7 @@ pub fn end<'t>(
     let before = Mark::of(gate);
     match end_once(gate, provider, count) {
         Err(EndFault::OutOfMemory) => {
-            before.still_stands(rt, gate);
+            before.still_located(rt, gate);
             end_once(gate, provider, count)
         }
         Ok(ended) => Ok(ended),
@@ -129,7 +129,7 @@ pub fn take_once<'t>(gate: &mut GateState<'t>) -> Result<Taken, TakeFault>
     ensures leads { LeadsTo gate.old gate.new }
     ensures work { IfOk result (IsTaken gate.new) }
 {
-    jobs_stay();
+    jobs_are_stable();
     gate.take()
 }
 
@@ -141,7 +141,7 @@ pub fn take<'t>(rt: &impl Abort, gate: &mut GateState<'t>) -> Result<Taken, Take
     let before = Mark::of(gate);
     match take_once(gate) {
         Err(_) => {
-            before.still_stands(rt, gate);
+            before.still_located(rt, gate);
             take_once(gate)
         }
         Ok(taken) => Ok(taken),
@@ -152,9 +152,9 @@ pub fn take<'t>(rt: &impl Abort, gate: &mut GateState<'t>) -> Result<Taken, Take
 pub fn finish_once<'t>(
     gate: &mut GateState<'t>,
     job: Job,
-    outcome: Decision,
-) -> Result<Recorded, (FinishFault, Job, Decision)>
-    requires in_work { taken gate.old.journal job.position ≡ true }
+    outcome: BoxedOutcome,
+) -> Result<Recorded, (FinishFault, Job, BoxedOutcome)>
+    requires in_work { has_take gate.old.journal job.position ≡ true }
     requires job { ForTerms gate.old.terms (λ T. IsJob T gate.old.journal job.position job.claim job.acc) }
     requires settled { outcome ≡ outcome_of gate.old.terms.plan job.claim job.acc }
     ensures leads { LeadsTo gate.old gate.new }
@@ -169,9 +169,9 @@ pub fn finish<'t>(
     rt: &impl Abort,
     gate: &mut GateState<'t>,
     job: Job,
-    outcome: Decision,
-) -> Result<Recorded, (FinishFault, Job, Decision)>
-    requires in_work { taken gate.old.journal job.position ≡ true }
+    outcome: BoxedOutcome,
+) -> Result<Recorded, (FinishFault, Job, BoxedOutcome)>
+    requires in_work { has_take gate.old.journal job.position ≡ true }
     requires job { ForTerms gate.old.terms (λ T. IsJob T gate.old.journal job.position job.claim job.acc) }
     requires settled { outcome ≡ outcome_of gate.old.terms.plan job.claim job.acc }
     ensures leads { LeadsTo gate.old gate.new }
@@ -181,7 +181,7 @@ pub fn finish<'t>(
     match finish_once(gate, job, outcome) {
         Ok(recorded) => Ok(recorded),
         Err((FinishFault::OutOfMemory, job, outcome)) => {
-            before.still_stands(rt, gate);
+            before.still_located(rt, gate);
             let same = is_paid(&job, &outcome, position, paid);
             expects(rt, same, "the job and its outcome");
             finish_once(gate, job, outcome)

@@ -12,15 +12,15 @@ ghost use Rattle.test_gate.specs.Words.{IsAtWork, IsCaller, IsTaken};
 use super::again::{is_at, is_paid};
 use super::{expects, fail};
 use claim_gate::{
-    Accepted, Counts, Decision, EndFault, Ended, FinishFault, Gate, Job, Offer, OfferFault,
+    Accepted, BoxedOutcome, Counts, EndFault, Ended, FinishFault, Gate, Job, Offer, OfferFault,
     Recorded, TakeFault, Taken, Terms,
 };
-use journal::jobs_stay;
+use journal::jobs_are_stable;
 use std::process::Abort;
 use std::sync::Wait;
 
 // Checks that a refused call has not changed the counts of the gate.
-fn unchanged<G: Gate>(
+fn is_unchanged<G: Gate>(
     rt: &(impl Abort + Wait),
     terms: &Terms,
     gate: &G,
@@ -82,7 +82,7 @@ pub fn offer<G: Gate>(
         Err((fault, back)) => {
             expects(rt, fault == OfferFault::OutOfMemory, "no other fault");
             expects(rt, is_at(&back, provider, place), "the offer");
-            let pass = unchanged(rt, terms, gate, pass, before);
+            let pass = is_unchanged(rt, terms, gate, pass, before);
             offer_once(rt, terms, gate, pass, back)
         }
     }
@@ -100,7 +100,7 @@ pub fn take_once<G: Gate>(
     ensures leads { LeadsTo (G.known pass).seen (G.known result.1).seen }
     ensures work { IfOk result.0 (IsTaken (G.known result.1).seen) }
 {
-    jobs_stay();
+    jobs_are_stable();
     let _plan = terms.plan();
     match gate.take(rt, pass) {
         Ok(answer) => answer,
@@ -125,7 +125,7 @@ pub fn take<G: Gate>(
     match reply {
         Ok(taken) => (Ok(taken), pass),
         Err(_) => {
-            let pass = unchanged(rt, terms, gate, pass, before);
+            let pass = is_unchanged(rt, terms, gate, pass, before);
             take_once(rt, terms, gate, pass)
         }
     }
@@ -138,8 +138,8 @@ pub fn finish_once<G: Gate>(
     gate: &G,
     pass: G::Pass,
     job: Job,
-    outcome: Decision,
-) -> (Result<Recorded, (FinishFault, Job, Decision)>, G::Pass)
+    outcome: BoxedOutcome,
+) -> (Result<Recorded, (FinishFault, Job, BoxedOutcome)>, G::Pass)
     requires caller { IsCaller (G.has_pass gate.now) G.known terms.now pass }
     requires at_work { IsAtWork (G.known pass).seen job }
     requires settled { outcome ≡ outcome_of terms.now.plan job.claim job.acc }
@@ -161,16 +161,16 @@ pub fn finish<G: Gate>(
     gate: &G,
     pass: G::Pass,
     job: Job,
-    outcome: Decision,
+    outcome: BoxedOutcome,
     before: Counts,
-) -> (Result<Recorded, (FinishFault, Job, Decision)>, G::Pass)
+) -> (Result<Recorded, (FinishFault, Job, BoxedOutcome)>, G::Pass)
     requires caller { IsCaller (G.has_pass gate.now) G.known terms.now pass }
     requires at_work { IsAtWork (G.known pass).seen job }
     requires settled { outcome ≡ outcome_of terms.now.plan job.claim job.acc }
     ensures caller { IsCaller (G.has_pass gate.now) G.known terms.now result.1 }
     ensures leads { LeadsTo (G.known pass).seen (G.known result.1).seen }
 {
-    jobs_stay();
+    jobs_are_stable();
     let (position, paid) = (job.position, outcome.outcome().paid);
     let (reply, pass) = finish_once(rt, terms, gate, pass, job, outcome);
     match reply {
@@ -179,7 +179,7 @@ pub fn finish<G: Gate>(
             expects(rt, fault == FinishFault::OutOfMemory, "no other fault");
             let same = is_paid(&job, &outcome, position, paid);
             expects(rt, same, "the job and its outcome");
-            let pass = unchanged(rt, terms, gate, pass, before);
+            let pass = is_unchanged(rt, terms, gate, pass, before);
             finish_once(rt, terms, gate, pass, job, outcome)
         }
     }
@@ -226,7 +226,7 @@ pub fn end<G: Gate>(
         Ok(_) => pass,
         Err(fault) => {
             expects(rt, fault == EndFault::OutOfMemory, "no other fault");
-            let pass = unchanged(rt, terms, gate, pass, before);
+            let pass = is_unchanged(rt, terms, gate, pass, before);
             let (reply, pass) = end_once(rt, terms, gate, pass, provider, count);
             expects(rt, reply.is_ok(), "an end");
             pass

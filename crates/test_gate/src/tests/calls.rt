@@ -10,10 +10,10 @@ ghost use Rattle.test_gate.specs.Words.{IsAtWork, WorkStays};
 use super::filing::offer_at;
 use super::{again, expects, fail, is_nothing_ready, is_stopped};
 use claim_gate::{
-    Accepted, Decision, EndFault, FinishFault, GateState, Job, Offer, OfferFault, Recorded,
+    Accepted, BoxedOutcome, EndFault, FinishFault, GateState, Job, Offer, OfferFault, Recorded,
     TakeFault, Taken, Terms,
 };
-use journal::jobs_stay;
+use journal::jobs_are_stable;
 use settlement::{Acc, Claim, Outcome, decide};
 use std::alloc::{AllocError, Global};
 use std::process::Abort;
@@ -37,7 +37,7 @@ pub fn work_of(rt: &impl Abort, reply: Result<Taken, TakeFault>) -> Job
 }
 
 /// Returns whether an outcome was recorded.
-pub fn is_recorded(reply: Result<Recorded, (FinishFault, Job, Decision)>) -> bool {
+pub fn is_recorded(reply: Result<Recorded, (FinishFault, Job, BoxedOutcome)>) -> bool {
     reply.is_ok()
 }
 
@@ -55,7 +55,7 @@ pub fn accept_at<'t>(
     ensures terms { gate.new.terms ≡ terms.now }
     ensures stays { WorkStays gate.old gate.new }
 {
-    jobs_stay();
+    jobs_are_stable();
     let _plan = terms.plan();
     let offer = offer_at(rt, alloc, terms, provider, place);
     let accepted = is_accepted(again::offer(rt, gate, offer), position);
@@ -117,7 +117,7 @@ pub fn take_job<'t>(
     ensures stays { WorkStays gate.old gate.new }
     ensures at_work { IsAtWork gate.new result }
 {
-    jobs_stay();
+    jobs_are_stable();
     let _plan = terms.plan();
     let job = work_of(rt, again::take(rt, gate));
     expects(rt, job.position == position, "the job's position");
@@ -130,7 +130,7 @@ pub fn find_nothing<'t>(rt: &impl Abort, terms: &'t Terms<'t>, gate: &mut GateSt
     ensures terms { gate.new.terms ≡ terms.now }
     ensures stays { WorkStays gate.old gate.new }
 {
-    jobs_stay();
+    jobs_are_stable();
     let length = gate.journal().len();
     let reply = again::take(rt, gate);
     expects(rt, is_nothing_ready(reply), "nothing ready");
@@ -157,14 +157,14 @@ fn settled_once(
     alloc: Global,
     terms: &Terms,
     job: &Job,
-) -> Result<Decision, AllocError>
+) -> Result<BoxedOutcome, AllocError>
     ensures { IfOk result (λ outcome. outcome ≡ outcome_of terms.now.plan job.now.claim job.now.acc) }
 {
     let outcome = decide_once(rt, alloc, terms, job.claim.as_claim(), job.acc)?;
-    Ok(Decision::new(alloc, outcome)?)
+    Ok(BoxedOutcome::new(alloc, outcome)?)
 }
 
-pub fn settled(rt: &impl Abort, alloc: Global, terms: &Terms, job: &Job) -> Decision
+pub fn decide_job(rt: &impl Abort, alloc: Global, terms: &Terms, job: &Job) -> BoxedOutcome
     ensures { result ≡ outcome_of terms.now.plan job.now.claim job.now.acc }
 {
     match settled_once(rt, alloc, terms, job) {
@@ -186,8 +186,8 @@ pub fn record<'t>(
     ensures terms { gate.new.terms ≡ terms.now }
     ensures stays { WorkStays gate.old gate.new }
 {
-    jobs_stay();
-    let outcome = settled(rt, alloc, terms, &job);
+    jobs_are_stable();
+    let outcome = decide_job(rt, alloc, terms, &job);
     let reply = again::finish(rt, gate, job, outcome);
     expects(rt, is_recorded(reply), "a recorded outcome");
 }
@@ -201,13 +201,13 @@ pub fn refuse_outcome<'t>(
     gate: &mut GateState<'t>,
     job: Job,
     fault: FinishFault,
-) -> (Job, Decision)
+) -> (Job, BoxedOutcome)
     requires terms { gate.old.terms ≡ terms.now }
     requires at_work { IsAtWork gate.old job }
     ensures terms { gate.new.terms ≡ terms.now }
     ensures stays { WorkStays gate.old gate.new }
 {
-    let outcome = settled(rt, alloc, terms, &job);
+    let outcome = decide_job(rt, alloc, terms, &job);
     let length = gate.journal().len();
     match gate.finish(job, outcome) {
         Ok(_) => fail(rt, "a refusal"),
@@ -276,7 +276,7 @@ pub fn find_stopped<'t>(rt: &impl Abort, terms: &'t Terms<'t>, gate: &mut GateSt
     ensures terms { gate.new.terms ≡ terms.now }
     ensures stays { WorkStays gate.old gate.new }
 {
-    jobs_stay();
+    jobs_are_stable();
     let reply = again::take_once(gate);
     expects(rt, is_stopped(reply), "a stopped gate");
 }

@@ -16,7 +16,7 @@ use test_fixtures::{family_file, family_plan};
 
 // Returns whether the member and the family have met these amounts of their deductibles, and have
 // paid these amounts out of pocket.
-fn stands_at(acc: Acc, met: i64, fmet: i64, oop: i64, foop: i64) -> bool {
+fn is_located_at(acc: Acc, met: i64, fmet: i64, oop: i64, foop: i64) -> bool {
     acc.met.amount().units() == met
         && acc.fmet.amount().units() == fmet
         && acc.oop.amount().units() == oop
@@ -45,9 +45,9 @@ fn take_firsts<'t>(rt: &impl Abort, terms: &'t Terms<'t>, gate: &mut GateState<'
     let other = take_job(rt, terms, gate, 3);
     expects(rt, is_job(&first, 0, "e1"), "the first job");
     expects(rt, is_job(&other, 3, "e4"), "the other job");
-    expects(rt, stands_at(other.acc, 0, 0, 0, 0), "its accumulators");
+    expects(rt, is_located_at(other.acc, 0, 0, 0, 0), "its accumulators");
     drop(other);
-    alone(rt, terms, gate, first)
+    decide_alone(rt, terms, gate, first)
 }
 
 // Decides a claim, takes the next claim of its family, which is another member's, and checks the
@@ -71,14 +71,19 @@ fn go_on<'t>(
     let next = take_job(rt, terms, gate, position);
     expects(
         rt,
-        stands_at(next.acc, 0, fmet, 0, foop),
+        is_located_at(next.acc, 0, fmet, 0, foop),
         "its accumulators",
     );
-    alone(rt, terms, gate, next)
+    decide_alone(rt, terms, gate, next)
 }
 
 // Expects that no other claim may be taken while the job is in progress.
-fn alone<'t>(rt: &impl Abort, terms: &'t Terms<'t>, gate: &mut GateState<'t>, job: Job) -> Job
+fn decide_alone<'t>(
+    rt: &impl Abort,
+    terms: &'t Terms<'t>,
+    gate: &mut GateState<'t>,
+    job: Job,
+) -> Job
     requires terms { gate.old.terms ≡ terms.now }
     requires at_work { IsAtWork gate.old job }
     ensures terms { gate.new.terms ≡ terms.now }

@@ -6,7 +6,7 @@ ghost use Rattle.claim_gate.specs.Replies.{HasClaims, IsFiled};
 ghost use Rattle.test_gate.specs.Words.{IsReader};
 
 use super::fail;
-use claim_gate::{GateState, Offer, StoredClaim, Terms};
+use claim_gate::{BoxedClaim, GateState, Offer, Terms};
 use dtable::{Plan, read_plan};
 use intake_csv::{
     Row, Rows, given_row_is_the_first, no_records_give_no_rows, reader_begins_with_all_rows,
@@ -45,7 +45,7 @@ pub fn terms_of<'a>(
     terms
 }
 
-fn begun<'t>(alloc: Global, terms: &'t Terms<'t>) -> Result<GateState<'t>, AllocError>
+fn begin_gate<'t>(alloc: Global, terms: &'t Terms<'t>) -> Result<GateState<'t>, AllocError>
     ensures { IfOk result (λ gate. gate.terms ≡ terms.now) }
 {
     GateState::new(alloc, terms)
@@ -55,9 +55,9 @@ fn begun<'t>(alloc: Global, terms: &'t Terms<'t>) -> Result<GateState<'t>, Alloc
 pub fn gate_of<'t>(rt: &impl Abort, alloc: Global, terms: &'t Terms<'t>) -> GateState<'t>
     ensures { result.terms ≡ terms.now }
 {
-    match begun(alloc, terms) {
+    match begin_gate(alloc, terms) {
         Ok(gate) => gate,
-        Err(_) => begun(alloc, terms).expect(rt, "memory for a gate"),
+        Err(_) => begin_gate(alloc, terms).expect(rt, "memory for a gate"),
     }
 }
 
@@ -97,7 +97,7 @@ pub fn next_offer(
         Some(Row::Good { place, claim, .. }) => Ok(Offer {
             provider,
             place,
-            claim: StoredClaim::new(alloc, claim)?,
+            claim: BoxedClaim::new(alloc, claim)?,
         }),
         _ => fail(rt, "a claim"),
     }
@@ -125,7 +125,7 @@ fn go_by(
 
 // Reads the records before a place, from the start of a provider's file, and then the claim at that
 // place as an offer.
-fn offer_behind(
+fn offer_after(
     rt: &impl Abort,
     alloc: Global,
     terms: &Terms,
@@ -151,7 +151,7 @@ fn read_offer(
     ensures { IfOk result (λ offer. ForTerms terms.now (λ T. IsFiled T offer)) }
 {
     let mut rows = open(rt, alloc, terms, provider)?;
-    offer_behind(rt, alloc, terms, provider, &mut rows, place)
+    offer_after(rt, alloc, terms, provider, &mut rows, place)
 }
 
 // Returns the claim at a place of a provider's file as an offer. All records up to it must be

@@ -3,13 +3,13 @@ ghost use Rattle.std.specs.Prelude.{◌≡◌};
 ghost use Rattle.test_gate.specs.Words.{IsAtWork, IsCaller};
 
 use super::filing::read_all;
-use super::locks::{by_tickets, ends_with, spinning};
+use super::locks::{by_tickets, ends_with, spin_gate};
 use super::runs::{Calls, run};
 use super::shared::{accept_at, record, refuse_outcome, take_job};
 use super::worked::{is_back, is_job_at, one_file};
 use super::{again, again_shared, counts, expects};
 use claim_gate::{FinishFault, Gate, Job, LockedGate, SerialGate, Terms};
-use journal::jobs_stay;
+use journal::jobs_are_stable;
 use std::alloc::Global;
 use std::process::Abort;
 use std::sync::Wait;
@@ -29,7 +29,7 @@ fn decide_copy<G: Gate>(
     requires at_work { IsAtWork (G.known pass).seen job }
     ensures caller { IsCaller (G.has_pass gate.now) G.known terms.now result }
 {
-    jobs_stay();
+    jobs_are_stable();
     let copy = again::copy(rt, alloc, &job);
     expects(rt, is_job_at(&copy, 0, "c1", 0, 0, 0), "the first job");
     let before = counts(1, 1, 0, true);
@@ -82,7 +82,7 @@ where
 }
 
 fn by_a_spin_lock(rt: &(impl Abort + Wait), alloc: Global, terms: &Terms) {
-    let (lock, pass) = spinning(rt, alloc, terms);
+    let (lock, pass) = spin_gate(rt, alloc, terms);
     run_of_one(rt, alloc, terms, lock, pass)
 }
 
@@ -97,7 +97,7 @@ pub fn by_both_locks(rt: &(impl Abort + Wait), alloc: Global, terms: &Terms) {
 }
 
 #[test]
-fn an_outcome_is_recorded_once_behind_a_lock_though_memory_is_refused(rt: HostRuntime) {
+fn an_outcome_is_recorded_once_under_a_lock_though_memory_is_refused(rt: HostRuntime) {
     run(
         &rt,
         rt.alloc(),

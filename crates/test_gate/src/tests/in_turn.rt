@@ -5,7 +5,7 @@ ghost use Rattle.journal.specs.Gate.{LeadsTo};
 ghost use Rattle.test_gate.specs.Words.{AreCallers, IsAtWork, IsCaller};
 
 use super::filing::{is_offer, read_all};
-use super::locks::{by_tickets, ends_with, spinning};
+use super::locks::{by_tickets, ends_with, spin_gate};
 use super::runs::{Calls, run};
 use super::shared::{
     accept_at, find_nothing, find_stopped, record, refuse_at, refuse_end, refuse_outcome, take_job,
@@ -15,7 +15,7 @@ use super::{counts, expects, fail};
 use claim_gate::{
     Counts, EndFault, FinishFault, Gate, Job, LockedGate, OfferFault, SerialGate, Terms,
 };
-use journal::jobs_stay;
+use journal::jobs_are_stable;
 use std::alloc::Global;
 use std::process::Abort;
 use std::sync::Wait;
@@ -143,7 +143,7 @@ fn turn_calls<G: Gate>(
     ensures callers { AreCallers (G.has_pass gate.now) G.known terms.now (result.0, result.1) }
     ensures at_work { IsAtWork (G.known result.1).seen result.2 }
 {
-    jobs_stay();
+    jobs_are_stable();
     let (one, other, job) = take_first(rt, alloc, terms, gate, passes);
     let (one, other) = second_waits(rt, alloc, terms, gate, (one, other));
     let (one, other) = take_other(rt, alloc, terms, gate, (one, other));
@@ -199,7 +199,7 @@ fn finish_stopped<G: Gate>(
     requires at_work { IsAtWork (G.known pass).seen job }
     ensures caller { IsCaller (G.has_pass gate.now) G.known terms.now result }
 {
-    jobs_stay();
+    jobs_are_stable();
     let pass = stopped_calls(rt, alloc, terms, gate, pass);
     let stopped = FinishFault::Stopped;
     let (pass, job, outcome) = refuse_outcome(rt, alloc, terms, gate, pass, job, stopped);
@@ -257,7 +257,7 @@ where
 }
 
 pub fn by_a_spin_lock(rt: &(impl Abort + Wait), alloc: Global, terms: &Terms) {
-    let (lock, pass) = spinning(rt, alloc, terms);
+    let (lock, pass) = spin_gate(rt, alloc, terms);
     calls_over(rt, alloc, terms, lock, pass)
 }
 

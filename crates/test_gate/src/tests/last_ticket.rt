@@ -3,7 +3,7 @@
 ghost use Rattle.std.specs.Prelude.{◌≡◌};
 ghost use Rattle.test_gate.specs.Words.{IsAtWork, IsCaller};
 
-use super::calls::settled;
+use super::calls::decide_job;
 use super::filing::{is_offer, offer_at, read_all};
 use super::locks::with_used;
 use super::runs::{Calls, run};
@@ -110,7 +110,7 @@ fn worn_finish<G: Gate>(
     requires caller { IsCaller (G.has_pass gate.now) G.known terms.now pass }
     requires at_work { IsAtWork (G.known pass).seen job }
 {
-    let outcome = settled(rt, alloc, terms, &job);
+    let outcome = decide_job(rt, alloc, terms, &job);
     let Err((_, _pass, job, outcome)) = gate.finish(rt, pass, job, outcome) else {
         fail(rt, "no ticket for a finish")
     };

@@ -15,7 +15,7 @@ use std::sync::Wait;
 use turn_lock::{Pass, Section, SpinLock, SpinPass, TicketLock};
 
 /// A gate to which no claim was offered, in a spin lock.
-pub fn spinning<'t>(
+pub fn spin_gate<'t>(
     rt: &impl Abort,
     alloc: Global,
     terms: &'t Terms<'t>,

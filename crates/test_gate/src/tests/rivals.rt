@@ -21,16 +21,16 @@ use turn_lock::Section;
 /// The answers at each of the first four positions: the sum of `place + 1` over all callers whose
 /// claim was accepted there.
 #[derive(Drop)]
-struct Told {
+struct AcceptedPlaces {
     first: AtomicU64,
     second: AtomicU64,
     third: AtomicU64,
     fourth: AtomicU64,
 }
 
-impl Told {
-    fn nothing() -> Told {
-        Told {
+impl AcceptedPlaces {
+    fn nothing() -> AcceptedPlaces {
+        AcceptedPlaces {
             first: AtomicU64::new(0),
             second: AtomicU64::new(0),
             third: AtomicU64::new(0),
@@ -56,9 +56,9 @@ impl Told {
     // of them was accepted for exactly one caller.
     fn is_journal(&self, journal: &[Event]) -> bool {
         for (position, event) in journal.iter().enumerate() {
-            let told = self.at(position).load(Ordering::SeqCst);
+            let reported = self.at(position).load(Ordering::SeqCst);
             let number = (position as u64).saturating_add(1);
-            if !is_accept(event, position) || told != number {
+            if !is_accept(event, position) || reported != number {
                 return false;
             }
         }
@@ -77,7 +77,7 @@ fn offer_next<R: Wait + Abort, G: Gate>(
     gate: &G,
     pass: G::Pass,
     offer: Offer,
-    told: &Told,
+    reported: &AcceptedPlaces,
 ) -> (usize, G::Pass)
     requires caller { IsCaller (G.has_pass gate.now) G.known terms.now pass }
     requires filed { ForTerms terms.now (λ T. IsFiled T offer) }
@@ -90,7 +90,7 @@ fn offer_next<R: Wait + Abort, G: Gate>(
     };
     match reply {
         Ok(accepted) => {
-            told.note(accepted.position, place);
+            reported.note(accepted.position, place);
             (place.saturating_add(1), pass)
         }
         Err((OfferFault::OutOfTurn { expected }, _)) => (expected, pass),
@@ -106,7 +106,7 @@ fn offer_from<R: Wait + Abort, G: Gate>(
     gate: &G,
     place: usize,
     pass: G::Pass,
-    told: &Told,
+    reported: &AcceptedPlaces,
 ) -> (usize, G::Pass)
     requires caller { IsCaller (G.has_pass gate.now) G.known terms.now pass }
     ensures caller { IsCaller (G.has_pass gate.now) G.known terms.now result.1 }
@@ -115,7 +115,7 @@ fn offer_from<R: Wait + Abort, G: Gate>(
         return (place, pass);
     }
     let offer = offer_at(rt, alloc, terms, 1, place);
-    offer_next(rt, terms, gate, pass, offer, told)
+    offer_next(rt, terms, gate, pass, offer, reported)
 }
 
 // Offers the four claims of the first file.
@@ -125,14 +125,14 @@ fn offer_all<R: Wait + Abort, G: Gate>(
     terms: &Terms,
     gate: &G,
     pass: G::Pass,
-    told: &Told,
+    reported: &AcceptedPlaces,
 )
     requires caller { IsCaller (G.has_pass gate.now) G.known terms.now pass }
 {
-    let next = offer_from(rt, alloc, terms, gate, 0, pass, told);
-    let next = offer_from(rt, alloc, terms, gate, next.0, next.1, told);
-    let next = offer_from(rt, alloc, terms, gate, next.0, next.1, told);
-    let next = offer_from(rt, alloc, terms, gate, next.0, next.1, told);
+    let next = offer_from(rt, alloc, terms, gate, 0, pass, reported);
+    let next = offer_from(rt, alloc, terms, gate, next.0, next.1, reported);
+    let next = offer_from(rt, alloc, terms, gate, next.0, next.1, reported);
+    let next = offer_from(rt, alloc, terms, gate, next.0, next.1, reported);
     expects(rt, next.0 == 4, "all four");
 }
 
@@ -143,7 +143,7 @@ fn offer_by_two<R: Threads + Wait + Abort + Sync, G: Gate + Sync>(
     terms: &Terms,
     gate: &G,
     pass: G::Pass,
-    told: &Told,
+    reported: &AcceptedPlaces,
 )
     requires caller { IsCaller (G.has_pass gate.now) G.known terms.now pass }
 {
@@ -156,9 +156,9 @@ fn offer_by_two<R: Threads + Wait + Abort + Sync, G: Gate + Sync>(
         {
             let job = move ||
                 requires { IsCaller (G.has_pass gate.now) G.known terms.now theirs }
-            { offer_all(rt, alloc, terms, gate, theirs, told) };
+            { offer_all(rt, alloc, terms, gate, theirs, reported) };
             let started = scope.spawn(job).is_ok();
-            offer_all(rt, alloc, terms, gate, mine, told);
+            offer_all(rt, alloc, terms, gate, mine, reported);
             expects(rt, started, "a thread");
         },
     )
@@ -177,12 +177,12 @@ where
     requires own { S.has_pass lock pass }
     requires terms { (S.Value.shown (S.seen pass)).terms ≡ terms.now }
 {
-    let told = Told::nothing();
+    let reported = AcceptedPlaces::nothing();
     let gate = LockedGate::over(lock);
     let (pass, mine) = gate.split(pass);
-    offer_by_two(rt, alloc, terms, &gate, mine, &told);
+    offer_by_two(rt, alloc, terms, &gate, mine, &reported);
     match gate.retire(rt, pass) {
-        Ok(state) => expects(rt, told.is_journal(state.journal()), "this journal"),
+        Ok(state) => expects(rt, reported.is_journal(state.journal()), "this journal"),
         Err(_) => fail(rt, "the gate of one thread"),
     }
     drop(gate);

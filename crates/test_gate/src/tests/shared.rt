@@ -8,10 +8,12 @@ ghost use Rattle.journal.specs.Gate.{LeadsTo};
 ghost use Rattle.test_gate.specs.Words.{IsAtWork, IsCaller};
 
 use super::again_shared::{end_once, finish, finish_once, offer, offer_once, take, take_once};
-use super::calls::{is_accepted, is_recorded, settled, work_of};
+use super::calls::{decide_job, is_accepted, is_recorded, work_of};
 use super::filing::offer_at;
 use super::{expects, fail, is_nothing_ready, is_stopped};
-use claim_gate::{Counts, Decision, EndFault, FinishFault, Gate, Job, Offer, OfferFault, Terms};
+use claim_gate::{
+    BoxedOutcome, Counts, EndFault, FinishFault, Gate, Job, Offer, OfferFault, Terms,
+};
 use std::alloc::Global;
 use std::process::Abort;
 use std::sync::Wait;
@@ -116,7 +118,7 @@ pub fn record<G: Gate>(
     ensures caller { IsCaller (G.has_pass gate.now) G.known terms.now result }
     ensures leads { LeadsTo (G.known pass).seen (G.known result).seen }
 {
-    let outcome = settled(rt, alloc, terms, &job);
+    let outcome = decide_job(rt, alloc, terms, &job);
     let (reply, pass) = finish(rt, terms, gate, pass, job, outcome, before);
     expects(rt, is_recorded(reply), "a recorded outcome");
     pass
@@ -131,13 +133,13 @@ pub fn refuse_outcome<G: Gate>(
     pass: G::Pass,
     job: Job,
     wanted: FinishFault,
-) -> (G::Pass, Job, Decision)
+) -> (G::Pass, Job, BoxedOutcome)
     requires caller { IsCaller (G.has_pass gate.now) G.known terms.now pass }
     requires at_work { IsAtWork (G.known pass).seen job }
     ensures caller { IsCaller (G.has_pass gate.now) G.known terms.now result.0 }
     ensures leads { LeadsTo (G.known pass).seen (G.known result.0).seen }
 {
-    let outcome = settled(rt, alloc, terms, &job);
+    let outcome = decide_job(rt, alloc, terms, &job);
     let (reply, pass) = finish_once(rt, terms, gate, pass, job, outcome);
     match reply {
         Ok(_) => fail(rt, "a refusal"),

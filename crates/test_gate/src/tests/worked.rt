@@ -12,7 +12,7 @@ use super::filing::{gate_of, is_offer, read_all};
 use super::runs::{Calls, run};
 use super::{again, counts, expects, is_as_far, is_finished, is_over};
 use claim_gate::{
-    Batch, Decision, EndFault, Event, FinishFault, GateState, Job, Offer, OfferFault, Terms,
+    Batch, BoxedOutcome, EndFault, Event, FinishFault, GateState, Job, Offer, OfferFault, Terms,
 };
 use settlement::{Acc, Outcome, Verdict};
 use std::alloc::Global;
@@ -60,7 +60,7 @@ pub fn is_job_at(job: &Job, position: usize, id: &str, met: i64, oop: i64, paid:
 
 /// Returns whether a job and an outcome that have come back are those of a claim with a paid amount
 /// of 40.
-pub fn is_back(job: Job, outcome: Decision, position: usize, id: &str) -> bool {
+pub fn is_back(job: Job, outcome: BoxedOutcome, position: usize, id: &str) -> bool {
     is_job(&job, position, id) && is_paid_40(outcome.outcome())
 }
 

@@ -183,7 +183,7 @@ fn look_worn(rt: &impl Abort, lock: &TicketLock<Entries>, pass: Pass<Entries>) -
 }
 
 // Each call that would draw a ticket must fail with `Worn` and return the pass.
-fn refused<R: Wait + Abort>(
+fn refuse_draws<R: Wait + Abort>(
     rt: &R,
     lock: &TicketLock<Entries>,
     pass: Pass<Entries>,
@@ -214,10 +214,10 @@ fn the_last_ticket_wears_the_lock(rt: HostRuntime) {
     assert!(rt; holder.ticket() == first);
     value.append(line(7));
     let pass = lock.leave(holder, value);
-    let pass = refused(&rt, &lock, pass);
-    refused(&rt, &lock, pass);
+    let pass = refuse_draws(&rt, &lock, pass);
+    refuse_draws(&rt, &lock, pass);
     let (lock, pass) = ticket_lock_at(&rt, rt.alloc(), u64::MAX);
-    refused(&rt, &lock, pass);
+    refuse_draws(&rt, &lock, pass);
 }
 
 fn retire_with_the_first_ticket<R: Wait + Abort>(
@@ -248,7 +248,7 @@ fn draw_the_second_ticket(rt: &impl Abort, lock: &TicketLock<Entries>, pass: Pas
 }
 
 #[test]
-fn tickets_go_on_behind_a_retired_holder(rt: HostRuntime) {
+fn tickets_go_on_after_a_retired_holder(rt: HostRuntime) {
     let (lock, pass) = ticket_lock(&rt, rt.alloc());
     let (a, b) = lock.split(pass);
     retire_with_the_first_ticket(&rt, &lock, a);

@@ -18,7 +18,7 @@ outputs = [{name = \"b\", kind = \"number\"}]
 rules = [{when = ['-', '\"say \\\"B\\\"\",\"A\"'], then = ['1']}]
 ";
 
-pub const TOLD_OF_TWO_TABLES: &str = "overlap table 1: rules 1 2
+pub const REPORTED_OF_TWO_TABLES: &str = "overlap table 1: rules 1 2
 gap table 1: date(\"2024-01-01\") ; false
 gap table 1: ]date(\"2024-01-01\")..date(\"2024-07-01\")[ ; false
 gap table 1: date(\"2024-07-01\") ; false
@@ -46,7 +46,7 @@ outputs = [{name = \"z\", kind = \"number\"}]
 rules = [{when = ['0'], then = ['1']}]
 ";
 
-pub const TOLD_OF_WIDE_AND_OVERLAPPING: &str =
+pub const REPORTED_OF_WIDE_AND_OVERLAPPING: &str =
     "overlap table 1: rules 1 3\nwide table 1\ngap table 2: <0\ngap table 2: >0\ngaps 2 overlaps 1\n";
 
 /// A table over a number and a text without a rule.
@@ -59,7 +59,7 @@ rules = []
 
 /// Three tables, each with a gap and an overlap: under `F` without a default, under `A` with one and other entries, under
 /// `C`.
-pub const SOME_HARMFUL: &str = "version = 1
+pub const SOME_ERRORS: &str = "version = 1
 fields = [{name = \"x\", kind = \"number\"}]
 [[tables]]
 hit = \"F\"
@@ -78,5 +78,5 @@ outputs = [{name = \"c\", kind = \"number\"}]
 rules = [{when = ['<=5'], then = ['1']}, {when = ['5'], then = ['2']}]
 ";
 
-pub const TOLD_AS_HARMFUL: &str =
+pub const REPORTED_AS_ERRORS: &str =
     "gap table 1: >5\noverlap table 2: rules 1 2\ngaps 1 overlaps 1\n";

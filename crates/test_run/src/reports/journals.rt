@@ -3,7 +3,7 @@ use crate::testing::fail;
 use dtable::Sequence;
 use feel_tests::{TEXT_LIMIT_BYTES, Text};
 use fixpoint::Fixed;
-use journal::{Decision, Event};
+use journal::{BoxedOutcome, Event};
 use settlement::{Money, Outcome, Reason, Remarks, Role, Verdict};
 use std::alloc::{AllocError, Global};
 use std::process::Abort;
@@ -77,10 +77,10 @@ fn outcome_of(
     }
 }
 
-fn decision_of(rt: &impl Abort, alloc: Global, outcome: Outcome) -> Decision {
-    match Decision::new(alloc, outcome) {
+fn decision_of(rt: &impl Abort, alloc: Global, outcome: Outcome) -> BoxedOutcome {
+    match BoxedOutcome::new(alloc, outcome) {
         Ok(decision) => decision,
-        Err(back) => match Decision::new(alloc, back.value) {
+        Err(back) => match BoxedOutcome::new(alloc, back.value) {
             Ok(decision) => decision,
             Err(_) => fail(rt, "memory for a decision"),
         },

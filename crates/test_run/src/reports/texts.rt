@@ -4,7 +4,7 @@ const QUOTED: &[u8] =
     b"claim,member,service,billed,code\na,\"M\"\"1\",2024-02-29,1.00,A\n\"b,2\",M2,2024-02-29,1.00,A\n";
 
 // A member whose number has a quote, and a claim whose number has a comma.
-pub fn quoted() -> &'static [u8] {
+pub fn quoted_file() -> &'static [u8] {
     QUOTED
 }
 

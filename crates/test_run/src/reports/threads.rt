@@ -1,7 +1,7 @@
 //! Reports whose records become text by threads: the same bytes as one thread's, and the same answers.
 use super::journals::{of_both_files, of_no_claims};
 use super::writing::{is_filled, is_whole, late_batch, with_room};
-use super::{push_one_field_records, repeated, texts};
+use super::{push_one_field_records, repeat_bytes, texts};
 use crate::testing::{WhenFull, expects, expects_at, plan_of, terms_of};
 use claim_gate::Terms;
 use fixpoint::Out;
@@ -102,7 +102,7 @@ fn one_file_by_threads(rt: HostRuntime) {
 
 // A file of so many records that have one field each.
 fn one_field_file(rt: &impl Abort, alloc: Global, count: usize) -> Vec<u8> {
-    repeated(rt, alloc, header(), b"x\n", count)
+    repeat_bytes(rt, alloc, header(), b"x\n", count)
 }
 
 // The report over such files.

@@ -96,7 +96,7 @@ fn balances_that_make_no_run(rt: HostRuntime) {
 }
 
 // A run with as many faults behind this one as there can be: it is told.
-fn tells_first<'a, R: Threads + Wait + Abort + Sync + AllocGlobal>(
+fn reports_first<'a, R: Threads + Wait + Abort + Sync + AllocGlobal>(
     rt: &R,
     plan: &'a [u8],
     files: &'a [&'a [u8]],
@@ -106,16 +106,16 @@ fn tells_first<'a, R: Threads + Wait + Abort + Sync + AllocGlobal>(
 }
 
 // So it is where the second file lacks a column.
-fn tells_of_a_file<R: Threads + Wait + Abort + Sync + AllocGlobal>(rt: &R) {
+fn reports_of_a_file<R: Threads + Wait + Abort + Sync + AllocGlobal>(rt: &R) {
     let files = [first_file(), NO_BILLED];
-    tells_first(rt, health_plan().as_bytes(), &files, NO_COLUMN);
+    reports_first(rt, health_plan().as_bytes(), &files, NO_COLUMN);
 }
 
 #[test]
-fn the_first_fault_is_told(rt: HostRuntime) {
-    tells_first(&rt, health_plan().as_bytes(), both_files(), REPEATED);
-    tells_first(&rt, health_plan().as_bytes(), NONE, "terms fault 2\n");
-    tells_first(&rt, NO_ROLES, NONE, "terms fault 1\n");
-    tells_first(&rt, NO_VERSION, NONE, FIELDS_ALONE);
-    tells_of_a_file(&rt);
+fn the_first_fault_is_reported(rt: HostRuntime) {
+    reports_first(&rt, health_plan().as_bytes(), both_files(), REPEATED);
+    reports_first(&rt, health_plan().as_bytes(), NONE, "terms fault 2\n");
+    reports_first(&rt, NO_ROLES, NONE, "terms fault 1\n");
+    reports_first(&rt, NO_VERSION, NONE, FIELDS_ALONE);
+    reports_of_a_file(&rt);
 }

@@ -2,8 +2,8 @@
 
 ghost use Rattle.std.specs.Prelude.{◌≡◌};
 
-use super::had;
-use super::met::{watched, watched_from};
+use super::is_wanted_fault;
+use super::met::{start_watched, watched_from};
 use super::watched::nothing;
 use crate::testing::{expects, expects_at};
 use claim_gate::{Gate, GateState, LockedGate, SerialGate, Terms};
@@ -26,7 +26,7 @@ fn check_threads<R: Threads + Wait + Abort + Sync>(
     let mut watch = nothing();
     watch.takes = callers;
     watch.offers = 2;
-    let met = watched(rt, alloc, terms, workers, watch);
+    let met = start_watched(rt, alloc, terms, workers, watch);
     expects_at(rt, met.fault.is_none(), workers);
     expects_at(rt, met.takes == callers && met.offers == 2, workers);
 }
@@ -43,7 +43,7 @@ fn check_finished<R: Threads + Wait + Abort + Sync>(rt: &R, alloc: Global, terms
     watch.overs = 3;
     expects(
         rt,
-        watched(rt, alloc, terms, 2, watch).fault.is_none(),
+        start_watched(rt, alloc, terms, 2, watch).fault.is_none(),
         "no fault",
     );
 }
@@ -53,7 +53,7 @@ fn check_worn<R: Threads + Wait + Abort + Sync>(rt: &R, alloc: Global, terms: &T
     let met = watched_from(rt, alloc, terms, 4, nothing(), u64::MAX - 2);
     expects(
         rt,
-        had(met.fault, RunFault::Worn) && met.is_worn,
+        is_wanted_fault(met.fault, RunFault::Worn) && met.is_worn,
         "this fault",
     );
 }
@@ -118,7 +118,7 @@ fn check_third_caller<R: Threads + Wait + Abort + Sync>(rt: &R, alloc: Global, t
     let fault = run_stopped_over(rt, alloc, terms, lock, pass);
     expects(
         rt,
-        fault.is_none() || had(fault, RunFault::Stopped),
+        fault.is_none() || is_wanted_fault(fault, RunFault::Stopped),
         "this fault",
     );
 }

@@ -86,9 +86,9 @@ pub fn count_of(journal: &[Event], kind: &str) -> usize {
     count
 }
 
-fn write_count(rt: &impl Abort, text: &mut String, journal: &[Event], kind: &str, behind: &str) {
+fn write_count(rt: &impl Abort, text: &mut String, journal: &[Event], kind: &str, following: &str) {
     let count = count_of(journal, kind);
-    write!(text, "{kind} {count}{behind}").expect(rt, "memory for a count");
+    write!(text, "{kind} {count}{following}").expect(rt, "memory for a count");
 }
 
 // The claims of so many providers, and how many events of each kind there are.

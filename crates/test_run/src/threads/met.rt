@@ -94,7 +94,7 @@ pub fn watched_from<R: Threads + Wait + Abort + Sync>(
 }
 
 /// Behind a new ticket lock.
-pub fn watched<R: Threads + Wait + Abort + Sync>(
+pub fn start_watched<R: Threads + Wait + Abort + Sync>(
     rt: &R,
     alloc: Global,
     terms: &Terms,

@@ -1,7 +1,7 @@
 //! Runs on a gate that refuses some of its calls for memory, whatever memory there is: such a call is made once more, and then the run is told.
 
-use super::had;
-use super::met::watched;
+use super::is_wanted_fault;
+use super::met::start_watched;
 use super::watched::{Watch, nothing};
 use crate::testing::{expects, expects_at, terms_of};
 use claim_gate::Terms;
@@ -25,7 +25,7 @@ fn one_of_each() -> Watch {
 
 /// A call that is refused is made once more.
 pub fn check_refused_once<R: Threads + Wait + Abort + Sync>(rt: &R, alloc: Global, terms: &Terms) {
-    let met = watched(rt, alloc, terms, 2, one_of_each());
+    let met = start_watched(rt, alloc, terms, 2, one_of_each());
     expects(rt, met.fault.is_none(), "no fault");
 }
 
@@ -43,8 +43,8 @@ fn refused_twice(kind: usize) -> Watch {
 
 fn check_each_kind<R: Threads + Wait + Abort + Sync>(rt: &R, alloc: Global, terms: &Terms) {
     for kind in 0..4 {
-        let met = watched(rt, alloc, terms, 2, refused_twice(kind));
-        expects_at(rt, had(met.fault, RunFault::OutOfMemory), kind);
+        let met = start_watched(rt, alloc, terms, 2, refused_twice(kind));
+        expects_at(rt, is_wanted_fault(met.fault, RunFault::OutOfMemory), kind);
     }
 }
 

@@ -1,7 +1,7 @@
 //! Gates that somebody stops, by a pass split off the caller's: the workers leave, and the run is stopped.
 
-use super::had;
-use super::met::{watched, watched_spinning};
+use super::is_wanted_fault;
+use super::met::{start_watched, watched_spinning};
 use super::watched::nothing;
 use crate::testing::expects;
 use claim_gate::Terms;
@@ -16,7 +16,11 @@ pub fn check_stopped_gate<R: Threads + Wait + Abort + Sync>(rt: &R, alloc: Globa
     let mut watch = nothing();
     watch.is_stopped = true;
     let met = watched_spinning(rt, alloc, terms, 2, watch);
-    expects(rt, had(met.fault, RunFault::Stopped), "this fault");
+    expects(
+        rt,
+        is_wanted_fault(met.fault, RunFault::Stopped),
+        "this fault",
+    );
 }
 
 /// Each outcome that is handed in behind the stop comes back with its job.
@@ -27,10 +31,10 @@ pub fn check_stopped_outcomes<R: Threads + Wait + Abort + Sync>(
 ) {
     let mut watch = nothing();
     watch.stops_outcomes = true;
-    let met = watched(rt, alloc, terms, 2, watch);
+    let met = start_watched(rt, alloc, terms, 2, watch);
     expects(
         rt,
-        had(met.fault, RunFault::Stopped) && met.handed_back > 0,
+        is_wanted_fault(met.fault, RunFault::Stopped) && met.handed_back > 0,
         "this fault",
     );
 }

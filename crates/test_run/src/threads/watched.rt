@@ -3,8 +3,8 @@
 ghost use Rattle.std.specs.Prelude.{◌≡◌};
 
 use claim_gate::{
-    Accepted, Counts, Decision, EndFault, Ended, FinishFault, Gate, Job, Offer, OfferFault,
-    Recorded, StoredClaim, TakeFault, Taken,
+    Accepted, BoxedClaim, BoxedOutcome, Counts, EndFault, Ended, FinishFault, Gate, Job, Offer,
+    OfferFault, Recorded, TakeFault, Taken,
 };
 use settlement::Money;
 use std::sync::Wait;
@@ -186,7 +186,7 @@ impl<G> WatchedGate<G> {
 
     fn note_recorded(
         &self,
-        answer: &Result<Recorded, (FinishFault, Job, Decision)>,
+        answer: &Result<Recorded, (FinishFault, Job, BoxedOutcome)>,
         position: usize,
         paid: Money,
     ) {
@@ -232,13 +232,13 @@ impl<G: Gate> Gate for WatchedGate<G> {
         answer
     }
 
-    fn foresee<R: Wait>(
+    fn prefetch<R: Wait>(
         &self,
         rt: &R,
         pass: G::Pass,
-        claims: &[StoredClaim],
+        claims: &[BoxedClaim],
     ) -> Result<G::Pass, (Worn, G::Pass)> {
-        self.gate.foresee(rt, pass, claims)
+        self.gate.prefetch(rt, pass, claims)
     }
 
     fn end<R: Wait>(
@@ -294,10 +294,10 @@ impl<G: Gate> Gate for WatchedGate<G> {
         rt: &R,
         pass: G::Pass,
         job: Job,
-        outcome: Decision,
+        outcome: BoxedOutcome,
     ) -> Result<
-        (Result<Recorded, (FinishFault, Job, Decision)>, G::Pass),
-        (Worn, G::Pass, Job, Decision),
+        (Result<Recorded, (FinishFault, Job, BoxedOutcome)>, G::Pass),
+        (Worn, G::Pass, Job, BoxedOutcome),
     > {
         if next_number(&self.finished) <= self.watch.refused_outcomes {
             return match self.gate.counts(rt, pass) {

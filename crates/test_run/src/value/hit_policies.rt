@@ -5,7 +5,7 @@ use std::alloc::Global;
 use std::process::Abort;
 
 /// The texts behind one another.
-pub fn joined(rt: &impl Abort, alloc: Global, texts: &[&str]) -> String {
+pub fn join_texts(rt: &impl Abort, alloc: Global, texts: &[&str]) -> String {
     let mut whole = String::new(alloc);
     for text in texts {
         whole.push_str(text).expect(rt, "memory for a text");
@@ -24,7 +24,7 @@ fn plan_over_x(rt: &impl Abort, alloc: Global, hit: &str, outputs: &str, rules: 
         rules,
         "]\n",
     ];
-    joined(rt, alloc, &parts)
+    join_texts(rt, alloc, &parts)
 }
 
 /// The output `y` of kind number.

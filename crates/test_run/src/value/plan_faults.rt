@@ -1,5 +1,5 @@
 //! Plans that are refused, each at its place.
-use super::hit_policies::joined;
+use super::hit_policies::join_texts;
 use super::{PLAN, refuses};
 use crate::testing::expects;
 
@@ -60,7 +60,7 @@ fn a_part_of_the_plan_changed(rt: HostRuntime) {
     for row in CHANGED {
         let (old, new, line) = *row;
         let (front, back) = PLAN.split_once(old).expect(&rt, "a part of the plan");
-        let plan = joined(&rt, alloc, &[front, new, back]);
+        let plan = join_texts(&rt, alloc, &[front, new, back]);
         expects(&rt, refuses(alloc, plan.as_str(), &["x=1"], line), line);
     }
 }

@@ -9,7 +9,7 @@ pub const MOST: i64 = 9_999_999_999_999;
 pub type Example = (&'static [&'static str], i64, (i64, i64, i64), &'static str);
 
 /// Claims under a plan whose roles are literals.
-pub fn written() -> &'static [Example] {
+pub fn written_examples() -> &'static [Example] {
     &[
         (&[], 2, (9_999, 0, 0), "Paid 2 1 0 0 1 1, 10000 1 1"),
         // The amount that the plan has paid would be out of range.
@@ -34,7 +34,7 @@ pub fn rates() -> &'static [Example] {
 
 /// Claims under a plan whose roles are fields of the claim: cover, fee, deductible, copay, rate and
 /// out-of-pocket maximum.
-pub fn paid() -> &'static [Example] {
+pub fn paid_examples() -> &'static [Example] {
     &[
         // Half a cent is rounded to the even cent.
         (
@@ -120,7 +120,7 @@ pub fn paid() -> &'static [Example] {
 
 /// Claims with invalid roles: the first invalid role is the reason, and a claim that is not covered
 /// is denied without one.
-pub fn unpaid() -> &'static [Example] {
+pub fn unpaid_examples() -> &'static [Example] {
     &[
         (
             &["true", "1.001", "-1", "-1", "2", "-1"],
@@ -162,7 +162,7 @@ pub fn unpaid() -> &'static [Example] {
 }
 
 /// Claims under two tables that have a fault for some scores.
-pub fn scored() -> &'static [Example] {
+pub fn scored_examples() -> &'static [Example] {
     &[
         (&["0"], 1_000, (0, 0, 0), "Paid 2 0 0 0 0 2, 0 0 2"),
         (
@@ -207,7 +207,7 @@ pub fn second() -> Example {
 }
 
 /// Other claims under the health plan.
-pub fn treated() -> &'static [Example] {
+pub fn treated_examples() -> &'static [Example] {
     &[
         (
             &["B"],
@@ -238,7 +238,7 @@ pub fn treated() -> &'static [Example] {
 }
 
 /// A pended claim under the health plan, and a claim after it.
-pub fn behind_a_pended() -> &'static [Example] {
+pub fn after_a_pended() -> &'static [Example] {
     &[
         (
             &["Z"],
@@ -274,7 +274,7 @@ pub fn naming() -> &'static [Example] {
 }
 
 /// A capped claim under the chained tables, of a member who has met the deductible.
-pub fn capped() -> Example {
+pub fn capped_example() -> Example {
     (
         &["B"],
         12_000,
@@ -284,7 +284,7 @@ pub fn capped() -> Example {
 }
 
 /// A claim under the chained tables that is not capped.
-pub fn uncapped() -> Example {
+pub fn uncapped_example() -> Example {
     (
         &["A"],
         12_000,

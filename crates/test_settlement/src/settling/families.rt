@@ -2,7 +2,7 @@
 
 use super::examples::MOST;
 use super::plans::{families_named, families_open};
-use super::{claim, copies, decided, money, plan, some_paid, told};
+use super::{claim, copies, decide_claim, money, outcome_text, plan, some_paid};
 use crate::ending::expects;
 use dtable::Plan;
 use settlement::{Acc, Claim, Outcome, Role, after, fields_of};
@@ -20,7 +20,7 @@ type Example = (&'static [&'static str], i64, Sums, &'static str);
 
 /// Claims under the family plan, of three members of one family in order, and of one member of
 /// another family.
-fn treated() -> &'static [Example] {
+fn treated_examples() -> &'static [Example] {
     &[
         (
             &["A"],
@@ -51,7 +51,7 @@ fn treated() -> &'static [Example] {
 
 /// Claims under a plan whose roles are fields of the claim. The last fields are the member's
 /// out-of-pocket maximum, the family's deductible and the family's out-of-pocket maximum.
-fn opened() -> &'static [Example] {
+fn opened_examples() -> &'static [Example] {
     &[
         (
             &["-1", "-1", "-1"],
@@ -122,14 +122,14 @@ fn settles(rt: &impl Abort, alloc: Global, plan: &Plan, example: &Example) {
     let (fields, billed, before, wanted) = example;
     let claim = claim(rt, alloc, plan, *billed, fields);
     let before = acc(rt, *before);
-    let outcome = decided(rt, alloc, plan, &claim, &before);
-    is_told(rt, alloc, outcome, &before, wanted);
+    let outcome = decide_claim(rt, alloc, plan, &claim, &before);
+    is_reported(rt, alloc, outcome, &before, wanted);
     drop(claim);
 }
 
-fn is_told(rt: &impl Abort, alloc: Global, outcome: Outcome, before: &Acc, wanted: &str) {
-    let told = told(rt, alloc, &outcome, before, true);
-    expects(rt, told.as_str() == wanted, wanted);
+fn is_reported(rt: &impl Abort, alloc: Global, outcome: Outcome, before: &Acc, wanted: &str) {
+    let reported = outcome_text(rt, alloc, &outcome, before, true);
+    expects(rt, reported.as_str() == wanted, wanted);
     drop(outcome);
 }
 
@@ -143,14 +143,14 @@ fn decides(rt: &impl Abort, alloc: Global, text: &str, examples: &[Example]) {
 
 #[test]
 fn the_familys_limits_hold_beside_the_members(rt: HostRuntime) {
-    decides(&rt, rt.alloc(), family_plan(), treated());
+    decides(&rt, rt.alloc(), family_plan(), treated_examples());
 }
 
 #[test]
 fn the_familys_roles_are_tried_last(rt: HostRuntime) {
     let numbers = (Role::FamilyDeductible.number(), Role::FamilyOopMax.number());
     expects(&rt, numbers.0 == 8 && numbers.1 == 9, "the last numbers");
-    decides(&rt, rt.alloc(), families_open(), opened());
+    decides(&rt, rt.alloc(), families_open(), opened_examples());
 }
 
 // `./check` runs this test once for each of its allocations, with that allocation refused.

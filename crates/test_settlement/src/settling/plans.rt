@@ -1,7 +1,7 @@
 //! The plans of the tests.
 
 /// Returns a plan without fields and tables, whose roles are literals.
-pub fn flat() -> &'static str {
+pub fn flat_plan() -> &'static str {
     r#"
 version = 1
 [roles]
@@ -66,7 +66,7 @@ oop_max = "limit"
 }
 
 /// Returns a plan with two tables that have a fault for some scores.
-pub fn faulty() -> &'static str {
+pub fn faulty_plan() -> &'static str {
     r#"
 version = 1
 fields = [{name = "score", kind = "number"}]
@@ -94,7 +94,7 @@ rules = [{when = ['<=5'], then = ['"low"']}, {when = ['>=5'], then = ['"high"']}
 
 /// Returns a plan with three chained tables: the second reads the tier from the first, and the
 /// third lists remarks for the output of the second.
-pub fn chained() -> &'static str {
+pub fn chained_plan() -> &'static str {
     r#"
 version = 1
 fields = [{name = "code", kind = "text"}]
@@ -130,7 +130,7 @@ rules = [
 }
 
 /// Returns a plan whose table and roles read the built-in names of claims and accumulators.
-pub fn named() -> &'static str {
+pub fn named_plan() -> &'static str {
     r#"
 version = 1
 

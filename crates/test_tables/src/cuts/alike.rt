@@ -6,8 +6,8 @@ ghost use Rattle.cutplan.specs.Numbered.{IsTableNumber};
 
 use super::cut_of;
 use super::plans::{
-    allowed_codes, apart, at_five, chain, codes, days, flag_and_code, ranked, sixteen_regions,
-    stretches, three_rules,
+    allowed_codes, at_five, chain, codes, days, disjoint_plan, flag_and_code, ranked_plan,
+    sixteen_regions, stretches, three_rules,
 };
 use crate::answers::{give, inputs_of, is_text, plan_of, write_line};
 use crate::ending::expects;
@@ -50,9 +50,14 @@ fn remark_amounts() -> &'static [(&'static str, &'static str)] {
 
 /// Returns the answers of the plan's outputs, or the fault, as text. Each of the given values has
 /// the index of its name.
-fn told<V: Valuer>(rt: &impl Abort, alloc: Global, valuer: &V, given: &[(usize, &str)]) -> Vec<u8> {
+fn answer_text<V: Valuer>(
+    rt: &impl Abort,
+    alloc: Global,
+    valuer: &V,
+    given: &[(usize, &str)],
+) -> Vec<u8> {
     let inputs = inputs_with(rt, alloc, valuer.plan(), given);
-    told_at(rt, alloc, valuer, &inputs)
+    reported_at(rt, alloc, valuer, &inputs)
 }
 
 // Returns the inputs of the plan with these values, each with the index of its name. An empty
@@ -67,7 +72,7 @@ fn inputs_with(rt: &impl Abort, alloc: Global, plan: &Plan, given: &[(usize, &st
     inputs
 }
 
-fn told_at<V: Valuer>(rt: &impl Abort, alloc: Global, valuer: &V, inputs: &Inputs) -> Vec<u8> {
+fn reported_at<V: Valuer>(rt: &impl Abort, alloc: Global, valuer: &V, inputs: &Inputs) -> Vec<u8> {
     assert!(rt; valuer.plan().ready(inputs));
     match valuer.value(alloc, inputs) {
         Ok(values) => answers_of(alloc, valuer.plan(), &values).expect(rt, "memory for a text"),
@@ -94,8 +99,8 @@ fn write_answers(text: &mut Vec<u8>, plan: &Plan, values: &Env) -> Result<(), Al
 
 /// Requires that a plan and its compiled plan have the same answers for these values.
 fn check_at(rt: &impl Abort, alloc: Global, plan: &Plan, cut: &CutPlan, given: &[(usize, &str)]) {
-    let plain = told(rt, alloc, plan, given);
-    let by_masks = told(rt, alloc, cut, given);
+    let plain = answer_text(rt, alloc, plan, given);
+    let by_masks = answer_text(rt, alloc, cut, given);
     expects(rt, is_same(plain, by_masks), "the same answers by masks");
 }
 
@@ -142,11 +147,11 @@ fn try_cut(rt: &impl Abort, alloc: Global, plan: &Plan, tried: Tried<'_>) {
     let cut = cut_of(rt, alloc, plan);
     match tried {
         Tried::Alike(firsts, seconds) => check_each(rt, alloc, plan, &cut, (firsts, seconds)),
-        Tried::Told(literals) => check_each_told(rt, alloc, plan, &cut, literals),
+        Tried::Told(literals) => check_each_reported(rt, alloc, plan, &cut, literals),
         Tried::Answer(literal, answer) => check_answer(rt, alloc, &cut, literal, answer),
         Tried::Remarks => check_remarks(rt, alloc, plan, &cut),
         Tried::Masks(words) => check_masks(rt, plan, &cut, words),
-        Tried::Zones(wanted) => check_zones(rt, alloc, &cut, wanted),
+        Tried::Zones(wanted) => check_classes(rt, alloc, &cut, wanted),
     }
 }
 
@@ -185,13 +190,13 @@ fn around_three_rules() -> Literals {
 
 #[test]
 fn numbers_are_valued_alike(rt: HostRuntime) {
-    check(&rt, rt.alloc(), apart(), around_apart(), none());
+    check(&rt, rt.alloc(), disjoint_plan(), around_apart(), none());
     check(&rt, rt.alloc(), at_five(), around_five(), none());
     check(&rt, rt.alloc(), three_rules(), around_three_rules(), none());
 }
 
 fn check_answer(rt: &impl Abort, alloc: Global, cut: &CutPlan, literal: &str, answer: &str) {
-    let answers = told(rt, alloc, cut, &[(FIRST, literal)]);
+    let answers = answer_text(rt, alloc, cut, &[(FIRST, literal)]);
     expects(rt, is_text(answers, answer), answer);
 }
 
@@ -281,7 +286,7 @@ fn around_ranked() -> Literals {
 
 #[test]
 fn ranked_rules_are_valued_alike(rt: HostRuntime) {
-    check(&rt, rt.alloc(), ranked(), around_ranked(), none());
+    check(&rt, rt.alloc(), ranked_plan(), around_ranked(), none());
 }
 
 fn around_stretches() -> Literals {
@@ -310,7 +315,7 @@ fn remarks_are_valued_alike(rt: HostRuntime) {
 }
 
 /// Requires that the masks of each table have the matching rules.
-fn check_told(rt: &impl Abort, alloc: Global, plan: &Plan, cut: &CutPlan, literal: &str)
+fn check_reported(rt: &impl Abort, alloc: Global, plan: &Plan, cut: &CutPlan, literal: &str)
     requires { cut.now ≡ plan.now }
 {
     let mut inputs = Inputs::new(alloc, plan).expect(rt, "memory for inputs");
@@ -322,24 +327,40 @@ fn check_told(rt: &impl Abort, alloc: Global, plan: &Plan, cut: &CutPlan, litera
     }
 }
 
-fn check_each_told(rt: &impl Abort, alloc: Global, plan: &Plan, cut: &CutPlan, literals: &[&str])
+fn check_each_reported(
+    rt: &impl Abort,
+    alloc: Global,
+    plan: &Plan,
+    cut: &CutPlan,
+    literals: &[&str],
+)
     requires { cut.now ≡ plan.now }
 {
     for literal in literals {
         let literal: &str = literal;
-        check_told(rt, alloc, plan, cut, literal);
+        check_reported(rt, alloc, plan, cut, literal);
     }
 }
 
-fn allowed() -> Literals {
+fn allowed_literals() -> Literals {
     &["\"A\"", "\"B\""]
 }
 
 #[test]
-fn masks_tell_of_allowed_values(rt: HostRuntime) {
-    try_plan(&rt, rt.alloc(), apart(), Tried::Told(around_apart()));
+fn masks_speak_of_allowed_values(rt: HostRuntime) {
+    try_plan(
+        &rt,
+        rt.alloc(),
+        disjoint_plan(),
+        Tried::Told(around_apart()),
+    );
     try_plan(&rt, rt.alloc(), codes(), Tried::Told(of_codes()));
-    try_plan(&rt, rt.alloc(), allowed_codes(), Tried::Told(allowed()));
+    try_plan(
+        &rt,
+        rt.alloc(),
+        allowed_codes(),
+        Tried::Told(allowed_literals()),
+    );
     try_plan(&rt, rt.alloc(), days(), Tried::Told(around_days()));
 }
 
@@ -372,24 +393,29 @@ fn check_masks(rt: &impl Abort, plan: &Plan, cut: &CutPlan, words: &[u64])
 
 #[test]
 fn masks_of_two_stretches(rt: HostRuntime) {
-    try_plan(&rt, rt.alloc(), apart(), Tried::Masks(&[1, 0, 2, 2, 2, 0]));
+    try_plan(
+        &rt,
+        rt.alloc(),
+        disjoint_plan(),
+        Tried::Masks(&[1, 0, 2, 2, 2, 0]),
+    );
 }
 
-fn check_zones(
+fn check_classes(
     rt: &impl Abort,
     alloc: Global,
     cut: &CutPlan,
     wanted: &[(&str, &str, Option<u64>)],
 ) {
-    for (first, second, zone) in wanted {
+    for (first, second, input_class) in wanted {
         let given = [(FIRST, *first), (FIRST + 1, *second)];
         let inputs = inputs_with(rt, alloc, cut.plan(), &given);
-        expects(rt, cut.zone(&inputs) == *zone, first);
+        expects(rt, cut.input_class(&inputs) == *input_class, first);
     }
 }
 
 // The flag has two regions. The code has three, and the last one has all other texts.
-fn zones_of_flag_and_code() -> &'static [(&'static str, &'static str, Option<u64>)] {
+fn classes_of_flag_and_code() -> &'static [(&'static str, &'static str, Option<u64>)] {
     &[
         ("false", "\"A\"", Some(0)),
         ("false", "\"C\"", Some(2)),
@@ -401,7 +427,7 @@ fn zones_of_flag_and_code() -> &'static [(&'static str, &'static str, Option<u64
 }
 
 // Both tables cut the only field, at 1, 2, 2.5 and 3.
-fn zones_of_chain() -> &'static [(&'static str, &'static str, Option<u64>)] {
+fn classes_of_chain() -> &'static [(&'static str, &'static str, Option<u64>)] {
     &[
         ("-7", "", Some(0)),
         ("0.9999", "", Some(0)),
@@ -413,8 +439,8 @@ fn zones_of_chain() -> &'static [(&'static str, &'static str, Option<u64>)] {
 }
 
 #[test]
-fn values_of_one_zone_and_of_others(rt: HostRuntime) {
-    let of_both = Tried::Zones(zones_of_flag_and_code());
+fn values_of_one_class_and_of_others(rt: HostRuntime) {
+    let of_both = Tried::Zones(classes_of_flag_and_code());
     try_plan(&rt, rt.alloc(), flag_and_code(), of_both);
-    try_plan(&rt, rt.alloc(), chain(), Tried::Zones(zones_of_chain()));
+    try_plan(&rt, rt.alloc(), chain(), Tried::Zones(classes_of_chain()));
 }

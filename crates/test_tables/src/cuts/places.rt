@@ -1,6 +1,7 @@
 //! The check of one table, with its gaps as indices.
 use super::plans::{
-    apart, at_five, flag_and_code, no_region_behind_ten_columns, seventeen_regions, sixteen_regions,
+    at_five, disjoint_plan, flag_and_code, no_region_after_ten_columns, seventeen_regions,
+    sixteen_regions,
 };
 use super::{is_pair, plan_of};
 use crate::ending::expects;
@@ -43,7 +44,7 @@ fn has_gaps_and_pair(check: TableCheck, places: &[u32], first: usize, second: us
 
 #[test]
 fn gaps_of_a_column_at_their_places(rt: HostRuntime) {
-    let apart = check(&rt, rt.alloc(), apart());
+    let apart = check(&rt, rt.alloc(), disjoint_plan());
     expects(&rt, has_gaps(apart, &[1, 5], 6), "two gaps of six cells");
     let at_five = check(&rt, rt.alloc(), at_five());
     let same = has_gaps_and_pair(at_five, &[], 1, 2);
@@ -68,7 +69,7 @@ fn as_many_cells_as_may_be_and_more(rt: HostRuntime) {
 // start.
 #[test]
 fn a_last_column_without_a_region_leaves_no_cell(rt: HostRuntime) {
-    let found = check(&rt, rt.alloc(), no_region_behind_ten_columns());
+    let found = check(&rt, rt.alloc(), no_region_after_ten_columns());
     expects(&rt, found.overlaps.is_empty(), "no overlap");
     expects(&rt, has_gaps(found, &[], 0), "no cell and no gap");
 }

@@ -2,7 +2,7 @@
 //! would become part of the proof of every test that names it.
 
 /// Two ranges of numbers, with 1 between them.
-pub fn apart() -> &'static [u8] {
+pub fn disjoint_plan() -> &'static [u8] {
     br#"version = 1
 fields = [{name = "x", kind = "number"}]
 [[tables]]
@@ -90,7 +90,7 @@ rules = [
 }
 
 /// Two equal rules over ten columns of 17 regions and one column without allowed values.
-pub fn no_region_behind_ten_columns() -> &'static [u8] {
+pub fn no_region_after_ten_columns() -> &'static [u8] {
     br#"version = 1
 fields = [{name = "x", kind = "number"}]
 [[tables]]
@@ -191,7 +191,7 @@ rules = [
 
 /// Three tables: one takes the highest match, one lists the matches in decreasing priority, and one
 /// requires that they agree.
-pub fn ranked() -> &'static [u8] {
+pub fn ranked_plan() -> &'static [u8] {
     br#"version = 1
 fields = [{name = "x", kind = "number"}]
 [[tables]]

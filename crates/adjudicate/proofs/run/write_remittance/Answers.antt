@@ -10,7 +10,7 @@ returns-in_err-batch-clause-stopped g c =
 pub returns-in_err-write_report_by_threads-clause-stopped : goal.returns-in_err-write_report_by_threads-clause-stopped
 returns-in_err-write_report_by_threads-clause-stopped g c =
     let stopped = err_from_is_err_and c.from_residual-in_err-write_report_by_threads.result c.from_residual-in_err-write_report_by_threads.ensures.1 in
-    rw stopped.1 (stops_by_write c.args.terms.now _ c.in_ok-batch.ensures.finished _ _ c.args.workers _ _ c.terms_are_seen.ensures c.in_err-write_report_by_threads.ensures.refused stopped.2)
+    rw stopped.1 (stops_by_write c.args.terms.now _ c.in_ok-batch.ensures.finished _ _ c.args.workers _ _ c.claim_lists_exist.ensures c.in_err-write_report_by_threads.ensures.refused stopped.2)
 
 pub returns-clause-written : goal.returns-clause-written
 returns-clause-written g c = writes_remittance c.args.terms.now _ c.in_ok-batch.ensures.finished _ _ c.in_ok-write_report_by_threads.ensures.written

@@ -3,7 +3,7 @@ use Rattle.value_command.proofs.Ends.{ends_done, ends_refused}
 use Rattle.commands.proofs.run.run.Goals as goal
 
 pub returns-clause-refused : goal.returns-clause-refused
-returns-clause-refused g c = ends_refused status_of _ _ _ c.do_counted_run-answer.ensures.reason c.ended-status.ensures.done c.ended-status.ensures.refused
+returns-clause-refused g c = ends_refused status_of _ _ _ c.do_counted_run-answer.ensures.reason c.exit_status_of-status.ensures.done c.exit_status_of-status.ensures.refused
 
 pub returns-clause-done : goal.returns-clause-done
-returns-clause-done g c = ends_done _ _ _ _ _ c.do_counted_run-answer.ensures.written c.ended-status.ensures.not_done
+returns-clause-done g c = ends_done _ _ _ _ _ c.do_counted_run-answer.ensures.written c.exit_status_of-status.ensures.not_done

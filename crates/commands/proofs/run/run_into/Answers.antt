@@ -7,11 +7,11 @@ use Rattle.commands.proofs.Ends.{resource_refused}
 use Rattle.commands.proofs.run.run_into.Goals as goal
 
 pub returns-in-Err-clause-refused : goal.returns-in-Err-clause-refused
-returns-in-Err-clause-refused g c = λ not_done. resource_refused _ tt _ c.unwritable.ensures
+returns-in-Err-clause-refused g c = λ not_done. resource_refused _ tt _ c.report_unwritable.ensures
 
 pub returns-clause-refused : goal.returns-clause-refused
-returns-clause-refused g c = placed_refused status_of _ (Value NoMemory) refl tt _ _ c.do_counted_run-outcome.ensures.reason c.placed-status.ensures.status
+returns-clause-refused g c = placed_refused status_of _ (Value NoMemory) refl tt _ _ c.do_counted_run-outcome.ensures.reason c.commit_output-status.ensures.status
 
 pub returns-clause-done : goal.returns-clause-done
 returns-clause-done g c = placed_through g.P.Text.Write.contents _ _ _ _ _ _ _ _ _ _ c.begin.ensures.kept c.do_counted_run-outcome.ensures.written
-    c.placed-status.ensures.refused c.placed-status.ensures.put c.new-out.ensures.writer c.into_inner.ensures (search rules)
+    c.commit_output-status.ensures.refused c.commit_output-status.ensures.put c.new-out.ensures.writer c.into_inner.ensures (search rules)

@@ -5,7 +5,7 @@ use Rattle.crew.proofs.intake.end.Goals as goal
 
 pub unreachable-requires : goal.unreachable-requires
 unreachable-requires g c =
-    none_lacks c.args.terms.now c.terms_are_seen.ensures (g.G.Gate.known c.tries.pass) (g.G.Gate.known c.in-Ok.answer.1) c.tries.invariant.1 c.in-Ok.ensures.served.section
+    none_lacks c.args.terms.now c.claim_lists_exist.ensures (g.G.Gate.known c.tries.pass) (g.G.Gate.known c.in-Ok.answer.1) c.tries.invariant.1 c.in-Ok.ensures.served.section
     c.args.provider c.args.count c.in-Err-OutOfTurn.field-0-0 c.in-Ok.answer.0 c.in-Err-OutOfTurn.field-0 c.in-Err-OutOfTurn.is (rw c.in-Err-OutOfTurn.is at c.in-Err-OutOfTurn.field-0-is)
     c.tries.invariant.2 c.in-Ok.ensures.reply
 
@@ -32,7 +32,7 @@ returns-in-Ok-ended-clause-goes_on g c =
 pub returns-in-Ok-ended-clause-past : goal.returns-in-Ok-ended-clause-past
 returns-in-Ok-ended-clause-past g c =
     let reply = rw c.in-Ok-ended.is at c.in-Ok.ensures.reply in
-    ends_past c.args.terms.now c.terms_are_seen.ensures (g.G.Gate.known c.tries.pass) (g.G.Gate.known c.in-Ok.answer.1) c.tries.invariant.1 c.in-Ok.ensures.served.section
+    ends_past c.args.terms.now c.claim_lists_exist.ensures (g.G.Gate.known c.tries.pass) (g.G.Gate.known c.in-Ok.answer.1) c.tries.invariant.1 c.in-Ok.ensures.served.section
     c.args.provider c.args.count reply
 
 pub returns-in-Err-AlreadyEnded-clause-goes_on : goal.returns-in-Err-AlreadyEnded-clause-goes_on
@@ -41,9 +41,9 @@ returns-in-Err-AlreadyEnded-clause-goes_on g c =
 
 pub returns-in-Err-AlreadyEnded-clause-past : goal.returns-in-Err-AlreadyEnded-clause-past
 returns-in-Err-AlreadyEnded-clause-past g c =
-    let told = rw c.in-Err-AlreadyEnded.is at c.in-Err-AlreadyEnded.field-0-is in
-    let reply = rw (c.in-Err-AlreadyEnded.is, told) at c.in-Ok.ensures.reply in
-    already_past c.args.terms.now c.terms_are_seen.ensures (g.G.Gate.known c.tries.pass) (g.G.Gate.known c.in-Ok.answer.1) c.tries.invariant.1 c.in-Ok.ensures.served.section
+    let reported = rw c.in-Err-AlreadyEnded.is at c.in-Err-AlreadyEnded.field-0-is in
+    let reply = rw (c.in-Err-AlreadyEnded.is, reported) at c.in-Ok.ensures.reply in
+    already_past c.args.terms.now c.claim_lists_exist.ensures (g.G.Gate.known c.tries.pass) (g.G.Gate.known c.in-Ok.answer.1) c.tries.invariant.1 c.in-Ok.ensures.served.section
     c.args.provider c.args.count reply
 
 pub returns-in-Err-Closed-clause-goes_on : goal.returns-in-Err-Closed-clause-goes_on
@@ -71,16 +71,16 @@ pub returns-in-Err-Closed-clause-past : goal.returns-in-Err-Closed-clause-past
 returns-in-Err-Closed-clause-past g c =
     let before = g.G.Gate.known c.tries.pass in
     let after = g.G.Gate.known c.in-Ok.answer.1 in
-    let told = rw c.in-Err-Closed.is at c.in-Err-Closed.field-0-is in
-    let reply = rw (c.in-Err-Closed.is, told) at c.in-Ok.ensures.reply in
-    shut_past c.args.terms.now c.terms_are_seen.ensures before after c.tries.invariant.1 c.in-Ok.ensures.served.section c.args.provider
-    (closed_shut c.args.terms.now c.terms_are_seen.ensures before after c.tries.invariant.1 c.in-Ok.ensures.served.section reply)
+    let reported = rw c.in-Err-Closed.is at c.in-Err-Closed.field-0-is in
+    let reply = rw (c.in-Err-Closed.is, reported) at c.in-Ok.ensures.reply in
+    shut_past c.args.terms.now c.claim_lists_exist.ensures before after c.tries.invariant.1 c.in-Ok.ensures.served.section c.args.provider
+    (closed_shut c.args.terms.now c.claim_lists_exist.ensures before after c.tries.invariant.1 c.in-Ok.ensures.served.section reply)
 
 pub returns-in-Err-Stopped-clause-past : goal.returns-in-Err-Stopped-clause-past
 returns-in-Err-Stopped-clause-past g c =
     let before = g.G.Gate.known c.tries.pass in
     let after = g.G.Gate.known c.in-Ok.answer.1 in
-    let told = rw c.in-Err-Stopped.is at c.in-Err-Stopped.field-0-is in
-    let reply = rw (c.in-Err-Stopped.is, told) at c.in-Ok.ensures.reply in
-    shut_past c.args.terms.now c.terms_are_seen.ensures before after c.tries.invariant.1 c.in-Ok.ensures.served.section c.args.provider
-    (stopped_shut c.args.terms.now c.terms_are_seen.ensures before after c.tries.invariant.1 c.in-Ok.ensures.served.section reply)
+    let reported = rw c.in-Err-Stopped.is at c.in-Err-Stopped.field-0-is in
+    let reply = rw (c.in-Err-Stopped.is, reported) at c.in-Ok.ensures.reply in
+    shut_past c.args.terms.now c.claim_lists_exist.ensures before after c.tries.invariant.1 c.in-Ok.ensures.served.section c.args.provider
+    (stopped_shut c.args.terms.now c.claim_lists_exist.ensures before after c.tries.invariant.1 c.in-Ok.ensures.served.section reply)

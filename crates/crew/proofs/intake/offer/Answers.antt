@@ -29,7 +29,7 @@ returns-in-Ok-accepted-clause-goes_on g c =
 pub returns-in-Ok-accepted-clause-next : goal.returns-in-Ok-accepted-clause-next
 returns-in-Ok-accepted-clause-next g c =
     let reply = rw (c.in-Ok-accepted.is, c.tries.invariant.2) at c.in-Ok.ensures.reply in
-    accepts_on c.args.terms.now c.terms_are_seen.ensures (g.G.Gate.known c.tries.pass) (g.G.Gate.known c.in-Ok.answer.1) c.tries.invariant.1 c.in-Ok.ensures.served.section
+    accepts_on c.args.terms.now c.claim_lists_exist.ensures (g.G.Gate.known c.tries.pass) (g.G.Gate.known c.in-Ok.answer.1) c.tries.invariant.1 c.in-Ok.ensures.served.section
     c.args.offer.provider c.args.offer.place c.in-Ok-accepted.field-0.position reply
 
 pub returns-in-Err-OutOfTurn-default-clause-goes_on : goal.returns-in-Err-OutOfTurn-default-clause-goes_on
@@ -38,7 +38,7 @@ returns-in-Err-OutOfTurn-default-clause-goes_on g c =
 
 pub returns-in-Err-OutOfTurn-default-clause-next : goal.returns-in-Err-OutOfTurn-default-clause-next
 returns-in-Err-OutOfTurn-default-clause-next g c =
-    goes_on c.args.terms.now c.terms_are_seen.ensures (g.G.Gate.known c.tries.pass) (g.G.Gate.known c.in-Ok.answer.1) c.tries.invariant.1 c.in-Ok.ensures.served.section
+    goes_on c.args.terms.now c.claim_lists_exist.ensures (g.G.Gate.known c.tries.pass) (g.G.Gate.known c.in-Ok.answer.1) c.tries.invariant.1 c.in-Ok.ensures.served.section
     c.args.offer.provider c.args.offer.place c.in-Err-OutOfTurn-default.expected c.in-Ok.answer.0 c.in-Err-OutOfTurn-default.field-0-0 c.in-Err-OutOfTurn-default.field-0-1
     c.in-Err-OutOfTurn-default.is c.in-Err-OutOfTurn-default.field-0-0-is c.tries.invariant.3 (rw c.tries.invariant.2 at c.in-Ok.ensures.reply)
 
@@ -48,7 +48,7 @@ returns-in-Err-Closed-default-clause-goes_on g c =
 
 pub returns-in-Err-Closed-default-clause-next : goal.returns-in-Err-Closed-default-clause-next
 returns-in-Err-Closed-default-clause-next g c =
-    closed_to c.args.terms.now c.terms_are_seen.ensures (g.G.Gate.known c.tries.pass) (g.G.Gate.known c.in-Ok.answer.1) c.tries.invariant.1 c.in-Ok.ensures.served.section
+    closed_to c.args.terms.now c.claim_lists_exist.ensures (g.G.Gate.known c.tries.pass) (g.G.Gate.known c.in-Ok.answer.1) c.tries.invariant.1 c.in-Ok.ensures.served.section
     c.args.offer.provider c.args.offer.place c.in-Ok.answer.0 c.in-Err-Closed-default.field-0-0 c.in-Err-Closed-default.field-0-1
     c.in-Err-Closed-default.is c.in-Err-Closed-default.field-0-0-is (rw c.tries.invariant.2 at c.in-Ok.ensures.reply)
 
@@ -58,7 +58,7 @@ returns-in-Err-Stopped-default-clause-goes_on g c =
 
 pub returns-in-Err-Stopped-default-clause-next : goal.returns-in-Err-Stopped-default-clause-next
 returns-in-Err-Stopped-default-clause-next g c =
-    stopped_to c.args.terms.now c.terms_are_seen.ensures (g.G.Gate.known c.tries.pass) (g.G.Gate.known c.in-Ok.answer.1) c.tries.invariant.1 c.in-Ok.ensures.served.section
+    stopped_to c.args.terms.now c.claim_lists_exist.ensures (g.G.Gate.known c.tries.pass) (g.G.Gate.known c.in-Ok.answer.1) c.tries.invariant.1 c.in-Ok.ensures.served.section
     c.args.offer.provider c.args.offer.place c.in-Ok.answer.0 c.in-Err-Stopped-default.field-0-0 c.in-Err-Stopped-default.field-0-1
     c.in-Err-Stopped-default.is c.in-Err-Stopped-default.field-0-0-is (rw c.tries.invariant.2 at c.in-Ok.ensures.reply)
 

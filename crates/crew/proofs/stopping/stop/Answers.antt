@@ -11,7 +11,7 @@ returns-in-Ok-clause-seen g c = led (g.G.Gate.known c.args.pass) (g.G.Gate.known
 
 pub returns-in-Ok-clause-stopped : goal.returns-in-Ok-clause-stopped
 returns-in-Ok-clause-stopped g c =
-    inl (stops_seen c.args.terms.now c.terms_are_seen.ensures (g.G.Gate.known c.args.pass) (g.G.Gate.known c.in-Ok.pass) c.requires.terms
+    inl (stops_seen c.args.terms.now c.claim_lists_exist.ensures (g.G.Gate.known c.args.pass) (g.G.Gate.known c.in-Ok.pass) c.requires.terms
     c.in-Ok.ensures.served.section c.in-Ok.ensures.stopped)
 
 pub returns-in-Err-clause-own : goal.returns-in-Err-clause-own

@@ -12,7 +12,7 @@ not_both parts J seen finished unfinished = seen (λ T is. unfinished T is (fini
 
 pub unreachable-requires : goal.unreachable-requires
 unreachable-requires g c =
-    not_both c.args.terms.now c.into_inner-state.result.journal c.terms_are_seen.ensures (rw c.into_inner-state.ensures c.in-Ok-run_behind.ensures.finished)
+    not_both c.args.terms.now c.into_inner-state.result.journal c.claim_lists_exist.ensures (rw c.into_inner-state.ensures c.in-Ok-run_after_new.ensures.finished)
     c.in-Err-from_state.ensures.unfinished
 
 pub returns-in_default-clause-refused : goal.returns-in_default-clause-refused

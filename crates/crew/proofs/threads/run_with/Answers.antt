@@ -39,7 +39,7 @@ returns-clause-seen_back g c = c.in-Err.ensures.leaves.goes_on.seen
 
 pub returns-clause-refused : goal.returns-clause-refused
 returns-clause-refused g c =
-    not_for_workers c.args.workers c.or_own.result (c.if-not-may_have.ensures.0 refl) (λ is. c.in-Err.ensures.leaves.fault (c.or_own.ensures.workers is))
+    not_for_workers c.args.workers c.least_with.result (c.if-not-may_have.ensures.0 refl) (λ is. c.in-Err.ensures.leaves.fault (c.least_with.ensures.workers is))
 
 pub returns-clause-stopped : goal.returns-clause-stopped
-returns-clause-stopped g c is = c.in-Err.ensures.leaves.stopped (c.or_own.ensures.stopped is)
+returns-clause-stopped g c is = c.in-Err.ensures.leaves.stopped (c.least_with.ensures.stopped is)

@@ -3,7 +3,7 @@ use Rattle.std.proofs.lemmas.List.Elements.{All-rest}
 use Rattle.std.specs.Vec.Iter.{into_iter_items}
 use Rattle.settlement.specs.Claim.{IsClaimOf}
 use Rattle.crew.specs.Sharing.{settled_by}
-use Rattle.crew.proofs.Held.{one_more}
+use Rattle.crew.proofs.HeldClaims.{one_more}
 use Rattle.crew.proofs.worker.decide_all.Goals as goal
 
 pub loop-job-preserved : goal.loop-job-preserved

@@ -2,7 +2,7 @@ use Rattle.std.proofs.Common.{◌∷◌, sym, ◌∙◌}
 use Rattle.std.proofs.lemmas.List.Elements.{All-head, All-same, All-tail}
 use Rattle.std.specs.Vec.Iter.{into_iter_items}
 use Rattle.crew.specs.Sharing.{IsSettledIn}
-use Rattle.crew.proofs.Held.{all_settled_stay}
+use Rattle.crew.proofs.HeldClaims.{all_settled_stay}
 use Rattle.crew.proofs.Passes.{further, leaves_later}
 use Rattle.crew.proofs.worker.record_all.Goals as goal
 
@@ -21,7 +21,7 @@ loop-one-preserved g c =
     let on = c.in-Ok.ensures in (
       further (g.G.Gate.has_pass c.args.gate.now) g.G.Gate.known c.args.pass c.loop-one.pass c.in-Ok.pass c.loop-one.invariant.0 on.goes_on,
       on.goes_on.seen.terms ∙ c.loop-one.invariant.1,
-      all_settled_stay c.jobs_stay.ensures before after rest on.goes_on.seen
+      all_settled_stay c.jobs_are_stable.ensures before after rest on.goes_on.seen
           (All-tail P c.in-Some.one rest (All-same P (c.in-Some.one ∷ rest) (into_iter_items c.loop-one.one-iterator) (sym c.in-Some.ensures.steps.0) c.loop-one.invariant.2)),
     )
 

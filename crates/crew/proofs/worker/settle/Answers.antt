@@ -1,6 +1,6 @@
 use Rattle.std.proofs.Common.{◌∙◌, refl}
-use Rattle.crew.specs.declared.worker.Settled.{Settled}
-use Rattle.crew.proofs.Held.{settled_is}
+use Rattle.crew.specs.declared.worker.DecidedJob.{DecidedJob}
+use Rattle.crew.proofs.HeldClaims.{settled_is}
 use Rattle.crew.proofs.worker.settle.Goals as goal
 
 pub returns-clause-settled : goal.returns-clause-settled
@@ -8,6 +8,6 @@ returns-clause-settled c =
     let plan = c.args.adjudicator.now in
     let job = c.args.job in
     let outcome = c.in_ok-outcome-2.outcome in
-    let settled : Settled = record { job = job; outcome = outcome } in
+    let settled : DecidedJob = record { job = job; outcome = outcome } in
     let decided = rw c.as_claim.ensures at c.in_ok-outcome.ensures.decided in
     settled_is plan plan job outcome settled refl (c.in_ok-outcome-2.ensures.value ∙ decided) refl

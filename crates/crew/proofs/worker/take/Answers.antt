@@ -22,7 +22,7 @@ returns-in-Ok-Over-clause-goes_on g c =
 pub returns-in-Ok-Over-clause-task : goal.returns-in-Ok-Over-clause-task
 returns-in-Ok-Over-clause-task g c =
     let reply = rw (c.in-Ok-Over.is, c.in-Ok-Over.field-0-is) at c.in-Ok.ensures.reply in
-    over_seen c.args.terms.now c.terms_are_seen.ensures (g.G.Gate.known c.tries.pass) (g.G.Gate.known c.in-Ok.answer.1) c.tries.invariant.1 c.in-Ok.ensures.served.section reply
+    over_seen c.args.terms.now c.claim_lists_exist.ensures (g.G.Gate.known c.tries.pass) (g.G.Gate.known c.in-Ok.answer.1) c.tries.invariant.1 c.in-Ok.ensures.served.section reply
 
 pub returns-in-Ok-Work-clause-goes_on : goal.returns-in-Ok-Work-clause-goes_on
 returns-in-Ok-Work-clause-goes_on g c =
@@ -33,7 +33,7 @@ returns-in-Ok-Work-clause-task g c =
     let reply = rw (c.in-Ok-Work.is, c.in-Ok-Work.field-0-is) at c.in-Ok.ensures.reply in
     let sound = rw c.plan.ensures.plan at c.names-names.ensures.sound in
     rw c.in-Ok-Work.field-0-is
-    (work_seen c.args.terms.now c.terms_are_seen.ensures (g.G.Gate.known c.tries.pass) (g.G.Gate.known c.in-Ok.answer.1) c.tries.invariant.1 c.in-Ok.ensures.served.section
+    (work_seen c.args.terms.now c.claim_lists_exist.ensures (g.G.Gate.known c.tries.pass) (g.G.Gate.known c.in-Ok.answer.1) c.tries.invariant.1 c.in-Ok.ensures.served.section
     c.claims_have_the_plan_s_fields.ensures sound c.in-Ok-Work.job reply)
 
 pub returns-in-Ok-NothingReady-clause-goes_on : goal.returns-in-Ok-NothingReady-clause-goes_on
@@ -47,7 +47,7 @@ returns-in-Ok-Stopped-clause-leaves g c =
     let after = c.in-Ok.answer.1 in
     let reply = rw (c.in-Ok-Stopped.is, c.in-Ok-Stopped.field-0-is) at c.in-Ok.ensures.reply in
     leaves_stopped own known c.args.pass after (section_later own known c.args.pass c.tries.pass after c.tries.invariant.0 c.in-Ok.ensures.served)
-    (stopped_seen c.args.terms.now c.terms_are_seen.ensures (known c.tries.pass) (known after) c.tries.invariant.1 c.in-Ok.ensures.served.section reply)
+    (stopped_seen c.args.terms.now c.claim_lists_exist.ensures (known c.tries.pass) (known after) c.tries.invariant.1 c.in-Ok.ensures.served.section reply)
 
 pub returns-in-Ok-NothingReady-clause-task : goal.returns-in-Ok-NothingReady-clause-task
 returns-in-Ok-NothingReady-clause-task g c = search rules

@@ -12,8 +12,8 @@ loop-place-preserved c =
     let item = c.input-item.result in
     let listed = c.as_slice-input-items.ensures in
     let below = subst (λ inputs. i < length inputs) listed c.loop-place-test.true in
-    let standing = c.input-item.is ∙ ap (λ inputs. get_or inputs i item) listed in
-    let step = columns_more p t t.inputs i item below standing in
+    let present = c.input-item.is ∙ ap (λ inputs. get_or inputs i item) listed in
+    let step = columns_more p t t.inputs i item below present in
     c.in_ok-push.ensures.ok ∙ ap (λ front. front ++ c.in_ok-column_regions.field-0 ∷ []) c.loop-place.invariant
     ∙ ap (λ last. map regions (columns_from p t 0 (take i t.inputs)) ++ last ∷ []) c.in_ok-column_regions.ensures ∙ sym step
 

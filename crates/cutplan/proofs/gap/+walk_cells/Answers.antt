@@ -4,7 +4,7 @@ use Rattle.std.proofs.lemmas.List.{take_all}
 use Rattle.std.proofs.lemmas.Result.{on_ok_weaker}
 use Rattle.cutplan.specs.Check.{cells}
 use Rattle.cutplan.specs.Masks.{rules_in, AreMasks}
-use Rattle.cutplan.specs.Parts.{uncovered, AreRules}
+use Rattle.cutplan.specs.CheckSteps.{uncovered, AreRules}
 use Rattle.cutplan.specs.Places.{places}
 use Rattle.cutplan.specs.declared.region.Region.TheVariants.{Every}
 use Rattle.cutplan.proofs.Meeting.{alive_are, alive_rules, mask_here, mask_there, masks_here, masks_later, masks_there}
@@ -112,13 +112,13 @@ loop-at-preserved m c =
     let rules = rules_in (length t.rules) c.args.rules.now in
     let marks = mask_here t place regions here at r [] all below (got_alike regions at Every r below) in
     let alive = alive_are t place r c.args.rules.now (get_or here at []) c.meet-left.result c.requires.few marks c.meet-left.ensures.has in
-    let behind = ap₂ (λ places_left k. places (uncovered t (place + 1) places_left) k (cells more)) alive before.passed in
+    let following = ap₂ (λ places_left k. places (uncovered t (place + 1) places_left) k (cells more)) alive before.passed in
     let step = places_more t place rules regions more at c.args.walk.now.passed Every below in
     let count = cells_more regions more at Every below in
     let was = before.passed in
     let now = done.passed in
     record {
-      found = done.found ∙ ap₂ (λ front last. front ++ last) before.found behind ∙ append_assoc c.args.walk.now.found.items _ _ ∙ ap (λ end. c.args.walk.now.found.items ++ end) (sym step);
+      found = done.found ∙ ap₂ (λ front last. front ++ last) before.found following ∙ append_assoc c.args.walk.now.found.items _ _ ∙ ap (λ end. c.args.walk.now.found.items ++ end) (sym step);
       passed = omega (arith, was, now, count);
     }
 

@@ -1,7 +1,7 @@
 use Rattle.std.proofs.Common.{◌≡◌, [], get_or, ◌+◌, ◌++◌, take, length}
 use Rattle.std.specs.List.{flat_map}
 use Rattle.cutplan.specs.Masks.{rules_in}
-use Rattle.cutplan.specs.Parts.{uncovered}
+use Rattle.cutplan.specs.CheckSteps.{uncovered}
 use Rattle.cutplan.specs.Places.{places}
 use Rattle.cutplan.proofs.Places.{cells_with}
 use Rattle.cutplan.proofs.gap.+walk_cells.Given as goal

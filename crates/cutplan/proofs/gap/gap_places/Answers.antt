@@ -3,7 +3,7 @@ use Rattle.std.proofs.lemmas.List.{nil_from_length}
 use Rattle.std.specs.Prelude.{nat_lt}
 use Rattle.cutplan.specs.Check.{cells}
 use Rattle.cutplan.specs.Masks.{Marks, rules_in}
-use Rattle.cutplan.specs.Parts.{uncovered}
+use Rattle.cutplan.specs.CheckSteps.{uncovered}
 use Rattle.cutplan.specs.Places.{is_gap, places}
 use Rattle.cutplan.proofs.Places.{gap_places_are}
 use Rattle.cutplan.proofs.Meeting.{first_are, first_rules, table_masks}

@@ -5,7 +5,7 @@ use Rattle.std.specs.Prelude.{nat_lt}
 use Rattle.std.specs.Result.{IfOk}
 use Rattle.cutplan.specs.Check.{cells, covers}
 use Rattle.cutplan.specs.Masks.{Marks}
-use Rattle.cutplan.specs.Parts.{uncovered}
+use Rattle.cutplan.specs.CheckSteps.{uncovered}
 use Rattle.cutplan.proofs.Covering.{gaps_are}
 use Rattle.cutplan.proofs.Meeting.{first_are, first_rules, table_masks}
 use Rattle.cutplan.proofs.gap.gaps.Goals as goal
@@ -15,8 +15,8 @@ returns-then-has_no_cell c =
     let none = nil_from_length (cells c.args.columns.now) c.if-has_no_cell.ensures.none in
     c.new.ensures.items ∙ ap (filter (λ cell. not (list_any (λ r. covers r.cells cell) c.args.table.now.rules))) (sym none)
 
-pub uncovered-requires : goal.uncovered-requires
-uncovered-requires c =
+pub uncovered_cells-requires : goal.uncovered_cells-requires
+uncovered_cells-requires c =
     let t = c.args.table.now in
     let marks = subst (λ n. Marks (λ place. nat_lt place n) c.first_rules-rules.result) c.len.ensures c.first_rules-rules.ensures in
     record {
@@ -31,6 +31,6 @@ returns c =
     let t = c.args.table.now in
     let columns = c.args.columns.now in
     let marks = subst (λ n. Marks (λ place. nat_lt place n) c.first_rules-rules.result) c.len.ensures c.first_rules-rules.ensures in
-    let told = gaps_are t columns in
+    let reported = gaps_are t columns in
     let rules = first_are (length t.rules) c.first_rules-rules.result c.requires.few marks in
-    subst (λ xs. IfOk c.uncovered.result (λ found. found.items ≡ xs)) (ap (λ places. filter (uncovered t 0 places) (cells columns)) rules ∙ told) c.uncovered.ensures
+    subst (λ xs. IfOk c.uncovered_cells.result (λ found. found.items ≡ xs)) (ap (λ places. filter (uncovered t 0 places) (cells columns)) rules ∙ reported) c.uncovered_cells.ensures

@@ -1,6 +1,6 @@
 use Rattle.std.proofs.Common.{ap, sym, ◌∙◌, subst}
 use Rattle.std.specs.Prelude.{IsTrue, slice_get}
-use Rattle.cutplan.specs.Found.{has_at, OthersRise}
+use Rattle.cutplan.specs.Matching.{has_at, OthersRise}
 use Rattle.cutplan.proofs.ByMasks.{found_at}
 use Rattle.cutplan.proofs.lookup.mask_of.Goals as goal
 

@@ -1,8 +1,8 @@
 use Rattle.std.proofs.Common.{rules, ◌<◌, ap, length, subst, sym, ◌∙◌}
 use Rattle.std.proofs.lemmas.List.{set-get_or}
 use Rattle.std.specs.List.{slice_set}
-use Rattle.cutplan.specs.Parts.{cell_holds_in, holds_among}
-use Rattle.cutplan.proofs.Asking.{among_at, has_more, has_all}
+use Rattle.cutplan.specs.CheckSteps.{cell_holds_in, holds_among}
+use Rattle.cutplan.proofs.CellProbes.{among_at, has_more, has_all}
 use Rattle.cutplan.proofs.mask.mask_of.Goals as goal
 
 pub rules-preserved : goal.rules-preserved

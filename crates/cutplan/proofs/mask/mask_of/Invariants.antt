@@ -1,7 +1,7 @@
 use Rattle.std.proofs.Common.{◌≡◌, ℕ, ◌<◌, length}
 use Rattle.std.specs.Prelude.{◌&&◌, nat_lt}
 use Rattle.cutplan.specs.Masks.{has_rule}
-use Rattle.cutplan.specs.Parts.{holds_among}
+use Rattle.cutplan.specs.CheckSteps.{holds_among}
 use Rattle.cutplan.proofs.mask.mask_of.Given as goal
 
 abbrev pub invariant-rules : goal.invariant-rules

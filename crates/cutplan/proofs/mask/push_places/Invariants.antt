@@ -1,5 +1,5 @@
 use Rattle.std.proofs.Common.{◌≡◌, ℕ, ◌++◌}
-use Rattle.cutplan.specs.Found.{places_set}
+use Rattle.cutplan.specs.Matching.{places_set}
 use Rattle.cutplan.proofs.mask.push_places.Given as goal
 
 abbrev pub invariant-bits : goal.invariant-bits

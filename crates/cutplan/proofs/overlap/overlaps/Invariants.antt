@@ -1,7 +1,7 @@
 use Rattle.std.proofs.Common.{◌≡◌, ◌-◌, filter}
 use Rattle.std.specs.List.{flat_map, range_with_len}
 use Rattle.cutplan.specs.Check.{pairs_with}
-use Rattle.cutplan.specs.Parts.{share_all}
+use Rattle.cutplan.specs.CheckSteps.{share_all}
 use Rattle.cutplan.proofs.overlap.overlaps.Given as goal
 
 abbrev pub invariant-rules : goal.invariant-rules

@@ -2,7 +2,7 @@ use Rattle.std.proofs.Common.{◌≡◌, ◌-◌, IsTrue, ℕ, filter, ap, sym, 
 use Rattle.std.specs.List.{list_all, enumerate_from}
 use Rattle.cutplan.specs.Check.{pairs}
 use Rattle.cutplan.specs.Masks.{AreTableMasks}
-use Rattle.cutplan.specs.Parts.{are_whole, share_all}
+use Rattle.cutplan.specs.CheckSteps.{are_whole, share_all}
 use Rattle.cutplan.specs.Regions.{table_regions}
 use Rattle.cutplan.proofs.Partners.{all_whole, shared_meet}
 use Rattle.cutplan.proofs.table_check.check_of.Goals as goal

@@ -2,7 +2,7 @@ use Rattle.std.proofs.Common.{◌≡◌, ◌-◌, IfOk, IsTrue, List, ℕ, filte
 use Rattle.std.specs.List.{list_all, enumerate_from}
 use Rattle.cutplan.specs.Check.{pairs}
 use Rattle.cutplan.specs.Masks.{AreTableMasks}
-use Rattle.cutplan.specs.Parts.{are_whole, share_all}
+use Rattle.cutplan.specs.CheckSteps.{are_whole, share_all}
 use Rattle.cutplan.specs.Regions.{table_regions}
 use Rattle.cutplan.proofs.Partners.{all_whole, shared_meet}
 use Rattle.cutplan.proofs.table_check.overlaps_of.Goals as goal
@@ -21,8 +21,8 @@ returns c =
     let kept = c.in_ok-masks.masks in
     let columns : c.as_slice.result.now ≡ table_regions p t = c.as_slice.ensures ∙ c.in_ok-columns.ensures in
     let masks : AreTableMasks t (table_regions p t) kept = subst (λ cs. AreTableMasks t cs kept) columns c.in_ok-masks.ensures in
-    let told =
+    let reported =
     ap (λ ms. filter (λ (pair : ℕ × ℕ). share_all ms (pair.0 - 1) (pair.1 - 1)) (pairs c.len.result)) c.as_slice-2.ensures
     ∙ ap (λ n. filter (λ (pair : ℕ × ℕ). share_all kept (pair.0 - 1) (pair.1 - 1)) (pairs n)) c.len.ensures
     ∙ shared_meet t (table_regions p t) kept c.requires masks in
-    subst (λ (xs : List (ℕ × ℕ)). IfOk c.overlaps.result (λ found. found.items ≡ xs)) told c.overlaps.ensures
+    subst (λ (xs : List (ℕ × ℕ)). IfOk c.overlaps.result (λ found. found.items ≡ xs)) reported c.overlaps.ensures

@@ -8,5 +8,5 @@ returns-in-34 c = grind (arith, common_steps)
 pub returns-in-92 : goal.returns-in-92
 returns-in-92 c = grind (arith, common_steps)
 
-pub bounds-behind-0 : goal.bounds-behind-0
-bounds-behind-0 c = grind (arith, common_steps)
+pub bounds-following-0 : goal.bounds-following-0
+bounds-following-0 c = grind (arith, common_steps)

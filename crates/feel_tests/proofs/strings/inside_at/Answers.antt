@@ -7,7 +7,7 @@ use Rattle.feel_tests.proofs.strings.inside_at.Goals as goal
 
 pub returns-in-Close-clause-ok : goal.returns-in-Close-clause-ok
 returns-in-Close-clause-ok c =
-    begins_quoted c.args.text.now c.args.inside.now c.pieces.bytes.items c.in-Close.behind.now c.requires (c.pieces.invariant ∙ ap (λ (t : List ℕ). escaped c.pieces.bytes.items ++ t) c.in-Close.ensures)
+    begins_quoted c.args.text.now c.args.inside.now c.pieces.bytes.items c.in-Close.following.now c.requires (c.pieces.invariant ∙ ap (λ (t : List ℕ). escaped c.pieces.bytes.items ++ t) c.in-Close.ensures)
 
 pub returns-in-BadEscape-clause-refused : goal.returns-in-BadEscape-clause-refused
 returns-in-BadEscape-clause-refused c memory bytes rest b =

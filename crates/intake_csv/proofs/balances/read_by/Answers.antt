@@ -7,37 +7,37 @@ use Rattle.intake_csv.proofs.balances.read_by.Goals as goal
 
 pub read-requires-in-loop-record-clause-balances : goal.read-requires-in-loop-record-clause-balances
 read-requires-in-loop-record-clause-balances c =
-    let s = c.in_ok-sheet.ensures.ok in
-    balance-layout c.args.version s.is_sheet.header c.in_ok-sheet.sheet.layout s.is_sheet.columns
+    let s = c.in_ok-headered_file.ensures.ok in
+    balance-layout c.args.version s.is_headered_file.header c.in_ok-headered_file.headered_file.layout s.is_headered_file.columns
 
 pub loop-record-preserved : goal.loop-record-preserved
 loop-record-preserved c =
     let reads = rw (c.loop-record.invariant.0, c.if-branch.true) at c.in_ok-read.ensures.reads in
     let step = rw c.in-Ok.is at c.in_ok-read-2.ensures.entry in (
       reads.1,
-      read-next c.args.version c.in_ok-sheet.sheet.layout (records_of c.args.text.now) c.loop-record.number c.read.new.self (remaining c.read.new.records) c.loop-record.balances c.read-in-loop-record.new.self
+      read-next c.args.version c.in_ok-headered_file.headered_file.layout (records_of c.args.text.now) c.loop-record.number c.read.new.self (remaining c.read.new.records) c.loop-record.balances c.read-in-loop-record.new.self
           reads.0 c.loop-record.invariant.1 step,
     )
 
 pub returns-in-Err-clause-fault : goal.returns-in-Err-clause-fault
 returns-in-Err-clause-fault c =
-    let s = c.in_ok-sheet.ensures.ok in
+    let s = c.in_ok-headered_file.ensures.ok in
     let reads = rw (c.loop-record.invariant.0, c.if-branch.true) at c.in_ok-read.ensures.reads in
     let reason = rw c.in-Err.is at c.in_ok-read-2.ensures.refused in
-    refused-next c.args.version c.args.text.now c.in_ok-sheet.sheet.layout (records_of c.args.text.now) c.loop-record.number c.read.new.self (remaining c.read.new.records) c.loop-record.balances
-    c.in-Err.fault s.is_sheet reads.0 c.loop-record.invariant.1 reason
+    refused-next c.args.version c.args.text.now c.in_ok-headered_file.headered_file.layout (records_of c.args.text.now) c.loop-record.number c.read.new.self (remaining c.read.new.records) c.loop-record.balances
+    c.in-Err.fault s.is_headered_file reads.0 c.loop-record.invariant.1 reason
 
 pub returns-clause-ok : goal.returns-clause-ok
 returns-clause-ok c =
-    let s = c.in_ok-sheet.ensures.ok in
+    let s = c.in_ok-headered_file.ensures.ok in
     let reads = rw (c.loop-record.invariant.0, c.if-branch.false) at c.in_ok-read.ensures.reads in
-    read-all c.args.version c.args.text.now c.in_ok-sheet.sheet.layout (records_of c.args.text.now) c.loop-record.number c.loop-record.balances s.is_sheet reads.0 c.loop-record.invariant.1
+    read-all c.args.version c.args.text.now c.in_ok-headered_file.headered_file.layout (records_of c.args.text.now) c.loop-record.number c.loop-record.balances s.is_headered_file reads.0 c.loop-record.invariant.1
 
 pub loop-record-init : goal.loop-record-init
-loop-record-init c = (c.in_ok-sheet.ensures.ok.records, search (rules, read_none))
+loop-record-init c = (c.in_ok-headered_file.ensures.ok.records, search (rules, read_none))
 
 pub read-requires-in-loop-record-clause-within : goal.read-requires-in-loop-record-clause-within
-read-requires-in-loop-record-clause-within c = c.in_ok-sheet.ensures.ok.within
+read-requires-in-loop-record-clause-within c = c.in_ok-headered_file.ensures.ok.within
 
 pub loop-record-smaller : goal.loop-record-smaller
 loop-record-smaller c =
@@ -51,4 +51,4 @@ overflow_add-number c =
     let given = ap (λ (r : RecordsLeft). r.given) start in
     let at = read-at c.loop-record.records c.read.new.records (c.loop-record.number + 1) c.read.new.self given reads in
     let within = rw (ap (λ (r : RecordsLeft). r.text) start) at at.0 in
-    omega (arith, within, records-few c.args.text.now, c.in_ok-sheet.ensures.ok.small)
+    omega (arith, within, records-few c.args.text.now, c.in_ok-headered_file.ensures.ok.small)

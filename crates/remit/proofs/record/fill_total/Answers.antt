@@ -3,7 +3,7 @@ use Rattle.std.proofs.lemmas.Result.{on_ok_weaker}
 use Rattle.csv.specs.Records.{fields_of}
 use Rattle.fixpoint.specs.Money.{money_text}
 use Rattle.remit.specs.Records.{total_front}
-use Rattle.remit.proofs.Adding.{sums_told}
+use Rattle.remit.proofs.Adding.{sums_reported}
 use Rattle.remit.proofs.record.fill_total.Goals as goal
 
 -- the record of totals, of a number of claims and the texts of sums
@@ -14,4 +14,4 @@ pub returns : goal.returns
 returns c =
     let version = c.args.version in
     let filled : OnOk c.push_field.result (fields_of c.push_field.new.self ≡ totals version c.args.accepted (map (λ sum. money_text (pos sum)) c.args.sums.units)) = search rules in
-    on_ok_weaker c.push_field.result (λ fields J count accepted are. fields ∙ ap₂ (totals version) accepted (sums_told J count c.args.sums are)) filled
+    on_ok_weaker c.push_field.result (λ fields J count accepted are. fields ∙ ap₂ (totals version) accepted (sums_reported J count c.args.sums are)) filled

@@ -1,6 +1,6 @@
 use Rattle.std.proofs.Common.{arith}
 use Rattle.std.proofs.lemmas.Result.{err_from_is_err_and}
-use Rattle.remit.specs.Held.{at}
+use Rattle.remit.specs.RecordWriter.{at}
 use Rattle.remit.specs.Looked.{looked_up}
 use Rattle.remit.proofs.Filing.{first-written, next-written, refused-in-front}
 use Rattle.remit.proofs.report.+files.Goals as goal

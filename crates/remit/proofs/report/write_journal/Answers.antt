@@ -1,7 +1,7 @@
 use Rattle.std.proofs.Common.{◌≡◌, Err, None, Ok, ap, arith, length, ◌∙◌}
 use Rattle.std.proofs.lemmas.List.{length-map}
 use Rattle.std.proofs.lemmas.Result.{err_from_is_err_and}
-use Rattle.remit.specs.Held.{at}
+use Rattle.remit.specs.RecordWriter.{at}
 use Rattle.remit.proofs.Reporting.{ends-device, ends-memory, ends-ok, ends-refused, ends-written, files-refused, files-same, header-refused, none-written, total-refused}
 use Rattle.remit.proofs.report.write_journal.Goals as goal
 

@@ -13,5 +13,5 @@ returns g c = record {
   draws = draws_allowed g.T.Growing.leads c.args.first;
   serves = λ slots id me ticket empty is. serves_allowed g.T.Growing.leads c.args.first slots id me ticket empty is g.T.Growing.reflexive;
   leaves = λ slots id me ticket value is carried grown. leaves_allowed g.T.Growing.leads c.args.first slots id me ticket value is carried grown g.T.Growing.reflexive g.T.Growing.transitive;
-  exchanges = λ s id me me' new r at told. (r, at ∙ ap (λ m. some m.0) (sym told.2));
+  exchanges = λ s id me me' new r at reported. (r, at ∙ ap (λ m. some m.0) (sym reported.2));
 }

@@ -1,5 +1,5 @@
 use Rattle.std.proofs.Common.{arith}
-use Rattle.adjudicate.specs.Pieces.{at}
+use Rattle.adjudicate.specs.BufferedOut.{at}
 use Rattle.adjudicate.proofs.Piecewise.{puts-no-tables, puts-tables}
 use Rattle.adjudicate.proofs.check.text.+put_tables.Goals as goal
 

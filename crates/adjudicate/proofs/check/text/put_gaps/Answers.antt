@@ -1,5 +1,5 @@
-use Rattle.adjudicate.specs.Told.{told_gap_line}
-use Rattle.adjudicate.specs.Pieces.{at}
+use Rattle.adjudicate.specs.CheckReport.{reported_gap_line}
+use Rattle.adjudicate.specs.BufferedOut.{at}
 use Rattle.adjudicate.proofs.Piecewise.{puts-all, puts-more, puts-none}
 use Rattle.adjudicate.proofs.check.text.put_gaps.Goals as goal
 
@@ -8,9 +8,9 @@ loop-place-init g c = puts-none (at _ _ c.args.pieces.now)
 
 pub loop-place-preserved : goal.loop-place-preserved
 loop-place-preserved g c =
-    puts-more (told_gap_line c.args.table c.args.columns.now) c.args.gaps.now c.loop-place.place-index 0 (at _ _ c.args.pieces.now) (at _ _ c.loop-place.pieces) (at _ _ c.put_gap.new.pieces) c.loop-place-test.true c.loop-place.invariant
+    puts-more (reported_gap_line c.args.table c.args.columns.now) c.args.gaps.now c.loop-place.place-index 0 (at _ _ c.args.pieces.now) (at _ _ c.loop-place.pieces) (at _ _ c.put_gap.new.pieces) c.loop-place-test.true c.loop-place.invariant
     c.put_gap.ensures
 
 pub returns : goal.returns
 returns g c =
-    puts-all (told_gap_line c.args.table c.args.columns.now) c.args.gaps.now c.loop-place.place-index (at _ _ c.args.pieces.now) (at _ _ c.loop-place.pieces) c.loop-place-test.false c.loop-place.invariant
+    puts-all (reported_gap_line c.args.table c.args.columns.now) c.args.gaps.now c.loop-place.place-index (at _ _ c.args.pieces.now) (at _ _ c.loop-place.pieces) c.loop-place-test.false c.loop-place.invariant

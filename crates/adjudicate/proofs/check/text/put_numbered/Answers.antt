@@ -1,5 +1,5 @@
 use Rattle.std.proofs.Common.{◌∙◌}
-use Rattle.adjudicate.specs.Pieces.{at}
+use Rattle.adjudicate.specs.BufferedOut.{at}
 use Rattle.adjudicate.proofs.Piecewise.{puts-numbered}
 use Rattle.adjudicate.proofs.check.text.put_numbered.Goals as goal
 

@@ -1,4 +1,4 @@
-use Rattle.adjudicate.specs.Pieces.{at}
+use Rattle.adjudicate.specs.BufferedOut.{at}
 use Rattle.adjudicate.proofs.Piecewise.{puts-then}
 use Rattle.adjudicate.proofs.check.text.put_overlap.Goals as goal
 

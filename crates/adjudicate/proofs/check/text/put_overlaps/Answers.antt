@@ -1,5 +1,5 @@
 use Rattle.adjudicate.specs.CheckText.{overlap_line}
-use Rattle.adjudicate.specs.Pieces.{at}
+use Rattle.adjudicate.specs.BufferedOut.{at}
 use Rattle.adjudicate.proofs.Piecewise.{puts-all, puts-more, puts-none}
 use Rattle.adjudicate.proofs.check.text.put_overlaps.Goals as goal
 

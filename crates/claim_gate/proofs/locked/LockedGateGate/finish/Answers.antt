@@ -6,7 +6,7 @@ pub finish-reply-requires-clause-job : goal.finish-reply-requires-clause-job
 finish-reply-requires-clause-job g c =
     let shown = g.S.Value.SerialGate.shown in
     let seen = g.S.Section.seen c.args.pass in
-    job_stays c.jobs_stay.ensures (shown seen) (shown c.in-Ok.state) c.args.job.position c.args.job.claim c.args.job.acc
+    job_stays c.jobs_are_stable.ensures (shown seen) (shown c.in-Ok.state) c.args.job.position c.args.job.claim c.args.job.acc
     (g.met.S.Value.SerialGate.shows seen c.in-Ok.state c.in-Ok.ensures.fresh) c.requires.job
 
 pub returns-in-Ok-clause-served : goal.returns-in-Ok-clause-served

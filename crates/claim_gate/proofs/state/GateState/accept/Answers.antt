@@ -13,7 +13,7 @@ accept-requires c =
 done : (c : goal.After-self-1) → IsAccepted c.self.inside c.args.self.now c.self.view_is c.self.invariant c.args.offer c.len-position.result c.account_year-year.result c.append.new.journal.items c.close_if_due-self-inside.new.journal.items c.add.new.self c.accept.new.self c.close_if_due-self-inside.result
 done c =
     accepts c.self.inside c.args.self.now c.self.view_is c.self.invariant c.args.offer c.len-position.result c.account_year-year.result c.append.new.journal.items c.close_if_due-self-inside.new.journal.items c.add.new.self c.accept.new.self c.close_if_due-self-inside.result
-    c.gate_stays_lawful.ensures.offer c.acceptance_stays_in_order.ensures c.requires.in_order c.requires.runs c.requires.open_yet c.requires.filed c.requires.in_turn
+    c.gate_keeps_lawful.ensures.offer c.acceptance_stays_in_order.ensures c.requires.in_order c.requires.runs c.requires.open_yet c.requires.filed c.requires.in_turn
     (search rules) (search rules) (search rules) (search rules) (search rules) (search rules) (search rules)
 
 pub invariant_of-self-2 : goal.invariant_of-self-2

@@ -5,16 +5,16 @@ use Rattle.claim_gate.proofs.state.GateState.end.Goals as goal
 
 pub returns-then-expected-count-clause-reply : goal.returns-then-expected-count-clause-reply
 returns-then-expected-count-clause-reply c =
-    too_few c.self.inside c.args.self.now c.self.view_is c.self.invariant c.args.provider c.args.count c.accepted-expected.result c.requires (search rules) (search rules) (search rules) (search rules)
+    too_few c.self.inside c.args.self.now c.self.view_is c.self.invariant c.args.provider c.args.count c.accepted_count-expected.result c.requires (search rules) (search rules) (search rules) (search rules)
 
 pub returns-then-is_ended-clause-reply : goal.returns-then-is_ended-clause-reply
 returns-then-is_ended-clause-reply c =
-    ended_before c.self.inside c.args.self.now c.self.view_is c.self.invariant c.args.provider c.args.count c.accepted-expected.result c.requires (search rules) (search rules) (search rules) (search rules) (search rules)
+    ended_before c.self.inside c.args.self.now c.self.view_is c.self.invariant c.args.provider c.args.count c.accepted_count-expected.result c.requires (search rules) (search rules) (search rules) (search rules) (search rules)
 
-done : (c : goal.After-self-1) → IsEnded c.self.inside c.args.self.now c.self.view_is c.self.invariant c.args.provider c.args.count c.accepted-expected.result c.append.new.journal.items c.close_if_due-self-inside.new.journal.items c.end.new.self c.close_if_due-self-inside.result
+done : (c : goal.After-self-1) → IsEnded c.self.inside c.args.self.now c.self.view_is c.self.invariant c.args.provider c.args.count c.accepted_count-expected.result c.append.new.journal.items c.close_if_due-self-inside.new.journal.items c.end.new.self c.close_if_due-self-inside.result
 done c =
-    ends c.self.inside c.args.self.now c.self.view_is c.self.invariant c.args.provider c.args.count c.accepted-expected.result c.append.new.journal.items c.close_if_due-self-inside.new.journal.items c.end.new.self c.close_if_due-self-inside.result
-    c.gate_stays_lawful.ensures.end c.requires
+    ends c.self.inside c.args.self.now c.self.view_is c.self.invariant c.args.provider c.args.count c.accepted_count-expected.result c.append.new.journal.items c.close_if_due-self-inside.new.journal.items c.end.new.self c.close_if_due-self-inside.result
+    c.gate_keeps_lawful.ensures.end c.requires
     (search rules) (search rules) (search rules) (search rules) (search rules) (search rules) (search rules) (search rules) (search rules)
 
 pub invariant_of-self-2 : goal.invariant_of-self-2

@@ -4,11 +4,11 @@ use Rattle.claim_gate.proofs.state.GateState.offer.Goals as goal
 
 pub returns-then-offer-expected-clause-reply : goal.returns-then-offer-expected-clause-reply
 returns-then-offer-expected-clause-reply c =
-    out_of_turn c.self.inside c.args.self.now c.self.view_is c.self.invariant c.args.offer c.accepted-expected.result c.requires.filed (search rules) (search rules) (search rules) (search rules)
+    out_of_turn c.self.inside c.args.self.now c.self.view_is c.self.invariant c.args.offer c.accepted_count-expected.result c.requires.filed (search rules) (search rules) (search rules) (search rules)
 
 pub accept-requires-clause-in_turn : goal.accept-requires-clause-in_turn
 accept-requires-clause-in_turn c =
-    in_turn c.self.inside c.args.self.now c.self.view_is c.self.invariant c.args.offer c.accepted-expected.result c.requires.filed (search rules) (search rules)
+    in_turn c.self.inside c.args.self.now c.self.view_is c.self.invariant c.args.offer c.accepted_count-expected.result c.requires.filed (search rules) (search rules)
 
 pub returns-then-self-2-clause-reply : goal.returns-then-self-2-clause-reply
 returns-then-self-2-clause-reply c = search rules

@@ -2,7 +2,7 @@ use Rattle.std.proofs.Common.{◌≡◌, ◌+◌, [], ◌∷◌, Result, Ok, Err
 use Rattle.std.proofs.lemmas.Bool.{false≢true}
 use Rattle.journal.specs.Leading.{running_leads}
 use Rattle.journal.specs.declared.event.Event.TheVariants.{Decide}
-use Rattle.claim_gate.specs.Kept.{IsKept}
+use Rattle.claim_gate.specs.GateIndex.{IsKept}
 use Rattle.claim_gate.proofs.Replying.{kept_alike, leads_alike, left_is, records, settles}
 use Rattle.claim_gate.proofs.state.GateState.record.Goals as goal
 
@@ -14,7 +14,7 @@ unwrap-left-requires c =
 done : (c : goal.After-append) → IsKept c.self.inside.terms.now c.append.new.journal.items c.decide.new.self c.self.inside.intakes c.self.inside.closed (c.self.inside.decisions + 1)
 done c =
     records c.self.inside c.args.self.now c.self.view_is c.self.invariant c.args.job c.args.outcome c.unwrap-left.result c.append.new.journal.items c.decide.new.self
-    c.gate_stays_lawful.ensures.finish c.requires.runs c.requires.once c.requires.in_work c.requires.job c.requires.settled
+    c.gate_keeps_lawful.ensures.finish c.requires.runs c.requires.once c.requires.in_work c.requires.job c.requires.settled
     (left_is c.args.job.acc c.args.outcome c.after.result c.unwrap-left.result (rw c.outcome.ensures at c.after.ensures.sums) (search rules))
     (search rules) (search rules)
 

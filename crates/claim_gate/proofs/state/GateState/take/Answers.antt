@@ -14,7 +14,7 @@ returns-in_default-clause-reply c =
 done : (c : goal.After-append) → IsTaken c.self.inside c.args.self.now c.self.view_is c.self.invariant c.in-Some.picked c.start_of-acc.result c.append.new.journal.items c.take.new.self
 done c =
     takes c.self.inside c.args.self.now c.self.view_is c.self.invariant c.in-Some.picked c.start_of-acc.result c.append.new.journal.items c.take.new.self
-    c.gate_stays_lawful.ensures.take c.in-Some.ensures.in_turn
+    c.gate_keeps_lawful.ensures.take c.in-Some.ensures.in_turn
     (search rules) (search rules) (search rules) (search rules) (search rules) (search rules)
 
 pub invariant_of-self-2 : goal.invariant_of-self-2

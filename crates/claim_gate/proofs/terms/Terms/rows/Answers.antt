@@ -7,7 +7,7 @@ pub bounds-as_slice-provider : goal.bounds-as_slice-provider
 bounds-as_slice-provider c =
     let i = c.self.inside in
     let most = rw (← c.self.view_is) at c.requires.most in
-    let long = as-many i.plan.now.names (texts_of i.files.now) i.judged c.self.invariant.1 in
+    let long = as-many i.plan.now.names (texts_of i.files.now) i.validated c.self.invariant.1 in
     let size = ap length c.as_slice.ensures in
     omega (arith, c.requires.least, most, long, size)
 
@@ -16,7 +16,7 @@ returns-clause-start c =
     let i = c.self.inside in
     let most = rw (← c.self.view_is) at c.requires.most in
     rw (← c.self.view_is)
-    (starts-at i.plan.now.names (texts_of i.files.now) i.judged (c.args.provider - 1) c.index-as_slice-provider.result c.index-as_slice-provider.result _ c.rows.result
+    (starts-at i.plan.now.names (texts_of i.files.now) i.validated (c.args.provider - 1) c.index-as_slice-provider.result c.index-as_slice-provider.result _ c.rows.result
     c.self.invariant.1 (omega (arith, c.requires.least, most)) (rw c.as_slice.ensures at c.index-as_slice-provider.is) c.rows.ensures.start)
 
 pub returns-clause-rows : goal.returns-clause-rows
@@ -24,5 +24,5 @@ returns-clause-rows c =
     let i = c.self.inside in
     let most = rw (← c.self.view_is) at c.requires.most in
     rw (← c.self.view_is)
-    (gives-at i.plan.now.names (texts_of i.files.now) i.judged (c.args.provider - 1) c.index-as_slice-provider.result c.index-as_slice-provider.result _ c.rows.result
+    (gives-at i.plan.now.names (texts_of i.files.now) i.validated (c.args.provider - 1) c.index-as_slice-provider.result c.index-as_slice-provider.result _ c.rows.result
     c.self.invariant.1 (omega (arith, c.requires.least, most)) (rw c.as_slice.ensures at c.index-as_slice-provider.is) c.rows.ensures.start)

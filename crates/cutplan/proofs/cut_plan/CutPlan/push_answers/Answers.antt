@@ -9,9 +9,9 @@ pub returns-in_err-next : goal.returns-in_err-next
 returns-in_err-next c =
     let tables = c.args.tables.now in
     let p = err_from_is_err_and c.from_residual.result c.from_residual.ensures.1 in
-    let told = fault_of_table c.args.given.now c.loop-place.answers c.as_slice.result.now tables c.loop-place.place c.index-tables-place.result c.in_err-next.field-0.0
+    let reported = fault_of_table c.args.given.now c.loop-place.answers c.as_slice.result.now tables c.loop-place.place c.index-tables-place.result c.in_err-next.field-0.0
     (answers_of c.args.given.now [] tables) c.loop-place-test.true c.index-tables-place.is c.as_slice.ensures c.in_err-next.ensures c.loop-place.invariant in
-    record { answers = rw p.1 tt; fault = rw (p.1, p.2) told }
+    record { answers = rw p.1 tt; fault = rw (p.1, p.2) reported }
 
 pub loop-place-preserved : goal.loop-place-preserved
 loop-place-preserved c =

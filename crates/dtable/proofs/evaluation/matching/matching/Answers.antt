@@ -13,12 +13,12 @@ loop-place-preserved c =
     let rule = c.rule-item.result in
     let listed = c.as_slice-rule-items.ensures in
     let below = subst (λ rules. n < length rules) listed c.loop-place-test.true in
-    let standing = c.rule-item.is ∙ ap (λ rules. get_or rules n rule) listed in
+    let present = c.rule-item.is ∙ ap (λ rules. get_or rules n rule) listed in
     elim c.if-cells_hold.branch [
       | then-cells_hold+in_ok-push w ↦
           let held : cells_hold given earlier t.inputs rule.cells ≡ true = cc in
-          w.found-is ∙ w.in_ok-push.ensures.ok ∙ ap (λ found. found ++ n ∷ []) c.loop-place.invariant ∙ sym (match_more given earlier t n rule below standing held)
+          w.found-is ∙ w.in_ok-push.ensures.ok ∙ ap (λ found. found ++ n ∷ []) c.loop-place.invariant ∙ sym (match_more given earlier t n rule below present held)
       | else-cells_hold w ↦
           let held : cells_hold given earlier t.inputs rule.cells ≡ false = cc in
-          w.found-is ∙ c.loop-place.invariant ∙ sym (no_match_more given earlier t n rule below standing held)
+          w.found-is ∙ c.loop-place.invariant ∙ sym (no_match_more given earlier t n rule below present held)
     ]

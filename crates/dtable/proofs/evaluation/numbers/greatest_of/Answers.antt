@@ -8,7 +8,7 @@ use Rattle.dtable.proofs.evaluation.numbers.greatest_of.Goals as goal
 pub loop-rule-preserved : goal.loop-rule-preserved
 loop-rule-preserved c =
     let step = numbers_more int_max (number_in c.args.table.now) c.args.rules.now c.loop-rule.rule-index 0 c.loop-rule-test.true in
-    joined_more int_max _ _ _ _ _ _ c.greater-greatest.ensures c.loop-rule.invariant c.number_in.ensures.value step
+    joined_more int_max _ _ _ _ _ _ c.greatest_of_two-greatest.ensures c.loop-rule.invariant c.number_in.ensures.value step
 
 pub returns : goal.returns
 returns c = grind (arith, common_steps)

@@ -23,7 +23,7 @@ returns-in_err-priority c =
 pub returns-in_err-fallback : goal.returns-in_err-fallback
 returns-in_err-fallback c =
     let p = err_from_is_err_and c.from_residual-in_err-fallback.result c.from_residual-in_err-fallback.ensures.1 in
-    let none = rw c.seen_kind.ensures at c.in_err-fallback.ensures in
+    let none = rw c.read_kind_of.ensures at c.in_err-fallback.ensures in
     rw (p.1, p.2) (λ memory. IsOutput-no_fallback c.args.hit (taken_names c.args.names.now (map seen_of c.args.tables.now) ++ output_names c.args.front.now) (view c.args.entry.now) c.in_ok-kind.kind c.in_ok-kind.ensures (none memory))
 
 pub returns : goal.returns
@@ -31,5 +31,5 @@ returns c = record {
   name = c.in_ok-name.ensures;
   kind = c.in_ok-kind.ensures;
   priority = c.in_ok-priority.ensures;
-  fallback = rw c.seen_kind.ensures at c.in_ok-fallback.ensures;
+  fallback = rw c.read_kind_of.ensures at c.in_ok-fallback.ensures;
 }

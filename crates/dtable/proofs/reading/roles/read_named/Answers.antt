@@ -2,7 +2,7 @@ use Rattle.std.proofs.lemmas.Grind.{elements}
 use Rattle.std.proofs.Common.{◌≡◌, map, Some, get_or, subst, sym, ap, ◌∙◌, rules, arith}
 use Rattle.dtable.specs.declared.table.Origin.TheVariants.{Earlier}
 use Rattle.dtable.specs.Scope.{seen_of, origin_of, kind_at}
-use Rattle.dtable.proofs.FoundOutput.{stands_at}
+use Rattle.dtable.proofs.FoundOutput.{is_located_at}
 use Rattle.dtable.proofs.reading.roles.read_named.Goals as goal
 
 pub returns-in_ok-new-in-Earlier : goal.returns-in_ok-new-in-Earlier
@@ -12,11 +12,11 @@ returns-in_ok-new-in-Earlier c =
     let place = c.in-Earlier.table in
     let column = c.in-Earlier.column in
     let known : origin_of names (map seen_of tables) c.args.text.now ≡ Some (Earlier place column) = sym c.origin_of.ensures ∙ c.in-Some.is ∙ ap Some c.in-Earlier.is in
-    let there = stands_at names tables c.args.text.now place column known in
+    let there = is_located_at names tables c.args.text.now place column known in
     let t = c.index-tables-table.result in
     let o = c.index-as_slice-column.result in
-    let stands : o ≡ get_or (get_or tables place t).outputs column o = c.index-as_slice-column.is ∙ ap (λ os. get_or os column o) c.as_slice.ensures in
-    let named : o.name ≡ c.args.text.now = ap (λ u. u.name) stands ∙ there.named t o in
+    let located : o ≡ get_or (get_or tables place t).outputs column o = c.index-as_slice-column.is ∙ ap (λ os. get_or os column o) c.as_slice.ensures in
+    let named : o.name ≡ c.args.text.now = ap (λ u. u.name) located ∙ there.named t o in
     let kind : c.kind_at.result ≡ Some c.args.kind = search rules in
     record {
       same = c.in_ok-new-in-Earlier.ensures ∙ c.as_str.ensures.text ∙ named;

@@ -1,7 +1,7 @@
 use Rattle.std.proofs.Common.{◌≡◌, false, map, rules}
 use Rattle.std.proofs.lemmas.Result.{err_from_is_err_and}
 use Rattle.toml.specs.View.{view}
-use Rattle.dtable.specs.Plan.{meets_demands}
+use Rattle.dtable.specs.Plan.{satisfies_constraints}
 use Rattle.dtable.specs.Scope.{seen_of}
 use Rattle.dtable.proofs.ReadTables.{IsTable-no_outputs, IsTable-unmet, IsTable-no_rules, HasColumns}
 use Rattle.dtable.proofs.reading.tables.read_table.Goals as goal
@@ -21,12 +21,12 @@ returns-in_err-outputs c =
     let p = err_from_is_err_and c.from_residual-in_err-outputs.result c.from_residual-in_err-outputs.ensures.1 in
     rw (p.1, p.2) (λ memory. IsTable-no_outputs c.args.names.now (map seen_of c.args.front.now) (view c.args.entry.now) c.in_ok-hit.hit c.in_ok-hit.ensures (c.in_err-outputs.ensures memory))
 
-pub returns-then-not-meets_demands : goal.returns-then-not-meets_demands
-returns-then-not-meets_demands c _ =
+pub returns-then-not-satisfies_constraints : goal.returns-then-not-satisfies_constraints
+returns-then-not-satisfies_constraints c _ =
     let columns : HasColumns c.args.names.now (map seen_of c.args.front.now) (view c.args.entry.now) c.in_ok-hit.hit c.in_ok-inputs.inputs c.in_ok-outputs.outputs =
     record { word = c.in_ok-hit.ensures; inputs = c.in_ok-inputs.ensures; outputs = c.in_ok-outputs.ensures } in
-    let met = rw c.as_slice-2.ensures at c.meets_demands.ensures in
-    let unmet : meets_demands c.in_ok-hit.hit c.in_ok-outputs.outputs ≡ false = cc in
+    let met = rw c.as_slice-2.ensures at c.satisfies_constraints.ensures in
+    let unmet : satisfies_constraints c.in_ok-hit.hit c.in_ok-outputs.outputs ≡ false = cc in
     IsTable-unmet c.text_spells_at_most_one_value.ensures c.args.names.now (map seen_of c.args.front.now) (view c.args.entry.now) c.in_ok-hit.hit c.in_ok-inputs.inputs c.in_ok-outputs.outputs columns unmet
 
 pub returns-in_err-rules : goal.returns-in_err-rules
@@ -39,7 +39,7 @@ returns-in_err-rules c =
 
 pub returns : goal.returns
 returns c =
-    let met = rw c.as_slice-2.ensures at c.meets_demands.ensures in
+    let met = rw c.as_slice-2.ensures at c.satisfies_constraints.ensures in
     record {
       hit = c.in_ok-hit.ensures;
       inputs = c.in_ok-inputs.ensures;

@@ -15,8 +15,8 @@ loop-place-preserved c =
 pub returns-clause-unknown : goal.returns-clause-unknown
 returns-clause-unknown c = unknown_name _ _ _ c.loop-place-test.false c.loop-place.invariant
 
-pub returns-then-eq-clause-standing : goal.returns-then-eq-clause-standing
-returns-then-eq-clause-standing c =
+pub returns-then-eq-clause-present : goal.returns-then-eq-clause-present
+returns-then-eq-clause-present c =
     slice_get_read c.args.names.now _ c.loop-place.place c.index-names-place.result refl c.loop-place-test.true c.index-names-place.is
 
 pub returns-then-eq-clause-named : goal.returns-then-eq-clause-named

@@ -15,7 +15,7 @@ returns-then-is_none-clause-missing c =
     record {
       place = c.loop-place.place;
       input = c.input-item.result;
-      standing = rw c.names-input-items.ensures.names at at_place;
+      present = rw c.names-input-items.ensures.names at at_place;
       named = refl;
       read = search rules;
       missing = no_value c.get.result _ c.if-is_none.ensures c.get.ensures;

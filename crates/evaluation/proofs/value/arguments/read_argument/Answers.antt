@@ -11,7 +11,7 @@ returns-in-Err-clause-refused c =
       c.in-Some-data_named.place,
       input,
       c.in-Some.literal.now,
-      names_data _ _ _ _ _ input c.in-Some.ensures.split found.standing found.named,
+      names_data _ _ _ _ _ input c.in-Some.ensures.split found.present found.named,
       no_value c.get.result _ (sym c.is_some.ensures ∙ c.if-is_some.false) c.get.ensures,
       not_memory,
       c.in-Err.ensures.refused not_memory,
@@ -33,7 +33,7 @@ returns-then-is_some-clause-refused c =
       input,
       c.in-Some.literal.now,
       given.0,
-      names_data _ _ _ _ _ input c.in-Some.ensures.split found.standing found.named,
+      names_data _ _ _ _ _ input c.in-Some.ensures.split found.present found.named,
       given.1,
     )
 

@@ -28,15 +28,15 @@ returns c =
     let lives : string_bytes c.in_ok-family.family ≡ account.family = c.in_ok-family.ensures.ok ∙ c.family-2.ensures in
     let found = rw (c.family.ensures, ← c.self.view_is) at c.find.ensures.found in
     let lacks = copied-there c.find.result (found_in (books_of c.self.inside.years.items) (holder_of account)) false found (sym c.is_some.ensures ∙ c.if-is_some.false) in
-    rw (← c.self.view_is) (put-added account (string_bytes c.in_ok-family.family) (string_bytes c.in_ok-name.name) c.new-household.result entry.balance (books_of c.self.inside.years.items)
-    (books_of c.make_room.new.years.items) (books_of c.add.new.years.items) c.add.result lives named c.new-household.ensures (c.add.ensures.once (c.make_room.ensures.once c.self.invariant)) lacks
+    rw (← c.self.view_is) (put-added account (string_bytes c.in_ok-family.family) (string_bytes c.in_ok-name.name) c.new-family_year.result entry.balance (books_of c.self.inside.years.items)
+    (books_of c.make_room.new.years.items) (books_of c.add.new.years.items) c.add.result lives named c.new-family_year.ensures (c.add.ensures.once (c.make_room.ensures.once c.self.invariant)) lacks
     c.make_room.ensures.same c.add.ensures.added)
 
 pub invariant_of-self-in_err-make_room : goal.invariant_of-self-in_err-make_room
 invariant_of-self-in_err-make_room c = c.make_room.ensures.once c.self.invariant
 
 pub add-requires-clause-once : goal.add-requires-clause-once
-add-requires-clause-once c = rw c.new-household.ensures (refl, tt)
+add-requires-clause-once c = rw c.new-family_year.ensures (refl, tt)
 
 pub add-requires-clause-room : goal.add-requires-clause-room
 add-requires-clause-room c = c.in_ok-make_room.ensures.room

@@ -1,7 +1,7 @@
 use Rattle.std.proofs.Common.{rules, sym}
 use Rattle.settlement.specs.Accounts.{named_or}
 use Rattle.intake_csv.specs.Balances.{Entry, IsEntry}
-use Rattle.intake_csv.proofs.Entries.{refuses-entry, takes-entry, told-within}
+use Rattle.intake_csv.proofs.Entries.{refuses-entry, takes-entry, reported-within}
 use Rattle.intake_csv.proofs.Shapes.{entry-shaped}
 use Rattle.intake_csv.proofs.balances.Balances.read.Goals as goal
 
@@ -11,7 +11,7 @@ entry_of-entry-requires c =
     entry-shaped c.args.version c.args.row.now c.args.layout.now.columns c.in-Ok.values.items c.requires.balances has.1
 
 pub fault_of-requires-clause-there : goal.fault_of-requires-clause-there
-fault_of-requires-clause-there c = told-within c.args.version c.args.layout.now c.in-Some.refusal c.requires.balances
+fault_of-requires-clause-there c = reported-within c.args.version c.args.layout.now c.in-Some.refusal c.requires.balances
 
 pub returns-in-Some-clause-refused : goal.returns-in-Some-clause-refused
 returns-in-Some-clause-refused c =

@@ -15,4 +15,4 @@ pub returns-in-Err : goal.returns-in-Err
 returns-in-Err c = λ front h.
     let faulty = rw c.in-Err.is at c.in_ok-value.ensures.faulty in
     let column = rw c.in-Err.is at c.in_ok-value.ensures.column in
-    read-fault c.args.row.now front c.args.column c.args.self.now.values.items c.args.self.now.first c.in-Err.fault c.leftmost.result h column faulty c.leftmost.ensures
+    read-fault c.args.row.now front c.args.column c.args.self.now.values.items c.args.self.now.first c.in-Err.fault c.leftmost_fault.result h column faulty c.leftmost_fault.ensures

@@ -12,23 +12,23 @@ one c =
     (c.in_ok-key.ensures ∙ c.as_str.ensures.value) (rw (← c.self.view_is) at c.requires) (c.in_ok-number.ensures.value ∙ ap length c.as_slice.ensures.value) c.in_ok-_before.ensures.updates
 
 -- the list with the new name
-behind : (c : goal.After-note) → c.push_reserved.new.self.items ≡ c.self.inside.names.items ++ c.args.name.now ∷ []
-behind c =
+following : (c : goal.After-note) → c.push_reserved.new.self.items ≡ c.self.inside.names.items ++ c.args.name.now ∷ []
+following c =
     c.push_reserved.ensures.items ∙ ap (λ xs. xs ++ c.in_ok-entry.entry ∷ []) c.in_ok-reserve.ensures.items
     ∙ ap (λ x. c.self.inside.names.items ++ x ∷ []) (c.in_ok-entry.ensures ∙ c.as_str-2.ensures.value)
 
 pub invariant_of-self-2 : goal.invariant_of-self-2
-invariant_of-self-2 c = rw (behind c) (numbered-more c.self.inside.names.items c.self.inside.numbers c.insert.new.self c.args.name.now (one c))
+invariant_of-self-2 c = rw (following c) (numbered-more c.self.inside.names.items c.self.inside.numbers c.insert.new.self c.args.name.now (one c))
 
 pub returns-clause-number : goal.returns-clause-number
-returns-clause-number c = rw (behind c) (name-new c.self.inside.names.items c.args.name.now c.in_ok-number.number (c.in_ok-number.ensures.value ∙ ap length c.as_slice.ensures.value))
+returns-clause-number c = rw (following c) (name-new c.self.inside.names.items c.args.name.now c.in_ok-number.number (c.in_ok-number.ensures.value ∙ ap length c.as_slice.ensures.value))
 
 pub returns-clause-distinct : goal.returns-clause-distinct
 returns-clause-distinct c =
-    rw (behind c) (
+    rw (following c) (
     distinct-names (c.self.inside.names.items ++ c.args.name.now ∷ []) c.insert.new.self
     (numbered-more c.self.inside.names.items c.self.inside.numbers c.insert.new.self c.args.name.now (one c))
     )
 
 pub returns-clause-added : goal.returns-clause-added
-returns-clause-added c = behind c ∙ ap (λ (names : List (List ℕ)). names ++ c.args.name.now ∷ []) c.self.view_is
+returns-clause-added c = following c ∙ ap (λ (names : List (List ℕ)). names ++ c.args.name.now ∷ []) c.self.view_is

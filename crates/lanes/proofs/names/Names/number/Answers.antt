@@ -7,17 +7,17 @@ returns-in-Some-clause-grows c = grows_same c.args.self.now
 pub returns-in-Some-clause-distinct : goal.returns-in-Some-clause-distinct
 returns-in-Some-clause-distinct c = c.in-Some.ensures.distinct
 
-pub returns-in-Some-tried-clause-grows : goal.returns-in-Some-tried-clause-grows
-returns-in-Some-tried-clause-grows c = grows_same c.args.self.now
+pub returns-in-Some-check_candidate-clause-grows : goal.returns-in-Some-check_candidate-clause-grows
+returns-in-Some-check_candidate-clause-grows c = grows_same c.args.self.now
 
-pub returns-in-Some-tried-clause-distinct : goal.returns-in-Some-tried-clause-distinct
-returns-in-Some-tried-clause-distinct c = c.in-Some-tried.ensures.distinct
+pub returns-in-Some-check_candidate-clause-distinct : goal.returns-in-Some-check_candidate-clause-distinct
+returns-in-Some-check_candidate-clause-distinct c = c.in-Some-check_candidate.ensures.distinct
 
-pub returns-in-Some-tried-2-clause-grows : goal.returns-in-Some-tried-2-clause-grows
-returns-in-Some-tried-2-clause-grows c = grows_same c.args.self.now
+pub returns-in-Some-check_candidate-2-clause-grows : goal.returns-in-Some-check_candidate-2-clause-grows
+returns-in-Some-check_candidate-2-clause-grows c = grows_same c.args.self.now
 
-pub returns-in-Some-tried-2-clause-distinct : goal.returns-in-Some-tried-2-clause-distinct
-returns-in-Some-tried-2-clause-distinct c = c.in-Some-tried-2.ensures.distinct
+pub returns-in-Some-check_candidate-2-clause-distinct : goal.returns-in-Some-check_candidate-2-clause-distinct
+returns-in-Some-check_candidate-2-clause-distinct c = c.in-Some-check_candidate-2.ensures.distinct
 
 pub returns-in-Some-find-clause-number : goal.returns-in-Some-find-clause-number
 returns-in-Some-find-clause-number c = rw c.self.view_is c.in-Some-find.ensures.found

@@ -1,5 +1,5 @@
 use Rattle.std.proofs.Common.{◌≡◌, [], ◌∙◌, refl, rules}
-use Rattle.remit.specs.Held.{gathered_of}
+use Rattle.remit.specs.RecordWriter.{gathered_of}
 use Rattle.remit.proofs.Holding.{handed, hand-refused, no-memory}
 use Rattle.remit.proofs.record_writer.RecordWriter.hand_over.Goals as goal
 

@@ -1,6 +1,6 @@
 use Rattle.std.proofs.Common.{[], refl}
 use Rattle.std.proofs.lemmas.Result.{err_from_is_err_and}
-use Rattle.remit.specs.Held.{at}
+use Rattle.remit.specs.RecordWriter.{at}
 use Rattle.remit.proofs.Holding.{replaced, text-handed, text-refused, writes-within}
 use Rattle.remit.proofs.record_writer.RecordWriter.write_text.Goals as goal
 

@@ -1,6 +1,6 @@
 use Rattle.std.proofs.Common.{◌<◌, refl, ◌∙◌, subst}
 use Rattle.std.proofs.lemmas.Result.{err_from_is_err_and}
-use Rattle.remit.specs.Held.{at}
+use Rattle.remit.specs.RecordWriter.{at}
 use Rattle.remit.specs.Looked.{looked_up}
 use Rattle.remit.proofs.Filing.{files-next, files-none, files-refused}
 use Rattle.remit.proofs.report.Report.write_files.Goals as goal

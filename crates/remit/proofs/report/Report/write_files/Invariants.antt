@@ -1,6 +1,6 @@
 use Rattle.std.proofs.Common.{◌≡◌}
 use Rattle.fixpoint.specs.Out.{has_failed, writer_of}
-use Rattle.remit.specs.Held.{at}
+use Rattle.remit.specs.RecordWriter.{at}
 use Rattle.remit.specs.Looked.{looked_up}
 use Rattle.remit.proofs.Filing.{FilesSoFar}
 use Rattle.remit.proofs.report.Report.write_files.Given as goal

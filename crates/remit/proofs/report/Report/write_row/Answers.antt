@@ -6,11 +6,11 @@ use Rattle.remit.proofs.Holding.{no-memory, on-ok}
 use Rattle.remit.proofs.report.Report.write_row.Goals as goal
 
 pub returns-then-is_err-clause-writes : goal.returns-then-is_err-clause-writes
-returns-then-is_err-clause-writes g c = λ row is_brief.
+returns-then-is_err-clause-writes g c = λ row is_summary.
     no-memory _ _ c.args.self.now.writer c.args.self.now.writer (record_text (record_of (looked_up c.args.self.now.decisions.now) c.args.provider row)) c.no_memory.result
     (record { written = c.no_memory.ensures.written; cause = c.no_memory.ensures.cause })
 
 pub returns-clause-writes : goal.returns-clause-writes
-returns-clause-writes g c = λ row is_brief.
+returns-clause-writes g c = λ row is_summary.
     let ok : is_err c.fill_row.result ≡ false = cc (c.is_err.ensures.value, c.if-is_err.false) in
-    rw (← on-ok c.fill_row.result _ ok c.fill_row.ensures row is_brief) (search rules)
+    rw (← on-ok c.fill_row.result _ ok c.fill_row.ensures row is_summary) (search rules)

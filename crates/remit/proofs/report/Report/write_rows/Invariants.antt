@@ -1,6 +1,6 @@
 use Rattle.std.proofs.Common.{◌≡◌, length}
 use Rattle.fixpoint.specs.Out.{has_failed, writer_of}
-use Rattle.remit.specs.Held.{at}
+use Rattle.remit.specs.RecordWriter.{at}
 use Rattle.remit.specs.Looked.{looked_up}
 use Rattle.remit.proofs.Passing.{RowsSoFar}
 use Rattle.remit.proofs.report.Report.write_rows.Given as goal

@@ -16,4 +16,4 @@ returns g c =
     let ok : is_err c.fill_total.result ≡ false = cc (c.is_err.ensures.value, c.if-is_err.false) in
     let filled = on-ok c.fill_total.result _ ok c.fill_total.ensures in
     let version = c.version-version.ensures.version ∙ ap (λ (p : PlanParts). p.version) c.plan.ensures.plan in
-    rw version at (rw (filled J (length J) (c.accepted-accepted.ensures ∙ c.requires) c.over-sums.ensures) at c.write.ensures)
+    rw version at (rw (filled J (length J) (c.accepted_count-accepted.ensures ∙ c.requires) c.over-sums.ensures) at c.write.ensures)

@@ -10,9 +10,9 @@ pub loop-place-preserved : goal.loop-place-preserved
 loop-place-preserved c =
     let place = c.loop-place.place in
     let within : place < length amounts = c.loop-place-test.true in
-    let stands = slice_get-get_or amounts place Allowed within in
+    let located = slice_get-get_or amounts place Allowed within in
     let added : c.of.result ≡ amount_of (get_or amounts place Allowed) c.args.decision.now = c.of.ensures in
-    added-next c.args.decision.now c.args.self.units c.loop-place.units place (get_or amounts place Allowed) c.plus.result stands (rw c.requires.size within)
+    added-next c.args.decision.now c.args.self.units c.loop-place.units place (get_or amounts place Allowed) c.plus.result located (rw c.requires.size within)
     (c.plus.ensures.value ∙ ap (λ a. pos (slice_index c.loop-place.units place) +ℤ a) added) c.plus.ensures.bound c.loop-place.invariant
 
 pub returns : goal.returns

@@ -2,4 +2,4 @@ use Rattle.test_gate.proofs.Filing.{work_stays}
 use Rattle.test_gate.proofs.tests.calls.find_nothing.Goals as goal
 
 pub returns-clause-stays : goal.returns-clause-stays
-returns-clause-stays g c = work_stays c.jobs_stay.ensures c.args.gate.now c.take-reply.new.gate c.take-reply.ensures.leads
+returns-clause-stays g c = work_stays c.jobs_are_stable.ensures c.args.gate.now c.take-reply.new.gate c.take-reply.ensures.leads

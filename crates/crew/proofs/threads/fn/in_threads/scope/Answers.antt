@@ -10,16 +10,16 @@ stop-stopped-requires-clause-own g c κs within = c.split-mine.ensures.own.0
 pub stop-stopped-requires-clause-terms : goal.stop-stopped-requires-clause-terms
 stop-stopped-requires-clause-terms g c κs within = rw c.split-mine.ensures.known.0 c.threads.invariant.1
 
-pub take_part-requires-clause-own : goal.take_part-requires-clause-own
-take_part-requires-clause-own g c κs within = c.stop-stopped.ensures.own
+pub run_thread-requires-clause-own : goal.run_thread-requires-clause-own
+run_thread-requires-clause-own g c κs within = c.stop-stopped.ensures.own
 
-pub take_part-requires-clause-terms : goal.take_part-requires-clause-terms
-take_part-requires-clause-terms g c κs within =
+pub run_thread-requires-clause-terms : goal.run_thread-requires-clause-terms
+run_thread-requires-clause-terms g c κs within =
     let before = rw c.split-mine.ensures.known.0 at c.stop-stopped.ensures.seen in
     before.terms ∙ c.threads.invariant.1
 
-pub take_part-requires-clause-plan : goal.take_part-requires-clause-plan
-take_part-requires-clause-plan g c κs within = c.requires.2
+pub run_thread-requires-clause-plan : goal.run_thread-requires-clause-plan
+run_thread-requires-clause-plan g c κs within = c.requires.2
 
 pub returns-then-is_err : goal.returns-then-is_err
 returns-then-is_err g c =
@@ -29,10 +29,10 @@ returns-then-is_err g c =
     let split = further own known c.captures.pass c.threads.own mine c.threads.invariant.0
     (unchanged own known c.threads.own mine c.split-mine.ensures.own.0 c.split-mine.ensures.known.0) in
     let here = further own known c.captures.pass mine c.stop-stopped.result split (record { own = c.stop-stopped.ensures.own; seen = c.stop-stopped.ensures.seen }) in record {
-      goes_on = further_where_ok own known c.captures.pass c.stop-stopped.result c.take_part.result here c.take_part.ensures.goes_on;
-      finished = under_known (length c.captures.terms.now.files ≤ c.captures.threads) (λ p. ForTerms c.captures.terms.now (λ T. Finished T (known p).seen.journal)) c.take_part.result
-          c.requires.3 c.take_part.ensures.finished;
-      leaves = leaves_later_where_err own known c.captures.pass c.stop-stopped.result c.take_part.result here c.take_part.ensures.leaves;
+      goes_on = further_where_ok own known c.captures.pass c.stop-stopped.result c.run_thread.result here c.run_thread.ensures.goes_on;
+      finished = under_known (length c.captures.terms.now.files ≤ c.captures.threads) (λ p. ForTerms c.captures.terms.now (λ T. Finished T (known p).seen.journal)) c.run_thread.result
+          c.requires.3 c.run_thread.ensures.finished;
+      leaves = leaves_later_where_err own known c.captures.pass c.stop-stopped.result c.run_thread.result here c.run_thread.ensures.leaves;
     }
 
 pub threads-preserved : goal.threads-preserved
@@ -45,21 +45,21 @@ threads-preserved g c =
       rw c.split-mine.ensures.known.0 c.threads.invariant.1,
     )
 
-pub take_part-requires-2-clause-own : goal.take_part-requires-2-clause-own
-take_part-requires-2-clause-own g c κs within = c.threads.invariant.0.own
+pub run_thread-requires-2-clause-own : goal.run_thread-requires-2-clause-own
+run_thread-requires-2-clause-own g c κs within = c.threads.invariant.0.own
 
-pub take_part-requires-2-clause-terms : goal.take_part-requires-2-clause-terms
-take_part-requires-2-clause-terms g c κs within = c.threads.invariant.1
+pub run_thread-requires-2-clause-terms : goal.run_thread-requires-2-clause-terms
+run_thread-requires-2-clause-terms g c κs within = c.threads.invariant.1
 
-pub take_part-requires-2-clause-plan : goal.take_part-requires-2-clause-plan
-take_part-requires-2-clause-plan g c κs within = c.requires.2
+pub run_thread-requires-2-clause-plan : goal.run_thread-requires-2-clause-plan
+run_thread-requires-2-clause-plan g c κs within = c.requires.2
 
 pub returns : goal.returns
 returns g c =
     let own = g.G.Gate.has_pass c.captures.gate.now in
     let known = g.G.Gate.known in record {
-      goes_on = further_where_ok own known c.captures.pass c.threads.own c.take_part-2.result c.threads.invariant.0 c.take_part-2.ensures.goes_on;
-      finished = under_known (length c.captures.terms.now.files ≤ c.captures.threads) (λ p. ForTerms c.captures.terms.now (λ T. Finished T (known p).seen.journal)) c.take_part-2.result
-          c.requires.3 c.take_part-2.ensures.finished;
-      leaves = leaves_later_where_err own known c.captures.pass c.threads.own c.take_part-2.result c.threads.invariant.0 c.take_part-2.ensures.leaves;
+      goes_on = further_where_ok own known c.captures.pass c.threads.own c.run_thread-2.result c.threads.invariant.0 c.run_thread-2.ensures.goes_on;
+      finished = under_known (length c.captures.terms.now.files ≤ c.captures.threads) (λ p. ForTerms c.captures.terms.now (λ T. Finished T (known p).seen.journal)) c.run_thread-2.result
+          c.requires.3 c.run_thread-2.ensures.finished;
+      leaves = leaves_later_where_err own known c.captures.pass c.threads.own c.run_thread-2.result c.threads.invariant.0 c.run_thread-2.ensures.leaves;
     }

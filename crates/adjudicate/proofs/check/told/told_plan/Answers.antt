@@ -1,7 +1,0 @@
-use Rattle.adjudicate.proofs.ToldLines.{plan_more}
-use Rattle.adjudicate.proofs.check.told.told_plan.Goals as goal
-
-pub loop-place-preserved : goal.loop-place-preserved
-loop-place-preserved c =
-    plan_more c.args.telling c.args.plan.now c.loop-place.place c.loop-place.told c.push.new.self c.in_ok-table.table c.loop-place.invariant c.in_ok-table.ensures c.in_ok-push.ensures.tables c.in_ok-push.ensures.gaps
-    c.in_ok-push.ensures.overlaps

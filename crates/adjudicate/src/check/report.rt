@@ -1,0 +1,353 @@
+//! What is told of a plan's check, found before a byte of it is written: of overlaps and gaps all, or those that are faults.
+
+ghost use Rattle.std.specs.Prelude.{◌≡◌, ◌+◌, ◌++◌, ◌∷◌, IfOk, OnOk, filter, get_or, length, map, []};
+ghost use Rattle.cutplan.specs.Numbered.{IsTableNumber, overlaps_of};
+ghost use Rattle.cutplan.specs.Violations.{overlap_is_error};
+ghost use Rattle.adjudicate.specs.CheckText.{region_text};
+ghost use Rattle.adjudicate.specs.Findings.{overlaps_in, reports_gaps};
+ghost use Rattle.adjudicate.specs.CheckReport.{IsReported, IsReportedOf, column_text, column_texts, column_texts_if, marked_region, reported_places};
+
+use cutplan::{Region, cell_count, check_table, gap_is_error, overlap_is_error};
+use dtable::{Plan, Sequence};
+use feel_tests::{Literals, Value, append_joined};
+use std::alloc::{AllocError, Global};
+use std::marker::Model;
+
+/// Which gaps and overlaps are told.
+#[derive(Clone, Copy)]
+pub enum Findings {
+    /// All.
+    All,
+    /// Those that are faults where they are met.
+    Errors,
+}
+
+/// Bytes, which contracts see as their list.
+#[derive(Drop)]
+pub struct Bytes {
+    bytes: Vec<u8>,
+}
+
+impl Model for Bytes {
+    ghost use Rattle.std.specs.Prelude.{List, ℕ};
+
+    ghost Value = { List ℕ };
+
+    ghost view = { λ text. text.bytes.items };
+}
+
+impl Bytes {
+    /// The bytes as a slice.
+    pub fn as_slice(&self) -> &[u8]
+        ensures { result.now ≡ self.now }
+    {
+        self.bytes.as_slice()
+    }
+}
+
+/// A column of a check.
+#[derive(Drop)]
+pub struct ColumnText {
+    /// What is printed of each of its regions, behind a mark if the column isn't the first.
+    pub regions: Sequence<Bytes>,
+    /// How many cells the columns behind it have.
+    pub following: usize,
+}
+
+impl ColumnText {
+    /// What is printed of the region at the place, nothing where there is none.
+    pub fn region(&self, place: usize) -> &[u8]
+        ensures { result.now ≡ get_or self.now.regions place [] }
+    {
+        match self.regions.as_slice().get(place) {
+            Some(text) => text.as_slice(),
+            None => &[],
+        }
+    }
+}
+
+/// What is told of a table.
+pub struct TableReport {
+    /// The overlaps.
+    pub overlaps: Vec<(usize, usize)>,
+    /// Whether it is told that the check has too many cells.
+    pub is_wide: bool,
+    /// The columns, where gaps are told.
+    pub columns: Sequence<ColumnText>,
+    /// The places of the gaps among the cells, from 0.
+    pub gaps: Vec<u32>,
+}
+
+impl Drop for TableReport {
+    fn drop(self) {
+        let TableReport {
+            overlaps: _,
+            is_wide: _,
+            columns: _,
+            gaps: _,
+        } = self;
+    }
+}
+
+/// What is told of a plan.
+#[derive(Drop)]
+pub struct CheckReport {
+    /// Of each table.
+    pub tables: Vec<TableReport>,
+    /// How many gaps.
+    pub gaps: usize,
+    /// How many overlaps.
+    pub overlaps: usize,
+}
+
+/// Checks a plan. Each table's regions and masks are let go before the next is checked.
+pub fn check_report(
+    alloc: Global,
+    plan: &Plan,
+    findings: Findings,
+) -> Result<CheckReport, AllocError>
+    ensures { IfOk result (IsReportedOf findings plan.now) }
+{
+    let mut reported = CheckReport {
+        tables: Vec::new(alloc),
+        gaps: 0,
+        overlaps: 0,
+    };
+    for place in 0..plan.tables().len() {
+        let table = table_report(alloc, plan, place + 1, findings)?;
+        reported.push(table)?;
+    }
+    Ok(reported)
+}
+
+impl CheckReport {
+    // Puts what is told of one table more behind. No list is so long that the counts would overflow; that is refused here, so
+    // that they are exact.
+    fn push(&mut self, table: TableReport) -> Result<(), AllocError>
+        ensures tables { OnOk result (self.new.tables.items ≡ self.old.tables.items ++ table ∷ []) }
+        ensures gaps { OnOk result (self.new.gaps ≡ self.old.gaps + length table.gaps.items) }
+        ensures overlaps { OnOk result (self.new.overlaps ≡ self.old.overlaps + length table.overlaps.items) }
+    {
+        self.gaps = sum(self.gaps, table.gaps.len())?;
+        self.overlaps = sum(self.overlaps, table.overlaps.len())?;
+        self.tables.push(table)?;
+        Ok(())
+    }
+}
+
+fn sum(one: usize, other: usize) -> Result<usize, AllocError>
+    ensures { IfOk result (λ both. both ≡ one + other) }
+{
+    match one.checked_add(other) {
+        Some(both) => Ok(both),
+        None => Err(AllocError),
+    }
+}
+
+// What is told of the table with this number.
+fn table_report(
+    alloc: Global,
+    plan: &Plan,
+    table: usize,
+    findings: Findings,
+) -> Result<TableReport, AllocError>
+    requires { IsTableNumber plan.now table }
+    ensures { IfOk result (IsReported findings plan.now table) }
+{
+    let check = check_table(alloc, plan, table)?;
+    let is_wide = check.gaps.is_none();
+    let overlaps = reported_overlaps(alloc, plan, table, findings, check.overlaps)?;
+    let gaps = reported_gaps(alloc, plan, table, findings, check.gaps);
+    let columns = reported_columns(alloc, check.columns.as_slice(), gaps.as_slice())?;
+    Ok(TableReport {
+        overlaps,
+        is_wide,
+        columns,
+        gaps,
+    })
+}
+
+// Those of a table's overlaps that are told, in order.
+fn reported_overlaps(
+    alloc: Global,
+    plan: &Plan,
+    table: usize,
+    findings: Findings,
+    overlaps: Vec<(usize, usize)>,
+) -> Result<Vec<(usize, usize)>, AllocError>
+    requires number { IsTableNumber plan.now table }
+    requires all { overlaps.items ≡ overlaps_of plan.now table }
+    ensures { IfOk result (λ found. found.items ≡ overlaps_in findings plan.now table) }
+{
+    match findings {
+        Findings::All => Ok(overlaps),
+        Findings::Errors => violating_pairs(alloc, plan, table, overlaps.as_slice()),
+    }
+}
+
+// Those of these overlaps of a table that are harmful.
+fn violating_pairs(
+    alloc: Global,
+    plan: &Plan,
+    table: usize,
+    overlaps: &[(usize, usize)],
+) -> Result<Vec<(usize, usize)>, AllocError>
+    requires { IsTableNumber plan.now table }
+    ensures { IfOk result (λ found. found.items ≡ filter (λ rules. overlap_is_error plan.now table rules.0 rules.1) overlaps.now) }
+{
+    let mut found = Vec::new(alloc);
+    for rules in overlaps {
+        if overlap_is_error(plan, table, rules.0, rules.1) {
+            found.push(*rules)?;
+        }
+    }
+    Ok(found)
+}
+
+// The places of a table's gaps, where they are told.
+fn reported_gaps(
+    alloc: Global,
+    plan: &Plan,
+    table: usize,
+    findings: Findings,
+    gaps: Option<Vec<u32>>,
+) -> Vec<u32>
+    requires { IsTableNumber plan.now table }
+    ensures { result.items ≡ reported_places findings plan.now table gaps }
+{
+    match gaps {
+        Some(gaps) => {
+            if reports_gaps(plan, table, findings) {
+                gaps
+            } else {
+                Vec::new(alloc)
+            }
+        }
+        None => Vec::new(alloc),
+    }
+}
+
+// Whether the gaps of a table are told.
+fn reports_gaps(plan: &Plan, table: usize, findings: Findings) -> bool
+    requires { IsTableNumber plan.now table }
+    ensures { result ≡ reports_gaps findings plan.now table }
+{
+    match findings {
+        Findings::All => true,
+        Findings::Errors => gap_is_error(plan, table),
+    }
+}
+
+// What is printed of the columns, where there are gaps to be told.
+fn reported_columns(
+    alloc: Global,
+    columns: &[Sequence<Region>],
+    gaps: &[u32],
+) -> Result<Sequence<ColumnText>, AllocError>
+    ensures { IfOk result (λ texts. texts ≡ column_texts_if gaps.now columns.now) }
+{
+    if gaps.is_empty() {
+        return Ok(Sequence::new(alloc));
+    }
+    column_texts(alloc, columns)
+}
+
+// What is printed of the columns.
+fn column_texts(
+    alloc: Global,
+    columns: &[Sequence<Region>],
+) -> Result<Sequence<ColumnText>, AllocError>
+    ensures { IfOk result (λ texts. texts ≡ column_texts [] columns.now) }
+{
+    let mut texts = Sequence::new(alloc);
+    push_columns(alloc, "", columns, &mut texts)?;
+    Ok(texts)
+}
+
+// Puts what is printed of the columns behind others; of the first it stands behind this mark.
+fn push_columns(
+    alloc: Global,
+    mark: &str,
+    columns: &[Sequence<Region>],
+    texts: &mut Sequence<ColumnText>,
+) -> Result<(), AllocError>
+    ensures { OnOk result (texts.new ≡ texts.old ++ column_texts mark.now columns.now) }
+{
+    match columns.split_first() {
+        Some((regions, more)) => {
+            let text = column_text(alloc, mark, regions.as_slice(), more)?;
+            texts.push(text)?;
+            push_columns(alloc, " ; ", more, texts)
+        }
+        None => Ok(()),
+    }
+}
+
+// What is printed of a column behind a mark, in front of more columns.
+fn column_text(
+    alloc: Global,
+    mark: &str,
+    regions: &[Region],
+    more: &[Sequence<Region>],
+) -> Result<ColumnText, AllocError>
+    ensures { IfOk result (λ text. text ≡ column_text mark.now regions.now more.now) }
+{
+    let regions = region_texts(alloc, mark, regions)?;
+    let following = cell_count(more);
+    Ok(ColumnText { regions, following })
+}
+
+// What is printed of each of these regions, behind a mark.
+fn region_texts(
+    alloc: Global,
+    mark: &str,
+    regions: &[Region],
+) -> Result<Sequence<Bytes>, AllocError>
+    ensures { IfOk result (λ texts. texts ≡ map (marked_region mark.now) regions.now) }
+{
+    let mut texts = Sequence::new(alloc);
+    for region in regions {
+        texts.push(marked_region(alloc, mark, region)?)?;
+    }
+    Ok(texts)
+}
+
+// What is printed of a region, behind a mark.
+fn marked_region(alloc: Global, mark: &str, region: &Region) -> Result<Bytes, AllocError>
+    ensures { IfOk result (λ text. text ≡ marked_region mark.now region.now) }
+{
+    let mut bytes = Vec::new(alloc);
+    bytes.extend_from_slice(mark.as_bytes())?;
+    append_region(&mut bytes, region)?;
+    Ok(Bytes { bytes })
+}
+
+// Appends the text of a region: which values it has.
+fn append_region(text: &mut Vec<u8>, region: &Region) -> Result<(), AllocError>
+    ensures { OnOk result (text.new.items ≡ text.old.items ++ region_text region.now) }
+{
+    match region {
+        Region::Below(cut) => {
+            text.extend_from_slice(b"<")?;
+            cut.write_text(text)
+        }
+        Region::At(value) => value.write_text(text),
+        Region::Between(low, high) => {
+            text.extend_from_slice(b"]")?;
+            low.write_text(text)?;
+            text.extend_from_slice(b"..")?;
+            high.write_text(text)?;
+            text.extend_from_slice(b"[")
+        }
+        Region::Above(cut) => {
+            text.extend_from_slice(b">")?;
+            cut.write_text(text)
+        }
+        Region::Other(names) => {
+            text.extend_from_slice(b"not(")?;
+            append_joined::<Value, Literals>(text, ",", names.as_slice())?;
+            text.extend_from_slice(b")")
+        }
+        Region::Every => text.extend_from_slice(b"-"),
+    }
+}

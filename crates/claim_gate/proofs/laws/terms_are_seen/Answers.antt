@@ -1,5 +1,0 @@
-use Rattle.claim_gate.proofs.SomeTerms.{some_terms}
-use Rattle.claim_gate.proofs.laws.terms_are_seen.Goals as goal
-
-pub returns : goal.returns
-returns c = some_terms c.files_have_rows.ensures c.args.terms.now c.plan-plan.ensures.terms

@@ -1,7 +1,0 @@
-use Rattle.std.proofs.Common.{take}
-use Rattle.claim_gate.specs.Terms.{AreFilesOf, texts_of}
-use Rattle.claim_gate.proofs.terms.judge_files.Given as goal
-
--- those in front of the place are judged
-abbrev pub invariant-loop-place : goal.invariant-loop-place
-invariant-loop-place l = AreFilesOf l.plan.names (take l.place (texts_of l.files)) l.judged

@@ -1,0 +1,61 @@
+//! Signs of life: while a run takes long, lines on standard error say that it goes on.
+
+use std::alloc::Global;
+use std::sync::Arc;
+use std::sync::atomic::{AtomicU64, Ordering};
+use std::thread;
+use std::thread::{JoinHandle, Threads};
+use std::time::{Clock, Duration};
+
+/// How long the end of the work waits for the thread at most.
+const STEP_MILLISECONDS: u64 = 20;
+
+/// How many steps are between two lines.
+const STEPS_OF_A_LINE: u64 = 100;
+
+/// How many seconds are between two lines.
+const SECONDS_OF_A_LINE: u64 = 2;
+
+/// A thread that tells from time to time that the work goes on.
+#[derive(Drop)]
+pub struct Heartbeat {
+    /// 1 once the work is done.
+    done: Arc<AtomicU64, Global>,
+    thread: JoinHandle<()>,
+}
+
+impl Heartbeat {
+    /// Starts the thread. Where there is no memory or no thread for it, the work goes on without signs.
+    pub fn start<R: AllocGlobal + Clock + Clone + Drop + Eprint + Threads + Send + 'static>(
+        rt: &R,
+    ) -> Option<Heartbeat> {
+        let done = Arc::new(rt.alloc(), AtomicU64::new(0)).ok()?;
+        let seen = Arc::try_clone(&done).ok()?;
+        let theirs: R = rt.clone().ok()?;
+        let thread = thread::spawn(rt, move || print_until_done(&theirs, &seen)).ok()?;
+        Some(Heartbeat { done, thread })
+    }
+
+    /// Ends the thread: the work is done.
+    pub fn end<R: Threads>(self, rt: &R) {
+        self.done.store(1, Ordering::SeqCst);
+        self.thread.join(rt);
+    }
+}
+
+fn print_until_done<R: Clock + Eprint>(rt: &R, done: &AtomicU64) {
+    for step in 1..u64::MAX {
+        thread::sleep(rt, Duration::from_millis(STEP_MILLISECONDS));
+        if done.load(Ordering::SeqCst) == 1 {
+            return;
+        }
+        if step % STEPS_OF_A_LINE == 0 {
+            print_progress(rt, step / STEPS_OF_A_LINE * SECONDS_OF_A_LINE);
+        }
+    }
+}
+
+fn print_progress<R: Eprint>(rt: &R, seconds: u64) {
+    // A line that can't be written is no reason to end the work.
+    let _ = eprintln!(rt; "still at work after {seconds} s");
+}

@@ -1,0 +1,72 @@
+-- What a worker holds: claims in work stay so wherever the gate that it has seen leads.
+use Rattle.std.proofs.Common.{◌≡◌, ℕ, true, List, [], ◌∷◌, ◌++◌, map, sym, ap, subst, ◌∙◌, append_assoc}
+use Rattle.std.specs.List.{All}
+use Rattle.std.proofs.lemmas.Bool.{or_left}
+use Rattle.std.proofs.lemmas.List.Elements.{All-map, All-weaker}
+use Rattle.std.proofs.lemmas.List.Folds.{list_any-append}
+use Rattle.settlement.specs.Claim.{IsClaimOf}
+use Rattle.settlement.specs.Settlement.{outcome}
+use Rattle.settlement.specs.declared.outcome.Outcome.{Outcome}
+use Rattle.dtable.specs.Plan.{PlanParts}
+use Rattle.journal.specs.Events.{is_take, has_take}
+use Rattle.journal.specs.Gate.{Continues, LeadsTo}
+use Rattle.journal.specs.Laws.{JobsAreStable}
+use Rattle.journal.specs.Settled.{outcome_of}
+use Rattle.journal.specs.declared.event.Event.{Event}
+use Rattle.claim_gate.specs.Parts.{GateParts}
+use Rattle.claim_gate.specs.declared.job.Job.{Job}
+use Rattle.claim_gate.proofs.Sharing.{job_stays}
+use Rattle.crew.specs.Sharing.{IsInWork, IsSettledIn, settled_by}
+use Rattle.crew.specs.declared.worker.DecidedJob.{DecidedJob}
+
+-- a position that is taken stays so
+taken_stays : (J K : List Event) (position : ℕ) → Continues J K → has_take J position ≡ true → has_take K position ≡ true
+taken_stays J K position on is =
+    ap (λ w. has_take w position) on.whole ∙ list_any-append (is_take position) J on.rest ∙ or_left (has_take J position) (has_take on.rest position) is
+
+-- a claim in work stays so
+pub in_work_stays : JobsAreStable → (a b : GateParts) (job : Job) → LeadsTo a b → IsInWork a job → IsInWork b job
+in_work_stays stay a b job leads w = record {
+  in_work = taken_stays a.journal b.journal job.position leads.journal w.in_work;
+  is_job = job_stays stay a b job.position job.claim job.acc leads w.is_job;
+  fields = subst (λ terms. IsClaimOf terms.plan job.claim) (sym leads.terms) w.fields;
+}
+
+-- with its settlement too
+pub settled_stays : JobsAreStable → (a b : GateParts) (settled : DecidedJob) → LeadsTo a b → IsSettledIn a settled → IsSettledIn b settled
+settled_stays stay a b settled leads s = record {
+  in_work = in_work_stays stay a b settled.job leads s.in_work;
+  value = s.value ∙ ap (λ terms. outcome_of terms.plan settled.job.claim settled.job.acc) (sym leads.terms);
+}
+
+-- so do all of them
+pub all_in_work_stay : JobsAreStable → (a b : GateParts) (jobs : List Job) → LeadsTo a b → All (IsInWork a) jobs → All (IsInWork b) jobs
+all_in_work_stay stay a b jobs leads all = All-weaker (IsInWork a) (IsInWork b) (λ job w. in_work_stays stay a b job leads w) jobs all
+
+pub all_settled_stay : JobsAreStable → (a b : GateParts) (settled : List DecidedJob) → LeadsTo a b → All (IsSettledIn a) settled → All (IsSettledIn b) settled
+all_settled_stay stay a b settled leads all = All-weaker (IsSettledIn a) (IsSettledIn b) (λ one s. settled_stays stay a b one leads s) settled all
+
+-- claims in work with their settlements
+pub all_settled : (gate : GateParts) (plan : PlanParts) (jobs : List Job) → plan ≡ gate.terms.plan → All (IsInWork gate) jobs → All (IsSettledIn gate) (map (settled_by plan) jobs)
+all_settled gate plan jobs is all =
+    All-map (IsSettledIn gate) (settled_by plan) jobs
+    (All-weaker (IsInWork gate) (λ job. IsSettledIn gate (settled_by plan job))
+    (λ job w. record { in_work = w; value = ap (λ p. outcome_of p job.claim job.acc) is }) jobs all)
+
+-- they have the plan's fields
+pub all_have_fields : (gate : GateParts) (plan : PlanParts) (jobs : List Job) → plan ≡ gate.terms.plan → All (IsInWork gate) jobs → All (λ job. IsClaimOf plan job.claim) jobs
+all_have_fields gate plan jobs is all =
+    All-weaker (IsInWork gate) (λ job. IsClaimOf plan job.claim) (λ job w. subst (λ p. IsClaimOf p job.claim) (sym is) w.fields) jobs all
+
+-- a list that is mapped one by one, with one item more
+pub one_more : {X Y : Type 0} (f : X → Y) (done : List Y) (items rest : List X) (x : X) (y : Y) (all : List Y) → items ≡ x ∷ rest → y ≡ f x
+    → done ++ map f items ≡ all → (done ++ y ∷ []) ++ map f rest ≡ all
+one_more f done items rest x y all steps is whole =
+    append_assoc done (y ∷ []) (map f rest) ∙ ap (λ z. done ++ z ∷ map f rest) is ∙ sym (ap (λ xs. done ++ map f xs) steps) ∙ whole
+
+-- a claim with its outcome by a plan
+pub settled_is : (plan same : PlanParts) (job : Job) (o : Outcome) (settled : DecidedJob) → settled ≡ record { job = job; outcome = o } → o ≡ outcome plan job.claim job.acc → plan ≡ same
+    → settled ≡ settled_by same job
+unfolding outcome_of
+settled_is plan same job o settled made is plan_is =
+    made ∙ ap (λ x. record { job = job; outcome = x }) (is ∙ ap (λ p. outcome p job.claim job.acc) plan_is)

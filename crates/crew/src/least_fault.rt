@@ -1,0 +1,57 @@
+//! The least fault that the threads of a run have met.
+ghost use Rattle.std.specs.Prelude.{◌≡◌, ◌≢◌, ◌≤◌, IfSome, IfNone};
+ghost use Rattle.faults.specs.RunFaultNumber.{number_of};
+ghost use Rattle.crew.specs.MetAlone.{IsMetAlone};
+ghost use Rattle.faults.specs.declared.run_fault.RunFault.{RunFault};
+ghost use Rattle.faults.specs.declared.run_fault.RunFault.TheVariants.{Workers, Stopped};
+
+use faults::RunFault;
+use std::sync::atomic::{AtomicU64, Ordering};
+
+/// The least fault that any thread has noted, by its number.
+#[derive(Drop)]
+pub(crate) struct LeastFault {
+    number: AtomicU64,
+}
+
+impl LeastFault {
+    /// Nothing is noted yet.
+    pub(crate) fn new() -> LeastFault {
+        LeastFault {
+            number: AtomicU64::new(u64::MAX),
+        }
+    }
+
+    /// Notes a fault.
+    pub(crate) fn note(&self, fault: RunFault) {
+        self.number
+            .fetch_min(u64::from(fault.number()), Ordering::SeqCst);
+    }
+
+    /// The lesser of the caller's own fault and of the least that was noted. Only the faults that a thread meets by itself count:
+    /// that the run was stopped each caller sees for itself.
+    pub(crate) fn least_with(&self, own: RunFault) -> RunFault
+        ensures least { number_of result ≤ number_of own }
+        ensures workers { result ≡ Workers → own ≡ Workers }
+        ensures stopped { result ≡ Stopped → own ≡ Stopped }
+    {
+        let noted = self.number.load(Ordering::SeqCst);
+        match met_alone(noted.min(u64::from(own.number()))) {
+            Some(fault) => fault,
+            None => own,
+        }
+    }
+}
+
+// The fault of this number, where it is one that a thread meets by itself.
+fn met_alone(number: u64) -> Option<RunFault>
+    ensures found { IfSome result (λ fault. (number_of fault ≡ number) × IsMetAlone fault) }
+    ensures none { IfNone result ((fault : RunFault) → IsMetAlone fault → number_of fault ≢ number) }
+{
+    match number {
+        2 => Some(RunFault::OutOfMemory),
+        3 => Some(RunFault::Thread),
+        4 => Some(RunFault::Worn),
+        _ => None,
+    }
+}

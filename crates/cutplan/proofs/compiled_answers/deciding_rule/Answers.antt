@@ -1,0 +1,15 @@
+use Rattle.std.proofs.lemmas.Grind.{common_steps}
+use Rattle.std.proofs.Common.{rules, arith}
+use Rattle.cutplan.proofs.compiled_answers.deciding_rule.Goals as goal
+
+pub returns-in-F : goal.returns-in-F
+returns-in-F c = search rules
+
+pub returns-in-P : goal.returns-in-P
+returns-in-P c = grind (arith, common_steps)
+
+pub returns-in-len1 : goal.returns-in-len1
+returns-in-len1 c = grind (arith, common_steps)
+
+pub returns-then-rules_agree : goal.returns-then-rules_agree
+returns-then-rules_agree c = grind (arith, common_steps)

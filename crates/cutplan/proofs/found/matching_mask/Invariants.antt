@@ -1,5 +1,0 @@
-use Rattle.cutplan.proofs.ByMasks.{AreMet}
-use Rattle.cutplan.proofs.found.matching_mask.Given as goal
-
-abbrev pub invariant-loop-column : goal.invariant-loop-column
-invariant-loop-column l = AreMet l.given l.earlier l.table l.column-index l.mask

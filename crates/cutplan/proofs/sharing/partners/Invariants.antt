@@ -1,7 +1,0 @@
-use Rattle.std.proofs.Common.{take}
-use Rattle.cutplan.specs.Masks.{Marks}
-use Rattle.cutplan.specs.Parts.{share_all}
-use Rattle.cutplan.proofs.sharing.partners.Given as goal
-
-abbrev pub invariant-columns : goal.invariant-columns
-invariant-columns l = Marks (share_all (take l.masks-index l.columns) l.rule) l.mask

@@ -1,7 +1,0 @@
-use Rattle.std.proofs.Common.{take}
-use Rattle.std.specs.List.{AllZip}
-use Rattle.cutplan.specs.Zones.{IsKeptName}
-use Rattle.cutplan.proofs.zone.kept_names.Given as goal
-
-abbrev pub invariant-loop-place : goal.invariant-loop-place
-invariant-loop-place l = AllZip (IsKeptName l.plan) (take l.place-index l.place-items) l.kept

@@ -1,7 +1,0 @@
-use Rattle.std.proofs.Common.{◌≡◌, filter}
-use Rattle.std.specs.List.{range_with_len}
-use Rattle.dtable.specs.Inputs.{needs}
-use Rattle.cutplan.proofs.zone.names_read.Given as goal
-
-abbrev pub invariant-loop-place : goal.invariant-loop-place
-invariant-loop-place l = l.places ≡ filter (needs l.plan.tables) (range_with_len 0 l.place)

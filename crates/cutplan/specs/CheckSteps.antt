@@ -1,0 +1,129 @@
+-- Steps of the check and of the compilation of columns.
+use Rattle.std.specs.Prelude.{ℕ, ◌+◌, ◌-◌, ◌≡◌, ◌<◌, ◌≤◌, ◌==◌, nat_le, Bool, true, false, not, ◌&&◌, ◌||◌, List, [], ◌∷◌, map, filter, length, drop, Option, Some, None, slice_get, IsTrue, if◌then◌else◌}
+use Rattle.std.specs.List.{list_any, list_all, AllZip}
+use Rattle.std.specs.Option.{option_map_or}
+use Rattle.feel_tests.specs.Holds.{is_equal, holds}
+use Rattle.feel_tests.specs.declared.cell.Cell.{Cell}
+use Rattle.feel_tests.specs.declared.kind.Kind.{Kind}
+use Rattle.feel_tests.specs.declared.kind.Kind.TheVariants as kinds
+use Rattle.feel_tests.specs.declared.value.Value.{Value}
+use Rattle.dtable.specs.declared.table.Rule.{Rule}
+use Rattle.dtable.specs.declared.table.Table.{Table}
+use Rattle.cutplan.specs.declared.region.Region.{Region}
+use Rattle.cutplan.specs.declared.region.Region.TheVariants.{Below, At, Between, Above, Other, Every}
+use Rattle.dtable.specs.Plan.{has_kind}
+use Rattle.cutplan.specs.Masks.{has_rule, AreMasks, Marks}
+use Rattle.cutplan.specs.Regions.{rule_literals, least_like, next, holds_in}
+use Rattle.cutplan.specs.Values.{is_before, with_value, sort_values}
+use Rattle.cutplan.specs.Check.{covers, holds_at, rule_cells}
+
+-- the cuts with one more literal, if it is of the kind
+abbrev pub with_literal : Kind → List Value → Value → List Value
+with_literal kind cuts v = if has_kind kind v then with_value cuts v else cuts
+
+-- the values of the kind have an order; texts are ordered by their bytes, although no test of a
+-- cell compares them
+abbrev pub can_be_sorted : Kind → Bool
+can_be_sorted kinds.Number = true
+can_be_sorted kinds.Text = true
+can_be_sorted kinds.Flag = false
+can_be_sorted kinds.Day = true
+
+-- each value is of the kind and before all later ones
+abbrev pub rises : Kind → List Value → Bool
+rises kind [] = true
+rises kind (v ∷ vs) = (has_kind kind v && list_all (is_before v) vs) && rises kind vs
+
+-- the kind has an order, and the cuts are of the kind and strictly increasing
+abbrev pub is_risen : Kind → List Value → Bool
+is_risen kind cuts = can_be_sorted kind && rises kind cuts
+
+-- the kind has an order, and the values are of the kind
+abbrev pub are_ordered : Kind → List Value → Bool
+are_ordered kind values = can_be_sorted kind && list_all (has_kind kind) values
+
+-- the value is at this index
+abbrev pub is_at : List Value → ℕ → Value → Bool
+is_at cuts place v = option_map_or (λ cut. is_equal cut v) (slice_get cuts place) false
+
+-- the value lies strictly between the cuts before and at the index, as far as they exist
+abbrev pub fits_at : List Value → ℕ → Value → Bool
+fits_at cuts place v = option_map_or (λ cut. is_before v cut) (slice_get cuts place) true && (place == 0 || option_map_or (λ cut. is_before cut v) (slice_get cuts (place - 1)) true)
+
+-- the kind has an order, the value is of the kind, and it lies strictly between the cuts before and
+-- at the index
+abbrev pub is_located_at : Kind → List Value → ℕ → Value → Bool
+is_located_at kind cuts place v = ((can_be_sorted kind && has_kind kind v) && nat_le place (length cuts)) && fits_at cuts place v
+
+-- the literals of the kind in a rule's cell of a column, in increasing order
+abbrev pub own_cuts : Kind → ℕ → Rule → List Value
+own_cuts kind column rule = sort_values (filter (has_kind kind) (rule_literals column rule))
+
+-- the cell holds for the value; a missing cell holds for every value
+abbrev pub cell_holds : Option Cell → Value → Bool
+cell_holds cell v = option_map_or (λ c. holds c v) cell true
+
+-- the cell holds in the region; a missing cell holds everywhere
+abbrev pub cell_holds_in : Option Cell → Region → Bool
+cell_holds_in cell region = option_map_or (λ c. holds_in c region) cell true
+
+-- the cells of a column, rule by rule
+abbrev pub column_cells : Table → ℕ → List (Option Cell)
+column_cells t column = map (λ r. slice_get r.cells column) t.rules
+
+-- the rule at the index exists, and its cell holds in the region
+abbrev pub holds_among : List (Option Cell) → Region → ℕ → Bool
+holds_among cells region place = option_map_or (λ cell. cell_holds_in cell region) (slice_get cells place) false
+
+-- the masks of regions by the cells of a column, rule by rule
+abbrev pub AreMasksBy : List (Option Cell) → List Region → List (List ℕ) → Type 0
+AreMasksBy cells regions masks = AllZip (λ region mask. Marks (holds_among cells region) mask) regions masks
+
+-- the first value of a region; a region of other texts or of all values has none
+abbrev pub first_value : Region → Option Value
+first_value (Below cut) = least_like cut
+first_value (At v) = Some v
+first_value (Between low high) = next low
+first_value (Above cut) = next cut
+first_value (Other names) = None
+first_value Every = None
+
+-- a probe of a rule's cell: its cuts, and an answer that is correct for every value strictly
+-- between the cuts before and at the index
+pub record IsAsked (rule : Rule) (column : ℕ) (kind : Kind) (cuts : List Value) (place : ℕ) (answer : Option Bool) : Type 0 where
+  pub own : cuts ≡ own_cuts kind column rule
+  pub known : (found : Bool) → answer ≡ Some found → (v : Value) → IsTrue (is_located_at kind cuts place v) → cell_holds (slice_get rule.cells column) v ≡ found
+
+-- none of the rules covers these regions with its cells from the column on
+abbrev pub uncovered : Table → ℕ → List ℕ → List Region → Bool
+uncovered t column rules cell = not (list_any (λ rule. covers (drop column (rule_cells t rule)) cell) rules)
+
+-- the rules whose cell in the column holds in the region
+abbrev pub alive_in : Table → ℕ → Region → List ℕ → List ℕ
+alive_in t column region rules = filter (λ rule. holds_at t rule column region) rules
+
+-- `masks` has the masks of each of these columns at the index of the column; the first of them has
+-- the index `place`
+abbrev pub HasMasksFrom : Table → ℕ → List (List Region) → List (List (List ℕ)) → Type 0
+HasMasksFrom t place columns masks = (i : ℕ) (regions : List Region) → slice_get columns i ≡ Some regions → (kept : List (List ℕ)) × (slice_get masks (place + i) ≡ Some kept) × AreMasks t (place + i) regions kept
+
+-- the mask has four words and no rule at the index `count` or after it
+pub record AreRules (count : ℕ) (mask : List ℕ) : Type 0 where
+  pub words : length mask ≡ 4
+  pub within : (place : ℕ) → count ≤ place → place < 256 → has_rule mask place ≡ false
+
+-- the mask has four words
+abbrev pub is_whole : List ℕ → Bool
+is_whole mask = length mask == 4
+
+-- each mask has four words
+abbrev pub are_whole : List (List ℕ) → Bool
+are_whole masks = list_all is_whole masks
+
+-- one of the masks has both rules
+abbrev pub share : List (List ℕ) → ℕ → ℕ → Bool
+share masks first second = list_any (λ mask. has_rule mask first && has_rule mask second) masks
+
+-- every column has a mask with both rules
+abbrev pub share_all : List (List (List ℕ)) → ℕ → ℕ → Bool
+share_all columns first second = list_all (λ masks. share masks first second) columns

@@ -1,7 +1,0 @@
-use Rattle.std.proofs.Common.{◌≤◌, ◌+◌, take}
-use Rattle.diagnostics.specs.Position.{IsBehind}
-use Rattle.diagnostics.proofs.position.position_behind.Given as goal
-
-abbrev pub invariant-loop-byte : goal.invariant-loop-byte
-invariant-loop-byte l = IsBehind (take l.byte-index l.text) (record { line = l.line; column = l.column })
-    × (l.line ≤ l.byte-index + 1) × (l.column ≤ l.byte-index + 1)

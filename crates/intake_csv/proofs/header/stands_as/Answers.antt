@@ -1,9 +1,0 @@
-use Rattle.std.proofs.Common.{rules, ◌<◌, length}
-use Rattle.csv.specs.Records.{fields_of}
-use Rattle.intake_csv.proofs.Headers.{stands-more}
-use Rattle.intake_csv.proofs.header.stands_as.Goals as goal
-
-pub loop-place-preserved : goal.loop-place-preserved
-loop-place-preserved c =
-    let within : c.loop-place.place < length (fields_of c.args.header.now) = search rules in
-    rw (c.after-standing.ensures, c.has_name.ensures) (stands-more c.args.name.now (fields_of c.args.header.now) c.loop-place.place c.loop-place.standing within c.loop-place.invariant)

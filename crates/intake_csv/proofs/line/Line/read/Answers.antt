@@ -1,6 +1,0 @@
-use Rattle.intake_csv.proofs.AsciiFields.{ascii-fields}
-use Rattle.intake_csv.proofs.line.Line.read.Goals as goal
-
-pub invariant_of-self : goal.invariant_of-self
-invariant_of-self c = λ is.
-    ascii-fields c.read-read.new.row (rw (is, c.as_slice.ensures) at c.is_ascii-self-inside.ensures.cases)

@@ -1,0 +1,42 @@
+//! A claim in a box.
+ghost use Rattle.std.specs.Prelude.{◌≡◌, IfOk, IfErr};
+
+use settlement::Claim;
+use std::alloc::{AllocFailed, Global};
+use std::marker::Model;
+
+/// A claim on the heap. It passes through a gate as one pointer, and the slot of a decided claim
+/// takes little memory. Contracts see the claim.
+#[derive(Drop)]
+pub struct BoxedClaim {
+    claim: Box<Claim>,
+}
+
+impl Model for BoxedClaim {
+    ghost use Rattle.std.specs.Prelude.{box_value};
+    ghost use Rattle.settlement.specs.declared.claim.Claim.{Claim};
+
+    ghost Value = { Claim };
+
+    ghost view = { λ stored. box_value stored.claim };
+}
+
+impl BoxedClaim {
+    /// Moves the claim to the heap. If memory runs out, the claim is returned.
+    pub fn new(alloc: Global, claim: Claim) -> Result<BoxedClaim, AllocFailed<Claim>>
+        ensures value { IfOk result (λ stored. stored ≡ claim) }
+        ensures back { IfErr result (λ failed. failed.value ≡ claim) }
+    {
+        match Box::new(alloc, claim) {
+            Ok(claim) => Ok(BoxedClaim { claim }),
+            Err(failed) => Err(failed),
+        }
+    }
+
+    /// Returns the claim.
+    pub fn as_claim(&self) -> &Claim
+        ensures { result.now ≡ self.now }
+    {
+        &*self.claim
+    }
+}

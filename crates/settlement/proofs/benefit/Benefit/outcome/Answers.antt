@@ -1,5 +1,0 @@
-use Rattle.std.proofs.Common.{rules}
-use Rattle.settlement.proofs.benefit.Benefit.outcome.Goals as goal
-
-pub returns-in_ok-share-in-Denied : goal.returns-in_ok-share-in-Denied
-returns-in_ok-share-in-Denied c = search rules

@@ -1,8 +1,0 @@
-use Rattle.std.proofs.Common.{rules}
-use Rattle.settlement.proofs.benefit.covered.Goals as goal
-
-pub returns-then-is_none : goal.returns-then-is_none
-returns-then-is_none c = search rules
-
-pub returns : goal.returns
-returns c = search rules

@@ -1,0 +1,12 @@
+use Rattle.std.proofs.Common.{arith}
+use Rattle.std.proofs.lemmas.Grind.{elements}
+use Rattle.settlement.proofs.bindings.bound_after_member.Goals as goal
+
+pub returns-in-Some : goal.returns-in-Some
+returns-in-Some c = grind (arith, elements)
+
+pub returns-in-None : goal.returns-in-None
+returns-in-None c = grind (arith, elements)
+
+pub accumulator-requires : goal.accumulator-requires
+accumulator-requires c = grind (arith, elements)

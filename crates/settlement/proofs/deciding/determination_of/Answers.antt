@@ -1,0 +1,11 @@
+use Rattle.std.proofs.Common.{ap, sym, ◌∙◌}
+use Rattle.std.specs.Option.{option_copied}
+use Rattle.dtable.specs.Plan.{PlanParts}
+use Rattle.settlement.proofs.RoleBindings.{placed_in}
+use Rattle.settlement.proofs.deciding.determination_of.Goals as goal
+
+pub by_roles-requires : goal.by_roles-requires
+by_roles-requires g c =
+    let plan = g.V.Valuer.plan_of c.args.valuer.now in
+    let has = ap (λ (p : PlanParts). p.roles) (sym c.plan.ensures) ∙ sym c.roles.ensures.roles ∙ ap option_copied c.unwrap-roles.ensures in
+    placed_in plan c.args.inputs.now c.in-Ok.env c.unwrap-roles.result.now c.args.places.now c.in-Ok.ensures.value has c.requires.placed

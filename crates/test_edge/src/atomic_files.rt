@@ -1,0 +1,93 @@
+//! A text that takes the place of another, over a place in memory.
+use crate::ending::{expects, fail};
+use console::{AtomicTarget, finish};
+use std::alloc::Global;
+use std::io;
+use std::io::Write;
+use std::process::Abort;
+
+// A place in memory.
+#[derive(Drop)]
+struct Shelf {
+    current: Vec<u8>,
+    is_broken: bool,
+}
+
+impl AtomicTarget for Shelf {
+    ghost use Rattle.std.specs.Prelude.{Some};
+
+    type Text = Vec<u8>;
+
+    ghost current = { λ shelf. Some shelf.current.items };
+
+    fn begin(&mut self) -> io::Result<Vec<u8>> {
+        Ok(Vec::new(*self.current.allocator()))
+    }
+
+    fn commit(&mut self, text: Vec<u8>) -> io::Result<()> {
+        if self.is_broken {
+            return Err(io::Error::from(io::ErrorKind::StorageFull));
+        }
+        self.current = text;
+        Ok(())
+    }
+
+    fn discard(&mut self, _text: Vec<u8>) {}
+}
+
+// A shelf with an old text.
+fn shelf_of(rt: &impl Abort, alloc: Global, is_broken: bool) -> Shelf {
+    match b"old".to_vec(alloc) {
+        Ok(current) => Shelf { current, is_broken },
+        Err(_) => fail(rt, "memory for a shelf"),
+    }
+}
+
+// A new text for a shelf.
+fn text_for(rt: &impl Abort, shelf: &mut Shelf) -> Vec<u8> {
+    match shelf.begin() {
+        Ok(mut text) => {
+            expects(rt, text.write_all(b"new text").is_ok(), "memory for a text");
+            text
+        }
+        Err(_) => fail(rt, "a text"),
+    }
+}
+
+// Whether this stands on a shelf after a new text was written, whole or not, and finished, well or not.
+fn check_commit(
+    rt: &impl Abort,
+    alloc: Global,
+    is_broken: bool,
+    is_whole: bool,
+    is_done: bool,
+    wanted: &[u8],
+) -> bool {
+    let mut shelf = shelf_of(rt, alloc, is_broken);
+    let text = text_for(rt, &mut shelf);
+    let is_as_wanted = finish(&mut shelf, text, is_whole).is_ok() == is_done;
+    is_as_wanted && shelf.current.as_slice() == wanted
+}
+
+#[test]
+fn whole_text_takes_the_place(rt: HostRuntime) {
+    expects(
+        &rt,
+        check_commit(&rt, rt.alloc(), false, true, true, b"new text"),
+        "the new text",
+    );
+}
+
+#[test]
+fn old_text_stays_under_one_that_is_cut_or_refused(rt: HostRuntime) {
+    expects(
+        &rt,
+        check_commit(&rt, rt.alloc(), false, false, true, b"old"),
+        "the old text under a cut one",
+    );
+    expects(
+        &rt,
+        check_commit(&rt, rt.alloc(), true, true, false, b"old"),
+        "the old text under a refused one",
+    );
+}

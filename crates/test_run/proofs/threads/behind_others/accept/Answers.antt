@@ -1,8 +1,0 @@
-use Rattle.crew.proofs.Sections.{accepts_on}
-use Rattle.test_run.proofs.threads.behind_others.accept.Goals as goal
-
-pub returns-clause-taken : goal.returns-clause-taken
-returns-clause-taken g c =
-    let reply = rw c.in-Ok-reply.is at c.in-Ok.ensures.reply in
-    (accepts_on c.args.terms.now c.terms_are_seen.ensures (g.G.Gate.known c.args.pass) (g.G.Gate.known c.in-Ok.pass) c.requires.terms
-    c.in-Ok.ensures.served.section 1 c.args.place c.in-Ok-reply.accepted.position reply).1

@@ -1,0 +1,130 @@
+//! Runs on a gate that others have called before.
+
+ghost use Rattle.std.specs.Prelude.{◌≡◌, ◌≤◌, ◌+◌, length, slice_get, Some};
+ghost use Rattle.journal.specs.Terms.{claims_of};
+ghost use Rattle.claim_gate.specs.Terms.{ForTerms};
+ghost use Rattle.crew.specs.Sharing.{HasAccepted};
+
+use super::journals::comes_to;
+use super::outcomes_of_both;
+use super::watched::{WatchedGate, nothing};
+use crate::testing::{expects, fail};
+use claim_gate::{
+    BoxedClaim, Gate, GateState, LockedGate, Offer, SerialGate, Terms, claim_lists_exist,
+};
+use crew::run_with;
+use intake_csv::{Row, given_row_has_the_claim, reader_begins_with_all_rows};
+use settlement::Claim;
+use std::alloc::Global;
+use std::process::Abort;
+use std::sync::Wait;
+use std::thread::Threads;
+use turn_lock::{Section, SpinLock};
+
+// Offers the first provider's claim at a place, which is accepted. Only claims of this provider were before, so its position is that place.
+fn accept<R: Wait + Abort, G: Gate>(
+    rt: &R,
+    terms: &Terms,
+    gate: &G,
+    pass: G::Pass,
+    place: usize,
+    claim: BoxedClaim,
+) -> G::Pass
+    requires own { G.has_pass gate.now pass }
+    requires terms { (G.known pass).seen.terms ≡ terms.now }
+    requires filed { ForTerms terms.now (λ T. slice_get (claims_of T 1) place ≡ Some claim) }
+    requires taken { HasAccepted (G.known pass).seen 1 place }
+    ensures own { G.has_pass gate.now result }
+    ensures terms { (G.known result).seen.terms ≡ terms.now }
+    ensures taken { HasAccepted (G.known result).seen 1 (place + 1) }
+{
+    // Known from here: the texts have lists of claims, so that what holds for each list says something.
+    claim_lists_exist(terms);
+    let offered = Offer {
+        provider: 1,
+        place,
+        claim,
+    };
+    let Ok((reply, pass)) = gate.offer(rt, pass, offered) else {
+        fail(rt, "a reply")
+    };
+    match reply {
+        Ok(accepted) => {
+            expects(rt, accepted.position == place, "its position");
+            pass
+        }
+        Err(_) => fail(rt, "an accepted claim"),
+    }
+}
+
+// The first two claims of the first provider.
+fn first_two(rt: &impl Abort, alloc: Global, terms: &Terms) -> (BoxedClaim, BoxedClaim)
+    requires { 1 ≤ length terms.now.files }
+    ensures first { ForTerms terms.now (λ T. slice_get (claims_of T 1) 0 ≡ Some result.0) }
+    ensures second { ForTerms terms.now (λ T. slice_get (claims_of T 1) 1 ≡ Some result.1) }
+{
+    reader_begins_with_all_rows();
+    given_row_has_the_claim();
+    let mut rows = match terms.rows(alloc, 1) {
+        Ok(rows) => rows,
+        Err(_) => fail(rt, "rows"),
+    };
+    let first = match rows.next() {
+        Ok(Some(Row::Good { claim, .. })) => boxed_claim_of(rt, alloc, claim),
+        _ => fail(rt, "a claim"),
+    };
+    let second = match rows.next() {
+        Ok(Some(Row::Good { claim, .. })) => boxed_claim_of(rt, alloc, claim),
+        _ => fail(rt, "a claim"),
+    };
+    (first, second)
+}
+
+fn boxed_claim_of(rt: &impl Abort, alloc: Global, claim: Claim) -> BoxedClaim
+    ensures { result ≡ claim }
+{
+    match BoxedClaim::new(alloc, claim) {
+        Ok(stored) => stored,
+        Err(_) => fail(rt, "memory for a claim"),
+    }
+}
+
+// Runs on a gate where another pass has had the first two claims of the first provider accepted.
+fn run_later_files<S: Section + Drop + Sync, R: Threads + Wait + Abort + Sync>(
+    rt: &R,
+    alloc: Global,
+    terms: &Terms,
+    lock: S,
+    pass: S::Pass,
+)
+where
+    S::Value: SerialGate + Drop + Send + Sync,
+    S::Pass: Send + Drop,
+    requires own { S.has_pass lock pass }
+    requires terms { (S.Value.shown (S.seen pass)).terms ≡ terms.now }
+{
+    let files = terms.files().len();
+    assert!(rt; 1 <= files);
+    // A run without end is stopped, and then it isn't Ok.
+    let mut watch = nothing();
+    watch.stop_at_take = 100_000_000;
+    let gate = WatchedGate::over(LockedGate::over(lock), watch);
+    let (mine, theirs) = gate.split(pass);
+    let (first, second) = first_two(rt, alloc, terms);
+    let theirs = accept(rt, terms, &gate, theirs, 0, first);
+    let _ = accept(rt, terms, &gate, theirs, 1, second);
+    let Ok(mine) = run_with(rt, alloc, terms, 2, &gate, mine) else {
+        fail(rt, "a run behind others")
+    };
+    match gate.inner().retire(rt, mine) {
+        Ok(state) => comes_to(rt, alloc, state.journal(), files, outcomes_of_both()),
+        Err(_) => fail(rt, "the gate of the run"),
+    }
+}
+
+/// The same behind a spin lock.
+pub fn goes_on<R: Threads + Wait + Abort + Sync>(rt: &R, alloc: Global, terms: &Terms) {
+    let state = GateState::new(alloc, terms).expect(rt, "a gate");
+    let (lock, pass) = SpinLock::new(alloc, state).expect(rt, "a lock");
+    run_later_files(rt, alloc, terms, lock, pass);
+}
