@@ -1,4 +1,4 @@
-//! The program `adjudicate`: `commands` does what its command line says, over its files and its streams by `console`.
+//! The program `adjudicate`: runs the command line by `commands`, over the system's files and streams by `console`.
 #![tactic(auto)]
 
 use commands::status;

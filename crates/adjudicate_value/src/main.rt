@@ -1,5 +1,4 @@
-//! The program `adjudicate` with the command `value` alone, which `value_command` does over its files and its streams by `console`. It is built
-//! where the whole program is not, since it stands on less.
+//! The program `adjudicate` with only the command `value`. It needs fewer crates than the whole program, so it is built first.
 #![tactic(auto)]
 
 use console::FileSources;

@@ -1,4 +1,4 @@
--- How a command of the program ends, from what the library answered, by the lemmas of `value_command`.
+-- The exit status of a command from the library's result, by the lemmas of `value_command`.
 use Rattle.std.proofs.Common.{◌≡◌, ◌≢◌, ℕ, List, Option, Result, OnErr, OnOk, refl}
 use Rattle.std.specs.Io.KnownBytes.{Keeps}
 use Rattle.adjudicate.specs.declared.stop.Stop.{Stop}
@@ -11,25 +11,25 @@ use Rattle.value_command.proofs.Ends as value
 use Rattle.commands.specs.Ends.{IsStatusOfRefusal}
 use Rattle.console.specs.AtomicTarget.{BeginsEmpty, Becomes}
 
--- what is done has written a text
+-- a success has written a text
 pub ends_done : {E : Type 0} (IsText : List ℕ → Type 0) (old new : Option (List ℕ)) (answer : Result (Unit {0}) E) (status : ℕ) → OnOk answer (WritesText IsText old new)
     → OnErr answer (status ≢ 0) → status ≡ 0 → HasText IsText
 ends_done = value.ends_done
 
--- what is kept twice is kept
+-- keeping a text twice keeps it
 pub kept_twice : (first second third : Option (List ℕ)) → Keeps first second → Keeps second third → Keeps first third
 kept_twice = value.kept_twice
 
--- a command that ends with 0 has put its text into the place
+-- a command that exits with 0 has put its text into the place
 pub placed_done : {E : Type 0} (IsText : List ℕ → Type 0) (first second third before after : Option (List ℕ)) (answer : Result (Unit {0}) E) (status : ℕ)
     → BeginsEmpty first before → Keeps first second → OnOk answer (WritesText IsText before after) → OnErr answer (status ≢ 0)
     → (status ≡ 0 → Becomes second third after) → status ≡ 0 → PutsText IsText first third
 placed_done = value.placed_done
 
--- a text that was put into a place is one that the command may print
+-- a text that was put into a place meets the definition of the command's output
 pub put_is_text : (IsText : List ℕ → Type 0) (first third : Option (List ℕ)) → PutsText IsText first third → HasText IsText
 put_is_text = value.put_is_text
 
--- want of a resource can end any command
+-- a failure of the system can end any command
 pub resource_refused : (IsReason : Stop → Type 0) → IsReason (Value NoMemory) → (status : ℕ) → status ≡ 3 → IsStatusOfRefusal IsReason status
 resource_refused IsReason reason = value.resource_refused status_of IsReason (Value NoMemory) refl reason

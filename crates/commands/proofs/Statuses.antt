@@ -1,4 +1,4 @@
--- The statuses of the program's commands, from those of their parts.
+-- The exit statuses of the commands, from those of their parts.
 use Rattle.std.proofs.Common.{◌≡◌, ◌⊎◌, inl, inr, ℕ}
 use Rattle.clap.specs.declared.parser.matches.ArgMatches.{ArgMatches}
 use Rattle.value_command.specs.Texts.{Whole}
@@ -6,7 +6,7 @@ use Rattle.commands.specs.Ends.{HasRemittance, RunIsDone, RunIsRefused, IsRefuse
 use Rattle.commands.specs.Texts.{HasNamedTexts}
 use Rattle.commands.specs.declared.run.Texts.{Texts}
 
--- `run` over the texts that are named
+-- `run` over the named texts
 pub run_done : (whole : Whole) (words : ArgMatches) (texts : Texts) (status : ℕ) → HasNamedTexts whole words texts → (status ≡ 0 → HasRemittance words texts) → status ≡ 0
     → RunIsDone whole words
 run_done whole words texts status named done is_done = record { texts = texts; named = named; has_remittance = done is_done }

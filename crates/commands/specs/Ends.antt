@@ -1,4 +1,4 @@
--- How a command of the program ends.
+-- The meaning of the exit statuses of the commands.
 use Rattle.std.specs.Prelude.{◌⊎◌, ℕ, List, Option, Result, Ok, Err}
 use Rattle.clap.specs.declared.error.Error.{Error}
 use Rattle.clap.specs.declared.parser.matches.ArgMatches.{ArgMatches}
@@ -15,11 +15,11 @@ use Rattle.commands.specs.declared.run.Texts.{Texts}
 use Rattle.commands.specs.Texts.{HasNamedTexts, texts_at}
 use Rattle.commands.specs.Words.{IsCutoff, IsStrict, IsFindings, IsWorkers}
 
--- there is such a refusal, and this is its status
+-- some error has this reason, and this is its exit status
 abbrev pub IsStatusOfRefusal : (Stop → Type 0) → ℕ → Type 0
 IsStatusOfRefusal IsReason status = IsStatusOf status_of IsReason status
 
--- `check` can end with 0: the plan that is named has such a text, of what is to be told
+-- `check` can exit with 0: the named plan has an output text, with the gaps and overlaps that the option selects
 pub record CheckIsDone (whole : Whole) (words : ArgMatches) : Type 0 where
   pub plan : List ℕ
   pub named : IsNamedPlan whole words plan
@@ -27,23 +27,23 @@ pub record CheckIsDone (whole : Whole) (words : ArgMatches) : Type 0 where
   pub reports : IsFindings words findings
   pub has_text : HasText (IsReportedText findings plan)
 
--- this is the status of a refusal of the plan that is named
+-- this is the exit status of an error of the named plan
 pub record PlanIsRefused (whole : Whole) (words : ArgMatches) (status : ℕ) : Type 0 where
   pub plan : List ℕ
   pub named : IsNamedPlan whole words plan
   pub refused : IsStatusOfRefusal (IsPlanReason plan) status
 
--- `check` can end with this status: it is that of a refusal of the plan that is named, or keys that nothing reads are to be refused
+-- `check` can exit with this status: it is that of an error of the named plan, or unknown keys are errors
 abbrev pub CheckIsRefused : Whole → ArgMatches → ℕ → Type 0
 CheckIsRefused whole words status = PlanIsRefused whole words status ⊎ IsStrict words
 
--- these texts have a remittance at the cutoff that is asked for
+-- these texts have a remittance at the cutoff of the command line
 pub record HasRemittance (words : ArgMatches) (texts : Texts) : Type 0 where
   pub cutoff : Option ℕ
   pub asked : IsCutoff words cutoff
   pub has_text : HasText (IsRemittance (texts_at texts cutoff))
 
--- this is the status of a refusal of a run of these texts, at the cutoff and with the workers that are asked for
+-- this is the exit status of an error of a run of these texts, with the cutoff and the workers of the command line
 pub record IsRefusedRun (words : ArgMatches) (texts : Texts) (status : ℕ) : Type 0 where
   pub cutoff : Option ℕ
   pub asked : IsCutoff words cutoff
@@ -51,39 +51,39 @@ pub record IsRefusedRun (words : ArgMatches) (texts : Texts) (status : ℕ) : Ty
   pub engaged : IsWorkers words workers
   pub refused : IsStatusOfRefusal (IsRunReason (texts_at texts cutoff) workers) status
 
--- `run` can end with 0: the texts that are named have a remittance
+-- `run` can exit with 0: the named texts have a remittance
 pub record RunIsDone (whole : Whole) (words : ArgMatches) : Type 0 where
   pub texts : Texts
   pub named : HasNamedTexts whole words texts
   pub has_remittance : HasRemittance words texts
 
--- this is the status of a refusal of a run of the texts that are named
+-- this is the exit status of an error of a run of the named texts
 pub record TextsAreRefused (whole : Whole) (words : ArgMatches) (status : ℕ) : Type 0 where
   pub texts : Texts
   pub named : HasNamedTexts whole words texts
   pub refused : IsRefusedRun words texts status
 
--- `run` can end with this status: it is that of a refusal of a run of the texts that are named, or keys that nothing reads are to be refused
+-- `run` can exit with this status: it is that of an error of a run of the named texts, or unknown keys are errors
 abbrev pub RunIsRefused : Whole → ArgMatches → ℕ → Type 0
 RunIsRefused whole words status = TextsAreRefused whole words status ⊎ IsStrict words
 
--- the command that is named can end with 0
+-- the named command can exit with 0
 abbrev pub CommandIsDone : Whole → ArgMatches → Type 0
 CommandIsDone whole matches =
     Ends matches VALUE.now (ValueIsDone whole) ⊎ (Ends matches CHECK.now (CheckIsDone whole) ⊎ Ends matches RUN.now (RunIsDone whole))
 
--- the command that is named can end with this status of a refusal
+-- the named command can exit with this status of an error
 abbrev pub CommandIsRefused : Whole → ArgMatches → ℕ → Type 0
 CommandIsRefused whole matches status =
     Ends matches VALUE.now (λ words. ValueIsRefused whole words status)
     ⊎ (Ends matches CHECK.now (λ words. CheckIsRefused whole words status) ⊎ Ends matches RUN.now (λ words. RunIsRefused whole words status))
 
--- the words name a command that can end with 0, or ask for help or the version
+-- the command line names a command that can exit with 0, or it asks for help or the version
 abbrev pub IsDone : Whole → Result ArgMatches Error → Type 0
 IsDone whole (Ok matches) = CommandIsDone whole matches
 IsDone whole (Err fault) = IsHelp fault
 
--- the words name a command that can end with this status of a refusal
+-- the command line names a command that can exit with this status of an error
 abbrev pub IsRefused : Whole → Result ArgMatches Error → ℕ → Type 0
 IsRefused whole (Ok matches) status = CommandIsRefused whole matches status
 IsRefused whole (Err fault) status = ⊥

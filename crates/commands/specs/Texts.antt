@@ -1,4 +1,4 @@
--- The texts that a run reads, as far as they are known: each by its name, up to one byte beyond its limit.
+-- The texts that a run reads by their names, up to one byte more than their limits, as far as they are known.
 use Rattle.std.specs.Prelude.{◌≡◌, ℕ, List, Option, None, Some, IsSomeAnd, map, option_map}
 use Rattle.std.specs.List.{AllZip}
 use Rattle.clap.specs.declared.parser.matches.ArgMatches.{ArgMatches}
@@ -10,24 +10,24 @@ use Rattle.value_command.specs.Words.{word_at, words_at}
 use Rattle.adjudicate.specs.RunText.{RunTexts}
 use Rattle.commands.specs.declared.run.Texts.{Texts}
 
--- the bytes are those of the text with a name, or there is neither
+-- the bytes are read from the text of the name, or there is neither a name nor a text
 abbrev pub IsTextIfNamed : ℕ → Whole → Option (List ℕ) → Option (List ℕ) → Type 0
 IsTextIfNamed limit whole None text = text ≡ None
 IsTextIfNamed limit whole (Some name) text = IsSomeAnd text (IsReadUpTo limit (whole name))
 
--- the bytes of each text are those of the text with its name
+-- the bytes of each text are read from the text of its name
 abbrev pub AreNamedTexts : ℕ → Whole → List (List ℕ) → List (List ℕ) → Type 0
 AreNamedTexts limit whole names texts = AllZip (λ name bytes. IsReadUpTo limit (whole name) bytes) names texts
 
--- these are the bytes of the balances that are named, if they are
+-- the bytes are read from the named balances, if the command line names them
 abbrev pub AreNamedBalances : Whole → ArgMatches → Option (List ℕ) → Type 0
 AreNamedBalances whole matches balances = IsTextIfNamed file_limit_bytes whole (word_at matches BALANCES.now) balances
 
--- these are the bytes of the files that are named
+-- the bytes are read from the named files
 abbrev pub AreNamedFiles : Whole → ArgMatches → List (List ℕ) → Type 0
 AreNamedFiles whole matches files = AreNamedTexts file_limit_bytes whole (words_at matches FILE.now) files
 
--- the texts of a run, with a cutoff
+-- the texts of a run with a cutoff
 abbrev pub texts_at : Texts → Option ℕ → RunTexts
 texts_at texts cutoff = record {
   plan = texts.plan.items;
@@ -36,7 +36,7 @@ texts_at texts cutoff = record {
   cutoff = cutoff;
 }
 
--- the texts of a run are those that are named
+-- the texts of a run are read from the named files
 pub record HasNamedTexts (whole : Whole) (matches : ArgMatches) (texts : Texts) : Type 0 where
   pub plan : IsNamedPlan whole matches texts.plan.items
   pub balances : AreNamedBalances whole matches (option_map (λ b. b.items) texts.balances)

@@ -1,4 +1,4 @@
--- What the words of a command ask for, as they were matched.
+-- The options of a parsed command line.
 use Rattle.std.specs.Prelude.{◌≡◌, ◌<◌, ◌^◌, ℕ, Bool, true, false, List, Option, None, Some, codes}
 use Rattle.std.specs.Option.{SomeIff}
 use Rattle.std.specs.Str.Parse.{IsNumeral, digits_value, without_leading_plus}
@@ -8,40 +8,40 @@ use Rattle.console.specs.declared.names.TheConstants.{CUTOFF, ERRORS_ONLY, STRIC
 use Rattle.adjudicate.specs.declared.check.report.Findings.{Findings}
 use Rattle.adjudicate.specs.declared.check.report.Findings.TheVariants.{All, Errors}
 
--- the text by which a flag or a number is told, if there is one
+-- the text of an option, if it has one
 abbrev pub text_at : ArgMatches → List ℕ → Option (List ℕ)
 text_at matches name = one_text (found_of matches) name
 
--- a flag that is told by `true` is set; one that is told by `false`, or isn't told, is not
+-- a flag is set by the text `true`; by `false`, or without a text, it is not set
 pub record IsFlag (text : Option (List ℕ)) (flag : Bool) : Type 0 where
   pub set : text ≡ Some (codes "true") → flag ≡ true
   pub unset : text ≡ Some (codes "false") → flag ≡ false
   pub untold : text ≡ None → flag ≡ false
 
--- the number that a text writes in decimal digits; none where there is no text
+-- the number that a text gives in decimal digits; none if there is no text
 abbrev pub IsNumber : Option (List ℕ) → Option ℕ → Type 0
 IsNumber None number = number ≡ None
 IsNumber (Some text) number =
     let digits = without_leading_plus text in
     SomeIff number (IsNumeral 10 digits × (digits_value 10 digits < 2 ^ 64)) (digits_value 10 digits)
 
--- keys that nothing reads are to be refused
+-- unknown keys are errors
 abbrev pub IsStrict : ArgMatches → Type 0
 IsStrict matches = IsFlag (text_at matches STRICT.now) true
 
--- of the gaps and overlaps those that are faults are told alone
+-- only violations of a hit policy are listed
 abbrev pub is_errors_only : Findings → Bool
 is_errors_only All = false
 is_errors_only Errors = true
 
--- this is what a check is to tell
+-- these are the gaps and overlaps that a check lists
 abbrev pub IsFindings : ArgMatches → Findings → Type 0
 IsFindings matches findings = IsFlag (text_at matches ERRORS_ONLY.now) (is_errors_only findings)
 
--- so many claims are to be accepted at most
+-- at most this number of claims is accepted
 abbrev pub IsCutoff : ArgMatches → Option ℕ → Type 0
 IsCutoff matches cutoff = IsNumber (text_at matches CUTOFF.now) cutoff
 
--- so many threads are to decide claims
+-- this number of worker threads decides claims
 abbrev pub IsWorkers : ArgMatches → ℕ → Type 0
 IsWorkers matches workers = IsNumber (text_at matches WORKERS.now) (Some workers)

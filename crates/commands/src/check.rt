@@ -1,4 +1,4 @@
-//! The command `check`: its plan, and the gaps and overlaps on standard output.
+//! The command `check`: reads the plan, and writes its gaps and overlaps.
 
 ghost use Rattle.std.specs.Prelude.{◌≡◌, ◌≢◌, ◌≤◌};
 ghost use Rattle.std.specs.Io.KnownBytes.{Keeps};
@@ -18,7 +18,7 @@ use std::io;
 use std::rt::Files;
 use value_command::{About, commit_output, exit_status_of, output_of, plan_of, report_unwritable};
 
-/// The command `check`.
+/// Runs the command `check`, and returns its exit status.
 pub fn check_of<R: Files + Print + Eprint + AllocGlobal, S: Sources>(
     rt: &R,
     sources: &S,
@@ -35,14 +35,14 @@ pub fn check_of<R: Files + Print + Eprint + AllocGlobal, S: Sources>(
     };
     let findings = findings_of(matches);
     let status = check_plan(rt, matches, plan.as_slice(), findings, explains);
-    // Also of a plan that is refused: such a key may be why.
+    // Unknown keys are reported for an invalid plan, too, since they may be the reason.
     if status <= REFUSED && is_strict(matches) {
         return status.max(unused_status(rt, plan.as_slice()));
     }
     status
 }
 
-/// The command `check` over the text of a plan, to where the words say.
+/// Writes to the file of `--output` if there is one, and otherwise to standard output.
 fn check_plan<R: Files + Print + Eprint + AllocGlobal>(
     rt: &R,
     matches: &ArgMatches<'_>,
@@ -66,7 +66,6 @@ fn check_plan<R: Files + Print + Eprint + AllocGlobal>(
     }
 }
 
-/// The command `check` over the text of a plan.
 #[tactic(auto, using(crate::proofs::Ends::ends_done))]
 fn check<R: Print + Eprint + AllocGlobal>(
     rt: &R,
@@ -85,7 +84,7 @@ fn check<R: Print + Eprint + AllocGlobal>(
     status
 }
 
-/// The same into a place, which has the whole text then or what stood there before.
+/// Writes to a place, whose text is replaced atomically.
 #[tactic(auto, using(crate::proofs::Ends::placed_done, crate::proofs::Ends::kept_twice))]
 fn check_into<R: Eprint + AllocGlobal, P: AtomicTarget>(
     rt: &R,
@@ -95,7 +94,8 @@ fn check_into<R: Eprint + AllocGlobal, P: AtomicTarget>(
     place: &mut P,
 ) -> u8
     ensures known { result ≤ RESOURCE }
-    ensures done { result ≡ DONE → PutsText (IsReportedText findings plan.now) (P.current place.old) (P.current place.new) }
+    ensures done { result ≡ DONE
+        → PutsText (IsReportedText findings plan.now) (P.current place.old) (P.current place.new) }
     ensures kept { result ≢ DONE → Keeps (P.current place.old) (P.current place.new) }
     ensures refused { result ≢ DONE → IsStatusOfRefusal (IsPlanReason plan.now) result }
 {

@@ -1,4 +1,4 @@
-//! One command, from the words of the command line to the exit status.
+//! Runs one command, from the words of the command line to the exit status.
 
 ghost use Rattle.std.specs.Prelude.{◌≡◌, ◌≤◌};
 ghost use Rattle.commands.specs.Ends.{CommandIsDone, CommandIsRefused, IsDone, IsRefused};
@@ -17,8 +17,8 @@ use std::thread::Threads;
 use std::time::Clock;
 use value_command::value_of;
 
-/// Does what the command line says, over these texts, and answers the exit status.
-/// Where somebody watches standard error, a run that takes long shows signs of life there.
+/// Runs the command line over these texts, and returns the exit status. `is_watched` says that standard error is a terminal: then errors are
+/// explained, and a long run prints progress lines.
 pub fn status<R, S: Sources>(rt: &R, sources: &S, is_watched: bool) -> u8
 where
     R: Env + Files + Print + Eprint + AllocGlobal,
@@ -33,8 +33,8 @@ where
     matched_status(rt, sources, &matched, is_watched)
 }
 
-/// The exit status by what the words were matched to: a command, over these texts, or a fault of theirs. What a status means is promised here and not
-/// of `status`, since of the words that an `Env` gives no proof knows anything.
+/// The exit status of a parsed command line. The contract for each status is here and not at `status`, since a proof knows nothing of the words that an
+/// `Env` returns.
 pub fn matched_status<R, S: Sources>(
     rt: &R,
     sources: &S,
@@ -54,7 +54,7 @@ where
     }
 }
 
-/// The command that the words name. `clap` lets no other through.
+/// `clap` accepts no command but these three.
 fn command<R, S: Sources>(rt: &R, sources: &S, matches: &ArgMatches<'_>, is_watched: bool) -> u8
 where
     R: Files + Print + Eprint + AllocGlobal,

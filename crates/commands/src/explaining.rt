@@ -1,4 +1,4 @@
-//! What a refusal means, told behind its line where that is wanted.
+//! Explanations of the errors of `check` and `run`.
 
 use adjudicate::Stop;
 use claim_gate::TermsFault;
@@ -8,14 +8,14 @@ use intake_csv::BalanceFault;
 use std::alloc::{AllocError, Global};
 use value_command::{About, print_message, resource_message, value_message};
 
-/// What a command over a plan and files is about, as its refusals are told.
+/// What an explanation needs of a command over a plan and files.
 #[derive(Clone, Copy)]
 pub struct AboutFiles<'a, 'w> {
-    /// The command, and its plan.
+    /// The command line, and the plan.
     pub plan: About<'a, 'w>,
-    /// The text of the balances; nothing where there are none.
+    /// The text of the balances; empty if there are none.
     pub balances: &'a [u8],
-    /// The texts of the providers' files.
+    /// The texts of the providers' files, in their order.
     pub files: &'a [Vec<u8>],
 }
 
@@ -29,7 +29,7 @@ impl<'a, 'w> AboutFiles<'a, 'w> {
         }
     }
 
-    // The text of the file with this number, from 1; nothing where there is none.
+    // Providers count from 1.
     fn file(&self, number: usize) -> &[u8] {
         match self.files.get(number.saturating_sub(1)) {
             Some(text) => text.as_slice(),
@@ -38,7 +38,7 @@ impl<'a, 'w> AboutFiles<'a, 'w> {
     }
 }
 
-/// Says what a refusal means, if there is one and that is wanted.
+/// Prints the explanation of an error, if there is one and the caller wants it.
 pub fn explain_refusal<R: Eprint + AllocGlobal>(
     rt: &R,
     about: &AboutFiles,
@@ -51,7 +51,6 @@ pub fn explain_refusal<R: Eprint + AllocGlobal>(
     }
 }
 
-// What a refusal means, in lines.
 fn message_of(alloc: Global, about: &AboutFiles, stop: &Stop) -> Result<Message, AllocError> {
     match stop {
         Stop::Value(stop) => value_message(alloc, &about.plan, stop),

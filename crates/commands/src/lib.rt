@@ -1,8 +1,8 @@
-//! The commands of the program: one command of the library over the texts that the command line names, its line on standard error, its
-//! exit status. The command `value` is in `value_command`, and so is what all commands share.
+//! The commands of the program: each runs a command of the library over the texts that the command line names, prints the line of an error, and
+//! returns an exit status. `value` and the parts that all commands share are in `value_command`.
 //!
-//! `commands` chooses the command that the words name; `check` and `run` are what happens between the two. `words` is what the words ask for,
-//! `explaining` what a refusal means, and `strict` which keys of a plan nothing reads.
+//! Begin with `commands.rt`, which chooses the command; `check.rt` and `run.rt` run it. `words.rt` reads the options, `explaining.rt` explains
+//! errors, and `strict.rt` reports unknown keys of a plan.
 #![tactic(auto)]
 
 mod check;

@@ -1,4 +1,4 @@
-//! The command `run`: its options and files, and the remittance on standard output.
+//! The command `run`: reads the options and the files, and writes the remittance.
 
 ghost use Rattle.std.specs.Prelude.{◌≡◌, ◌≢◌, ◌≤◌, IfErr, IfOk, map, option_map};
 ghost use Rattle.std.specs.Io.KnownBytes.{Keeps};
@@ -34,7 +34,7 @@ use value_command::{
     About, commit_output, exit_status_of, output_of, plan_of, read_or_report, report_unwritable,
 };
 
-/// The texts of a run, in the order in which they are read.
+/// The texts of a run, in the order in which the program reads them.
 struct Texts {
     plan: Vec<u8>,
     balances: Option<Vec<u8>>,
@@ -52,7 +52,6 @@ impl Drop for Texts {
 }
 
 impl Texts {
-    /// The balances' text, if there is one.
     fn balances_slice(&self) -> Option<&[u8]>
         ensures { text_in result ≡ option_map (λ b. b.items) self.now.balances }
     {
@@ -62,7 +61,7 @@ impl Texts {
         }
     }
 
-    /// What the run is about, as its refusals are told.
+    /// What an explanation of an error needs.
     fn about<'a, 'w>(&'a self, explains: bool, words: &'a ArgMatches<'w>) -> AboutFiles<'a, 'w> {
         AboutFiles {
             plan: About {
@@ -76,7 +75,7 @@ impl Texts {
     }
 }
 
-/// The command `run`. Where somebody watches standard error, a run that takes long shows signs of life there.
+/// Runs the command `run`, and returns its exit status. If standard error is a terminal, a long run prints progress lines there.
 pub fn run_of<R, S: Sources>(rt: &R, sources: &S, matches: &ArgMatches<'_>, is_watched: bool) -> u8
 where
     R: Files + Print + Eprint + AllocGlobal,
@@ -97,7 +96,6 @@ where
     status
 }
 
-/// Settles the claims of the texts that the command line names.
 fn settle_named<R, S: Sources>(
     rt: &R,
     sources: &S,
@@ -117,7 +115,6 @@ where
     }
 }
 
-/// Settles the claims of the texts.
 fn settle<R>(
     rt: &R,
     matches: &ArgMatches<'_>,
@@ -239,7 +236,6 @@ where
     status
 }
 
-/// The files' texts, as a run borrows them.
 fn slices_of(alloc: Global, files: &[Vec<u8>]) -> Result<Vec<&[u8]>, AllocError>
     ensures { IfOk result (λ slices. texts_after slices.items ≡ map (λ f. f.items) files.now) }
 {
@@ -250,7 +246,7 @@ fn slices_of(alloc: Global, files: &[Vec<u8>]) -> Result<Vec<&[u8]>, AllocError>
     Ok(slices)
 }
 
-/// The texts that the command line names. The first that can't be read is told, and its status answered.
+/// Reads the texts that the command line names. For the first one that cannot be read, an error line is printed, and its status is returned.
 fn texts_of<R: Eprint + AllocGlobal, S: Sources>(
     rt: &R,
     sources: &S,
@@ -283,7 +279,8 @@ fn balances_of<R: Eprint + AllocGlobal, S: Sources>(
     matches: &ArgMatches<'_>,
     explains: bool,
 ) -> Result<Option<Vec<u8>>, u8>
-    ensures named { IfOk result (λ balances. AreNamedBalances (S.whole sources.now) matches.now (option_map (λ b. b.items) balances)) }
+    ensures named { IfOk result (λ balances. AreNamedBalances
+        (S.whole sources.now) matches.now (option_map (λ b. b.items) balances)) }
     ensures failed { IfErr result (λ status. status ≡ RESOURCE) }
 {
     let Some(name) = matches.get_str(BALANCES) else {
@@ -302,7 +299,8 @@ fn files_of<R: Eprint + AllocGlobal, S: Sources>(
     matches: &ArgMatches<'_>,
     explains: bool,
 ) -> Result<Vec<Vec<u8>>, u8>
-    ensures named { IfOk result (λ files. AreNamedFiles (S.whole sources.now) matches.now (map (λ f. f.items) files.items)) }
+    ensures named { IfOk result (λ files. AreNamedFiles
+        (S.whole sources.now) matches.now (map (λ f. f.items) files.items)) }
     ensures failed { IfErr result (λ status. status ≡ RESOURCE) }
 {
     let names = matches.get_strs(FILE).unwrap_or(&[]);
@@ -316,7 +314,6 @@ fn files_of<R: Eprint + AllocGlobal, S: Sources>(
     Ok(files)
 }
 
-// The text of the file with this name and number.
 fn file_of<R: Eprint + AllocGlobal, S: Sources>(
     rt: &R,
     sources: &S,
@@ -324,7 +321,8 @@ fn file_of<R: Eprint + AllocGlobal, S: Sources>(
     number: usize,
     explains: bool,
 ) -> Result<Vec<u8>, u8>
-    ensures read { IfOk result (λ bytes. IsReadUpTo file_limit_bytes (S.whole sources.now name.now) bytes.items) }
+    ensures read { IfOk result (λ bytes.
+        IsReadUpTo file_limit_bytes (S.whole sources.now name.now) bytes.items) }
     ensures failed { IfErr result (λ status. status ≡ RESOURCE) }
 {
     let Ok(line) = format!(in rt.alloc(); "cannot read file {number}") else {

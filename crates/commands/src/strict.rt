@@ -1,4 +1,4 @@
-//! The keys of a plan that nothing reads.
+//! Reports the unknown keys of a plan, for `--strict`.
 
 ghost use Rattle.std.specs.Prelude.{◌≤◌};
 
@@ -6,7 +6,7 @@ use console::{DONE, REFUSED, RESOURCE, no_memory};
 use diagnostics::{UnusedKey, push_printable, unread_keys};
 use std::alloc::{AllocError, Global};
 
-/// The status by whether the plan has a key that nothing reads. Each is told.
+/// Prints a line for each unknown key of the plan, and returns the status: `REFUSED` if there is one.
 pub fn unused_status<R: Eprint + AllocGlobal>(rt: &R, plan: &[u8]) -> u8
     ensures known { result ≤ RESOURCE }
 {
@@ -17,7 +17,7 @@ pub fn unused_status<R: Eprint + AllocGlobal>(rt: &R, plan: &[u8]) -> u8
     }
 }
 
-/// Tells each key of the plan's text that nothing reads, and answers whether there is one. A text that is not UTF-8 has none.
+/// A text that is not UTF-8 is no plan; the line of that error is enough.
 fn print_unused<R: Eprint + AllocGlobal>(rt: &R, plan: &[u8]) -> Result<bool, AllocError> {
     let Ok(text) = str::from_utf8(plan) else {
         return Ok(false);
@@ -30,16 +30,16 @@ fn print_unused<R: Eprint + AllocGlobal>(rt: &R, plan: &[u8]) -> Result<bool, Al
     Ok(!unread.is_empty())
 }
 
-// The line of a key that nothing reads.
 fn line_of(alloc: Global, unread: &UnusedKey) -> Result<String, AllocError> {
-    let mut line = String::from_str(alloc, "unread key ")?;
+    let mut line = String::from_str(alloc, "unknown key `")?;
     push_printable(&mut line, unread.key.as_str())?;
     let (row, column) = (unread.position.line, unread.position.column);
-    let place = format!(in alloc; " at line {row} column {column}")?;
+    let place = format!(in alloc; "` at line {row} column {column}")?;
     line.push_str(place.as_str())?;
     if let Some(near) = unread.near {
-        line.push_str(", near ")?;
+        line.push_str("; did you mean `")?;
         line.push_str(near)?;
+        line.push_str("`?")?;
     }
     Ok(line)
 }

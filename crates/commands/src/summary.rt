@@ -26,7 +26,7 @@ fn counts_line(alloc: Global, counts: RecordCounts, amount: &str) -> Result<Stri
         late,
     } = counts;
     format!(in alloc;
-        "records {records}, paid {paid}, denied {denied}, pended {pended}, refused {refused}, late {late}; amount paid {amount}\n"
+        "The files have these records: {paid} paid, {denied} denied, {pended} pended, {refused} refused, {late} late, {records} in all. The plan pays {amount}.\n"
     )
 }
 
@@ -44,7 +44,7 @@ fn add_refused_files(alloc: Global, lines: &mut String, run: &RunCounts) -> Resu
         let reason = most.reason(alloc)?;
         let most = most.count;
         let line = format!(in alloc;
-            "file {provider}: all {count} records were refused, {most} of them for {reason}\n"
+            "File {provider}: all records were refused ({count}); the most frequent reason is {reason} ({most}).\n"
         )?;
         lines.push_str(line.as_str())?;
     }

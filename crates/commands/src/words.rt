@@ -1,4 +1,4 @@
-//! What the words of a command ask for.
+//! The options of a command line.
 
 ghost use Rattle.std.specs.Prelude.{◌≡◌, IfSome, true};
 ghost use Rattle.commands.specs.Words.{IsCutoff, IsStrict, IsFindings, IsWorkers};
@@ -7,14 +7,14 @@ use adjudicate::Findings;
 use clap::ArgMatches;
 use console::names::{CUTOFF, ERRORS_ONLY, STRICT, WORKERS};
 
-/// Whether a key that nothing reads is refused.
+/// Whether unknown keys of the plan are errors.
 pub fn is_strict(matches: &ArgMatches<'_>) -> bool
     ensures { result ≡ true → IsStrict matches.now }
 {
     matches.get_flag(STRICT)
 }
 
-/// What a check is to tell.
+/// Which gaps and overlaps a check lists.
 pub fn findings_of(matches: &ArgMatches<'_>) -> Findings
     ensures { IsFindings matches.now result }
 {
@@ -25,14 +25,14 @@ pub fn findings_of(matches: &ArgMatches<'_>) -> Findings
     }
 }
 
-/// How many claims are accepted at most.
+/// The greatest number of claims to accept; none if there is no limit.
 pub fn cutoff_of(matches: &ArgMatches<'_>) -> Option<u64>
     ensures { IsCutoff matches.now result }
 {
     matches.get_one::<u64>(CUTOFF)
 }
 
-/// How many threads decide claims. `clap` has a default for them.
+/// The number of worker threads. `clap` fills in the default.
 pub fn workers_of(matches: &ArgMatches<'_>) -> Option<usize>
     ensures { IfSome result (λ workers. IsWorkers matches.now workers) }
 {

@@ -7,7 +7,7 @@ use Rattle.clap.specs.declared.builder.arg.Arg.{Arg}
 use Rattle.clap.specs.declared.builder.command.Command.{Command}
 use Rattle.clap.proofs.NameLemmas.{names_push}
 
--- one more subcommand is one more name, the last
+-- adding a subcommand appends its name
 pub adds_name : (old new : Command) (made : Result Command AllocError) (names : List (List ℕ)) (name : List ℕ) → subcommand_names old ≡ names
     → IfOk made (λ command. (fields_of command).name.now ≡ name) → IsOkAnd made (λ added. AddsSubcommand old added new)
     → subcommand_names new ≡ names ++ name ∷ []
@@ -15,7 +15,7 @@ adds_name old new (Ok _) names name had named adds = ap names_in adds.subcommand
     ∙ ap₂ (λ ns n. ns ++ n ∷ []) had (ap (λ n. n.now) adds.name ∙ named))
 adds_name old new (Err _) names name had named adds = absurd adds
 
--- a command's name stays where arguments are added
+-- adding arguments does not change a command's name
 pub keeps_name : (old new : Command) (arguments : List Arg) → AddsInTurn AddsArg old arguments new
     → (fields_of new).name.now ≡ (fields_of old).name.now
 keeps_name old new [] added = ap (λ command. (fields_of command).name.now) (sym added)

@@ -1,6 +1,6 @@
--- The limits of what a command line can ask for.
+-- The limits of the values of the command line.
 use Rattle.std.specs.Prelude.{ℕ}
 
--- the greatest number of claims that a run can be told to accept
+-- the greatest value of `--cutoff`
 abbrev pub cutoff_limit : ℕ
 cutoff_limit = 1000000000

@@ -1,4 +1,4 @@
-//! The arguments of the commands.
+//! The arguments of the commands, with their help.
 
 ghost use Rattle.std.specs.Prelude.{◌≡◌, true};
 ghost use Rattle.clap.specs.Words.{parser_of};
@@ -13,59 +13,59 @@ use clap::builder::ValueParser;
 use clap::{Arg, ArgAction};
 use std::alloc::Global;
 
-/// The greatest cutoff that can be given.
+/// The greatest value of `--cutoff`.
 const CUTOFF_LIMIT: u64 = 1_000_000_000;
 
-/// The plan file, which each command needs.
+/// The plan file, a required argument of every command.
 pub fn plan_argument<'a>(alloc: Global) -> Arg<'a>
     ensures needed { result.required ≡ true }
 {
     Arg::new(alloc, PLAN)
-        .help("The plan file, in TOML")
+        .help("The plan file, TOML")
         .required(true)
 }
 
-/// What is given for the names that the tables read.
+/// The values of the plan's inputs, for `value`.
 pub fn assignment_argument<'a>(alloc: Global) -> Arg<'a> {
     Arg::new(alloc, ASSIGNMENT)
-        .help("The value of a name that the tables read")
+        .help("A value for an input of the plan, such as age=42")
         .action(ArgAction::Append)
         .num_args(0..)
 }
 
-/// The flag by which only the gaps and overlaps that are faults are listed.
+/// The flag that limits `check` to gaps and overlaps that violate a table's hit policy.
 pub fn errors_argument<'a>(alloc: Global) -> Arg<'a> {
-    let help = "List only the gaps that end as norule, and the overlaps that clash";
+    let help = "List only gaps and overlaps that are errors under the table's hit policy";
     flag(alloc, ERRORS_ONLY, "harmful", help)
 }
 
-/// The flag by which a key that nothing reads is refused, with what it does in this command.
+/// The flag `--strict`. Its help differs between the commands.
 pub fn strict_argument<'a>(alloc: Global, help: &'a str) -> Arg<'a> {
     flag(alloc, STRICT, "strict", help)
 }
 
-/// The file that the results go to.
+/// The file for the results, in place of standard output.
 pub fn output_argument<'a>(alloc: Global) -> Arg<'a> {
     Arg::new(alloc, OUTPUT)
         .long("output")
         .value_name("FILE")
-        .help("Put the results into this file, once they are whole")
+        .help("Write the results to FILE atomically")
 }
 
-/// The flag for explanations, of every command.
+/// The flag `--explain`, which every command has.
 pub fn explain_argument<'a>(alloc: Global) -> Arg<'a> {
-    let help = "Say what a refusal means and what to do, as on a terminal";
+    let help = "Explain errors (default on a terminal)";
     flag(alloc, EXPLAIN, "explain", help).global(true)
 }
 
-/// The file of balances.
+/// The file of opening balances.
 pub fn balances_argument<'a>(alloc: Global) -> Arg<'a> {
-    Arg::new(alloc, BALANCES).long("balances").help(
-        "What the members have met, paid and been paid this year, as CSV",
-    )
+    Arg::new(alloc, BALANCES)
+        .long("balances")
+        .help("Opening balances of the members' accumulators, CSV")
 }
 
-/// How many claims are accepted at most.
+/// The greatest number of claims that a run accepts, from 0 to `CUTOFF_LIMIT`.
 pub fn cutoff_argument<'a>(alloc: Global) -> Arg<'a>
     ensures { parser_of result ≡ Unsigned 0 cutoff_limit }
 {
@@ -73,10 +73,10 @@ pub fn cutoff_argument<'a>(alloc: Global) -> Arg<'a>
         .long("cutoff")
         .value_name("N")
         .value_parser(ValueParser::unsigned(0, CUTOFF_LIMIT))
-        .help("How many claims are accepted at most")
+        .help("Accept at most N claims; the others are reported as `late`")
 }
 
-/// How many threads decide claims: one at least, and no more than the limit.
+/// The number of worker threads, from 1 to the limit.
 pub fn workers_argument<'a>(alloc: Global, limit: u64) -> Arg<'a>
     ensures { parser_of result ≡ Unsigned 1 limit }
 {
@@ -85,27 +85,26 @@ pub fn workers_argument<'a>(alloc: Global, limit: u64) -> Arg<'a>
         .value_name("N")
         .value_parser(ValueParser::unsigned(1, limit))
         .default_value("4")
-        .help("How many threads decide claims, from 1 to 64; the program's own helps them")
+        .help("Worker threads, 1 to 64")
 }
 
-/// The flag for a line of what a run did.
+/// The flag for a summary after a run.
 pub fn summary_argument<'a>(alloc: Global) -> Arg<'a> {
-    let help = "Say on standard error what became of the records, as on a terminal";
+    let help = "Print the number of records by status (default on a terminal)";
     flag(alloc, SUMMARY, "summary", help)
 }
 
-/// The providers' files.
+/// The providers' claim files, at least one.
 pub fn files_argument<'a>(alloc: Global) -> Arg<'a>
     ensures needed { result.required ≡ true }
 {
     Arg::new(alloc, FILE)
-        .help("The providers' files of claims, as CSV")
+        .help("The providers' claim files, CSV")
         .required(true)
         .action(ArgAction::Append)
         .num_args(1..)
 }
 
-/// A flag that is written so behind two dashes, with what help says of it.
 fn flag<'a>(alloc: Global, name: &'a str, long: &'a str, help: &'a str) -> Arg<'a> {
     Arg::new(alloc, name)
         .long(long)

@@ -1,4 +1,4 @@
-//! A place over the system's files: a path.
+//! Replaces a file of the system atomically.
 
 use crate::atomic_target::AtomicTarget;
 use std::fs::{OpenFile, OpenOptions, Permissions};
@@ -7,19 +7,20 @@ use std::path::PathBuf;
 use std::rt::Files;
 use std::{fs, io};
 
-/// How many names beside the file are tried for its new text.
+/// The number of names that are tried for the new file.
 const NAMES: u32 = 100;
 
-/// How many links are followed one after another, as many as the system follows.
+/// The number of links that are followed in a row, as many as Linux follows.
 const LINKS: u32 = 40;
 
-/// The mode of a new file where none was, from which the process's mask takes.
+/// The mode of a file that did not exist before; the process's umask applies.
 const NEW_MODE: u32 = 0o666;
 
-/// The mode of one that is to have the old one's permissions, until it has them.
+/// The mode of a new file until it has the permissions of the old one.
 const PRIVATE_MODE: u32 = 0o600;
 
-/// A path, where a file may stand. The new text is written into another file beside it, which is removed where the text is given up.
+/// A path with or without a file. The new text is written to another file in the same folder, which then replaces the file, or is removed if the text is
+/// discarded.
 #[derive(Drop)]
 pub struct AtomicFile<'a, R: Files> {
     files: &'a R,
@@ -29,8 +30,8 @@ pub struct AtomicFile<'a, R: Files> {
 }
 
 impl<'a, R: Files + AllocGlobal> AtomicFile<'a, R> {
-    /// The place at a path. A link stands for what it leads to, be that there or not. What is there and no file, as a device or a folder, is
-    /// refused, and so is what can't be looked at, as a link that leads back to itself.
+    /// The place at a path. A link is followed, also one to a file that does not exist yet. It is an error if the path has something other than a file,
+    /// such as a device or a folder, or if it cannot be examined, as with a link to itself.
     pub fn new(files: &'a R, path: &str) -> io::Result<AtomicFile<'a, R>> {
         let permissions = permissions_at(files, path)?;
         Ok(AtomicFile {
@@ -41,7 +42,7 @@ impl<'a, R: Files + AllocGlobal> AtomicFile<'a, R> {
         })
     }
 
-    // Makes a new file beside the path, by the first of some names that is not there.
+    // Several runs may write to the same path, so an existing name is left alone.
     fn create(&mut self) -> io::Result<R::File> {
         let path = self.path.as_str();
         let mode = if self.permissions.is_some() {
@@ -65,11 +66,11 @@ impl<'a, R: Files + AllocGlobal> AtomicFile<'a, R> {
     }
 
     fn remove(&self) {
-        // Nothing is left to do where it can't be removed.
+        // If the file cannot be removed, it remains.
         let _ = fs::remove_file(self.files, self.beside.as_str());
     }
 
-    // Brings the folder's entry to the device too, where the system can.
+    // The rename itself must reach the device, too; some file systems cannot sync a folder.
     fn sync_folder(&self) {
         let folder = match self.path.rfind('/') {
             Some(0) => "/",
@@ -82,7 +83,6 @@ impl<'a, R: Files + AllocGlobal> AtomicFile<'a, R> {
     }
 }
 
-// The permissions of the file at a path, if one is there.
 fn permissions_at<R: Files>(files: &R, path: &str) -> io::Result<Option<Permissions>> {
     match fs::metadata(files, path) {
         Ok(there) if !there.is_file() => Err(io::Error::new(
@@ -95,21 +95,20 @@ fn permissions_at<R: Files>(files: &R, path: &str) -> io::Result<Option<Permissi
     }
 }
 
-// Where a path leads, be anything there or not.
+// The end of a path's links, whether a file exists there or not.
 fn led_to<R: Files + AllocGlobal>(files: &R, path: &str) -> io::Result<PathBuf> {
     let mut path = PathBuf::from_str(files.alloc(), path)?;
     for _ in 0..=LINKS {
         let Some(target) = target_of(files, &path)? else {
             return Ok(path);
         };
-        // A target that isn't absolute is looked for in the link's folder.
+        // A relative target is relative to the link's folder.
         path.pop();
         path.push(&target)?;
     }
     Err(io::Error::from(io::ErrorKind::FilesystemLoop))
 }
 
-// What the link at a path says, if one is there.
 fn target_of<R: Files + AllocGlobal>(files: &R, path: &PathBuf) -> io::Result<Option<PathBuf>> {
     match fs::symlink_metadata(files, path) {
         Ok(there) if there.is_symlink() => Ok(Some(fs::read_link(files, path)?)),
@@ -119,7 +118,6 @@ fn target_of<R: Files + AllocGlobal>(files: &R, path: &PathBuf) -> io::Result<Op
     }
 }
 
-// Makes a file where none is.
 fn create_new<R: Files>(files: &R, path: &str, mode: u32) -> io::Result<R::File> {
     let mut options = OpenOptions::new();
     options.write(true).create_new(true).mode(mode);
@@ -131,7 +129,7 @@ impl<R: Files + AllocGlobal> AtomicTarget for AtomicFile<'_, R> {
 
     fn begin(&mut self) -> io::Result<R::File> {
         let file = self.create()?;
-        // The new text is for those alone who could read the old one.
+        // Only users who could read the old text may read the new one.
         if let Some(permissions) = self.permissions.take()
             && let Err(fault) = file.set_permissions(permissions)
         {

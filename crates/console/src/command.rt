@@ -1,4 +1,4 @@
-//! The command line, by `clap`.
+//! The command line, which `clap` parses.
 
 ghost use Rattle.std.specs.Prelude.{◌≡◌, ◌∷◌, [], IfOk, IsOkAnd};
 ghost use Rattle.clap.specs.Words.{AddsSubcommand, subcommand_names};
@@ -14,7 +14,8 @@ use crate::texts::{check_example, run_example, statuses, value_example};
 use clap::{Arg, ArgMatches, Command, Error};
 use std::alloc::{AllocError, Global};
 
-/// What the words of a command line give, of which the first is the program's name. A run has no more workers than the limit.
+/// Parses the words of a command line, of which the first is the program's name. The error is one of usage, or asks for help or the version, or is
+/// out of memory. `workers_limit` is the greatest value of `--workers`.
 pub fn matches_of<'a>(
     alloc: Global,
     words: &'a [String],
@@ -23,7 +24,6 @@ pub fn matches_of<'a>(
     command_line(alloc, workers_limit)?.try_get_matches_from(words)
 }
 
-/// The whole command line of the program, by which a run has no more workers than the limit.
 fn command_line<'a>(alloc: Global, workers_limit: usize) -> Result<Command<'a>, AllocError>
     ensures { IfOk result (λ line. subcommand_names line ≡ VALUE.now ∷ CHECK.now ∷ RUN.now ∷ []) }
 {
@@ -32,13 +32,12 @@ fn command_line<'a>(alloc: Global, workers_limit: usize) -> Result<Command<'a>, 
     with_command(line, run_command(alloc, workers_limit))
 }
 
-/// The command line without its commands.
 fn bare_line<'a>(alloc: Global) -> Result<Command<'a>, AllocError>
     ensures { IfOk result (λ line. subcommand_names line ≡ []) }
 {
     Command::new(alloc, "adjudicate")
         .bin_name("adjudicate")?
-        .about("Adjudicate health-plan claims by DMN decision tables, with proved answers")
+        .about("Adjudicate health-plan claims with DMN decision tables, by proved code")
         .version("0.1.0")
         .after_help(statuses())
         .subcommand_required(true)
@@ -46,21 +45,21 @@ fn bare_line<'a>(alloc: Global) -> Result<Command<'a>, AllocError>
         .arg(explain_argument(alloc))
 }
 
-/// The line with one more command, if that one was made. A `Command` is much to let go, so this is the one function that leaves while it owns one.
+/// Adds a command to the line. Dropping a `Command` is costly to prove, so this is the one function that returns early while it owns one.
 fn with_command<'a>(
     line: Command<'a>,
     command: Result<Command<'a>, AllocError>,
 ) -> Result<Command<'a>, AllocError>
-    ensures { IfOk result (λ longer. IsOkAnd command.entry (λ added. AddsSubcommand line.entry added longer)) }
+    ensures { IfOk result (λ longer.
+        IsOkAnd command.entry (λ added. AddsSubcommand line.entry added longer)) }
 {
     line.subcommand(command?)
 }
 
-/// The command `value`.
 fn value_command<'a>(alloc: Global) -> Result<Command<'a>, AllocError>
     ensures { IfOk result (λ command. (fields_of command).name.now ≡ VALUE.now) }
 {
-    let about = "Evaluate the plan's decision tables at given values, and print their outputs";
+    let about = "Evaluate the plan's decision tables for the given values, and print the outputs";
     let arguments = vec![in alloc;
         plan_argument(alloc),
         assignment_argument(alloc),
@@ -69,13 +68,12 @@ fn value_command<'a>(alloc: Global) -> Result<Command<'a>, AllocError>
     command_of(alloc, VALUE, about, value_example(), arguments)
 }
 
-/// The command `check`.
 fn check_command<'a>(alloc: Global) -> Result<Command<'a>, AllocError>
     ensures { IfOk result (λ command. (fields_of command).name.now ≡ CHECK.now) }
 {
     let about =
-        "List the inputs that no rule of a table covers, and the pairs of rules that overlap";
-    let strict = "Tell each key of the plan that nothing reads, with status 1";
+        "List the gaps (inputs without a rule) and the overlaps (rules that match together)";
+    let strict = "Report unknown plan keys and exit with status 1";
     let arguments = vec![in alloc;
         plan_argument(alloc),
         errors_argument(alloc),
@@ -85,11 +83,10 @@ fn check_command<'a>(alloc: Global) -> Result<Command<'a>, AllocError>
     command_of(alloc, CHECK, about, check_example(), arguments)
 }
 
-/// The command `run`.
 fn run_command<'a>(alloc: Global, workers_limit: usize) -> Result<Command<'a>, AllocError>
     ensures { IfOk result (λ command. (fields_of command).name.now ≡ RUN.now) }
 {
-    let about = "Settle the claims of providers' files by the plan, and write the remittance";
+    let about = "Settle the claims in the providers' files, and write the remittance";
     let arguments = vec![in alloc;
         plan_argument(alloc).long("plan"),
         balances_argument(alloc),
@@ -97,13 +94,12 @@ fn run_command<'a>(alloc: Global, workers_limit: usize) -> Result<Command<'a>, A
         workers_argument(alloc, workers_limit as u64),
         output_argument(alloc),
         summary_argument(alloc),
-        strict_argument(alloc, "Refuse a plan with a key that nothing reads"),
+        strict_argument(alloc, "Refuse a plan with unknown keys"),
         files_argument(alloc),
     ]?;
     command_of(alloc, RUN, about, run_example(), arguments)
 }
 
-/// The command with this name, what help says of it, and its arguments.
 fn command_of<'a>(
     alloc: Global,
     name: &'a str,

@@ -1,4 +1,4 @@
-//! What a person is told on standard error, and the exit statuses.
+//! Lines on standard error, and the exit statuses.
 
 ghost use Rattle.std.specs.Prelude.{◌≡◌, ◌≢◌, ◌≤◌};
 ghost use Rattle.clap.specs.Words.{kind_of};
@@ -7,19 +7,19 @@ ghost use Rattle.clap.specs.declared.error.kind.ErrorKind.TheVariants.{DisplayHe
 use clap::Error;
 use clap::error::ErrorKind;
 
-/// The exit status of a command that is done.
+/// Exit status: success.
 pub const DONE: u8 = 0;
 
-/// The exit status where an input is refused.
+/// Exit status: an input is not valid.
 pub const REFUSED: u8 = 1;
 
-/// The exit status where the command line is at fault.
+/// Exit status: the command line is not valid.
 pub const USAGE: u8 = 2;
 
-/// The exit status where a file, a stream, memory or a thread is wanting.
+/// Exit status: the system failed (I/O, memory, threads).
 pub const RESOURCE: u8 = 3;
 
-/// Writes a line to standard error: where even that fails, the status is all that is left to tell.
+/// Prints a line to standard error, and returns the status. If the line cannot be printed, the status is the only report.
 pub fn print_error<R: Eprint>(rt: &R, line: &str, status: u8) -> u8
     ensures { result ≡ status }
 {
@@ -27,17 +27,18 @@ pub fn print_error<R: Eprint>(rt: &R, line: &str, status: u8) -> u8
     status
 }
 
-/// Tells that memory was refused.
+/// Prints that memory ran out, and returns the status.
 pub fn no_memory<R: Eprint>(rt: &R) -> u8
     ensures { result ≡ RESOURCE }
 {
     print_error(rt, "no memory", RESOURCE)
 }
 
-/// Tells a fault of the command line, or the help or the version that was asked for.
+/// Prints an error of the command line, or the requested help or version, and returns the status.
 pub fn usage<R: Print + Eprint>(rt: &R, fault: &Error) -> u8
     ensures known { result ≤ RESOURCE }
-    ensures fault { kind_of fault.now ≢ DisplayHelp → kind_of fault.now ≢ DisplayVersion → result ≢ DONE }
+    ensures fault { kind_of fault.now ≢ DisplayHelp
+        → kind_of fault.now ≢ DisplayVersion → result ≢ DONE }
     ensures not_refused { result ≢ REFUSED }
 {
     if fault.kind() == ErrorKind::OutOfMemory {

@@ -1,4 +1,4 @@
-//! Texts that are read whole, from files and standard input.
+//! Reads whole texts from files and standard input, up to a limit.
 
 ghost use Rattle.std.specs.Prelude.{IfOk};
 ghost use Rattle.console.specs.Reading.{IsReadUpTo};
@@ -8,23 +8,24 @@ use std::alloc::Global;
 use std::io;
 use std::io::Read;
 
-/// Why there is no text.
+/// The error of reading a text.
 #[derive(Debug, Drop)]
 pub enum ReadFault {
-    /// It can't be opened or read: it is missing, a folder, not to be read, or its device failed.
+    /// The text cannot be opened or read: it is missing, it is a folder, the user may not read it, or its device failed.
     Unreadable(io::Error),
-    /// Memory was refused.
+    /// Memory ran out.
     OutOfMemory,
 }
 
-/// The bytes of the text with this name, at most one beyond the limit: whoever reads the text sees that it is too long.
+/// Reads the bytes of the text with this name, at most one more than the limit: from the one more the caller sees that the text is too long.
 pub fn read_text<S: Sources>(
     alloc: Global,
     sources: &S,
     name: &str,
     limit_bytes: usize,
 ) -> Result<Vec<u8>, ReadFault>
-    ensures { IfOk result (λ bytes. IsReadUpTo limit_bytes (S.whole sources.now name.now) bytes.items) }
+    ensures { IfOk result (λ bytes.
+        IsReadUpTo limit_bytes (S.whole sources.now name.now) bytes.items) }
 {
     match sources.reader_of(name) {
         Ok(source) => read_source(alloc, source, limit_bytes),
@@ -32,7 +33,7 @@ pub fn read_text<S: Sources>(
     }
 }
 
-/// The bytes of a source, at most one beyond the limit.
+/// Reads the bytes of a source, at most one more than the limit.
 pub fn read_source<S: Read + Drop>(
     alloc: Global,
     source: S,

@@ -1,4 +1,4 @@
-//! Signs of life: while a run takes long, lines on standard error say that it goes on.
+//! Progress lines on standard error while a run takes long.
 
 use std::alloc::Global;
 use std::sync::Arc;
@@ -7,16 +7,16 @@ use std::thread;
 use std::thread::{JoinHandle, Threads};
 use std::time::{Clock, Duration};
 
-/// How long the end of the work waits for the thread at most.
+/// The interval at which the thread checks whether the work is done. The end of the work waits at most this long for the thread.
 const STEP_MILLISECONDS: u64 = 20;
 
-/// How many steps are between two lines.
+/// The number of steps between two lines.
 const STEPS_OF_A_LINE: u64 = 100;
 
-/// How many seconds are between two lines.
+/// The number of seconds between two lines.
 const SECONDS_OF_A_LINE: u64 = 2;
 
-/// A thread that tells from time to time that the work goes on.
+/// A thread that prints a line every two seconds until the work is done.
 #[derive(Drop)]
 pub struct Heartbeat {
     /// 1 once the work is done.
@@ -25,7 +25,7 @@ pub struct Heartbeat {
 }
 
 impl Heartbeat {
-    /// Starts the thread. Where there is no memory or no thread for it, the work goes on without signs.
+    /// Starts the thread. If the system has no memory or no thread for it, the work goes on without progress lines.
     pub fn start<R: AllocGlobal + Clock + Clone + Drop + Eprint + Threads + Send + 'static>(
         rt: &R,
     ) -> Option<Heartbeat> {
@@ -36,7 +36,7 @@ impl Heartbeat {
         Some(Heartbeat { done, thread })
     }
 
-    /// Ends the thread: the work is done.
+    /// Ends the thread.
     pub fn end<R: Threads>(self, rt: &R) {
         self.done.store(1, Ordering::SeqCst);
         self.thread.join(rt);
@@ -56,6 +56,6 @@ fn print_until_done<R: Clock + Eprint>(rt: &R, done: &AtomicU64) {
 }
 
 fn print_progress<R: Eprint>(rt: &R, seconds: u64) {
-    // A line that can't be written is no reason to end the work.
-    let _ = eprintln!(rt; "still at work after {seconds} s");
+    // The work goes on even if the line cannot be printed.
+    let _ = eprintln!(rt; "still running after {seconds} s");
 }

@@ -1,11 +1,11 @@
-//! What stands between the program and whoever calls it: the command line, the files and the input that it names, lines on standard error,
-//! and the exit statuses.
+//! Connects the program with its caller: the command line, the input and output files, the lines on standard error and the exit statuses.
 //!
-//! `command.rt` is the command line by `clap`, of the arguments of `arguments.rt`; `names.rt` has the names by which their values are asked for,
-//! `texts.rt` what help says behind them, and `words.rt` the words that were given. `sources.rt` finds texts by their names, `files.rt` reads
-//! them whole, `exit_status.rt` has lines and statuses, and `heartbeat.rt` the signs of life while work takes long.
+//! Begin with `command.rt`, the command line for `clap`; `arguments.rt` has the arguments, `names.rt` the names of their values, `texts.rt` the
+//! help after them, and `words.rt` the words that the caller gave. `sources.rt` finds texts by their names, and `files.rt` reads them.
+//! `exit_status.rt` prints error lines and has the exit statuses, and `heartbeat.rt` prints progress lines during long work.
 //!
-//! `atomic_target.rt` says when a written text replaces that of a file, atomically, and `atomic_file.rt` does it over the system's files.
+//! `atomic_target.rt` has the contract of a place whose text is replaced atomically, and `atomic_file.rt` implements it for the system's files: it
+//! writes a new file in the same folder, syncs it to the device, and renames it.
 #![tactic(auto)]
 
 mod arguments;

@@ -1,46 +1,46 @@
-//! The names of the commands, and those by which the values of their arguments are asked for.
+//! The names of the commands, and the names under which `clap` keeps the values of their arguments.
 
-/// The name of the command `value`.
+/// The command that evaluates tables.
 pub const VALUE: &str = "value";
 
-/// The name of the command `check`.
+/// The command that lists gaps and overlaps.
 pub const CHECK: &str = "check";
 
-/// The name of the command `run`.
+/// The command that settles claims.
 pub const RUN: &str = "run";
 
-/// The name of the plan file in each.
+/// The plan file of each command.
 pub const PLAN: &str = "PLAN";
 
-/// The name of the other arguments of `value`.
+/// The values of the plan's inputs.
 pub const ASSIGNMENT: &str = "NAME=LITERAL";
 
-/// The name of the file of balances.
+/// The file of opening balances.
 pub const BALANCES: &str = "BALANCES";
 
-/// The name of the number of claims that are accepted at most.
+/// The greatest number of claims that a run accepts.
 pub const CUTOFF: &str = "CUTOFF";
 
-/// The name of the number of workers.
+/// The number of worker threads.
 pub const WORKERS: &str = "WORKERS";
 
-/// The name of the providers' files.
+/// The providers' claim files.
 pub const FILE: &str = "FILE";
 
-/// The name of the file that the results go to.
+/// The file for the results.
 pub const OUTPUT: &str = "OUTPUT";
 
-/// The name of the flag for explanations.
+/// The flag for explanations of errors.
 pub const EXPLAIN: &str = "EXPLAIN";
 
-/// The name of the flag by which a key that nothing reads is refused.
+/// The flag that makes unknown plan keys an error.
 pub const STRICT: &str = "STRICT";
 
-/// The name of the flag by which only the gaps and overlaps that are faults are told.
+/// The flag that limits a check to violations of a hit policy.
 pub const ERRORS_ONLY: &str = "HARMFUL";
 
-/// The name of the flag for a line of what a run did.
+/// The flag for a summary after a run.
 pub const SUMMARY: &str = "SUMMARY";
 
-/// What stands for standard input, in place of a file's name, and for standard output.
+/// The file name that means standard input or standard output.
 pub const STREAM: &str = "-";

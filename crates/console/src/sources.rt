@@ -1,4 +1,4 @@
-//! Where texts are read from, by their names.
+//! Finds texts by their names.
 
 ghost use Rattle.std.specs.Prelude.{◌≡◌, List, ℕ, Option, None, IfOk};
 
@@ -7,26 +7,26 @@ use std::io::{Input, Read};
 use std::rt::Files;
 use std::{fs, io};
 
-/// Texts that are found by their names.
+/// A set of texts with names.
 pub trait Sources {
     type Source: Read + Drop;
 
-    // The whole text with a name, where it is known.
+    // The whole text with a name, if it is known to a proof.
     ghost whole: { Self → List ℕ → Option (List ℕ) } = { λ _ _. None };
 
-    /// What the text with this name is read from.
+    /// A reader of the text with this name.
     fn reader_of(&self, name: &str) -> io::Result<Self::Source>
         ensures { IfOk result (λ source. Self.Source.remaining source ≡ whole self.now name.now) };
 }
 
-/// The system's files, each by its path, and standard input by `-`. Of their texts nothing is known.
+/// The system's files by their paths, and standard input by `-`. Their texts are not known to a proof.
 #[derive(Drop)]
 pub struct FileSources<'a> {
     rt: &'a HostRuntime,
 }
 
 impl<'a> FileSources<'a> {
-    /// The files and the standard input of this runtime.
+    /// The files and the standard input of a runtime.
     pub fn new(rt: &'a HostRuntime) -> FileSources<'a> {
         FileSources { rt }
     }
@@ -38,7 +38,7 @@ pub enum FileSource {
     Input(<HostRuntime as Input>::Reader),
 }
 
-// (by hand, so that a program that owns one need not prove how each of its parts is let go)
+// Written by hand, so that a program that owns one need not prove how each of its parts is dropped.
 impl Drop for FileSource {
     fn drop(self) {
         match self {

@@ -1,4 +1,4 @@
-//! The words of the command line, and what is asked of them.
+//! The words of the command line.
 
 ghost use Rattle.std.specs.Prelude.{◌≡◌, ◌≤◌, IfErr, true};
 
@@ -8,7 +8,7 @@ use clap::ArgMatches;
 use std::rt::Env;
 use std::{env, io};
 
-/// The words of the command line. Where they can't be had, that is told, and its status answered.
+/// The words of the command line. If they cannot be read, an error line is printed, and its status is returned.
 pub fn program_arguments<R: Env + Eprint + AllocGlobal>(rt: &R) -> Result<Vec<String>, u8>
     ensures known { IfErr result (λ status. status ≤ RESOURCE) }
     ensures failed { IfErr result (λ status. USAGE ≤ status) }
@@ -19,29 +19,28 @@ pub fn program_arguments<R: Env + Eprint + AllocGlobal>(rt: &R) -> Result<Vec<St
             Err(_) => Err(no_memory(rt)),
         },
         Err(fault) if fault.kind() == io::ErrorKind::OutOfMemory => Err(no_memory(rt)),
-        Err(_) => Err(print_error(rt, "error: an argument is not UTF-8", USAGE)),
+        Err(_) => Err(print_error(rt, "error: an argument is not valid UTF-8", USAGE)),
     }
 }
 
-/// Whether refusals are explained: where somebody watches standard error, or where that is asked for.
+/// Whether errors are explained: standard error is a terminal, or the caller gave `--explain`.
 pub fn explains(matches: &ArgMatches<'_>, is_watched: bool) -> bool
     ensures watched { is_watched ≡ true → result ≡ true }
 {
     is_watched || matches.get_flag(EXPLAIN)
 }
 
-/// Tells where standard input is named in more than one place, since it can be read only once, and answers that status.
+/// Prints an error and returns its status if standard input is named more than once, since it can be read only once.
 pub fn input_once<R: Eprint>(rt: &R, matches: &ArgMatches<'_>) -> Result<(), u8>
     ensures { IfErr result (λ status. status ≡ USAGE) }
 {
     if times_of_input(matches) > 1 {
-        let line = "error: standard input can stand in one place of a command";
+        let line = "error: standard input (`-`) can be given only once";
         return Err(print_error(rt, line, USAGE));
     }
     Ok(())
 }
 
-/// In how many places standard input is named.
 fn times_of_input(matches: &ArgMatches<'_>) -> usize {
     let mut times = times_in(matches.get_str(PLAN)).saturating_add(times_in(matches.get_str(
         BALANCES,
@@ -52,7 +51,6 @@ fn times_of_input(matches: &ArgMatches<'_>) -> usize {
     times
 }
 
-/// How often a place names standard input: once or not at all.
 fn times_in(path: Option<&str>) -> usize {
     usize::from(path == Some(STREAM))
 }

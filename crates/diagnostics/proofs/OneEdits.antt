@@ -1,11 +1,11 @@
--- Words that are one edit apart, front by front.
+-- Words that differ by one edit, by their first bytes.
 use Rattle.std.proofs.Common.{◌≡◌, ◌≤◌, ◌-◌, ◌↔◌, Bool, false, IsTrue, ℕ, List, [], ◌∷◌, ◌++◌, length, take, drop, slice_index, ◌∙◌, ap, sym, subst, refl, arith}
 use Rattle.std.proofs.lemmas.Bool.{false≢true}
 use Rattle.std.proofs.lemmas.List.{length-drop, take-append-drop, take_all}
 use Rattle.diagnostics.specs.Edits.{DoNotMeet, IsEdit, IsExchanged, IsOneEdit, IsOtherFirst, IsWithoutFirst}
 use Rattle.diagnostics.specs.Edits.IsEdit.{more, less, another, exchanged}
 
--- an edit goes back
+-- an edit can be undone by an edit
 edit_back : (old new : List ℕ) → IsEdit old new → IsEdit new old
 edit_back _ _ (more byte) = less byte
 edit_back _ _ (less byte) = more byte
@@ -23,7 +23,7 @@ goes_back one other edit = record {
   other_is = edit.one_is;
 }
 
--- what is without the first byte of the other is one edit from it
+-- a word without its first byte differs from it by one edit
 pub from_without : (one other : List ℕ) → IsWithoutFirst one other → IsOneEdit one other
 from_without [] other without = absurd (omega (arith, without.0))
 from_without (x ∷ xs) other without = record {
@@ -36,7 +36,7 @@ from_without (x ∷ xs) other without = record {
   other_is = refl;
 }
 
--- and so is what has another first byte
+-- a word with another first byte differs by one edit
 pub from_other_first : (one other : List ℕ) → DoNotMeet one other → IsOtherFirst one other → IsOneEdit one other
 from_other_first [] other apart alike = absurd (omega (arith, alike.0))
 from_other_first (x ∷ xs) [] apart alike = absurd (omega (arith, alike.1))
@@ -50,7 +50,7 @@ from_other_first (x ∷ xs) (y ∷ ys) apart alike = record {
   other_is = refl;
 }
 
--- and what has the first two the other way round
+-- a word with its first two bytes swapped differs by one edit
 pub from_exchanged : (one other : List ℕ) → DoNotMeet one other → IsExchanged one other → IsOneEdit one other
 from_exchanged [] other apart alike = absurd (omega (arith, alike.one_has))
 from_exchanged (x ∷ []) other apart alike = absurd (omega (arith, alike.one_has))
@@ -66,7 +66,7 @@ from_exchanged (x ∷ z ∷ xs) (y ∷ w ∷ ys) apart alike = record {
   other_is = ap (λ it. it ∷ (w ∷ ys)) (sym alike.second) ∙ ap (λ it. z ∷ (it ∷ ys)) (sym alike.first);
 }
 
--- one of the four is what an edit in front of two words is
+-- an edit at the first byte is one of the four forms
 data Fronts (one other : List ℕ) : Type 0 where
   without : IsWithoutFirst one other → Fronts one other
   with_more : IsWithoutFirst other one → Fronts one other
@@ -90,7 +90,7 @@ is_of_front one other w v o x (with_more it) is_w is_v is_o is_x no_w no_v no_o 
 is_of_front one other w v o x (other_first it) is_w is_v is_o is_x no_w no_v no_o = absurd (false≢true (sym no_o ∙ is_o.1 it))
 is_of_front one other w v o x (turned it) is_w is_v is_o is_x no_w no_v no_o = is_x.1 it
 
--- where it is none of the first three, it is the last
+-- an edit that is none of the first three forms is the fourth
 pub last_front : (one other : List ℕ) (w v o x : Bool) → DoNotMeet one other → (IsTrue w ↔ IsWithoutFirst one other) → (IsTrue v ↔ IsWithoutFirst other one)
     → (IsTrue o ↔ IsOtherFirst one other) → (IsTrue x ↔ IsExchanged one other) → w ≡ false → v ≡ false → o ≡ false → IsTrue x ↔ IsOneEdit one other
 last_front one other w v o x apart is_w is_v is_o is_x no_w no_v no_o = (
@@ -98,7 +98,7 @@ last_front one other w v o x apart is_w is_v is_o is_x no_w no_v no_o = (
   λ edit. is_of_front one other w v o x (fronts one other edit.front edit.back edit.old edit.new apart edit.edit edit.one_is edit.other_is) is_w is_v is_o is_x no_w no_v no_o,
 )
 
--- words that begin alike are one edit apart where what follows is
+-- words with a common beginning differ by one edit if their rests do
 begins_alike : (byte : ℕ) (one other : List ℕ) → IsOneEdit one other → IsOneEdit (byte ∷ one) (byte ∷ other)
 begins_alike byte one other edit = record {
   front = byte ∷ edit.front;
@@ -114,7 +114,7 @@ pub front_alike : (front one other : List ℕ) → IsOneEdit one other → IsOne
 front_alike [] one other edit = edit
 front_alike (x ∷ xs) one other edit = begins_alike x (xs ++ one) (xs ++ other) (front_alike xs one other edit)
 
--- a byte in front of both that the edit leaves alone
+-- a common first byte before the edit
 edited_after : (byte : ℕ) (one other front back old new : List ℕ) → IsEdit old new → byte ∷ one ≡ front ++ (old ++ back) → byte ∷ other ≡ front ++ (new ++ back) → IsOneEdit one other
 edited_after byte one other (x ∷ xs) back old new edit one_is other_is = record {
   front = xs;
@@ -142,11 +142,11 @@ edited_after_front (x ∷ xs) one other edit =
     edited_after_front xs one other
     (edited_after x (xs ++ one) (xs ++ other) edit.front edit.back edit.old edit.new edit.edit edit.one_is edit.other_is)
 
--- what is left of a list from a place on
+-- the rest of a list from an index on
 rest_is : (place : ℕ) (text : List ℕ) → place ≤ length text → take (length text - place) (drop place text) ≡ drop place text
 rest_is place text within = take_all (length text - place) (drop place text) (omega (arith, length-drop place text))
 
--- words that begin alike are one edit apart exactly where what follows is
+-- words with a common beginning differ by one edit if and only if their rests do
 pub after_common : (one other : List ℕ) (place : ℕ) (result : Bool) → take place one ≡ take place other → place ≤ length one → place ≤ length other
     → (IsTrue result ↔ IsOneEdit (take (length one - place) (drop place one)) (take (length other - place) (drop place other))) → IsTrue result ↔ IsOneEdit one other
 after_common one other place result alike within_one within_other is =

@@ -1,4 +1,4 @@
--- How the place behind a text changes by one byte more.
+-- The place after a text when the text grows by one byte.
 use Rattle.std.proofs.Common.{◌≡◌, ◌≢◌, ℕ, ◌+◌, ◌<◌, Bool, false, not, bit_and, cond, add-one, add-zero, List, [], ◌∷◌, ◌++◌, take, get_or, length, ◌∙◌, ap, sym, inr, refl, arith}
 use Rattle.std.specs.List.{count_by}
 use Rattle.std.proofs.Math.Seq.{take-suc}
@@ -8,11 +8,11 @@ use Rattle.std.proofs.lemmas.List.Sums.{sum_by-append}
 use Rattle.std.proofs.lemmas.List.Folds.{list_all-append}
 use Rattle.diagnostics.specs.Position.{IsAfter, is_line_feed, begins_character}
 
--- one byte more is counted where it passes
+-- a further byte is counted if it satisfies the condition
 count_more : (p : ℕ → Bool) (text : List ℕ) (byte : ℕ) (more : ℕ) → cond (p byte) 1 0 ≡ more → count_by p (text ++ (byte ∷ [])) ≡ count_by p text + more
 count_more p text byte more counted = grind (arith, sum_by-append (λ x. cond (p x) 1 0) text (byte ∷ []), counted)
 
--- the end of a line
+-- a line feed
 ends_line : (text : List ℕ) (byte line column : ℕ) → byte ≡ 10 → IsAfter text (record { line = line; column = column })
     → IsAfter (text ++ (byte ∷ [])) (record { line = line + 1; column = 1 })
 ends_line text byte line column is_end known = record {
@@ -25,7 +25,7 @@ ends_line text byte line column is_end known = record {
   column = refl;
 }
 
--- a byte on the line, which begins a character or goes on with one
+-- any other byte, which begins or continues a character
 goes_on : (text : List ℕ) (byte line column more : ℕ) → is_line_feed byte ≡ false → cond (begins_character byte) 1 0 ≡ more
     → IsAfter text (record { line = line; column = column }) → IsAfter (text ++ (byte ∷ [])) (record { line = line; column = column + more })
 goes_on text byte line column more other counted known = record {
@@ -38,7 +38,7 @@ goes_on text byte line column more other counted known = record {
   column = omega (arith, count_more begins_character known.begun byte more counted, known.column);
 }
 
--- one more of a text's first bytes
+-- the first bytes of a text, with one more
 take_more : (text : List ℕ) (place : ℕ) → place < length text → take (place + 1) text ≡ take place text ++ (get_or text place 0 ∷ [])
 take_more text place within = rw (add-one place) (take-suc text place 0 within)
 
@@ -48,7 +48,7 @@ pub byte_ends_line : (text : List ℕ) (place line column next first : ℕ) → 
 byte_ends_line text place line column next first known within is_end next_is first_is =
     rw (take_more text place within, next_is, first_is) (ends_line (take place text) (get_or text place 0) line column is_end known)
 
--- it begins a character
+-- the byte begins a character
 pub byte_begins : (text : List ℕ) (place line column same next : ℕ) → IsAfter (take place text) (record { line = line; column = column }) → place < length text
     → get_or text place 0 ≢ 10 → bit_and (get_or text place 0) 0xC0 ≢ 0x80 → same ≡ line → next ≡ column + 1
     → IsAfter (take (place + 1) text) (record { line = same; column = next })
@@ -56,7 +56,7 @@ byte_begins text place line column same next known within other is_first same_is
     rw (take_more text place within, same_is, next_is)
     (goes_on (take place text) (get_or text place 0) line column 1 (grind (arith, nat_tests, other)) (grind (arith, nat_tests, is_first)) known)
 
--- it goes on with one
+-- the byte continues a character
 pub byte_goes_on : (text : List ℕ) (place line column same still : ℕ) → IsAfter (take place text) (record { line = line; column = column }) → place < length text
     → get_or text place 0 ≢ 10 → bit_and (get_or text place 0) 0xC0 ≡ 0x80 → same ≡ line → still ≡ column
     → IsAfter (take (place + 1) text) (record { line = same; column = still })

@@ -7,19 +7,20 @@ use Rattle.diagnostics.specs.declared.position.Position.{Position}
 abbrev pub is_line_feed : ℕ → Bool
 is_line_feed byte = nat_eq byte 10
 
--- a byte that begins a character: in UTF-8 any other byte of one begins with the bits 10
+-- a byte that begins a character: in UTF-8 each further byte of a character begins with the bits 10
 abbrev pub begins_character : ℕ → Bool
 begins_character byte = not (nat_eq (bit_and byte 0xC0) 0x80)
 
--- whole lines, or none
+-- the text is empty or ends with a line feed
 abbrev pub AreWholeLines : List ℕ → Type 0
 AreWholeLines text = (text ≡ []) ⊎ ((front : List ℕ) × (text ≡ front ++ (10 ∷ [])))
 
--- no line ends in the text
+-- the text has no line feed
 abbrev pub IsOneLine : List ℕ → Type 0
 IsOneLine text = list_all (λ byte. not (is_line_feed byte)) text ≡ true
 
--- the place right behind a text: its line, by the line feeds of the text, and its column, by the characters that begin behind the last of them
+-- the place after a text: its line is one more than the number of line feeds, and its column is one more than the number of characters after the last
+-- line feed
 pub record IsAfter (text : List ℕ) (position : Position) : Type 0 where
   pub lines : List ℕ
   pub begun : List ℕ

@@ -1,11 +1,11 @@
-//! Which byte of an argument is meant.
+//! Explains the literal of an argument.
 
 use crate::message::Message;
-use crate::texts::{argument_words, cell_words};
+use crate::texts::{argument_words, cause_and_remedy, cell_words};
 use faults::CellFault;
 use std::alloc::{AllocError, Global};
 
-/// What the fault of an argument's literal means.
+/// Explains an argument whose literal cannot be read, with a mark below the byte of the fault.
 pub fn explain_literal(
     alloc: Global,
     argument: &str,
@@ -23,6 +23,5 @@ fn add_literal(message: &mut Message, argument: &str, fault: &CellFault) -> Resu
     };
     let front = argument.len().saturating_sub(literal.len());
     message.mark(argument, front.saturating_add(fault.at))?;
-    message.line(&[cell_words(fault.cause)])?;
-    message.words(argument_words(4))
+    message.words(cause_and_remedy(cell_words(fault.cause).meaning, argument_words(4).remedy))
 }

@@ -1,19 +1,21 @@
-//! What is right in place of a cell or literal that can't be read, by its cause, the kind of its column and the bytes at the fault. Where these tell no
-//! more than the cause does, nothing is said.
+//! Finds the fix of a cell or a literal that cannot be read, by the cause of its fault, the kind of its column and the bytes at the fault.
 
 use crate::kind::Kind;
 use faults::CellCause;
 
-/// What is right.
+/// A fix for a common mistake.
 #[derive(Clone, Copy, PartialEq, Eq)]
 pub enum Hint {
     NoEnd,
     EmptyText,
     NoTest,
     Alone,
+    AnyCell,
+    AnyLiteral,
     Equal,
     Not,
     Comma,
+    Range,
     Interval,
     Dash,
     Number,
@@ -30,50 +32,59 @@ pub enum Hint {
 }
 
 impl Hint {
-    /// What is right, in words.
+    /// The fix as a sentence.
     pub fn words(self) -> &'static str {
         match self {
-            Hint::NoEnd => "the text that begins here has no end: a double quote ends it",
-            Hint::EmptyText => "an empty text is written with its quotes: '\"\"'",
+            Hint::NoEnd => "Add the closing double quote of the text.",
+            Hint::EmptyText => "Write an empty text with its quotes: '\"\"'.",
             Hint::NoTest =>
-                "one literal stands here, and no test: no comparison, interval, `not(..)` or dash",
-            Hint::Alone => "one literal stands here, and nothing behind it",
-            Hint::Equal => "equality has no sign: the literal stands alone",
-            Hint::Not => "`not` has all its tests in brackets, and nothing behind them: not(1,2)",
-            Hint::Comma => "between two tests stands a comma",
-            Hint::Interval => "an interval has brackets, and two dots between its ends: [1..3]",
-            Hint::Dash => "a dash is a whole cell; a minus stands right before its digits: -5",
-            Hint::Number => "a number is digits, with a dot before its decimals: 1234.5",
-            Hint::NumberColumn => "the column is of numbers, which stand without quotes: 12.5",
+                "Write one literal; a comparison, an interval, `not(..)` or a dash is not allowed here.",
+            Hint::Alone => "Write one literal, and remove the text after it.",
+            Hint::AnyCell =>
+                "Write `-` for any value, or tests that are separated by commas, such as 5, <10 or [1..3], or not(..) of such tests.",
+            Hint::AnyLiteral =>
+                "Write one literal: a number, a text in double quotes, true, false, or date(\"2024-02-29\").",
+            Hint::Equal => "Write the literal without a sign for equality.",
+            Hint::Not => "Put all tests of `not` in parentheses, and nothing after them: not(1,2).",
+            Hint::Comma => "Separate tests by a comma, which means `or`.",
+            Hint::Range =>
+                "Separate tests by a comma, which means `or`. Write a range as one interval: [18..65].",
+            Hint::Interval =>
+                "Write an interval in brackets, with two dots between its ends: [1..3].",
+            Hint::Dash =>
+                "Write a dash as the whole cell, and a minus sign directly before its digits: -5.",
+            Hint::Number => "Write a number as digits, with a dot before its decimals: 1234.5.",
+            Hint::NumberColumn =>
+                "The column has numbers: write a number without quotes, such as 12.5.",
             Hint::NoCommas =>
-                "a number has no commas in it, and several tests stand in an input's cell alone",
-            Hint::Fraction => "a part of a hundred is written as a fraction: 0.25 for 25 %",
-            Hint::Text => "a text stands in double quotes: '\"OFFICE\"' for the word OFFICE",
-            Hint::TextOfDigits => "a text stands in double quotes, one of digits too: '\"99213\"'",
-            Hint::NoOrder => "texts have no order: no comparison and no interval",
-            Hint::Flag => "a flag is `true` or `false`, in lower case and without quotes",
-            Hint::Day => "a day is written with its word: date(\"2024-02-29\")",
+                "Write a number without commas. Only the cell of an input can have several tests.",
+            Hint::Fraction => "Write a percentage as a fraction: 0.25 for 25 %.",
+            Hint::Text => "Put a text in double quotes: '\"OFFICE\"' for the word OFFICE.",
+            Hint::TextOfDigits => "Put a text in double quotes, also one of digits: '\"99213\"'.",
+            Hint::NoOrder => "List the texts; comparisons and intervals of texts are not allowed.",
+            Hint::Flag => "Write a flag as true or false, in lower case and without quotes.",
+            Hint::Day => "Write a day with the word date: date(\"2024-02-29\").",
             Hint::DayDigits =>
-                "year, month and day have four, two and two digits: date(\"2024-02-29\")",
-            Hint::NoDay => "the calendar has no such day",
+                "Write the year with four digits, and the month and the day with two: date(\"2024-02-29\").",
+            Hint::NoDay => "Correct the date; the calendar has no such day.",
         }
     }
 }
 
-/// A cell or literal that can't be read from a byte on.
+/// A cell or a literal that cannot be read, with the byte of its fault.
 #[derive(Clone, Copy)]
 pub struct BadCell<'d> {
     pub text: &'d [u8],
     /// The kind of its column.
     pub kind: Kind,
-    /// Whether it is a literal, which stands alone, and no cell, which may have several tests.
+    /// Whether it is a single literal. A cell may have several tests.
     pub is_literal: bool,
-    /// The offset of the byte, from 0.
+    /// The offset of the fault in bytes, from 0.
     pub at: usize,
 }
 
 impl<'d> BadCell<'d> {
-    /// What is right in its place, if more is known than the cause says.
+    /// The fix, where the text shows more than the cause does.
     pub fn hint(&self, cause: CellCause) -> Option<Hint> {
         match cause {
             CellCause::Token => self.on_token(),
@@ -87,24 +98,35 @@ impl<'d> BadCell<'d> {
         }
     }
 
-    // Where bytes stand that can't stand there.
+    // The bytes at the fault begin no part of a cell, or no part that is allowed there.
     fn on_token(&self) -> Option<Hint> {
         let rest = self.rest();
         match rest {
             [] if self.is_literal && self.kind == Kind::Text && self.before().is_empty() => {
                 Some(Hint::EmptyText)
             }
-            [] => None,
+            [] => Some(self.any_form()),
             [b'"', inside @ ..] if !has_end(inside) => Some(Hint::NoEnd),
             [b'=', ..] => Some(Hint::Equal),
             _ if self.is_literal && begins_test(rest) => Some(Hint::NoTest),
             _ if self.before() == b"not".as_slice() => Some(Hint::Not),
             [byte, ..] if self.is_after_literal() => Some(self.on_token_after_literal(*byte)),
-            [byte, ..] => self.on_token_of_kind(*byte),
+            [byte, ..] => match self.on_token_of_kind(*byte) {
+                Some(hint) => Some(hint),
+                None => Some(self.any_form()),
+            },
         }
     }
 
-    // Where a whole literal stands in front of it: in an interval, or behind `not`.
+    fn any_form(&self) -> Hint {
+        if self.is_literal {
+            Hint::AnyLiteral
+        } else {
+            Hint::AnyCell
+        }
+    }
+
+    // A complete literal is before the fault, so it is in an interval or in the parentheses of `not`.
     fn on_token_after_literal(&self, byte: u8) -> Hint {
         if self.kind.has_order() && (byte == b'-' || !self.is_negation()) {
             Hint::Interval
@@ -113,7 +135,7 @@ impl<'d> BadCell<'d> {
         }
     }
 
-    // Where a literal should begin.
+    // A literal should begin at the fault.
     fn on_token_of_kind(&self, byte: u8) -> Option<Hint> {
         match self.kind {
             Kind::Number if byte == b'%' => Some(Hint::Fraction),
@@ -128,7 +150,7 @@ impl<'d> BadCell<'d> {
         }
     }
 
-    // Where a literal of another kind stands, or a test that its column's kind hasn't.
+    // The literal has another kind than its column, or the kind of the column does not have the test.
     fn on_kind(&self) -> Hint {
         match self.kind {
             Kind::Number => Hint::NumberColumn,
@@ -139,7 +161,6 @@ impl<'d> BadCell<'d> {
         }
     }
 
-    // Where a date is none.
     fn on_date(&self) -> Hint {
         let rest = self.rest();
         match rest.iter().position(|byte| *byte == b'"') {
@@ -150,7 +171,7 @@ impl<'d> BadCell<'d> {
         }
     }
 
-    // Where something stands behind a whole cell or literal.
+    // A complete cell or literal is before the fault.
     fn on_rest(&self) -> Hint {
         match self.rest().first() {
             Some(byte) if self.kind == Kind::Number && self.spoils_number(*byte) => {
@@ -160,11 +181,12 @@ impl<'d> BadCell<'d> {
             _ if self.before() == b"-".as_slice() => Hint::Dash,
             _ if self.is_negation() => Hint::Not,
             _ if self.kind.has_order() && self.goes_on_as_interval() => Hint::Interval,
+            _ if self.kind.has_order() => Hint::Range,
             _ => Hint::Comma,
         }
     }
 
-    // Whether the byte at the fault makes no number of one.
+    // Whether the byte at the fault continues a number, as people write numbers.
     fn spoils_number(&self, byte: u8) -> bool {
         match byte {
             b'%' => true,
@@ -184,17 +206,16 @@ impl<'d> BadCell<'d> {
         }
     }
 
-    // What stands from the fault on.
     fn rest(&self) -> &'d [u8] {
         self.text.get(self.at..).unwrap_or(&[])
     }
 
-    // What stands in front of the fault, without white space round it.
+    // The text before the fault, without white space at its ends.
     fn before(&self) -> &'d [u8] {
         self.text.get(..self.at).unwrap_or(&[]).trim_ascii()
     }
 
-    // Whether a literal of the column's kind ends right in front of the fault, or of white space there.
+    // Whether a literal of the column's kind ends before the fault.
     fn is_after_literal(&self) -> bool {
         match (self.kind, self.before().last()) {
             (Kind::Number, Some(byte)) => byte.is_ascii_digit(),
@@ -204,7 +225,6 @@ impl<'d> BadCell<'d> {
         }
     }
 
-    // Whether a digit stands right in front of the fault.
     fn is_after_digit(&self) -> bool {
         match self.text.get(self.at.saturating_sub(1)) {
             Some(byte) => byte.is_ascii_digit(),
@@ -216,13 +236,12 @@ impl<'d> BadCell<'d> {
         self.text.trim_ascii_start().starts_with(b"not")
     }
 
-    // Whether two dots stand at the fault, or a dash.
     fn goes_on_as_interval(&self) -> bool {
         has_form(self.text, self.at, b"..") || has_form(self.text, self.at, b"-")
     }
 }
 
-// Whether a text behind its opening quote has a closing one. One behind a backslash is none.
+// A quote after a backslash does not close the text.
 fn has_end(inside: &[u8]) -> bool {
     let mut is_escaped = false;
     for byte in inside {
@@ -236,7 +255,7 @@ fn has_end(inside: &[u8]) -> bool {
     false
 }
 
-// Whether a test begins so that is no literal.
+// Whether the text begins a test that is more than a literal.
 fn begins_test(text: &[u8]) -> bool {
     match text.first() {
         Some(b'<' | b'>' | b'[' | b'(' | b']' | b'-') => true,
@@ -244,17 +263,16 @@ fn begins_test(text: &[u8]) -> bool {
     }
 }
 
-// Whether words begin so, or texts in other quotes than double ones.
+// Texts in quotes other than double ones count as words.
 fn begins_word(byte: u8) -> bool {
     byte.is_ascii_alphabetic() || byte == b'_' || byte == b'\'' || !byte.is_ascii()
 }
 
-// Whether people write this at a number.
 fn is_sign(byte: u8) -> bool {
     byte == b'$' || byte == b'+'
 }
 
-// Whether these bytes stand at a place of a text, with any digit in place of each 9.
+// Whether the text has this form at a place. A 9 in the form is any digit.
 fn has_form(text: &[u8], place: usize, form: &[u8]) -> bool {
     for step in 0..form.len() {
         let wanted = form[step];

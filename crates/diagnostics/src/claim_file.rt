@@ -1,6 +1,6 @@
-//! Which column of a file of claims or balances is meant.
+//! Explains a fault of a file of claims or balances, and names the columns that it is about.
 
-use crate::file_texts::{file_words, record_words, refused_record_words};
+use crate::file_texts::{file_words, record_words};
 use crate::message::Message;
 use crate::places::Step;
 use crate::plan_node::{count_at, value_at};
@@ -9,14 +9,14 @@ use faults::{FileFault, RowFault};
 use std::alloc::{AllocError, Global};
 use toml::Value;
 
-/// What a file holds.
+/// The content of a file.
 #[derive(Clone, Copy, PartialEq, Eq)]
 pub enum FileKind {
     Claims,
     Balances,
 }
 
-/// What is amiss with a needed column of a header.
+/// What is wrong with a required column of a header.
 #[derive(Clone, Copy, PartialEq, Eq)]
 enum HeaderProblem {
     Missing,
@@ -24,7 +24,7 @@ enum HeaderProblem {
 }
 
 impl HeaderProblem {
-    // What the fault of a file says of its columns; nothing where it is about something else.
+    // None where the fault is not about columns.
     fn of(fault: FileFault) -> Option<HeaderProblem> {
         match fault {
             FileFault::MissingColumn => Some(HeaderProblem::Missing),
@@ -34,7 +34,7 @@ impl HeaderProblem {
     }
 }
 
-/// What the fault of a whole file of this name means. For claims the plan's text says which columns are needed.
+/// Explains the fault of a whole file of this name. The text of the plan shows which columns are required.
 pub fn explain_file(
     alloc: Global,
     name: &str,
@@ -53,7 +53,7 @@ pub fn explain_file(
     Ok(message)
 }
 
-/// What the fault of a record of balances means, in a file of this name.
+/// Explains the fault of a record of balances in a file of this name. Records count from 1 after the header.
 pub fn explain_record(
     alloc: Global,
     name: &str,
@@ -64,18 +64,17 @@ pub fn explain_record(
     let mut message = Message::new(alloc);
     let header = header_of(alloc, text)?;
     let column = column_name(&header, fault.column);
-    let record = format!(in alloc; "{name}, record {number} behind the header")?;
+    let record = format!(in alloc; "{name}, record {number} after the header")?;
     if column.is_empty() {
         message.line(&[record.as_str()])?;
     } else {
         message.line(&[record.as_str(), ", column ", column])?;
     }
-    message.line(&[record_words(fault.cause)])?;
-    message.words(refused_record_words())?;
+    message.words(record_words(fault.cause))?;
     Ok(message)
 }
 
-// The name of a column by its number from 1; nothing where there is none or it is no text.
+// Column 0 is the record as a whole, which has no name.
 fn column_name(header: &ByteRecord, column: usize) -> &str {
     match header.get(column.saturating_sub(1)) {
         Some(field) if column > 0 => str::from_utf8(field).unwrap_or(""),
@@ -95,7 +94,7 @@ fn header_of(alloc: Global, text: &[u8]) -> Result<ByteRecord, AllocError> {
     }
 }
 
-// Names the needed columns with which this is amiss.
+// Adds a line for each required column that is missing or occurs twice.
 fn add_columns(
     alloc: Global,
     message: &mut Message,
@@ -118,7 +117,6 @@ fn add_columns(
     }
 }
 
-// Names the plan's fields among those columns.
 fn add_fields(
     message: &mut Message,
     header: &ByteRecord,
@@ -134,7 +132,7 @@ fn add_fields(
     Ok(())
 }
 
-// Names a column among those that is needed from a version of the plan on.
+// The column is required from a version of the plan on.
 fn add_since(
     message: &mut Message,
     header: &ByteRecord,
@@ -150,7 +148,7 @@ fn add_since(
     }
 }
 
-// The columns that each such file needs.
+// The columns that are required under each version of the plan.
 fn required_columns(kind: FileKind) -> &'static [&'static str] {
     match kind {
         FileKind::Claims => &["claim", "member", "service", "billed"],
@@ -171,11 +169,14 @@ fn add_column(
         }
     }
     match problem {
-        HeaderProblem::Missing if count == 0 => message.line(&["the header has no column ", name]),
-        HeaderProblem::Twice if count > 1 => message.line(&[
-            "the header has more than one column ",
+        HeaderProblem::Missing if count == 0 => message.line(&[
+            "The header has no column `",
             name,
+            "`.",
         ]),
+        HeaderProblem::Twice if count > 1 => {
+            message.line(&["The header has more than one column `", name, "`."])
+        }
         HeaderProblem::Missing | HeaderProblem::Twice => Ok(()),
     }
 }

@@ -1,9 +1,9 @@
-//! Words that are one edit apart.
+//! Compares words for misspellings: two words are near if one edit makes one of the other.
 
 ghost use Rattle.std.specs.Prelude.{◌≡◌, ◌≤◌, ◌↔◌, IsTrue, length, take, drop};
 ghost use Rattle.diagnostics.specs.Edits.{DoNotMeet, IsOneEdit, IsWithoutFirst, IsOtherFirst, IsExchanged};
 
-/// Whether one edit makes the one word of the other: a byte more, a byte less, another byte, or two neighbours exchanged.
+/// Whether the words differ by one edit: an inserted byte, a removed byte, a changed byte, or two swapped neighbours.
 pub fn is_one_edit(one: &[u8], other: &[u8]) -> bool
     ensures { IsTrue result ↔ IsOneEdit one.now other.now }
 {
@@ -11,7 +11,6 @@ pub fn is_one_edit(one: &[u8], other: &[u8]) -> bool
     is_edit_of_front(&one[front..], &other[front..])
 }
 
-// How many first bytes they have in common.
 fn common_length(one: &[u8], other: &[u8]) -> usize
     ensures within_one { result ≤ length one.now }
     ensures within_other { result ≤ length other.now }
@@ -25,7 +24,7 @@ fn common_length(one: &[u8], other: &[u8]) -> usize
     count
 }
 
-// The same of words without a first byte in common: the edit is one of their first bytes.
+// Without a common first byte, the edit must be at the first byte.
 #[tactic(auto, using(crate::proofs::OneEdits::from_without, crate::proofs::OneEdits::from_other_first, crate::proofs::OneEdits::from_exchanged, crate::proofs::OneEdits::goes_back))]
 fn is_edit_of_front(one: &[u8], other: &[u8]) -> bool
     requires { DoNotMeet one.now other.now }
@@ -43,21 +42,18 @@ fn is_edit_of_front(one: &[u8], other: &[u8]) -> bool
     is_exchanged(one, other)
 }
 
-// Whether the other word is the one without its first byte.
 fn is_without_first(one: &[u8], other: &[u8]) -> bool
     ensures { IsTrue result ↔ IsWithoutFirst one.now other.now }
 {
     !one.is_empty() && are_same(&one[1..], other)
 }
 
-// Whether they are alike but for their first bytes.
 fn is_other_first(one: &[u8], other: &[u8]) -> bool
     ensures { IsTrue result ↔ IsOtherFirst one.now other.now }
 {
     !one.is_empty() && !other.is_empty() && are_same(&one[1..], &other[1..])
 }
 
-// Whether they are alike but for their first two bytes, which stand the other way round.
 fn is_exchanged(one: &[u8], other: &[u8]) -> bool
     ensures { IsTrue result ↔ IsExchanged one.now other.now }
 {
@@ -68,7 +64,6 @@ fn is_exchanged(one: &[u8], other: &[u8]) -> bool
         && are_same(&one[2..], &other[2..])
 }
 
-// Whether they are the same bytes.
 fn are_same(one: &[u8], other: &[u8]) -> bool
     ensures { IsTrue result ↔ (one.now ≡ other.now) }
 {

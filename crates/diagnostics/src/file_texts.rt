@@ -1,73 +1,91 @@
-//! The table of texts: what each refusal of a run's files means, and what to do. `docs/FAULTS.md` has the same texts.
+//! The texts of the explanations: for each fault of a run's files its cause and its fix. `scripts/faults` prints the list of all faults from them.
 
 use crate::texts::{Explanation, cause_and_remedy, memory};
 use faults::{FileFault, RowCause};
 
-/// The words of a fault of the terms, by its number.
+/// The explanation of a fault of the terms, by its number.
 pub fn terms_words(number: u8) -> Explanation {
     match number {
         1 => cause_and_remedy(
-            "`run`: the plan has no roles, so that it settles no claims",
-            "add `[roles]`",
+            "The plan has no `roles`, so it cannot settle claims.",
+            "Add the table `[roles]` to the plan.",
         ),
         2 => cause_and_remedy(
-            "`run`: more than 64 files",
-            "run them in several parts, the balances of each from the one before",
+            "A run takes at most 64 claim files.",
+            "Run the files in parts, and give the accumulators of one part to the next by `--balances`.",
         ),
         3 => cause_and_remedy(
-            "`run`: file P is no file of claims under this plan, for the cause F below; it is the first such",
-            "correct that file",
+            "The file is not a valid claim file for this plan.",
+            "Correct that file.",
         ),
         _ => cause_and_remedy(
-            "`run`: the balances are no such file, for the cause F below",
-            "correct it",
+            "The file of balances is not valid.",
+            "Correct the file of balances.",
         ),
     }
 }
 
-/// The words of a file's fault.
+/// The explanation of a file's fault.
 pub fn file_words(fault: FileFault) -> Explanation {
     match fault {
         FileFault::TooLarge => cause_and_remedy(
-            "the file has more than 16,777,216 bytes",
-            "split it; a provider may have several files",
+            "The file is larger than 16,777,216 bytes.",
+            "Split the file; one provider may have several files.",
         ),
         FileFault::NoHeader => cause_and_remedy(
-            "the file has no record: it is empty, or has empty lines alone",
-            "give it a header",
+            "The file is empty or has only empty lines; a header line is required.",
+            "Add the header line.",
         ),
         FileFault::MissingColumn => cause_and_remedy(
-            "the header lacks a column that is needed: `claim`, `member`, `service`, `billed` and the plan's fields; of balances `member`, `met`, `oop`, `paid`, and from version 2 on `year`; of both under version 3 `family`",
-            "add the column",
+            "The header does not have all required columns.",
+            "Add the column, or correct its name: upper and lower case differ, and the separator is a comma.",
         ),
-        FileFault::DuplicateColumn => {
-            cause_and_remedy("the header has a needed column twice", "rename one of them")
-        }
+        FileFault::DuplicateColumn => cause_and_remedy(
+            "The header has a required column more than once.",
+            "Rename or remove one of them.",
+        ),
         FileFault::OutOfMemory => memory(),
     }
 }
 
-/// The words of balances of which a record is refused; `record_words` says why it is.
-pub fn refused_record_words() -> Explanation {
-    cause_and_remedy(
-        "`run`: record R of the balances, behind the header, is refused for the cause C below, at column K of the header",
-        "correct that record",
-    )
-}
-
-/// What a record's fault is.
-pub fn record_words(cause: RowCause) -> &'static str {
+/// The explanation of a record's fault in a file of balances.
+pub fn record_words(cause: RowCause) -> Explanation {
     match cause {
-        RowCause::FieldCount => "it has another number of fields than the header; K is 0",
-        RowCause::Utf8 => "the field is not UTF-8",
-        RowCause::TooLong => "the field is longer than 256 bytes",
-        RowCause::EmptyId => "the member is empty, or under version 3 the family",
-        RowCause::Value => "an amount is no number, or a year isn't four digits, 0001 to 9999",
-        RowCause::NotCents => "an amount has part of a cent",
-        RowCause::Negative => "an amount is below zero",
-        RowCause::Repeated =>
-            "the member stood in an earlier record, from version 2 on in one of the same year, under version 3 of the same family",
-        RowCause::Sum =>
-            "with this record the sum of the amount over the family's members in the year leaves the number range",
+        RowCause::FieldCount => cause_and_remedy(
+            "The record has more or fewer fields than the header.",
+            "Add or remove fields, and put a field with a comma in double quotes.",
+        ),
+        RowCause::Utf8 => cause_and_remedy(
+            "The field is not valid UTF-8.",
+            "Save the file in UTF-8.",
+        ),
+        RowCause::TooLong => cause_and_remedy(
+            "The field is longer than 256 bytes.",
+            "Shorten the field.",
+        ),
+        RowCause::EmptyId => cause_and_remedy(
+            "The member is empty, or, under version 3 of the plan, the family.",
+            "Fill in the member and the family.",
+        ),
+        RowCause::Value => cause_and_remedy(
+            "An amount is not a number, or a year is not four digits from 0001 to 9999.",
+            "Write an amount as 1234.50, and a year as 2024.",
+        ),
+        RowCause::NotCents => cause_and_remedy(
+            "An amount has a fraction of a cent.",
+            "Round the amount to cents.",
+        ),
+        RowCause::Negative => cause_and_remedy(
+            "An amount is negative.",
+            "Write an amount of 0 or more.",
+        ),
+        RowCause::Repeated => cause_and_remedy(
+            "An earlier record has the same member; from version 2 of the plan on also the same year, and under version 3 also the same family.",
+            "Keep one of the two records.",
+        ),
+        RowCause::Sum => cause_and_remedy(
+            "With this record the sum of the amount over the family's members in the year is out of range.",
+            "Correct the amounts of the family.",
+        ),
     }
 }

@@ -1,6 +1,6 @@
-//! What is amiss at the place of a plan's fault, of the things that its cause may mean. Where the document tells no more, nothing is said.
+//! Adds hints: what exactly is wrong at the place of a plan's fault, as far as the document shows it.
 
-use crate::cell_hints::BadCell;
+use crate::cell_hints::{BadCell, Hint};
 use crate::edits::is_one_edit;
 use crate::kind::kind_of;
 use crate::message::Message;
@@ -8,11 +8,12 @@ use crate::places::Step;
 use crate::plan_node::{
     Column, count_at, items_after, role_name, tables, text_after, text_at, value_at,
 };
+use crate::texts::{Explanation, cause_and_remedy, plan_words};
 use faults::{CellFault, PlanCause, PlanFault};
 use std::alloc::AllocError;
 use toml::Value;
 
-/// Adds what is amiss, by what the document has at the fault's place; nothing where no more is known.
+/// Adds a line that says what is wrong, where the document at the fault's place shows more than the cause does.
 pub fn add_hints(
     message: &mut Message,
     document: &Value,
@@ -22,21 +23,30 @@ pub fn add_hints(
     match fault.cause {
         PlanCause::Missing => add_missing_key(message, entry, wanted_keys(document, fault)),
         PlanCause::Role => add_role(message, document, fault.column),
-        PlanCause::Kind if fault.rule > 0 && fault.column > 0 => message.line(&[
-            "cells and literals are strings: they stand in quotes, numbers too",
-        ]),
+        PlanCause::Kind if fault.rule > 0 && fault.column > 0 => Ok(()),
         PlanCause::Kind if fault.rule > 0 => add_counts(message, document, entry, fault.table),
         PlanCause::Kind => add_kind(message, entry),
         PlanCause::Unknown => add_unknown(message, document, entry),
-        PlanCause::Cell(cell) => {
-            let column = Column::of(document, fault.table, fault.column);
-            add_cell_hint(message, document, entry, &column, cell)
-        }
         _ => Ok(()),
     }
 }
 
-// The keys that must be there where a fault says that one is missing.
+/// The cause of a plan's fault and its fix. The text of a cell and the kind of its column may show which fix is the right one.
+pub fn words_at(document: &Value, entry: Option<&Value>, fault: &PlanFault) -> Explanation {
+    let words = plan_words(fault);
+    match fault.cause {
+        PlanCause::Cell(cell) => {
+            let column = Column::of(document, fault.table, fault.column);
+            match cell_advice(document, entry, &column, cell) {
+                Some(hint) => cause_and_remedy(words.meaning, hint.words()),
+                None => words,
+            }
+        }
+        _ => words,
+    }
+}
+
+// The required keys of the part of the plan that a fault names.
 fn wanted_keys(document: &Value, fault: &PlanFault) -> &'static [&'static str] {
     let steps = [
         Step::Key("tables"),
@@ -55,7 +65,6 @@ fn wanted_keys(document: &Value, fault: &PlanFault) -> &'static [&'static str] {
     }
 }
 
-// The first of these keys that an entry lacks, and a key of it that is one edit away.
 fn add_missing_key(
     message: &mut Message,
     entry: Option<&Value>,
@@ -63,11 +72,11 @@ fn add_missing_key(
 ) -> Result<(), AllocError> {
     for key in wanted {
         if !has_key(entry, key) {
-            return match near_key(entry, key) {
+            return match near_key(entry, key, wanted) {
                 Some(near) => message.push_line(format_args!(
-                    "`{key}` isn't there, but `{near}` is"
+                    "The key `{key}` is missing; the key `{near}` may be a misspelling of it."
                 )),
-                None => message.push_line(format_args!("`{key}` isn't there")),
+                None => message.push_line(format_args!("The key `{key}` is missing.")),
             };
         }
     }
@@ -81,17 +90,17 @@ fn has_key(entry: Option<&Value>, key: &str) -> bool {
     }
 }
 
-// A key of an entry that is one edit away from another.
-fn near_key<'d>(entry: Option<&'d Value>, wanted: &str) -> Option<&'d str> {
+// A key of an entry that may be a misspelling. A known key is not one: `when` is one edit away from `then`.
+fn near_key<'d>(entry: Option<&'d Value>, wanted: &str, known: &[&'static str]) -> Option<&'d str> {
     for (key, _) in entry?.as_table()? {
-        if is_one_edit(key.as_str().as_bytes(), wanted.as_bytes()) {
-            return Some(key.as_str());
+        let word = key.as_str();
+        if is_one_edit(word.as_bytes(), wanted.as_bytes()) && !known.contains(&word) {
+            return Some(word);
         }
     }
     None
 }
 
-// What a role has in place of a literal or a name.
 fn add_role(message: &mut Message, document: &Value, number: usize) -> Result<(), AllocError> {
     let name = role_name(number);
     let Some(value) = value_at(document, &[Step::Key("roles"), Step::Key(name)]) else {
@@ -100,12 +109,11 @@ fn add_role(message: &mut Message, document: &Value, number: usize) -> Result<()
     match value.as_str() {
         Some(word) => add_word_of_role(message, document, number, word),
         None => message.push_line(format_args!(
-            "`{name}` is no string: a literal stands in quotes too, as \"50\""
+            "The role `{name}` must be a string: put quotes round a number, too, as in \"50\"."
         )),
     }
 }
 
-// What a word is not that stands in a role.
 fn add_word_of_role(
     message: &mut Message,
     document: &Value,
@@ -115,13 +123,12 @@ fn add_word_of_role(
     match number {
         1 => add_single_values(message, document, word, "flag"),
         7 => message.push_line(format_args!(
-            "`{word}` is no text output of a table with `R`, `O` or `C`"
+            "`{word}` is not a text output of a table under `R`, `O` or `C`."
         )),
         _ => add_single_values(message, document, word, "number"),
     }
 }
 
-// That a word is none of the plan's single values of a kind, and which there are.
 fn add_single_values(
     message: &mut Message,
     document: &Value,
@@ -129,12 +136,13 @@ fn add_single_values(
     kind: &str,
 ) -> Result<(), AllocError> {
     message.begin_line()?;
-    message.push(format_args!("`{word}` is no {kind}, nor the name of one; the plan's own are:"))?;
+    message.push(format_args!(
+        "`{word}` is neither a {kind} nor the name of one. The plan has the following {kind}s:"
+    ))?;
     push_single_values(message, document, kind)?;
     message.end_line()
 }
 
-// The names of the plan's single values of this kind, or that there is none.
 fn push_single_values(
     message: &mut Message,
     document: &Value,
@@ -152,12 +160,11 @@ fn push_single_values(
     Ok(())
 }
 
-// Whether the outputs of a table are single values, and no lists.
 fn has_single_values(table: &Value) -> bool {
     !matches!(text_after(Some(table), "hit"), Some("R" | "O" | "C"))
 }
 
-// The names of the entries of this kind, behind so many others. Returns how many there are by then.
+// Appends the names of the entries of this kind to `before` names, and returns the new number of names.
 fn push_names(
     message: &mut Message,
     before: usize,
@@ -179,7 +186,6 @@ fn push_name(message: &mut Message, before: usize, name: &str) -> Result<(), All
     message.push(name)
 }
 
-// That a rule has another number of cells or literals than its table has columns.
 fn add_counts(
     message: &mut Message,
     document: &Value,
@@ -191,30 +197,28 @@ fn add_counts(
     let inputs = count_at(document, &columns, "inputs");
     if cells != inputs {
         return message.push_line(format_args!(
-            "`when` has {cells}, and the table has {inputs} inputs"
+            "The number of cells in `when` is {cells}, and the number of inputs is {inputs}."
         ));
     }
     let literals = items_after(rule, "then").len();
     let outputs = count_at(document, &columns, "outputs");
     if literals != outputs {
         return message.push_line(format_args!(
-            "`then` has {literals}, and the table has {outputs} outputs"
+            "The number of literals in `then` is {literals}, and the number of outputs is {outputs}."
         ));
     }
     Ok(())
 }
 
-// That a kind is none.
 fn add_kind(message: &mut Message, entry: Option<&Value>) -> Result<(), AllocError> {
     match text_after(entry, "kind") {
         None | Some("number" | "text" | "flag" | "day") => Ok(()),
         Some(word) => message.push_line(format_args!(
-            "`{word}` is none of `number`, `text`, `flag` and `day`"
+            "`{word}` is not a kind; the kinds are `number`, `text`, `flag` and `day`."
         )),
     }
 }
 
-// That nothing has the name that an input reads, and a name that is one edit away.
 fn add_unknown(
     message: &mut Message,
     document: &Value,
@@ -225,23 +229,23 @@ fn add_unknown(
     };
     match near_value(document, name) {
         Some(near) => message.push_line(format_args!(
-            "nothing before is called `{name}`; near it is `{near}`"
+            "Unknown input `{name}`; did you mean `{near}`?"
         )),
         None => add_unlike(message, document, name),
     }
 }
 
-// The same where no name is near: a key that is near `fields`, where that isn't there.
+// Where the key `fields` is misspelt, no field is known.
 fn add_unlike(message: &mut Message, document: &Value, name: &str) -> Result<(), AllocError> {
-    match near_key(Some(document), "fields") {
+    match near_key(Some(document), "fields", &["fields"]) {
         Some(near) if document.get("fields").is_none() => message.push_line(format_args!(
-            "nothing before is called `{name}`; `fields` isn't there, but `{near}` is"
+            "Unknown input `{name}`. The key `fields` is missing; the key `{near}` may be a misspelling of it."
         )),
-        _ => message.push_line(format_args!("nothing before is called `{name}`")),
+        _ => message.push_line(format_args!("Unknown input `{name}`.")),
     }
 }
 
-// The name of a field or an output that is one edit away from another: the first such one.
+// The first name of a field or an output that is one edit away from the given one.
 fn near_value<'d>(document: &'d Value, name: &str) -> Option<&'d str> {
     if let Some(near) = near_name(items_after(Some(document), "fields"), name) {
         return Some(near);
@@ -264,19 +268,17 @@ fn near_name<'d>(entries: &'d [Value], name: &str) -> Option<&'d str> {
     None
 }
 
-// What is right in place of a cell or literal of this column, if that is known.
-fn add_cell_hint(
-    message: &mut Message,
+fn cell_advice(
     document: &Value,
     entry: Option<&Value>,
     column: &Column<'_>,
     fault: CellFault,
-) -> Result<(), AllocError> {
+) -> Option<Hint> {
     let Some(text) = entry.and_then(Value::as_str) else {
-        return Ok(());
+        return None;
     };
     let Some(kind) = kind_of(document, column) else {
-        return Ok(());
+        return None;
     };
     let part = BadCell {
         text: text.as_bytes(),
@@ -284,8 +286,5 @@ fn add_cell_hint(
         is_literal: !column.is_input,
         at: fault.at,
     };
-    match part.hint(fault.cause) {
-        Some(hint) => message.line(&[hint.words()]),
-        None => Ok(()),
-    }
+    part.hint(fault.cause)
 }

@@ -1,9 +1,9 @@
-//! The kinds of a plan's columns, as its document has them.
+//! The kinds of a plan's columns, by its document.
 
 use crate::plan_node::{Column, items_after, tables, text_after, text_at};
 use toml::Value;
 
-/// A kind of values.
+/// A kind of values: the document's, which may be of a plan that is not valid.
 #[derive(Clone, Copy, PartialEq, Eq)]
 pub enum Kind {
     Number,
@@ -13,7 +13,6 @@ pub enum Kind {
 }
 
 impl Kind {
-    // The kind that a plan calls so, if it is one.
     fn of_word(word: &str) -> Option<Kind> {
         match word {
             "number" => Some(Kind::Number),
@@ -24,13 +23,13 @@ impl Kind {
         }
     }
 
-    /// Whether its values are told apart as less and more.
+    /// Whether its values can be compared by `<` and `>`.
     pub fn has_order(self) -> bool {
         matches!(self, Kind::Number | Kind::Day)
     }
 }
 
-/// The kind of a column, if the document tells it.
+/// The kind of a column; none if the document does not say it.
 pub fn kind_of(document: &Value, column: &Column<'_>) -> Option<Kind> {
     if !column.is_input {
         return Kind::of_word(column.kind);
@@ -41,7 +40,6 @@ pub fn kind_of(document: &Value, column: &Column<'_>) -> Option<Kind> {
     }
 }
 
-// The kind of the field or output with this name.
 fn kind_of_own(document: &Value, name: &str) -> Option<Kind> {
     if let Some(kind) = kind_among(items_after(Some(document), "fields"), name) {
         return Some(kind);
@@ -63,7 +61,7 @@ fn kind_among(entries: &[Value], name: &str) -> Option<Kind> {
     None
 }
 
-// The kind that later tables see of an output: a count is a number.
+// Later tables read a number where the hit policy counts the matches.
 fn read_kind_of(table: &Value, kind: Kind) -> Kind {
     if text_after(Some(table), "hit") == Some("C#") {
         Kind::Number
@@ -72,7 +70,6 @@ fn read_kind_of(table: &Value, kind: Kind) -> Kind {
     }
 }
 
-// The kind of a name that plans have from the start.
 fn kind_from_the_start(name: &str) -> Option<Kind> {
     match name {
         "claim" | "member" | "family" => Some(Kind::Text),

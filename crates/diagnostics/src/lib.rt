@@ -1,14 +1,14 @@
-//! What a refusal means and what to do, in words, for a person who reads it on a terminal: of a plan, of arguments, of the tables, of the files of
-//! claims and of balances, and of what the program finds around it.
+//! Explains faults to a person at a terminal, by their cause and their fix: those of a plan, of arguments, of the tables, of files of claims and
+//! balances, and of the system. It also finds the unknown keys of a plan.
 //!
-//! `texts.rt` and `file_texts.rt` are the tables of texts, which `docs/FAULTS.md` has too (`scripts/faults` compares them). `message.rt` puts lines
-//! together. `plan.rt`, `table.rt`, `argument.rt` and `claim_file.rt` find the place of a fault in a plan, in its tables, in an argument and in a
-//! file; `plan_node.rt` finds what a plan's document has at a place, `hints.rt` and `cell_hints.rt` say what is wrong there, and `kind.rt` finds the kind of
-//! its column.
+//! Begin with `texts.rt` and `file_texts.rt`, which have the texts; `scripts/faults` prints the list of all faults from them. `message.rt` composes
+//! the lines. `plan.rt`, `table.rt`, `argument.rt` and `claim_file.rt` explain a fault of a plan, of the tables, of an argument and of a file.
+//! `plan_node.rt` finds the value of the plan's document at a fault's place, `hints.rt` says what is wrong there, and `cell_hints.rt` what to write
+//! in place of a cell or a literal, by the kind of its column (`kind.rt`).
 //!
-//! `scanner.rt` finds the line and column of each key and value of a TOML document by the tokens of `toml_parser`, `places.rt` keeps them, and
-//! `position.rt` counts lines and columns. `unread.rt` compares the keys of a document with those that a plan has (`shape.rt`), and `edits.rt`
-//! decides whether two words are one edit apart. `sanitize.rt` replaces what a terminal would obey.
+//! `scanner.rt` finds the offset of each key and value of a TOML text with the tokens of `toml_parser`, `places.rt` has the offsets, and `position.rt`
+//! counts lines and columns. `unread.rt` compares the keys with those of a plan (`shape.rt`), and `edits.rt` finds misspellings. `sanitize.rt`
+//! replaces control characters, which a terminal would obey.
 #![tactic(auto)]
 
 mod argument;

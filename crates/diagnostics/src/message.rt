@@ -1,4 +1,4 @@
-//! Lines for a person.
+//! The lines of an explanation.
 
 use crate::places::Step;
 use crate::position::position_of;
@@ -8,7 +8,7 @@ use crate::texts::{Explanation, resource_words};
 use std::alloc::{AllocError, Global};
 use std::fmt::Display;
 
-/// Lines, put together.
+/// The lines of an explanation, each indented by two spaces.
 pub struct Message {
     alloc: Global,
     text: String,
@@ -29,12 +29,12 @@ impl Message {
         }
     }
 
-    /// The lines.
+    /// The lines, each with its end.
     pub fn as_str(&self) -> &str {
         self.text.as_str()
     }
 
-    /// A line, set in, with U+FFFD in place of each control character.
+    /// Adds a line. U+FFFD replaces each control character.
     pub fn line(&mut self, words: &[&str]) -> Result<(), AllocError> {
         self.begin_line()?;
         for word in words {
@@ -43,7 +43,6 @@ impl Message {
         self.end_line()
     }
 
-    // A line of what is put together here.
     pub(crate) fn push_line<D: Display + Drop>(&mut self, words: D) -> Result<(), AllocError> {
         self.begin_line()?;
         self.push(words)?;
@@ -63,13 +62,14 @@ impl Message {
         self.text.push_str("\n")
     }
 
-    /// What it means, and what to do.
+    /// Adds the cause and the fix.
     pub fn words(&mut self, words: Explanation) -> Result<(), AllocError> {
-        self.line(&["It means: ", words.meaning])?;
-        self.line(&["What to do: ", words.remedy])
+        self.line(&["Cause: ", words.meaning])?;
+        self.line(&["Fix: ", words.remedy])
     }
 
-    /// The words of a line that no text gives, and why a file or a stream is wanting, where that is known.
+    /// Explains an error line about a missing value or a failure of the system, with the name of the file and the system's reason where there
+    /// is a file.
     pub fn resource(&mut self, line: &str, name: &str, reason: &str) -> Result<(), AllocError> {
         if !name.is_empty() {
             self.line(&[name, ": ", reason])?;
@@ -80,20 +80,20 @@ impl Message {
         }
     }
 
-    /// Where something stands in a file.
+    /// Adds the line and the column of a byte of a file.
     pub fn place(&mut self, name: &str, text: &[u8], at: usize) -> Result<(), AllocError> {
         let position = position_of(text, at);
         let (line, column) = (position.line, position.column);
         self.push_line(format_args!("{name}, line {line}, column {column}"))
     }
 
-    /// Where the value that the steps lead to stands in a plan's text, or the last one on the way that is there.
+    /// Adds the place in a plan's text of the value at the end of the steps; if that does not exist, of the last one that does.
     pub fn place_of(&mut self, name: &str, text: &str, steps: &[Step]) -> Result<(), AllocError> {
         let places = places_of(self.alloc, text)?;
         self.place(name, text.as_bytes(), places.nearest_node(steps))
     }
 
-    /// The line of a text that has this byte, and a mark below the byte.
+    /// Adds the line of a text that has this byte, and a mark below the byte.
     pub fn mark(&mut self, text: &str, at: usize) -> Result<(), AllocError> {
         let mut begin = 0usize;
         for line in text.split('\n') {
@@ -118,7 +118,7 @@ impl Message {
     }
 }
 
-// How many characters of a line begin before this byte.
+// Counts characters and not bytes, so that the mark is below the right one.
 fn characters_before(line: &str, at: usize) -> usize {
     let mut count = 0usize;
     let mut place = 0usize;

@@ -1,4 +1,4 @@
-//! The places of a document's keys and values.
+//! The offsets of a document's keys and values.
 
 use std::alloc::{AllocError, Global};
 use std::collections::BTreeMap;
@@ -13,26 +13,26 @@ pub enum Step {
 /// A key with its value, or an item of an array.
 #[derive(Drop)]
 pub(crate) struct Node {
-    /// The number of the table or array that it stands in. That one has a lesser number than it.
+    /// The number of the table or array that contains it, which is less than its own.
     pub parent: usize,
-    /// Its key; an item has none.
+    /// None for an item.
     pub key: Option<String>,
-    /// The numbers of what stands behind its own keys: a text may have tens of thousands, and each header asks for some.
+    /// The numbers of the values of its keys. A map, since a text may have tens of thousands of keys, and each header looks some of them up.
     below: BTreeMap<String, usize>,
-    /// An item's number.
+    /// The index of an item in its array, from 0.
     pub item: usize,
     /// The offset of the key, or of an item's value or header.
     pub at: usize,
     /// The offset of the value.
     pub value_at: usize,
-    /// How many items it has.
+    /// The number of its items.
     pub items: usize,
     /// The number of its last item.
     pub last: usize,
 }
 
 impl Node {
-    // What has this number stands behind this key. The first of two that are alike stays.
+    // Of two equal keys the first one counts.
     fn add_key(&mut self, key: String, number: usize) -> Result<(), AllocError> {
         if self.below.get(key.as_str()).is_none() {
             let _before = self.below.insert(key, number)?;
@@ -40,7 +40,7 @@ impl Node {
         Ok(())
     }
 
-    // The item with this number is its last one; answers which it is.
+    // Returns the index of the new item.
     fn add_item(&mut self, number: usize) -> usize {
         let item = self.items;
         self.items = item.saturating_add(1);
@@ -49,7 +49,7 @@ impl Node {
     }
 }
 
-/// The places of a document's keys and values, in the order in which they come. The first is the document.
+/// The keys and values of a document in the order of the text. The first is the document itself.
 #[derive(Drop)]
 pub struct Places {
     alloc: Global,
@@ -57,7 +57,6 @@ pub struct Places {
 }
 
 impl Places {
-    // The places of a document that is empty.
     pub(crate) fn new(alloc: Global) -> Result<Places, AllocError> {
         let mut places = Places {
             alloc,
@@ -71,7 +70,7 @@ impl Places {
         self.nodes.as_slice()
     }
 
-    /// The offset of the value that the steps lead to from the top, or of the last one on the way that is there.
+    /// The offset of the value at the end of the steps; if that does not exist, of the last one on the way that does.
     pub fn nearest_node(&self, steps: &[Step]) -> usize {
         let mut here = 0;
         for step in steps {
@@ -83,7 +82,7 @@ impl Places {
         self.nodes.get(here).map_or(0, |node| node.value_at)
     }
 
-    /// The offset of the key that the steps lead to, if it is there.
+    /// The offset of the key at the end of the steps, if it exists.
     pub fn key_at(&self, steps: &[Step]) -> Option<usize> {
         let mut here = 0;
         for step in steps {
@@ -99,12 +98,10 @@ impl Places {
         }
     }
 
-    // The value of a key of a table.
     fn value_of(&self, parent: usize, key: &str) -> Option<usize> {
         self.nodes.get(parent)?.below.get(key).copied()
     }
 
-    // An item of an array.
     fn item_of(&self, parent: usize, item: usize) -> Option<usize> {
         let mut number = 0usize;
         for node in &self.nodes {
@@ -116,7 +113,7 @@ impl Places {
         None
     }
 
-    // Adds a key or an item, and answers its number.
+    // Adds a key, or an item if there is no key, and returns its number.
     pub(crate) fn push(
         &mut self,
         parent: usize,
@@ -152,7 +149,7 @@ impl Places {
         }
     }
 
-    // The table that a key on the way to another leads to: that of its last item, where it is an array. It is added where it isn't there.
+    // The table at a part of a dotted key. TOML: if that part is an array of tables, its last item is meant; if it does not exist, the key defines it.
     pub(crate) fn table_under(
         &mut self,
         parent: usize,
@@ -175,7 +172,7 @@ impl Places {
         }
     }
 
-    // The array that a header with two brackets speaks of. It is added where it isn't there.
+    // The array of a header in double brackets. The first such header defines it.
     pub(crate) fn array_under(
         &mut self,
         parent: usize,

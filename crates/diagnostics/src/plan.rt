@@ -1,14 +1,14 @@
-//! What a plan's fault means, and where it stands.
+//! Explains a plan's fault, and where it is in the plan's text.
 
-use crate::hints::add_hints;
+use crate::hints::{add_hints, words_at};
 use crate::message::Message;
 use crate::plan_node::{add_what, value_at, way_of};
-use crate::texts::{cell_words, plan_words};
-use faults::{CellFault, PlanCause, PlanFault};
+use crate::texts::{Level, level_of, plan_words};
+use faults::{PlanCause, PlanFault};
 use std::alloc::{AllocError, Global};
 use toml::Value;
 
-/// What the fault of a plan's text means, for a file of this name: where it stands, the text of the cell, and what to do.
+/// Explains the fault of a plan's text, for a file of this name: where it is, the text of the cell, the cause and the fix.
 pub fn explain_plan(
     alloc: Global,
     name: &str,
@@ -16,8 +16,13 @@ pub fn explain_plan(
     fault: &PlanFault,
 ) -> Result<Message, AllocError> {
     let mut message = Message::new(alloc);
-    add_text(alloc, &mut message, name, text, fault)?;
-    message.words(plan_words(fault.cause))?;
+    if matches!(fault.cause, PlanCause::Limit) && level_of(fault) == Level::Plan {
+        // A text over its limit is read no further than to the limit, so no place in it can be right.
+        message.line(&[name])?;
+        message.words(plan_words(fault))?;
+    } else {
+        add_text(alloc, &mut message, name, text, fault)?;
+    }
     Ok(message)
 }
 
@@ -30,11 +35,14 @@ fn add_text(
 ) -> Result<(), AllocError> {
     match toml::table_from_slice(alloc, text) {
         Ok(members) => add_place(message, name, text, &Value::Table(members), fault),
-        Err(refusal) => add_refusal(message, name, text, &refusal),
+        Err(refusal) => {
+            add_refusal(message, name, text, &refusal)?;
+            message.words(plan_words(fault))
+        }
     }
 }
 
-// Where a text ceases to be a document, and why.
+// The place and the message of the TOML reader.
 fn add_refusal(
     message: &mut Message,
     name: &str,
@@ -65,22 +73,12 @@ fn add_place(
     }
     add_what(message, document, fault)?;
     let value = value_at(document, way.as_slice());
-    if let PlanCause::Cell(cell) = fault.cause {
-        add_cell(message, value, cell)?;
-    }
-    add_hints(message, document, value, fault)
-}
-
-// The text of a cell or literal with a mark at its fault, and what that is.
-fn add_cell(
-    message: &mut Message,
-    value: Option<&Value>,
-    fault: CellFault,
-) -> Result<(), AllocError> {
-    if let Some(value) = value
+    if let PlanCause::Cell(cell) = fault.cause
+        && let Some(value) = value
         && let Some(text) = value.as_str()
     {
-        message.mark(text, fault.at)?;
+        message.mark(text, cell.at)?;
     }
-    message.line(&[cell_words(fault.cause)])
+    add_hints(message, document, value, fault)?;
+    message.words(words_at(document, value, fault))
 }

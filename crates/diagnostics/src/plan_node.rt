@@ -1,4 +1,4 @@
-//! The value of a plan's document that a table, a rule and a column name.
+//! Finds the value of a plan's document that the numbers of a table, a rule and a column refer to.
 
 use crate::message::Message;
 use crate::places::Step;
@@ -6,7 +6,7 @@ use faults::{PlanCause, PlanFault};
 use std::alloc::AllocError;
 use toml::Value;
 
-/// The name of a role, by its number from 1; nothing where there is none.
+/// The name of a role, by its number from 1; empty if there is no such role.
 pub fn role_name(number: usize) -> &'static str {
     match number {
         1 => "cover",
@@ -22,10 +22,10 @@ pub fn role_name(number: usize) -> &'static str {
     }
 }
 
-/// How many steps the longest way has: to a cell of a rule of a table.
+/// The number of steps of the longest way, which is that to a cell.
 const MOST_STEPS: usize = 6;
 
-/// The way to a value from the top of the document. It takes no memory, so that nothing is to be let go where it is made.
+/// The way to a value from the top of the document. It takes no memory, so no caller has to handle running out of it.
 #[derive(Clone, Copy)]
 pub struct Way {
     steps: [Step; MOST_STEPS],
@@ -33,7 +33,6 @@ pub struct Way {
 }
 
 impl Way {
-    // The top of the document.
     fn top() -> Way {
         Way {
             steps: [Step::Item(0); MOST_STEPS],
@@ -46,7 +45,7 @@ impl Way {
         self.on(Step::Key(key))
     }
 
-    // The way on to an item, by its number from 1.
+    // Numbers of items count from 1, and steps from 0.
     fn item(self, number: usize) -> Way {
         self.on(Step::Item(number.saturating_sub(1)))
     }
@@ -62,13 +61,13 @@ impl Way {
         }
     }
 
-    /// The steps.
+    /// The steps from the top.
     pub fn as_slice(&self) -> &[Step] {
         self.steps.get(..self.count).unwrap_or(&[])
     }
 }
 
-/// The value that the document has at the end of the steps.
+/// The value at the end of the steps, if the document has it.
 pub fn value_at<'d>(document: &'d Value, steps: &[Step]) -> Option<&'d Value> {
     let mut value = document;
     for step in steps {
@@ -103,7 +102,7 @@ pub fn way_of(document: &Value, fault: &PlanFault) -> Way {
     }
 }
 
-/// Adds what stands at the place of a plan's fault, in words.
+/// Adds a line that names the part of the plan at the place of a fault.
 pub fn add_what(
     message: &mut Message,
     document: &Value,
@@ -119,7 +118,7 @@ pub fn add_what(
     add_column_words(message, fault.table, fault.rule, column)
 }
 
-// The words of a column of a rule of a table; of the table's, where the rule is 0.
+// Rule 0 is the table itself.
 fn add_column_words(
     message: &mut Message,
     table: usize,
@@ -133,7 +132,6 @@ fn add_column_words(
     message.end_line()
 }
 
-// The words of a rule of a table; of the table, where the rule is 0.
 fn add_rule_words(message: &mut Message, table: usize, rule: usize) -> Result<(), AllocError> {
     message.begin_line()?;
     push_rule(message, table, rule)?;
@@ -148,12 +146,11 @@ fn push_rule(message: &mut Message, table: usize, rule: usize) -> Result<(), All
     Ok(())
 }
 
-/// The way to a table, by its number from 1.
 fn table_way(table: usize) -> Way {
     Way::top().key("tables").item(table)
 }
 
-/// The way to an input of a table, both by their numbers from 1; to the table, where the input is 0.
+/// The way to an input of a table, both by their numbers from 1. Input 0 is the table itself.
 pub fn input_way(table: usize, input: usize) -> Way {
     let table = table_way(table);
     if input > 0 {
@@ -163,7 +160,7 @@ pub fn input_way(table: usize, input: usize) -> Way {
     }
 }
 
-/// Adds the words of an input of a table; of the table, where the input is 0.
+/// Adds a line that names an input of a table. Input 0 is the table itself.
 pub fn add_input_words(
     message: &mut Message,
     document: &Value,
@@ -177,8 +174,8 @@ pub fn add_input_words(
     message.push_line(format_args!("table {table}, input {input} {name}"))
 }
 
-/// A column of a table: an input or an output, by its number among these from 1, its name and the kind that it says; nothing where it says none, as
-/// inputs do.
+/// A column of a table: an input or an output, with its number from 1 among the inputs or the outputs. Its kind is empty if the document does not
+/// give one, as for inputs.
 #[derive(Clone, Copy)]
 pub struct Column<'d> {
     pub is_input: bool,
@@ -207,7 +204,7 @@ impl<'d> Column<'d> {
         }
     }
 
-    // The key of the array that it stands in, of a rule or of its table.
+    // The key of the array that the column is an item of.
     fn part(&self, is_rule: bool) -> &'static str {
         part_of(is_rule, self.is_input)
     }
@@ -217,7 +214,6 @@ impl<'d> Column<'d> {
     }
 }
 
-// The key of the array that a column of a rule, or of a table, stands in.
 fn part_of(is_rule: bool, is_input: bool) -> &'static str {
     match (is_rule, is_input) {
         (true, true) => "when",
@@ -227,7 +223,6 @@ fn part_of(is_rule: bool, is_input: bool) -> &'static str {
     }
 }
 
-// The way to a place outside of tables: a role, a field, or the document.
 fn top_way(document: &Value, fault: &PlanFault) -> Way {
     let column = fault.column;
     if column == 0 {
@@ -243,7 +238,6 @@ fn field_way(field: usize) -> Way {
     Way::top().key("fields").item(field)
 }
 
-// What stands there, in words.
 fn add_top_words(
     message: &mut Message,
     document: &Value,
@@ -251,7 +245,7 @@ fn add_top_words(
 ) -> Result<(), AllocError> {
     let column = fault.column;
     if column == 0 {
-        return message.line(&["the plan as a whole"]);
+        return message.line(&["the top level of the plan"]);
     }
     if is_role(document, fault) {
         let name = role_name(column);
@@ -261,7 +255,7 @@ fn add_top_words(
     message.push_line(format_args!("field {column} {name}"))
 }
 
-// Whether a column outside of tables is a role's: such causes are.
+// Fields and roles have the same place numbers; the cause shows which of them is meant.
 fn is_role(document: &Value, fault: &PlanFault) -> bool {
     match fault.cause {
         PlanCause::Role | PlanCause::Money => true,
@@ -269,7 +263,7 @@ fn is_role(document: &Value, fault: &PlanFault) -> bool {
     }
 }
 
-/// The string at a key behind the steps; nothing where there is none.
+/// The string at a key of the value at the end of the steps; empty if there is none.
 pub fn text_at<'d>(document: &'d Value, steps: &[Step], key: &str) -> &'d str {
     text_after(value_at(document, steps), key).unwrap_or("")
 }
@@ -279,17 +273,17 @@ pub fn tables(document: &Value) -> &[Value] {
     items_after(Some(document), "tables")
 }
 
-/// How many items the array at a key behind the steps has.
+/// The length of the array at a key of the value at the end of the steps; 0 if there is none.
 pub fn count_at(document: &Value, steps: &[Step], key: &str) -> usize {
     items_after(value_at(document, steps), key).len()
 }
 
-/// The string at a key, if there is one.
+/// The string at a key of an entry, if there is one.
 pub fn text_after<'d>(entry: Option<&'d Value>, key: &str) -> Option<&'d str> {
     value_behind(entry, key)?.as_str()
 }
 
-/// The items of the array at a key; none where there is no such.
+/// The items of the array at a key of an entry; none if there is no such array.
 pub fn items_after<'d>(entry: Option<&'d Value>, key: &str) -> &'d [Value] {
     match value_behind(entry, key) {
         Some(array) => items(array),

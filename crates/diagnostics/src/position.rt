@@ -1,23 +1,22 @@
-//! Lines and columns.
+//! Lines and columns of a text.
 
 ghost use Rattle.std.specs.Prelude.{take};
 ghost use Rattle.diagnostics.specs.Position.{IsAfter};
 
-/// A place in a text: lines and columns count from 1, columns in characters.
+/// A place in a text. Lines and columns count from 1, and columns are in characters.
 #[derive(Clone, Copy, PartialEq, Eq)]
 pub struct Position {
     pub line: usize,
     pub column: usize,
 }
 
-/// The place of the byte at this offset; behind a shorter text, where it ends.
+/// The place of the byte at this offset, or of the end of the text if the text is shorter.
 pub fn position_of(text: &[u8], at: usize) -> Position
     ensures { IsAfter (take at text.now) result }
 {
     position_after(&text[..at.min(text.len())])
 }
 
-// The place right behind a text.
 fn position_after(text: &[u8]) -> Position
     ensures { IsAfter text.now result }
 {
@@ -34,11 +33,11 @@ fn position_after(text: &[u8]) -> Position
     Position { line, column }
 }
 
-/// The places of bytes of a text that are asked for in rising order: each byte of it is looked at once.
+/// Finds the places of bytes in ascending order, so that it reads each byte of the text once.
 #[derive(Drop)]
 pub(crate) struct Positions<'t> {
     rest: &'t [u8],
-    /// The offset of the rest, and its place.
+    /// The offset of the rest; `known` is its place.
     at: usize,
     known: Position,
 }
@@ -52,7 +51,7 @@ impl<'t> Positions<'t> {
         }
     }
 
-    // The place of the byte at this offset, which is not before the last one.
+    // The offset must not be less than the last one.
     pub fn next(&mut self, at: usize) -> Position {
         let between = at.saturating_sub(self.at).min(self.rest.len());
         self.known = self.known.and_then(position_of(self.rest, between));
@@ -63,7 +62,7 @@ impl<'t> Positions<'t> {
 }
 
 impl Position {
-    // The place behind this one that has the other place in the text that begins here.
+    // The other place counts lines and columns from this one on.
     fn and_then(self, further: Position) -> Position {
         let column = if further.line == 1 {
             self.column.saturating_add(further.column).saturating_sub(1)

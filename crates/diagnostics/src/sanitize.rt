@@ -1,14 +1,13 @@
-//! Texts of others, as they may stand on a terminal.
+//! Replaces control characters, which a terminal would obey.
 
 ghost use Rattle.std.specs.Prelude.{◌≡◌, ◌++◌, OnOk, string_bytes};
 ghost use Rattle.diagnostics.specs.Printable.{shown_as, shown_text};
 
 use std::alloc::AllocError;
 
-/// What stands in place of a character that a terminal would obey.
 const REPLACEMENT: char = '\u{fffd}';
 
-/// A character as it may stand on a terminal: U+FFFD in place of a control character.
+/// The character to print: U+FFFD for a control character, and any other character itself.
 pub fn printable(character: char) -> char
     ensures { result ≡ shown_as character }
 {
@@ -19,7 +18,7 @@ pub fn printable(character: char) -> char
     }
 }
 
-/// Appends a text of others, with U+FFFD in place of each control character.
+/// Appends a text, with U+FFFD in place of each control character. Fails if memory runs out.
 pub fn push_printable(text: &mut String, words: &str) -> Result<(), AllocError>
     ensures { OnOk result (string_bytes text.new ≡ string_bytes text.old ++ shown_text words.now) }
 {

@@ -1,22 +1,22 @@
-//! Finds the places of a document, word by word. What is no document is scanned up to where it ceases to be one.
+//! Finds the offsets of a document's keys and values, token by token. A text that is not TOML is scanned up to its first error.
 
 use crate::places::Places;
 use std::alloc::{AllocError, Global};
 use toml_parser::text::{byte_at, first, skip, skip_blank, skip_ws};
 use toml_parser::{Key, ParseError, dotted_key, quoted, starts_string, unquoted};
 
-/// What is open round a value: an array, or a table in braces.
+/// An array or an inline table that is not closed yet.
 #[derive(Clone, Copy)]
 struct Open {
     number: usize,
     is_array: bool,
 }
 
-/// Why scanning ends early.
+/// The reason why scanning ends early.
 #[derive(Drop)]
 enum Ended {
     OutOfMemory,
-    /// The text is no document from here on.
+    /// The text is not TOML.
     NoDocument,
 }
 
@@ -48,11 +48,11 @@ struct Scanner<'t> {
     rest: &'t str,
     places: Places,
     open: Vec<Open>,
-    /// The table that keys at the beginning of a line belong to.
+    /// The table of the last header, to which keys at the beginning of a line belong.
     section: usize,
 }
 
-/// The places of a document. Of a text that is none, those in front of where it ceases to be one.
+/// The keys and values of a TOML text; those before the first error if it is not TOML.
 pub fn places_of(alloc: Global, text: &str) -> Result<Places, AllocError> {
     let mut scanner = Scanner {
         alloc,
@@ -73,12 +73,11 @@ pub fn places_of(alloc: Global, text: &str) -> Result<Places, AllocError> {
 }
 
 impl<'t> Scanner<'t> {
-    // The offset of what is left.
     fn at(&self) -> usize {
         self.length.saturating_sub(self.rest.len())
     }
 
-    // Goes on by a word of what is open, or by a header or a key; answers whether there was one.
+    // Reads the next token. Returns false at the end of the text.
     fn step(&mut self) -> Result<bool, Ended> {
         self.rest = skip_blank(self.rest, true);
         if self.rest.is_empty() {
@@ -91,7 +90,7 @@ impl<'t> Scanner<'t> {
         Ok(true)
     }
 
-    // A word inside of an array or of a table in braces.
+    // Reads a token in an array or an inline table.
     fn within(&mut self, open: Open) -> Result<(), Ended> {
         match first(self.rest) {
             b',' => self.rest = skip(self.rest, 1),
@@ -109,7 +108,7 @@ impl<'t> Scanner<'t> {
         Ok(())
     }
 
-    // A header, or a key with its value.
+    // Reads a header, or a key with its value.
     fn line(&mut self) -> Result<(), Ended> {
         if first(self.rest) != b'[' {
             return self.pair(self.section);
@@ -135,7 +134,7 @@ impl<'t> Scanner<'t> {
         Ok(())
     }
 
-    // A dotted key below a table: the table of its last part, and that part.
+    // Reads a dotted key. Returns the table of its last part, and that part.
     fn path(&mut self, table: usize) -> Result<(usize, String), Ended> {
         let at = self.at();
         let (key, rest) = dotted_key(self.alloc, skip_ws(self.rest))?;
@@ -148,7 +147,7 @@ impl<'t> Scanner<'t> {
         Ok((table, last))
     }
 
-    // A key with its value.
+    // Reads a key with its value.
     fn pair(&mut self, table: usize) -> Result<(), Ended> {
         let at = self.at();
         let (parent, last) = self.path(table)?;
@@ -162,7 +161,7 @@ impl<'t> Scanner<'t> {
         self.value(number)
     }
 
-    // A value, or the beginning of one.
+    // Reads a value; of an array or an inline table only the bracket.
     fn value(&mut self, number: usize) -> Result<(), Ended> {
         let byte = first(self.rest);
         if byte == b'[' || byte == b'{' {

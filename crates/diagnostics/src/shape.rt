@@ -1,6 +1,6 @@
-//! The keys that a plan has, and what stands behind each.
+//! The keys of a plan, and the kind of value that each has.
 
-/// What a value of a plan is, as far as its keys are concerned.
+/// The part of a plan that a value is.
 #[derive(Clone, Copy, PartialEq, Eq)]
 pub enum Shape {
     Plan,
@@ -15,14 +15,14 @@ pub enum Shape {
     Rules,
     Rule,
     Roles,
-    /// A value without keys of its own.
+    /// A value without keys.
     Plain,
-    /// The value of a key that nothing reads.
+    /// The value of an unknown key.
     UnusedKey,
 }
 
 impl Shape {
-    /// The keys of such a value.
+    /// The keys of this part.
     pub fn keys(self) -> &'static [&'static str] {
         match self {
             Shape::Plan => &["version", "fields", "tables", "roles"],
@@ -44,7 +44,7 @@ impl Shape {
         }
     }
 
-    /// The keys that such a value has beside them in a plan that keeps families.
+    /// The further keys of this part in a plan with families (version 3).
     pub fn family_keys(self) -> &'static [&'static str] {
         match self {
             Shape::Roles => &["family_deductible", "family_oop_max"],
@@ -52,12 +52,12 @@ impl Shape {
         }
     }
 
-    /// Whether such a value is a table with keys of a plan.
+    /// Whether this part is a table.
     pub fn has_keys(self) -> bool {
         !self.keys().is_empty()
     }
 
-    /// What stands behind a key of such a value.
+    /// The part that is the value of a known key of this one.
     pub fn key_shape(self, key: &str) -> Shape {
         match (self, key) {
             (Shape::Plan, "fields") => Shape::Fields,
@@ -70,7 +70,7 @@ impl Shape {
         }
     }
 
-    /// What an item of such an array is.
+    /// The part that is an item of this one, if this is an array.
     pub fn item(self) -> Shape {
         match self {
             Shape::Fields => Shape::Field,

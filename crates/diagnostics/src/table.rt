@@ -1,4 +1,4 @@
-//! What a fault of the tables means, and of which table and input.
+//! Explains a fault of the tables, with the place of the table and the input in the plan's text.
 
 use crate::message::Message;
 use crate::plan_node::{add_input_words, input_way};
@@ -7,7 +7,7 @@ use faults::Fault;
 use std::alloc::{AllocError, Global};
 use toml::Value;
 
-/// What a fault of the tables means, for a plan in a file of this name.
+/// Explains a fault of the tables, for a plan in a file of this name.
 pub fn explain_tables(
     alloc: Global,
     name: &str,
@@ -29,7 +29,6 @@ pub fn explain_tables(
     Ok(message)
 }
 
-// Where the table, or its input, stands in the plan's text, if that is a document.
 fn add_table(
     alloc: Global,
     message: &mut Message,

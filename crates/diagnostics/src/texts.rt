@@ -1,174 +1,329 @@
-//! The table of texts: what each refusal of a plan, of its values and of the program's surroundings means, and what to do. `docs/FAULTS.md` has the
-//! same texts.
+//! The texts of the explanations: for each fault of a plan, a cell, an argument, the tables or the system its cause and its fix.
+//! `scripts/faults` prints the list of all faults from them.
 
-use faults::{CellCause, Fault, PlanCause};
+use faults::{CellCause, Fault, PlanCause, PlanFault};
 
-/// What a refusal means, and what to do; nothing where the line says no more than its words do.
+/// The cause of an error, and how to fix it, each in whole sentences.
 #[derive(Clone, Copy, PartialEq, Eq)]
 pub struct Explanation {
     pub meaning: &'static str,
     pub remedy: &'static str,
 }
 
-/// A meaning, and what to do.
+/// A cause and its fix.
 pub fn cause_and_remedy(meaning: &'static str, remedy: &'static str) -> Explanation {
     Explanation { meaning, remedy }
 }
 
-/// The words of a plan's fault.
-pub fn plan_words(cause: PlanCause) -> Explanation {
-    match cause {
+/// The part of a plan that a fault is located at. Each arm of a `match` over them begins with the part that has the fault; those after it do not occur.
+#[derive(Clone, Copy, PartialEq, Eq)]
+pub enum Level {
+    Plan,
+    Field,
+    Table,
+    Column,
+    Rule,
+    Cell,
+}
+
+/// The part of the plan that the numbers of a fault name. A role counts as a field.
+pub fn level_of(fault: &PlanFault) -> Level {
+    match (fault.table, fault.rule, fault.column) {
+        (0, _, 0) => Level::Plan,
+        (0, _, _) => Level::Field,
+        (_, 0, 0) => Level::Table,
+        (_, 0, _) => Level::Column,
+        (_, _, 0) => Level::Rule,
+        _ => Level::Cell,
+    }
+}
+
+/// The explanation of a plan's fault.
+pub fn plan_words(fault: &PlanFault) -> Explanation {
+    match fault.cause {
         PlanCause::Toml => cause_and_remedy(
-            "the text is not UTF-8, or no TOML document; a key that stands twice is such a fault",
-            "let a TOML editor show the line",
+            "The plan is not a TOML document in UTF-8.",
+            "Correct the line; a table may have each key only once.",
         ),
-        PlanCause::Missing => cause_and_remedy(
-            "a required key isn't there: `version`; `name` or `kind`; `inputs`, `outputs` or `rules`; `when` or `then`",
-            "add the key",
-        ),
-        PlanCause::Unknown => cause_and_remedy(
-            "`version` is another integer than 1, 2 and 3; an input's name is no field, none of the names that every plan has, and no single value of an earlier table: misspelt, of a later table, of the same table, or a list",
-            "correct the name, or put the tables in another order",
-        ),
+        PlanCause::Missing => missing_words(level_of(fault)),
+        PlanCause::Unknown => unknown_words(level_of(fault)),
         PlanCause::Duplicate => cause_and_remedy(
-            "the name of a field or output is taken: by an earlier field or output, by a name that every plan has, or by a word of cells",
-            "choose another name",
+            "The name is already in use: by another field or output, by a built-in name, or by a word of cells.",
+            "Choose another name.",
         ),
-        PlanCause::Kind => cause_and_remedy(
-            "a TOML value of another type, such as a number where a string is wanted; a kind that isn't one of the four; a name of another form; empty `inputs` or `outputs`; a `when` with another number of cells than there are inputs, a `then` with another number of literals than there are outputs",
-            "write the string, the kind or the items that are wanted",
-        ),
+        PlanCause::Kind => kind_words(level_of(fault)),
         PlanCause::Hit => cause_and_remedy(
-            "a hit policy that isn't one of the eleven; more than one output under `C+`, `C<`, `C>` or `C#`; an output of another kind than number under the first three of these",
-            "correct `hit` or the outputs",
+            "The hit policy is unknown, or it does not fit the outputs of the table.",
+            "Use `U`, `A`, `P`, `F`, `O`, `R`, `C`, `C+`, `C<`, `C>` or `C#`. The last four take one output, and `C+`, `C<` and `C>` take an output of numbers.",
         ),
-        PlanCause::Priority => cause_and_remedy(
-            "no output of a table under `P` or `O` has a priority list; a value stands twice in one; a literal of `then` is not in its output's list",
-            "add the list, or correct it",
+        PlanCause::Priority => priority_words(level_of(fault)),
+        PlanCause::Role => role_words(fault.column),
+        PlanCause::Money => money_words(fault.column),
+        PlanCause::Limit => limit_words(level_of(fault)),
+        PlanCause::Cell(cell) => cell_words(cell.cause),
+        PlanCause::OutOfMemory => memory(),
+    }
+}
+
+// A required key that a part of a plan does not have.
+fn missing_words(level: Level) -> Explanation {
+    match level {
+        Level::Plan => cause_and_remedy(
+            "A plan must have the key `version`.",
+            "Add `version = 1`, or version 2 or 3.",
         ),
-        PlanCause::Role => cause_and_remedy(
-            "one of the first six roles is missing, or under version 3 one of the family's two; a role is no string; it is neither a literal of its kind nor the name of a single value of that kind; `remarks` names no text output under `R`, `O` or `C`",
-            "correct the role",
+        Level::Field => cause_and_remedy(
+            "A field must have the keys `name` and `kind`.",
+            "Add the key to the field.",
         ),
-        PlanCause::Money => cause_and_remedy(
-            "a literal `fee`, `deductible`, `copay`, `oop_max`, `family_deductible` or `family_oop_max` that is negative or has part of a cent; a literal `rate` below 0 or above 1",
-            "correct the amount or the rate",
+        Level::Table => cause_and_remedy(
+            "A table must have the keys `inputs`, `outputs` and `rules`.",
+            "Add the key to the table; `rules = []` is allowed.",
         ),
-        PlanCause::Limit => cause_and_remedy(
-            "the text, a name or an array is longer than its limit",
-            "make it shorter; split the table",
+        Level::Column => cause_and_remedy(
+            "An input must have the key `name`, and an output the keys `name` and `kind`.",
+            "Add the key to the input or the output.",
         ),
-        PlanCause::Cell(_) => cause_and_remedy(
-            "a cell or a literal can't be read: in `values`, `priority`, `default`, `when` or `then`",
-            "see the cause behind `cell`",
-        ),
-        PlanCause::OutOfMemory => cause_and_remedy(
-            "memory was refused; the program tells this as `no memory`",
-            "run again with more",
+        Level::Rule | Level::Cell => cause_and_remedy(
+            "A rule must have the keys `when` and `then`.",
+            "Add the key to the rule.",
         ),
     }
 }
 
-/// What a cell's fault is.
-pub fn cell_words(cause: CellCause) -> &'static str {
+// A version or an input's name that is not known.
+fn unknown_words(level: Level) -> Explanation {
+    match level {
+        Level::Plan | Level::Field => cause_and_remedy(
+            "The version of the plan is not supported.",
+            "Set `version` to 1, 2 or 3.",
+        ),
+        Level::Column | Level::Table | Level::Rule | Level::Cell => cause_and_remedy(
+            "An input must be a field, a built-in name, or a single-valued output of an earlier table.",
+            "Correct the name, or move the table with that output before this one. The list of a table under `R`, `O` or `C` cannot be an input.",
+        ),
+    }
+}
+
+// A value of another type, form or length than the part of the plan must have.
+fn kind_words(level: Level) -> Explanation {
+    match level {
+        Level::Plan => cause_and_remedy(
+            "`version` must be an integer, `fields` and `tables` must be arrays of tables, and `roles` must be a table.",
+            "Correct the type of the key.",
+        ),
+        Level::Field => cause_and_remedy(
+            "A field must be a table of two strings: a name of ASCII letters, digits and `_` that does not begin with a digit, and one of the four kinds.",
+            "Write the field as {name = \"age\", kind = \"number\"}.",
+        ),
+        Level::Table => cause_and_remedy(
+            "`hit` of a table must be a string, `inputs`, `outputs` and `rules` must be arrays, and `inputs` and `outputs` must not be empty.",
+            "Correct the type of the key, or add an input or an output.",
+        ),
+        Level::Column => cause_and_remedy(
+            "An input or an output must be a table of strings, of which `priority` alone is an array: its name consists of ASCII letters, digits and `_` and does not begin with a digit, and its kind is one of the four.",
+            "Write an input as {name = \"age\"} and an output as {name = \"fee\", kind = \"number\"}.",
+        ),
+        Level::Rule => cause_and_remedy(
+            "A rule must have in `when` one cell for each input, and in `then` one literal for each output.",
+            "Add or remove cells or literals; `-` is the cell for any value.",
+        ),
+        Level::Cell => cause_and_remedy(
+            "Cells and literals must be strings.",
+            "Put quotes round the cell or the literal, also round a number.",
+        ),
+    }
+}
+
+// A priority list that is missing or wrong.
+fn priority_words(level: Level) -> Explanation {
+    match level {
+        Level::Table | Level::Plan | Level::Field => cause_and_remedy(
+            "A table under `P` or `O` must have a `priority` list at one of its outputs.",
+            "Add `priority` to an output, with the highest value first.",
+        ),
+        Level::Column => cause_and_remedy(
+            "The `priority` list has a value twice.",
+            "Remove the second one.",
+        ),
+        Level::Cell | Level::Rule => cause_and_remedy(
+            "The literal is not in the `priority` list of its output.",
+            "Correct the literal, or add it to the list.",
+        ),
+    }
+}
+
+// A role that is missing, or that has the wrong kind of value.
+fn role_words(number: usize) -> Explanation {
+    match number {
+        1 => cause_and_remedy(
+            "The role `cover` must be \"true\", \"false\", or the name of a flag with a single value.",
+            "Correct the role, or add it.",
+        ),
+        7 => cause_and_remedy(
+            "The role `remarks` must be the name of a text output of a table under `R`, `O` or `C`.",
+            "Correct the role, or remove it.",
+        ),
+        _ => cause_and_remedy(
+            "The role must be a number, or the name of a number with a single value.",
+            "Correct the role, or add it. Each role but `remarks` is required; the two of the family are required under version 3.",
+        ),
+    }
+}
+
+// A literal of a role that is out of the role's range.
+fn money_words(number: usize) -> Explanation {
+    match number {
+        5 => cause_and_remedy(
+            "The role `rate` must be from 0 to 1.",
+            "Write the member's share as a fraction: 0.2 for 20 %.",
+        ),
+        _ => cause_and_remedy(
+            "An amount of money must not be negative, and must not have a fraction of a cent.",
+            "Correct the amount: 50 or 49.95, for example.",
+        ),
+    }
+}
+
+// A text, a name or an array over its limit.
+fn limit_words(level: Level) -> Explanation {
+    match level {
+        Level::Plan => cause_and_remedy(
+            "The plan is larger than 1,048,576 bytes.",
+            "Shorten the plan.",
+        ),
+        Level::Field => cause_and_remedy(
+            "A field's name must not be longer than 64 bytes, and a plan must not have more than 32 fields.",
+            "Shorten the name, or remove fields.",
+        ),
+        Level::Table => cause_and_remedy(
+            "A plan must not have more than 32 tables.",
+            "Combine tables, or remove some.",
+        ),
+        Level::Column => cause_and_remedy(
+            "A name must not be longer than 64 bytes. A table must not have more than 16 inputs or 16 outputs, nor a `priority` list more than 64 values.",
+            "Shorten the name or the list, or split the table.",
+        ),
+        Level::Rule | Level::Cell => cause_and_remedy(
+            "A table must not have more than 256 rules.",
+            "Split the table.",
+        ),
+    }
+}
+
+/// The explanation of a cell or a literal that cannot be read. Its fix is a general one; `cell_hints.rt` has those for particular mistakes.
+pub fn cell_words(cause: CellCause) -> Explanation {
     match cause {
-        CellCause::Token =>
-            "bytes that begin no part of a cell; a part that can't stand here; an end too early; a string without its end",
-        CellCause::Literal =>
-            "a number with more than four decimals that count, or beyond the number range; a text over its limit",
-        CellCause::WrongKind =>
-            "a literal of another kind than the column's; a comparison or an interval in a text or flag column",
-        CellCause::BadEscape =>
-            "a backslash in a string with another byte than `\"` or `\\` behind it",
-        CellCause::BadDate =>
-            "a date that isn't ten bytes `YYYY-MM-DD`, or that the calendar doesn't have",
-        CellCause::TooMany => "more tests than a cell may have",
-        CellCause::Trailing =>
-            "something behind a whole cell or literal: behind a dash, behind `not(..)`, or behind a test with no comma",
-        CellCause::OutOfMemory => "memory was refused; the program tells this as `no memory`",
+        CellCause::Token => cause_and_remedy(
+            "The text has a character or a word that is not allowed at this byte, or it ends too early.",
+            "Correct the text at the mark.",
+        ),
+        CellCause::Literal => cause_and_remedy(
+            "The number has more than four significant decimals or is out of range, or the text is longer than 256 bytes.",
+            "Round the number to four decimals, or shorten the text.",
+        ),
+        CellCause::WrongKind => cause_and_remedy(
+            "The literal has another kind than the column, or a column of texts or flags has a comparison or an interval.",
+            "Write a literal of the column's kind.",
+        ),
+        CellCause::BadEscape => cause_and_remedy(
+            "A backslash in a text must be followed by `\"` or by another backslash.",
+            "Write two backslashes for one.",
+        ),
+        CellCause::BadDate => cause_and_remedy(
+            "The date does not have the form YYYY-MM-DD, or the calendar has no such day.",
+            "Write a day of the calendar with four, two and two digits.",
+        ),
+        CellCause::TooMany => cause_and_remedy(
+            "The cell has more than 64 tests.",
+            "Divide the tests among several rules.",
+        ),
+        CellCause::Trailing => cause_and_remedy(
+            "The cell or the literal is complete before the end of the text.",
+            "Remove the text from the mark on.",
+        ),
+        CellCause::OutOfMemory => memory(),
     }
 }
 
-/// The words of an argument's fault, by its number.
+/// The explanation of an argument's fault, by its number.
 pub fn argument_words(number: u8) -> Explanation {
     match number {
-        1 => cause_and_remedy("the argument has no `=`", "write `NAME=LITERAL`"),
-        2 => cause_and_remedy(
-            "the name is none of those that the plan's tables may read from outside: another word, or an output",
-            "correct the name, or leave the argument out",
+        1 => cause_and_remedy(
+            "The argument has no `=`.",
+            "Write the argument as NAME=LITERAL.",
         ),
-        3 => cause_and_remedy("an argument before gave this name", "give it once"),
+        2 => cause_and_remedy(
+            "The name is not an input of this plan; outputs cannot be set.",
+            "Correct the name, or remove the argument.",
+        ),
+        3 => cause_and_remedy(
+            "An earlier argument has given a value for this name.",
+            "Give each name once.",
+        ),
         _ => cause_and_remedy(
-            "the literal can't be read, for the cause K below, at its byte B, counted from behind the first `=`",
-            "correct the literal; mind that the shell takes a pair of quotes away",
+            "The literal of the argument cannot be read.",
+            "Correct the literal at the mark. The shell removes a pair of quotes: write 'code=\"A\"' for the text A.",
         ),
     }
 }
 
-/// The words of a fault of the tables.
+/// The explanation of a fault of the tables.
 pub fn tables_words(fault: &Fault) -> Explanation {
     match fault {
         Fault::Outside { .. } => cause_and_remedy(
-            "the value of column C of table T is none of the column's allowed values (`values`)",
-            "give an allowed value, or allow this one",
+            "The value of the input is not one of its allowed values (`values`).",
+            "Give an allowed value, or add this one to `values`.",
         ),
         Fault::NoRule { .. } => cause_and_remedy(
-            "no rule of table T matches, and some output has no default",
-            "give other values, or add a rule or defaults",
+            "No rule of the table matches, and an output of it has no default.",
+            "Add a rule for these values, or a default for each output.",
         ),
         Fault::Clash { .. } => cause_and_remedy(
-            "rules of table T that match can't stand together: two or more under `U`, or matches with different entries under `A`",
-            "make the rules apart, or choose another hit policy",
+            "The matching rules violate the hit policy of the table: two or more match under `U`, or their outputs differ under `A`.",
+            "Make the rules disjoint, or choose another hit policy.",
         ),
         Fault::Range { .. } => cause_and_remedy(
-            "the number that table T makes of its matches lies beyond the number range",
-            "make its entries smaller",
+            "The number that the table makes of its matching rules is out of range.",
+            "Make the outputs of the rules smaller.",
         ),
         Fault::OutOfMemory => memory(),
     }
 }
 
-/// The words of the lines that no text gives: a missing value, and what is wanting of files, streams, memory and threads. They are known by the
-/// line's first words.
+/// The explanation of a printed error line that is about a missing value or a failure of the system. The beginning of the line decides.
 pub fn resource_words(line: &str) -> Option<Explanation> {
     let words = match line {
         _ if line.starts_with("missing ") => cause_and_remedy(
-            "a table reads this name and no argument gives it",
-            "give it",
+            "A table reads this name, and no argument gives a value for it.",
+            "Add the argument NAME=LITERAL.",
         ),
         _ if line.starts_with("run fault 3") => cause_and_remedy(
-            "`run`: a thread can't be started, one that reads a file or a worker",
-            "run again with fewer workers, or when fewer threads are at work",
+            "The system cannot start another thread.",
+            "Use fewer workers, or run again when fewer threads are active.",
         ),
         _ if line.starts_with("write fault at ") => cause_and_remedy(
-            "standard output, or the file beside that of `--output`, took the first W bytes of the text and then failed: a full device, a closed pipe",
-            "run again into something that takes it",
+            "The output failed after it had taken the given number of bytes: the device is full, for example, or the pipe is closed.",
+            "Free space or reconnect the output, then run again.",
         ),
         _ if line.starts_with("cannot write output") => cause_and_remedy(
-            "the file of `--output` can't be made or put in place: its folder is missing or not to be written, or it is a folder or a device; what stood there before stands there still",
-            "give a file that can be written",
-        ),
-        _ if line.starts_with("cannot read plan") => cause_and_remedy(
-            "the plan file is missing, is a folder, or can't be read",
-            "give a file that can be read",
+            "The file of `--output` cannot be created or replaced. An existing file is unchanged.",
+            "Name a file in an existing folder that you may write to; it must not be a folder or a device.",
         ),
         _ if line.starts_with("cannot read ") => cause_and_remedy(
-            "the file is missing, is a folder, or can't be read",
-            "give a file that can be read",
+            "The file cannot be read.",
+            "Name an existing file that you may read; it must not be a folder.",
         ),
-        _ if line.starts_with("no memory") => cause_and_remedy(
-            "memory was refused, wherever that was, also in a thread of a run",
-            "run again with more",
-        ),
+        _ if line.starts_with("no memory") => memory(),
         _ => return None,
     };
     Some(words)
 }
 
-/// The words of a refusal that the program tells otherwise: as want of memory.
+/// The explanation of running out of memory. The program prints `no memory` for it, whatever the fault is that has this cause.
 pub fn memory() -> Explanation {
     cause_and_remedy(
-        "memory was refused; the program tells this as `no memory`",
-        "run again with more",
+        "The system is out of memory.",
+        "Free memory or raise the limit on it, then run again.",
     )
 }

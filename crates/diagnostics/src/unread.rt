@@ -1,4 +1,4 @@
-//! The keys of a plan's text that nothing reads.
+//! Finds the unknown keys of a plan's text.
 
 use crate::edits::is_one_edit;
 use crate::places::{Node, Places};
@@ -8,17 +8,17 @@ use crate::shape::Shape;
 use std::alloc::{AllocError, Global};
 use toml::Value;
 
-/// A key that nothing reads.
+/// An unknown key.
 #[derive(Drop)]
 pub struct UnusedKey {
-    /// Where it stands first.
+    /// The place of its first occurrence.
     pub position: Position,
     pub key: String,
-    /// The key of a plan that is one edit away from it, if there is one.
+    /// A known key of the same table that is one edit away, if there is one.
     pub near: Option<&'static str>,
 }
 
-/// The keys of a plan's text that nothing reads, in their order; what stands below one is not told again.
+/// The unknown keys of a plan's text in the order of the text, without the keys inside the value of an unknown key.
 pub fn unread_keys(alloc: Global, text: &str) -> Result<Vec<UnusedKey>, AllocError> {
     let places = places_of(alloc, text)?;
     let families = keeps_families(alloc, text);
@@ -44,7 +44,7 @@ pub fn unread_keys(alloc: Global, text: &str) -> Result<Vec<UnusedKey>, AllocErr
     Ok(unread)
 }
 
-// What a value is, in a table or an array of this shape; the document stands in none.
+// The document itself is in no table.
 fn shape_of(node: &Node, within: Option<Shape>, families: bool) -> Shape {
     match (within, &node.key) {
         (None, _) => Shape::Plan,
@@ -60,7 +60,6 @@ fn shape_of(node: &Node, within: Option<Shape>, families: bool) -> Shape {
     }
 }
 
-// The key of such a table that is one edit away.
 fn nearest_key(key: &str, within: Shape, families: bool) -> Option<&'static str> {
     match near_of(key, within.keys()) {
         None if families => near_of(key, within.family_keys()),
@@ -77,7 +76,7 @@ fn near_of(key: &str, keys: &[&'static str]) -> Option<&'static str> {
     None
 }
 
-// Whether the plan is of the version that keeps families: it alone has keys for the family's limits.
+// Only version 3 of a plan has the keys of the family's limits.
 fn keeps_families(alloc: Global, text: &str) -> bool {
     match toml::table_from_slice(alloc, text.as_bytes()) {
         Ok(members) => Value::Table(members)

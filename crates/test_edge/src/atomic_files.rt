@@ -1,4 +1,4 @@
-//! A text that takes the place of another, over a place in memory.
+//! Tests of atomic replacement, with a place in memory.
 use crate::ending::{expects, fail};
 use console::{AtomicTarget, finish};
 use std::alloc::Global;
@@ -6,7 +6,6 @@ use std::io;
 use std::io::Write;
 use std::process::Abort;
 
-// A place in memory.
 #[derive(Drop)]
 struct Shelf {
     current: Vec<u8>,
@@ -35,7 +34,6 @@ impl AtomicTarget for Shelf {
     fn discard(&mut self, _text: Vec<u8>) {}
 }
 
-// A shelf with an old text.
 fn shelf_of(rt: &impl Abort, alloc: Global, is_broken: bool) -> Shelf {
     match b"old".to_vec(alloc) {
         Ok(current) => Shelf { current, is_broken },
@@ -43,7 +41,6 @@ fn shelf_of(rt: &impl Abort, alloc: Global, is_broken: bool) -> Shelf {
     }
 }
 
-// A new text for a shelf.
 fn text_for(rt: &impl Abort, shelf: &mut Shelf) -> Vec<u8> {
     match shelf.begin() {
         Ok(mut text) => {
@@ -54,7 +51,7 @@ fn text_for(rt: &impl Abort, shelf: &mut Shelf) -> Vec<u8> {
     }
 }
 
-// Whether this stands on a shelf after a new text was written, whole or not, and finished, well or not.
+// Whether a shelf has this text after a new text, complete or not, was finished with or without success.
 fn check_commit(
     rt: &impl Abort,
     alloc: Global,

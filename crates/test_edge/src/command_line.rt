@@ -1,4 +1,4 @@
-//! The command line, and the texts that it names.
+//! Tests of the command line, and of reading the texts that it names.
 use crate::ending::{expects, fail};
 use clap::error::ErrorKind;
 use clap::{ArgMatches, Error};
@@ -25,7 +25,6 @@ impl<'a> Sources for OneText<'a> {
     }
 }
 
-// The words of a run with so many workers.
 fn words_with(alloc: Global, workers: &str) -> Result<Vec<String>, AllocError> {
     let mut words = Vec::new(alloc);
     for word in [
@@ -42,7 +41,6 @@ fn words_with(alloc: Global, workers: &str) -> Result<Vec<String>, AllocError> {
     Ok(words)
 }
 
-// The kind of a command line's fault, if it has one.
 fn kind_of(matched: Result<ArgMatches<'_>, Error>) -> Option<ErrorKind> {
     match matched {
         Ok(_) => None,
@@ -50,7 +48,7 @@ fn kind_of(matched: Result<ArgMatches<'_>, Error>) -> Option<ErrorKind> {
     }
 }
 
-// The kind of fault of a run with so many workers, of which at most three may be; none where it may be.
+// The error of a run with this number of workers under a limit of three.
 fn fault_of(rt: &impl Abort, alloc: Global, workers: &str) -> Option<ErrorKind> {
     match words_with(alloc, workers) {
         Ok(words) => kind_of(matches_of(alloc, words.as_slice(), 3)),
@@ -75,7 +73,7 @@ fn is_text(read: Result<Vec<u8>, ReadFault>, wanted: &[u8]) -> bool {
     }
 }
 
-// Whether of a text of five bytes these are read under a limit.
+// Whether these bytes of a text of five bytes are read under a limit.
 fn is_read(alloc: Global, limit: usize, wanted: &[u8]) -> bool {
     let sources = OneText { text: b"12345" };
     is_text(read_text(alloc, &sources, "one", limit), wanted)

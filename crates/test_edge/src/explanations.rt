@@ -1,4 +1,4 @@
-//! Explanations of refusals by worked examples.
+//! Tests of the explanations of errors.
 use crate::ending::{expects, fail};
 use diagnostics::{
     FileKind, Message, explain_file, explain_literal, explain_plan, explain_record, explain_tables,
@@ -19,7 +19,6 @@ rules = [
 "
 }
 
-// Ends the test where a page isn't this text.
 fn expects_message(rt: &impl Abort, message: Result<Message, AllocError>, wanted: &str) {
     match message {
         Ok(message) => expects(rt, message.as_str() == wanted, wanted),
@@ -48,9 +47,8 @@ fn cell_is_marked_at_its_place(rt: HostRuntime) {
   table 1, rule 1, input 1 age
       [1..\\t5
              ^
-  bytes that begin no part of a cell; a part that can't stand here; an end too early; a string without its end
-  It means: a cell or a literal can't be read: in `values`, `priority`, `default`, `when` or `then`
-  What to do: see the cause behind `cell`
+  Cause: The text has a character or a word that is not allowed at this byte, or it ends too early.
+  Fix: Write `-` for any value, or tests that are separated by commas, such as 5, <10 or [1..3], or not(..) of such tests.
 ";
     expects_message(&rt, message, wanted);
 }
@@ -62,9 +60,8 @@ fn control_character_of_a_cell_is_not_shown(rt: HostRuntime) {
   table 1, rule 2, input 1 age
       [1..\u{fffd}5
             ^
-  bytes that begin no part of a cell; a part that can't stand here; an end too early; a string without its end
-  It means: a cell or a literal can't be read: in `values`, `priority`, `default`, `when` or `then`
-  What to do: see the cause behind `cell`
+  Cause: The text has a character or a word that is not allowed at this byte, or it ends too early.
+  Fix: Write `-` for any value, or tests that are separated by commas, such as 5, <10 or [1..3], or not(..) of such tests.
 ";
     expects_message(&rt, message, wanted);
 }
@@ -80,8 +77,8 @@ fn text_that_is_no_toml_has_its_own_message(rt: HostRuntime) {
     let message = explain_plan(rt.alloc(), "-", b"version = 1\nfields!= 1\n", &fault);
     let wanted = "  -, line 2, column 7
   key with no value, expected `=`
-  It means: the text is not UTF-8, or no TOML document; a key that stands twice is such a fault
-  What to do: let a TOML editor show the line
+  Cause: The plan is not a TOML document in UTF-8.
+  Fix: Correct the line; a table may have each key only once.
 ";
     expects_message(&rt, message, wanted);
 }
@@ -95,8 +92,8 @@ fn value_that_is_not_allowed_has_its_input(rt: HostRuntime) {
     let message = explain_tables(rt.alloc(), "plan.toml", plan(), &fault);
     let wanted = "  plan.toml, line 4, column 11
   table 1, input 1 age
-  It means: the value of column C of table T is none of the column's allowed values (`values`)
-  What to do: give an allowed value, or allow this one
+  Cause: The value of the input is not one of its allowed values (`values`).
+  Fix: Give an allowed value, or add this one to `values`.
 ";
     expects_message(&rt, message, wanted);
 }
@@ -112,9 +109,9 @@ fn missing_column_is_named(rt: HostRuntime) {
         FileFault::MissingColumn,
     );
     let wanted = "  a.csv
-  the header has no column age
-  It means: the header lacks a column that is needed: `claim`, `member`, `service`, `billed` and the plan's fields; of balances `member`, `met`, `oop`, `paid`, and from version 2 on `year`; of both under version 3 `family`
-  What to do: add the column
+  The header has no column `age`.
+  Cause: The header does not have all required columns.
+  Fix: Add the column, or correct its name: upper and lower case differ, and the separator is a comma.
 ";
     expects_message(&rt, message, wanted);
 }
@@ -127,10 +124,9 @@ fn column_of_a_record_is_named(rt: HostRuntime) {
     };
     let header = b"member,met,oop,paid\n";
     let message = explain_record(rt.alloc(), "b.csv", header, 2, &fault);
-    let wanted = "  b.csv, record 2 behind the header, column oop
-  an amount has part of a cent
-  It means: `run`: record R of the balances, behind the header, is refused for the cause C below, at column K of the header
-  What to do: correct that record
+    let wanted = "  b.csv, record 2 after the header, column oop
+  Cause: An amount has a fraction of a cent.
+  Fix: Round the amount to cents.
 ";
     expects_message(&rt, message, wanted);
 }
@@ -144,14 +140,13 @@ fn literal_is_marked(rt: HostRuntime) {
     let message = explain_literal(rt.alloc(), "x=1.23451", &fault);
     let wanted = "      x=1.23451
         ^
-  a number with more than four decimals that count, or beyond the number range; a text over its limit
-  It means: the literal can't be read, for the cause K below, at its byte B, counted from behind the first `=`
-  What to do: correct the literal; mind that the shell takes a pair of quotes away
+  Cause: The number has more than four significant decimals or is out of range, or the text is longer than 256 bytes.
+  Fix: Correct the literal at the mark. The shell removes a pair of quotes: write 'code=\"A\"' for the text A.
 ";
     expects_message(&rt, message, wanted);
 }
 
-// A plan with a fault of each kind that is told in more words.
+// A plan with faults for which the explanation has a hint.
 fn faulty_plan() -> &'static str {
     "roles = {fee = 'charge', rate = 2, copays = '1'}
 fields = [{name = 'code', kind = 'text'}, {name = 'cost', kind = 'number'}]
@@ -159,7 +154,7 @@ tables = [{input = [], outputs = [{name = 'a', kind = 'integer'}], rules = [{whe
 "
 }
 
-// Ends the test where the page of this fault, of the plan as a whole or of its first table, doesn't tell this.
+// Ends the test if the explanation of this fault does not contain this text.
 fn expects_text(
     rt: &impl Abort,
     alloc: Global,
@@ -184,11 +179,12 @@ fn expects_text(
 #[test]
 fn what_is_wrong_is_explained(rt: HostRuntime) {
     let alloc = rt.alloc();
-    let charge = "`charge` is no number, nor the name of one; the plan's own are: cost";
+    let charge =
+        "`charge` is neither a number nor the name of one. The plan has the following numbers: cost";
     expects_text(&rt, alloc, 0, 0, 2, PlanCause::Role, charge);
-    let rate = "`rate` is no string: a literal stands in quotes too, as \"50\"";
+    let rate = "The role `rate` must be a string: put quotes round a number, too, as in \"50\".";
     expects_text(&rt, alloc, 0, 0, 5, PlanCause::Role, rate);
-    let copay = "`copay` isn't there, but `copays` is";
+    let copay = "The key `copay` is missing; the key `copays` may be a misspelling of it.";
     expects_text(&rt, alloc, 0, 0, 4, PlanCause::Role, copay);
     expects_text(
         &rt,
@@ -197,12 +193,12 @@ fn what_is_wrong_is_explained(rt: HostRuntime) {
         0,
         0,
         PlanCause::Missing,
-        "`version` isn't there",
+        "The key `version` is missing.",
     );
-    let inputs = "`inputs` isn't there, but `input` is";
+    let inputs = "The key `inputs` is missing; the key `input` may be a misspelling of it.";
     expects_text(&rt, alloc, 1, 0, 0, PlanCause::Missing, inputs);
-    let when = "`when` has 1, and the table has 0 inputs";
+    let when = "The number of cells in `when` is 1, and the number of inputs is 0.";
     expects_text(&rt, alloc, 1, 1, 0, PlanCause::Kind, when);
-    let kind = "`integer` is none of `number`, `text`, `flag` and `day`";
+    let kind = "`integer` is not a kind; the kinds are `number`, `text`, `flag` and `day`.";
     expects_text(&rt, alloc, 1, 0, 1, PlanCause::Kind, kind);
 }

@@ -1,4 +1,4 @@
-//! Tests by worked examples of `diagnostics`, `console` and `summary`. They stand apart from these, since the tests of a crate are
+//! Tests of the crates around the commands: `diagnostics`, `console` and `summary`. They have a crate of their own, since the tests of a crate are
 //! proved together with all of its code.
 #![tactic(auto)]
 

@@ -1,4 +1,4 @@
-//! Where things stand in a plan's text.
+//! Tests of places in a plan's text, and of unknown keys.
 use crate::ending::{expects, fail};
 use diagnostics::{
     Places, Position, Step, UnusedKey, is_one_edit, places_of, position_of, unread_keys,
@@ -22,7 +22,7 @@ remark = 'y'
 "
 }
 
-// Ends the test where the value that the steps lead to stands elsewhere.
+// Ends the test if the value at the end of the steps has another place.
 fn expects_at(rt: &impl Abort, places: &Places, steps: &[Step], line: usize, column: usize) {
     let found = position_of(plan().as_bytes(), places.nearest_node(steps));
     expects(
@@ -58,7 +58,7 @@ fn values_are_found_at_their_places(rt: HostRuntime) {
     }
 }
 
-// Ends the test where another key stands at this place of a list, or on another line, or another key is near it.
+// Ends the test if the list does not have this unknown key at this index, on this line, with this known key near it.
 fn expects_unread(
     rt: &impl Abort,
     unread: &[UnusedKey],
@@ -92,7 +92,7 @@ fn unread_keys_are_reported(rt: HostRuntime) {
     }
 }
 
-// Ends the test where it isn't so, either way round, that one edit makes the one word of the other.
+// Tests the words in both orders.
 fn expects_one_edit(rt: &impl Abort, one: &str, other: &str, wanted: bool) {
     let (one, other) = (one.as_bytes(), other.as_bytes());
     let is_so = is_one_edit(one, other) == wanted && is_one_edit(other, one) == wanted;
@@ -111,6 +111,6 @@ fn one_edit_is_reported_from_none_and_two(rt: HostRuntime) {
     expects_one_edit(&rt, "hit", "hot!", false);
     expects_one_edit(&rt, "hit", "", false);
     expects_one_edit(&rt, "hit", "tih", false);
-    // Here the first two bytes stand the other way round as well, and only the first one is too many.
+    // Swapping the first two bytes does not help here; removing the first one does.
     expects_one_edit(&rt, "aba", "ba", true);
 }

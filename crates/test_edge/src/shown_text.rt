@@ -1,9 +1,9 @@
-//! A text of others as it is shown.
+//! Tests of replacing control characters.
 use crate::ending::{expects, fail};
 use diagnostics::push_printable;
 use std::alloc::{AllocError, Global};
 
-// A text as it is shown behind another.
+// The replacement is appended to the given text.
 fn shown_behind(alloc: Global, front: &str, text: &str) -> Result<String, AllocError> {
     let mut shown = String::from_str(alloc, front)?;
     push_printable(&mut shown, text)?;

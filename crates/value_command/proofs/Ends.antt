@@ -1,4 +1,4 @@
--- How a command of the program ends, from what the library answered.
+-- The exit status of a command from the library's result.
 use Rattle.std.proofs.Common.{◌≡◌, ◌≢◌, ◌⊎◌, inl, inr, ℕ, List, [], ◌++◌, Option, None, Some, Result, Ok, Err, IfErr, OnErr, OnOk, MatchResult, ◌∙◌, ap, sym, subst}
 use Rattle.std.proofs.KnownBytes.{Keeps-trans}
 use Rattle.std.proofs.lemmas.Option.{same_Some}
@@ -7,28 +7,28 @@ use Rattle.evaluation.specs.Stop.{WritesText}
 use Rattle.value_command.specs.Ends.{HasText, IsStatusOf, PutsText}
 use Rattle.console.specs.AtomicTarget.{BeginsEmpty, Becomes}
 
--- what is done has written a text
+-- a success has written a text
 pub ends_done : {E : Type 0} (IsText : List ℕ → Type 0) (old new : Option (List ℕ)) (answer : Result (Unit {0}) E) (status : ℕ) → OnOk answer (WritesText IsText old new)
     → OnErr answer (status ≢ 0) → status ≡ 0 → HasText IsText
 ends_done IsText old new (Ok done) status writes refused is_done = record { text = writes.text; is_text = writes.is_text }
 ends_done IsText old new (Err s) status writes refused is_done = absurd (refused is_done)
 
--- any other status is that of a refusal
+-- any other status is that of an error
 pub ends_refused : {S : Type 0} (status_of : S → ℕ) (IsReason : S → Type 0) (answer : Result (Unit {0}) S) (status : ℕ) → IfErr answer IsReason → OnOk answer (status ≡ 0)
     → IfErr answer (λ s. status ≡ status_of s) → status ≢ 0 → IsStatusOf status_of IsReason status
 ends_refused status_of IsReason (Ok done) status reason done_is refused_is not_done = absurd (not_done done_is)
 ends_refused status_of IsReason (Err s) status reason done_is refused_is not_done = record { stop = s; reason = reason; is_status = refused_is }
 
--- what is kept twice is kept
+-- keeping a text twice keeps it
 pub kept_twice : (first second third : Option (List ℕ)) → Keeps first second → Keeps second third → Keeps first third
 kept_twice = Keeps-trans
 
--- want of a resource can end any command
+-- a failure of the system can end any command
 pub resource_refused : {S : Type 0} (status_of : S → ℕ) (IsReason : S → Type 0) (resource : S) → status_of resource ≡ 3 → IsReason resource → (status : ℕ) → status ≡ 3
     → IsStatusOf status_of IsReason status
 resource_refused status_of IsReason resource is_three reason status is_status = record { stop = resource; reason = reason; is_status = is_status ∙ sym is_three }
 
--- what is written beside a place and put into it stands there
+-- a new text that is written and then put into the place is the place's text
 put_text : (IsText : List ℕ → Type 0) (first second third before after : Option (List ℕ)) → BeginsEmpty first before → Keeps first second
     → WritesText IsText before after → Becomes second third after → PutsText IsText first third
 put_text IsText None second third before after empty kept writes becomes = record { text = writes.text; is_text = writes.is_text }
@@ -39,7 +39,7 @@ put_text IsText (Some xs) (Some ys) third (Some bs) (Some cs) empty kept writes 
     let none : bs ≡ [] = same_Some bs [] empty in
     (writes.text, writes.is_text, becomes ∙ ap Some (writes.appended ∙ ap (λ front. front ++ writes.text) none))
 
--- a command that ends with 0 has put its text into the place
+-- a command that exits with 0 has put its text into the place
 pub placed_done : {E : Type 0} (IsText : List ℕ → Type 0) (first second third before after : Option (List ℕ)) (answer : Result (Unit {0}) E) (status : ℕ)
     → BeginsEmpty first before → Keeps first second → OnOk answer (WritesText IsText before after) → OnErr answer (status ≢ 0)
     → (status ≡ 0 → Becomes second third after) → status ≡ 0 → PutsText IsText first third
@@ -47,7 +47,7 @@ placed_done IsText first second third before after (Ok done) status empty kept w
     put_text IsText first second third before after empty kept writes (becomes is_done)
 placed_done IsText first second third before after (Err s) status empty kept writes refused becomes is_done = absurd (refused is_done)
 
--- one that ends with another status is refused, or its text can't be put there
+-- a command that exits with another status had an error, or its text cannot be put into the place
 pub placed_refused : {S : Type 0} (status_of : S → ℕ) (IsReason : S → Type 0) (resource : S) → status_of resource ≡ 3 → IsReason resource
     → (answer : Result (Unit {0}) S) (status : ℕ) → IfErr answer IsReason
     → MatchResult answer (λ _. (status ≡ 0) ⊎ (status ≡ 3)) (λ s. status ≡ status_of s) → status ≢ 0 → IsStatusOf status_of IsReason status
@@ -57,7 +57,7 @@ placed_refused status_of IsReason resource is_three memory (Ok done) status reas
 ]
 placed_refused status_of IsReason resource is_three memory (Err s) status reason reported not_done = record { stop = s; reason = reason; is_status = reported }
 
--- the same where the text's writer went through a counting one and came back
+-- the place has the text of a writer that was inside a counting writer
 pub placed_through : {W E : Type 0} (contents : W → Option (List ℕ)) (IsText : List ℕ → Type 0) (first second third : Option (List ℕ)) (begun held gone exit_status_of : W)
     (answer : Result (Unit {0}) E) (status : ℕ) → Keeps first second → OnOk answer (WritesText IsText (contents held) (contents gone)) → OnErr answer (status ≢ 0)
     → (status ≡ 0 → Becomes second third (contents exit_status_of)) → held ≡ begun → exit_status_of ≡ gone → BeginsEmpty first (contents begun) → status ≡ 0 → PutsText IsText first third
@@ -65,12 +65,12 @@ placed_through contents IsText first second third begun held gone exit_status_of
     placed_done IsText first second third (contents held) (contents gone) answer status (subst (λ w. BeginsEmpty first (contents w)) (sym same_begun) empty) kept writes refused
     (λ done. subst (λ w. Becomes second third (contents w)) same_gone (becomes done)) is_done
 
--- a text that was put into a place is one that the command may print
+-- a text that was put into a place meets the definition of the command's output
 pub put_is_text : (IsText : List ℕ → Type 0) (first third : Option (List ℕ)) → PutsText IsText first third → HasText IsText
 put_is_text IsText None third put = put
 put_is_text IsText (Some old) third (text, is_text, current) = record { text = text; is_text = is_text }
 
--- where the words that are given are those that are named, what may be printed by the former may be by the latter
+-- equal words have the same output texts
 pub text_by_words : (IsText : List (List ℕ) → List ℕ → Type 0) (given named : List (List ℕ)) (status : ℕ) → given ≡ named → (status ≡ 0 → HasText (IsText given)) → status ≡ 0
     → HasText (IsText named)
 text_by_words IsText given named status same done is_done = subst (λ words. HasText (IsText words)) same (done is_done)

@@ -1,17 +1,17 @@
--- The words of a command, as they were matched.
+-- The values of a parsed command line.
 use Rattle.std.specs.Prelude.{◌≡◌, ℕ, List, [], Option, Some, option_map, unwrap_or}
 use Rattle.clap.specs.Words.{found_of, first_value, matched_of, raw_values, rows_of, subcommand_name_of, subcommand_rows_of}
 use Rattle.clap.specs.declared.parser.matches.ArgMatches.{ArgMatches}
 
--- the word behind a name, if there is one
+-- the value of an argument, if it has one
 abbrev pub word_at : ArgMatches → List ℕ → Option (List ℕ)
 word_at matches name = first_value (found_of matches) name
 
--- all words behind a name
+-- all values of an argument
 abbrev pub words_at : ArgMatches → List ℕ → List (List ℕ)
 words_at matches name = unwrap_or (option_map raw_values (matched_of (found_of matches) name)) []
 
--- the words name this command, and these are the words behind its name
+-- the command line names this command, with these words after the name
 pub record IsCommand (matches : ArgMatches) (name : List ℕ) (words : ArgMatches) : Type 0 where
   pub named : subcommand_name_of matches ≡ Some name
   pub following : option_map (λ p. p.1) (subcommand_rows_of matches) ≡ Some (rows_of (found_of words))

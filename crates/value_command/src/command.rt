@@ -1,4 +1,4 @@
-//! The words of a command line, where the program has the command `value` alone.
+//! The command line of the program that has only the command `value`.
 
 ghost use Rattle.std.specs.Prelude.{◌≡◌, ◌≤◌};
 ghost use Rattle.value_command.specs.Ends.{IsDone, IsRefused, NamesValue, ValueIsDone, ValueIsRefused};
@@ -12,8 +12,8 @@ use console::{
 };
 use std::rt::{Env, Files};
 
-/// Does what the command line says where that is `value`, over these texts, and answers the exit status. Help and the version are those of
-/// the whole program. Any other command is told to be none of this program's.
+/// Runs the command line over these texts, and returns the exit status. Help and the version are those of the whole program. A command other than
+/// `value` is a usage error.
 pub fn status<R, S: Sources>(rt: &R, sources: &S, is_watched: bool) -> u8
 where
     R: Env + Files + Print + Eprint + AllocGlobal,
@@ -23,13 +23,13 @@ where
         Ok(words) => words,
         Err(status) => return status,
     };
-    // How many workers a run may have is not asked here, since there is none.
+    // This program has no `run`, so it needs no limit on workers.
     let matched = matches_of(rt.alloc(), words.as_slice(), usize::MAX);
     matched_status(rt, sources, &matched, is_watched)
 }
 
-/// The exit status by what the words were matched to: a command, over these texts, or a fault of theirs. What a status means is promised here and not
-/// of `status`, since of the words that an `Env` gives no proof knows anything.
+/// The exit status of a parsed command line. The contract for each status is here and not at `status`, since a proof knows nothing of the words that an
+/// `Env` returns.
 pub fn matched_status<R, S: Sources>(
     rt: &R,
     sources: &S,
@@ -48,16 +48,20 @@ where
     }
 }
 
-/// The command that the words name, if it is `value`.
 fn command<R, S: Sources>(rt: &R, sources: &S, matches: &ArgMatches<'_>, is_watched: bool) -> u8
 where
     R: Files + Print + Eprint + AllocGlobal,
     ensures known { result ≤ RESOURCE }
     ensures done { result ≡ DONE → NamesValue matches.now (ValueIsDone (S.whole sources.now)) }
-    ensures refused { result ≡ REFUSED → NamesValue matches.now (λ words. ValueIsRefused (S.whole sources.now) words result) }
+    ensures refused { result ≡ REFUSED → NamesValue matches.now (λ words.
+        ValueIsRefused (S.whole sources.now) words result) }
 {
     match matches.subcommand_matches(VALUE) {
         Some(words) => value_of(rt, sources, words, explains(words, is_watched)),
-        None => print_error(rt, "error: this program has the command value alone", USAGE),
+        None => print_error(
+            rt,
+            "error: this program has only the command `value`",
+            USAGE,
+        ),
     }
 }

@@ -1,11 +1,11 @@
-//! How a refusal of the library is told on standard error.
+//! The line of a library's error on standard error.
 
 ghost use Rattle.std.specs.Prelude.{◌≡◌, ◌≢◌, ◌≤◌, IfErr, OnErr, OnOk};
 
 use console::{DONE, RESOURCE};
 use faults::{LINE_LIMIT_BYTES, Refusal};
 
-/// The status that a command of the library ends with. A refusal is told.
+/// The exit status of a command of the library. The line of an error is printed.
 pub fn exit_status_of<R: Eprint, S: Refusal>(rt: &R, answer: &Result<(), S>) -> u8
     ensures known { result ≤ RESOURCE }
     ensures done { OnOk answer.now (result ≡ DONE) }
@@ -18,7 +18,7 @@ pub fn exit_status_of<R: Eprint, S: Refusal>(rt: &R, answer: &Result<(), S>) -> 
     }
 }
 
-/// Tells a refusal of the library by its line, and answers its status.
+/// Prints the line of an error of the library, and returns its status.
 pub fn report_error<R: Eprint, S: Refusal>(rt: &R, stop: &S) -> u8
     ensures known { result ≤ RESOURCE }
     ensures status { result ≡ S.status stop.now }
@@ -28,7 +28,7 @@ pub fn report_error<R: Eprint, S: Refusal>(rt: &R, stop: &S) -> u8
     stop.exit_status()
 }
 
-// Where even standard error fails, the status is all that is left to tell.
+// If standard error fails, the status is the only report.
 fn print_error_line<R: Eprint, S: Refusal>(rt: &R, stop: &S) {
     let mut line = [0u8; LINE_LIMIT_BYTES];
     let length = stop.put_line(&mut line);

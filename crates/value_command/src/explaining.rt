@@ -1,4 +1,4 @@
-//! What a refusal of `value` means, told behind its line where that is wanted.
+//! Explanations of the errors of `value`.
 
 use crate::explanation::{About, print_message, resource_message};
 use console::names::{ASSIGNMENT, PLAN};
@@ -6,7 +6,7 @@ use diagnostics::{Message, argument_words, explain_literal, explain_plan, explai
 use evaluation::{ArgumentFault, ValueStop};
 use std::alloc::{AllocError, Global};
 
-/// Says what a refusal of `value` means, if there is one and that is wanted.
+/// Prints the explanation of an error of `value`, if there is one and the caller wants it.
 pub fn explain_refusal<R: Eprint + AllocGlobal>(
     rt: &R,
     about: &About,
@@ -19,7 +19,7 @@ pub fn explain_refusal<R: Eprint + AllocGlobal>(
     }
 }
 
-/// What a refusal of `value` means, in lines.
+/// The explanation of an error of `value`.
 pub fn value_message(
     alloc: Global,
     about: &About,

@@ -1,23 +1,23 @@
-//! What a refusal means, told behind its line where that is wanted.
+//! Explanations after the line of an error.
 
 use clap::ArgMatches;
 use diagnostics::Message;
 use std::alloc::{AllocError, Global};
 use std::io;
 
-/// What a command over a plan is about, as its refusals are told.
+/// What an explanation needs of a command over a plan.
 #[derive(Clone, Copy)]
 pub struct About<'a, 'w> {
-    /// Whether refusals are explained.
+    /// Whether errors are explained.
     pub explains: bool,
-    /// The words of the command.
+    /// The command line.
     pub words: &'a ArgMatches<'w>,
     /// The text of the plan.
     pub plan: &'a [u8],
 }
 
 impl<'a, 'w> About<'a, 'w> {
-    /// The word behind this name; nothing where there is none.
+    /// The value of the argument with this name; empty if there is none.
     pub fn word(&self, name: &str) -> &str {
         match self.words.get_str(name) {
             Some(word) => word,
@@ -25,7 +25,7 @@ impl<'a, 'w> About<'a, 'w> {
         }
     }
 
-    /// The word with this number, from 1, behind this name; nothing where there is none.
+    /// The value with this number, from 1, of the argument with this name; empty if there is none.
     pub fn word_at(&self, name: &str, number: usize) -> &str {
         let Some(words) = self.words.get_strs(name) else {
             return "";
@@ -37,14 +37,14 @@ impl<'a, 'w> About<'a, 'w> {
     }
 }
 
-/// Tells a page. Where there was no memory for it, the line in front of it says all that is said.
+/// Prints an explanation. If memory ran out for it, the error line before it is the only report.
 pub fn print_message<R: Eprint>(rt: &R, page: Result<Message, AllocError>) {
     if let Ok(page) = page {
         let _ = rt.eprint(page.as_str());
     }
 }
 
-/// Says what it means that a file of this name can't be read or written, and the system's reason.
+/// Explains why a file of this name cannot be read or written, with the system's reason.
 pub fn explain_unreadable<R: Eprint + AllocGlobal>(
     rt: &R,
     line: &str,
@@ -59,7 +59,7 @@ pub fn explain_unreadable<R: Eprint + AllocGlobal>(
     }
 }
 
-/// What a line that no text gives means, in lines. It is known by its first words.
+/// Explains a missing value or a failure of the system. The beginning of the error line decides.
 pub fn resource_message(alloc: Global, line: &str) -> Result<Message, AllocError> {
     let mut page = Message::new(alloc);
     page.resource(line, "", "")?;

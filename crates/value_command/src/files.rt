@@ -1,4 +1,4 @@
-//! The plan that the command line names; where it can't be read, that is told.
+//! Reads the plan that the command line names.
 
 ghost use Rattle.std.specs.Prelude.{◌≤◌, IfErr, IfOk};
 ghost use Rattle.value_command.specs.Texts.{IsNamedPlan};
@@ -9,7 +9,7 @@ use console::names::PLAN;
 use console::{RESOURCE, Sources, USAGE};
 use dtable::PLAN_LIMIT_BYTES;
 
-/// The text of the plan that the command line names; where it can't be read, that is told, and its status answered.
+/// Reads the plan that the command line names. If it cannot be read, an error line is printed, and its status is returned.
 pub fn plan_of<R: Eprint + AllocGlobal, S: Sources>(
     rt: &R,
     sources: &S,

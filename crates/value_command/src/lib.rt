@@ -1,11 +1,10 @@
-//! The command `value` of the program: what `evaluation` does, over the texts that the command line names, its line on standard error, its exit
-//! status.
+//! The command `value`: it evaluates the plan that the command line names, and reports errors by a line and an exit status.
 //!
-//! `command` chooses the command by the words, where a program has this one alone, and `value` does it. `files` reads the plan, and
-//! `explaining` says what a refusal means.
+//! `command.rt` is for the program that has only this command, and `value.rt` runs it. `files.rt` reads the plan, and `explaining.rt` explains
+//! errors.
 //!
-//! The other commands need these as well: `source_text` reads a text by its name, `output` puts results into a file, `findings` prints a refusal's
-//! line, and `explanation` prints what the refusal means.
+//! The other commands use these parts as well: `source_text.rt` reads a text, `output.rt` writes results to a file, `error_line.rt` prints the
+//! line of an error, and `explanation.rt` its explanation.
 #![tactic(auto)]
 
 mod command;

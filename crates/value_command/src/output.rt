@@ -1,4 +1,4 @@
-//! The file that a command's results go to, if there is one: they are put into it once they are whole.
+//! The file for a command's results, which they replace atomically.
 
 ghost use Rattle.std.specs.Prelude.{◌≡◌, ◌≢◌, ◌≤◌, ◌⊎◌, IfErr, IsOk, MatchResult, OnErr};
 ghost use Rattle.std.specs.Io.KnownBytes.{Keeps};
@@ -12,11 +12,11 @@ use faults::Refusal;
 use std::io;
 use std::rt::Files;
 
-/// The line that tells that the results can't be put into the file.
+/// The line of the error that the file for the results cannot be written.
 const CANNOT_WRITE: &str = "cannot write output";
 
-/// The file that the command line names for the results, if it does. Where they can't be put there, that is told, and its status
-/// answered.
+/// The file that the command line names for the results, if it names one. If results cannot be written there, an error line is printed, and its
+/// status is returned.
 pub fn output_of<'a, R: Files + Eprint + AllocGlobal>(
     rt: &'a R,
     about: &About,
@@ -32,8 +32,8 @@ pub fn output_of<'a, R: Files + Eprint + AllocGlobal>(
     }
 }
 
-/// Ends the writing of a command's text: it is put into its place where the command is done, and given up where it is refused, or can't be
-/// put there. Answers the command's status.
+/// Ends the writing of a command's results: after a success they replace the file's text, and after an error they are discarded. Prints the error,
+/// and returns the status of the command.
 pub fn commit_output<R: Eprint + AllocGlobal, P: AtomicTarget, S: Refusal>(
     rt: &R,
     about: &About,
@@ -42,9 +42,11 @@ pub fn commit_output<R: Eprint + AllocGlobal, P: AtomicTarget, S: Refusal>(
     answer: &Result<(), S>,
 ) -> u8
     ensures known { result ≤ RESOURCE }
-    ensures status { MatchResult answer.now (λ _. (result ≡ DONE) ⊎ (result ≡ RESOURCE)) (λ stop. result ≡ S.status stop) }
+    ensures status { MatchResult answer.now (λ _. (result ≡ DONE) ⊎ (result ≡ RESOURCE))
+        (λ stop. result ≡ S.status stop) }
     ensures refused { OnErr answer.now (result ≢ DONE) }
-    ensures put { result ≡ DONE → Becomes (P.current place.old) (P.current place.new) (P.Text.contents text) }
+    ensures put { result ≡ DONE
+        → Becomes (P.current place.old) (P.current place.new) (P.Text.contents text) }
     ensures kept { result ≢ DONE → Keeps (P.current place.old) (P.current place.new) }
 {
     match answer {
@@ -59,7 +61,7 @@ pub fn commit_output<R: Eprint + AllocGlobal, P: AtomicTarget, S: Refusal>(
     }
 }
 
-/// Tells that the results can't be put into the file.
+/// Prints the error that the file for the results cannot be written, and returns its status.
 pub fn report_unwritable<R: Eprint + AllocGlobal>(rt: &R, about: &About, fault: &io::Error) -> u8
     ensures { result ≡ RESOURCE }
 {

@@ -1,4 +1,4 @@
-//! The texts that the command line names; where one can't be read, that is told.
+//! Reads the texts that the command line names.
 
 ghost use Rattle.std.specs.Prelude.{◌≡◌, IfErr, IfOk};
 ghost use Rattle.console.specs.Reading.{IsReadUpTo};
@@ -6,7 +6,7 @@ ghost use Rattle.console.specs.Reading.{IsReadUpTo};
 use crate::explanation::explain_unreadable;
 use console::{RESOURCE, ReadFault, Sources, no_memory, print_error, read_text};
 
-/// The bytes of the text with this name; where it can't be read, the line is told, and its status answered.
+/// Reads the text with this name, at most one byte more than the limit. If it cannot be read, the line is printed, and its status is returned.
 pub fn read_or_report<R: Eprint + AllocGlobal, S: Sources>(
     rt: &R,
     sources: &S,
@@ -15,7 +15,8 @@ pub fn read_or_report<R: Eprint + AllocGlobal, S: Sources>(
     line: &str,
     explains: bool,
 ) -> Result<Vec<u8>, u8>
-    ensures read { IfOk result (λ bytes. IsReadUpTo limit_bytes (S.whole sources.now name.now) bytes.items) }
+    ensures read { IfOk result (λ bytes.
+        IsReadUpTo limit_bytes (S.whole sources.now name.now) bytes.items) }
     ensures failed { IfErr result (λ status. status ≡ RESOURCE) }
 {
     match read_text(rt.alloc(), sources, name, limit_bytes) {

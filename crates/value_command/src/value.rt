@@ -1,4 +1,4 @@
-//! The command `value`: its texts and arguments, and the values on standard output.
+//! The command `value`: reads the plan, and writes the outputs of its tables.
 
 ghost use Rattle.std.specs.Prelude.{◌≡◌, ◌≢◌, ◌≤◌};
 ghost use Rattle.std.specs.Io.KnownBytes.{Keeps};
@@ -21,7 +21,7 @@ use fixpoint::Out;
 use std::io;
 use std::rt::Files;
 
-/// The command `value`.
+/// Runs the command `value`, and returns its exit status.
 pub fn value_of<R: Files + Print + Eprint + AllocGlobal, S: Sources>(
     rt: &R,
     sources: &S,
@@ -39,7 +39,7 @@ pub fn value_of<R: Files + Print + Eprint + AllocGlobal, S: Sources>(
     value_plan(rt, matches, plan.as_slice(), explains)
 }
 
-/// The command `value` over the text of a plan, to where the words say.
+/// Writes to the file of `--output` if there is one, and otherwise to standard output.
 fn value_plan<R: Files + Print + Eprint + AllocGlobal>(
     rt: &R,
     matches: &ArgMatches<'_>,
@@ -47,8 +47,10 @@ fn value_plan<R: Files + Print + Eprint + AllocGlobal>(
     explains: bool,
 ) -> u8
     ensures known { result ≤ RESOURCE }
-    ensures done { result ≡ DONE → HasText (IsValueText plan.now (words_at matches.now ASSIGNMENT.now)) }
-    ensures refused { result ≢ DONE → IsStatusOfRefusal (IsReason plan.now (words_at matches.now ASSIGNMENT.now)) result }
+    ensures done { result ≡ DONE
+        → HasText (IsValueText plan.now (words_at matches.now ASSIGNMENT.now)) }
+    ensures refused { result ≢ DONE → IsStatusOfRefusal
+        (IsReason plan.now (words_at matches.now ASSIGNMENT.now)) result }
 {
     let assignments = matches.get_strs(ASSIGNMENT).unwrap_or(&[]);
     let about = About {
@@ -63,7 +65,6 @@ fn value_plan<R: Files + Print + Eprint + AllocGlobal>(
     }
 }
 
-/// The command `value` over the text of a plan.
 #[tactic(auto, using(crate::proofs::Ends::ends_done))]
 fn value<R: Print + Eprint + AllocGlobal>(
     rt: &R,
@@ -73,7 +74,8 @@ fn value<R: Print + Eprint + AllocGlobal>(
 ) -> u8
     ensures known { result ≤ RESOURCE }
     ensures done { result ≡ DONE → HasText (IsValueText plan.now (argument_texts assignments.now)) }
-    ensures refused { result ≢ DONE → IsStatusOfRefusal (IsReason plan.now (argument_texts assignments.now)) result }
+    ensures refused { result ≢ DONE → IsStatusOfRefusal
+        (IsReason plan.now (argument_texts assignments.now)) result }
 {
     let mut out = Out::new(io::writer(rt));
     let answer = do_value(rt.alloc(), plan, assignments, &mut out);
@@ -82,7 +84,7 @@ fn value<R: Print + Eprint + AllocGlobal>(
     status
 }
 
-/// The same into a place, which has the whole text then or what stood there before.
+/// Writes to a place, whose text is replaced atomically.
 #[tactic(auto, using(crate::proofs::Ends::placed_done, crate::proofs::Ends::kept_twice))]
 fn value_into<R: Eprint + AllocGlobal, P: AtomicTarget>(
     rt: &R,
@@ -92,9 +94,12 @@ fn value_into<R: Eprint + AllocGlobal, P: AtomicTarget>(
     place: &mut P,
 ) -> u8
     ensures known { result ≤ RESOURCE }
-    ensures done { result ≡ DONE → PutsText (IsValueText plan.now (argument_texts assignments.now)) (P.current place.old) (P.current place.new) }
+    ensures done { result ≡ DONE
+        → PutsText (IsValueText plan.now (argument_texts assignments.now))
+        (P.current place.old) (P.current place.new) }
     ensures kept { result ≢ DONE → Keeps (P.current place.old) (P.current place.new) }
-    ensures refused { result ≢ DONE → IsStatusOfRefusal (IsReason plan.now (argument_texts assignments.now)) result }
+    ensures refused { result ≢ DONE → IsStatusOfRefusal
+        (IsReason plan.now (argument_texts assignments.now)) result }
 {
     let text = match place.begin() {
         Ok(text) => text,

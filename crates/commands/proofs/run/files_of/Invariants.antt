@@ -4,6 +4,6 @@ use Rattle.intake_csv.specs.Limits.{file_limit_bytes}
 use Rattle.commands.specs.Texts.{AreNamedTexts}
 use Rattle.commands.proofs.run.files_of.Given as goal
 
--- those in front of the place are read
+-- the texts before the index are read
 abbrev pub invariant-loop-place : goal.invariant-loop-place
 invariant-loop-place g l = AreNamedTexts file_limit_bytes (g.S.Sources.whole l.sources) (take l.place (texts_of l.names)) (map (λ f. f.items) l.files.items)
