@@ -35,6 +35,7 @@ pub trait Valuer {
     /// of inputs for which the tables have the same value.
     fn input_class(&self, inputs: &Inputs) -> Option<u64>
         ensures inside { IfSome result (in_class self.now inputs.now) }
-        ensures alike { IfSome result (λ input_class. (other : List Slot) → in_class self.now other input_class
+        ensures alike { IfSome result (λ input_class. (other : List Slot)
+            → in_class self.now other input_class
             → env (plan_of self.now) other ≡ env (plan_of self.now) inputs.now) };
 }

@@ -57,7 +57,8 @@ impl LastByKey {
         ensures found { OnOk result ((q : AnyKey) → last_of_key self.new q
             ≡ cond (is_key key q) (Some position) (last_of_key self.old q)) }
         ensures room { OnOk result (HasRoomFor self.new key) }
-        ensures refused { OnErr result ((q : AnyKey) → last_of_key self.new q ≡ last_of_key self.old q) }
+        ensures refused { OnErr result
+            ((q : AnyKey) → last_of_key self.new q ≡ last_of_key self.old q) }
     {
         if is_own_family(key) {
             self.plain.prepare(key.0)?;
@@ -72,7 +73,8 @@ impl LastByKey {
     pub fn replace_existing(&mut self, key: AccumulatorKey, position: u32) -> Option<u32>
         ensures before { result ≡ last_of_key self.old key }
         ensures found { (q : AnyKey) → last_of_key self.new q
-            ≡ cond (is_key key q) (replaced (last_of_key self.old key) position) (last_of_key self.old q) }
+            ≡ cond (is_key key q) (replaced (last_of_key self.old key) position)
+            (last_of_key self.old q) }
     {
         if is_own_family(key) {
             self.plain.replace_existing(key.0, position)

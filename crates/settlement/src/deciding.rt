@@ -82,7 +82,8 @@ impl<'v, V: Valuer> Adjudicator<'v, V> {
         valuer: &'v V,
         cache: DeterminationCache,
     ) -> Result<Adjudicator<'v, V>, AllocError>
-        requires { (input_class : ℕ) (determination : BenefitOf) → IsCached cache input_class determination → ⊥ }
+        requires { (input_class : ℕ) (determination : BenefitOf)
+            → IsCached cache input_class determination → ⊥ }
         ensures { IfOk result (λ adjudicator. adjudicator ≡ V.plan_of valuer.now) }
     {
         let plan = valuer.plan();
@@ -226,7 +227,8 @@ fn by_roles(
     remark_table: &RemarkTable,
 ) -> Result<Determination, AllocError>
     requires { ArePlaced env.now.tables roles.now places.now }
-    ensures { IfOk result (λ determination. determination ≡ by_answers roles.now inputs.now env.now) }
+    ensures { IfOk result (λ determination.
+        determination ≡ by_answers roles.now inputs.now env.now) }
 {
     if !is_covered(inputs, env, roles, places) {
         let remarks = remarks(env, &roles.remarks, places.remarks, remark_table)?;

@@ -55,7 +55,8 @@ fn covered_outcome(
     remarks: &Remarks,
 ) -> Result<Outcome, AllocError>
     ensures { IfOk result (λ decided.
-        decided ≡ within_range acc.now (paid_outcome (amounts billed terms.now acc.now) remarks.now)) }
+        decided ≡ within_range acc.now
+        (paid_outcome (amounts billed terms.now acc.now) remarks.now)) }
 {
     let amounts = amounts_of(billed, *terms, *acc);
     let acc = *acc;

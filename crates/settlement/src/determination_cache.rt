@@ -63,7 +63,8 @@ impl Model for DeterminationCache {
 impl DeterminationCache {
     /// Returns a disabled cache, which stays empty.
     pub fn none(alloc: Global) -> DeterminationCache
-        ensures { (input_class : ℕ) (determination : Determination) → IsCached result input_class determination → ⊥ }
+        ensures { (input_class : ℕ) (determination : Determination)
+            → IsCached result input_class determination → ⊥ }
     {
         DeterminationCache {
             slots: Vec::new(alloc),
@@ -74,7 +75,8 @@ impl DeterminationCache {
     /// Returns an empty cache.
     pub fn new(alloc: Global) -> Result<DeterminationCache, AllocError>
         ensures { IfOk result (λ cache.
-            (input_class : ℕ) (determination : Determination) → IsCached cache input_class determination → ⊥) }
+            (input_class : ℕ) (determination : Determination)
+            → IsCached cache input_class determination → ⊥) }
     {
         let mut slots = Vec::with_capacity(alloc, SLOTS)?;
         for _ in 0..SLOTS {
