@@ -1,4 +1,4 @@
--- What a writer has got of a text that is put in pieces, and what is gathered of it.
+-- The bytes that a writer has received of a text that is put in pieces, and the bytes that are buffered.
 use Rattle.std.proofs.Common.{◌≡◌, ℕ, ◌+◌, ◌/◌, ◌%◌, ◌<◌, ◌≤◌, inl, inr, Bool, true, false, List, [], ◌∷◌, ◌++◌, length, get_or, take, drop, max, min, Option, Some, None, Result, Ok, Err, decimal, refl, ap, ap₂, sym, subst, ◌∙◌, append_assoc, append-nil, take-append-drop, length-append, length-take-le, length-drop, arith}
 use Rattle.std.specs.Prelude.{nat_lt}
 use Rattle.std.specs.Bool.{OnTrue}
@@ -31,31 +31,31 @@ puts-none a start text h = subst (λ t. Holds start t a) (sym (append-nil text))
 pub puts-then : (a b c : At) (one other : List ℕ) → Puts a b one → Puts b c other → Puts a c (one ++ other)
 puts-then a b c one other first second start text h = subst (λ t. Holds start t c) (append_assoc text one other) (second start (text ++ one) (first start text h))
 
--- three texts
+-- three texts are put in sequence
 pub puts-three : (a b c d : At) (one other last : List ℕ) → Puts a b one → Puts b c other → Puts c d last → Puts a d (one ++ (other ++ last))
 puts-three a b c d one other last first second third = puts-then a b d one (other ++ last) first (puts-then b c d other last second third)
 
--- the lines of one item more
+-- the lines of one more item are put
 pub puts-more : {X : Type 0} (line : X → List ℕ) (xs : List X) (i : ℕ) (d : X) (a b c : At) → i < length xs → Puts a b (flat_map line (take i xs)) → Puts b c (line (get_or xs i d)) → Puts a c (flat_map line (take (i + 1) xs))
 puts-more line xs i d a b c below so_far last =
     subst (Puts a c) (sym (flat_more line xs i d below)) (puts-then a b c (flat_map line (take i xs)) (line (get_or xs i d)) so_far last)
 
--- the lines of all items
+-- the lines of all items are put
 pub puts-all : {X : Type 0} (line : X → List ℕ) (xs : List X) (i : ℕ) (a b : At) → length xs ≤ i → Puts a b (flat_map line (take i xs)) → Puts a b (flat_map line xs)
 puts-all line xs i a b end so_far = subst (λ items. Puts a b (flat_map line items)) (take_all i xs end) so_far
 
--- some words, and a number's digits
+-- some words and a number's digits are put
 pub puts-numbered : (a b c : At) (words first second : List ℕ) (number : ℕ) → first ≡ words → second ≡ decimal number → Puts a b first → Puts b c second → Puts a c (words ++ decimal number)
 puts-numbered a b c words first second number first_is second_is one other = subst (Puts a c) (ap₂ (λ s t. s ++ t) first_is second_is) (puts-then a b c first second one other)
 
--- the line of a table that is wide, and none of another
+-- the line of a wide table is put
 pub puts-wide : (a c : At) (table : ℕ) (wide : Bool) → wide ≡ true → Puts a c (wide_line table) → Puts a c (reported_wide_lines table wide)
 puts-wide a c table wide is line = subst (λ w. Puts a c (reported_wide_lines table w)) (sym is) line
 
 pub puts-not-wide : (a : At) (table : ℕ) (wide : Bool) → wide ≡ false → Puts a a (reported_wide_lines table wide)
 puts-not-wide a table wide is = subst (λ w. Puts a a (reported_wide_lines table w)) (sym is) (puts-none a)
 
--- the text goes on where the writer takes it
+-- the writer receives more of the text
 pub whole-passes : (a b : Option (List ℕ)) (failed later : Bool) (old new : Progress) (more : List ℕ) → old.is_cut ≡ false → new.is_cut ≡ false → Appends a b more → new.written ≡ min (old.written + length more) greatest_count → later ≡ failed
     → Passes (at_progress a failed old) (at_progress b later new) more
 whole-passes a b failed later old new more whole still appended counted same start text gone =
@@ -67,7 +67,7 @@ whole-passes a b failed later old new more whole still appended counted same sta
     } in
     subst (λ cut. GoneBy cut start (text ++ more) (at_progress b later new)) (sym still) after
 
--- it ends where the writer fails in its midst
+-- the writer fails within the text
 pub part-passes : (a b : Option (List ℕ)) (failed later : Bool) (old new : Progress) (more : List ℕ) (written : ℕ) → old.is_cut ≡ false → new.is_cut ≡ true → PutsFront more written a b → new.written ≡ min (old.written + written) greatest_count → later ≡ true
     → Passes (at_progress a failed old) (at_progress b later new) more
 part-passes a b failed later old new more written whole now puts counted failing start text gone =
@@ -88,7 +88,7 @@ part-passes a b failed later old new more written whole now puts counted failing
     } in
     subst (λ cut. GoneBy cut start (text ++ more) (at_progress b later new)) (sym now) after
 
--- and nothing more is written then
+-- after that nothing more is written
 pub cut-passes : (a : Option (List ℕ)) (failed : Bool) (old : Progress) (more : List ℕ) → old.is_cut ≡ true → Passes (at_progress a failed old) (at_progress a failed old) more
 cut-passes a failed old more now start text gone =
     let before : IsCutAt start text a failed old.written = subst (λ cut. GoneBy cut start text (at_progress a failed old)) now gone in
@@ -103,7 +103,7 @@ cut-passes a failed old more now start text gone =
     } in
     subst (λ cut. GoneBy cut start (text ++ more) (at_progress a failed old)) (sym now) after
 
--- a text is gathered
+-- a text is buffered
 pub gathers : (contents : Option (List ℕ)) (failed : Bool) (old new : BufferedOut) (more : List ℕ) → new.gathered.items ≡ old.gathered.items ++ more → new.progress ≡ old.progress → Puts (at contents failed old) (at contents failed new) more
 gathers contents failed old new more grown same start text h = record {
   front = h.front;
@@ -111,7 +111,7 @@ gathers contents failed old new more grown same start text h = record {
   gone = subst (λ progress. Gone start h.front (at_progress contents failed progress)) (sym same) h.gone;
 }
 
--- what is gathered is handed over
+-- the buffer is passed on
 pub hands-over : (a b : Option (List ℕ)) (failed later : Bool) (old new : BufferedOut) (gathered : List ℕ) → gathered ≡ old.gathered.items → Passes (at_progress a failed old.progress) (at_progress b later new.progress) gathered → new.gathered.items ≡ []
     → Puts (at a failed old) (at b later new) []
 hands-over a b failed later old new gathered is passes none start text h = record {
@@ -123,7 +123,7 @@ hands-over a b failed later old new gathered is passes none start text h = recor
 all-gone : (text front items : List ℕ) → text ++ [] ≡ front ++ items → items ≡ [] → text ≡ front
 all-gone text front items is none = sym (append-nil text) ∙ is ∙ ap (λ t. front ++ t) none ∙ append-nil front
 
--- a text that can't be gathered is handed over behind what is
+-- a text that cannot be buffered is passed on after the buffer
 pub hands-more : (a b c : Option (List ℕ)) (failed later last : Bool) (old kept mid new : BufferedOut) (more : List ℕ) → kept.gathered.items ≡ old.gathered.items → kept.progress ≡ old.progress
     → Puts (at a failed kept) (at b later mid) [] → mid.gathered.items ≡ []
     → Passes (at_progress b later mid.progress) (at_progress c last new.progress) more → new.gathered.items ≡ mid.gathered.items → Puts (at a failed old) (at c last new) more
@@ -141,7 +141,7 @@ hands-more a b c failed later last old kept mid new more items progress puts non
       gone = passes start held.front held.gone;
     }
 
--- at its end the text has gone whole
+-- at the end the writer has received the whole text
 pub end-whole : (a b : Option (List ℕ)) (failed later : Bool) (old new : BufferedOut) (count : ℕ) → Puts (at a failed old) (at b later new) [] → new.gathered.items ≡ [] → new.progress.is_cut ≡ false → new.progress.written ≡ count
     → Ends (at a failed old) b later (Ok count)
 end-whole a b failed later old new count puts none whole is start text h =
@@ -153,7 +153,7 @@ end-whole a b failed later old new count puts none whole is start text h =
       gone.same,
     )
 
--- or in part
+-- at the end the writer has received a part of the text
 pub end-cut : (a b : Option (List ℕ)) (failed later : Bool) (old new : BufferedOut) (cut : ShortWrite) → Puts (at a failed old) (at b later new) [] → new.gathered.items ≡ [] → new.progress.is_cut ≡ true → new.progress.written ≡ cut.written
     → Ends (at a failed old) b later (Err cut)
 end-cut a b failed later old new cut puts none now is start text h =
@@ -162,7 +162,7 @@ end-cut a b failed later old new cut puts none now is start text h =
     let gone : IsCutAt start held.front b later new.progress.written = subst (λ cut. GoneBy cut start held.front (at_progress b later new.progress)) now held.gone in
     subst (λ t. IsCutAt start t b later cut.written) (sym front) (subst (λ n. IsCutAt start held.front b later n) is gone)
 
--- nothing is put at first
+-- at the start nothing is put
 pub starts : (contents : Option (List ℕ)) (failed : Bool) (pieces : BufferedOut) → IsEmpty pieces → Holds (starting contents failed) [] (at contents failed pieces)
 starts contents failed pieces empty =
     let gone : IsGone (starting contents failed) [] (at_progress contents failed pieces.progress) = record { appended = appends-none contents; counted = empty.written; same = refl } in
@@ -172,17 +172,17 @@ starts contents failed pieces empty =
       gone = subst (λ cut. GoneBy cut (starting contents failed) [] (at_progress contents failed pieces.progress)) (sym empty.whole) gone;
     }
 
--- the end of a text that was put from the start
+-- the end of a text that is put from the start on
 pub ends-text : (contents after : Option (List ℕ)) (failed later : Bool) (pieces : BufferedOut) (last : At) (text : List ℕ) (result : Result ℕ ShortWrite) → IsEmpty pieces → Puts (at contents failed pieces) last text
     → Ends last after later result → EndsText (starting contents failed) text after later result
 ends-text contents after failed later pieces last text result empty puts ends =
     ends (starting contents failed) text (puts (starting contents failed) [] (starts contents failed pieces empty))
 
--- a text that has gone whole has fewer bytes than a count can tell, where the count is less
+-- if the count of a whole text is less than the greatest count, it is the length of the text
 pub count_reports : (text : List ℕ) (count : ℕ) → count ≡ min (length text) greatest_count → count < greatest_count → length text < greatest_count
 count_reports text count is less = omega (arith, is, less)
 
--- the regions of one column, and of those behind it
+-- the region of one column is put, and then those of the next columns
 pub puts-cell : (a b c : At) (column : ColumnText) (more columns : List ColumnText) (place following : ℕ) (text : List ℕ) → columns ≡ column ∷ more → following ≡ max column.following 1 → text ≡ get_or column.regions (place / following) []
     → Puts a b text → Puts b c (cell_text more (place % following)) → Puts a c (cell_text columns place)
 puts-cell a b c column more columns place following text columns_are after_is text_is first second =
@@ -194,7 +194,7 @@ pub puts-no-cell : (a : At) (columns : List ColumnText) (place : ℕ) → length
 puts-no-cell a [] place none = puts-none a
 puts-no-cell a (c ∷ cs) place none = absurd (omega (arith, none))
 
--- the lines of one table, and of those behind it
+-- the lines of one table are put, and then those of the next tables
 pub puts-tables : (a b c : At) (number : ℕ) (table : TableReport) (more tables : List TableReport) → tables ≡ table ∷ more → Puts a b (reported_table_lines number table) → Puts b c (reported_lines (number + 1) more) → Puts a c (reported_lines number tables)
 puts-tables a b c number table more tables are first second =
     subst (Puts a c) (ap (reported_lines number) (sym are)) (puts-then a b c (reported_table_lines number table) (reported_lines (number + 1) more) first second)
@@ -203,7 +203,7 @@ pub puts-no-tables : (a : At) (number : ℕ) (tables : List TableReport) → len
 puts-no-tables a number [] none = puts-none a
 puts-no-tables a number (t ∷ ts) none = absurd (omega (arith, none))
 
--- what holds where a count is less holds on that answer
+-- a fact for a smaller count holds if the comparison answers true
 pub on_less : (count limit : ℕ) (P : Type 0) → (count < limit → P) → OnTrue (nat_lt count limit) P
 on_less count limit P holds = elim (cases_lt count limit) [
   | inl less ↦ subst (λ b. OnTrue b P) (sym (lt-ltb count limit less)) (holds less)

@@ -1,4 +1,4 @@
--- The remittance of a run, from the journal of its batch and the bytes of its report, and what becomes of it at a refusal.
+-- The remittance of a run, from the journal of its batch and the bytes that were written, also after an error.
 use Rattle.std.proofs.Common.{◌≡◌, ◌≢◌, ◌↔◌, ℕ, Bool, List, [], ◌∷◌, map, Option, Some, None, Result, IfErr, IfSome, OnOk, inl, inr, refl, sym, subst}
 use Rattle.std.proofs.KnownBytes.{Keeps-refl}
 use Rattle.std.proofs.lemmas.Result.{on_ok_weaker, IfErr-weaker}
@@ -34,7 +34,7 @@ use Rattle.adjudicate.specs.RunText.{AreTermsOfTexts, IsCountedRemittance, IsRem
 use Rattle.adjudicate.specs.RunStop.{IsRunReason, IsStopOfRun, IsStopOfTerms, IsStopOfWrite, StopsRemittance, WritesRemittanceUntil}
 use Rattle.adjudicate.specs.Stop.{IsStopOfPlan, failed_after}
 
--- the claims of files are those among their rows
+-- the claims of files are the claims among their rows
 claims_of_rows : (names : List InputData) (texts : List (List ℕ)) (files : List (List Row)) → AllZip (AreRowsOf names) texts files
     → AllZip (AreClaimsOf names) texts (map claims_among files)
 claims_of_rows names [] [] h = tt
@@ -42,7 +42,7 @@ claims_of_rows names [] (rows ∷ files) h = absurd h
 claims_of_rows names (text ∷ texts) [] h = absurd h
 claims_of_rows names (text ∷ texts) (rows ∷ files) h = (record { rows = rows; are_rows = h.0; claims_are = refl }, claims_of_rows names texts files h.1)
 
--- and files of claims have rows
+-- files of claims have rows
 record RowsOf (names : List InputData) (texts : List (List ℕ)) : Type 0 where
   pub files : List (List Row)
   pub are_rows : AllZip (AreRowsOf names) texts files
@@ -56,7 +56,7 @@ rows_of_claims names (text ∷ texts) (claims ∷ files) h =
     record { files = h.0.rows ∷ rest.files; are_rows = (h.0.are_rows, rest.are_rows) }
 
 module _ (parts : TermsParts) (J : List Event) (finished : IsFinishedOver parts J) (old new : Option (List ℕ)) where
-  -- a report of a finished journal is the remittance of its terms
+  -- the report of a finished journal is a remittance of its terms
   remittance_of : (bytes : List ℕ) → IsReport parts J bytes → IsRemittanceOf parts bytes
   remittance_of bytes report =
       let T : Terms = record { plan = parts.plan; files = map claims_among report.files; balances = accounts_of parts.balances; cutoff = parts.cutoff } in
@@ -71,13 +71,13 @@ module _ (parts : TermsParts) (J : List Event) (finished : IsFinishedOver parts 
   pub writes_remittance : WritesReport parts J old new → WritesText (IsRemittanceOf parts) old new
   writes_remittance w = record { text = w.bytes; is_text = remittance_of w.bytes w.is_report; appended = w.appended }
 
-  -- terms that journals can see have a report
+  -- if the terms of a journal exist, its report exists
   some_report : ¬ ForTerms parts (λ T. ⊥) → ¬ ((report : List ℕ) → ¬ IsReport parts J report)
   some_report seen none = seen (λ T are.
       let rows = rows_of_claims parts.plan.names parts.files T.files are.files in
       none (text_of (report_records parts.plan.version J rows.files)) (record { files = rows.files; are_rows = rows.are_rows; bytes_are = refl }))
 
-  -- the front of a report is that of the remittance
+  -- the first bytes of a report are the first bytes of a remittance
   writes_front : (written : ℕ) → ¬ ForTerms parts (λ T. ⊥) → WritesFront parts J written old new → WritesRemittanceFront parts old new written
   writes_front written seen w = record {
     journal = J;
@@ -89,7 +89,7 @@ module _ (parts : TermsParts) (J : List Event) (finished : IsFinishedOver parts 
     is_there = some_report seen;
   }
 
-  -- so a report that ends early ends the remittance
+  -- a fault that ends the report ends the remittance
   pub stops_by_write : (workers : ℕ) (fault : WriteFault) (s : Stop) → ¬ ForTerms parts (λ T. ⊥)
       → WritesFront parts J fault.written old new → IsStopOfWrite fault s → StopsRemittance parts workers old new s
   stops_by_write workers fault (stop.Value (value.Write written)) seen w made = rw made.0 (writes_front fault.written seen w)
@@ -107,7 +107,7 @@ stops_by_run parts workers contents fault (stop.Run same) refused made =
 stops_by_run parts workers contents fault (stop.Value value.NoMemory) refused made = inl (Keeps-refl contents)
 stops_by_run parts workers contents fault _ refused made = absurd made
 
--- why a run is refused: the plan's text spells no plan
+-- a plan's text that denotes no plan is a reason for the error
 pub reason_of_plan : (texts : RunTexts) (workers : ℕ) (fault : PlanFault) (s : Stop)
     → (fault.cause ≢ cause.OutOfMemory → (plan : PlanParts) → ¬ IsPlanText texts.plan plan) → IsStopOfPlan fault s → IsRunReason texts workers s
 reason_of_plan texts workers fault (stop.Value (value.Plan same)) none made =
@@ -116,7 +116,7 @@ reason_of_plan texts workers fault (stop.Value (value.Plan same)) none made =
 reason_of_plan texts workers fault (stop.Value value.NoMemory) none made = tt
 reason_of_plan texts workers fault _ none made = absurd made
 
--- or under the plan the texts make no terms
+-- texts that form no terms under the plan are a reason for the error
 pub reason_of_terms : (texts : RunTexts) (workers : ℕ) (plan : PlanParts) (fault : TermsFault) (s : Stop) → IsPlanText texts.plan plan
     → HasTermsFault plan texts.files texts.balances fault → IsStopOfTerms fault s → IsRunReason texts workers s
 reason_of_terms texts workers plan fault (stop.Terms same) spelled has made =
@@ -127,26 +127,26 @@ reason_of_terms texts workers plan fault (stop.Terms same) spelled has made =
 reason_of_terms texts workers plan fault (stop.Value value.NoMemory) spelled has made = tt
 reason_of_terms texts workers plan fault _ spelled has made = absurd made
 
--- and then nothing is written
+-- before a fault of the terms nothing is written
 pub kept_by_terms : (texts : RunTexts) (contents : Option (List ℕ)) (fault : TermsFault) (s : Stop) → IsStopOfTerms fault s
     → WritesRemittanceUntil texts contents contents s
 kept_by_terms texts contents fault (stop.Terms same) made = Keeps-refl contents
 kept_by_terms texts contents fault (stop.Value value.NoMemory) made = inl (Keeps-refl contents)
 kept_by_terms texts contents fault _ made = absurd made
 
--- and the writer has failed where it had before
+-- a fault of the terms leaves the state of the writer unchanged
 pub failed_by_terms : (failed : Bool) (fault : TermsFault) (s : Stop) → IsStopOfTerms fault s → failed ≡ failed_after failed s
 failed_by_terms failed fault (stop.Terms same) made = refl
 failed_by_terms failed fault (stop.Value value.NoMemory) made = refl
 failed_by_terms failed fault _ made = absurd made
 
--- counts of the run whose report is written
+-- the counts are those of the run whose report is written
 pub counts_written : (parts : TermsParts) (J : List Event) → IsFinishedOver parts J → (old new : Option (List ℕ)) (counts : Option RunCounts) → WritesReport parts J old new
     → IfSome counts (AreRunCounts parts J) → IfSome counts (WritesCounted parts old new)
 counts_written parts J finished old new None report counted = tt
 counts_written parts J finished old new (Some counts) report counted = record { journal = J; finished = finished; report = report; counted = counted }
 
--- what is written for the terms of the texts is written for the texts
+-- bytes that are written for the terms of the texts are written for the texts
 module _ (texts : RunTexts) (parts : TermsParts) (over : AreTermsOfTexts texts parts) (old new : Option (List ℕ)) where
   pub whole_over : {X E : Type 0} (r : Result X E) → OnOk r (WritesText (IsRemittanceOf parts) old new) → OnOk r (WritesText (IsRemittance texts) old new)
   whole_over r h =
@@ -170,7 +170,7 @@ module _ (texts : RunTexts) (parts : TermsParts) (over : AreTermsOfTexts texts p
   pub stopped_over : {X : Type 0} (workers : ℕ) (r : Result X Stop) → IfErr r (StopsRemittance parts workers old new) → IfErr r (WritesRemittanceUntil texts old new)
   stopped_over workers r h = IfErr-weaker r _ _ (front_over workers) h
 
-  -- and it ends for a fault of the run, or for a reason that can come with any texts
+  -- the remittance ends with a fault of the run, or with an error that can occur for any texts
   reason_over : (workers : ℕ) (s : Stop) → StopsRemittance parts workers old new s → IsRunReason texts workers s
   reason_over workers (stop.Run fault) h = (over.plan, over.spelled, record { parts = parts; are_terms = over.are_terms; refuses = h.0 })
   reason_over workers (stop.Value (value.Write written)) h = tt

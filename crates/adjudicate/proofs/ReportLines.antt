@@ -1,4 +1,4 @@
--- What is told of a plan makes the lines of its check: the texts of cells at the places of gaps are those of the gaps.
+-- The report on a plan gives the lines of its check: the texts of the cells at the indices of the gaps are the texts of the gaps.
 use Rattle.std.proofs.Common.{◌≡◌, ℕ, zero, suc, ◌+◌, ◌-◌, ◌*◌, ◌/◌, ◌%◌, ◌≤◌, ◌<◌, Bool, true, false, cond, eqb, not, inl, inr, List, [], ◌∷◌, ◌++◌, length, get_or, map, filter, min, max, codes, decimal, Option, Some, None, is_some, refl, ap, ap₂, sym, subst, ◌∙◌, length-append, arith}
 use Rattle.std.specs.Global.{Vec}
 use Rattle.std.specs.List.{flat_map, join_by, range_with_len, slice_get}
@@ -26,7 +26,7 @@ use Rattle.adjudicate.specs.Findings.{gaps_in, overlaps_in, table_lines, reports
 use Rattle.adjudicate.specs.CheckReport.{AreReported, IsReported, IsReportedOf, IsReportedOfFirst, cell_text, column_texts, column_texts_if, marked_region, separator, reported_gap_line, reported_lines, reported_places, reported_table_lines, reported_text, reported_wide_lines}
 use Rattle.adjudicate.proofs.TableLines.{count_more}
 
--- a cell of columns that begin with these regions, of so many cells behind each: its place, by the region's place and that of the rest
+-- the index of a cell, from the index of its region in the first column and the index of its rest among the cells of the other columns
 record IsPlaced (regions : List Region) (rest : List (List Region)) (n : ℕ) (cell : List Region) : Type 0 where
   place : ℕ
   region : Region
@@ -58,7 +58,7 @@ slice_map f [] n x at = absurd (none-some x at)
 slice_map f (y ∷ xs) zero x at = ap (λ z. Some (f z)) (same_Some y x at)
 slice_map f (y ∷ xs) (suc n) x at = slice_map f xs n x at
 
--- each cell of a column in front of others is so placed
+-- each cell of a column before others has such an index
 placed : (regions : List Region) (rest : List (List Region)) (n : ℕ) (cell : List Region) → slice_get (flat_map (λ (r : Region). map (λ (c : List Region). r ∷ c) rest) regions) n ≡ Some cell → IsPlaced regions rest n cell
 placed [] rest n cell at = absurd (none-some cell at)
 placed (r ∷ rs) rest n cell at =
@@ -100,12 +100,12 @@ placed (r ∷ rs) rest n cell at =
     next_place : (n k place following : ℕ) → k ≤ n → n - k ≡ place * k + following → n ≡ suc place * k + following
     next_place n k place following most is = omega (arith, most, is)
 
--- the text of a cell, the first region behind this mark
+-- the text of a cell, whose first region comes after this mark
 abbrev pub marked_cell : List ℕ → List Region → List ℕ
 marked_cell mark [] = []
 marked_cell mark (r ∷ rs) = marked_region mark r ++ marked_cell separator rs
 
--- the cell of columns at a place has the text that is made of their texts
+-- the text of the cell at an index is made of the texts of the columns
 cell_at : (mark : List ℕ) (columns : List (List Region)) (n : ℕ) (cell : List Region) → length (cells columns) ≤ cell_limit → slice_get (cells columns) n ≡ Some cell → cell_text (column_texts mark columns) n ≡ marked_cell mark cell
 cell_at mark [] zero cell narrow at = ap (marked_cell mark) (same_Some [] cell at)
 cell_at mark [] (suc n) cell narrow at = absurd (none-some cell at)
@@ -131,7 +131,7 @@ marked_all : (cell : List Region) → marked_cell [] cell ≡ join_by region_tex
 marked_all [] = refl
 marked_all (r ∷ rs) = ap (λ end. region_text r ++ end) (marked_others rs)
 
--- what is made of the places of those that pass a test is what is made of these
+-- mapping the indices of the elements that pass a test is mapping these elements
 made_alike : {X Y : Type 0} (f : ℕ → Y) (g : X → Y) (test : X → Bool) (k : ℕ) (xs : List X) → ((n : ℕ) (x : X) → slice_get xs n ≡ Some x → f (k + n) ≡ g x) → map f (places test k xs) ≡ map g (filter test xs)
 made_alike f g test k [] alike = refl
 made_alike f g test k (x ∷ xs) alike =
@@ -144,25 +144,25 @@ made_alike f g test k (x ∷ xs) alike =
       | false ↦ rest
     ])
 
--- the texts of the cells at the places of gaps are those of the gaps
+-- the texts of the cells at the indices of the gaps are the texts of the gaps
 gap_texts : (test : List Region → Bool) (columns : List (List Region)) → length (cells columns) ≤ cell_limit
     → map (cell_text (column_texts [] columns)) (places test 0 (cells columns)) ≡ map (join_by region_text separator) (filter test (cells columns))
 gap_texts test columns narrow =
     made_alike (cell_text (column_texts [] columns)) (join_by region_text separator) test 0 (cells columns) (λ n cell at. let here : 0 + n ≡ n = omega arith in ap (cell_text (column_texts [] columns)) here ∙ cell_at [] columns n cell narrow at ∙ marked_all cell)
 
--- no columns are wanted where there are no gaps
+-- without gaps the columns are not needed
 texts_if : (texts : List ColumnText) (found : List ℕ) (wanted : List (List ℕ)) → map (cell_text texts) found ≡ wanted → map (cell_text (cond (eqb (length found) 0) [] texts)) found ≡ wanted
 texts_if texts [] wanted is = is
 texts_if texts (n ∷ ns) wanted is = ap (λ b. map (cell_text (cond b [] texts)) (n ∷ ns)) (ne_eqb (suc (length ns)) 0 (λ e. absurd (omega (arith, e)))) ∙ is
 
--- the same of the table with this number, if there is one
+-- this holds for the table with this number, if there is one
 table_texts : (p : PlanParts) (number : ℕ) (found : Option Table) → slice_get p.tables (number - 1) ≡ found → length (option_map_or (λ t. cells (table_regions p t)) found []) ≤ cell_limit
     → map (cell_text (column_texts [] (option_map_or (table_regions p) found []))) (places (λ cell. option_map_or (λ t. is_gap t cell) found true) 0 (option_map_or (λ t. cells (table_regions p t)) found []))
     ≡ map (join_by region_text separator) (option_map_or (gaps p) found [])
 table_texts p number (Some t) at narrow = gap_texts (is_gap t) (table_regions p t) narrow
 table_texts p number None at narrow = refl
 
--- what is told of a table's gaps
+-- the reported gaps of a table have the texts of its gaps
 pub gaps_reported : (findings : Findings) (p : PlanParts) (number : ℕ) (columns : List (List Region)) (gaps : Option (Vec ℕ)) (reported : List ℕ) (texts : List ColumnText) → columns ≡ regions_of p number
     → ArePlaces (cells_of p number) (is_gap_of p number) gaps → reported ≡ reported_places findings p number gaps → texts ≡ column_texts_if reported columns
     → map (cell_text texts) reported ≡ map (join_by region_text separator) (gaps_in findings p number)
@@ -185,7 +185,7 @@ gaps_reported findings p number columns (Some found) reported texts columns_are 
       | false ↦ refl
     ]))
 
--- whether it is told that a table is wide
+-- the report says that a table is wide exactly if it is
 pub wide_reported : (p : PlanParts) (number : ℕ) (gaps : Option (Vec ℕ)) (none : Bool) → is_some gaps ≡ not none → ArePlaces (cells_of p number) (is_gap_of p number) gaps → none ≡ is_wide p number
 wide_reported p number None true is wide = sym (lt-ltb cell_limit (length (cells_of p number)) wide)
 wide_reported p number None false is wide = absurd (false≢true is)
@@ -196,7 +196,7 @@ wide_reported p number (Some found) false is narrow = sym (le-ltb cell_limit (le
 abbrev pub line_of : ℕ → List ℕ → List ℕ
 line_of table text = codes "gap table " ++ (decimal table ++ (codes ": " ++ (text ++ line_end ∷ [])))
 
--- the lines of a table
+-- the lines of the report on a table are the lines of the table
 lines_reported : (findings : Findings) (p : PlanParts) (number : ℕ) (reported : TableReport) → IsReported findings p number reported → reported_table_lines number reported ≡ table_lines findings p number
 lines_reported findings p number reported is =
     let gap_lines : flat_map (reported_gap_line number reported.columns) reported.gaps.items ≡ flat_map (gap_line number) (gaps_in findings p number) =
@@ -207,7 +207,7 @@ tables_reported : (findings : Findings) (p : PlanParts) (number : ℕ) (tables :
 tables_reported findings p number [] all = refl
 tables_reported findings p number (t ∷ ts) all = ap₂ (λ a b. a ++ b) (lines_reported findings p number t all.0) (tables_reported findings p (number + 1) ts all.1)
 
--- the text of a plan
+-- the text of the report is the text for the plan
 pub text_reported : (findings : Findings) (p : PlanParts) (reported : CheckReport) → IsReportedOf findings p reported → reported_text reported ≡ text_in findings p
 text_reported findings p reported is =
     ap₂ (λ lines counts. lines ++ counts)
@@ -219,7 +219,7 @@ reported_more findings p number (t ∷ ts) table all one =
     let there : number + suc (length ts) ≡ (number + 1) + length ts = omega arith in
     (all.0, reported_more findings p (number + 1) ts table all.1 (subst (λ n. IsReported findings p n table) there one))
 
--- one table more
+-- the report with one more table
 pub plan_more : (findings : Findings) (p : PlanParts) (count : ℕ) (old new : CheckReport) (table : TableReport) → IsReportedOfFirst findings p count old → IsReported findings p (count + 1) table
     → new.tables.items ≡ old.tables.items ++ table ∷ [] → new.gaps ≡ old.gaps + length table.gaps.items → new.overlaps ≡ old.overlaps + length table.overlaps.items
     → IsReportedOfFirst findings p (count + 1) new

@@ -1,4 +1,4 @@
--- A refusal's status is 1 to 3.
+-- The exit status of an error is 1 to 3.
 use Rattle.std.proofs.Common.{◌≤◌, arith}
 use Rattle.evaluation.proofs.Statuses as value
 use Rattle.adjudicate.specs.declared.stop.Stop.{Stop}

@@ -1,4 +1,4 @@
--- What the command `check --harmful` prints for a plan's text: of what `check` prints, the gaps and overlaps that are faults where they are met.
+-- What the command `check` prints for a plan's text if it reports only the gaps and overlaps that are errors under the table's hit policy.
 use Rattle.std.specs.Prelude.{◌≡◌, ℕ, ◌++◌, if◌then◌else◌, List, [], length, filter, flat_map}
 use Rattle.std.specs.List.{sum_by}
 use Rattle.dtable.specs.Plan.{PlanParts}
@@ -8,33 +8,33 @@ use Rattle.cutplan.specs.Numbered.{overlaps_of}
 use Rattle.cutplan.specs.Violations.{gap_is_error, overlap_is_error}
 use Rattle.adjudicate.specs.CheckText.{counts_line, gap_line, overlap_line, table_numbers, reported_gaps, wide_lines}
 
--- the gaps that are told of a table: all, or none where it has an answer in them
+-- the reported gaps of a table: all of them, or none if the table has an answer in its gaps
 abbrev pub error_gaps : PlanParts → ℕ → List (List Region)
 error_gaps plan table = if gap_is_error plan table then reported_gaps plan table else []
 
--- the overlaps of a table whose rules its policy lets not match together, in order
+-- the overlaps of a table whose rules may not match together under its hit policy, in order
 abbrev pub error_overlaps : PlanParts → ℕ → List (ℕ × ℕ)
 error_overlaps plan table = filter (λ rules. overlap_is_error plan table rules.0 rules.1) (overlaps_of plan table)
 
--- the lines of a table: these overlaps in order, and then these gaps in order, or that it is wide
+-- the lines of a table: these overlaps in order, and then these gaps in order or the line of a wide table
 abbrev pub error_table_lines : PlanParts → ℕ → List ℕ
 error_table_lines plan table = flat_map (overlap_line table) (error_overlaps plan table) ++ (wide_lines plan table ++ flat_map (gap_line table) (error_gaps plan table))
 
--- how many gaps are told of these tables
+-- the number of reported gaps of these tables
 abbrev pub error_gap_count : PlanParts → List ℕ → ℕ
 error_gap_count plan tables = sum_by (λ table. length (error_gaps plan table)) tables
 
--- how many overlaps
+-- the number of reported overlaps of these tables
 abbrev pub error_overlap_count : PlanParts → List ℕ → ℕ
 error_overlap_count plan tables = sum_by (λ table. length (error_overlaps plan table)) tables
 
--- the text that `check --harmful` prints of a plan: table by table, and the counts of what is told
+-- the text that `check` prints for a plan if it reports only errors: the lines of each table, and then the counts of the reported gaps and overlaps
 abbrev pub errors_text : PlanParts → List ℕ
 errors_text plan =
     let tables = table_numbers (length plan.tables) in
     flat_map (error_table_lines plan) tables ++ counts_line (error_gap_count plan tables) (error_overlap_count plan tables)
 
--- the same of the plan that the plan's text spells
+-- the text is the one that `check` prints for the plan that the plan's text denotes, if it reports only errors
 pub record IsErrorsCheckText (plan_text : List ℕ) (text : List ℕ) : Type 0 where
   pub plan : PlanParts
   pub spelled : IsPlanText plan_text plan

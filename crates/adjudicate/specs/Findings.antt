@@ -1,4 +1,4 @@
--- The texts of `check` and of `check --harmful` by one word, as one body makes them: `All` is the first, `Errors` the second.
+-- The texts of `check` by the findings that it reports: all of them, or only the errors.
 use Rattle.std.specs.Prelude.{ℕ, ◌++◌, Bool, true, if◌then◌else◌, List, [], length, flat_map}
 use Rattle.std.specs.List.{sum_by}
 use Rattle.dtable.specs.Plan.{PlanParts}
@@ -10,39 +10,39 @@ use Rattle.adjudicate.specs.declared.check.report.Findings.TheVariants.{All, Err
 use Rattle.adjudicate.specs.CheckText.{IsCheckText, counts_line, gap_line, overlap_line, table_numbers, reported_gaps, wide_lines}
 use Rattle.adjudicate.specs.ErrorsText.{IsErrorsCheckText, error_overlaps}
 
--- the gaps of a table are told
+-- whether the gaps of a table are reported
 abbrev pub reports_gaps : Findings → PlanParts → ℕ → Bool
 reports_gaps All plan table = true
 reports_gaps Errors plan table = gap_is_error plan table
 
--- the gaps that are told of a table
+-- the reported gaps of a table
 abbrev pub gaps_in : Findings → PlanParts → ℕ → List (List Region)
 gaps_in findings plan table = if reports_gaps findings plan table then reported_gaps plan table else []
 
--- the overlaps that are told of a table
+-- the reported overlaps of a table
 abbrev pub overlaps_in : Findings → PlanParts → ℕ → List (ℕ × ℕ)
 overlaps_in All plan table = overlaps_of plan table
 overlaps_in Errors plan table = error_overlaps plan table
 
--- the lines of a table
+-- the lines of a table: its overlaps in order, and then its gaps in order or the line of a wide table
 abbrev pub table_lines : Findings → PlanParts → ℕ → List ℕ
 table_lines findings plan table = flat_map (overlap_line table) (overlaps_in findings plan table) ++ (wide_lines plan table ++ flat_map (gap_line table) (gaps_in findings plan table))
 
--- how many gaps are told of these tables
+-- the number of reported gaps of these tables
 abbrev pub gap_count_in : Findings → PlanParts → List ℕ → ℕ
 gap_count_in findings plan tables = sum_by (λ table. length (gaps_in findings plan table)) tables
 
--- how many overlaps
+-- the number of reported overlaps of these tables
 abbrev pub overlap_count_in : Findings → PlanParts → List ℕ → ℕ
 overlap_count_in findings plan tables = sum_by (λ table. length (overlaps_in findings plan table)) tables
 
--- the text of a plan
+-- the text for a plan: the lines of each table, and then the counts
 abbrev pub text_in : Findings → PlanParts → List ℕ
 text_in findings plan =
     let tables = table_numbers (length plan.tables) in
     flat_map (table_lines findings plan) tables ++ counts_line (gap_count_in findings plan tables) (overlap_count_in findings plan tables)
 
--- the text that is printed of what a plan's text spells
+-- the text is the one for the plan that the plan's text denotes
 abbrev pub IsReportedText : Findings → List ℕ → List ℕ → Type 0
 IsReportedText All = IsCheckText
 IsReportedText Errors = IsErrorsCheckText

@@ -1,4 +1,4 @@
--- Why the command `run` stops, and what its writer has got then.
+-- The errors of the command `run`, and the bytes that its writer has received before each of them.
 use Rattle.std.specs.Prelude.{◌≡◌, ◌≢◌, ◌⊎◌, ◌↔◌, ℕ, List, Option}
 use Rattle.std.specs.Io.KnownBytes.{Keeps}
 use Rattle.dtable.specs.Plan.{PlanParts}
@@ -18,65 +18,66 @@ use Rattle.adjudicate.specs.declared.stop.Stop.{Stop}
 use Rattle.adjudicate.specs.declared.stop.Stop.TheVariants as stop
 use Rattle.adjudicate.specs.RunText.{AreTermsUnder, RunTexts, WritesFrontOver, WritesRemittanceFront}
 
--- a run with so many workers is refused by this fault: by that of the workers exactly where there can't be so many of them. Want of
--- memory is told by another refusal
+-- a run with this number of workers can end with this fault: it is the fault of the workers exactly if their number is not allowed. A
+-- lack of memory is another error
 pub record RefusesWorkers (workers : ℕ) (fault : RunFault) : Type 0 where
   pub reported : fault ≢ run.OutOfMemory
   pub refused : (fault ≡ run.Workers) ↔ (¬ IsWorkerCount workers)
 
--- the texts make terms under this plan, and their run is refused by this fault
+-- the texts form terms under this plan, and a run over these terms can end with this fault
 pub record RefusesTerms (plan : PlanParts) (texts : RunTexts) (workers : ℕ) (fault : RunFault) : Type 0 where
   pub parts : TermsParts
   pub are_terms : AreTermsUnder plan texts parts
   pub refuses : RefusesWorkers workers fault
 
--- the texts under this plan, and so many workers, give this refusal: the terms are tried before the workers. Want of memory can come
--- with any
+-- the error can occur for these texts under this plan and for this number of workers. The terms are checked before the workers; memory
+-- can run out for any texts
 abbrev pub RefusesRun : PlanParts → RunTexts → ℕ → Stop → Type 0
 RefusesRun plan texts workers (stop.Terms fault) = HasTermsFault plan texts.files texts.balances fault × (fault ≢ terms.OutOfMemory)
 RefusesRun plan texts workers (stop.Run fault) = RefusesTerms plan texts workers fault
 RefusesRun plan texts workers (stop.Value value.NoMemory) = Unit {0}
 RefusesRun plan texts workers _ = ⊥
 
--- the same under the plan that the plan's text spells
+-- the error can occur for these texts under the plan that the plan's text denotes, and for this number of workers
 abbrev pub RefusesRunSpelled : RunTexts → ℕ → Stop → Type 0
 RefusesRunSpelled texts workers s = (plan : PlanParts) × IsPlanText texts.plan plan × RefusesRun plan texts workers s
 
--- the texts and so many workers give this refusal: the plan is tried first. A write fault and want of memory can come with any
+-- the error can occur for these texts and this number of workers. The plan is checked first; a write fault and a lack of memory can
+-- occur for any texts
 abbrev pub IsRunReason : RunTexts → ℕ → Stop → Type 0
 IsRunReason texts workers (stop.Value (value.Plan fault)) = SpellsNoPlan texts.plan fault
 IsRunReason texts workers (stop.Value (value.Write written)) = Unit {0}
 IsRunReason texts workers (stop.Value value.NoMemory) = Unit {0}
 IsRunReason texts workers s = RefusesRunSpelled texts workers s
 
--- what ends the remittance of these terms: a fault of the run, where the writer has got nothing, a write fault, where it has got so
--- many first bytes, or want of memory, where it has got none or some first bytes
+-- the error ends the remittance of these terms: before a fault of the run the writer has received nothing, before a write fault exactly
+-- the first `written` bytes, and before a lack of memory nothing or some first bytes
 abbrev pub StopsRemittance : TermsParts → ℕ → Option (List ℕ) → Option (List ℕ) → Stop → Type 0
 StopsRemittance parts workers old new (stop.Run fault) = RefusesWorkers workers fault × Keeps old new
 StopsRemittance parts workers old new (stop.Value (value.Write written)) = WritesRemittanceFront parts old new written
 StopsRemittance parts workers old new (stop.Value value.NoMemory) = Keeps old new ⊎ ((written : ℕ) × WritesRemittanceFront parts old new written)
 StopsRemittance parts workers old new _ = ⊥
 
--- what a writer has got at a refusal of a run: at a write fault so many first bytes of the remittance, at want of memory none or
--- some first bytes, and otherwise nothing
+-- the bytes that the writer has received before an error of a run: before a write fault exactly the first `written` bytes of the
+-- remittance, before a lack of memory nothing or some first bytes, and otherwise nothing
 abbrev pub WritesRemittanceUntil : RunTexts → Option (List ℕ) → Option (List ℕ) → Stop → Type 0
 WritesRemittanceUntil texts old new (stop.Value (value.Write written)) = WritesFrontOver texts old new written
 WritesRemittanceUntil texts old new (stop.Value value.NoMemory) = Keeps old new ⊎ ((written : ℕ) × WritesFrontOver texts old new written)
 WritesRemittanceUntil texts old new _ = Keeps old new
 
--- the refusal that a fault of the terms becomes: want of memory is no fault of the texts
+-- the error for a fault of the terms; a lack of memory is not a fault of the texts
 abbrev pub IsStopOfTerms : TermsFault → Stop → Type 0
 IsStopOfTerms fault (stop.Terms same) = (same ≡ fault) × (fault ≢ terms.OutOfMemory)
 IsStopOfTerms fault (stop.Value value.NoMemory) = fault ≡ terms.OutOfMemory
 IsStopOfTerms fault _ = ⊥
 
--- the refusal that a fault of the run becomes
+-- the error for a fault of the run
 abbrev pub IsStopOfRun : RunFault → Stop → Type 0
 IsStopOfRun fault (stop.Run same) = (same ≡ fault) × (fault ≢ run.OutOfMemory)
 IsStopOfRun fault (stop.Value value.NoMemory) = fault ≡ run.OutOfMemory
 IsStopOfRun fault _ = ⊥
 
--- the refusal that the early end of a report becomes
+-- the error for a fault that ended the writing of a remittance
 abbrev pub IsStopOfWrite : WriteFault → Stop → Type 0
 IsStopOfWrite fault (stop.Value (value.Write written)) = (written ≡ fault.written) × (fault.cause ≡ write.Device)
 IsStopOfWrite fault (stop.Value value.NoMemory) = fault.cause ≡ write.OutOfMemory

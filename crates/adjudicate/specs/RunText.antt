@@ -13,15 +13,15 @@ use Rattle.remit.specs.Writing.{WritesReport}
 use Rattle.remit.specs.declared.counts.RunCounts.{RunCounts}
 use Rattle.adjudicate.specs.declared.run.RunInput.{RunInput}
 
--- what the remittance of a run is made from: the text of the plan, that of the balances, if there is one, those of the providers'
--- files, and how many claims are accepted at most, if that is limited
+-- the input that determines a remittance: the text of the plan, the text of the balances, if there is one, the texts of the providers'
+-- files, and the greatest number of accepted claims, if it is limited
 pub record RunTexts : Type 0 where
   pub plan : List ℕ
   pub balances : Option (List ℕ)
   pub files : List (List ℕ)
   pub cutoff : Option ℕ
 
--- the texts behind the references of what a run is given
+-- the texts that the references in the input of a run point to
 abbrev pub run_texts : RunInput → RunTexts
 run_texts input = record {
   plan = input.plan.now;
@@ -30,17 +30,17 @@ run_texts input = record {
   cutoff = input.cutoff;
 }
 
--- these are the terms of the texts, under this plan
+-- these are the terms of the texts under this plan
 abbrev pub AreTermsUnder : PlanParts → RunTexts → TermsParts → Type 0
 AreTermsUnder plan texts parts = AreTermsOf plan texts.files texts.balances texts.cutoff parts
 
--- these are the terms of the texts, under the plan that the plan's text spells
+-- these are the terms of the texts under the plan that the plan's text denotes
 pub record AreTermsOfTexts (texts : RunTexts) (parts : TermsParts) : Type 0 where
   pub plan : PlanParts
   pub spelled : IsPlanText texts.plan plan
   pub are_terms : AreTermsUnder plan texts parts
 
--- the bytes are the remittance of these terms: the report of one journal that is finished over them
+-- the bytes are a remittance of these terms: that of one journal, which is finished over the terms
 pub record IsRemittanceOf (parts : TermsParts) (bytes : List ℕ) : Type 0 where
   pub terms : Terms
   pub are_terms : IsTermsOf parts terms
@@ -48,14 +48,14 @@ pub record IsRemittanceOf (parts : TermsParts) (bytes : List ℕ) : Type 0 where
   pub finished : Finished terms journal
   pub report : IsReport parts journal bytes
 
--- the bytes are the remittance of the texts
+-- the bytes are a remittance of the texts
 pub record IsRemittance (texts : RunTexts) (bytes : List ℕ) : Type 0 where
   pub parts : TermsParts
   pub over : AreTermsOfTexts texts parts
   pub is_remittance : IsRemittanceOf parts bytes
 
--- the writer has got exactly the first bytes of the remittance of these terms, as many as `written` says: there is one journal,
--- finished over them, and of each report of it these are the first bytes. That there is such a report isn't refutable
+-- the writer has received exactly the first `written` bytes of a remittance of these terms: there is one journal, which is finished over
+-- the terms, and the bytes are the first ones of every remittance of it. It is not refutable that it has a remittance
 pub record WritesRemittanceFront (parts : TermsParts) (old new : Option (List ℕ)) (written : ℕ) : Type 0 where
   pub journal : List Event
   pub finished : IsFinishedOver parts journal
@@ -65,20 +65,20 @@ pub record WritesRemittanceFront (parts : TermsParts) (old new : Option (List �
   pub front : (report : List ℕ) → IsReport parts journal report → bytes ≡ take written report
   pub is_there : ¬ ((report : List ℕ) → ¬ IsReport parts journal report)
 
--- the same of the remittance of the texts
+-- the writer has received exactly the first `written` bytes of a remittance of the texts
 pub record WritesFrontOver (texts : RunTexts) (old new : Option (List ℕ)) (written : ℕ) : Type 0 where
   pub parts : TermsParts
   pub over : AreTermsOfTexts texts parts
   pub writes : WritesRemittanceFront parts old new written
 
--- the writer has got the report of a journal that is finished over these terms, and the counts are those of that journal
+-- the writer has received the remittance of a journal that is finished over these terms, and the counts are those of this journal
 pub record WritesCounted (parts : TermsParts) (old new : Option (List ℕ)) (counts : RunCounts) : Type 0 where
   pub journal : List Event
   pub finished : IsFinishedOver parts journal
   pub report : WritesReport parts journal old new
   pub counted : AreRunCounts parts journal counts
 
--- the writer has got a remittance of the texts, and the counts are those of its journal
+-- the writer has received a remittance of the texts, and the counts are those of its journal
 pub record IsCountedRemittance (texts : RunTexts) (old new : Option (List ℕ)) (counts : RunCounts) : Type 0 where
   pub parts : TermsParts
   pub over : AreTermsOfTexts texts parts

@@ -1,5 +1,6 @@
-//! The command `check`: which inputs no rule of a table covers, and which pairs of its rules can match together; all of
-//! them, or those that are faults.
+//! The command `check`: it reports the gaps of a table, which are inputs that no rule covers, and
+//! its overlaps, which are pairs of rules that can match together. It reports all of them, or only
+//! those that are errors under the table's hit policy.
 
 ghost use Rattle.std.specs.Prelude.{◌≡◌, ◌<◌, true, IfOk, IfErr, OnErr, OnOk, length};
 ghost use Rattle.std.specs.Io.KnownBytes.{Appends};
@@ -25,10 +26,12 @@ use std::alloc::Global;
 use std::io::Write;
 use text::{checked_report, put_report};
 
-/// Checks the plan's tables, and writes a line for each pair of rules that can match together (`overlap`) and each
-/// region of inputs that no rule covers (`gap`), a line for each table with too many regions (`wide`), and the counts.
-/// All of them are found before the first byte is written, so that nothing but the writer can fail then. The text is put in
-/// pieces, and no more of it is held than one of them.
+/// Checks the plan's tables, and writes a line for each pair of rules that can match together
+/// (`overlap`), a line for each region of inputs that no rule covers (`gap`), a line for each table
+/// with too many regions (`wide`), and the counts.
+///
+/// The check is complete before the first byte is written, so that only the writer can fail after
+/// that. The text is written in pieces, and memory holds no more than one piece of it.
 pub fn do_check<W: Write>(alloc: Global, plan: &[u8], out: &mut Out<W>) -> Result<(), Stop>
     ensures written { OnOk result (WritesText (IsCheckText plan.now)
         (W.contents (writer_of out.old)) (W.contents (writer_of out.new))) }
@@ -36,16 +39,18 @@ pub fn do_check<W: Write>(alloc: Global, plan: &[u8], out: &mut Out<W>) -> Resul
     ensures stopped { IfErr result (WritesUntil (IsCheckText plan.now)
         (W.contents (writer_of out.old)) (W.contents (writer_of out.new))) }
 
-    // The writer has failed after a write fault, and otherwise only where it had failed before.
+    // The writer has failed after a write fault, and otherwise only if it had failed before.
     ensures ok_failed { OnOk result (has_failed out.new ≡ has_failed out.old) }
-    ensures failed { IfErr result (λ stop. has_failed out.new ≡ failed_after (has_failed out.old) stop) }
+    ensures failed { IfErr result (λ stop.
+        has_failed out.new ≡ failed_after (has_failed out.old) stop) }
 {
     do_findings_check(alloc, plan, Findings::All, out)
 }
 
-/// Checks the plan's tables as `do_check` does, and writes the gaps and overlaps that are faults alone: the gaps of tables
-/// that answer by `norule` there, and the overlaps of rules that clash where both match. Wide tables are told as well, and
-/// the counts are of what is told.
+/// Checks the plan's tables as `do_check` does, but reports only the gaps and overlaps that are
+/// errors: a gap of a table whose value is the fault `norule` in it, and an overlap of rules that
+/// clash if both match. Wide tables are reported as well. The counts are those of the reported gaps
+/// and overlaps.
 pub fn do_errors_check<W: Write>(alloc: Global, plan: &[u8], out: &mut Out<W>) -> Result<(), Stop>
     ensures written { OnOk result (WritesText (IsErrorsCheckText plan.now)
         (W.contents (writer_of out.old)) (W.contents (writer_of out.new))) }
@@ -53,14 +58,15 @@ pub fn do_errors_check<W: Write>(alloc: Global, plan: &[u8], out: &mut Out<W>) -
     ensures stopped { IfErr result (WritesUntil (IsErrorsCheckText plan.now)
         (W.contents (writer_of out.old)) (W.contents (writer_of out.new))) }
 
-    // The writer has failed after a write fault, and otherwise only where it had failed before.
+    // The writer has failed after a write fault, and otherwise only if it had failed before.
     ensures ok_failed { OnOk result (has_failed out.new ≡ has_failed out.old) }
-    ensures failed { IfErr result (λ stop. has_failed out.new ≡ failed_after (has_failed out.old) stop) }
+    ensures failed { IfErr result (λ stop.
+        has_failed out.new ≡ failed_after (has_failed out.old) stop) }
 {
     do_findings_check(alloc, plan, Findings::Errors, out)
 }
 
-/// Checks the plan's tables as `do_check` or `do_errors_check` does, by what is to be told.
+/// Checks the plan's tables as `do_check` does, or as `do_errors_check` does.
 pub fn do_findings_check<W: Write>(
     alloc: Global,
     plan: &[u8],
@@ -73,7 +79,8 @@ pub fn do_findings_check<W: Write>(
     ensures stopped { IfErr result (WritesUntil (IsReportedText findings plan.now)
         (W.contents (writer_of out.old)) (W.contents (writer_of out.new))) }
     ensures ok_failed { OnOk result (has_failed out.new ≡ has_failed out.old) }
-    ensures failed { IfErr result (λ stop. has_failed out.new ≡ failed_after (has_failed out.old) stop) }
+    ensures failed { IfErr result (λ stop.
+        has_failed out.new ≡ failed_after (has_failed out.old) stop) }
 {
     match put_report_of_text(alloc, plan, findings, out) {
         Ok(()) => Ok(()),
@@ -81,7 +88,7 @@ pub fn do_findings_check<W: Write>(
     }
 }
 
-// The same, with what it may be refused by: what a command over a plan alone has.
+// Does the check with the narrower error type of a command that reads only a plan.
 #[tactic(auto, using(crate::proofs::Refusals::writes_whole, crate::proofs::Refusals::writes_front))]
 fn put_report_of_text<W: Write>(
     alloc: Global,
@@ -95,13 +102,13 @@ fn put_report_of_text<W: Write>(
     ensures stopped { IfErr result (WritesUntilValueStop (IsReportedText findings plan.now)
         (W.contents (writer_of out.old)) (W.contents (writer_of out.new))) }
     ensures ok_failed { OnOk result (has_failed out.new ≡ has_failed out.old) }
-    ensures failed { IfErr result (λ stop. has_failed out.new ≡ failed_after_value (has_failed out.old) stop) }
+    ensures failed { IfErr result (λ stop.
+        has_failed out.new ≡ failed_after_value (has_failed out.old) stop) }
 {
     let reported = report_of_text(alloc, plan, findings)?;
     put_check(alloc, &reported, out)
 }
 
-// What is told of a plan's text.
 #[tactic(auto, using(crate::proofs::Refusals::refuses_spelling, crate::proofs::Spelled::reported_is_spelled))]
 fn report_of_text(alloc: Global, plan: &[u8], findings: Findings) -> Result<CheckReport, ValueStop>
     ensures text { IfOk result (λ reported. IsReportedText findings plan.now (reported_text reported)) }
@@ -114,16 +121,18 @@ fn report_of_text(alloc: Global, plan: &[u8], findings: Findings) -> Result<Chec
     Ok(reported?)
 }
 
-// Writes the text of what is told. A writer that fails in its midst is a refusal.
+// Writes the text of the report.
 fn put_check<W: Write>(
     alloc: Global,
     reported: &CheckReport,
     out: &mut Out<W>,
 ) -> Result<(), ValueStop>
     requires { length (reported_text reported.now) < greatest_count }
-    ensures ok { OnOk result (Appends (W.contents (writer_of out.old)) (W.contents (writer_of out.new)) (reported_text reported.now)) }
+    ensures ok { OnOk result (Appends (W.contents (writer_of out.old))
+        (W.contents (writer_of out.new)) (reported_text reported.now)) }
     ensures ok_failed { OnOk result (has_failed out.new ≡ has_failed out.old) }
-    ensures err { IfErr result (PutsUntil (reported_text reported.now) (W.contents (writer_of out.old)) (W.contents (writer_of out.new))) }
+    ensures err { IfErr result (PutsUntil (reported_text reported.now)
+        (W.contents (writer_of out.old)) (W.contents (writer_of out.new))) }
     ensures failed { OnErr result (has_failed out.new ≡ true) }
 {
     match put_report(alloc, reported, out) {

@@ -1,4 +1,4 @@
-//! The counts of a run's records, where the caller wants them.
+//! The optional counts of a run's records.
 ghost use Rattle.std.specs.Prelude.{◌≡◌, IfSome};
 ghost use Rattle.remit.specs.Counts.{AreRunCounts};
 
@@ -6,7 +6,7 @@ use claim_gate::{Batch, Terms};
 use remit::{RunCounts, count_run};
 use std::alloc::Global;
 
-/// Whether a run counts the records of its remittance, and the counts of the last run that did.
+/// A request to count the records of a run's remittance or not, and the counts of the last run.
 pub struct Counting {
     is_wanted: bool,
     counts: Option<RunCounts>,
@@ -22,7 +22,7 @@ impl Drop for Counting {
 }
 
 impl Counting {
-    /// Counts nothing, which saves a further reading of the files.
+    /// Requests no counts, which saves one more pass over the files.
     pub fn unwanted() -> Counting {
         Counting {
             is_wanted: false,
@@ -30,7 +30,7 @@ impl Counting {
         }
     }
 
-    /// Counts the records of the next run.
+    /// Requests the counts of the next run.
     pub fn wanted() -> Counting {
         Counting {
             is_wanted: true,
@@ -38,12 +38,12 @@ impl Counting {
         }
     }
 
-    /// The counts of the last run, where they were wanted and there was memory for them.
+    /// Returns the counts of the last run, if they were requested and memory sufficed for them.
     pub fn counts(&self) -> Option<&RunCounts> {
         self.counts.as_ref()
     }
 
-    // Counts the records of this run.
+    // Counts the records of this run if counts are requested.
     pub(crate) fn count(&mut self, alloc: Global, terms: &Terms, batch: &Batch)
         requires same_terms { batch.now.terms ≡ terms.now }
         ensures { IfSome self.new.counts (AreRunCounts terms.now batch.now.journal) }

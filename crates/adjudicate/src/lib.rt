@@ -1,17 +1,20 @@
-//! A batch adjudicator for health-plan claims, as a library: what the program's commands do, over texts and
-//! a writer, so that a host can embed it and tests can call it.
+//! A batch adjudicator for health-plan claims, as a library. The commands of the program are
+//! functions of texts and a writer, so that a host can embed them and tests can call them.
 //!
-//! `value` is the command `value`, which `evaluation` does. `check` is the command `check`: the gaps and overlaps of a plan's
-//! tables. `run` is the command `run`: claims, and their remittance. `stop` names every refusal, with its line and its exit
-//! status: those of `evaluation`, and those of a run.
+//! `value` has the command `value`, which `evaluation` implements. `check` has the command `check`,
+//! which reports the gaps and overlaps of a plan's tables. `run` has the command `run`, which
+//! settles claims and writes their remittance; `counting` keeps the counts of its records. `stop`
+//! has every error of the commands, with its line and its exit status.
 //!
-//! Plans and their evaluation come from `dtable`, their check and its violations from `cutplan`, cells and
-//! values from `feel_tests`, numbers and the counting writer from `fixpoint`. A run goes from the texts to their terms
-//! (`claim_gate`), to a finished journal (`crew`) and to its report (`remit`).
+//! Plans and their evaluation come from `dtable`, the check of a plan and the violations of its hit
+//! policies come from `cutplan`, cells and values come from `feel_tests`, and numbers and the
+//! writer come from `fixpoint`. A run goes from the texts to their terms (`claim_gate`), to a
+//! finished journal (`crew`) and to its remittance (`remit`).
 //!
-//! Begin with `value.rt`, `check.rt` and `run.rt`, whose `do_value`, `do_check`, `do_errors_check` and `do_run` carry the
-//! promises of the commands, and with `specs/CheckText.antt`, `specs/ErrorsText.antt`, `specs/RunText.antt`, and
-//! `specs/ValueText.antt` of `evaluation`, which say what they print.
+//! Begin with `value.rt`, `check.rt` and `run.rt`: the contracts of `do_value`, `do_check`,
+//! `do_errors_check` and `do_run` are the promises of the commands. Then read
+//! `specs/CheckText.antt`, `specs/ErrorsText.antt`, `specs/RunText.antt`, and
+//! `specs/ValueText.antt` of `evaluation`, which define the output of the commands.
 #![tactic(auto)]
 
 mod check;

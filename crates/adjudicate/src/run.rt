@@ -1,4 +1,5 @@
-//! The command `run`: claims of providers' files, settled by a plan's tables, and the remittance of what was decided.
+//! The command `run`: it settles the claims of providers' files by a plan's tables, and writes
+//! their remittance.
 
 ghost use Rattle.std.specs.Prelude.{◌≡◌, IfOk, IfErr, IfSome, OnOk};
 ghost use Rattle.fixpoint.specs.Out.{writer_of, has_failed};
@@ -19,23 +20,24 @@ use std::io::Write;
 use std::sync::Wait;
 use std::thread::Threads;
 
-/// What a run is given.
+/// The input of a run.
 #[derive(Clone, Copy)]
 pub struct RunInput<'a> {
     /// The text of the plan.
     pub plan: &'a [u8],
-    /// The text of the opening balances. Without one every member begins with nothing.
+    /// The text of the opening balances. Without it, all accumulators begin at zero.
     pub balances: Option<&'a [u8]>,
-    /// The texts of the providers' files, the first that of provider 1.
+    /// The texts of the providers' files. The first of them is the file of provider 1.
     pub files: &'a [&'a [u8]],
-    /// How many claims are accepted at most, or `None` for all.
+    /// The greatest number of claims that are accepted, or `None` for no limit.
     pub cutoff: Option<u64>,
-    /// How many threads decide claims, 1 to `WORKERS_LIMIT`, beside the caller's, which helps.
+    /// The number of worker threads, from 1 to `WORKERS_LIMIT`. The caller's thread decides claims
+    /// as well.
     pub workers: usize,
 }
 
-/// Settles the claims of the files, and writes the remittance. The plan is tried first, then the terms that the texts
-/// make, then the number of workers.
+/// Settles the claims of the files, and writes the remittance. The plan is checked first, then the
+/// terms of the run, then the number of workers.
 ///
 /// For all plan, balance and provider texts, every cutoff and number of workers, a run that ends unrefused writes the
 /// remittance of one journal: each provider's accepted claims are the first of its file, once each and in its order, as
@@ -51,19 +53,20 @@ pub fn do_run<R: Threads + Wait + Sync + AllocGlobal, W: Write>(
     ensures workers { OnOk result (IsWorkerCount input.entry.workers) }
     ensures reason { IfErr result (IsRunReason (run_texts input.entry) input.entry.workers) }
 
-    // After want of memory the writer has got some first bytes of the remittance, or none.
+    // If memory runs out, the writer has received some first bytes of the remittance, or none.
     ensures stopped { IfErr result (WritesRemittanceUntil (run_texts input.entry)
         (W.contents (writer_of out.old)) (W.contents (writer_of out.new))) }
 
-    // The writer has failed after a write fault, and otherwise only where it had failed before.
+    // The writer has failed after a write fault, and otherwise only if it had failed before.
     ensures ok_failed { OnOk result (has_failed out.new ≡ has_failed out.old) }
-    ensures failed { IfErr result (λ stop. has_failed out.new ≡ failed_after (has_failed out.old) stop) }
+    ensures failed { IfErr result (λ stop.
+        has_failed out.new ≡ failed_after (has_failed out.old) stop) }
 {
     do_counted_run(rt, input, out, &mut Counting::unwanted())
 }
 
-/// Settles the claims as `do_run` does, and counts the records of the remittance where the caller wants it. Counts are missing
-/// where there was no memory for them.
+/// Settles the claims as `do_run` does, and counts the records of the remittance if `counting`
+/// requests it. The counts are missing if memory runs out for them, which is not an error.
 pub fn do_counted_run<R: Threads + Wait + Sync + AllocGlobal, W: Write>(
     rt: &R,
     input: RunInput,
@@ -80,7 +83,8 @@ pub fn do_counted_run<R: Threads + Wait + Sync + AllocGlobal, W: Write>(
     ensures stopped { IfErr result (WritesRemittanceUntil (run_texts input.entry)
         (W.contents (writer_of out.old)) (W.contents (writer_of out.new))) }
     ensures ok_failed { OnOk result (has_failed out.new ≡ has_failed out.old) }
-    ensures failed { IfErr result (λ stop. has_failed out.new ≡ failed_after (has_failed out.old) stop) }
+    ensures failed { IfErr result (λ stop.
+        has_failed out.new ≡ failed_after (has_failed out.old) stop) }
 {
     let plan = read_plan(rt.alloc(), input.plan)?;
     let done = run_plan(rt, &plan, input, out, counting);
@@ -88,7 +92,7 @@ pub fn do_counted_run<R: Threads + Wait + Sync + AllocGlobal, W: Write>(
     done
 }
 
-// The same, once the plan is read.
+// Continues `do_counted_run` after the plan is read.
 fn run_plan<R: Threads + Wait + Sync + AllocGlobal, W: Write>(
     rt: &R,
     plan: &Plan,
@@ -107,7 +111,8 @@ fn run_plan<R: Threads + Wait + Sync + AllocGlobal, W: Write>(
     ensures stopped { IfErr result (WritesRemittanceUntil (run_texts input.entry)
         (W.contents (writer_of out.old)) (W.contents (writer_of out.new))) }
     ensures ok_failed { OnOk result (has_failed out.new ≡ has_failed out.old) }
-    ensures failed { IfErr result (λ stop. has_failed out.new ≡ failed_after (has_failed out.old) stop) }
+    ensures failed { IfErr result (λ stop.
+        has_failed out.new ≡ failed_after (has_failed out.old) stop) }
 {
     let terms = Terms::new(rt.alloc(), plan, input.files, input.balances, input.cutoff)?;
     let done = write_remittance(rt, &terms, input.workers, out, counting);
@@ -115,7 +120,7 @@ fn run_plan<R: Threads + Wait + Sync + AllocGlobal, W: Write>(
     done
 }
 
-// Runs by so many workers, and writes the report of the run straight to the writer.
+// Runs the claims with this number of workers, and streams the remittance to the writer.
 fn write_remittance<R: Threads + Wait + Sync + AllocGlobal, W: Write>(
     rt: &R,
     terms: &Terms,
@@ -131,9 +136,10 @@ fn write_remittance<R: Threads + Wait + Sync + AllocGlobal, W: Write>(
     ensures stopped { IfErr result (StopsRemittance terms.now workers
         (W.contents (writer_of out.old)) (W.contents (writer_of out.new))) }
     ensures ok_failed { OnOk result (has_failed out.new ≡ has_failed out.old) }
-    ensures failed { IfErr result (λ stop. has_failed out.new ≡ failed_after (has_failed out.old) stop) }
+    ensures failed { IfErr result (λ stop.
+        has_failed out.new ≡ failed_after (has_failed out.old) stop) }
 {
-    // Known from here: the texts have lists of claims, so that what holds for each list says something.
+    // proof: each text has a list of claims, so a promise about every such list is not vacuous
     claim_lists_exist(terms);
     let batch = crew::run(rt, rt.alloc(), terms, workers)?;
     write_report_by_threads(rt, rt.alloc(), terms, &batch, out)?;

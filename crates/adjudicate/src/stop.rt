@@ -1,4 +1,4 @@
-//! Why a command stopped: each refusal has one line on standard error and one exit status.
+//! The errors that stop a command. Each error has one line on standard error and one exit status.
 
 ghost use Rattle.std.specs.Prelude.{◌≡◌, ◌≤◌, take};
 ghost use Rattle.adjudicate.specs.Stop.{status_of, stop_line};
@@ -14,22 +14,24 @@ use remit::{WriteCause, WriteFault};
 use std::alloc::AllocError;
 use thiserror::Error;
 
-/// Why a command stopped.
+/// The error that stopped a command.
 #[derive(Debug, Drop, Error)]
 pub enum Stop {
-    /// What `value` is refused by: of another command its plan, its writer or want of memory.
+    /// An error of the command `value`. The other commands share its errors of the plan, of the
+    /// writer and of the memory.
     #[error("{0}")]
     Value(ValueStop),
-    /// The texts make no terms for a run.
+    /// The texts do not form the terms of a run.
     #[error("terms: {0}")]
     Terms(TermsFault),
-    /// The run with so many workers is refused, before a byte is written.
+    /// The run ended with a fault before the first byte was written.
     #[error("run: {0}")]
     Run(RunFault),
 }
 
 impl Stop {
-    /// The exit status: 1 where the texts are refused, 3 where a resource is wanting.
+    /// Returns the exit status: 1 for invalid input, 3 for a system error, such as a write fault or
+    /// a lack of memory or of threads.
     pub fn status(&self) -> u8
         ensures { result ≡ status_of self.now }
     {
@@ -40,7 +42,8 @@ impl Stop {
         }
     }
 
-    /// Writes the refusal's line, with its end, to the front of the buffer, and returns its length in bytes.
+    /// Writes the line of the error, with its line end, to the start of the buffer and returns its
+    /// length in bytes.
     pub fn write_line(&self, buffer: &mut [u8; LINE_LIMIT_BYTES]) -> usize
         ensures fits { result ≤ LINE_LIMIT_BYTES }
         ensures written { take result buffer.new ≡ stop_line self.now }

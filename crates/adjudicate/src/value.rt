@@ -1,4 +1,5 @@
-//! The command `value`: what a plan's tables give at the values of some arguments, a line for each output.
+//! The command `value`: it evaluates a plan's tables for given arguments, and writes one line for
+//! each output.
 
 ghost use Rattle.std.specs.Prelude.{◌≡◌, IfErr, OnOk};
 ghost use Rattle.fixpoint.specs.Out.{writer_of, has_failed};
@@ -12,8 +13,8 @@ use fixpoint::Out;
 use std::alloc::Global;
 use std::io::Write;
 
-/// Evaluates the plan's tables at the arguments, each `NAME=LITERAL`, and writes the value of each output.
-/// The whole text is made before its first byte is written.
+/// Evaluates the plan's tables for the arguments, each of the form `NAME=LITERAL`, and writes the
+/// value of each output. The whole text is made before its first byte is written.
 pub fn do_value<W: Write>(
     alloc: Global,
     plan: &[u8],
@@ -26,9 +27,10 @@ pub fn do_value<W: Write>(
     ensures stopped { IfErr result (WritesUntil (IsValueText plan.now (texts_of arguments.now))
         (W.contents (writer_of out.old)) (W.contents (writer_of out.new))) }
 
-    // The writer has failed after a write fault, and otherwise only where it had failed before.
+    // The writer has failed after a write fault, and otherwise only if it had failed before.
     ensures ok_failed { OnOk result (has_failed out.new ≡ has_failed out.old) }
-    ensures failed { IfErr result (λ stop. has_failed out.new ≡ failed_after (has_failed out.old) stop) }
+    ensures failed { IfErr result (λ stop.
+        has_failed out.new ≡ failed_after (has_failed out.old) stop) }
 {
     match evaluation::do_value(alloc, plan, arguments, out) {
         Ok(()) => Ok(()),

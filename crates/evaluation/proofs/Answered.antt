@@ -1,4 +1,4 @@
--- Each output of a plan's tables has an answer, where the tables have a value.
+-- If a plan's tables have a value, each of their outputs has an answer.
 use Rattle.std.proofs.Common.{◌≡◌, ℕ, zero, suc, ◌<◌, nat_le, ℤ, ◌+ℤ◌, not, Bool, true, false, cond, ◌==◌, ◌&&◌, List, [], ◌∷◌, ◌++◌, length, Option, Some, None, Result, Ok, Err, is_some, slice_get, refl, ap, sym, subst, ◌∙◌, inl, inr, arith}
 use Rattle.std.specs.List.{list_all, filter, filter_map, cons_option, find, position, position_or_len, range_with_len, reduce, list_any}
 use Rattle.std.specs.Int.{int_min, int_max}
@@ -30,24 +30,24 @@ use Rattle.dtable.specs.Plan.{PlanParts, IsPlan, rule_fits, satisfies_constraint
 use Rattle.dtable.specs.Priority.{entries_of, highest_rule, in_priority_order, precedes}
 use Rattle.evaluation.specs.ValueText.{AreAnswered}
 
--- these answers, as the value of a table
+-- the value of a table with these answers
 abbrev value_of : List Answer → TableValue
 value_of answers = Ok answers
 
--- the answers of an environment, as the value of its tables
+-- the value of the tables with the answers of an environment
 abbrev answers_value : Environment → Result (List (List Answer)) Fault
 answers_value e = Ok e.answers
 
--- an answer for each output
+-- there is one answer for each output
 abbrev IsWhole : Table → List Answer → Type 0
 IsWhole t answers = length answers ≡ length t.outputs
 
--- an entry for each output, in each of these rules
+-- each of these rules has one entry for each output
 abbrev AreWhole : Table → List ℕ → Type 0
 AreWhole t [] = Unit {0}
 AreWhole t (rule ∷ rules) = (length (entries_of t rule) ≡ length t.outputs) × AreWhole t rules
 
--- rules that match have an entry for each output
+-- each rule that fits its table has one entry for each output
 entries_fit : (t : Table) (rules : List Rule) (place : ℕ) → list_all (rule_fits t) rules ≡ true → is_some (slice_get rules place) ≡ true
     → length (option_map_or (λ (r : Rule). r.entries) (slice_get rules place) []) ≡ length t.outputs
 entries_fit t [] place fits some = absurd (false≢true some)
@@ -75,7 +75,7 @@ matching_whole given earlier t fits =
     (λ rule matches. entries_fit t t.rules rule fits (matches_some (λ r. cells_hold given earlier t.inputs r.cells) (slice_get t.rules rule) matches))
     (range_with_len 0 (length t.rules))
 
--- the answers of single values
+-- single values give one answer for each output
 ones_whole : (t : Table) (values : List Value) (answers : List Answer) → length values ≡ length t.outputs → value_of (ones values) ≡ Ok answers → IsWhole t answers
 ones_whole t values answers whole same =
     let equal : ones values ≡ answers = cc in
@@ -133,7 +133,7 @@ lists_whole t rules answers same =
     let equal : lists t rules ≡ answers = cc in
     ap length (sym equal) ∙ length-map-range_with_len (λ column. Many (column_of t rules column)) 0 (length t.outputs)
 
--- the answer of an aggregator is one, for one output
+-- an aggregating hit policy gives one answer, for its one output
 number_whole : (number : ℕ) (t : Table) (units : ℤ) (answers : List Answer) → length t.outputs ≡ 1 → number_answer number units ≡ Ok answers → IsWhole t answers
 number_whole number t units answers one same =
     elim (cases_Bool (nat_le (unsigned_abs units) greatest_units)) [
@@ -178,7 +178,7 @@ table_whole given earlier t answers fits demand same =
     by_hit_whole t.hit (number_after earlier) t (matching given earlier t) answers (matching_whole given earlier t fits) demand
     (inside_value (first_outside given earlier t) (number_after earlier) _ answers same)
 
--- each table has its answers
+-- each table has one answer for each output
 abbrev AllWhole : List Table → List (List Answer) → Type 0
 AllWhole [] [] = Unit {0}
 AllWhole (t ∷ ts) (answers ∷ more) = IsWhole t answers × AllWhole ts more
@@ -198,7 +198,7 @@ answers_whole given earlier (t ∷ ts) all fits demands same =
     let rest = answers_whole given (earlier ++ step.0 ∷ []) ts all fit.1 demand.1 step.2 in
     (step.0 ∷ rest.0, rest.1 ∙ append_assoc earlier (step.0 ∷ []) rest.0, (table_whole given earlier t step.0 fit.0 demand.0 step.1, rest.2))
 
--- the first output of a name, where some output has it, is one of the outputs
+-- if some output has a name, the first output with this name is within the list
 named_within : (outputs : List Output) (place : ℕ) (o : Output) → slice_get outputs place ≡ Some o → position_or_len (λ (x : Output). bytes_eq x.name o.name) outputs < length outputs
 named_within [] place o present = absurd (none-some o present)
 named_within (x ∷ xs) zero o present =
@@ -252,7 +252,7 @@ env_parts plan given values (Err fault) is same =
     let value : env plan given ≡ Err fault = rw is refl in
     absurd (cc)
 
--- where the tables have a value, each output has an answer
+-- if the tables have a value, each output has an answer
 pub AreAnswered-from_env : (plan : PlanParts) (given : List Slot) (values : Environment) → IsPlan plan → env plan given ≡ Ok values → AreAnswered values plan.tables
 AreAnswered-from_env plan given values sound same table place t o at present =
     let parts = env_parts plan given values _ refl same in

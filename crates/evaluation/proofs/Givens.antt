@@ -1,4 +1,4 @@
--- What is given for names, and by which arguments.
+-- The values of names, and the arguments that give them.
 use Rattle.std.proofs.Common.{◌≡◌, ◌≢◌, ℕ, zero, suc, ◌+◌, ◌<◌, Bool, true, false, cond, ◌==◌, List, [], ◌∷◌, ◌++◌, length, get_or, set, take, Option, Some, None, IsSome, refl, ap, sym, subst, ◌∙◌, arith, ⊎_elim, slice_get}
 use Rattle.std.proofs.lemmas.Bool.{false≢true, cases_eq, cases_Bool}
 use Rattle.std.proofs.lemmas.Bool.Decides.{Decides-eqb}
@@ -14,12 +14,12 @@ use Rattle.dtable.specs.declared.table.InputData.{InputData}
 use Rattle.dtable.specs.Inputs.{value_at, kind_at, empty_slots, fill_slot, Takes}
 use Rattle.evaluation.specs.Arguments.{argument_texts, Assignment, IsSplit, NamesData, IsArgument, EachArgument, AreApart, Gives, assigned}
 
--- a reference that is there leads to a value
+-- a reference that is found points to a value
 pub some_value : (found : Option (Bor Value)) (given : Option Value) → is_some found ≡ true → option_copied found ≡ given → IsSome given
 some_value None given some same = absurd (false≢true some)
 some_value (Some reference) given some same = rw (sym same) refl
 
--- and one that isn't there to none
+-- without a reference there is no value
 pub no_value : (found : Option (Bor Value)) (given : Option Value) → is_some found ≡ false → option_copied found ≡ given → given ≡ None
 no_value None given none same = sym same
 no_value (Some reference) given none same = absurd (false≢true (sym none))
@@ -28,14 +28,14 @@ pub a_value : (found : Option (Bor Value)) (given : Option Value) → is_some fo
 a_value None given some same = absurd (false≢true some)
 a_value (Some reference) given some same = (reference.now, sym same)
 
--- the data of this name stands at the place
+-- the input data with this name is at this index
 pub names_data : (names : List InputData) (text name literal : List ℕ) (place : ℕ) (input : InputData) → IsSplit text name literal → slice_get names place ≡ Some input → input.name ≡ name
     → NamesData names text place input literal
 names_data names text name literal place input split present same =
     let P : List ℕ → Type 0 = λ n. IsSplit text n literal in
     record { split = subst P (sym same) split; present = present }
 
--- the text of an argument
+-- the text of the argument at an index
 pub argument_texts-at : (arguments : List (Bor (List ℕ))) (place : ℕ) (d : Bor (List ℕ)) → place < length arguments → slice_get (argument_texts arguments) place ≡ Some (get_or arguments place d).now
 argument_texts-at arguments place d within =
     slice_get-map (λ (a : Bor (List ℕ)). a.now) arguments place ∙ ap (option_map (λ (a : Bor (List ℕ)). a.now)) (slice_get-get_or arguments place d within)
@@ -65,7 +65,7 @@ EachArgument-push names [] (b ∷ bs) text a each more = absurd each
 EachArgument-push names (t ∷ ts) [] text a each more = absurd each
 EachArgument-push names (t ∷ ts) (b ∷ bs) text a each more = (each.0, EachArgument-push names ts bs text a each.1 more)
 
--- a choice that is nothing was made for its second part
+-- a choice with no value was made for its second part
 second_part : (test : Bool) (value : Value) (rest : Option Value) → cond test (Some value) rest ≡ None → (test ≡ false) × (rest ≡ None)
 second_part true value rest none = absurd (none-some value (sym none))
 second_part false value rest none = (refl, none)
@@ -73,14 +73,14 @@ second_part false value rest none = (refl, none)
 differs : (a b : ℕ) → a ≢ b → (a == b) ≡ false
 differs a b other = ⊎_elim (λ same. absurd (other ((Decides-eqb a b).0 same))) (λ different. different) (cases_Bool (a == b))
 
--- a further assignment counts where none before it does
+-- an appended assignment counts if no earlier one assigns the index
 assigned-push : (assignments : List Assignment) (a : Assignment) (place : ℕ) → assigned assignments place ≡ None → assigned (assignments ++ a ∷ []) place ≡ cond (a.place == place) (Some a.value) None
 assigned-push [] a place none = refl
 assigned-push (b ∷ bs) a place none =
     let parts = second_part (b.place == place) b.value (assigned bs place) none in
     ap (λ test. cond test (Some b.value) (assigned (bs ++ a ∷ []) place)) parts.0 ∙ assigned-push bs a place parts.1
 
--- and elsewhere the assignments before it stand
+-- at other indices the earlier assignments count
 assigned-kept : (assignments : List Assignment) (a : Assignment) (place : ℕ) → a.place ≢ place → assigned (assignments ++ a ∷ []) place ≡ assigned assignments place
 assigned-kept [] a place other = ap (λ test. cond test (Some a.value) None) (differs a.place place other)
 assigned-kept (b ∷ bs) a place other = ap (λ rest. cond (b.place == place) (Some b.value) rest) (assigned-kept bs a place other)
@@ -92,13 +92,13 @@ AreApart-push (b ∷ bs) a apart fresh =
     let other : a.place ≢ b.place = λ e. false≢true (sym parts.0 ∙ (Decides-eqb b.place a.place).1 (sym e)) in
     (assigned-kept bs a b.place other ∙ apart.0, AreApart-push bs a apart.1 parts.1)
 
--- the kind of a place's slot is that of its name
+-- the slot at an index has the kind of its name
 kind_of_slot : (names : List InputData) (place : ℕ) → kind_at (empty_slots names) place ≡ option_map (λ (d : InputData). d.kind) (slice_get names place)
 kind_of_slot [] place = refl
 kind_of_slot (d ∷ ds) zero = refl
 kind_of_slot (d ∷ ds) (suc place) = kind_of_slot ds place
 
--- and it has no value
+-- an empty slot has no value
 empty_slot : (names : List InputData) (place : ℕ) → value_at (empty_slots names) place ≡ None
 empty_slot [] place = refl
 empty_slot (d ∷ ds) zero = refl
@@ -108,13 +108,13 @@ empty_slot (d ∷ ds) (suc place) = empty_slot ds place
 pub Gives-none : (names : List InputData) → Gives names [] (empty_slots names)
 Gives-none names = record { assignments = []; each = tt; once = tt; kinds = kind_of_slot names; found = empty_slot names }
 
--- a place that takes values is one of the slots
+-- an index that takes values is within the slots
 takes_within : (given : List Slot) (place : ℕ) (kind : Kind) → Takes given place kind → place < length given
 takes_within [] place kind takes = absurd (none-some kind takes)
 takes_within (s ∷ ss) zero kind takes = omega arith
 takes_within (s ∷ ss) (suc place) kind takes = omega (arith, takes_within ss place kind takes)
 
--- the place of an argument takes its value
+-- the slot of an argument takes its value
 pub argument_taken : (names : List InputData) (arguments : List (List ℕ)) (given : List Slot) (text : List ℕ) (a : Assignment) → Gives names arguments given → IsArgument names text a → Takes given a.place (kind_of a.value)
 argument_taken names arguments given text a before argument =
     before.kinds a.place ∙ ap (option_map (λ (d : InputData). d.kind)) argument.named.present ∙ ap Some (sym argument.of_kind)
@@ -146,7 +146,7 @@ Gives-more names arguments given text a before argument fresh =
           (cases_eq a.place place);
     }
 
--- and so does the next of the arguments
+-- the next argument gives one more value
 pub Gives-next : (names : List InputData) (arguments : List (Bor (List ℕ))) (place : ℕ) (d : Bor (List ℕ)) (given : List Slot) (a : Assignment) → Gives names (take place (argument_texts arguments)) given
     → place < length arguments → IsArgument names (get_or arguments place d).now a → value_at given a.place ≡ None
     → Gives names (take (place + 1) (argument_texts arguments)) (fill_slot given a.place a.value)

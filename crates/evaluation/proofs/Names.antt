@@ -1,4 +1,4 @@
--- The place of input data by its name.
+-- The index of input data by its name.
 use Rattle.std.proofs.Common.{◌≡◌, ◌≢◌, ℕ, ◌+◌, ◌<◌, ◌≤◌, List, length, get_or, Some, ap, sym, refl, ◌∙◌, below_more, Contains, slice_get, arith}
 use Rattle.std.proofs.lemmas.List.{length-map}
 use Rattle.std.specs.Option.{option_map}
@@ -6,19 +6,19 @@ use Rattle.std.proofs.lemmas.Option.{slice_get-map, slice_get_read, slice_get-ge
 use Rattle.dtable.specs.declared.table.InputData.{InputData}
 use Rattle.dtable.specs.Scope.{data_names}
 
--- the name at a place
+-- the name at an index
 pub data_names-at : (names : List InputData) (place : ℕ) (input : InputData) → place < length names → input ≡ get_or names place input → slice_get (data_names names) place ≡ Some input.name
 data_names-at names place input within present =
     slice_get-map (λ (d : InputData). d.name) names place ∙ ap (λ o. option_map (λ (d : InputData). d.name) o) (slice_get_read names (length names) place input refl within present)
 
--- where no data before a place has the name, nor the one there, none has it up to there
+-- if neither the data before an index nor the data at the index has the name, none of them has it
 pub unnamed_more : (names : List InputData) (name : List ℕ) (place : ℕ) (input : InputData) → place < length names → input ≡ get_or names place input → input.name ≢ name
     → ((k : ℕ) → k < place → slice_get (data_names names) k ≢ Some name) → (k : ℕ) → k < place + 1 → slice_get (data_names names) k ≢ Some name
 unnamed_more names name place input within present other below =
     below_more (λ k. slice_get (data_names names) k ≢ Some name) place below
     (λ e. other (same_Some _ _ (sym (data_names-at names place input within present) ∙ e)))
 
--- a name that stands at no place is not among the names
+-- a name at no index is not among the names
 pub unknown_name : (names : List InputData) (name : List ℕ) (place : ℕ) → length names ≤ place
     → ((k : ℕ) → k < place → slice_get (data_names names) k ≢ Some name) → ¬ Contains (data_names names) name
 unknown_name names name place all below there =

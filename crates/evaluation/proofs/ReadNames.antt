@@ -1,4 +1,4 @@
--- What the tables of a plan read.
+-- The names that the tables of a plan read.
 use Rattle.std.proofs.Common.{ℕ, ◌≤◌, List, length, arith}
 use Rattle.dtable.specs.declared.inputs.Slot.{Slot}
 use Rattle.dtable.specs.Inputs.{IsReady}
@@ -6,7 +6,7 @@ use Rattle.dtable.specs.Plan.{PlanParts, IsPlan}
 use Rattle.dtable.proofs.NeededNames.{within_names}
 use Rattle.evaluation.specs.Arguments.{IsReadyBelow}
 
--- the tables of a plan read no more than its names
+-- the tables of a plan read only its names
 pub IsReady-from_below : (plan : PlanParts) (given : List Slot) (end : ℕ) → IsPlan plan → length plan.names ≤ end → IsReadyBelow end plan.tables given → IsReady plan.tables given
 IsReady-from_below plan given end sound all below place read =
     let within = within_names plan place sound read in

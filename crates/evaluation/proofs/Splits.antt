@@ -5,7 +5,7 @@ use Rattle.std.specs.Option.{IfNone}
 use Rattle.std.proofs.lemmas.List.{get_or_default}
 use Rattle.evaluation.specs.Arguments.{equals_sign, IsSplit}
 
--- what isn't read at any place isn't contained
+-- a byte at no index is not contained
 pub not_contained : (byte : ℕ) (bytes : List ℕ) → ((i : ℕ) → i < length bytes → get_or bytes i 0 ≢ byte) → ¬ Contains bytes byte
 not_contained byte bytes absent there = absent there.0 there.1 (get_or_default bytes there.0 0 byte there.1 ∙ there.2)
 

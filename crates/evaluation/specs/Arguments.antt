@@ -1,4 +1,4 @@
--- The arguments `NAME=LITERAL` of the command `value`, and what they give.
+-- The arguments `NAME=LITERAL` of the command `value`, and the values that they give.
 use Rattle.std.specs.Prelude.{◌≡◌, ℕ, ◌<◌, ◌++◌, ◌==◌, cond, List, [], ◌∷◌, map, Option, Some, None, option_map, Contains, slice_get, IsTrue, IsSome}
 use Rattle.std.specs.Borrow.{Bor}
 use Rattle.feel_tests.specs.declared.value.Value.{Value}
@@ -9,7 +9,7 @@ use Rattle.dtable.specs.declared.table.InputData.{InputData}
 use Rattle.dtable.specs.declared.table.Table.{Table}
 use Rattle.dtable.specs.Inputs.{needs, value_at, kind_at}
 
--- the texts of arguments, behind their references
+-- the texts that references to arguments point to
 abbrev pub argument_texts : List (Bor (List ℕ)) → List (List ℕ)
 argument_texts arguments = map (λ a. a.now) arguments
 
@@ -17,22 +17,22 @@ argument_texts arguments = map (λ a. a.now) arguments
 abbrev pub equals_sign : ℕ
 equals_sign = 61
 
--- the name in front of an argument's first `=`, and the literal behind it
+-- the name before an argument's first `=`, and the literal after it
 pub record IsSplit (text name literal : List ℕ) : Type 0 where
   pub joined : text ≡ name ++ (equals_sign ∷ literal)
   pub first : ¬ Contains name equals_sign
 
--- the argument's name is that of the input data at a place, and the literal stands behind it
+-- the argument has the name of the input data at an index, and then this literal
 pub record NamesData (names : List InputData) (text : List ℕ) (place : ℕ) (input : InputData) (literal : List ℕ) : Type 0 where
   pub split : IsSplit text input.name literal
   pub present : slice_get names place ≡ Some input
 
--- a name's place, and the value that is given for it
+-- the index of a name, and the value that an argument gives to it
 pub record Assignment : Type 0 where
   pub place : ℕ
   pub value : Value
 
--- an argument: the name at the place, `=`, and a literal of its kind that spells the value
+-- an argument: the name at the index, `=`, and a literal of the name's kind that denotes the value
 pub record IsArgument (names : List InputData) (text : List ℕ) (assignment : Assignment) : Type 0 where
   pub input : InputData
   pub literal : List ℕ
@@ -40,23 +40,23 @@ pub record IsArgument (names : List InputData) (text : List ℕ) (assignment : A
   pub spelled : SpellsValue input.kind literal assignment.value
   pub of_kind : kind_of assignment.value ≡ input.kind
 
--- each argument makes the assignment at its place, and there are as many of both
+-- each argument makes the assignment at the same index, and the two lists have equal lengths
 abbrev pub EachArgument : List InputData → List (List ℕ) → List Assignment → Type 0
 EachArgument names [] [] = Unit {0}
 EachArgument names (argument ∷ arguments) (a ∷ more) = IsArgument names argument a × EachArgument names arguments more
 EachArgument names _ _ = ⊥
 
--- the value that is assigned to a place
+-- the value that is assigned to an index
 abbrev pub assigned : List Assignment → ℕ → Option Value
 assigned [] place = None
 assigned (a ∷ more) place = cond (a.place == place) (Some a.value) (assigned more place)
 
--- no place is assigned twice
+-- no index is assigned twice
 abbrev pub AreApart : List Assignment → Type 0
 AreApart [] = Unit {0}
 AreApart (a ∷ more) = (assigned more a.place ≡ None) × AreApart more
 
--- the arguments give these values, each name once at most: a place for each name, with its kind and what is assigned to it
+-- the arguments give these values, at most one to each name: there is a slot for each name, with its kind and the assigned value
 pub record Gives (names : List InputData) (arguments : List (List ℕ)) (given : List Slot) : Type 0 where
   pub assignments : List Assignment
   pub each : EachArgument names arguments assignments
@@ -64,7 +64,7 @@ pub record Gives (names : List InputData) (arguments : List (List ℕ)) (given :
   pub kinds : (place : ℕ) → kind_at given place ≡ option_map (λ d. d.kind) (slice_get names place)
   pub found : (place : ℕ) → value_at given place ≡ assigned assignments place
 
--- every name in front of a place that a table reads has a value
+-- each name before an index that a table reads has a value
 abbrev pub IsReadyBelow : ℕ → List Table → List Slot → Type 0
 IsReadyBelow end tables given = (place : ℕ) → place < end → IsTrue (needs tables place) → IsSome (value_at given place)
 

@@ -23,11 +23,11 @@ abbrev pub answer_text : Answer → List ℕ
 answer_text (One value) = literal_text value
 answer_text (Many values) = codes "[" ++ (join_by literal_text (codes ", ") values ++ codes "]")
 
--- `NAME = VALUE`, and the end of the line
+-- the line `NAME = VALUE`
 abbrev pub named_line : List ℕ → Answer → List ℕ
 named_line name answer = name ++ (codes " = " ++ (answer_text answer ++ line_end ∷ []))
 
--- the line of an output, with the answer that stands under its name
+-- the line of an output, with the answer under its name
 abbrev pub output_line : Environment → Output → List ℕ
 output_line values output = option_map_or (named_line output.name) (answer_of values.tables values.answers output.name) []
 
@@ -45,7 +45,7 @@ AreAnswered values tables =
     (table place : ℕ) (t : Table) (o : Output) → slice_get tables table ≡ Some t → slice_get t.outputs place ≡ Some o
     → IsSome (answer_of values.tables values.answers o.name)
 
--- the text that `value` prints of a plan, at what the arguments give
+-- the text that `value` prints for a plan and the values that the arguments give
 pub record IsTextOf (plan : PlanParts) (arguments : List (List ℕ)) (text : List ℕ) : Type 0 where
   pub given : List Slot
   pub gives : Gives plan.names arguments given
@@ -55,7 +55,7 @@ pub record IsTextOf (plan : PlanParts) (arguments : List (List ℕ)) (text : Lis
   pub answered : AreAnswered values plan.tables
   pub lines : text ≡ value_lines values plan.tables
 
--- the text that `value` prints: of the plan that the plan's text spells
+-- the text that `value` prints for the plan that the plan's text denotes
 pub record IsValueText (plan_text : List ℕ) (arguments : List (List ℕ)) (text : List ℕ) : Type 0 where
   pub plan : PlanParts
   pub spelled : IsPlanText plan_text plan

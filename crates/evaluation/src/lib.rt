@@ -1,14 +1,15 @@
-//! The value of a plan's tables at given arguments, as a library: what the command `value` does, over texts and a writer, so that a
-//! host can embed it and tests can call it.
+//! The evaluation of a plan's tables for given arguments, as a library. The command `value` is a
+//! function of texts and a writer, so that a host can embed it and tests can call it.
 //!
-//! `value` is the command: arguments, the value of a plan's tables, printed lines. `stop` names every refusal of it, with its line and its
-//! exit status.
+//! `value` reads the arguments, evaluates the tables and writes a line for each output. `stop` has
+//! every error of the command, with its line and its exit status.
 //!
-//! Plans and their evaluation come from `dtable`, cells and values from `feel_tests`, numbers and the counting writer from `fixpoint`, the
-//! words of a fault of the tables and what a caller needs of refusals of any command from `faults`.
+//! Plans and their evaluation come from `dtable`, cells and values come from `feel_tests`, and
+//! numbers and the writer come from `fixpoint`. `faults` has the texts for faults of the tables and
+//! the trait that the errors of all commands implement.
 //!
-//! Begin with `value.rt`, whose `do_value` carries the promises, and with `specs/ValueText.antt` and `specs/Stop.antt`, which say
-//! what it prints and why it stops.
+//! Begin with `value.rt`: the contract of `do_value` is the promise of the command. Then read
+//! `specs/ValueText.antt` and `specs/Stop.antt`, which define its output and its errors.
 #![tactic(auto)]
 
 mod output;

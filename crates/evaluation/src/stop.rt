@@ -1,4 +1,5 @@
-//! Why there is no value, or not all of it was written: each refusal has one line on standard error and one exit status.
+//! The errors that stop the command `value`, some of which other commands share. Each error has one
+//! line on standard error and one exit status.
 
 ghost use Rattle.std.specs.Prelude.{◌≡◌, ◌<◌, ◌≤◌, take};
 ghost use Rattle.evaluation.specs.Stop.{IsStopOfArgument, argument_fault_number, status_of, stop_line};
@@ -12,25 +13,25 @@ use line::ErrorLine;
 use std::alloc::{AllocError, AllocFailed};
 use thiserror::Error;
 
-/// Why an argument gives no value.
+/// The reason why an argument gives no value.
 #[derive(Clone, Copy, Debug, PartialEq, Eq, Error)]
 pub enum ArgumentFault {
-    /// There is no `=`.
+    /// The argument has no `=`.
     #[error("there is no `=`")]
     NoEquals,
-    /// The name in front of the `=` is none that the plan's tables may read.
+    /// The name before the `=` is not an input of the plan.
     #[error("the plan has no such name")]
     UnknownName,
-    /// An argument before gave this name.
+    /// An earlier argument has the same name.
     #[error("the name was given before")]
     RepeatedName,
-    /// What stands behind the `=` is no literal of the name's kind.
+    /// The text after the `=` is not a literal of the name's kind.
     #[error("the literal can't be read: {0}")]
     Literal(CellFault),
 }
 
 impl ArgumentFault {
-    /// The fault's number in the program's lines.
+    /// Returns the number that messages print for the fault, from 1 to 4.
     pub fn number(&self) -> u8
         ensures number { result ≡ argument_fault_number self.now }
         ensures small { result < 10 }
@@ -44,31 +45,32 @@ impl ArgumentFault {
     }
 }
 
-/// Why a command over a plan stopped, `value` or another that is refused so. Arguments count from 1.
+/// The error that stopped the command `value`. Other commands that read a plan share the errors of
+/// the plan, of the writer and of the memory. Arguments are numbered from 1.
 #[derive(Debug, Drop, Error)]
 pub enum ValueStop {
-    /// The text is no plan.
+    /// The text is not a plan.
     #[error("plan: {0}")]
     Plan(PlanFault),
     /// The argument with this number gives no value.
     #[error("argument {number}: {fault}")]
     Argument { number: usize, fault: ArgumentFault },
-    /// A table reads this name, and no argument gives it.
+    /// A table reads this name, and no argument gives it a value.
     #[error("a value is missing")]
     Missing(Name),
-    /// The tables have no value at what is given.
+    /// The tables have no value for the given arguments.
     #[error("tables: {0}")]
     Tables(Fault),
-    /// The writer took so many bytes of the text, and then failed.
+    /// The writer failed after it took this number of bytes of the text.
     #[error("the writer failed after {written} bytes")]
     Write { written: usize },
-    /// Memory was refused.
+    /// Memory ran out.
     #[error("out of memory")]
     NoMemory,
 }
 
 impl ValueStop {
-    /// The exit status: 1 where the texts are refused, 3 where a resource is wanting.
+    /// Returns the exit status: 1 for invalid input, 3 for a write fault or a lack of memory.
     pub fn status(&self) -> u8
         ensures { result ≡ status_of self.now }
     {
@@ -82,7 +84,8 @@ impl ValueStop {
         }
     }
 
-    /// Writes the refusal's line, with its end, to the front of the buffer, and returns its length in bytes.
+    /// Writes the line of the error, with its line end, to the start of the buffer and returns its
+    /// length in bytes.
     pub fn write_line(&self, buffer: &mut [u8; LINE_LIMIT_BYTES]) -> usize
         ensures fits { result ≤ LINE_LIMIT_BYTES }
         ensures written { take result buffer.new ≡ stop_line self.now }
@@ -103,7 +106,8 @@ impl ValueStop {
         line.copy_to(buffer)
     }
 
-    /// The refusal for a fault of the argument with this number, counted from 1.
+    /// Returns the error for a fault of the argument with this number, from 1. A lack of memory is
+    /// not a fault of the argument.
     pub(crate) fn from_argument(number: usize, fault: ArgumentFault) -> ValueStop
         ensures { IsStopOfArgument number fault result }
     {

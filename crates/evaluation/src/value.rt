@@ -1,4 +1,5 @@
-//! The command `value`: what a plan's tables give at the values of some arguments, a line for each output.
+//! The command `value`: it evaluates a plan's tables for given arguments, and writes one line for
+//! each output.
 
 ghost use Rattle.std.specs.Prelude.{◌≡◌, IfOk, IfErr, OnOk};
 ghost use Rattle.fixpoint.specs.Out.{writer_of, has_failed};
@@ -18,8 +19,8 @@ use std::alloc::Global;
 use std::io::Write;
 use text::value_lines;
 
-/// Evaluates the plan's tables at the arguments, each `NAME=LITERAL`, and writes the value of each output.
-/// The whole text is made before its first byte is written.
+/// Evaluates the plan's tables for the arguments, each of the form `NAME=LITERAL`, and writes the
+/// value of each output. The whole text is made before its first byte is written.
 #[tactic(auto, using(crate::proofs::Refusals::writes_whole, crate::proofs::Refusals::writes_front))]
 pub fn do_value<W: Write>(
     alloc: Global,
@@ -30,20 +31,22 @@ pub fn do_value<W: Write>(
     ensures written { OnOk result (WritesText (IsValueText plan.now (argument_texts arguments.now))
         (W.contents (writer_of out.old)) (W.contents (writer_of out.new))) }
     ensures reason { IfErr result (IsReason plan.now (argument_texts arguments.now)) }
-    ensures stopped { IfErr result (WritesUntil (IsValueText plan.now (argument_texts arguments.now))
+    ensures stopped { IfErr result (WritesUntil
+        (IsValueText plan.now (argument_texts arguments.now))
         (W.contents (writer_of out.old)) (W.contents (writer_of out.new))) }
 
-    // The writer has failed after a write fault, and otherwise only where it had failed before.
+    // The writer has failed after a write fault, and otherwise only if it had failed before.
     ensures ok_failed { OnOk result (has_failed out.new ≡ has_failed out.old) }
-    ensures failed { IfErr result (λ stop. has_failed out.new ≡ failed_after (has_failed out.old) stop) }
+    ensures failed { IfErr result (λ stop.
+        has_failed out.new ≡ failed_after (has_failed out.old) stop) }
 {
     let text = value_text(alloc, plan, arguments)?;
     put_text(text.as_slice(), out)
 }
 
-// The text that the command prints.
 fn value_text(alloc: Global, plan: &[u8], arguments: &[&str]) -> Result<Vec<u8>, ValueStop>
-    ensures text { IfOk result (λ text. IsValueText plan.now (argument_texts arguments.now) text.items) }
+    ensures text { IfOk result (λ text.
+        IsValueText plan.now (argument_texts arguments.now) text.items) }
     ensures refused { IfErr result (RefusesText plan.now (argument_texts arguments.now)) }
 {
     let plan = read_plan(alloc, plan)?;
@@ -52,9 +55,9 @@ fn value_text(alloc: Global, plan: &[u8], arguments: &[&str]) -> Result<Vec<u8>,
     text
 }
 
-// The text that the command prints for a plan.
 fn plan_text(alloc: Global, plan: &Plan, arguments: &[&str]) -> Result<Vec<u8>, ValueStop>
-    ensures text { IfOk result (λ text. IsTextOf plan.now (argument_texts arguments.now) text.items) }
+    ensures text { IfOk result (λ text.
+        IsTextOf plan.now (argument_texts arguments.now) text.items) }
     ensures refused { IfErr result (RefusesValue plan.now (argument_texts arguments.now)) }
 {
     let inputs = read_arguments(alloc, plan, arguments)?;

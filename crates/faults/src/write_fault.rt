@@ -1,22 +1,22 @@
-//! Why the writing of a report ends early.
+//! The faults that end the writing of a remittance early.
 ghost use Rattle.std.specs.Prelude.{◌≡◌};
 ghost use Rattle.faults.specs.WriteCauseNumber.{number_of};
 
 use thiserror::Error;
 
-/// What ends the writing of a report.
+/// The reason why the writing of a remittance ended early.
 #[derive(Clone, Copy, Debug, PartialEq, Eq, Drop, Error)]
 pub enum WriteCause {
-    /// The writer took no more bytes.
+    /// The writer failed and takes no more bytes.
     #[error("the writer takes no more bytes")]
     Device,
-    /// No memory.
+    /// Memory ran out.
     #[error("out of memory")]
     OutOfMemory,
 }
 
 impl WriteCause {
-    /// The cause's number.
+    /// Returns the number of the cause, from 1 to 2.
     pub fn number(self) -> u8
         ensures { result ≡ number_of self }
     {
@@ -27,12 +27,12 @@ impl WriteCause {
     }
 }
 
-/// The writing of a report has ended early.
+/// A fault that ended the writing of a remittance early.
 #[derive(Clone, Copy, Debug, PartialEq, Eq, Drop, Error)]
 #[error("after {written} bytes: {cause}")]
 pub struct WriteFault {
-    /// How many bytes of the report the writer got.
+    /// The number of bytes of the remittance that the writer received.
     pub written: usize,
-    /// Why it got no more.
+    /// The reason why it received no more.
     pub cause: WriteCause,
 }

@@ -1,4 +1,4 @@
--- Sums over paid claims, one event after another.
+-- The sums over paid claims, event by event.
 use Rattle.std.proofs.Common.{◌≡◌, ◌<◌, ◌≤◌, ◌+◌, ◌*◌, ◌^◌, ◌+ℤ◌, ℕ, suc, ℤ, pos, List, [], ◌∷◌, ◌++◌, get_or, length, map, take, Some, slice_get, inl, inr, refl, ap, sym, ◌∙◌, append-nil, arith}
 use Rattle.std.proofs.Math.IntN.{+ℤ_assoc, +ℤ_idl, +ℤ_idr}
 use Rattle.std.proofs.lemmas.Grind.{flat_map-append}
@@ -19,17 +19,17 @@ use Rattle.remit.specs.declared.amount.Amount.{Amount}
 use Rattle.remit.specs.declared.amount.Amount.TheVariants.{Allowed}
 use Rattle.remit.specs.declared.sums.Sums.{Sums}
 
--- the sum over outcomes and others behind them
+-- the sum over two lists of outcomes in sequence
 sum_of-append : (amount : Outcome → ℤ) (front following : List Outcome) → sum_of amount (front ++ following) ≡ sum_of amount front +ℤ sum_of amount following
 sum_of-append amount [] following = sym (+ℤ_idl (sum_of amount following))
 sum_of-append amount (o ∷ front) following =
     ap (λ s. amount o +ℤ s) (sum_of-append amount front following) ∙ sym (+ℤ_assoc (amount o) (sum_of amount front) (sum_of amount following))
 
--- what one event more pays stands behind what those in front pay
+-- one more event appends the outcome that it pays, if any
 paid-push : (J : List Event) (event : Event) → paid_outcomes (J ++ event ∷ []) ≡ paid_outcomes J ++ paid_in event
 paid-push J event = flat_map-append paid_in J (event ∷ []) ∙ ap (λ following. paid_outcomes J ++ following) (append-nil (paid_in event))
 
--- a sum with one event more
+-- a sum after one more event
 sum-more : (amount : Outcome → ℤ) (J : List Event) (event : Event) (count old new : ℕ) → IsSum amount (paid_outcomes J) count old → IsGrown amount (paid_in event) old new
     → IsSum amount (paid_outcomes (J ++ event ∷ [])) (count + 1) new
 sum-more amount J event count old new before grown = record {
@@ -39,7 +39,7 @@ sum-more amount J event count old new before grown = record {
   bound = omega (arith, before.bound, grown.bound);
 }
 
--- the sums with one event more
+-- the sums after one more event
 sums-more : (J : List Event) (event : Event) (count : ℕ) (old new : Sums) → AreSums J count old → AreGrown (paid_in event) old new
     → AreSums (J ++ event ∷ []) (count + 1) new
 sums-more J event count old new before grown = record {
@@ -48,17 +48,17 @@ sums-more J event count old new before grown = record {
       sum-more (amount_of amount) J event count (slice_index old.units place) (slice_index new.units place) (before.each place amount located) (grown.each place amount located);
 }
 
--- the sums over the events of a journal up to a place, with the one at that place
+-- the sums over the events before an index, after the event at the index
 pub sums-next : (J : List Event) (place : ℕ) (event : Event) (old new : Sums) → place < length J → event ≡ get_or J place event → AreSums (take place J) place old
     → AreGrown (paid_in event) old new → AreSums (take (place + 1) J) (place + 1) new
 sums-next J place event old new within is before grown =
     rw (take_more J place event within ∙ ap (λ e. take place J ++ e ∷ []) (sym is)) (sums-more (take place J) event place old new before grown)
 
--- a sum over no more events than a journal can have leaves room
+-- a sum over the events of a journal of possible length leaves room for one more amount
 sum-room : (count sum : ℕ) → count < 2 ^ 64 → sum ≤ count * greatest_units → sum + greatest_units < 2 ^ 128
 sum-room count sum few bound = omega (arith, few, bound)
 
--- the sums over no more events than a journal can have leave room
+-- the sums over the events of a journal of possible length leave room for one more amount
 pub sums-room : (J : List Event) (count : ℕ) (sums : Sums) → count < 2 ^ 64 → AreSums J count sums → HaveRoom sums
 sums-room J count sums few are = record {
   size = are.size;
@@ -66,13 +66,13 @@ sums-room J count sums few are = record {
       sum-room count (slice_index sums.units place) few (are.each place (get_or amounts place Allowed) (slice_get-get_or amounts place Allowed within)).bound;
 }
 
--- the sums whose amounts are added so far, those in front of a place, and the others
+-- the sums before an index have their amounts added, and the others are unchanged
 pub record AddedTo (decision : Outcome) (old new : List ℕ) (place : ℕ) : Type 0 where
   pub size : length new ≡ length old
   pub added : (at : ℕ) (amount : Amount) → slice_get amounts at ≡ Some amount → at < place → IsGrown (amount_of amount) (decision ∷ []) (slice_index old at) (slice_index new at)
   pub others : (at : ℕ) → place ≤ at → slice_index new at ≡ slice_index old at
 
--- one amount more is added
+-- one more amount is added
 pub added-next : (decision : Outcome) (old new : List ℕ) (place : ℕ) (amount : Amount) (sum : ℕ) → slice_get amounts place ≡ Some amount → place < length old
     → pos sum ≡ pos (slice_index new place) +ℤ amount_of amount decision → sum ≤ slice_index new place + greatest_units
     → AddedTo decision old new place → AddedTo decision old (set new place sum) (place + 1)
@@ -99,7 +99,7 @@ added-all decision old new place all added = record {
   each = λ at amount is. added.added at amount is (omega (arith, all, slice_get_within amounts at amount is));
 }
 
--- the texts of values that stand beside amounts
+-- the texts of units are those of the values of the amounts at the same index
 texts-beside : (text : ℤ → List ℕ) (value : Amount → ℤ) (list : List Amount) (units : List ℕ) → length units ≡ length list
     → ((place : ℕ) (amount : Amount) → slice_get list place ≡ Some amount → pos (slice_index units place) ≡ value amount) → map (λ u. text (pos u)) units ≡ map (λ a. text (value a)) list
 texts-beside text value [] [] size each = refl

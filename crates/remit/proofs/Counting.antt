@@ -1,4 +1,4 @@
--- The counts of a file's rows, given one after another, and of all files.
+-- The counts of a file's rows, which a reader returns one by one, and of all files.
 use Rattle.std.proofs.Common.{◌≡◌, ◌<◌, ◌≤◌, ◌+◌, ◌-◌, ℕ, zero, suc, List, [], ◌∷◌, ◌++◌, length, map, take, get_or, fold, ap, ap₂, sym, subst, ◌∙◌, refl, inl, inr, arith}
 use Rattle.std.specs.List.{AllZip}
 use Rattle.std.proofs.Math.ListN.{get_or-append}
@@ -33,7 +33,7 @@ counts-push by provider front row =
     ap (fold counted no_records) (map-append (status_of_row by provider) front (row ∷ []))
     ∙ fold-append counted no_records (map (status_of_row by provider) front) (status_of_row by provider row ∷ [])
 
--- the rows that a reader has given since its start are counted
+-- the rows that a reader has returned since its start are counted
 pub record CountedSoFar (by : Deciding) (provider : ℕ) (start now : RowsLeft) (counts : RecordCounts) : Type 0 where
   pub given : List Row
   pub passed : Passed start now given
@@ -59,7 +59,7 @@ counted-done none by provider start now counts so_far empty left = record {
   counts_are = so_far.counts_are;
 }
 
--- the rows that a reader at its start has left are those of the text
+-- the counts of the remaining rows of a new reader are the counts of the text
 pub counted-text : StartHasTheRows → (by : Deciding) (provider : ℕ) (names : List InputData) (text : List ℕ) (start : RowsLeft) (counts : RecordCounts)
     → LieApart start.layout.columns → IsAtStart names text start → ((all : List Row) → AreRowsLeft start all → AreRowsOf names text all)
     → LeftIsCounted by provider start counts → IsCounted by provider names text counts
@@ -69,7 +69,7 @@ counted-text begins by provider names text start counts apart at_start of_text l
   counts_are = left.counts_are;
 }
 
--- the first files are counted
+-- the files before an index are counted
 pub record FilesCounted (by : Deciding) (names : List InputData) (texts : List (List ℕ)) (place : ℕ) (counts : List RecordCounts) : Type 0 where
   pub count : length counts ≡ place
   pub each : (i : ℕ) → i < place → IsCounted by (suc i) names (get_or texts i []) (get_or counts i no_records)
@@ -105,7 +105,7 @@ files-next by names texts place files file so_far next =
           ];
     })
 
--- some rows of a text
+-- a text has some list of rows
 record SomeRows (names : List InputData) (text : List ℕ) : Type 0 where
   pub rows : List Row
   pub are_rows : AreRowsOf names text rows
@@ -131,7 +131,7 @@ statuses-same : (version : ℕ) (f g : ℕ → ℕ → Option Outcome) (provider
 statuses-same version f g provider [] same = refl
 statuses-same version f g provider (row ∷ rows) same = ap₂ (λ s ss. s ∷ ss) (status-same version f g provider row same) (statuses-same version f g provider rows same)
 
--- what is looked up gives the counts of the journal
+-- the counts under the index are the counts under the journal
 pub counts-alike : (parts : TermsParts) (J : List Event) (providers : ℕ) (decisions : Decisions) (counts : List RecordCounts) → IsFinishedOver parts J
     → LaidOut parts.plan.version providers J decisions → providers ≡ length parts.files
     → EachIsCounted (looked_up decisions) parts.plan.names parts.files counts → AreCounted parts J counts

@@ -1,4 +1,4 @@
--- The rows of files, read one file after another, and their text.
+-- The rows of files, which are read file by file, and their text.
 use Rattle.std.proofs.Common.{◌≡◌, ◌<◌, ◌≤◌, ◌+◌, ◌-◌, ℕ, suc, Bool, Option, Result, Ok, Err, List, [], ◌∷◌, ◌++◌, length, length-take-le, map, take, drop, get_or, ap, ap₂, sym, subst, ◌∙◌, refl, append_assoc, append-nil, take-append-drop, drop-cons, arith}
 use Rattle.std.specs.List.{AllZip}
 use Rattle.std.proofs.lemmas.Grind.{flat_map-append}
@@ -17,7 +17,7 @@ use Rattle.remit.specs.declared.record_writer.RecordWriter.{RecordWriter}
 use Rattle.remit.proofs.Holding.{no-memory, writes-none, writes-then}
 use Rattle.remit.proofs.Passing.{rows-append}
 
--- all rows of a text, by a reader at its start
+-- the remaining rows of a new reader are all rows of the text
 pub read-all : StartHasTheRows → (names : List InputData) (text : List ℕ) (start : RowsLeft) (rows : List Row) → LieApart start.layout.columns → IsAtStart names text start
     → ((all : List Row) → AreRowsLeft start all → AreRowsOf names text all) → GivesAll start rows → IsRead names text rows
 read-all begins names text start rows apart at_start of_text gives = record {
@@ -25,16 +25,16 @@ read-all begins names text start rows apart at_start of_text gives = record {
   only = λ all are. gives.only apart all (begins names text start all at_start are);
 }
 
--- the first rows of a text, by a reader at its start
+-- the first rows of a new reader are the first rows of the text
 pub read-first : StartHasTheRows → (names : List InputData) (text : List ℕ) (start : RowsLeft) (rows : List Row) → LieApart start.layout.columns → IsAtStart names text start
     → GivesFirst start rows → IsReadFirst names text rows
 read-first begins names text start rows apart at_start gives all are = gives apart all (begins names text start all at_start are)
 
--- every text's rows begin with none
+-- the rows of every text begin with the empty list
 pub read-none : (names : List InputData) (text : List ℕ) → IsReadFirst names text []
 read-none names text all are = record { rest = all; whole_is = refl }
 
--- two lists beside each other, in two parts
+-- a list that corresponds to two lists in sequence is itself in two parts
 pub record Parted {A B : Type 0} (R : A → B → Type 0) (xs ys : List A) (all : List B) : Type 0 where
   pub front : List B
   pub following : List B
@@ -55,7 +55,7 @@ parted R (x ∷ xs) ys (b ∷ all) h =
       in_after = rest.in_after;
     }
 
--- one beside the first, and the others
+-- a list that corresponds to a list with a first element has a first element too
 pub record Headed {A B : Type 0} (R : A → B → Type 0) (x : A) (xs : List A) (all : List B) : Type 0 where
   pub head : B
   pub following : List B
@@ -75,7 +75,7 @@ none-beside R (b ∷ all) h = absurd h
 pub none-read : (names : List InputData) → AreRead names [] []
 none-read names = record { are_rows = tt; only = λ all are. none-beside (AreRowsOf names) all are }
 
--- one file more
+-- one more file is read
 read-more : (names : List InputData) (texts : List (List ℕ)) (files : List (List Row)) (text : List ℕ) (rows : List Row) → AreRead names texts files
     → IsRead names text rows → AreRead names (texts ++ text ∷ []) (files ++ rows ∷ [])
 read-more names texts files text rows before read = record {
@@ -95,7 +95,7 @@ read-next names texts place d files rows within before read =
     subst (λ ts. AreRead names ts (files ++ rows ∷ [])) (sym (take_more texts place d within))
     (read-more names (take place texts) files (get_or texts place d) rows before read)
 
--- the records of files and of others behind them
+-- the records of two lists of files in sequence
 records-append : (decided : Deciding) (provider : ℕ) (front following : List (List Row))
     → records_of decided provider (front ++ following) ≡ records_of decided provider front ++ records_of decided (provider + length front) following
 records-append decided provider [] following =
@@ -106,19 +106,19 @@ records-append decided provider (rows ∷ front) following =
     let rest = rw next at (records-append decided (suc provider) front following) in
     ap (λ rs. map (record_of decided provider) rows ++ rs) rest ∙ sym (append_assoc (map (record_of decided provider) rows) (records_of decided (suc provider) front) _)
 
--- the text of files and of others behind them
+-- the text of two lists of files in sequence
 pub files-append : (decided : Deciding) (provider : ℕ) (front following : List (List Row))
     → files_text decided provider (front ++ following) ≡ files_text decided provider front ++ files_text decided (provider + length front) following
 files-append decided provider front following =
     ap text_of (records-append decided provider front following)
     ∙ flat_map-append record_text (records_of decided provider front) (records_of decided (provider + length front) following)
 
--- the text of a file and of others behind it
+-- the text of a file and of the files after it
 files-cons : (decided : Deciding) (provider : ℕ) (rows : List Row) (following : List (List Row))
     → files_text decided provider (rows ∷ following) ≡ rows_text decided provider rows ++ files_text decided (suc provider) following
 files-cons decided provider rows following = flat_map-append record_text (map (record_of decided provider) rows) (records_of decided (suc provider) following)
 
--- the text of the files so far, and of one more
+-- the text of the files so far and of one more
 pub files-push : (decided : Deciding) (files : List (List Row)) (rows : List Row) (place : ℕ) → length files ≡ place
     → files_text decided 1 (files ++ rows ∷ []) ≡ files_text decided 1 files ++ rows_text decided (place + 1) rows
 files-push decided files rows place size =
@@ -126,7 +126,7 @@ files-push decided files rows place size =
     files-append decided 1 files (rows ∷ [])
     ∙ ap (λ text. files_text decided 1 files ++ text) (files-cons decided (1 + length files) rows [] ∙ append-nil _ ∙ ap (λ p. rows_text decided p rows) provider)
 
--- the files so far, and the first rows of one more, begin the text of whatever rows the files have
+-- the text of the files so far and of the first rows of one more file is a beginning of the text of all files
 begin-more : (decided : Deciding) (names : List InputData) (texts : List (List ℕ)) (text : List ℕ) (following : List (List ℕ)) (files : List (List Row)) (rows : List Row)
     → AreRead names texts files → IsReadFirst names text rows → (all : List (List Row)) → AllZip (AreRowsOf names) (texts ++ text ∷ following) all
     → Begin (files_text decided 1 files ++ rows_text decided (1 + length files) rows) (files_text decided 1 all)
@@ -158,11 +158,11 @@ begin-next decided names texts place d files rows within size before first all a
     rw provider at (begin-more decided names (take place texts) (get_or texts place d) (drop (suc place) texts) files rows before first all
     (subst (λ ts. AllZip (AreRowsOf names) ts all) split are))
 
--- as many files as texts
+-- the numbers of files and of texts are equal
 pub files-long : (names : List InputData) (texts : List (List ℕ)) (files : List (List Row)) → AreRead names texts files → length files ≡ length texts
 files-long names texts files read = AllZip-long (AreRowsOf names) texts files read.are_rows
 
--- what is written of a reader at the start of a text is written of the text
+-- the writing of the remaining rows of a new reader is the writing of the rows of the text
 pub of-text : StartHasTheRows → (decided : Deciding) (provider : ℕ) (names : List InputData) (text : List ℕ) (start : RowsLeft) (old new : At)
     (result : Result (Unit {0}) WriteFault) → LieApart start.layout.columns → IsAtStart names text start → ((all : List Row) → AreRowsLeft start all → AreRowsOf names text all)
     → WritesLeft decided provider start old new result → WritesFile decided provider names text old new result
@@ -171,13 +171,13 @@ of-text begins decided provider names text start old new (Ok done) apart at_star
 of-text begins decided provider names text start old new (Err fault) apart at_start of writes =
     (writes.0, read-first begins names text start writes.0 apart at_start writes.1, writes.2)
 
--- memory is wanting for a file
+-- memory runs out for a file
 pub file-no-memory : (decided : Deciding) (provider : ℕ) (names : List InputData) (text : List ℕ) (contents : Option (List ℕ)) (failed : Bool) (writer : RecordWriter)
     (fault : WriteFault) → IsNoMemory writer fault → WritesFile decided provider names text (at contents failed writer) (at contents failed writer) (Err fault)
 file-no-memory decided provider names text contents failed writer fault none =
     ([], read-none names text, no-memory contents failed writer writer [] fault none)
 
--- the rows of so many files are written
+-- the rows of the first `place` files are written
 pub record FilesSoFar (decided : Deciding) (names : List InputData) (texts : List (List ℕ)) (place : ℕ) (old new : At) : Type 0 where
   pub files : List (List Row)
   pub read : AreRead names (take place texts) files
@@ -186,12 +186,12 @@ pub record FilesSoFar (decided : Deciding) (names : List InputData) (texts : Lis
 pub files-none : (decided : Deciding) (names : List InputData) (texts : List (List ℕ)) (old : At) → FilesSoFar decided names texts 0 old old
 files-none decided names texts old = record { files = []; read = none-read names; writes = writes-none old }
 
--- there are as many files as texts in front of the place
+-- the number of files before the index is the index
 so-long : (names : List InputData) (texts : List (List ℕ)) (place : ℕ) (files : List (List Row)) → place ≤ length texts → AreRead names (take place texts) files
     → length files ≡ place
 so-long names texts place files within read = AllZip-long (AreRowsOf names) (take place texts) files read.are_rows ∙ length-take-le place texts within
 
--- the text at a place, by the provider's number
+-- the text at an index, by the provider's number
 by-number : (texts : List (List ℕ)) (place : ℕ) → get_or texts ((place + 1) - 1) [] ≡ get_or texts place []
 by-number texts place = let same : (place + 1) - 1 ≡ place = omega arith in ap (λ n. get_or texts n []) same
 
@@ -209,7 +209,7 @@ files-next decided names texts place old new newer within so_far writes =
           (writes-then old new newer (files_text decided 1 so_far.files) (rows_text decided (place + 1) writes.0) tt (Ok tt) so_far.writes writes.2);
     }
 
--- the writing is refused within the next file
+-- the writing ends within the next file
 pub files-refused : (decided : Deciding) (names : List InputData) (texts : List (List ℕ)) (place : ℕ) (old new newer : At) (fault : WriteFault)
     → place < length texts → FilesSoFar decided names texts place old new
     → WritesFile decided (place + 1) names (get_or texts ((place + 1) - 1) []) new newer (Err fault) → WritesFiles decided names texts old newer (Err fault)
@@ -228,7 +228,7 @@ files-done decided names texts place old new past so_far =
     let all = take_all place texts past in
     (so_far.files, subst (λ ts. AreRead names ts so_far.files) all so_far.read, so_far.writes)
 
--- files are written, and then the next is, or the writing is refused within it
+-- files are written, and then the next file is, or the writing ends within it
 files-then : (decided : Deciding) (names : List InputData) (texts : List (List ℕ)) (place : ℕ) (a b c : At) (result : Result (Unit {0}) WriteFault)
     → place < length texts → WritesFiles decided names (take place texts) a b (Ok tt)
     → WritesFile decided (place + 1) names (get_or texts ((place + 1) - 1) []) b c result → WritesFiles decided names (take (place + 1) texts) a c result
@@ -247,12 +247,12 @@ files-then decided names texts place a b c (Err fault) within before file =
       writes-then a b c (files_text decided 1 before.0) (rows_text decided (place + 1) file.0) tt (Err fault) before.2 file.2,
     )
 
--- the first file is written, or the writing is refused within it
+-- the first file is written, or the writing ends within it
 pub first-written : (decided : Deciding) (names : List InputData) (texts : List (List ℕ)) (a b : At) (result : Result (Unit {0}) WriteFault) → 1 ≤ length texts
     → WritesFile decided 1 names (get_or texts (1 - 1) []) a b result → WritesFiles decided names (take 1 texts) a b result
 first-written decided names texts a b result some file = files-then decided names texts 0 a a b result some ([], none-read names, writes-none a) file
 
--- the files in front of a provider's are written, and then its file is, or the writing is refused within it
+-- the files before a provider's are written, and then its file is, or the writing ends within it
 pub next-written : (decided : Deciding) (names : List InputData) (texts : List (List ℕ)) (provider : ℕ) (a b c : At) (result : Result (Unit {0}) WriteFault)
     → 1 ≤ provider → provider ≤ length texts → WritesFiles decided names (take (provider - 1) texts) a b (Ok tt)
     → WritesFile decided provider names (get_or texts (provider - 1) []) b c result → WritesFiles decided names (take provider texts) a c result
@@ -262,7 +262,7 @@ next-written decided names texts provider a b c result least most before file =
     (files-then decided names texts (provider - 1) a b c result (omega (arith, least, most)) before
     (subst (λ n. WritesFile decided n names (get_or texts (n - 1) []) b c result) (sym same) file))
 
--- what begins the text of the files in front begins that of all
+-- a beginning of the text of the first files is a beginning of the text of all files
 begin-in-front : (decided : Deciding) (names : List InputData) (xs ys : List (List ℕ)) (text : List ℕ) (all : List (List Row)) → Parted (AreRowsOf names) xs ys all
     → ((front : List (List Row)) → AllZip (AreRowsOf names) xs front → Begin text (files_text decided 1 front)) → Begin text (files_text decided 1 all)
 begin-in-front decided names xs ys text all parts begins =
@@ -275,7 +275,7 @@ begin-in-front decided names xs ys text all parts begins =
           ∙ append_assoc text begin.rest others;
     }
 
--- what is refused within the files in front of a provider's is refused within these and its own
+-- a fault within the files before a provider's is a fault within these files and its own
 pub refused-in-front : (decided : Deciding) (names : List InputData) (texts : List (List ℕ)) (provider : ℕ) (a b : At) (fault : WriteFault)
     → 1 ≤ provider → provider ≤ length texts → WritesFiles decided names (take (provider - 1) texts) a b (Err fault) → WritesFiles decided names (take provider texts) a b (Err fault)
 refused-in-front decided names texts provider a b fault least most writes =
@@ -290,7 +290,7 @@ refused-in-front decided names texts provider a b fault least most writes =
       writes.2,
     )
 
--- as many first files as there are: all of them
+-- the first `count` files are all files, if there are `count` files
 pub all-written : (decided : Deciding) (names : List InputData) (texts : List (List ℕ)) (count : ℕ) (a b : At) (result : Result (Unit {0}) WriteFault)
     → count ≡ length texts → WritesFiles decided names (take count texts) a b result → WritesFiles decided names texts a b result
 all-written decided names texts count a b result all writes =

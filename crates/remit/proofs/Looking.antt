@@ -1,4 +1,4 @@
--- What is looked up of a claim in a lawful journal is what the journal decides of it.
+-- In a valid journal, the outcome that the index has for a claim is the journal's decision on the claim.
 use Rattle.std.proofs.Common.{inl, inr, ◌≡◌, ◌≢◌, ◌<◌, ◌≤◌, ◌+◌, ◌==◌, ℕ, zero, suc, true, false, cond, List, [], ◌∷◌, ◌++◌, length, get_or, Some, option_and_then, ap, sym, subst, ◌∙◌, refl, zero-add, arith}
 use Rattle.std.specs.List.{slice_get}
 use Rattle.std.proofs.lemmas.Bool.{cases_Bool, cases_lt}
@@ -13,12 +13,12 @@ use Rattle.remit.specs.Decided.{decided_as, decision_at, position_from, position
 use Rattle.remit.specs.Looked.{LaidOut, found_of, positions_from, positions_of}
 use Rattle.remit.specs.declared.decisions.Decisions.{Decisions}
 
--- the places of a provider among claims
+-- the places of a provider's claims among accepted claims
 abbrev places_among : ℕ → List Filed → List ℕ
 places_among provider [] = []
 places_among provider (f ∷ fs) = cond (f.provider == provider) (f.place ∷ places_among provider fs) (places_among provider fs)
 
--- the places accepted of a provider are those among the claims accepted
+-- a provider's accepted places are its places among the accepted claims
 places-of : (J : List Event) (provider : ℕ) → places J provider ≡ places_among provider (accepts J)
 places-of [] provider = refl
 places-of (Accept p i ∷ J) provider =
@@ -39,39 +39,39 @@ places-of (Take k ∷ J) provider =
 places-of (Decide k o ∷ J) provider =
     flat_map-cons (place_in provider) (Decide k o) J ∙ places-of J provider ∙ sym (ap (places_among provider) (flat_map-cons accept_in (Decide k o) J))
 
--- the places of a provider stand in order from this one on
+-- the places are consecutive, and `first` is the first of them
 abbrev FromOn : ℕ → List ℕ → Type 0
 FromOn first ps = (j : ℕ) (d : ℕ) → j < length ps → get_or ps j d ≡ first + j
 
--- a number is itself
+-- a number equals itself
 same-number : (n : ℕ) → (n == n) ≡ true
 same-number n = grind (arith, nat_tests)
 
 other-number : (m n : ℕ) → m ≢ n → (m == n) ≡ false
 other-number m n apart = grind (arith, nat_tests)
 
--- the claim that is looked for is this one
+-- the first claim is the one that is searched for
 here : (first : ℕ) (f : Filed) (fs : List Filed) (provider place : ℕ) → (f.provider == provider) ≡ true → f.place ≡ place
     → position_from first (f ∷ fs) provider place ≡ Some first
 here first f fs provider place same is =
     let found : (f.place == place) ≡ true = ap (λ n. n == place) is ∙ same-number place in
     rw (same, found) refl
 
--- it is another one of the provider
+-- the first claim is another claim of the provider
 following-it : (first : ℕ) (f : Filed) (fs : List Filed) (provider place : ℕ) → (f.provider == provider) ≡ true → f.place ≢ place
     → position_from first (f ∷ fs) provider place ≡ position_from (suc first) fs provider place
 following-it first f fs provider place same apart = rw (same, other-number f.place place apart) refl
 
--- it is another provider's
+-- the first claim is another provider's
 not-its : (first : ℕ) (f : Filed) (fs : List Filed) (provider place : ℕ) → (f.provider == provider) ≡ false
     → position_from first (f ∷ fs) provider place ≡ position_from (suc first) fs provider place
 not-its first f fs provider place other = rw other refl
 
--- the positions of a provider's claims are found by their places from this one on
+-- the index of a provider's claim among the provider's positions is its place, counted from `place`
 abbrev AreFound : List Filed → ℕ → ℕ → ℕ → Type 0
 AreFound fs first place provider = (i : ℕ) → FromOn place (places_among provider fs) → slice_get (positions_from first fs provider) i ≡ position_from first fs provider (place + i)
 
--- the first claim is one of the provider's
+-- the first claim is the provider's
 found-first : (f : Filed) (fs : List Filed) (first place provider i : ℕ) → (f.provider == provider) ≡ true → FromOn place (f.place ∷ places_among provider fs)
     → AreFound fs (suc first) (suc place) provider
     → slice_get (first ∷ positions_from (suc first) fs provider) i ≡ position_from first (f ∷ fs) provider (place + i)
@@ -88,7 +88,7 @@ found-first f fs first place provider (suc i) same order following =
     let next : suc place + i ≡ place + suc i = omega arith in
     rw next at (following i others) ∙ sym (following-it first f fs provider (place + suc i) same apart)
 
--- where a provider's claims are accepted in the order of their places, the one at a place stands there among their positions
+-- if a provider's claims are accepted in the order of their places, the claim at a place is the one at this index among their positions
 found-in-order : (fs : List Filed) (first place provider : ℕ) → AreFound fs first place provider
 found-in-order [] first place provider i order = refl
 found-in-order (f ∷ fs) first place provider i order = elim (cases_Bool (f.provider == provider)) [
@@ -102,7 +102,7 @@ found-in-order (f ∷ fs) first place provider i order = elim (cases_Bool (f.pro
       ∙ sym (not-its first f fs provider (place + i) other)
 ]
 
--- 0, 1 and so on stand in order from 0 on
+-- the first n numbers are consecutive from 0
 counted-long : (n : ℕ) → length (numbers_below n) ≡ n
 counted-long zero = refl
 counted-long (suc n) =
@@ -123,7 +123,7 @@ counted-in-order (suc n) j d within =
           get_or_push (numbers_below n) n d j at_end ∙ end
     ]
 
--- in a journal whose accepts are in order, a claim's position stands at its place among those of its provider
+-- if a provider's accepts are in order, a claim's place is the index of its position among the provider's positions
 pub position-in-order : (J : List Event) (provider place : ℕ) → places J provider ≡ numbers_below (length (places J provider))
     → slice_get (positions_of J provider) place ≡ position_of J provider place
 position-in-order J provider place order =
@@ -131,7 +131,7 @@ position-in-order J provider place order =
     subst (FromOn 0) (sym order ∙ places-of J provider) (counted-in-order (length (places J provider))) in
     found-in-order (accepts J) 0 0 provider place in_order ∙ ap (position_from 0 (accepts J) provider) (zero-add place)
 
--- what is looked up of a claim is what the journal decides of it
+-- the outcome that the index has for a claim is the journal's decision on the claim
 pub looked-right : (version : ℕ) (providers : ℕ) (J : List Event) (decisions : Decisions) → LaidOut version providers J decisions
     → ((provider : ℕ) → places J provider ≡ numbers_below (length (places J provider))) → (provider place : ℕ) → 1 ≤ provider → provider ≤ providers
     → found_of decisions provider place ≡ decided_as J provider place

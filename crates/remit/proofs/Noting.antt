@@ -1,4 +1,4 @@
--- What a journal tells of claims, one event after another, and where it does.
+-- The two passes over a journal that build the index of its decisions, event by event.
 use Rattle.std.proofs.Common.{inl, inr, ◌≡◌, ◌<◌, ◌≤◌, ◌+◌, ◌-◌, ◌==◌, ℕ, zero, suc, cond, List, [], ◌∷◌, ◌++◌, flat_map, get_or, length, take, Option, Some, None, option_and_then, option_map, Result, IfOk, ap, sym, subst, ◌∙◌, refl, append-nil, zero-add, arith}
 use Rattle.std.specs.Global.{Vec}
 use Rattle.std.specs.List.{slice_get}
@@ -18,11 +18,11 @@ use Rattle.remit.specs.Looked.{LaidOut, Noted, NotesPlace, NotesPosition, Replac
 use Rattle.remit.specs.declared.decisions.Decisions.{Decisions}
 use Rattle.remit.specs.declared.decisions.Notes.{Notes}
 
--- the claims accepted with one event more
+-- the accepted claims after one more event
 accepts-push : (J : List Event) (event : Event) → accepts (J ++ event ∷ []) ≡ accepts J ++ accept_in event
 accepts-push J event = flat_map-append accept_in J (event ∷ []) ∙ ap (λ following. accepts J ++ following) (append-nil (accept_in event))
 
--- the positions of a provider's claims with one claim more
+-- the positions of a provider's claims after one more accepted claim
 positions-push : (first : ℕ) (fs : List Filed) (f : Filed) (provider : ℕ)
     → positions_from first (fs ++ f ∷ []) provider ≡ positions_from first fs provider ++ cond (f.provider == provider) ((first + length fs) ∷ []) []
 positions-push first [] f provider =
@@ -51,11 +51,11 @@ noted-other whole providers J event notes none noted =
       decided = λ k d within. noted.decided k d (rw same at within);
     }
 
--- nothing is decided at the end of a journal
+-- the index at the end of a journal has no decision
 at-end : (J : List Event) → outcome_at J (length J) ≡ None
 at-end J = ap (option_and_then outcome_by) (slice_get_past J (length J) (omega arith))
 
--- no position is decided by no event, where so many are noted and one more
+-- a new position starts without a decision
 undecided-push : (whole accepting : List Event) (items : List ℕ) → length items ≡ accepted_count accepting
     → ((k d : ℕ) → k < accepted_count accepting → outcome_at whole (get_or items k d) ≡ None) → (k d : ℕ)
     → k < length items + 1 → outcome_at whole (get_or (items ++ length whole ∷ []) k d) ≡ None
@@ -64,7 +64,7 @@ undecided-push whole accepting items size undecided k d within = elim (cases_lt 
   | inr last ↦ ap (outcome_at whole) (get_or_push items (length whole) d k (omega (arith, within, last))) ∙ at-end whole
 ]
 
--- an accept
+-- an accept event adds one position to the notes
 pub noted-accept : (whole : List Event) (providers : ℕ) (J : List Event) (event : Event) (provider place : ℕ) (old new : Notes) → event ≡ Accept provider place
     → new.decided.items ≡ old.decided.items ++ length whole ∷ [] → NotesPosition old.positions.items new.positions.items provider (length old.decided.items)
     → Noted whole providers J [] old → Noted whole providers (J ++ event ∷ []) [] new
@@ -90,25 +90,25 @@ or_else-none : (o : Option Outcome) → or_else o None ≡ o
 or_else-none None = refl
 or_else-none (Some x) = refl
 
--- what stands first in one list and another behind it
+-- the first element of two lists in sequence
 first-of : (one other : List Outcome) → slice_get (one ++ other) 0 ≡ or_else (slice_get one 0) (slice_get other 0)
 first-of [] other = refl
 first-of (o ∷ one) other = refl
 
--- what a position is decided to be with one event more
+-- the decision on a position after one more event
 decision-push : (J : List Event) (event : Event) (k : ℕ) → decision_at (J ++ event ∷ []) k ≡ or_else (decision_at J k) (slice_get (decision_in k event) 0)
 decision-push J event k =
     ap (λ os. slice_get os 0) (flat_map-append (decision_in k) J (event ∷ []) ∙ ap (λ os. flat_map (decision_in k) J ++ os) (append-nil (decision_in k event)))
     ∙ first-of (flat_map (decision_in k) J) (decision_in k event)
 
--- what a position has of a decision
+-- the part of a decide event for a position
 decision-here : (position k : ℕ) (outcome : Outcome) → slice_get (decision_in k (Decide position outcome)) 0 ≡ cond (position == k) (Some outcome) None
 decision-here position k outcome = elim (cases_Bool (position == k)) [
   | inl same ↦ rw same refl
   | inr other ↦ rw other refl
 ]
 
--- a decision
+-- a decide event adds its index to the notes
 pub noted-decision : (whole : List Event) (providers : ℕ) (accepting J : List Event) (event : Event) (position place : ℕ) (outcome : Outcome) (old new : Notes)
     → event ≡ Decide position outcome → place < length whole → event ≡ get_or whole place event → new.positions.items ≡ old.positions.items
     → NotesPlace whole old.decided.items new.decided.items position (outcome_at whole place) → Noted whole providers accepting J old
@@ -128,7 +128,7 @@ noted-decision whole providers accepting J event position place outcome old new 
           ∙ ap (or_else (decision_at J k)) (decision-here position k outcome));
     }
 
--- an event that decides nothing changes nothing
+-- an event that decides no claim changes nothing
 pub noted-no-decision : (whole : List Event) (providers : ℕ) (accepting J : List Event) (event : Event) (notes : Notes) → ((k : ℕ) → decision_in k event ≡ [])
     → Noted whole providers accepting J notes → Noted whole providers accepting (J ++ event ∷ []) notes
 noted-no-decision whole providers accepting J event notes none noted = record {
@@ -140,7 +140,7 @@ noted-no-decision whole providers accepting J event notes none noted = record {
       ∙ sym (decision-push J event k ∙ ap (λ os. or_else (decision_at J k) (slice_get os 0)) (none k) ∙ or_else-none (decision_at J k));
 }
 
--- the events up to a place, with the one at that place
+-- the notes of the events before an index and of the event at the index
 pub noted-next : (whole : List Event) (providers : ℕ) (J : List Event) (place : ℕ) (event : Event) (notes : Notes) → place < length J → event ≡ get_or J place event
     → Noted whole providers (take place J ++ event ∷ []) [] notes → Noted whole providers (take (place + 1) J) [] notes
 noted-next whole providers J place event notes within is noted =
@@ -151,7 +151,7 @@ pub noted-next-decision : (whole : List Event) (providers : ℕ) (accepting J : 
 noted-next-decision whole providers accepting J place event notes within is noted =
     subst (λ taken. Noted whole providers accepting taken notes) (sym (take_more J place event within ∙ ap (λ e. take place J ++ e ∷ []) (sym is))) noted
 
--- the positions in front of a place are replaced, and the others stand as they were
+-- the positions before an index are replaced, and the others are unchanged
 pub record ReplacedTo (decided : List ℕ) (end : ℕ) (old new : List ℕ) (place : ℕ) : Type 0 where
   pub size : length new ≡ length old
   pub front : (k d : ℕ) → k < length old → k < place → get_or new k d ≡ get_or decided (get_or old k d) end
@@ -181,7 +181,7 @@ replaced-all decided end old new place past so_far = record {
   each = λ k d inside. so_far.front k d inside (let size = so_far.size in omega (arith, inside, past, size));
 }
 
--- the lists in front of a place are replaced, and the others stand as they were
+-- the lists before an index are replaced, and the others are unchanged
 pub record ListsReplacedTo (decided : List ℕ) (end : ℕ) (old new : List (Vec ℕ)) (place : ℕ) : Type 0 where
   pub size : length new ≡ length old
   pub front : (i : ℕ) (d : Vec ℕ) → i < length old → i < place → Replaces decided end (get_or old i d).items (get_or new i d).items
@@ -212,7 +212,7 @@ lists-all decided end old new place past so_far = record {
   each = λ i d inside. so_far.front i d inside (let size = so_far.size in omega (arith, inside, past, size));
 }
 
--- what stands at a place in the list that is replaced
+-- the element at an index of the replaced list
 replaced-get : (decided : List ℕ) (end : ℕ) (old new : List ℕ) (place : ℕ) → Replaces decided end old new
     → slice_get new place ≡ option_map (λ position. get_or decided position end) (slice_get old place)
 replaced-get decided end old new place replaces = elim (cases_lt place (length old)) [
@@ -224,13 +224,13 @@ replaced-get decided end old new place replaces = elim (cases_lt place (length o
       ∙ ap (option_map (λ position. get_or decided position end)) (sym (slice_get_past old place past))
 ]
 
--- what stands in a list is the first, or stands behind it
+-- a bound on the first element and on the rest bounds each element of the list
 first-or-following : (first k bound : ℕ) (rest : List ℕ) (place : ℕ) → first < bound → ((j : ℕ) → slice_get rest j ≡ Some k → k < bound)
     → slice_get (first ∷ rest) place ≡ Some k → k < bound
 first-or-following first k bound rest zero within following is = let here : first ≡ k = cc is in subst (λ n. n < bound) here within
 first-or-following first k bound rest (suc j) within following is = following j is
 
--- a provider's positions are positions of the claims accepted
+-- a provider's positions are positions of accepted claims
 positions-within : (fs : List Filed) (first provider place k : ℕ) → slice_get (positions_from first fs provider) place ≡ Some k → k < first + length fs
 positions-within [] first provider place k is = absurd (cc is)
 positions-within (f ∷ fs) first provider place k is =
@@ -242,19 +242,19 @@ positions-within (f ∷ fs) first provider place k is =
       | inr other ↦ following place (rw other at is)
     ]
 
--- what is found of a position that is replaced is what the journal decides of it
+-- the outcome at the index that replaces a position is the journal's decision on the position
 decided-through : (J : List Event) (providers : ℕ) (notes : Notes) (end : ℕ) → Noted J providers J J notes → (position : Option ℕ)
     → ((k : ℕ) → position ≡ Some k → k < accepted_count J)
     → option_and_then (outcome_at J) (option_map (λ p. get_or notes.decided.items p end) position) ≡ option_and_then (decision_at J) position
 decided-through J providers notes end noted None within = refl
 decided-through J providers notes end noted (Some k) within = noted.decided k end (within k refl)
 
--- one of these
+-- some element of a list that is not empty
 some-of : {A : Type 0} (xs : List A) → 0 < length xs → A
 some-of [] within = absurd (omega (arith, within))
 some-of (x ∷ xs) within = x
 
--- the decisions, once all positions are replaced
+-- once all positions are replaced, the index has the journal's decisions
 pub laid : (version providers : ℕ) (J : List Event) (notes : Notes) (end : ℕ) (decisions : Decisions) → Noted J providers J J notes
     → ReplacesEach notes.decided.items end notes.positions.items decisions.places.items → decisions.version ≡ version
     → decisions.accepted ≡ length notes.decided.items → decisions.journal.now ≡ J → LaidOut version providers J decisions
@@ -279,7 +279,7 @@ laid version providers J notes end decisions noted replaced version_is accepted_
       (λ k is. let inside = positions-within (accepts J) 0 (suc i) place k is in omega (arith, inside));
 }
 
--- what is laid out by the plan's version is laid out under the plan
+-- an index that is built with the plan's version is an index under the plan
 pub laid_under : {E : Type 0} (plan other : PlanParts) (version : ℕ) (providers : ℕ) (J : List Event) (made : Result Decisions E) → version ≡ other.version → other ≡ plan
     → IfOk made (LaidOut version providers J) → IfOk made (LaidOut plan.version providers J)
 laid_under plan other version providers J made is same laid = subst (λ v. IfOk made (LaidOut v providers J)) (is ∙ ap (λ (p : PlanParts). p.version) same) laid

@@ -1,4 +1,4 @@
--- The text of a file's records, made apart from the others, and what a writer has got of it.
+-- A section that is rendered into memory, and the bytes that a writer has received of it.
 use Rattle.std.proofs.Common.{◌≡◌, ℕ, false, Some, Result, Ok, Err, OnOk, is_err, List, [], ◌++◌, sym, subst, ◌∙◌, append-nil}
 use Rattle.std.specs.Io.KnownBytes.{Appends}
 use Rattle.std.proofs.lemmas.Bool.{false≢true}
@@ -12,7 +12,7 @@ use Rattle.faults.specs.declared.write_fault.WriteFault.{WriteFault}
 use Rattle.remit.proofs.Holding.{writes-then}
 use Rattle.remit.proofs.Reporting.{IsFresh, written-whole}
 
--- the rows of a file, written whole to a writer that had got nothing
+-- a section is the whole text of a file's rows, written into an empty buffer
 pub part-made : (decided : Deciding) (provider : ℕ) (names : List InputData) (text : List ℕ) (a b e : At) (bytes : List ℕ) (first last : Result (Unit {0}) WriteFault)
     → is_err first ≡ false → is_err last ≡ false → IsFresh a → WritesFile decided provider names text a b first → Writes b e [] last
     → OnOk last (gathered_of e.writer ≡ []) → a.contents ≡ Some [] → e.contents ≡ Some bytes → IsPart decided provider names text bytes
@@ -26,11 +26,11 @@ part-made decided provider names text a b e bytes (Ok first) (Ok last) ok done f
     let known : Appends (Some []) (Some bytes) all = subst (λ x. Appends (Some []) x all) after started in
     record { rows = file.0; read = file.1; part_is = known ∙ append-nil (rows_text decided provider file.0) }
 
--- all rows of a file begin with themselves
+-- the list of all rows of a file begins with itself
 read-first-all : (names : List InputData) (text : List ℕ) (rows : List Row) → IsRead names text rows → IsReadFirst names text rows
 read-first-all names text rows read all are = record { rest = []; whole_is = read.only all are ∙ sym (append-nil rows) }
 
--- a part is written, or refused within
+-- a section is written, or the writing ends within it
 pub part-written : (decided : Deciding) (provider : ℕ) (names : List InputData) (text part : List ℕ) (a b : At) (result : Result (Unit {0}) WriteFault)
     → IsPart decided provider names text part → Writes a b part result → WritesFile decided provider names text a b result
 part-written decided provider names text part a b (Ok done) is writes =

@@ -1,4 +1,4 @@
--- The rows of a file, given one after another, and their text.
+-- The rows of a file, which a reader returns one by one, and their text.
 use Rattle.std.proofs.Common.{◌≡◌, ℕ, Bool, Option, Ok, Err, List, [], ◌∷◌, ◌++◌, map, ap, sym, subst, ◌∙◌, refl, append_assoc, append-nil}
 use Rattle.std.proofs.lemmas.Grind.{flat_map-append}
 use Rattle.std.proofs.lemmas.List.{map-append}
@@ -13,26 +13,26 @@ use Rattle.faults.specs.declared.write_fault.WriteFault.{WriteFault}
 use Rattle.remit.specs.declared.record_writer.RecordWriter.{RecordWriter}
 use Rattle.remit.proofs.Holding.{gathers-and-hands, no-memory, writes-none, writes-then}
 
--- the text of rows and of others behind them
+-- the text of two lists of rows in sequence
 pub rows-append : (decided : Deciding) (provider : ℕ) (front following : List Row)
     → rows_text decided provider (front ++ following) ≡ rows_text decided provider front ++ rows_text decided provider following
 rows-append decided provider front following =
     ap text_of (map-append (record_of decided provider) front following)
     ∙ flat_map-append record_text (map (record_of decided provider) front) (map (record_of decided provider) following)
 
--- the text of rows and of one behind them
+-- the text of rows and of one more
 pub rows-push : (decided : Deciding) (provider : ℕ) (front : List Row) (row : Row)
     → rows_text decided provider (front ++ row ∷ []) ≡ rows_text decided provider front ++ record_text (record_of decided provider row)
 rows-push decided provider front row =
     rows-append decided provider front (row ∷ []) ∙ ap (λ text. rows_text decided provider front ++ text) (append-nil (record_text (record_of decided provider row)))
 
--- the rows are these and those that a reader has left behind them
+-- the rows are the returned ones, followed by the remaining rows of the reader
 pub record Behind (given : List Row) (left : RowsLeft) (rows : List Row) : Type 0 where
   pub rest : List Row
   pub rows_are : rows ≡ given ++ rest
   pub rest_left : AreRowsLeft left rest
 
--- a reader has given these rows since its start
+-- a reader has returned these rows since its start
 pub record Passed (start now : RowsLeft) (given : List Row) : Type 0 where
   pub forward : (rest : List Row) → AreRowsLeft now rest → AreRowsLeft start (given ++ rest)
   pub only : LieApart start.layout.columns → (all : List Row) → AreRowsLeft start all → Behind given now all
@@ -74,7 +74,7 @@ passed-front start now given passed apart all left =
     let following = passed.only apart all left in
     record { rest = following.rest; whole_is = following.rows_are }
 
--- the rows that a reader has given since its start are written
+-- the rows that a reader has returned since its start are written
 pub record RowsSoFar (decided : Deciding) (provider : ℕ) (start now : RowsLeft) (old new : At) : Type 0 where
   pub given : List Row
   pub passed : Passed start now given
@@ -100,7 +100,7 @@ pub rows-done : NoRecordsNoRows → (decided : Deciding) (provider : ℕ) (start
 rows-done none decided provider start now old new so_far empty left =
     (so_far.given, passed-all none start now so_far.given so_far.passed empty left, so_far.writes)
 
--- the writing is refused within the next row
+-- the writing ends within the next row
 pub rows-refused : GivenRowIsTheFirst → (decided : Deciding) (provider : ℕ) (start now next : RowsLeft) (row : Row) (old new newer : At) (fault : WriteFault)
     → RowsSoFar decided provider start now old new → GivesRow now next row → ((rest : List Row) → AreRowsLeft next rest → AreRowsLeft now (row ∷ rest))
     → Writes new newer (record_text (record_of decided provider row)) (Err fault) → WritesLeft decided provider start old newer (Err fault)
@@ -112,7 +112,7 @@ rows-refused first decided provider start now next row old new newer fault so_fa
           (writes-then old new newer (rows_text decided provider so_far.given) (record_text (record_of decided provider row)) tt (Err fault) so_far.writes writes),
     )
 
--- memory is wanting for the next row
+-- memory runs out for the next row
 pub rows-no-memory : (decided : Deciding) (provider : ℕ) (start now : RowsLeft) (old : At) (contents : Option (List ℕ)) (failed : Bool) (writer : RecordWriter) (fault : WriteFault)
     → RowsSoFar decided provider start now old (at contents failed writer) → IsNoMemory writer fault
     → WritesLeft decided provider start old (at contents failed writer) (Err fault)

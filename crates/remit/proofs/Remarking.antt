@@ -1,4 +1,4 @@
--- The text of no remarks, and of one.
+-- The text of no remarks and of one remark.
 use Rattle.std.proofs.Common.{◌≡◌, ◌∙◌, ℕ, Some, None, List, [], ◌∷◌, length, slice_get, refl, append-nil}
 use Rattle.remit.specs.FieldTexts.{remarks_text}
 

@@ -1,4 +1,4 @@
--- The whole report, and what a writer has got of it.
+-- The whole remittance, and the bytes that a writer has received of it.
 use Rattle.std.proofs.Common.{◌≡◌, ◌<◌, ◌≤◌, ◌+◌, ℕ, zero, suc, true, List, [], ◌∷◌, ◌++◌, length, map, take, Option, Result, Ok, Err, ap, ap₂, sym, subst, ◌∙◌, refl, append_assoc, append-nil, arith}
 use Rattle.std.specs.Io.KnownBytes.{Appends}
 use Rattle.std.specs.List.{AllZip}
@@ -30,7 +30,7 @@ use Rattle.remit.proofs.Filing.{all-written}
 use Rattle.remit.proofs.Holding.{writes-then}
 use Rattle.remit.proofs.Looking.{looked-right}
 
--- the claims of files beside their texts
+-- the claims of files correspond to their texts
 claims-beside : (names : List InputData) (texts : List (List ℕ)) (files : List (List Row)) → AllZip (AreRowsOf names) texts files
     → AllZip (AreClaimsOf names) texts (map claims_among files)
 claims-beside names [] [] h = tt
@@ -38,7 +38,7 @@ claims-beside names [] (f ∷ files) h = absurd h
 claims-beside names (t ∷ texts) [] h = absurd h
 claims-beside names (t ∷ texts) (f ∷ files) h = (record { rows = f; are_rows = h.0; claims_are = refl }, claims-beside names texts files h.1)
 
--- these parts as journals see them, by the rows of their files
+-- the terms of a journal, made of these parts and of the rows of their files
 abbrev pub terms-by : TermsParts → List (List Row) → Terms
 terms-by parts files = record { plan = parts.plan; files = map claims_among files; balances = accounts_of parts.balances; cutoff = parts.cutoff }
 
@@ -50,11 +50,11 @@ are-terms parts files are = record {
   cutoff = refl;
 }
 
--- what records are told by
+-- the decisions under a plan of this version
 abbrev pub reported : ℕ → (ℕ → ℕ → Option Outcome) → Deciding
 reported version decided = record { version = version; decided = decided }
 
--- what is decided alike is told alike
+-- equal decisions give equal records
 record-same : (version : ℕ) (f g : ℕ → ℕ → Option Outcome) (provider : ℕ) (row : Row) → ((place : ℕ) → f provider place ≡ g provider place)
     → record_of (reported version f) provider row ≡ record_of (reported version g) provider row
 record-same version f g provider (Good number place claim) same =
@@ -74,7 +74,7 @@ records-same version f g first (rows ∷ files) same =
     ap₂ (λ front following. front ++ following) (rows-same version f g first rows (λ place. same first place (omega arith) (omega arith)))
     (records-same version f g (suc first) files (λ provider place least most. same provider place (omega (arith, least)) (omega (arith, most))))
 
--- what is looked up gives the records of the report
+-- the decisions in the index give the records of the remittance
 pub files-alike : (parts : TermsParts) (J : List Event) (providers : ℕ) (decisions : Decisions) (files : List (List Row)) → IsFinishedOver parts J
     → LaidOut parts.plan.version providers J decisions → providers ≡ length parts.files → AllZip (AreRowsOf parts.plan.names) parts.files files
     → files_text (looked_up decisions) 1 files ≡ files_text (reported_by_journal parts.plan.version J) 1 files
@@ -88,7 +88,7 @@ files-alike parts J providers decisions files finished noted as_many are =
     let known : provider ≤ providers = omega (arith, most, long, as_many) in
     looked-right parts.plan.version providers J decisions noted journal.lawful.sound.in_order provider place least known))
 
--- the report's text, in its three parts
+-- the text of the remittance, in its three parts
 abbrev pub whole_text : ℕ → List Event → List (List Row) → List ℕ
 whole_text version J files = record_text (header_fields version) ++ (files_text (reported_by_journal version J) 1 files ++ record_text (total_fields version J))
 
@@ -114,7 +114,7 @@ holds-none start fresh = record {
   ready = fresh.ready;
 }
 
--- a text that is written whole, with nothing left gathered
+-- a whole text is written, and the buffer is empty at the end
 pub written-whole : (start end : At) (text : List ℕ) → IsFresh start → Writes start end text (Ok tt) → gathered_of end.writer ≡ []
     → Appends start.contents end.contents text
 written-whole start end text fresh writes none =
@@ -122,7 +122,7 @@ written-whole start end text fresh writes none =
     let all = held.text_is ∙ ap (λ g. held.gone ++ g) none ∙ append-nil held.gone in
     subst (Appends start.contents end.contents) (sym all) held.appended
 
--- the report is written whole
+-- the whole remittance is written
 pub report-written : (parts : TermsParts) (J : List Event) (providers : ℕ) (decisions : Decisions) (a b c d e : At) → IsFinishedOver parts J → LaidOut parts.plan.version providers J decisions
     → providers ≡ length parts.files → IsFresh a → Writes a b (record_text (header_fields parts.plan.version)) (Ok tt)
     → WritesFiles (looked_up decisions) parts.plan.names parts.files b c (Ok tt) → Writes c d (record_text (total_fields parts.plan.version J)) (Ok tt) → Writes d e [] (Ok tt)
@@ -142,13 +142,13 @@ report-written parts J providers decisions a b c d e finished noted as_many fres
       appended = written-whole a e text fresh writes none;
     }
 
--- so many first elements of a list that begins with as many are these
+-- the first n elements of a list that begins with n given elements
 front-of : (front following : List ℕ) (n : ℕ) → n ≡ length front → take n (front ++ following) ≡ front
 front-of [] following n is = rw is refl
 front-of (x ∷ front) following zero is = absurd (omega (arith, is))
 front-of (x ∷ front) following (suc n) is = ap (λ xs. x ∷ xs) (front-of front following n (omega (arith, is)))
 
--- the writing is refused within a text that begins each report
+-- the writing ends within a text with which every remittance begins
 pub front-written : (parts : TermsParts) (J : List Event) (start end : At) (text : List ℕ) (fault : WriteFault) → IsFresh start → Writes start end text (Err fault)
     → ((report : List ℕ) → IsReport parts J report → Begin text report)
     → WritesFront parts J fault.written start.contents end.contents
@@ -164,35 +164,35 @@ front-written parts J start end text fault fresh writes begins =
           sym (ap (take fault.written) split ∙ front-of has.gone (has.rest ++ begin.rest) fault.written has.counted);
     }
 
--- nothing is written
+-- zero bytes are the beginning of every remittance
 pub none-written : (parts : TermsParts) (J : List Event) (contents : Option (List ℕ)) → WritesFront parts J 0 contents contents
 none-written parts J contents = record { bytes = []; counted = refl; appended = Appends-nil contents; front = λ report is. refl }
 
--- each report begins with the header
+-- every remittance begins with the header
 pub begins-header : (parts : TermsParts) (J : List Event) (report : List ℕ) → IsReport parts J report → Begin (record_text (header_fields parts.plan.version)) report
 begins-header parts J report is = record {
   rest = files_text (reported_by_journal parts.plan.version J) 1 is.files ++ record_text (total_fields parts.plan.version J);
   whole_is = is.bytes_are ∙ whole-is parts.plan.version J is.files;
 }
 
--- what is written of files, by the same decisions and over the same names and texts
+-- the writing of files under equal decisions
 pub files-same : (old new : Decisions) (names : List InputData) (texts : List (List ℕ)) (a b : At) (result : Result (Unit {0}) WriteFault) → new ≡ old
     → WritesFiles (looked_up new) names texts a b result → WritesFiles (looked_up old) names texts a b result
 files-same old new names texts a b result kept writes = subst (λ d. WritesFiles (looked_up d) names texts a b result) kept writes
 
--- what is written of as many first files as there are, by the same decisions, is written of all of them
+-- the writing of the first `count` files is the writing of all files, if there are `count` files
 pub files-counted : (parts : TermsParts) (count : ℕ) (old new : Decisions) (a b : At) (result : Result (Unit {0}) WriteFault) → count ≡ length parts.files → new ≡ old
     → WritesFiles (looked_up new) parts.plan.names (take count parts.files) a b result → WritesFiles (looked_up old) parts.plan.names parts.files a b result
 files-counted parts count old new a b result all kept writes =
     files-same old new parts.plan.names parts.files a b result kept (all-written (looked_up new) parts.plan.names parts.files count a b result all writes)
 
--- refused in the header
+-- the writing ends in the header
 pub header-refused : (parts : TermsParts) (J : List Event) (a b : At) (fault : WriteFault) → IsFresh a → Writes a b (record_text (header_fields parts.plan.version)) (Err fault)
     → WritesFront parts J fault.written a.contents b.contents
 header-refused parts J a b fault fresh header =
     front-written parts J a b (record_text (header_fields parts.plan.version)) fault fresh header (λ report is. begins-header parts J report is)
 
--- refused in the files
+-- the writing ends in the files
 pub files-refused : (parts : TermsParts) (J : List Event) (providers : ℕ) (decisions : Decisions) (a b c : At) (fault : WriteFault) → IsFinishedOver parts J
     → LaidOut parts.plan.version providers J decisions → providers ≡ length parts.files → IsFresh a → Writes a b (record_text (header_fields parts.plan.version)) (Ok tt)
     → WritesFiles (looked_up decisions) parts.plan.names parts.files b c (Err fault) → WritesFront parts J fault.written a.contents c.contents
@@ -212,7 +212,7 @@ files-refused parts J providers decisions a b c fault finished noted as_many fre
           ∙ sym (append_assoc (record_text (header_fields parts.plan.version)) files.0 (begin.rest ++ total));
     })
 
--- the whole text is that of each report
+-- the whole text is every remittance
 whole-of-each : (parts : TermsParts) (J : List Event) (providers : ℕ) (decisions : Decisions) (files : List (List Row)) → IsFinishedOver parts J
     → LaidOut parts.plan.version providers J decisions → providers ≡ length parts.files → AreRead parts.plan.names parts.files files → (report : List ℕ)
     → IsReport parts J report → report ≡ record_text (header_fields parts.plan.version) ++ (files_text (looked_up decisions) 1 files ++ record_text (total_fields parts.plan.version J))
@@ -222,7 +222,7 @@ whole-of-each parts J providers decisions files finished noted as_many read repo
     is.bytes_are ∙ whole-is parts.plan.version J is.files
     ∙ ap (λ t. record_text (header_fields parts.plan.version) ++ (t ++ record_text (total_fields parts.plan.version J))) (sym alike ∙ ap (files_text (looked_up decisions) 1) same)
 
--- refused in the totals
+-- the writing ends in the totals
 pub total-refused : (parts : TermsParts) (J : List Event) (providers : ℕ) (decisions : Decisions) (a b c d : At) (fault : WriteFault) → IsFinishedOver parts J
     → LaidOut parts.plan.version providers J decisions → providers ≡ length parts.files → IsFresh a → Writes a b (record_text (header_fields parts.plan.version)) (Ok tt)
     → WritesFiles (looked_up decisions) parts.plan.names parts.files b c (Ok tt) → Writes c d (record_text (total_fields parts.plan.version J)) (Err fault)
@@ -235,7 +235,7 @@ total-refused parts J providers decisions a b c d fault finished noted as_many f
       whole_is = whole-of-each parts J providers decisions files.0 finished noted as_many files.1 report is ∙ sym (append-nil text);
     })
 
--- refused at the end
+-- the writing ends when the last bytes are passed on
 pub end-refused : (parts : TermsParts) (J : List Event) (providers : ℕ) (decisions : Decisions) (a b c d e : At) (fault : WriteFault) → IsFinishedOver parts J
     → LaidOut parts.plan.version providers J decisions → providers ≡ length parts.files → IsFresh a → Writes a b (record_text (header_fields parts.plan.version)) (Ok tt)
     → WritesFiles (looked_up decisions) parts.plan.names parts.files b c (Ok tt) → Writes c d (record_text (total_fields parts.plan.version J)) (Ok tt) → Writes d e [] (Err fault)
@@ -253,7 +253,7 @@ end-refused parts J providers decisions a b c d e fault finished noted as_many f
           ∙ ap (λ t. record_text (header_fields parts.plan.version) ++ (front ++ t)) (sym (append-nil last)) ∙ sym (append-nil text);
     })
 
--- the writing ends with what is gathered
+-- the writing ends by passing on the buffer
 pub ends-written : (parts : TermsParts) (J : List Event) (providers : ℕ) (decisions : Decisions) (a b c d e : At) (result : Result (Unit {0}) WriteFault)
     → LaidOut parts.plan.version providers J decisions → providers ≡ length parts.files → IsFresh a → Writes a b (record_text (header_fields parts.plan.version)) (Ok tt)
     → WritesFiles (looked_up decisions) parts.plan.names parts.files b c (Ok tt) → Writes c d (record_text (total_fields parts.plan.version J)) (Ok tt) → Writes d e [] result
@@ -270,23 +270,23 @@ ends-refused parts J providers decisions a b c d e (Ok done) noted as_many fresh
 ends-refused parts J providers decisions a b c d e (Err fault) noted as_many fresh header files total end =
     λ finished. end-refused parts J providers decisions a b c d e fault finished noted as_many fresh header files total end
 
--- where the device is the cause, the writer has failed
+-- after a fault of the device the writer has failed
 pub ends-device : (d e : At) (result : Result (Unit {0}) WriteFault) → Writes d e [] result → IfErr result (λ fault. fault.cause ≡ Device → e.failed ≡ true)
 ends-device d e (Ok done) end = tt
 ends-device d e (Err fault) end = end.1.0
 
--- want of memory leaves the writer as it was
+-- a lack of memory leaves the state of the writer unchanged
 pub ends-memory : (a d e : At) (result : Result (Unit {0}) WriteFault) → d.failed ≡ a.failed → Writes d e [] result
     → IfErr result (λ fault. fault.cause ≡ OutOfMemory → e.failed ≡ a.failed)
 ends-memory a d e (Ok done) before end = tt
 ends-memory a d e (Err fault) before end = λ memory. end.1.1 memory ∙ before
 
--- where the writing isn't refused, the writer is as it was
+-- a writing that succeeds leaves the state of the writer unchanged
 pub ends-ok : (a d e : At) (result : Result (Unit {0}) WriteFault) → d.failed ≡ a.failed → Writes d e [] result → OnOk result (e.failed ≡ a.failed)
 ends-ok a d e (Ok done) before end = end.1 ∙ before
 ends-ok a d e (Err fault) before end = tt
 
--- the report of a journal that is finished over these terms
+-- the remittance of a journal that is finished over these terms
 pub finished_written : (parts other : TermsParts) (J K : List Event) (old new : Option (List ℕ)) (result : Result (Unit {0}) WriteFault) → other ≡ parts
     → IsFinishedOver other J → K ≡ J → OnOk result (IsFinishedOver parts K → WritesReport parts K old new) → OnOk result (WritesReport parts J old new)
 finished_written parts other J K old new (Ok done) same finished alike written =

@@ -1,4 +1,4 @@
--- What a reader tells in brief, and the row of which it is told.
+-- A reader's summary of a row, and the row itself.
 use Rattle.std.proofs.Common.{◌≡◌, List, [], ◌∷◌, Option, Some, None}
 use Rattle.intake_csv.specs.RowSummary.{GivesSummary, IsSummaryOf, Reports}
 use Rattle.intake_csv.specs.Records.{Fields}
@@ -6,7 +6,7 @@ use Rattle.intake_csv.specs.Rows.{AreRowsLeft, Gives, GivesRow, IsHead, RowsLeft
 use Rattle.intake_csv.specs.declared.row_summary.RowSummary.{RowSummary}
 use Rattle.intake_csv.specs.declared.rows.Row.{Row}
 
--- the row of which this is told, which a reader gives
+-- the reader returns the row with this summary
 pub record GivesReported (old new : RowsLeft) (fields : Fields) (summary : RowSummary) : Type 0 where
   pub row : Row
   pub gives : GivesRow old new row
@@ -18,11 +18,11 @@ reported-row : (old new : RowsLeft) (fields : Fields) (summary : RowSummary) (ro
 reported-row old new fields summary None gives head reports = absurd reports
 reported-row old new fields summary (Some row) gives head reports = record { row = row; gives = gives; head = head; is_summary = reports }
 
--- where something is told, a row is given
+-- if the reader returns a summary, it returns a row
 pub reported : (old new : RowsLeft) (fields : Fields) (summary : RowSummary) → GivesSummary old new fields (Some summary) → GivesReported old new fields summary
 reported old new fields summary g = reported-row old new fields summary g.row g.gives g.head g.reports
 
--- nothing is told behind the last row
+-- the reader has no row left
 pub record GivesNone (old : RowsLeft) : Type 0 where
   pub none : old.records ≡ []
   pub head : AreRowsLeft old []
@@ -31,6 +31,6 @@ reported-none : (old new : RowsLeft) (fields : Fields) (row : Option Row) → Gi
 reported-none old new fields None gives head reports = record { none = gives.0; head = head }
 reported-none old new fields (Some row) gives head reports = absurd reports
 
--- where nothing is told, no row is left
+-- if the reader returns no summary, it has no row left
 pub nothing : (old new : RowsLeft) (fields : Fields) → GivesSummary old new fields None → GivesNone old
 nothing old new fields g = reported-none old new fields g.row g.gives g.head g.reports

@@ -1,4 +1,4 @@
--- What became of the records of a run, counted file by file.
+-- The counts of the records of a run by their status, file by file.
 use Rattle.std.specs.Prelude.{◌≡◌, ◌<◌, ◌+◌, ◌-◌, ◌^◌, ℕ, suc, ℤ, pos, List, [], get_or, length, map, min, fold, Option, Some, None}
 use Rattle.dtable.specs.declared.table.InputData.{InputData}
 use Rattle.settlement.specs.declared.outcome.Outcome.{Outcome}
@@ -26,7 +26,7 @@ status_by verdicts.Paid = statuses.Paid
 status_by verdicts.Denied = statuses.Denied
 status_by (verdicts.Pended reason) = statuses.Pended
 
--- the status of a claim by its outcome: a claim that was not accepted is late
+-- the status of a claim by its outcome; a claim without an outcome was not accepted and is late
 abbrev pub status_of : Option Outcome → RecordStatus
 status_of (Some outcome) = status_by outcome.verdict
 status_of None = statuses.Late
@@ -36,14 +36,15 @@ abbrev pub status_of_row : Deciding → ℕ → Row → RecordStatus
 status_of_row by provider (Good number place claim) = status_of (by.decided provider place)
 status_of_row by provider (Bad number fault) = statuses.Refused
 
+-- the counts of no records
 abbrev pub no_records : RecordCounts
 no_records = record { paid = 0; denied = 0; pended = 0; refused = 0; late = 0 }
 
--- one more, up to the greatest count
+-- a count plus one, which saturates at 2^64 - 1
 abbrev pub one_more : ℕ → ℕ
 one_more count = min (count + 1) (2 ^ 64 - 1)
 
--- the counts with one record more
+-- the counts after one more record
 abbrev pub counted : RecordCounts → RecordStatus → RecordCounts
 counted counts statuses.Paid = record counts { paid = one_more counts.paid }
 counted counts statuses.Denied = record counts { denied = one_more counts.denied }
@@ -55,7 +56,7 @@ counted counts statuses.Late = record counts { late = one_more counts.late }
 abbrev pub counts_of : Deciding → ℕ → List Row → RecordCounts
 counts_of by provider rows = fold counted no_records (map (status_of_row by provider) rows)
 
--- the counts are those of the rows that a reader has left
+-- the counts are those of the remaining rows of a reader
 pub record LeftIsCounted (by : Deciding) (provider : ℕ) (left : RowsLeft) (counts : RecordCounts) : Type 0 where
   pub rows : List Row
   pub all : GivesAll left rows
@@ -67,16 +68,16 @@ pub record IsCounted (by : Deciding) (provider : ℕ) (names : List InputData) (
   pub read : IsRead names text rows
   pub counts_are : counts ≡ counts_of by provider rows
 
--- the counts are those of the files with these texts, file by file
+-- the counts are those of the files with these texts, one for each file and in their order
 pub record EachIsCounted (by : Deciding) (names : List InputData) (texts : List (List ℕ)) (counts : List RecordCounts) : Type 0 where
   pub count : length counts ≡ length texts
   pub each : (i : ℕ) → i < length texts → IsCounted by (suc i) names (get_or texts i []) (get_or counts i no_records)
 
--- the counts are those of the files' records by the decisions of this journal
+-- the counts are those of the files' records under the decisions of this journal
 abbrev pub AreCounted : TermsParts → List Event → List RecordCounts → Type 0
 AreCounted parts J counts = EachIsCounted (reported_by_journal parts.plan.version J) parts.plan.names parts.files counts
 
--- the counts of a run over these terms with this journal, and what its plan pays in all
+-- the counts of a run over these terms with this journal, and the total that the plan pays, in units
 pub record AreRunCounts (parts : TermsParts) (J : List Event) (counts : RunCounts) : Type 0 where
   pub files : AreCounted parts J (map (λ file. file.counts) counts.files.items)
   pub paid : pos counts.paid ≡ sum_of (amount_of Paid) (paid_outcomes J)

@@ -1,4 +1,4 @@
--- The rows of a file, as far as they are given one after another, and their text.
+-- The rows of a file, of a reader or of all files, and the writing of their text.
 use Rattle.std.specs.Prelude.{◌≡◌, ℕ, List, ◌++◌, map, Result, Ok, Err}
 use Rattle.std.specs.List.{AllZip}
 use Rattle.dtable.specs.declared.table.InputData.{InputData}
@@ -14,30 +14,30 @@ use Rattle.faults.specs.declared.write_fault.WriteFault.{WriteFault}
 abbrev pub rows_text : Deciding → ℕ → List Row → List ℕ
 rows_text decided provider rows = text_of (map (record_of decided provider) rows)
 
--- the text of the rows of the providers' files, the first of them of this provider
+-- the text of the rows of the providers' files, the first of which is this provider's
 abbrev pub files_text : Deciding → ℕ → List (List Row) → List ℕ
 files_text decided provider files = text_of (records_of decided provider files)
 
--- the rows begin with these
+-- the list `whole` begins with `front`
 pub record Begin {A : Type 0} (front whole : List A) : Type 0 where
   pub rest : List A
   pub whole_is : whole ≡ front ++ rest
 
--- these are the rows that a reader has left, and where its columns stand apart no others are
+-- these are the remaining rows of a reader, and the only ones if its columns are distinct
 pub record GivesAll (left : RowsLeft) (rows : List Row) : Type 0 where
   pub are_rows : AreRowsLeft left rows
   pub only : LieApart left.layout.columns → (all : List Row) → AreRowsLeft left all → all ≡ rows
 
--- where a reader's columns stand apart, the rows that it has left begin with these
+-- if a reader's columns are distinct, its remaining rows begin with these
 abbrev pub GivesFirst : RowsLeft → List Row → Type 0
 GivesFirst left front = LieApart left.layout.columns → (all : List Row) → AreRowsLeft left all → Begin front all
 
--- the rows of a reader are written: all of them, or the first ones, and then the writing is refused
+-- the remaining rows of a reader are written; or the first of them are, before the writing ends with a fault
 abbrev pub WritesLeft : Deciding → ℕ → RowsLeft → At → At → Result (Unit {0}) WriteFault → Type 0
 WritesLeft decided provider left old new (Ok done) = (rows : List Row) × GivesAll left rows × Writes old new (rows_text decided provider rows) (Ok done)
 WritesLeft decided provider left old new (Err fault) = (rows : List Row) × GivesFirst left rows × Writes old new (rows_text decided provider rows) (Err fault)
 
--- these are the rows of the text, and no others are
+-- these are the rows of the text, and the text has no other rows
 pub record IsRead (names : List InputData) (text : List ℕ) (rows : List Row) : Type 0 where
   pub are_rows : AreRowsOf names text rows
   pub only : (all : List Row) → AreRowsOf names text all → all ≡ rows
@@ -46,19 +46,18 @@ pub record IsRead (names : List InputData) (text : List ℕ) (rows : List Row) :
 abbrev pub IsReadFirst : List InputData → List ℕ → List Row → Type 0
 IsReadFirst names text front = (all : List Row) → AreRowsOf names text all → Begin front all
 
--- the rows of a provider's file are written: all of them, or the first ones, and then the writing is refused
+-- the rows of a provider's file are written; or the first of them are, before the writing ends with a fault
 abbrev pub WritesFile : Deciding → ℕ → List InputData → List ℕ → At → At → Result (Unit {0}) WriteFault → Type 0
 WritesFile decided provider names text old new (Ok done) = (rows : List Row) × IsRead names text rows × Writes old new (rows_text decided provider rows) (Ok done)
 WritesFile decided provider names text old new (Err fault) =
     (rows : List Row) × IsReadFirst names text rows × Writes old new (rows_text decided provider rows) (Err fault)
 
--- these are the rows of the files, and no others are
+-- these are the rows of the files, and the files have no other rows
 pub record AreRead (names : List InputData) (texts : List (List ℕ)) (files : List (List Row)) : Type 0 where
   pub are_rows : AllZip (AreRowsOf names) texts files
   pub only : (all : List (List Row)) → AllZip (AreRowsOf names) texts all → all ≡ files
 
--- the rows of the files are written: all of them; or a text that begins the text of each rows that the files have, and then
--- the writing is refused
+-- the rows of the files are written; or a beginning of their text is, before the writing ends with a fault
 abbrev pub WritesFiles : Deciding → List InputData → List (List ℕ) → At → At → Result (Unit {0}) WriteFault → Type 0
 WritesFiles decided names texts old new (Ok done) = (files : List (List Row)) × AreRead names texts files × Writes old new (files_text decided 1 files) (Ok done)
 WritesFiles decided names texts old new (Err fault) =

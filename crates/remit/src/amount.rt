@@ -1,4 +1,5 @@
-//! The amounts of a record: one list, from which the header, the records, their empty fields and the totals are made.
+//! The amounts of a record. The header, the records, their empty fields and the totals all follow
+//! one list of amounts.
 ghost use Rattle.std.specs.Prelude.{◌≡◌};
 ghost use Rattle.remit.specs.Amounts.{amount_of, name_of};
 
@@ -26,7 +27,7 @@ pub const AMOUNTS: [Amount; 6] = [
 ];
 
 impl Amount {
-    /// The name of its field.
+    /// Returns the name of the amount's field in the header.
     pub fn name(self) -> &'static str
         ensures { result.now ≡ name_of self }
     {
@@ -40,7 +41,7 @@ impl Amount {
         }
     }
 
-    /// What it is of an outcome.
+    /// Returns this amount of an outcome.
     pub fn of(self, outcome: &Outcome) -> Money
         ensures { result ≡ amount_of self outcome.now }
     {

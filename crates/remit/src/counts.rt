@@ -1,4 +1,4 @@
-//! What became of the records of a run, counted file by file.
+//! Counts of the records of a run by their status, file by file.
 ghost use Rattle.std.specs.Prelude.{◌≡◌, ◌≤◌, ◌-◌, [], get_or, length, map, pos, string_bytes, IfOk, OnOk};
 ghost use Rattle.fixpoint.specs.Money.{money_text};
 ghost use Rattle.intake_csv.specs.Records.{Fields};
@@ -19,20 +19,20 @@ use std::alloc::{AllocError, Global};
 /// The status of a record in the remittance.
 #[derive(Clone, Copy, PartialEq, Eq)]
 pub enum RecordStatus {
-    /// The claim is settled, and the plan pays its part.
+    /// The claim is covered, and its amounts are settled.
     Paid,
     /// The claim is not covered.
     Denied,
-    /// The claim waits for a person.
+    /// The claim waits for a decision by a person.
     Pended,
-    /// The record is no valid claim.
+    /// The record is not a valid claim.
     Refused,
     /// The claim was not accepted before the cutoff.
     Late,
 }
 
 impl RecordStatus {
-    // The status of a claim with this outcome.
+    // Returns the status of a claim with this outcome. A claim without one was not accepted.
     fn of_outcome(outcome: Option<&Outcome>) -> RecordStatus
         ensures { result ≡ status_of (outcome_in outcome) }
     {
@@ -58,7 +58,7 @@ pub struct RecordCounts {
 }
 
 impl RecordCounts {
-    /// No records.
+    /// Returns the counts of no records.
     pub fn new() -> RecordCounts
         ensures { result ≡ no_records }
     {
@@ -71,7 +71,7 @@ impl RecordCounts {
         }
     }
 
-    /// Counts one record more.
+    /// Counts one more record.
     pub fn add(&mut self, status: RecordStatus)
         ensures { self.new ≡ counted self.old status }
     {
@@ -84,7 +84,7 @@ impl RecordCounts {
         }
     }
 
-    /// The counts of these records and others, each up to 2^64 - 1.
+    /// Returns the sums of these counts and others, each at most 2^64 - 1.
     pub fn plus(self, others: RecordCounts) -> RecordCounts {
         RecordCounts {
             paid: self.paid.saturating_add(others.paid),
@@ -95,7 +95,7 @@ impl RecordCounts {
         }
     }
 
-    /// The number of all records, up to 2^64 - 1.
+    /// Returns the number of all records, at most 2^64 - 1.
     pub fn records(&self) -> u64 {
         self.paid
             .saturating_add(self.denied)
@@ -113,7 +113,7 @@ pub struct RefusalCount {
 }
 
 impl RefusalCount {
-    /// The reason in the remittance, as `value:3`.
+    /// Returns the reason as the remittance prints it, for example `value:3`.
     pub fn reason(&self, alloc: Global) -> Result<String, AllocError>
         ensures { IfOk result (λ text. string_bytes text ≡ fault_text self.now.fault) }
     {
@@ -121,7 +121,7 @@ impl RefusalCount {
     }
 }
 
-/// The counts of a provider's file.
+/// The counts of the records of a provider's file.
 pub struct FileCounts {
     pub counts: RecordCounts,
     refusals: Vec<RefusalCount>,
@@ -146,7 +146,7 @@ impl FileCounts {
         }
     }
 
-    // Counts the row that is given in brief.
+    // Counts the row with this summary.
     fn add(
         &mut self,
         decisions: &Decisions,
@@ -171,7 +171,8 @@ impl FileCounts {
         }
     }
 
-    /// The fault for which most records of the file were refused, the first of several; none where no record was refused.
+    /// Returns the fault for which most records of the file were refused, or `None` if no record
+    /// was refused. Of several such faults it returns the one that occurs first in the file.
     pub fn most_frequent_refusal(&self) -> Option<RefusalCount> {
         let mut most: Option<RefusalCount> = None;
         for refusal in self.refusals.as_slice() {
@@ -197,11 +198,11 @@ fn count_refusal(refusals: &mut Vec<RefusalCount>, fault: RowFault) -> Result<()
     refusals.push(RefusalCount { fault, count: 1 })
 }
 
-/// The counts of a run.
+/// The counts of the records of a run, and the total that the plan pays.
 pub struct RunCounts {
     /// The counts of the providers' files, in their order.
     pub files: Vec<FileCounts>,
-    // What the plan pays in all, in units.
+    // The total that the plan pays, in units.
     paid: u128,
 }
 
@@ -212,7 +213,7 @@ impl Drop for RunCounts {
 }
 
 impl RunCounts {
-    /// The amount that the plan pays for all claims, as money.
+    /// Returns the total that the plan pays for all claims, as money with two decimals.
     pub fn paid_text(&self, alloc: Global) -> Result<String, AllocError>
         ensures { IfOk result (λ text. string_bytes text ≡ money_text (pos self.now.paid)) }
     {
@@ -220,7 +221,8 @@ impl RunCounts {
     }
 }
 
-/// Counts the records of each provider's file by their status in the remittance of this run. The files are read once more.
+/// Counts the records of each provider's file by their status in the remittance of this run. The
+/// files are read once more for this purpose.
 pub fn count_run(alloc: Global, terms: &Terms, batch: &Batch) -> Result<RunCounts, AllocError>
     requires same_terms { batch.now.terms ≡ terms.now }
     ensures { IfOk result (AreRunCounts terms.now batch.now.journal) }
@@ -261,13 +263,13 @@ fn count_file(
     ensures { IfOk result (λ file. IsCounted (looked_up decisions.now) provider
         terms.now.plan.names (get_or terms.now.files (provider - 1) []) file.counts) }
 {
-    // proof: the rows that a reader at its start has left are those of the file.
+    // proof: the remaining rows of a new reader are all rows of the file
     intake_csv::reader_begins_with_all_rows();
     let rows = terms.rows(alloc, provider)?;
     count_rows(alloc, decisions, provider, rows)
 }
 
-// Counts the rows that a reader has left.
+// Counts the remaining rows of a reader.
 fn count_rows(
     alloc: Global,
     decisions: &Decisions,
@@ -278,7 +280,7 @@ fn count_rows(
     ensures { IfOk result (λ file.
         LeftIsCounted (looked_up decisions.now) provider rows.entry file.counts) }
 {
-    // proof: a row that a reader gives is the first of those left, and after the last there is none.
+    // proof: a reader returns the first of its remaining rows, and no row after the last one
     intake_csv::given_row_is_the_first();
     intake_csv::no_records_give_no_rows();
     let mut rows = rows;

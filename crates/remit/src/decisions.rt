@@ -1,4 +1,4 @@
-//! What a journal decides of the claims, laid out so that a claim's decision is found at once.
+//! An index of a journal's decisions by provider and claim, for lookups in constant time.
 ghost use Rattle.std.specs.Prelude.{◌≡◌, ◌≤◌, ◌<◌, ◌+◌, [], List, ℕ, get_or, length, take, OnOk, IfOk};
 ghost use Rattle.journal.specs.declared.event.Event.{Event as AnyEvent};
 ghost use Rattle.remit.specs.Looked.{LaidOut, Noted, NotesPlace, NotesPosition, Replaces, ReplacesEach, found_of, outcome_at, outcome_in};
@@ -8,15 +8,16 @@ use journal::Event;
 use settlement::Outcome;
 use std::alloc::{AllocError, Global};
 
-/// The plan's version, how many claims a journal accepts, and where in the journal each provider's claims are decided.
+/// An index of a journal: the event that decides each claim of each provider.
 ///
-/// A claim is one word here, since the texts of the report are held beside it.
+/// The index takes only one word for each claim, because the buffered sections of the remittance
+/// need memory at the same time.
 pub struct Decisions<'j> {
     version: u8,
     accepted: usize,
     journal: &'j [Event],
-    // The places of the events that decide a provider's claims, in order of the claims: the journal's end for a claim that
-    // isn't decided.
+    // For each provider, the indices of the events that decide its claims, in the order of the
+    // claims. A claim that is not decided has the journal's length.
     places: Vec<Vec<usize>>,
 }
 
@@ -32,8 +33,8 @@ impl Drop for Decisions<'_> {
 }
 
 impl<'j> Decisions<'j> {
-    /// The decisions of a journal over these terms about the claims of so many providers. The journal is walked twice, whatever it
-    /// holds.
+    /// Builds the index for the claims of the given number of providers, in two passes over the
+    /// journal.
     #[tactic(auto, using(crate::proofs::Noting::laid_under))]
     pub fn new(
         alloc: Global,
@@ -60,7 +61,8 @@ impl<'j> Decisions<'j> {
         Ok(notes.into_decisions(version, journal))
     }
 
-    /// What a provider's claim is decided to be, if it is accepted. Providers count from 1, places from 0.
+    /// Returns the outcome of a provider's claim, or `None` if the journal does not decide it.
+    /// Providers are numbered from 1 and places from 0.
     pub fn outcome(&self, provider: usize, place: usize) -> Option<&'j Outcome>
         requires { 1 ≤ provider }
         ensures { outcome_in result ≡ found_of self.now provider place }
@@ -69,14 +71,14 @@ impl<'j> Decisions<'j> {
         outcome_at(self.journal, *places.get(place)?)
     }
 
-    /// The plan's version.
+    /// Returns the plan's version.
     pub fn version(&self) -> u8
         ensures { result ≡ self.now.version }
     {
         self.version
     }
 
-    /// How many claims are accepted.
+    /// Returns the number of accepted claims.
     pub fn accepted_count(&self) -> usize
         ensures { result ≡ self.now.accepted }
     {
@@ -84,8 +86,8 @@ impl<'j> Decisions<'j> {
     }
 }
 
-// What is noted of a journal: the positions of each provider's claims, in order, and the place in the journal at which each
-// position is decided, or its end.
+// The state of the two passes over a journal: the positions of each provider's claims, in order,
+// and for each position the index of the event that decides it, or the journal's length.
 #[derive(Drop)]
 struct Notes {
     positions: Vec<Vec<usize>>,
@@ -106,9 +108,9 @@ impl Notes {
         })
     }
 
-    // Notes each claim that the journal accepts.
     fn note_accepts(&mut self, journal: &[Event]) -> Result<(), AllocError>
-        ensures { OnOk result ((providers : ℕ) → Noted journal.now providers [] [] self.old → Noted journal.now providers journal.now [] self.new) }
+        ensures { OnOk result ((providers : ℕ) → Noted journal.now providers [] [] self.old
+            → Noted journal.now providers journal.now [] self.new) }
     {
         for place in 0..journal.len() {
             self.note_accept(journal, place)?;
@@ -116,10 +118,10 @@ impl Notes {
         Ok(())
     }
 
-    // Notes the claim that the event at a place accepts, if it accepts one.
     fn note_accept(&mut self, journal: &[Event], place: usize) -> Result<(), AllocError>
         requires { place < length journal.now }
-        ensures { OnOk result ((providers : ℕ) → Noted journal.now providers (take place journal.now) [] self.old
+        ensures { OnOk result ((providers : ℕ)
+            → Noted journal.now providers (take place journal.now) [] self.old
             → Noted journal.now providers (take (place + 1) journal.now) [] self.new) }
     {
         let Event::Accept { provider, .. } = &journal[place] else {
@@ -130,19 +132,20 @@ impl Notes {
         note_position(&mut self.positions, *provider, position)
     }
 
-    // Notes each decision of the journal.
     fn note_decisions(&mut self, journal: &[Event])
-        ensures { (providers : ℕ) (accepting : List AnyEvent) → Noted journal.now providers accepting [] self.old → Noted journal.now providers accepting journal.now self.new }
+        ensures { (providers : ℕ) (accepting : List AnyEvent)
+            → Noted journal.now providers accepting [] self.old
+            → Noted journal.now providers accepting journal.now self.new }
     {
         for place in 0..journal.len() {
             self.note_decision(journal, place);
         }
     }
 
-    // Notes what the event at a place decides, if it decides a claim.
     fn note_decision(&mut self, journal: &[Event], place: usize)
         requires { place < length journal.now }
-        ensures { (providers : ℕ) (accepting : List AnyEvent) → Noted journal.now providers accepting (take place journal.now) self.old
+        ensures { (providers : ℕ) (accepting : List AnyEvent)
+            → Noted journal.now providers accepting (take place journal.now) self.old
             → Noted journal.now providers accepting (take (place + 1) journal.now) self.new }
     {
         let Event::Decide { position, .. } = &journal[place] else {
@@ -151,9 +154,11 @@ impl Notes {
         note_place(journal, &mut self.decided, *position, place);
     }
 
-    // The decisions: each claim's position is replaced by the place at which it is decided.
+    // The lists of positions become the lists of event indices, so this step takes no memory and
+    // cannot fail.
     fn into_decisions(self, version: u8, journal: &[Event]) -> Decisions<'_>
-        ensures { (providers : ℕ) → Noted journal.now providers journal.now journal.now self → LaidOut version providers journal.now result }
+        ensures { (providers : ℕ) → Noted journal.now providers journal.now journal.now self
+            → LaidOut version providers journal.now result }
     {
         let Notes { positions, decided } = self;
         let mut places = positions;
@@ -167,13 +172,14 @@ impl Notes {
     }
 }
 
-// Puts a position behind those of a provider, if that is one of these.
+// Appends a position to those of its provider. An unknown provider is ignored.
 fn note_position(
     positions: &mut Vec<Vec<usize>>,
     provider: usize,
     position: usize,
 ) -> Result<(), AllocError>
-    ensures { OnOk result (NotesPosition positions.old.items positions.new.items provider position) }
+    ensures { OnOk result
+        (NotesPosition positions.old.items positions.new.items provider position) }
 {
     if 1 <= provider && provider <= positions.len() {
         positions[provider - 1].push(position)?;
@@ -181,16 +187,17 @@ fn note_position(
     Ok(())
 }
 
-// Notes where in the journal a position is decided, if it is one of these and not decided yet.
+// Only the first decision of a known position counts.
 fn note_place(journal: &[Event], decided: &mut Vec<usize>, position: usize, place: usize)
-    ensures { NotesPlace journal.now decided.old.items decided.new.items position (outcome_at journal.now place) }
+    ensures { NotesPlace journal.now decided.old.items decided.new.items position
+        (outcome_at journal.now place) }
 {
     if position < decided.len() && outcome_at(journal, decided[position]).is_none() {
         decided[position] = place;
     }
 }
 
-// What the event at a place of the journal decides a claim to be, if there is one and it decides a claim.
+// Returns the outcome in the event at this index, if there is such an event and it decides a claim.
 fn outcome_at(journal: &[Event], place: usize) -> Option<&Outcome>
     ensures { outcome_in result ≡ outcome_at journal.now place }
 {
@@ -200,7 +207,6 @@ fn outcome_at(journal: &[Event], place: usize) -> Option<&Outcome>
     }
 }
 
-// Replaces each position of each list by the place at which it is decided.
 fn replace_each(positions: &mut Vec<Vec<usize>>, decided: &[usize], end: usize)
     ensures { ReplacesEach decided.now end positions.old.items positions.new.items }
 {
@@ -209,7 +215,7 @@ fn replace_each(positions: &mut Vec<Vec<usize>>, decided: &[usize], end: usize)
     }
 }
 
-// Replaces each position by the place at which it is decided; by the end, where it is none of these.
+// Replaces each position by the index of its decision, or by `end` if the position is unknown.
 fn replace(positions: &mut Vec<usize>, decided: &[usize], end: usize)
     ensures { Replaces decided.now end positions.old.items positions.new.items }
 {

@@ -1,4 +1,4 @@
-//! The texts of the report's fields.
+//! The texts of the remittance's fields.
 ghost use Rattle.std.specs.Prelude.{◌≡◌, ℕ, codes, pos, string_bytes, IfNone, IfOk, IfSome, OnOk};
 ghost use Rattle.fixpoint.specs.Money.{money_text};
 ghost use Rattle.faults.specs.ReasonText.{numbered, reason_text};
@@ -8,7 +8,7 @@ use intake_csv::{RowCause, RowFault};
 use settlement::{Reason, Remarks};
 use std::alloc::{AllocError, Global};
 
-/// Why a claim is pended.
+/// Returns the reason why a claim is pended, for example `norule:1`.
 pub fn reason_text(alloc: Global, reason: Reason) -> Result<String, AllocError>
     ensures { IfOk result (λ text. string_bytes text ≡ reason_text reason) }
 {
@@ -20,7 +20,8 @@ pub fn reason_text(alloc: Global, reason: Reason) -> Result<String, AllocError>
     }
 }
 
-/// Why a record is refused. A fault of the number of fields is in no column.
+/// Returns the reason why a record is refused, for example `value:3`. A wrong number of fields is
+/// in no column, and its reason is `fieldcount`.
 pub fn fault_text(alloc: Global, fault: RowFault) -> Result<String, AllocError>
     ensures { IfOk result (λ text. string_bytes text ≡ fault_text fault) }
 {
@@ -31,9 +32,10 @@ pub fn fault_text(alloc: Global, fault: RowFault) -> Result<String, AllocError>
     }
 }
 
-// The word of a cause that is in a column.
+// Returns the word of a cause that applies to a column.
 fn word_of(cause: RowCause) -> Option<&'static str>
-    ensures word { IfSome result (λ word. (column : ℕ) → cause_text cause column ≡ numbered word.now column) }
+    ensures word { IfSome result (λ word.
+        (column : ℕ) → cause_text cause column ≡ numbered word.now column) }
     ensures none { IfNone result ((column : ℕ) → cause_text cause column ≡ codes "fieldcount") }
 {
     match cause {
@@ -49,7 +51,7 @@ fn word_of(cause: RowCause) -> Option<&'static str>
     }
 }
 
-/// Puts the remarks, as they stand, with a semicolon between two of them, in the place of a text.
+/// Replaces the text by the remarks, which are unchanged and separated by semicolons.
 pub fn join_remarks(text: &mut Vec<u8>, remarks: &Remarks) -> Result<(), AllocError>
     ensures { OnOk result (text.new.items ≡ remarks_text remarks.now) }
 {
@@ -57,7 +59,8 @@ pub fn join_remarks(text: &mut Vec<u8>, remarks: &Remarks) -> Result<(), AllocEr
     remarks.append_joined(text, ";")
 }
 
-/// The text of a sum of money, which has more digits than a number can have.
+/// Returns the text of a sum of money, in units, with two decimals. A sum may be beyond the range
+/// of numbers.
 pub fn sum_text(alloc: Global, units: u128) -> Result<String, AllocError>
     ensures { IfOk result (λ text. string_bytes text ≡ money_text (pos units)) }
 {

@@ -1,10 +1,13 @@
-//! The report of a run: what was decided of each record of the providers' files, as CSV (RFC 4180).
+//! The remittance of a run: a CSV report (RFC 4180) with the decision on each record of the
+//! providers' files.
 //!
-//! `write_report` writes the report of a finished run, and `write_report_by_threads` the same with the help of a thread for each file
-//! behind the first. Rows come from `intake_csv`, the finished run and its journal from `claim_gate`, and `csv` writes the records.
+//! `write_report` writes the remittance of a finished run, and `write_report_by_threads` writes the
+//! same bytes with one more thread for each file after the first. `count_run` counts the records of
+//! a run by their status. The rows come from `intake_csv`, the finished run and its journal come
+//! from `claim_gate`, and `csv` writes the records.
 //!
-//! Begin with `specs/Records.antt` and `specs/Report.antt`, which say what the report is, and `specs/Writing.antt`, which
-//! says what a writer has got of it; then read `report.rt`.
+//! Begin with `specs/Records.antt` and `specs/Report.antt`, which define the remittance, and
+//! `specs/Writing.antt`, which defines how much of it a writer has received; then read `report.rt`.
 #![tactic(auto)]
 
 mod amount;

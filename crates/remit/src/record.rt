@@ -1,4 +1,4 @@
-//! The fields of the report's records.
+//! The fields of the remittance's records.
 ghost use Rattle.std.specs.Prelude.{◌≡◌, ◌≤◌, ℕ, ℤ, Some, IfOk, pos, List, [], ◌∷◌, codes, decimal, map, replicate, OnOk};
 ghost use Rattle.csv.specs.Records.{fields_of};
 ghost use Rattle.faults.specs.ReasonText.{reason_text};
@@ -30,13 +30,13 @@ use itoa::Buffer;
 use settlement::{Money, Outcome, Reason, Verdict};
 use std::alloc::{AllocError, Global};
 
-/// The names of the fields in front of those that tell whose a record is. The record with the totals fills them.
+/// The names of the fields before the identifiers. The record of totals fills these fields too.
 const FIELDS_BEFORE: [&[u8]; 2] = [b"provider", b"record"];
 
-/// The names of the fields between those that tell whose a record is and the amounts.
+/// The names of the fields between the identifiers and the amounts.
 const FIELDS_BETWEEN: [&[u8]; 2] = [b"status", b"reason"];
 
-/// Fills the record with the names of the fields.
+/// Fills the record with the header, which depends on the plan's version.
 pub fn fill_header(line: &mut ByteRecord, version: u8) -> Result<(), AllocError>
     ensures { OnOk result (fields_of line.new ≡ header_fields version) }
 {
@@ -46,8 +46,8 @@ pub fn fill_header(line: &mut ByteRecord, version: u8) -> Result<(), AllocError>
     line.push_field(b"remarks")
 }
 
-/// Fills the record with the row of a provider's file of which this is told, and which the record of the file gives. Several remarks
-/// are joined in the memory of a text that is of no other use.
+/// Fills the record with the row of a provider's file that `summary` summarizes; `source` is the CSV
+/// record of the row. Several remarks are joined in `joined`, a buffer that all rows use.
 pub fn fill_row(
     alloc: Global,
     line: &mut ByteRecord,
@@ -58,7 +58,8 @@ pub fn fill_row(
     source: &CsvRecord,
 ) -> Result<(), AllocError>
     requires { 1 ≤ provider }
-    ensures { OnOk result ((row : AnyRow) → IsSummaryOf source.now summary.now row → fields_of line.new ≡ record_of (looked_up decisions.now) provider row) }
+    ensures { OnOk result ((row : AnyRow) → IsSummaryOf source.now summary.now row
+        → fields_of line.new ≡ record_of (looked_up decisions.now) provider row) }
 {
     line.clear();
     push_number(line, provider)?;
@@ -80,7 +81,7 @@ pub fn fill_row(
     }
 }
 
-/// Fills the record with how many claims are accepted, and the sums over those that are paid.
+/// Fills the record with the number of accepted claims and the sums over the paid claims.
 pub fn fill_total(
     alloc: Global,
     line: &mut ByteRecord,
@@ -88,7 +89,8 @@ pub fn fill_total(
     accepted: usize,
     sums: Sums,
 ) -> Result<(), AllocError>
-    ensures { OnOk result ((J : List AnyEvent) (count : ℕ) → accepted_count ≡ accepted_in J → AreSums J count sums → fields_of line.new ≡ total_fields version J) }
+    ensures { OnOk result ((J : List AnyEvent) (count : ℕ) → accepted_count ≡ accepted_in J
+        → AreSums J count sums → fields_of line.new ≡ total_fields version J) }
 {
     line.clear();
     push_total_front(line, version, accepted)?;
@@ -96,7 +98,7 @@ pub fn fill_total(
     line.push_field(b"")
 }
 
-// The names of the fields in front of the amounts.
+// Appends the names of the fields before the amounts.
 fn push_front_names(line: &mut ByteRecord, version: u8) -> Result<(), AllocError>
     ensures { OnOk result (Pushes line.old line.new (front_names version)) }
 {
@@ -105,7 +107,7 @@ fn push_front_names(line: &mut ByteRecord, version: u8) -> Result<(), AllocError
     push_all(line, &FIELDS_BETWEEN)
 }
 
-// The fields in front of the totals.
+// Appends the fields of the totals before the amounts.
 fn push_total_front(line: &mut ByteRecord, version: u8, accepted: usize) -> Result<(), AllocError>
     ensures { OnOk result (Pushes line.old line.new (total_front version accepted_count)) }
 {
@@ -115,7 +117,7 @@ fn push_total_front(line: &mut ByteRecord, version: u8, accepted: usize) -> Resu
     push_repeated(line, b"", FIELDS_BETWEEN.len())
 }
 
-// Whose the claim is, and the year of its service, where there is a field for it.
+// Appends the identifiers of a claim. The year is read only if the plan keeps benefit years.
 fn push_id_columns(
     alloc: Global,
     line: &mut ByteRecord,
@@ -123,7 +125,8 @@ fn push_id_columns(
     id_columns: IdColumns,
     source: &CsvRecord,
 ) -> Result<(), AllocError>
-    ensures { OnOk result ((claim : AnyClaim) → AreIdColumnsOf source.now id_columns claim → Pushes line.old line.new (id_column_fields version claim)) }
+    ensures { OnOk result ((claim : AnyClaim) → AreIdColumnsOf source.now id_columns claim
+        → Pushes line.old line.new (id_column_fields version claim)) }
 {
     let id = field_at(source, id_columns.id);
     let family = family_at(source, id_columns);
@@ -137,9 +140,10 @@ fn push_id_columns(
     }
 }
 
-// The field of the family. A claim without a family is its member's.
+// A plan without families has no family column: each member is a family alone.
 fn family_at(source: &CsvRecord, id_columns: IdColumns) -> &[u8]
-    ensures { (claim : AnyClaim) → AreIdColumnsOf source.now id_columns claim → result.now ≡ family_of claim }
+    ensures { (claim : AnyClaim) → AreIdColumnsOf source.now id_columns claim
+        → result.now ≡ family_of claim }
 {
     match id_columns.family {
         Some(place) => field_at(source, place),
@@ -147,9 +151,9 @@ fn family_at(source: &CsvRecord, id_columns: IdColumns) -> &[u8]
     }
 }
 
-// The year of the day that stands at a place, which has one.
 fn year_at(alloc: Global, source: &CsvRecord, place: usize) -> Result<Option<[u8; 4]>, AllocError>
-    ensures { IfOk result (λ year. (day : ℤ) → IsDayLocatedAt source.now place day → year ≡ Some (year_text (year_of day))) }
+    ensures { IfOk result (λ year. (day : ℤ) → IsDayLocatedAt source.now place day
+        → year ≡ Some (year_text (year_of day))) }
 {
     match source.day(alloc, place)? {
         Some(day) => Ok(Some(year_text(day_year(day.epoch_day())))),
@@ -157,7 +161,7 @@ fn year_at(alloc: Global, source: &CsvRecord, place: usize) -> Result<Option<[u8
     }
 }
 
-// The record's field at a place, which has one.
+// The summary of a row refers only to fields that the row has, so the empty text is never used.
 fn field_at(source: &CsvRecord, place: usize) -> &[u8]
     ensures { (text : List ℕ) → IsLocatedAt source.now place text → result.now ≡ text }
 {
@@ -167,7 +171,7 @@ fn field_at(source: &CsvRecord, place: usize) -> &[u8]
     }
 }
 
-// The fields that tell whose a record is: those of the family and of the year only where there are such.
+// Appends the identifiers of a record. Only some versions of a plan have a family and a year.
 fn push_whose(
     line: &mut ByteRecord,
     version: u8,
@@ -176,7 +180,8 @@ fn push_whose(
     member: &[u8],
     year: &[u8],
 ) -> Result<(), AllocError>
-    ensures { OnOk result (Pushes line.old line.new (whose_fields version claim.now family.now member.now year.now)) }
+    ensures { OnOk result (Pushes line.old line.new
+        (whose_fields version claim.now family.now member.now year.now)) }
 {
     line.push_field(claim)?;
     push_family(line, has_families(version), family)?;
@@ -184,7 +189,6 @@ fn push_whose(
     push_year(line, has_years(version), year)
 }
 
-// The field of the family, where there is one.
 fn push_family(line: &mut ByteRecord, families: bool, family: &[u8]) -> Result<(), AllocError>
     ensures { OnOk result (Pushes line.old line.new (family_fields families family.now)) }
 {
@@ -195,7 +199,6 @@ fn push_family(line: &mut ByteRecord, families: bool, family: &[u8]) -> Result<(
     }
 }
 
-// The field of the year, where there is one.
 fn push_year(line: &mut ByteRecord, keeps_years: bool, year: &[u8]) -> Result<(), AllocError>
     ensures { OnOk result (Pushes line.old line.new (year_fields keeps_years year.now)) }
 {
@@ -206,14 +209,15 @@ fn push_year(line: &mut ByteRecord, keeps_years: bool, year: &[u8]) -> Result<()
     }
 }
 
-// What is told of a claim: what it is decided to be, or that it came too late to be accepted.
+// Appends the status and all that follows it. A claim without an outcome was late.
 fn push_claim(
     alloc: Global,
     line: &mut ByteRecord,
     joined: &mut Vec<u8>,
     decided: Option<&Outcome>,
 ) -> Result<(), AllocError>
-    ensures { OnOk result (Pushes line.old line.new (status_fields (reported_of (outcome_in decided.entry)))) }
+    ensures { OnOk result (Pushes line.old line.new
+        (status_fields (reported_of (outcome_in decided.entry)))) }
 {
     match decided {
         Some(decision) => push_decision(alloc, line, joined, decision),
@@ -230,7 +234,8 @@ fn push_decision(
     joined: &mut Vec<u8>,
     decision: &Outcome,
 ) -> Result<(), AllocError>
-    ensures { OnOk result (Pushes line.old line.new (status_fields (reported_by decision.now.verdict decision.now))) }
+    ensures { OnOk result (Pushes line.old line.new
+        (status_fields (reported_by decision.now.verdict decision.now))) }
 {
     match decision.verdict {
         Verdict::Paid => {
@@ -251,14 +256,13 @@ fn push_decision(
     }
 }
 
-// The status of a claim that is pended, and why.
 fn push_pended(alloc: Global, line: &mut ByteRecord, reason: Reason) -> Result<(), AllocError>
-    ensures { OnOk result (Pushes line.old line.new (codes "pended" ∷ reason_text reason ∷ [])) }
+    ensures { OnOk result (Pushes line.old line.new
+        (codes "pended" ∷ reason_text reason ∷ [])) }
 {
     push_status(line, b"pended", reason_text(alloc, reason)?.as_bytes())
 }
 
-// The status of a record, and its reason.
 fn push_status(line: &mut ByteRecord, status: &[u8], reason: &[u8]) -> Result<(), AllocError>
     ensures { OnOk result (Pushes line.old line.new (status.now ∷ reason.now ∷ [])) }
 {
@@ -266,7 +270,6 @@ fn push_status(line: &mut ByteRecord, status: &[u8], reason: &[u8]) -> Result<()
     line.push_field(reason)
 }
 
-// What is told of a record that is no claim.
 fn push_refused(alloc: Global, line: &mut ByteRecord, fault: RowFault) -> Result<(), AllocError>
     ensures { OnOk result (Pushes line.old line.new (status_fields (reported_refused fault))) }
 {
@@ -274,7 +277,6 @@ fn push_refused(alloc: Global, line: &mut ByteRecord, fault: RowFault) -> Result
     push_repeated(line, b"", AMOUNTS.len() + 1)
 }
 
-// The names of these amounts.
 fn push_names(line: &mut ByteRecord, amounts: &[Amount]) -> Result<(), AllocError>
     ensures { OnOk result (Pushes line.old line.new (map name_of amounts.now)) }
 {
@@ -284,13 +286,13 @@ fn push_names(line: &mut ByteRecord, amounts: &[Amount]) -> Result<(), AllocErro
     Ok(())
 }
 
-// These amounts of an outcome.
 fn push_amounts(
     line: &mut ByteRecord,
     decision: &Outcome,
     amounts: &[Amount],
 ) -> Result<(), AllocError>
-    ensures { OnOk result (Pushes line.old line.new (map (λ amount. money_text (amount_of amount decision.now)) amounts.now)) }
+    ensures { OnOk result (Pushes line.old line.new
+        (map (λ amount. money_text (amount_of amount decision.now)) amounts.now)) }
 {
     for amount in amounts {
         push_money(line, amount.of(decision))?;
@@ -298,9 +300,9 @@ fn push_amounts(
     Ok(())
 }
 
-// These sums.
 fn push_sums(alloc: Global, line: &mut ByteRecord, sums: &[u128]) -> Result<(), AllocError>
-    ensures { OnOk result (Pushes line.old line.new (map (λ sum. money_text (pos sum)) sums.now)) }
+    ensures { OnOk result (Pushes line.old line.new
+        (map (λ sum. money_text (pos sum)) sums.now)) }
 {
     for sum in sums {
         push_sum(alloc, line, *sum)?;
@@ -308,7 +310,7 @@ fn push_sums(alloc: Global, line: &mut ByteRecord, sums: &[u128]) -> Result<(), 
     Ok(())
 }
 
-// The field of the remarks. Where there is one at most, as mostly, it goes there as it stands.
+// Most outcomes have at most one remark, which is appended without a copy.
 #[tactic(auto, using(crate::proofs::Remarking::none_joined, crate::proofs::Remarking::one_joined))]
 fn push_remarks(
     line: &mut ByteRecord,
@@ -348,7 +350,6 @@ fn push_sum(alloc: Global, line: &mut ByteRecord, units: u128) -> Result<(), All
     line.push_field(sum_text(alloc, units)?.as_bytes())
 }
 
-// Puts fields behind those of the record.
 fn push_all(line: &mut ByteRecord, fields: &[&[u8]]) -> Result<(), AllocError>
     ensures { OnOk result (Pushes line.old line.new (texts_of fields.now)) }
 {
@@ -358,7 +359,6 @@ fn push_all(line: &mut ByteRecord, fields: &[&[u8]]) -> Result<(), AllocError>
     Ok(())
 }
 
-// Puts a field behind those of the record, so many times.
 fn push_repeated(line: &mut ByteRecord, field: &[u8], times: usize) -> Result<(), AllocError>
     ensures { OnOk result (Pushes line.old line.new (replicate times field.now)) }
 {

@@ -1,4 +1,5 @@
-//! Records on their way to a writer: gathered as CSV text (RFC 4180), and handed over in large pieces.
+//! A buffer of records: it collects their CSV text (RFC 4180) and passes it on to a writer in large
+//! pieces.
 ghost use Rattle.std.specs.Prelude.{◌≡◌, [], OnOk, false};
 ghost use Rattle.csv.specs.Records.{fields_of};
 ghost use Rattle.csv.specs.Writing.{fields_written, has_written, writer_pending, writer_setup, writer_under};
@@ -13,10 +14,10 @@ use std::alloc::Global;
 use std::io::Write;
 use std::mem;
 
-/// How many bytes are gathered before they are handed over.
+/// The size of the buffer, in bytes, at which it is passed on to the writer.
 const PIECE_BYTES: usize = 65_536;
 
-/// Records that are gathered, and how many bytes were handed over before them.
+/// Buffered records, and the number of bytes that were passed on before them.
 pub struct RecordWriter {
     alloc: Global,
     gathered: Writer<Vec<u8>>,
@@ -34,7 +35,7 @@ impl Drop for RecordWriter {
 }
 
 impl RecordWriter {
-    /// No records.
+    /// Returns an empty buffer.
     pub fn new(alloc: Global) -> RecordWriter
         ensures gathered { gathered_of result ≡ [] }
         ensures written { result.written ≡ 0 }
@@ -47,7 +48,7 @@ impl RecordWriter {
         }
     }
 
-    /// Want of memory, after what was handed over.
+    /// Returns the fault for a refused allocation, after the bytes that were passed on.
     pub fn no_memory(&self) -> WriteFault
         ensures { IsNoMemory self.now result }
     {
@@ -57,7 +58,7 @@ impl RecordWriter {
         }
     }
 
-    /// Writes a record.
+    /// Buffers a record, and passes the buffer on once it has `PIECE_BYTES`.
     pub fn write<W: Write>(&mut self, line: &ByteRecord, out: &mut Out<W>) -> Result<(), WriteFault>
         ensures { Writes (at (W.contents (writer_of out.old)) (has_failed out.old) self.old)
             (at (W.contents (writer_of out.new)) (has_failed out.new) self.new)
@@ -72,7 +73,7 @@ impl RecordWriter {
         self.hand_over(out)
     }
 
-    /// Hands over what is gathered and a text behind it, and gives the memory of the text back.
+    /// Passes on the buffer and then the text, and frees the memory of the text.
     pub fn write_text<W: Write>(
         &mut self,
         text: Vec<u8>,
@@ -88,7 +89,7 @@ impl RecordWriter {
         Ok(())
     }
 
-    /// Hands over what is gathered.
+    /// Passes on the buffer, and reuses its memory for later records.
     pub fn hand_over<W: Write>(&mut self, out: &mut Out<W>) -> Result<(), WriteFault>
         ensures writes { Writes (at (W.contents (writer_of out.old)) (has_failed out.old) self.old)
             (at (W.contents (writer_of out.new)) (has_failed out.new) self.new) [] result }
@@ -99,7 +100,7 @@ impl RecordWriter {
         let Ok(mut text) = full.into_inner() else {
             return Err(self.no_memory());
         };
-        // No writer takes so many bytes that their count would overflow; it is refused here, so that the count is exact.
+        // No real writer takes that many bytes. The test keeps the sum below from overflowing.
         if text.len() > usize::MAX - self.written {
             return Err(self.no_memory());
         }
@@ -118,7 +119,7 @@ impl RecordWriter {
     }
 }
 
-// A writer of records in the report's style that puts them behind a text.
+// Returns a writer that appends records to a text, in the style of the remittance.
 fn writer_into(text: Vec<u8>) -> Writer<Vec<u8>>
     ensures under { writer_under result ≡ text }
     ensures pending { writer_pending result ≡ [] }

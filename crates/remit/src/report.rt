@@ -1,4 +1,5 @@
-//! The report of a run: one record for each record of the providers' files, and one with the totals.
+//! The remittance of a run: a header, one record for each record of the providers' files, and a
+//! record of totals.
 ghost use Rattle.std.specs.Prelude.{◌≡◌, ◌≤◌, ◌-◌, [], get_or, length, take, IfErr, OnOk, true};
 ghost use Rattle.std.specs.Thread.{IsSync};
 ghost use Rattle.dtable.specs.Plan.{PlanParts};
@@ -31,12 +32,16 @@ use std::alloc::{AllocError, Global};
 use std::io::Write;
 use std::thread::{Threads, join_mut};
 
-/// Writes the report of a finished run as CSV (RFC 4180): a header, a record for each record of the providers' files,
-/// provider by provider and in the order of the file, and a record with the totals. Commas part the fields, and CRLF ends
-/// each record. Amounts are money, with two decimals.
+/// Writes the remittance of a finished run as CSV (RFC 4180): a header, a record for each record of
+/// the providers' files, in the order of the files and of their records, and a record of totals.
+/// Commas separate the fields, and CRLF ends each record. Amounts are money, with two decimals. The
+/// writer receives the bytes in large pieces.
 ///
-/// The bytes are handed to the writer in large pieces. Where the report is refused, the writer has got exactly its first
-/// bytes, as many as the fault tells. It is refused with `Device` where the writer fails, and with `OutOfMemory`.
+/// # Errors
+///
+/// Returns a fault with the cause `Device` if the writer fails, or with the cause `OutOfMemory` if
+/// memory runs out. The writer has then received exactly the first bytes of the remittance, and the
+/// fault has their number.
 #[tactic(auto, using(crate::proofs::Reporting::finished_written, crate::proofs::Reporting::finished_refused))]
 pub fn write_report<W: Write>(
     alloc: Global,
@@ -45,22 +50,28 @@ pub fn write_report<W: Write>(
     out: &mut Out<W>,
 ) -> Result<(), WriteFault>
     requires same_terms { batch.now.terms ≡ terms.now }
-    ensures written { OnOk result (WritesReport terms.now batch.now.journal (W.contents (writer_of out.old)) (W.contents (writer_of out.new))) }
-    ensures refused { IfErr result (λ fault. WritesFront terms.now batch.now.journal fault.written (W.contents (writer_of out.old)) (W.contents (writer_of out.new))) }
+    ensures written { OnOk result (WritesReport terms.now batch.now.journal
+        (W.contents (writer_of out.old)) (W.contents (writer_of out.new))) }
+    ensures refused { IfErr result (λ fault.
+        WritesFront terms.now batch.now.journal fault.written
+        (W.contents (writer_of out.old)) (W.contents (writer_of out.new))) }
     ensures device { IfErr result (λ fault. fault.cause ≡ Device → has_failed out.new ≡ true) }
-    ensures memory { IfErr result (λ fault. fault.cause ≡ OutOfMemory → has_failed out.new ≡ has_failed out.old) }
+    ensures memory { IfErr result (λ fault.
+        fault.cause ≡ OutOfMemory → has_failed out.new ≡ has_failed out.old) }
     ensures ok_failed { OnOk result (has_failed out.new ≡ has_failed out.old) }
 {
     write_journal(alloc, terms, batch.journal(), out)
 }
 
-/// Writes the same report by threads: the caller's thread writes the records of the first file straight to the writer, in
-/// pieces, while for each other file a thread makes the text of its records. The caller's thread then hands these texts to
-/// the writer in the order of the files. The text of a file is held until it is written, if it is not much longer than the
-/// file; where it is, as by long remarks, or memory is wanting for it, the caller's thread writes that file's records in
-/// pieces too, in their turn.
+/// Writes the remittance of a finished run, with one more thread for each file after the first.
 ///
-/// What holds of the bytes, of a refusal and of the writer holds as for `write_report`.
+/// The caller's thread writes the records of the first file in pieces, while for each other file a
+/// thread renders its section into memory. The caller's thread then writes the sections in the
+/// order of the files. If a section is much longer than its file, as with long remarks, or if
+/// memory runs out for it, the section is dropped, and the caller's thread writes the records of
+/// that file in pieces when their turn comes.
+///
+/// The bytes and the errors are those of `write_report`.
 #[tactic(auto, using(crate::proofs::Reporting::finished_written, crate::proofs::Reporting::finished_refused))]
 pub fn write_report_by_threads<R: Threads + Sync, W: Write>(
     rt: &R,
@@ -70,27 +81,36 @@ pub fn write_report_by_threads<R: Threads + Sync, W: Write>(
     out: &mut Out<W>,
 ) -> Result<(), WriteFault>
     requires same_terms { batch.now.terms ≡ terms.now }
-    ensures written { OnOk result (WritesReport terms.now batch.now.journal (W.contents (writer_of out.old)) (W.contents (writer_of out.new))) }
-    ensures refused { IfErr result (λ fault. WritesFront terms.now batch.now.journal fault.written (W.contents (writer_of out.old)) (W.contents (writer_of out.new))) }
+    ensures written { OnOk result (WritesReport terms.now batch.now.journal
+        (W.contents (writer_of out.old)) (W.contents (writer_of out.new))) }
+    ensures refused { IfErr result (λ fault.
+        WritesFront terms.now batch.now.journal fault.written
+        (W.contents (writer_of out.old)) (W.contents (writer_of out.new))) }
     ensures device { IfErr result (λ fault. fault.cause ≡ Device → has_failed out.new ≡ true) }
-    ensures memory { IfErr result (λ fault. fault.cause ≡ OutOfMemory → has_failed out.new ≡ has_failed out.old) }
+    ensures memory { IfErr result (λ fault.
+        fault.cause ≡ OutOfMemory → has_failed out.new ≡ has_failed out.old) }
     ensures ok_failed { OnOk result (has_failed out.new ≡ has_failed out.old) }
 {
     write_journal_by_threads(rt, alloc, terms, batch.journal(), out)
 }
 
-/// Writes the report of a journal that is finished over these terms, as `write_report` writes that of a run; of any other
-/// journal only the writer's state is said.
+/// Writes the remittance of a journal that is finished over these terms, as `write_report` does for
+/// a run. For any other journal, only the state of the writer is specified.
 pub fn write_journal<W: Write>(
     alloc: Global,
     terms: &Terms,
     journal: &[Event],
     out: &mut Out<W>,
 ) -> Result<(), WriteFault>
-    ensures written { OnOk result (IsFinishedOver terms.now journal.now → WritesReport terms.now journal.now (W.contents (writer_of out.old)) (W.contents (writer_of out.new))) }
-    ensures refused { IfErr result (λ fault. IsFinishedOver terms.now journal.now → WritesFront terms.now journal.now fault.written (W.contents (writer_of out.old)) (W.contents (writer_of out.new))) }
+    ensures written { OnOk result (IsFinishedOver terms.now journal.now
+        → WritesReport terms.now journal.now
+        (W.contents (writer_of out.old)) (W.contents (writer_of out.new))) }
+    ensures refused { IfErr result (λ fault. IsFinishedOver terms.now journal.now
+        → WritesFront terms.now journal.now fault.written
+        (W.contents (writer_of out.old)) (W.contents (writer_of out.new))) }
     ensures device { IfErr result (λ fault. fault.cause ≡ Device → has_failed out.new ≡ true) }
-    ensures memory { IfErr result (λ fault. fault.cause ≡ OutOfMemory → has_failed out.new ≡ has_failed out.old) }
+    ensures memory { IfErr result (λ fault.
+        fault.cause ≡ OutOfMemory → has_failed out.new ≡ has_failed out.old) }
     ensures ok_failed { OnOk result (has_failed out.new ≡ has_failed out.old) }
 {
     let files = terms.files();
@@ -107,7 +127,8 @@ pub fn write_journal<W: Write>(
     report.finish(out)
 }
 
-/// The same by threads: the records of each file behind the first become text by a thread of their own.
+/// Writes the remittance of a journal as `write_journal` does, with one more thread for each file
+/// after the first.
 pub fn write_journal_by_threads<R: Threads + Sync, W: Write>(
     rt: &R,
     alloc: Global,
@@ -115,10 +136,15 @@ pub fn write_journal_by_threads<R: Threads + Sync, W: Write>(
     journal: &[Event],
     out: &mut Out<W>,
 ) -> Result<(), WriteFault>
-    ensures written { OnOk result (IsFinishedOver terms.now journal.now → WritesReport terms.now journal.now (W.contents (writer_of out.old)) (W.contents (writer_of out.new))) }
-    ensures refused { IfErr result (λ fault. IsFinishedOver terms.now journal.now → WritesFront terms.now journal.now fault.written (W.contents (writer_of out.old)) (W.contents (writer_of out.new))) }
+    ensures written { OnOk result (IsFinishedOver terms.now journal.now
+        → WritesReport terms.now journal.now
+        (W.contents (writer_of out.old)) (W.contents (writer_of out.new))) }
+    ensures refused { IfErr result (λ fault. IsFinishedOver terms.now journal.now
+        → WritesFront terms.now journal.now fault.written
+        (W.contents (writer_of out.old)) (W.contents (writer_of out.new))) }
     ensures device { IfErr result (λ fault. fault.cause ≡ Device → has_failed out.new ≡ true) }
-    ensures memory { IfErr result (λ fault. fault.cause ≡ OutOfMemory → has_failed out.new ≡ has_failed out.old) }
+    ensures memory { IfErr result (λ fault.
+        fault.cause ≡ OutOfMemory → has_failed out.new ≡ has_failed out.old) }
     ensures ok_failed { OnOk result (has_failed out.new ≡ has_failed out.old) }
 {
     let files = terms.files();
@@ -135,8 +161,8 @@ pub fn write_journal_by_threads<R: Threads + Sync, W: Write>(
     report.finish(out)
 }
 
-// Writes the rows of so many first files: those of the first as they are made, and each other file's by a text that a
-// thread made meanwhile.
+// Writes the rows of the first `providers` files: those of the first file row by row, and those of
+// each other file as a section that another thread has rendered in the meantime.
 #[cycle(files)]
 fn write_files_by_threads<R: Threads + Sync, W: Write>(
     rt: &R,
@@ -147,7 +173,8 @@ fn write_files_by_threads<R: Threads + Sync, W: Write>(
 ) -> Result<(), WriteFault>
     requires least { 1 ≤ providers }
     requires most { providers ≤ length terms.now.files }
-    ensures writes { WritesFiles (looked_up report.old.decisions.now) terms.now.plan.names (take providers terms.now.files)
+    ensures writes { WritesFiles (looked_up report.old.decisions.now) terms.now.plan.names
+        (take providers terms.now.files)
         (at (W.contents (writer_of out.old)) (has_failed out.old) report.old.writer)
         (at (W.contents (writer_of out.new)) (has_failed out.new) report.new.writer) result }
     ensures decisions { report.new.decisions ≡ report.old.decisions }
@@ -160,9 +187,10 @@ fn write_files_by_threads<R: Threads + Sync, W: Write>(
     report.write_part(terms, providers, part, out)
 }
 
-// Writes the rows of the files in front of a provider's, while a thread makes the text of that provider's. So the threads
-// of all files start before the first row is written, and each text is written as soon as those in front of it are. Where
-// no thread can be made, the caller's makes that text too, behind the rows in front.
+// Writes the rows of the files before a provider's, while another thread renders the section of
+// that provider. By recursion, the threads of all files start before the first row is written, and
+// each section is written as soon as the sections before it are. If no thread can be started, the
+// caller's thread renders the section after it has written the rows before it.
 #[cycle(files)]
 fn write_files_in_front<R: Threads + Sync, W: Write>(
     rt: &R,
@@ -173,8 +201,10 @@ fn write_files_in_front<R: Threads + Sync, W: Write>(
 ) -> (Result<Vec<u8>, SectionTooLarge>, Result<(), WriteFault>)
     requires least { 2 ≤ provider }
     requires most { provider ≤ length terms.now.files }
-    ensures part { MayBePart (looked_up report.old.decisions.now) provider terms.now.plan.names (get_or terms.now.files (provider - 1) []) result.0 }
-    ensures writes { WritesFiles (looked_up report.old.decisions.now) terms.now.plan.names (take (provider - 1) terms.now.files)
+    ensures part { MayBePart (looked_up report.old.decisions.now) provider terms.now.plan.names
+        (get_or terms.now.files (provider - 1) []) result.0 }
+    ensures writes { WritesFiles (looked_up report.old.decisions.now) terms.now.plan.names
+        (take (provider - 1) terms.now.files)
         (at (W.contents (writer_of out.old)) (has_failed out.old) report.old.writer)
         (at (W.contents (writer_of out.new)) (has_failed out.new) report.new.writer) result.1 }
     ensures decisions { report.new.decisions ≡ report.old.decisions }
@@ -183,25 +213,29 @@ fn write_files_in_front<R: Threads + Sync, W: Write>(
     let in_front = provider - 1;
     let mut make = || -> Result<Vec<u8>, SectionTooLarge>
         requires { (1 ≤ provider) × (provider ≤ length terms.now.files) }
-        ensures { MayBePart (looked_up decisions.entry.now) provider terms.entry.now.plan.names (get_or terms.entry.now.files (provider - 1) []) result }
+        ensures { MayBePart (looked_up decisions.entry.now) provider terms.entry.now.plan.names
+            (get_or terms.entry.now.files (provider - 1) []) result }
     { render_section(alloc, terms, decisions, provider) };
     let mut write = || -> Result<(), WriteFault>
         requires { IsSync R.row × (1 ≤ in_front) × (in_front ≤ length terms.now.files) }
-        ensures writes { WritesFiles (looked_up report.entry.now.decisions.now) terms.entry.now.plan.names (take in_front terms.entry.now.files)
-            (at (W.contents (writer_of out.entry.now)) (has_failed out.entry.now) report.entry.now.writer)
-            (at (W.contents (writer_of out.exit.now)) (has_failed out.exit.now) report.exit.now.writer) result }
+        ensures writes { WritesFiles (looked_up report.entry.now.decisions.now)
+            terms.entry.now.plan.names (take in_front terms.entry.now.files)
+            (at (W.contents (writer_of out.entry.now)) (has_failed out.entry.now)
+            report.entry.now.writer)
+            (at (W.contents (writer_of out.exit.now)) (has_failed out.exit.now)
+            report.exit.now.writer) result }
         ensures decisions { report.exit.now.decisions ≡ report.entry.now.decisions }
     { write_files_by_threads(rt, terms, in_front, report, out) };
     join_mut(rt, &mut make, &mut write)
 }
 
-/// A report that is being written.
+/// A remittance that is being written.
 pub struct Report<'d, 'j> {
     alloc: Global,
     decisions: &'d Decisions<'j>,
-    // The record that is filled last, in memory that each record uses again.
+    // The last record that was filled. All records use the same memory.
     line: ByteRecord,
-    // Remarks that were joined, in memory that each record uses again.
+    // The joined remarks of a record. All records use the same memory.
     joined: Vec<u8>,
     writer: RecordWriter,
 }
@@ -219,7 +253,7 @@ impl Drop for Report<'_, '_> {
 }
 
 impl<'d, 'j> Report<'d, 'j> {
-    /// A report by these decisions, of which nothing is written.
+    /// Starts a remittance with these decisions. Nothing is written yet.
     pub fn new(alloc: Global, decisions: &'d Decisions<'j>) -> Report<'d, 'j>
         ensures decisions { result.decisions.now ≡ decisions.now }
         ensures gathered { gathered_of result.writer ≡ [] }
@@ -236,8 +270,10 @@ impl<'d, 'j> Report<'d, 'j> {
     }
 
     fn write_header<W: Write>(&mut self, terms: &Terms, out: &mut Out<W>) -> Result<(), WriteFault>
-        ensures writes { Writes (at (W.contents (writer_of out.old)) (has_failed out.old) self.old.writer)
-            (at (W.contents (writer_of out.new)) (has_failed out.new) self.new.writer) (record_text (header_fields terms.now.plan.version)) result }
+        ensures writes { Writes
+            (at (W.contents (writer_of out.old)) (has_failed out.old) self.old.writer)
+            (at (W.contents (writer_of out.new)) (has_failed out.new) self.new.writer)
+            (record_text (header_fields terms.now.plan.version)) result }
         ensures decisions { self.new.decisions ≡ self.old.decisions }
     {
         if fill_header(&mut self.line, terms.plan().version()).is_err() {
@@ -246,7 +282,6 @@ impl<'d, 'j> Report<'d, 'j> {
         self.writer.write(&self.line, out)
     }
 
-    // Writes the rows of the providers' files.
     fn write_files<W: Write>(
         &mut self,
         terms: &Terms,
@@ -254,7 +289,8 @@ impl<'d, 'j> Report<'d, 'j> {
         out: &mut Out<W>,
     ) -> Result<(), WriteFault>
         requires { providers ≡ length terms.now.files }
-        ensures writes { WritesFiles (looked_up self.old.decisions.now) terms.now.plan.names terms.now.files
+        ensures writes { WritesFiles (looked_up self.old.decisions.now) terms.now.plan.names
+            terms.now.files
             (at (W.contents (writer_of out.old)) (has_failed out.old) self.old.writer)
             (at (W.contents (writer_of out.new)) (has_failed out.new) self.new.writer) result }
         ensures decisions { self.new.decisions ≡ self.old.decisions }
@@ -265,8 +301,8 @@ impl<'d, 'j> Report<'d, 'j> {
         Ok(())
     }
 
-    // Writes the rows of a provider's file by their text, and gives its memory back. Where that isn't held, they are written
-    // as they are made.
+    // Writes the rows of a provider's file from their section, and frees its memory. Without a
+    // section, the rows are rendered and written one by one.
     fn write_part<W: Write>(
         &mut self,
         terms: &Terms,
@@ -276,8 +312,10 @@ impl<'d, 'j> Report<'d, 'j> {
     ) -> Result<(), WriteFault>
         requires least { 1 ≤ provider }
         requires most { provider ≤ length terms.now.files }
-        requires part { MayBePart (looked_up self.old.decisions.now) provider terms.now.plan.names (get_or terms.now.files (provider - 1) []) part }
-        ensures writes { WritesFile (looked_up self.old.decisions.now) provider terms.now.plan.names (get_or terms.now.files (provider - 1) [])
+        requires part { MayBePart (looked_up self.old.decisions.now) provider
+            terms.now.plan.names (get_or terms.now.files (provider - 1) []) part }
+        ensures writes { WritesFile (looked_up self.old.decisions.now) provider
+            terms.now.plan.names (get_or terms.now.files (provider - 1) [])
             (at (W.contents (writer_of out.old)) (has_failed out.old) self.old.writer)
             (at (W.contents (writer_of out.new)) (has_failed out.new) self.new.writer) result }
         ensures decisions { self.new.decisions ≡ self.old.decisions }
@@ -288,7 +326,7 @@ impl<'d, 'j> Report<'d, 'j> {
         }
     }
 
-    /// Writes the rows of a provider's file.
+    /// Writes the rows of a provider's file, row by row.
     pub fn write_file<W: Write>(
         &mut self,
         terms: &Terms,
@@ -297,12 +335,13 @@ impl<'d, 'j> Report<'d, 'j> {
     ) -> Result<(), WriteFault>
         requires least { 1 ≤ provider }
         requires most { provider ≤ length terms.now.files }
-        ensures writes { WritesFile (looked_up self.old.decisions.now) provider terms.now.plan.names (get_or terms.now.files (provider - 1) [])
+        ensures writes { WritesFile (looked_up self.old.decisions.now) provider
+            terms.now.plan.names (get_or terms.now.files (provider - 1) [])
             (at (W.contents (writer_of out.old)) (has_failed out.old) self.old.writer)
             (at (W.contents (writer_of out.new)) (has_failed out.new) self.new.writer) result }
         ensures decisions { self.new.decisions ≡ self.old.decisions }
     {
-        // Known from here: what a reader at its start has left is what the file has.
+        // proof: the remaining rows of a new reader are all rows of the file
         intake_csv::reader_begins_with_all_rows();
         match terms.rows(self.alloc, provider) {
             Ok(rows) => self.write_rows(provider, rows, out),
@@ -310,7 +349,7 @@ impl<'d, 'j> Report<'d, 'j> {
         }
     }
 
-    // Writes the rows that a reader has left.
+    // Writes the remaining rows of a reader.
     fn write_rows<W: Write>(
         &mut self,
         provider: usize,
@@ -323,7 +362,7 @@ impl<'d, 'j> Report<'d, 'j> {
             (at (W.contents (writer_of out.new)) (has_failed out.new) self.new.writer) result }
         ensures decisions { self.new.decisions ≡ self.old.decisions }
     {
-        // Known from here: a row that a reader gives is the first of those left, and behind the last there is none.
+        // proof: a reader returns the first of its remaining rows, and no row after the last one
         intake_csv::given_row_is_the_first();
         intake_csv::no_records_give_no_rows();
         let mut rows = rows;
@@ -339,7 +378,7 @@ impl<'d, 'j> Report<'d, 'j> {
         }
     }
 
-    // Writes the row of which this is told, and which the record gives.
+    // Writes the row with this summary, where `source` is the CSV record of the row.
     fn write_row<W: Write>(
         &mut self,
         provider: usize,
@@ -372,9 +411,10 @@ impl<'d, 'j> Report<'d, 'j> {
         self.writer.write(row, out)
     }
 
-    /// Hands over what is gathered.
+    /// Passes the buffered bytes on to the writer.
     pub fn finish<W: Write>(&mut self, out: &mut Out<W>) -> Result<(), WriteFault>
-        ensures writes { Writes (at (W.contents (writer_of out.old)) (has_failed out.old) self.old.writer)
+        ensures writes { Writes
+            (at (W.contents (writer_of out.old)) (has_failed out.old) self.old.writer)
             (at (W.contents (writer_of out.new)) (has_failed out.new) self.new.writer) [] result }
         ensures all { OnOk result (gathered_of self.new.writer ≡ []) }
     {
@@ -389,7 +429,8 @@ impl<'d, 'j> Report<'d, 'j> {
     ) -> Result<(), WriteFault>
         requires { self.old.decisions.now.accepted ≡ accepted_count journal.now }
         ensures { Writes (at (W.contents (writer_of out.old)) (has_failed out.old) self.old.writer)
-            (at (W.contents (writer_of out.new)) (has_failed out.new) self.new.writer) (record_text (total_fields terms.now.plan.version journal.now)) result }
+            (at (W.contents (writer_of out.new)) (has_failed out.new) self.new.writer)
+            (record_text (total_fields terms.now.plan.version journal.now)) result }
     {
         let accepted = self.decisions.accepted_count();
         let sums = Sums::over(journal);

@@ -1,4 +1,5 @@
-//! The text of a file's records, held whole: what a thread makes while the records of the files in front are written.
+//! The section of a provider's file in the remittance, which one thread renders into memory while
+//! another thread writes the sections of the earlier files.
 ghost use Rattle.std.specs.Prelude.{◌≤◌, ◌-◌, [], get_or, length};
 ghost use Rattle.remit.specs.Looked.{looked_up};
 ghost use Rattle.remit.specs.Sections.{MayBePart};
@@ -9,18 +10,20 @@ use claim_gate::Terms;
 use fixpoint::{BoundedBuffer, Out};
 use std::alloc::Global;
 
-/// A text that isn't held: it would be longer than it may be, or memory is wanting for it.
+/// A section could not be kept in memory: it would exceed its limit, or memory ran out.
 #[derive(Clone, Copy, PartialEq, Eq, Drop)]
 pub struct SectionTooLarge;
 
-/// How many bytes of text are held for each byte of a file. Of the shortest claims a report has some three times as many, and
-/// besides what is remarked.
+/// The number of bytes of a section that are buffered for each byte of the file. Without remarks,
+/// even the shortest claims need only about three.
 const HELD_PER_BYTE: usize = 4;
 
-/// How many bytes of text are held for a file besides, so that a small one may have long remarks.
+/// The number of bytes that are buffered for a section in addition, so that a small file may have
+/// long remarks.
 const HELD_BESIDES: usize = 1 << 20;
 
-/// The text of the records of a provider's file, where it is no longer than the file lets it be.
+/// Renders the records of a provider's file into memory, unless they exceed the limit for this file
+/// or memory runs out.
 pub fn render_section(
     alloc: Global,
     terms: &Terms,
@@ -29,7 +32,8 @@ pub fn render_section(
 ) -> Result<Vec<u8>, SectionTooLarge>
     requires least { 1 ≤ provider }
     requires most { provider ≤ length terms.now.files }
-    ensures { MayBePart (looked_up decisions.now) provider terms.now.plan.names (get_or terms.now.files (provider - 1) []) result }
+    ensures { MayBePart (looked_up decisions.now) provider terms.now.plan.names
+        (get_or terms.now.files (provider - 1) []) result }
 {
     let mut out = Out::new(BoundedBuffer::new(alloc, held_bytes(terms, provider)));
     let mut report = Report::new(alloc, decisions);
@@ -42,7 +46,8 @@ pub fn render_section(
     Ok(out.into_inner().into_text())
 }
 
-// The most bytes that are held of a file's text. So the memory for all files' is bounded by the files, and not by the report.
+// Returns the greatest length of a buffered section. It depends on the file alone, so the memory
+// for all sections is bounded by the sizes of the files, whatever the length of the remittance.
 fn held_bytes(terms: &Terms, provider: usize) -> usize
     requires { 1 ≤ provider }
 {

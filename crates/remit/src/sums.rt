@@ -1,4 +1,4 @@
-//! The sums over a journal's paid claims.
+//! The sums of the amounts over a journal's paid claims.
 ghost use Rattle.std.specs.Prelude.{◌≡◌, ◌≤◌, ◌<◌, ◌+◌, ◌^◌, pos, ◌+ℤ◌, ℕ, List, [], ◌∷◌, length};
 ghost use Rattle.fixpoint.specs.Number.{greatest_units};
 ghost use Rattle.remit.specs.Decided.{paid_by, paid_in, paid_outcomes, sum_of};
@@ -11,14 +11,15 @@ use crate::amount::AMOUNTS;
 use journal::Event;
 use settlement::{Money, Outcome, Verdict};
 
-/// The sums of the amounts over paid claims, in units, in the order of the amounts. No journal is so long that they leave 128 bits.
+/// The sums of the amounts over paid claims, in units and in the order of the amounts. The sums of
+/// the longest possible journal fit 128 bits.
 #[derive(Clone, Copy, PartialEq, Eq)]
 pub struct Sums {
     units: [u128; AMOUNTS.len()],
 }
 
 impl Sums {
-    /// The sums over the paid claims of a journal.
+    /// Returns the sums over the paid claims of a journal.
     pub fn over(journal: &[Event]) -> Sums
         ensures { AreSums journal.now (length journal.now) result }
     {
@@ -31,14 +32,14 @@ impl Sums {
         sums
     }
 
-    /// The sums, one behind another.
+    /// Returns the sums in the order of the amounts.
     pub fn as_slice(&self) -> &[u128]
         ensures { result.now ≡ self.now.units }
     {
         &self.units
     }
 
-    /// The sum of what the plan pays.
+    /// Returns the sum of the amounts that the plan pays, in units.
     pub fn paid(&self) -> u128
         ensures { (J : List AnyEvent) (count : ℕ) → AreSums J count self.now
             → pos result ≡ sum_of (amount_of Paid) (paid_outcomes J) }
@@ -46,7 +47,7 @@ impl Sums {
         self.units[AMOUNTS.len() - 1]
     }
 
-    // With the amounts of what the event decides, if that is paid.
+    // Adds the amounts of the event's outcome if the event decides a claim and the claim is paid.
     fn with(self, event: &Event) -> Sums
         requires { HaveRoom self }
         ensures { AreGrown (paid_in event.now) self result }
@@ -57,7 +58,6 @@ impl Sums {
         self.with_outcome(outcome.outcome())
     }
 
-    // With the amounts of an outcome, if the claim is paid.
     fn with_outcome(self, decision: &Outcome) -> Sums
         requires { HaveRoom self }
         ensures { AreGrown (paid_by decision.now.verdict decision.now) self result }
@@ -68,7 +68,6 @@ impl Sums {
         self.with_paid(decision)
     }
 
-    // With the amounts of a paid claim's outcome.
     fn with_paid(self, decision: &Outcome) -> Sums
         requires { HaveRoom self }
         ensures { AreGrown (decision.now ∷ []) self result }
@@ -81,7 +80,6 @@ impl Sums {
     }
 }
 
-// The sum with one amount more.
 fn plus(sum: u128, amount: Money) -> u128
     requires { sum + greatest_units < 2 ^ 128 }
     ensures value { pos result ≡ pos sum +ℤ amount }

@@ -1,4 +1,5 @@
-//! Worked values of the command, and what no clause says: that it succeeds where memory and the writer allow.
+//! Worked examples of `do_check`, which also show what no clause promises: that the command
+//! succeeds if memory and the writer allow it.
 use crate::testing::{
     Narrow, WhenFull, expects, expects_at, is_cut, is_printed, is_refused, is_whole,
     is_whole_or_none, says,
@@ -15,7 +16,7 @@ use regions::{
     SOME_ERRORS, TWO_TABLES, WIDE_AND_OVERLAPPING,
 };
 
-/// One number column, with a gap between two rules that a number has, and one above them.
+/// One number column with a gap of one number between two rules, and a gap above them.
 const TWO_GAPS: &str = "version = 1
 fields = [{name = \"x\", kind = \"number\"}]
 [[tables]]
@@ -26,7 +27,7 @@ rules = [{when = ['<1'], then = ['1']}, {when = ['[1.0001..5]'], then = ['2']}]
 
 const REPORTED_GAPS: &str = "gap table 1: 1\ngap table 1: >5\ngaps 2 overlaps 0\n";
 
-/// One number column, of which both rules have the 5.
+/// One number column, where both rules match 5.
 const ONE_OVERLAP: &str = "version = 1
 fields = [{name = \"x\", kind = \"number\"}]
 [[tables]]
@@ -35,7 +36,7 @@ outputs = [{name = \"y\", kind = \"number\"}]
 rules = [{when = ['<=5'], then = ['1']}, {when = ['>=5'], then = ['2']}]
 ";
 
-/// One text column, of which each rule has one text.
+/// One text column, where each rule matches one text.
 const TWO_TEXTS: &str = "version = 1
 fields = [{name = \"code\", kind = \"text\"}]
 [[tables]]
@@ -44,7 +45,7 @@ outputs = [{name = \"y\", kind = \"number\"}]
 rules = [{when = ['\"A\"'], then = ['1']}, {when = ['\"B\"'], then = ['2']}]
 ";
 
-/// The same where no other texts are allowed.
+/// `TWO_TEXTS`, but with only these two texts as allowed values.
 const ALLOWED_TEXTS: &str = "version = 1
 fields = [{name = \"code\", kind = \"text\"}]
 [[tables]]
@@ -53,7 +54,7 @@ outputs = [{name = \"y\", kind = \"number\"}]
 rules = [{when = ['\"A\"'], then = ['1']}, {when = ['\"B\"'], then = ['2']}]
 ";
 
-/// Four number columns of 17 regions each: more cells than a check has.
+/// Four number columns of 17 regions each, which have more cells than a check may have.
 const WIDE: &str = "version = 1
 fields = [{name = \"x\", kind = \"number\"}]
 [[tables]]
@@ -62,7 +63,7 @@ outputs = [{name = \"y\", kind = \"number\"}]
 rules = [{when = ['1,2,3,4,5,6,7,8', '1,2,3,4,5,6,7,8', '1,2,3,4,5,6,7,8', '1,2,3,4,5,6,7,8'], then = ['1']}]
 ";
 
-/// A plan, and what is printed.
+/// A plan and the output.
 const PRINTED: &[(&str, &str)] = &[
     (TWO_GAPS, REPORTED_GAPS),
     (
@@ -81,7 +82,7 @@ const PRINTED: &[(&str, &str)] = &[
     ("version = 1\n", "gaps 0 overlaps 0\n"),
 ];
 
-/// Writers that take so many bytes a write.
+/// Writers by the greatest number of bytes of a write.
 const WRITERS: &[(usize, WhenFull)] = &[
     (1, WhenFull::Fails),
     (3, WhenFull::Fails),
@@ -91,7 +92,6 @@ const WRITERS: &[(usize, WhenFull)] = &[
     (64, WhenFull::TakesNothing),
 ];
 
-// The command prints this text for a plan.
 fn gives(alloc: Global, plan: &str, text: &str) -> bool {
     let mut out = Out::new(Vec::new(alloc));
     let result = do_check(alloc, plan.as_bytes(), &mut out);
@@ -130,7 +130,7 @@ fn a_text_that_is_no_plan_is_refused(rt: HostRuntime) {
     );
 }
 
-// A writer that has room for so many bytes of the text gets these.
+// A writer with room for `limit` bytes of the text receives exactly these.
 fn fills(rt: &impl Abort, alloc: Global, limit: usize, width: usize, when_full: WhenFull) -> bool {
     let mut out = Out::new(Narrow::new(rt, alloc, limit, width, when_full));
     let result = do_check(alloc, TWO_GAPS.as_bytes(), &mut out);
@@ -168,7 +168,8 @@ fn a_write_fault_has_its_line(rt: HostRuntime) {
     );
 }
 
-/// Run it with each allocation refused in turn: all of them but the writer's are the command's.
+/// Run this test with each allocation refused in turn. All of them but the writer's are the
+/// command's.
 #[test]
 fn a_check_or_no_memory(rt: HostRuntime) {
     let alloc = rt.alloc();

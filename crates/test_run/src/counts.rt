@@ -1,4 +1,4 @@
-//! The counts of worked runs, by hand.
+//! The counts of worked runs, which are written by hand.
 use crate::testing::{expects, is_printed};
 use adjudicate::{Counting, RecordCounts, RunCounts, RunInput, do_counted_run};
 use fixpoint::Out;
@@ -8,7 +8,7 @@ use std::sync::Wait;
 use std::thread::Threads;
 use test_fixtures::{both_files, health_plan, late_remittance, remittance};
 
-/// A file whose three records are refused, two of them since their amounts are below zero.
+/// A file with three refused records, two of them because their amounts are negative.
 const REFUSED: &[u8] = b"claim,member,service,billed,code
 a,M1,2024-01-01,-1.00,A
 b,M1,2024-01-01,1.001,A
@@ -25,7 +25,7 @@ fn run_of<'a>(files: &'a [&'a [u8]], cutoff: Option<u64>) -> RunInput<'a> {
     }
 }
 
-// Ends the test where the file with this place has other counts.
+// Ends the test if the file at this index has other counts.
 fn expects_counts(rt: &impl Abort, run: &RunCounts, place: usize, counts: RecordCounts) {
     let found = match run.files.get(place) {
         Some(file) => file.counts == counts,
@@ -41,7 +41,7 @@ fn pays(run: &RunCounts, alloc: Global, amount: &str) -> bool {
     }
 }
 
-// Ends the test where the counts of both files are other ones, or the amount that the plan pays.
+// Ends the test if the counts of the two files or the amount that the plan pays differ.
 fn expects_run(
     rt: &(impl Threads + Wait + Abort + Sync + AllocGlobal),
     cutoff: Option<u64>,

@@ -1,5 +1,5 @@
-//! Tests by worked examples of `crew`, `remit` and `adjudicate`. They stand apart from these, since the tests of a crate are proved together with
-//! all of its code.
+//! Tests of `crew`, `remit` and `adjudicate` by worked examples. They have a crate of their own,
+//! because the tests of a crate are proved together with all of its code.
 #![tactic(auto)]
 
 #[cfg(test)]

@@ -1,4 +1,4 @@
-//! Reports by worked examples: the journals and the reports are written by hand.
+//! Worked remittances: the journals and the remittances are written by hand.
 use crate::testing::{WhenFull, expects};
 use fixpoint::Out;
 use journal::Event;
@@ -16,7 +16,7 @@ mod writing;
 use journals::{of_all_reasons, of_both_files, of_great_amounts, of_no_claims, of_one_denied};
 use writing::{is_filled, is_whole, with_room, write_late, write_over};
 
-// The journal has this report. False where it was not written whole.
+// Returns whether the whole report was written. If it was, it must be this one.
 fn reports(
     rt: &impl Abort,
     alloc: Global,
@@ -114,7 +114,8 @@ fn totals_leave_the_range_of_numbers(rt: HostRuntime) {
     );
 }
 
-// A run that admits no claim of these files has this report. False where it was not written whole.
+// Returns whether the whole report of a run without accepted claims was written. If it was, it must
+// be this one.
 fn reports_late(rt: &impl Abort, alloc: Global, files: &[&[u8]], report: &[u8]) -> bool {
     let mut out = Out::new(Vec::new(alloc));
     let answer = write_late(rt, alloc, files, &mut out);
@@ -133,7 +134,7 @@ fn a_run_that_admits_nothing_though_memory_is_refused(rt: HostRuntime) {
     }
 }
 
-// The first bytes, and behind them others so many times.
+// Returns the first bytes, followed by `count` copies of others.
 fn repeat_bytes(
     rt: &impl Abort,
     alloc: Global,
@@ -150,7 +151,7 @@ fn repeat_bytes(
     text
 }
 
-// A file with one record whose member is a text of 257 bytes.
+// Returns a file with one record, whose member has 257 bytes.
 fn too_long(rt: &impl Abort, alloc: Global) -> Vec<u8> {
     let mut text = repeat_bytes(
         rt,
@@ -183,7 +184,7 @@ fn a_writer_that_takes_nothing(rt: HostRuntime) {
     expects(&rt, is_filled(answer, out, b""), "the first bytes");
 }
 
-// Puts behind a text the report's records over a provider's file of records that have one field each.
+// Appends the report's records for a provider's file whose records have one field each.
 fn push_one_field_records(
     rt: &impl Abort,
     alloc: Global,
@@ -201,7 +202,7 @@ fn push_one_field_records(
     }
 }
 
-// The report's first records over a file of records that have one field each.
+// Returns the beginning of the report for a file whose records have one field each.
 fn one_field_records(rt: &impl Abort, alloc: Global, count: usize) -> String {
     let mut text = String::new(alloc);
     text.push_str(texts::header_record())

@@ -1,4 +1,4 @@
-//! Worked runs, by hand: texts, and the remittance of each.
+//! Worked runs: the texts and the remittance of each run are written by hand.
 use crate::testing::{
     Narrow, WhenFull, expects, expects_at, is_cut, is_printed, is_refused, is_whole, says,
 };
@@ -14,7 +14,7 @@ use test_fixtures::{
 mod families;
 mod refused;
 
-/// Two files of three claims each, none of them covered.
+/// Two files of three claims each, none of which is covered.
 const THREE_AND_THREE: &[&[u8]] = &[
     b"claim,member,service,billed,code
 a1,M1,2024-01-01,1.00,X
@@ -28,7 +28,8 @@ b3,M2,2024-01-01,1.00,X
 ",
 ];
 
-/// Four of their claims are accepted: three and one, two and two, or one and three.
+/// Four of these claims are accepted: three of the first file and one of the second, two of each, or
+/// one of the first and three of the second.
 const THREE_AND_ONE: &str =
     "provider,record,claim,member,status,reason,allowed,ded,copay,coins,share,paid,remarks\r
 1,1,a1,M1,denied,,0.00,0.00,0.00,0.00,0.00,0.00,\r
@@ -62,8 +63,9 @@ const ONE_AND_THREE: &str =
 total,4,,,,,0.00,0.00,0.00,0.00,0.00,0.00,\r
 ";
 
-/// A member whose number has a quote, and records that are no claims: too few fields, no member, no such day, no whole
-/// cents, an amount below zero, and a member that is no UTF-8.
+/// A member whose identifier has a quote, and refused records: too few fields, an empty member, a
+/// day that does not exist, an amount with a fraction of a cent, a negative amount, and a member
+/// that is not UTF-8.
 const REFUSED: &[u8] = b"claim,member,service,billed,code
 a,\"M\"\"1\",2024-02-29,1.00,A
 b,M2,2024-01-01
@@ -74,7 +76,7 @@ f,M,2024-01-01,-1.00,A
 h,\xFF,2024-01-01,1.00,A
 ";
 
-/// The same behind a byte order mark, with CRLF at the line ends.
+/// `REFUSED` after a byte order mark, with CRLF as line ends.
 const REFUSED_AFTER_A_MARK: &[u8] = b"\xEF\xBB\xBFclaim,member,service,billed,code\r
 a,\"M\"\"1\",2024-02-29,1.00,A\r
 b,M2,2024-01-01\r
@@ -97,7 +99,7 @@ const REFUSED_REPORT: &str =
 total,1,,,,,1.00,1.00,0.00,0.00,1.00,0.00,\r
 ";
 
-/// A claim of the member with a balance, and the same of one without.
+/// One claim of a member with a balance, and an equal one of a member without.
 const ONE_EACH: &[u8] = b"claim,member,service,billed,code
 c,M1,2024-01-05,40.00,B
 d,M2,2024-01-05,40.00,B
@@ -110,10 +112,10 @@ const ONE_EACH_REPORT: &str =
 total,2,,,,,80.00,40.00,10.00,6.00,56.00,24.00,\r
 ";
 
-/// How many bytes writers have room for: too few for the report.
+/// Limits of writers, in bytes. Each of them is less than the length of the report.
 const LIMITS: &[usize] = &[0, 1, 36, 37, 88, 89, 300, 499];
 
-/// Writers that take so many bytes a write.
+/// Writers by the greatest number of bytes of a write.
 const WRITERS: &[(usize, WhenFull)] = &[
     (7, WhenFull::Fails),
     (1_024, WhenFull::Fails),
@@ -121,7 +123,6 @@ const WRITERS: &[(usize, WhenFull)] = &[
     (1_024, WhenFull::TakesNothing),
 ];
 
-// A run without a cutoff.
 fn input_of<'a>(
     plan: &'a [u8],
     balances: Option<&'a [u8]>,
@@ -137,19 +138,16 @@ fn input_of<'a>(
     }
 }
 
-// A run by the plan, with four workers.
 fn run_of<'a>(files: &'a [&'a [u8]]) -> RunInput<'a> {
     input_of(health_plan().as_bytes(), None, files, 4)
 }
 
-// The run gives this remittance.
 fn gives<R: Threads + Wait + Sync + AllocGlobal>(rt: &R, input: RunInput, report: &str) -> bool {
     let mut out = Out::new(Vec::new(rt.alloc()));
     let answer = do_run(rt, input, &mut out);
     is_printed(answer, out, report)
 }
 
-// The run of both files with so many workers gives this remittance.
 fn gives_at<R: Threads + Wait + Abort + Sync + AllocGlobal>(
     rt: &R,
     workers: usize,
@@ -174,7 +172,6 @@ fn two_files_in_one_remittance(rt: HostRuntime) {
     gives_at(&rt, 4, Some(u64::MAX), remittance());
 }
 
-// The run of one file gives this remittance.
 fn gives_of_file<R: Threads + Wait + Abort + Sync + AllocGlobal>(
     rt: &R,
     file: &[u8],
@@ -200,7 +197,7 @@ fn is_a_split(report: &[u8]) -> bool {
         || report == ONE_AND_THREE.as_bytes()
 }
 
-// A run that accepts four of six claims gives one of the remittances.
+// Four of six claims are accepted; the split between the files depends on the schedule.
 fn gives_a_split<R: Threads + Wait + Sync + AllocGlobal>(rt: &R, workers: usize) -> bool {
     let mut input = run_of(THREE_AND_THREE);
     input.cutoff = Some(4);
@@ -218,7 +215,7 @@ fn a_cutoff_leaves_claims_over(rt: HostRuntime) {
     expects(&rt, gives_a_split(&rt, WORKERS_LIMIT), "a split");
 }
 
-// A writer that has room for so many bytes of the report gets these.
+// A writer with room for `limit` bytes of the report receives exactly these.
 fn fills<R: Threads + Wait + Abort + Sync + AllocGlobal>(
     rt: &R,
     limit: usize,
@@ -270,7 +267,8 @@ fn a_write_fault_has_its_line(rt: HostRuntime) {
     );
 }
 
-// For want of memory a writer has got some first bytes of the report, and where a thread can't be started none.
+// If memory runs out, the writer has received some first bytes of the report. If a thread cannot be
+// started, it has received nothing.
 fn lacks_memory(stop: &Stop, taken: &[u8]) -> bool {
     if let Stop::Run(_) = stop {
         return says(stop, "run fault 3\n", 3) && taken.is_empty();
@@ -278,14 +276,13 @@ fn lacks_memory(stop: &Stop, taken: &[u8]) -> bool {
     says(stop, "no memory\n", 3) && remittance().as_bytes().starts_with(taken)
 }
 
-// The writer has got the whole remittance.
 fn has_remittance(out: Out<Narrow>) -> bool {
     out.into_inner()
         .has_first(remittance().as_bytes(), remittance().len())
 }
 
-/// Run it with each allocation refused in turn: all of them but the writer's are the command's. Which of them is a
-/// thread's differs from run to run; where a thread can't be started the answer says so, and nothing is written.
+/// Run this test with each allocation refused in turn. All of them but the writer's are the
+/// command's; which of them starts a thread differs from run to run.
 #[test]
 fn a_run_or_no_memory(rt: HostRuntime) {
     let mut out = Out::new(Narrow::new(&rt, rt.alloc(), 1_024, 1_024, WhenFull::Fails));
@@ -296,7 +293,7 @@ fn a_run_or_no_memory(rt: HostRuntime) {
             expects(
                 &rt,
                 lacks_memory(&stop, out.into_inner().bytes_taken()),
-                "a want of memory",
+                "a lack of memory",
             );
         }
     }

@@ -1,4 +1,4 @@
-//! The lines of refusals, as the formats give them, where no end-to-end case of the program shows them.
+//! The lines of errors that no end-to-end case of the program shows.
 use crate::testing::{expects, says};
 use adjudicate::{ArgumentFault, LINE_LIMIT_BYTES, Stop, ValueStop};
 use claim_gate::TermsFault;
@@ -9,7 +9,7 @@ use intake_csv::{BalanceFault, FileFault, RowCause, RowFault};
 use remit::{WriteCause, WriteFault};
 use std::alloc::AllocError;
 
-// A plan's fault with each place the same.
+// The table, the rule and the column have the same number.
 fn plan_fault(place: usize, cause: PlanCause) -> Stop {
     Stop::from(PlanFault {
         table: place,
@@ -114,7 +114,7 @@ fn refusals_of_the_terms(rt: HostRuntime) {
     );
 }
 
-/// Faults of a run, their lines and their statuses.
+/// The faults of a run with their lines and their exit statuses.
 const RUN_FAULTS: &[(RunFault, &str, u8)] = &[
     (RunFault::Workers, "run fault 1\n", 1),
     (RunFault::OutOfMemory, "run fault 2\n", 3),
@@ -136,7 +136,7 @@ fn refusals_of_a_run(rt: HostRuntime) {
     );
 }
 
-/// Why a report ends early, the line and the status.
+/// The causes that end a report early, with their lines.
 const WRITE_CAUSES: &[(WriteCause, &str)] = &[
     (WriteCause::Device, "write fault at 37\n"),
     (WriteCause::OutOfMemory, "no memory\n"),

@@ -1,4 +1,4 @@
-//! What the tests of several calls share.
+//! Helpers that several tests share.
 use adjudicate::{LINE_LIMIT_BYTES, Stop, ValueStop};
 use claim_gate::Terms;
 use dtable::{Plan, read_plan};
@@ -9,7 +9,8 @@ use std::io::{ErrorKind, Write};
 use std::process::Abort;
 use test_fixtures::health_plan;
 
-/// The plan of the worked examples. What is refused memory is asked for once more, here and below.
+/// Returns the plan of the worked examples. Here and below, a refused allocation is tried once
+/// more.
 pub fn plan_of(rt: &impl Abort, alloc: Global) -> Plan {
     if let Ok(plan) = read_plan(alloc, health_plan().as_bytes()) {
         return plan;
@@ -20,7 +21,7 @@ pub fn plan_of(rt: &impl Abort, alloc: Global) -> Plan {
     plan
 }
 
-/// The terms of a plan, of files and of a cutoff.
+/// Returns the terms of a plan, of files and of a cutoff.
 pub fn terms_of<'a>(
     rt: &impl Abort,
     alloc: Global,
@@ -37,34 +38,34 @@ pub fn terms_of<'a>(
     terms
 }
 
-/// Ends the test. A call of it takes its caller's proof less than a `panic!` there, which puts a message together in the caller.
+/// Ends the test. A `panic!` in the caller would format its message there, which is more to prove.
 pub fn fail(rt: &impl Abort, wanted: &str) -> ! {
     panic!(rt; "not there: {wanted}")
 }
 
-/// Ends the test where this doesn't hold: an `assert!` that has no branch in the caller.
+/// Ends the test if this does not hold. Unlike an `assert!`, it has no branch in the caller.
 pub fn expects(rt: &impl Abort, holds: bool, wanted: &str) {
     assert!(rt; holds, "not there: {wanted}");
 }
 
-/// The same; a number tells which.
+/// Ends the test if this does not hold. The number says which case it is.
 pub fn expects_at(rt: &impl Abort, holds: bool, number: usize) {
     assert!(rt; holds, "not at {number}");
 }
 
-/// The refusal has this line and this status.
+/// Returns whether the error has this line and this status.
 pub fn says(stop: &Stop, line: &str, status: u8) -> bool {
     let mut buffer = [0; LINE_LIMIT_BYTES];
     let length = stop.write_line(&mut buffer);
     &buffer[..length] == line.as_bytes() && stop.status() == status
 }
 
-/// A command has printed this text.
+/// Returns whether a command has printed exactly this text.
 pub fn is_printed(answer: Result<(), Stop>, out: Out<Vec<u8>>, text: &str) -> bool {
     answer.is_ok() && !out.failed() && out.into_inner().as_slice() == text.as_bytes()
 }
 
-/// A command was refused with this line and the status 1, and has printed nothing.
+/// Returns whether a command has ended with this line and status 1, and has printed nothing.
 pub fn is_refused(answer: Result<(), Stop>, out: Out<Vec<u8>>, line: &str) -> bool {
     match answer {
         Ok(()) => false,
@@ -72,7 +73,8 @@ pub fn is_refused(answer: Result<(), Stop>, out: Out<Vec<u8>>, line: &str) -> bo
     }
 }
 
-/// A writer has got so many first bytes of this text, and the refusal tells so.
+/// Returns whether a writer has received the first `limit` bytes of this text, and the error has
+/// this number.
 pub fn is_cut(answer: Result<(), Stop>, out: Out<Narrow>, text: &str, limit: usize) -> bool {
     let Err(Stop::Value(ValueStop::Write { written })) = answer else {
         return false;
@@ -80,12 +82,12 @@ pub fn is_cut(answer: Result<(), Stop>, out: Out<Narrow>, text: &str, limit: usi
     written == limit && out.failed() && out.into_inner().has_first(text.as_bytes(), limit)
 }
 
-/// A writer has got this text.
+/// Returns whether a writer has received this text.
 pub fn is_whole(answer: Result<(), Stop>, out: Out<Narrow>, text: &str) -> bool {
     answer.is_ok() && out.into_inner().has_first(text.as_bytes(), text.len())
 }
 
-/// A writer has got this text, or none of it for want of memory.
+/// Returns whether a writer has received this text, or nothing after a lack of memory.
 pub fn is_whole_or_none(answer: Result<(), Stop>, out: Out<Narrow>, text: &str) -> bool {
     match answer {
         Ok(()) => out.into_inner().has_first(text.as_bytes(), text.len()),
@@ -97,14 +99,15 @@ pub fn is_whole_or_none(answer: Result<(), Stop>, out: Out<Narrow>, text: &str) 
     }
 }
 
-/// What a writer of the tests does once it is full.
+/// The result of a write to a full writer.
 #[derive(Clone, Copy)]
 pub enum WhenFull {
     Fails,
     TakesNothing,
 }
 
-/// A writer that takes a few bytes a write, and so many in all. Its memory is taken when it is made.
+/// A writer that takes at most `width` bytes a write and `limit` bytes in all. It allocates only
+/// when it is made.
 #[derive(Drop)]
 pub struct Narrow {
     taken: Vec<u8>,
@@ -113,7 +116,6 @@ pub struct Narrow {
     when_full: WhenFull,
 }
 
-// What is refused memory is asked for once more.
 fn room_for(rt: &impl Abort, alloc: Global, limit: usize) -> Vec<u8> {
     if let Ok(room) = Vec::with_capacity(alloc, limit) {
         return room;
@@ -137,17 +139,17 @@ impl Narrow {
         }
     }
 
-    /// The bytes that it has got.
+    /// Returns the bytes that the writer has received.
     pub fn bytes_taken(&self) -> &[u8] {
         self.taken.as_slice()
     }
 
-    /// How many bytes it takes in all.
+    /// Returns the number of bytes that the writer takes in all.
     pub fn limit(&self) -> usize {
         self.limit
     }
 
-    /// It has got so many first bytes of the text.
+    /// Returns whether the writer has received exactly the first `count` bytes of the text.
     pub fn has_first(&self, text: &[u8], count: usize) -> bool {
         self.taken.len() == count && text.starts_with(self.taken.as_slice())
     }

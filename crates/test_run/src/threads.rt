@@ -1,4 +1,4 @@
-//! Runs by worked examples: what each claim comes to is written by hand, whatever the schedule.
+//! Worked runs: the outcome of each claim is written by hand, and does not depend on the schedule.
 use crate::testing::{expects, expects_at, fail, plan_of, terms_of};
 use claim_gate::{Batch, Terms};
 use crew::{RunFault, WORKERS_LIMIT, run};
@@ -26,7 +26,7 @@ e2,M3,2024-02-01,40.00,B
 e3,M4,2024-02-02,40.00,X
 ";
 
-/// Refused records in front of the first claim, between the claims, and behind the last.
+/// Refused records before the first claim, between the claims, and after the last.
 const REFUSED: &str = "claim,member,service,billed,code
 c,,2024-01-01,1.00,A
 a,\"M\"\"1\",2024-02-29,1.00,A
@@ -37,7 +37,7 @@ d1,M2,2024-01-09,30.00,B
 f,M,2024-01-01,-1.00,A
 ";
 
-/// The claims of both files by provider and place, and how many events of each kind there are.
+/// The claims of both files by provider and place, and the number of events of each kind.
 const OUTCOMES_OF_BOTH: &str = "1 0 Paid 100.00 50.00 10.00 8.00 60.00 40.00 OVER
 1 1 Paid 40.00 0.00 10.00 6.00 0.00 40.00 MET
 1 2 Pended(NoRule { table: 1 }) 0.00 0.00 0.00 0.00 0.00 0.00
@@ -47,7 +47,8 @@ const OUTCOMES_OF_BOTH: &str = "1 0 Paid 100.00 50.00 10.00 8.00 60.00 40.00 OVE
 accepts 6 takes 6 decides 6 ends 2 closes 1
 ";
 
-/// With the deductible met and 10.00 out of pocket at the start, the limit of 60.00 is reached by 28.00, 16.00 and 6.00.
+/// The deductible is met and 10.00 was paid out of pocket at the start, so the shares 28.00, 16.00
+/// and 6.00 reach the out-of-pocket maximum of 60.00.
 const FROM_BALANCES: &str = "1 0 Paid 100.00 0.00 10.00 18.00 28.00 72.00 OVER MET
 1 1 Paid 40.00 0.00 10.00 6.00 16.00 24.00 MET
 1 2 Pended(NoRule { table: 1 }) 0.00 0.00 0.00 0.00 0.00 0.00
@@ -62,7 +63,7 @@ const BETWEEN_REFUSED: &str = "1 0 Paid 1.00 1.00 0.00 0.00 1.00 0.00
 accepts 2 takes 2 decides 2 ends 2 closes 1
 ";
 
-// A function for each text: what calls it is proved without the text.
+// A function returns each text, so that its callers are proved without the text.
 fn file_three() -> &'static [u8] {
     THREE.as_bytes()
 }
@@ -83,7 +84,6 @@ fn between_refused() -> &'static str {
     BETWEEN_REFUSED
 }
 
-// The finished journal of a run by so many workers.
 fn batch_of<'t, R: Threads + Wait + Abort + Sync>(
     rt: &R,
     alloc: Global,
@@ -96,7 +96,7 @@ fn batch_of<'t, R: Threads + Wait + Abort + Sync>(
     }
 }
 
-// Runs by so many workers, and compares what the run comes to.
+// Runs with this number of workers, and compares the outcomes of the claims.
 fn runs_by<R: Threads + Wait + Abort + Sync>(
     rt: &R,
     alloc: Global,
@@ -109,7 +109,6 @@ fn runs_by<R: Threads + Wait + Abort + Sync>(
     drop(batch);
 }
 
-// Runs by several numbers of workers.
 fn runs_by_several<R: Threads + Wait + Abort + Sync>(
     rt: &R,
     alloc: Global,
@@ -122,7 +121,6 @@ fn runs_by_several<R: Threads + Wait + Abort + Sync>(
     runs_by(rt, alloc, terms, WORKERS_LIMIT, wanted);
 }
 
-// Runs over two files.
 fn runs_over<R: Threads + Wait + Abort + Sync>(
     rt: &R,
     alloc: Global,
@@ -146,7 +144,7 @@ fn check_worked<R: Threads + Wait + Abort + Sync>(rt: &R, alloc: Global, plan: &
     runs_over(rt, alloc, plan, &files, None, between_refused());
 }
 
-// How far a run by two workers up to a cutoff comes.
+// A run with a cutoff decides exactly the claims that it accepts.
 fn check_cutoff<R: Threads + Wait + Abort + Sync>(
     rt: &R,
     alloc: Global,
@@ -173,12 +171,10 @@ fn check_cutoffs<R: Threads + Wait + Abort + Sync>(rt: &R, alloc: Global, plan: 
     check_cutoff(rt, alloc, plan, 7, 6);
 }
 
-// Whether a fault is this one, by its number.
 fn is(fault: RunFault, wanted: RunFault) -> bool {
     fault.number() == wanted.number()
 }
 
-// Whether a run had this fault.
 fn is_wanted_fault(fault: Option<RunFault>, wanted: RunFault) -> bool {
     match fault {
         Some(fault) => is(fault, wanted),
@@ -198,7 +194,6 @@ fn check_workers<R: Threads + Wait + Abort + Sync>(
     }
 }
 
-// No worker, and too many.
 fn check_crews<R: Threads + Wait + Abort + Sync>(rt: &R, alloc: Global, plan: &Plan) {
     let files = [second_file()];
     let terms = terms_of(rt, alloc, plan, &files, None);
@@ -208,7 +203,7 @@ fn check_crews<R: Threads + Wait + Abort + Sync>(rt: &R, alloc: Global, plan: &P
     drop(terms);
 }
 
-// The journal of a run over files that have no claim is one end of each provider, and the close.
+// Without claims, the journal has one end of each provider and the close.
 fn ends_all<R: Threads + Wait + Abort + Sync>(
     rt: &R,
     alloc: Global,
@@ -234,7 +229,7 @@ fn check_headers<R: Threads + Wait + Abort + Sync>(rt: &R, alloc: Global, plan: 
     ends_all(rt, alloc, plan, &many, 4);
 }
 
-// The runs of a test.
+// The runs that a test checks.
 #[derive(Clone, Copy)]
 enum Runs {
     OverTwoFiles,
@@ -245,7 +240,8 @@ enum Runs {
     OnGates(OnGates),
 }
 
-// Runs over both files on gates that others call too, that wear out, or that answer at the worst moment.
+// Runs over both files on gates that other threads call as well, that wear out, or that refuse or
+// stop at the worst moment.
 #[derive(Clone, Copy)]
 enum OnGates {
     AllThreads,
@@ -259,7 +255,8 @@ enum OnGates {
     RefusedTwice,
 }
 
-// One function has the plan of all tests, and one the terms of those on gates: what holds one is dear to prove.
+// Only one function owns the plan of all tests, and only one owns the terms of the tests on gates,
+// because a function that owns one of them is expensive to prove.
 fn check<R: Threads + Wait + Abort + Sync>(rt: &R, alloc: Global, runs: Runs) {
     let plan = plan_of(rt, alloc);
     match runs {
@@ -370,7 +367,6 @@ fn fault_lines() -> &'static str {
     FAULT_LINES
 }
 
-// A fault's number and text, a line each.
 fn write_fault(rt: &impl Abort, text: &mut String, fault: RunFault) {
     let number = fault.number();
     writeln!(text, "{number} {fault}").expect(rt, "memory for a line");
@@ -391,7 +387,7 @@ fn is_wanting(fault: RunFault) -> bool {
     is(fault, RunFault::OutOfMemory) || is(fault, RunFault::Thread)
 }
 
-// The whole journal of a run by two workers; one that is refused memory or a thread says so, and is run once more.
+// A run that is refused memory or a thread reports it, and is tried once more.
 fn batch_though_refused<'t, R: Threads + Wait + Abort + Sync>(
     rt: &R,
     alloc: Global,
@@ -400,7 +396,7 @@ fn batch_though_refused<'t, R: Threads + Wait + Abort + Sync>(
     match run(rt, alloc, terms, 2) {
         Ok(batch) => batch,
         Err(fault) => {
-            expects(rt, is_wanting(fault), "a want of memory");
+            expects(rt, is_wanting(fault), "a lack of memory");
             batch_of(rt, alloc, terms, 2)
         }
     }

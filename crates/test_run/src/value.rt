@@ -1,4 +1,5 @@
-//! Worked values of the command, and what no clause says: that it succeeds where memory and the writer allow.
+//! Worked examples of `do_value`, which also show what no clause promises: that the command
+//! succeeds if memory and the writer allow it.
 use crate::testing::{
     Narrow, WhenFull, expects, expects_at, is_cut, is_printed, is_refused, is_whole,
     is_whole_or_none,
@@ -21,7 +22,7 @@ outputs = [{name = \"y\", kind = \"number\"}]
 rules = [{when = ['[0..10['], then = ['1']}, {when = ['>=10'], then = ['2.5']}]
 ";
 
-/// Two inputs, in another order than their fields, and two outputs.
+/// Two inputs in the reverse order of their fields, and two outputs.
 const CROSSED: &str = "version = 1
 fields = [{name = \"a\", kind = \"number\"}, {name = \"b\", kind = \"number\"}]
 [[tables]]
@@ -30,7 +31,7 @@ outputs = [{name = \"z\", kind = \"number\"}, {name = \"y\", kind = \"number\"}]
 rules = [{when = ['<1', '-'], then = ['1', '-2']}, {when = ['>=1', '>5'], then = ['3', '.5']}]
 ";
 
-/// A plan, arguments, and what is printed.
+/// A plan, arguments, and the output.
 const PRINTED: &[(&str, &[&str], &str)] = &[
     (PLAN, &["x=10"], "y = 2.5\n"),
     (PLAN, &["x=9.9999"], "y = 1\n"),
@@ -40,7 +41,7 @@ const PRINTED: &[(&str, &[&str], &str)] = &[
     ("version = 1\n", &[], ""),
 ];
 
-/// A plan, arguments, and the line of the refusal.
+/// A plan, arguments, and the line of the error.
 const REFUSED: &[(&str, &[&str], &str)] = &[
     (PLAN, &["x=-1"], "fault norule:1\n"),
     (PLAN, &[], "missing x\n"),
@@ -61,7 +62,7 @@ const REFUSED: &[(&str, &[&str], &str)] = &[
     (PLAN, &["=1"], "argument 1 fault 2\n"),
 ];
 
-/// Writers that take so many bytes a write.
+/// Writers by the greatest number of bytes of a write.
 const WRITERS: &[(usize, WhenFull)] = &[
     (1, WhenFull::Fails),
     (3, WhenFull::Fails),
@@ -75,14 +76,12 @@ const ARGUMENTS: &[&str] = &["a=6", "b=1"];
 
 const TEXT: &str = "z = 3\ny = 0.5\n";
 
-// The command prints this text for a plan at the arguments.
 fn gives(alloc: Global, plan: &str, arguments: &[&str], text: &str) -> bool {
     let mut out = Out::new(Vec::new(alloc));
     let result = do_value(alloc, plan.as_bytes(), arguments, &mut out);
     is_printed(result, out, text)
 }
 
-// The command refuses a plan or its arguments with this line.
 fn refuses(alloc: Global, plan: &str, arguments: &[&str], line: &str) -> bool {
     let mut out = Out::new(Vec::new(alloc));
     let result = do_value(alloc, plan.as_bytes(), arguments, &mut out);
@@ -113,7 +112,7 @@ fn refuses_what_has_no_value(rt: HostRuntime) {
     all_refuse(&rt, rt.alloc(), REFUSED);
 }
 
-// A writer that has room for so many bytes of the text gets these.
+// A writer with room for `limit` bytes of the text receives exactly these.
 fn fills(rt: &impl Abort, alloc: Global, limit: usize, width: usize, when_full: WhenFull) -> bool {
     let mut out = Out::new(Narrow::new(rt, alloc, limit, width, when_full));
     let result = do_value(alloc, CROSSED.as_bytes(), ARGUMENTS, &mut out);
@@ -134,7 +133,8 @@ fn a_full_writer_has_the_first_bytes(rt: HostRuntime) {
     }
 }
 
-/// Run it with each allocation refused in turn: all of them but the writer's are the command's.
+/// Run this test with each allocation refused in turn. All of them but the writer's are the
+/// command's.
 #[test]
 fn a_value_or_no_memory(rt: HostRuntime) {
     let alloc = rt.alloc();

@@ -1,4 +1,4 @@
-//! A text on its way to a writer: gathered, and handed over in large pieces.
+//! A buffer for a text that is passed on to a writer in large pieces.
 ghost use Rattle.std.specs.Prelude.{◌≡◌, ◌++◌, []};
 ghost use Rattle.std.specs.Bool.{OnFalse, OnTrue};
 ghost use Rattle.fixpoint.specs.Out.{has_failed, writer_of};
@@ -8,22 +8,23 @@ use fixpoint::{Out, ShortWrite, put_all};
 use std::alloc::Global;
 use std::io::Write;
 
-/// How many bytes are gathered before they are handed over.
+/// The size of the buffer, in bytes.
 const PIECE_BYTES: usize = 65_536;
 
-/// How far a text has gone to a writer.
+/// The progress of a text into a writer.
 #[derive(Drop)]
 pub struct Progress {
-    /// How many bytes the writer got, or the greatest number where there are more.
+    /// The number of bytes that the writer received, or `usize::MAX` if there are more.
     written: usize,
-    /// Whether the writer has failed in the midst of the text. It gets no more then.
+    /// Whether the writer failed before the end of the text. It receives no more bytes then.
     is_cut: bool,
 }
 
 impl Progress {
-    // Hands this much more of the text to the writer, unless that has failed.
+    // Passes more of the text on to the writer, unless the writer has failed.
     fn pass<W: Write>(&mut self, text: &[u8], out: &mut Out<W>)
-        ensures { Passes (at_progress (W.contents (writer_of out.old)) (has_failed out.old) self.old)
+        ensures { Passes
+            (at_progress (W.contents (writer_of out.old)) (has_failed out.old) self.old)
             (at_progress (W.contents (writer_of out.new)) (has_failed out.new) self.new) text.now }
     {
         if self.is_cut {
@@ -39,7 +40,7 @@ impl Progress {
     }
 }
 
-/// What is gathered of a text, and how far the text in front of it has gone.
+/// The buffered end of a text, and the progress of the text before it.
 #[derive(Drop)]
 pub struct BufferedOut {
     gathered: Vec<u8>,
@@ -47,7 +48,8 @@ pub struct BufferedOut {
 }
 
 impl BufferedOut {
-    /// No text. Memory is taken as text is put, and where there is none the text is handed over at once.
+    /// Returns an empty buffer. It allocates as the text grows; if memory runs out, the text is
+    /// passed on at once.
     pub fn new(alloc: Global) -> BufferedOut
         ensures { IsEmpty result }
     {
@@ -60,7 +62,7 @@ impl BufferedOut {
         }
     }
 
-    /// Puts this much more of the text.
+    /// Appends to the text.
     pub fn put<W: Write>(&mut self, text: &[u8], out: &mut Out<W>)
         ensures { Puts (at (W.contents (writer_of out.old)) (has_failed out.old) self.old)
             (at (W.contents (writer_of out.new)) (has_failed out.new) self.new) text.now }
@@ -72,8 +74,13 @@ impl BufferedOut {
         self.progress.pass(text, out);
     }
 
-    /// Hands over what is gathered, at the end of the text, and returns how many bytes the text has, or the greatest number
-    /// where there are more. A writer that has failed in its midst has got some first bytes, and the refusal tells how many.
+    /// Passes on the buffer at the end of the text, and returns the length of the text in bytes, or
+    /// `usize::MAX` if it is longer.
+    ///
+    /// # Errors
+    ///
+    /// Returns the number of bytes that the writer received if it failed before the end of the
+    /// text.
     pub fn end<W: Write>(mut self, out: &mut Out<W>) -> Result<usize, ShortWrite>
         ensures { Ends (at (W.contents (writer_of out.old)) (has_failed out.old) self)
             (W.contents (writer_of out.new)) (has_failed out.new) result }
@@ -87,9 +94,10 @@ impl BufferedOut {
         }
     }
 
-    // Gathers the text, if there is room for it, and tells whether it did.
+    // Buffers the text if there is room for it, and returns whether it did.
     fn gather(&mut self, text: &[u8]) -> bool
-        ensures yes { OnTrue result (self.new.gathered.items ≡ self.old.gathered.items ++ text.now) }
+        ensures yes { OnTrue result
+            (self.new.gathered.items ≡ self.old.gathered.items ++ text.now) }
         ensures no { OnFalse result (self.new.gathered.items ≡ self.old.gathered.items) }
         ensures same { self.new.progress ≡ self.old.progress }
     {
@@ -97,7 +105,6 @@ impl BufferedOut {
         text.len() <= room && self.gathered.extend_from_slice(text).is_ok()
     }
 
-    // Hands over what is gathered.
     fn hand_over<W: Write>(&mut self, out: &mut Out<W>)
         ensures puts { Puts (at (W.contents (writer_of out.old)) (has_failed out.old) self.old)
             (at (W.contents (writer_of out.new)) (has_failed out.new) self.new) [] }

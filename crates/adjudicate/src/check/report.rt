@@ -1,4 +1,5 @@
-//! What is told of a plan's check, found before a byte of it is written: of overlaps and gaps all, or those that are faults.
+//! The report of a plan's check, which is complete before its first byte is written. It has all
+//! overlaps and gaps, or only those that are errors.
 
 ghost use Rattle.std.specs.Prelude.{◌≡◌, ◌+◌, ◌++◌, ◌∷◌, IfOk, OnOk, filter, get_or, length, map, []};
 ghost use Rattle.cutplan.specs.Numbered.{IsTableNumber, overlaps_of};
@@ -13,16 +14,16 @@ use feel_tests::{Literals, Value, append_joined};
 use std::alloc::{AllocError, Global};
 use std::marker::Model;
 
-/// Which gaps and overlaps are told.
+/// The gaps and overlaps that a check reports.
 #[derive(Clone, Copy)]
 pub enum Findings {
-    /// All.
+    /// All gaps and overlaps.
     All,
-    /// Those that are faults where they are met.
+    /// Only the gaps and overlaps that are errors under the table's hit policy.
     Errors,
 }
 
-/// Bytes, which contracts see as their list.
+/// A text in bytes. Contracts see it as a list of bytes.
 #[derive(Drop)]
 pub struct Bytes {
     bytes: Vec<u8>,
@@ -37,7 +38,7 @@ impl Model for Bytes {
 }
 
 impl Bytes {
-    /// The bytes as a slice.
+    /// Returns the bytes as a slice.
     pub fn as_slice(&self) -> &[u8]
         ensures { result.now ≡ self.now }
     {
@@ -45,17 +46,18 @@ impl Bytes {
     }
 }
 
-/// A column of a check.
+/// The texts of a column's regions.
 #[derive(Drop)]
 pub struct ColumnText {
-    /// What is printed of each of its regions, behind a mark if the column isn't the first.
+    /// The text of each region, after a separator if the column is not the first.
     pub regions: Sequence<Bytes>,
-    /// How many cells the columns behind it have.
+    /// The number of cells of the columns after this one, or one more than the limit if there are
+    /// more.
     pub following: usize,
 }
 
 impl ColumnText {
-    /// What is printed of the region at the place, nothing where there is none.
+    /// Returns the text of the region at this index, or no text if there is no such region.
     pub fn region(&self, place: usize) -> &[u8]
         ensures { result.now ≡ get_or self.now.regions place [] }
     {
@@ -66,15 +68,15 @@ impl ColumnText {
     }
 }
 
-/// What is told of a table.
+/// The report on a table.
 pub struct TableReport {
-    /// The overlaps.
+    /// The overlaps, as pairs of rule numbers from 1.
     pub overlaps: Vec<(usize, usize)>,
-    /// Whether it is told that the check has too many cells.
+    /// Whether the table has too many cells for its gaps to be searched.
     pub is_wide: bool,
-    /// The columns, where gaps are told.
+    /// The columns, or no columns if no gap is reported.
     pub columns: Sequence<ColumnText>,
-    /// The places of the gaps among the cells, from 0.
+    /// The indices of the gaps among the cells, from 0.
     pub gaps: Vec<u32>,
 }
 
@@ -89,18 +91,18 @@ impl Drop for TableReport {
     }
 }
 
-/// What is told of a plan.
+/// The report on a plan.
 #[derive(Drop)]
 pub struct CheckReport {
-    /// Of each table.
+    /// The reports on the tables, in order.
     pub tables: Vec<TableReport>,
-    /// How many gaps.
+    /// The number of reported gaps.
     pub gaps: usize,
-    /// How many overlaps.
+    /// The number of reported overlaps.
     pub overlaps: usize,
 }
 
-/// Checks a plan. Each table's regions and masks are let go before the next is checked.
+/// Checks a plan. The regions and masks of each table are freed before the next table is checked.
 pub fn check_report(
     alloc: Global,
     plan: &Plan,
@@ -121,12 +123,13 @@ pub fn check_report(
 }
 
 impl CheckReport {
-    // Puts what is told of one table more behind. No list is so long that the counts would overflow; that is refused here, so
-    // that they are exact.
+    // Appends the report on the next table. The counts of real tables do not overflow; the checked
+    // sums make them exact.
     fn push(&mut self, table: TableReport) -> Result<(), AllocError>
         ensures tables { OnOk result (self.new.tables.items ≡ self.old.tables.items ++ table ∷ []) }
         ensures gaps { OnOk result (self.new.gaps ≡ self.old.gaps + length table.gaps.items) }
-        ensures overlaps { OnOk result (self.new.overlaps ≡ self.old.overlaps + length table.overlaps.items) }
+        ensures overlaps { OnOk result
+            (self.new.overlaps ≡ self.old.overlaps + length table.overlaps.items) }
     {
         self.gaps = sum(self.gaps, table.gaps.len())?;
         self.overlaps = sum(self.overlaps, table.overlaps.len())?;
@@ -144,7 +147,6 @@ fn sum(one: usize, other: usize) -> Result<usize, AllocError>
     }
 }
 
-// What is told of the table with this number.
 fn table_report(
     alloc: Global,
     plan: &Plan,
@@ -167,7 +169,6 @@ fn table_report(
     })
 }
 
-// Those of a table's overlaps that are told, in order.
 fn reported_overlaps(
     alloc: Global,
     plan: &Plan,
@@ -185,7 +186,6 @@ fn reported_overlaps(
     }
 }
 
-// Those of these overlaps of a table that are harmful.
 fn violating_pairs(
     alloc: Global,
     plan: &Plan,
@@ -193,7 +193,8 @@ fn violating_pairs(
     overlaps: &[(usize, usize)],
 ) -> Result<Vec<(usize, usize)>, AllocError>
     requires { IsTableNumber plan.now table }
-    ensures { IfOk result (λ found. found.items ≡ filter (λ rules. overlap_is_error plan.now table rules.0 rules.1) overlaps.now) }
+    ensures { IfOk result (λ found. found.items
+        ≡ filter (λ rules. overlap_is_error plan.now table rules.0 rules.1) overlaps.now) }
 {
     let mut found = Vec::new(alloc);
     for rules in overlaps {
@@ -204,7 +205,7 @@ fn violating_pairs(
     Ok(found)
 }
 
-// The places of a table's gaps, where they are told.
+// A wide table has no list of gaps.
 fn reported_gaps(
     alloc: Global,
     plan: &Plan,
@@ -227,7 +228,6 @@ fn reported_gaps(
     }
 }
 
-// Whether the gaps of a table are told.
 fn reports_gaps(plan: &Plan, table: usize, findings: Findings) -> bool
     requires { IsTableNumber plan.now table }
     ensures { result ≡ reports_gaps findings plan.now table }
@@ -238,7 +238,7 @@ fn reports_gaps(plan: &Plan, table: usize, findings: Findings) -> bool
     }
 }
 
-// What is printed of the columns, where there are gaps to be told.
+// Only gaps are printed by their columns, so without gaps the texts are not needed.
 fn reported_columns(
     alloc: Global,
     columns: &[Sequence<Region>],
@@ -252,7 +252,6 @@ fn reported_columns(
     column_texts(alloc, columns)
 }
 
-// What is printed of the columns.
 fn column_texts(
     alloc: Global,
     columns: &[Sequence<Region>],
@@ -264,7 +263,8 @@ fn column_texts(
     Ok(texts)
 }
 
-// Puts what is printed of the columns behind others; of the first it stands behind this mark.
+// Appends the texts of the columns. The texts of the first of them begin with this mark, those of
+// the others with the separator.
 fn push_columns(
     alloc: Global,
     mark: &str,
@@ -283,7 +283,7 @@ fn push_columns(
     }
 }
 
-// What is printed of a column behind a mark, in front of more columns.
+// Returns the texts of a column that comes before `more` columns.
 fn column_text(
     alloc: Global,
     mark: &str,
@@ -297,7 +297,6 @@ fn column_text(
     Ok(ColumnText { regions, following })
 }
 
-// What is printed of each of these regions, behind a mark.
 fn region_texts(
     alloc: Global,
     mark: &str,
@@ -312,7 +311,6 @@ fn region_texts(
     Ok(texts)
 }
 
-// What is printed of a region, behind a mark.
 fn marked_region(alloc: Global, mark: &str, region: &Region) -> Result<Bytes, AllocError>
     ensures { IfOk result (λ text. text ≡ marked_region mark.now region.now) }
 {
@@ -322,7 +320,6 @@ fn marked_region(alloc: Global, mark: &str, region: &Region) -> Result<Bytes, Al
     Ok(Bytes { bytes })
 }
 
-// Appends the text of a region: which values it has.
 fn append_region(text: &mut Vec<u8>, region: &Region) -> Result<(), AllocError>
     ensures { OnOk result (text.new.items ≡ text.old.items ++ region_text region.now) }
 {

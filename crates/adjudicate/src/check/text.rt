@@ -1,5 +1,5 @@
-//! The printed text of what is told, put piece by piece: table by table its overlaps, and its gaps or that it is wide; last
-//! the counts.
+//! The text of a check's report, which is written piece by piece. Each table has its overlaps, and
+//! then its gaps or the line of a wide table; the counts are the last line.
 
 ghost use Rattle.std.specs.Prelude.{◌≡◌, ◌+◌, ◌<◌, ◌^◌, ◌++◌, IfOk, codes, decimal, flat_map, length};
 ghost use Rattle.std.specs.Bool.{OnTrue};
@@ -17,8 +17,8 @@ use itoa::Buffer;
 use std::alloc::{AllocError, Global};
 use std::io::{Write, sink};
 
-/// Checks a plan, whose text has fewer bytes than a count can tell. No text has as many; that is refused here, so that the
-/// count of a write fault is exact.
+/// Checks a plan. No real report has `usize::MAX` bytes; the test of its length makes the number of
+/// bytes in a write fault exact.
 pub fn checked_report(
     alloc: Global,
     plan: &Plan,
@@ -34,7 +34,7 @@ pub fn checked_report(
     Ok(reported)
 }
 
-// Whether the text has fewer bytes than a count can tell. It is put to nobody for that.
+// Returns whether the text has fewer than `usize::MAX` bytes. A sink counts them.
 fn is_counted(alloc: Global, reported: &CheckReport) -> bool
     ensures { OnTrue result (length (reported_text reported.now) < greatest_count) }
 {
@@ -44,14 +44,14 @@ fn is_counted(alloc: Global, reported: &CheckReport) -> bool
     }
 }
 
-/// Writes the text of what is told, and returns how many bytes it has, or the greatest number where there are more.
+/// Writes the text of the report, and returns its length in bytes, or `usize::MAX` if it is longer.
 pub fn put_report<W: Write>(
     alloc: Global,
     reported: &CheckReport,
     out: &mut Out<W>,
 ) -> Result<usize, ShortWrite>
-    ensures { EndsText (starting (W.contents (writer_of out.old)) (has_failed out.old)) (reported_text reported.now)
-        (W.contents (writer_of out.new)) (has_failed out.new) result }
+    ensures { EndsText (starting (W.contents (writer_of out.old)) (has_failed out.old))
+        (reported_text reported.now) (W.contents (writer_of out.new)) (has_failed out.new) result }
 {
     let mut pieces = BufferedOut::new(alloc);
     put_tables(1, reported.tables.as_slice(), &mut pieces, out);
@@ -59,7 +59,7 @@ pub fn put_report<W: Write>(
     pieces.end(out)
 }
 
-// The lines of these tables, of which the first has this number.
+// Writes the lines of these tables, the first of which has this number.
 fn put_tables<W: Write>(
     number: usize,
     tables: &[TableReport],
@@ -68,7 +68,8 @@ fn put_tables<W: Write>(
 )
     requires { number + length tables.now < 2 ^ 64 }
     ensures { Puts (at (W.contents (writer_of out.old)) (has_failed out.old) pieces.old)
-        (at (W.contents (writer_of out.new)) (has_failed out.new) pieces.new) (reported_lines number tables.now) }
+        (at (W.contents (writer_of out.new)) (has_failed out.new) pieces.new)
+        (reported_lines number tables.now) }
 {
     match tables.split_first() {
         Some((table, more)) => {
@@ -79,7 +80,6 @@ fn put_tables<W: Write>(
     }
 }
 
-// The lines of the table with this number.
 fn put_table<W: Write>(
     number: usize,
     table: &TableReport,
@@ -87,7 +87,8 @@ fn put_table<W: Write>(
     out: &mut Out<W>,
 )
     ensures { Puts (at (W.contents (writer_of out.old)) (has_failed out.old) pieces.old)
-        (at (W.contents (writer_of out.new)) (has_failed out.new) pieces.new) (reported_table_lines number table.now) }
+        (at (W.contents (writer_of out.new)) (has_failed out.new) pieces.new)
+        (reported_table_lines number table.now) }
 {
     put_overlaps(number, table.overlaps.as_slice(), pieces, out);
     put_wide(number, table.is_wide, pieces, out);
@@ -100,7 +101,6 @@ fn put_table<W: Write>(
     );
 }
 
-// A line for each of these overlaps of a table, in order.
 fn put_overlaps<W: Write>(
     table: usize,
     overlaps: &[(usize, usize)],
@@ -108,14 +108,15 @@ fn put_overlaps<W: Write>(
     out: &mut Out<W>,
 )
     ensures { Puts (at (W.contents (writer_of out.old)) (has_failed out.old) pieces.old)
-        (at (W.contents (writer_of out.new)) (has_failed out.new) pieces.new) (flat_map (overlap_line table) overlaps.now) }
+        (at (W.contents (writer_of out.new)) (has_failed out.new) pieces.new)
+        (flat_map (overlap_line table) overlaps.now) }
 {
     for rules in overlaps {
         put_overlap(table, rules.0, rules.1, pieces, out);
     }
 }
 
-// `overlap table T: rules I J`, and the end of the line.
+// Writes the line `overlap table T: rules I J`.
 fn put_overlap<W: Write>(
     table: usize,
     first: usize,
@@ -124,26 +125,29 @@ fn put_overlap<W: Write>(
     out: &mut Out<W>,
 )
     ensures { Puts (at (W.contents (writer_of out.old)) (has_failed out.old) pieces.old)
-        (at (W.contents (writer_of out.new)) (has_failed out.new) pieces.new) (overlap_line table (first, second)) }
+        (at (W.contents (writer_of out.new)) (has_failed out.new) pieces.new)
+        (overlap_line table (first, second)) }
 {
     put_numbered("overlap table ", table, pieces, out);
     put_rules(first, second, pieces, out);
 }
 
-// `: rules I J`, and the end of the line.
+// Writes `: rules I J` and the line end.
 fn put_rules<W: Write>(first: usize, second: usize, pieces: &mut BufferedOut, out: &mut Out<W>)
     ensures { Puts (at (W.contents (writer_of out.old)) (has_failed out.old) pieces.old)
-        (at (W.contents (writer_of out.new)) (has_failed out.new) pieces.new) (rules_text (first, second)) }
+        (at (W.contents (writer_of out.new)) (has_failed out.new) pieces.new)
+        (rules_text (first, second)) }
 {
     put_numbered(": rules ", first, pieces, out);
     put_numbered(" ", second, pieces, out);
     pieces.put(b"\n", out);
 }
 
-// `wide table T`, and the end of the line, if it is wide.
+// Writes the line `wide table T` if the table is wide.
 fn put_wide<W: Write>(table: usize, is_wide: bool, pieces: &mut BufferedOut, out: &mut Out<W>)
     ensures { Puts (at (W.contents (writer_of out.old)) (has_failed out.old) pieces.old)
-        (at (W.contents (writer_of out.new)) (has_failed out.new) pieces.new) (reported_wide_lines table is_wide) }
+        (at (W.contents (writer_of out.new)) (has_failed out.new) pieces.new)
+        (reported_wide_lines table is_wide) }
 {
     if is_wide {
         put_numbered("wide table ", table, pieces, out);
@@ -151,7 +155,6 @@ fn put_wide<W: Write>(table: usize, is_wide: bool, pieces: &mut BufferedOut, out
     }
 }
 
-// A line for each of these gaps of a table, in order.
 fn put_gaps<W: Write>(
     table: usize,
     columns: &[ColumnText],
@@ -160,14 +163,15 @@ fn put_gaps<W: Write>(
     out: &mut Out<W>,
 )
     ensures { Puts (at (W.contents (writer_of out.old)) (has_failed out.old) pieces.old)
-        (at (W.contents (writer_of out.new)) (has_failed out.new) pieces.new) (flat_map (reported_gap_line table columns.now) gaps.now) }
+        (at (W.contents (writer_of out.new)) (has_failed out.new) pieces.new)
+        (flat_map (reported_gap_line table columns.now) gaps.now) }
 {
     for place in gaps {
         put_gap(table, columns, *place as usize, pieces, out);
     }
 }
 
-// `gap table T: `, the region of each column, and the end of the line.
+// Writes the line `gap table T: ` with the region of each column.
 fn put_gap<W: Write>(
     table: usize,
     columns: &[ColumnText],
@@ -176,7 +180,8 @@ fn put_gap<W: Write>(
     out: &mut Out<W>,
 )
     ensures { Puts (at (W.contents (writer_of out.old)) (has_failed out.old) pieces.old)
-        (at (W.contents (writer_of out.new)) (has_failed out.new) pieces.new) (reported_gap_line table columns.now place) }
+        (at (W.contents (writer_of out.new)) (has_failed out.new) pieces.new)
+        (reported_gap_line table columns.now place) }
 {
     put_numbered("gap table ", table, pieces, out);
     pieces.put(b": ", out);
@@ -184,7 +189,7 @@ fn put_gap<W: Write>(
     pieces.put(b"\n", out);
 }
 
-// The regions of the cell at this place among those of the columns.
+// Writes the regions of the cell with this index. The region of the last column changes fastest.
 fn put_cell<W: Write>(
     columns: &[ColumnText],
     place: usize,
@@ -192,7 +197,8 @@ fn put_cell<W: Write>(
     out: &mut Out<W>,
 )
     ensures { Puts (at (W.contents (writer_of out.old)) (has_failed out.old) pieces.old)
-        (at (W.contents (writer_of out.new)) (has_failed out.new) pieces.new) (cell_text columns.now place) }
+        (at (W.contents (writer_of out.new)) (has_failed out.new) pieces.new)
+        (cell_text columns.now place) }
 {
     match columns.split_first() {
         Some((column, more)) => {
@@ -204,20 +210,21 @@ fn put_cell<W: Write>(
     }
 }
 
-// `gaps G overlaps O`, and the end of the line.
+// Writes the line `gaps G overlaps O`.
 fn put_counts<W: Write>(gaps: usize, overlaps: usize, pieces: &mut BufferedOut, out: &mut Out<W>)
     ensures { Puts (at (W.contents (writer_of out.old)) (has_failed out.old) pieces.old)
-        (at (W.contents (writer_of out.new)) (has_failed out.new) pieces.new) (counts_line gaps overlaps) }
+        (at (W.contents (writer_of out.new)) (has_failed out.new) pieces.new)
+        (counts_line gaps overlaps) }
 {
     put_numbered("gaps ", gaps, pieces, out);
     put_numbered(" overlaps ", overlaps, pieces, out);
     pieces.put(b"\n", out);
 }
 
-// Some words, and a number's decimal digits.
 fn put_numbered<W: Write>(words: &str, number: usize, pieces: &mut BufferedOut, out: &mut Out<W>)
     ensures { Puts (at (W.contents (writer_of out.old)) (has_failed out.old) pieces.old)
-        (at (W.contents (writer_of out.new)) (has_failed out.new) pieces.new) (words.now ++ decimal number) }
+        (at (W.contents (writer_of out.new)) (has_failed out.new) pieces.new)
+        (words.now ++ decimal number) }
 {
     pieces.put(words.as_bytes(), out);
     pieces.put(Buffer::new().format(number).as_bytes(), out);

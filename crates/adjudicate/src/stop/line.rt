@@ -1,4 +1,4 @@
-//! The words of the refusals of a run, on a line on standard error.
+//! The texts of a run's errors, for a line on standard error.
 
 ghost use Rattle.std.specs.Prelude.{◌≡◌, ◌≤◌, ◌++◌, length};
 ghost use Rattle.adjudicate.specs.Stop.{balance_fault_text, record_fault_text, run_fault_text, terms_fault_text};
@@ -8,7 +8,7 @@ use crew::RunFault;
 use evaluation::ErrorLine;
 use intake_csv::{BalanceFault, RowFault};
 
-/// Puts the words of a fault of the terms on an empty line.
+/// Writes the text of a fault of the terms to an empty line.
 pub fn put_terms_fault(line: &mut ErrorLine, fault: &TermsFault)
     requires { length line.old ≡ 0 }
     ensures text { line.new ≡ line.old ++ terms_fault_text fault.now }
@@ -28,7 +28,7 @@ pub fn put_terms_fault(line: &mut ErrorLine, fault: &TermsFault)
     }
 }
 
-/// Puts the words of a fault of a run on an empty line.
+/// Writes the text of a fault of a run to an empty line.
 pub fn put_run_fault(line: &mut ErrorLine, fault: &RunFault)
     requires { length line.old ≡ 0 }
     ensures text { line.new ≡ line.old ++ run_fault_text fault.now }
@@ -38,7 +38,6 @@ pub fn put_run_fault(line: &mut ErrorLine, fault: &RunFault)
     line.put_cause(fault.number());
 }
 
-// Puts what is wrong with the balances behind the line.
 fn put_balance_fault(line: &mut ErrorLine, fault: &BalanceFault)
     requires { length line.old ≤ 14 }
     ensures text { line.new ≡ line.old ++ balance_fault_text fault.now }
@@ -54,7 +53,6 @@ fn put_balance_fault(line: &mut ErrorLine, fault: &BalanceFault)
     }
 }
 
-// Puts the record with this number, and what is wrong with it, behind the line.
 fn put_record_fault(line: &mut ErrorLine, number: usize, fault: &RowFault)
     requires { length line.old ≤ 14 }
     ensures text { line.new ≡ line.old ++ record_fault_text number fault.now }

@@ -1,4 +1,4 @@
-//! A line on standard error, put together in memory of fixed size.
+//! A line for standard error, which is built in a buffer of fixed size and allocates nothing.
 
 ghost use Rattle.std.specs.Prelude.{◌≡◌, ℕ, ◌+◌, ◌<◌, ◌≤◌, ◌++◌, [], List, codes, decimal, length, take};
 ghost use Rattle.faults.specs.ReasonText.{reason_text};
@@ -11,7 +11,8 @@ use feel_tests::CellFault;
 use itoa::Buffer;
 use std::marker::Model;
 
-/// A line so far: bytes, of which there is room for `LINE_LIMIT_BYTES`.
+/// The beginning of a line, of at most `LINE_LIMIT_BYTES` bytes. Contracts see it as a list of
+/// bytes.
 #[derive(Drop)]
 pub struct ErrorLine {
     bytes: [u8; LINE_LIMIT_BYTES],
@@ -30,7 +31,7 @@ impl Model for ErrorLine {
 }
 
 impl ErrorLine {
-    /// A line without bytes.
+    /// Returns an empty line.
     pub fn new() -> Self
         ensures { result ≡ [] }
     {
@@ -40,7 +41,7 @@ impl ErrorLine {
         }
     }
 
-    /// Puts a text behind the line.
+    /// Appends a text.
     pub fn put(&mut self, text: &str)
         requires { length self.old + length text.now ≤ LINE_LIMIT_BYTES }
         ensures { self.new ≡ self.old ++ text.now }
@@ -50,7 +51,7 @@ impl ErrorLine {
         self.length = end;
     }
 
-    /// Puts a number's decimal digits behind the line.
+    /// Appends the decimal digits of a number.
     pub fn put_number(&mut self, number: usize)
         requires { length self.old + 20 ≤ LINE_LIMIT_BYTES }
         ensures text { self.new ≡ self.old ++ decimal number }
@@ -59,7 +60,7 @@ impl ErrorLine {
         self.put(Buffer::new().format(number));
     }
 
-    /// Puts the one or two digits of a cause's number behind the line.
+    /// Appends the number of a cause, which has one or two digits.
     pub fn put_cause(&mut self, number: u8)
         requires small { number < 100 }
         requires room { length self.old + 2 ≤ LINE_LIMIT_BYTES }
@@ -69,7 +70,7 @@ impl ErrorLine {
         self.put(Buffer::new().format(number));
     }
 
-    /// Copies the line to the front of the buffer, and returns its length.
+    /// Copies the line to the start of the buffer and returns its length in bytes.
     pub fn copy_to(&self, buffer: &mut [u8; LINE_LIMIT_BYTES]) -> usize
         ensures fits { result ≤ LINE_LIMIT_BYTES }
         ensures written { take result buffer.new ≡ self.now }
@@ -78,7 +79,7 @@ impl ErrorLine {
         self.length
     }
 
-    /// Puts the words of a plan's fault on an empty line.
+    /// Writes the text of a plan's fault to an empty line.
     pub fn put_plan_fault(&mut self, fault: &PlanFault)
         requires { length self.old ≡ 0 }
         ensures text { self.new ≡ self.old ++ plan_fault_text fault.now }
@@ -94,7 +95,7 @@ impl ErrorLine {
         }
     }
 
-    /// Puts the words of an argument's fault on an empty line.
+    /// Writes the text of an argument's fault to an empty line.
     pub fn put_argument_fault(&mut self, number: usize, fault: &ArgumentFault)
         requires { length self.old ≡ 0 }
         ensures text { self.new ≡ self.old ++ argument_fault_text number fault.now }
@@ -108,7 +109,7 @@ impl ErrorLine {
         }
     }
 
-    /// Puts the words of the tables' fault on an empty line.
+    /// Writes the text of the tables' fault to an empty line.
     pub fn put_tables_fault(&mut self, fault: &Fault)
         requires { length self.old ≡ 0 }
         ensures text { self.new ≡ self.old ++ (codes "fault " ++ fault_text fault.now) }
@@ -121,7 +122,6 @@ impl ErrorLine {
         }
     }
 
-    // Puts a reason behind the line.
     fn put_reason(&mut self, reason: Reason)
         requires { length self.old + 49 ≤ LINE_LIMIT_BYTES }
         ensures text { self.new ≡ self.old ++ reason_text reason }
@@ -134,7 +134,6 @@ impl ErrorLine {
         }
     }
 
-    // Puts a mark and a number behind the line.
     pub(crate) fn put_numbered(&mut self, mark: &str, number: usize)
         requires { length self.old + (length mark.now + 20) ≤ LINE_LIMIT_BYTES }
         ensures text { self.new ≡ self.old ++ (mark.now ++ decimal number) }
@@ -144,7 +143,6 @@ impl ErrorLine {
         self.put_number(number);
     }
 
-    // Puts the words of a cell's fault behind the line.
     fn put_cell_fault(&mut self, fault: &CellFault)
         requires { length self.old + 32 ≤ LINE_LIMIT_BYTES }
         ensures text { self.new ≡ self.old ++ cell_fault_text fault.now }

@@ -1,4 +1,4 @@
-//! The arguments `NAME=LITERAL`: what they give, and what is missing.
+//! The arguments `NAME=LITERAL`: the values that they give, and the first value that is missing.
 
 ghost use Rattle.std.specs.Prelude.{◌≡◌, Some, None, IfOk, IfErr, IfSome, IfNone, slice_get, Contains};
 ghost use Rattle.dtable.specs.Inputs.{IsReady, value_at};
@@ -11,10 +11,12 @@ use dtable::{InputData, Inputs, Plan};
 use feel_tests::{Value, read_value};
 use std::alloc::Global;
 
-/// What the arguments give, in order. The first that gives no value is the refusal.
+/// Reads the arguments in order, and returns their values. The first argument that gives no value
+/// is the error.
 pub fn read_arguments(alloc: Global, plan: &Plan, arguments: &[&str]) -> Result<Inputs, ValueStop>
     ensures given { IfOk result (Gives plan.now.names (argument_texts arguments.now)) }
-    ensures refused { IfErr result (RefusesArguments plan.now.names (argument_texts arguments.now)) }
+    ensures refused { IfErr result
+        (RefusesArguments plan.now.names (argument_texts arguments.now)) }
 {
     let mut inputs = Inputs::new(alloc, plan)?;
     for (index, argument) in arguments.iter().enumerate() {
@@ -26,23 +28,25 @@ pub fn read_arguments(alloc: Global, plan: &Plan, arguments: &[&str]) -> Result<
     Ok(inputs)
 }
 
-/// What one argument gives: a value for the name at a place, from 0.
+/// The value that an argument gives to the name at an index, from 0.
 #[derive(Drop)]
 pub struct Assignment {
     pub place: usize,
     pub value: Value,
 }
 
-// What an argument gives, beside what is given before it.
+// `inputs` has the values of the earlier arguments, none of which may have the same name.
 fn read_argument(
     alloc: Global,
     names: &[InputData],
     inputs: &Inputs,
     argument: &str,
 ) -> Result<Assignment, ArgumentFault>
-    ensures assigned { IfOk result (λ a. IsArgument names.now argument.now (record { place = a.place; value = a.value })) }
+    ensures assigned { IfOk result (λ a.
+        IsArgument names.now argument.now (record { place = a.place; value = a.value })) }
     ensures fresh { IfOk result (λ a. value_at inputs.now a.place ≡ None) }
-    ensures refused { IfErr result (λ fault. ¬ IsMemoryFault fault → IsArgumentFault names.now inputs.now argument.now fault) }
+    ensures refused { IfErr result (λ fault. ¬ IsMemoryFault fault
+        → IsArgumentFault names.now inputs.now argument.now fault) }
 {
     let Some((name, literal)) = split_argument(argument) else {
         return Err(ArgumentFault::NoEquals);
@@ -59,7 +63,7 @@ fn read_argument(
     }
 }
 
-// The name in front of the argument's first `=`, and the literal behind it.
+// Names have no `=`, so the first one ends the name. The literal may have more of them.
 fn split_argument(argument: &str) -> Option<(&str, &str)>
     ensures split { IfSome result (λ parts. IsSplit argument.now parts.0.now parts.1.now) }
     ensures none { IfNone result (¬ Contains argument.now equals_sign) }
@@ -67,7 +71,6 @@ fn split_argument(argument: &str) -> Option<(&str, &str)>
     argument.split_once('=')
 }
 
-// The input data with this name, and its place.
 fn data_named<'a>(names: &'a [InputData], name: &str) -> Option<(usize, &'a InputData)>
     ensures present { IfSome result (λ found. slice_get names.now found.0 ≡ Some found.1.now) }
     ensures named { IfSome result (λ found. found.1.now.name ≡ name.now) }
@@ -81,9 +84,10 @@ fn data_named<'a>(names: &'a [InputData], name: &str) -> Option<(usize, &'a Inpu
     None
 }
 
-/// The first name that a table reads and for which nothing is given.
+/// Returns the first name that a table reads and that has no value.
 pub fn first_missing<'a>(plan: &'a Plan, inputs: &Inputs) -> Option<&'a InputData>
-    ensures missing { IfSome result (λ input. IsFirstMissing plan.now.names plan.now.tables inputs.now input.now.name) }
+    ensures missing { IfSome result (λ input.
+        IsFirstMissing plan.now.names plan.now.tables inputs.now input.now.name) }
     ensures ready { IfNone result (IsReady plan.now.tables inputs.now) }
 {
     for (place, input) in plan.names().iter().enumerate() {

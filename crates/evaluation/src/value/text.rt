@@ -1,4 +1,4 @@
-//! The printed text: a line for each output of each table, with the output's value.
+//! The output of `value`: one line for each output of each table, with the value of the output.
 
 ghost use Rattle.std.specs.Prelude.{◌≡◌, ◌++◌, IfOk, OnOk};
 ghost use Rattle.evaluation.specs.ValueText.{answer_text, output_line, table_lines, value_lines};
@@ -7,7 +7,7 @@ use dtable::{Answer, Env, Output, Table};
 use feel_tests::{Literals, Value, append_joined};
 use std::alloc::{AllocError, Global};
 
-/// The lines of these tables, in order.
+/// Returns the lines of these tables, in order.
 pub fn value_lines(alloc: Global, tables: &[Table], values: &Env) -> Result<Vec<u8>, AllocError>
     ensures { IfOk result (λ text. text.items ≡ value_lines values.now tables.now) }
 {
@@ -18,7 +18,6 @@ pub fn value_lines(alloc: Global, tables: &[Table], values: &Env) -> Result<Vec<
     Ok(text)
 }
 
-// The lines of one table's outputs, in order.
 fn append_table(text: &mut Vec<u8>, outputs: &[Output], values: &Env) -> Result<(), AllocError>
     ensures { OnOk result (text.new.items ≡ text.old.items ++ table_lines values.now outputs.now) }
 {
@@ -28,7 +27,7 @@ fn append_table(text: &mut Vec<u8>, outputs: &[Output], values: &Env) -> Result<
     Ok(())
 }
 
-// `NAME = VALUE`, and the end of the line.
+// Appends the line `NAME = VALUE`.
 fn append_output(text: &mut Vec<u8>, output: &Output, values: &Env) -> Result<(), AllocError>
     ensures { OnOk result (text.new.items ≡ text.old.items ++ output_line values.now output.now) }
 {
@@ -41,7 +40,7 @@ fn append_output(text: &mut Vec<u8>, output: &Output, values: &Env) -> Result<()
     Ok(())
 }
 
-// A literal, or a list of them in square brackets.
+// Appends a literal, or a list of literals in square brackets.
 fn append_answer(text: &mut Vec<u8>, answer: &Answer) -> Result<(), AllocError>
     ensures { OnOk result (text.new.items ≡ text.old.items ++ answer_text answer.now) }
 {

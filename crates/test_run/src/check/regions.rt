@@ -1,7 +1,7 @@
-//! Plans with each form of a region, and what is printed for them.
+//! Plans with each form of a region, and their output.
 
-/// Two tables: days and a flag, then a number without a cut beside a text. In the first both rules have the days from
-/// 1 July to 31 December, where the flag is true.
+/// Two tables, one over days and a flag, the other over a text and a number that no rule restricts.
+/// In the first table both rules match the days from 1 July to 31 December if the flag is true.
 pub const TWO_TABLES: &str = "version = 1
 fields = [{name = \"network\", kind = \"flag\"}, {name = \"x\", kind = \"number\"}, {name = \"code\", kind = \"text\"}]
 [[tables]]
@@ -28,7 +28,7 @@ gap table 2: - ; not(\"A\",\"say \\\"B\\\"\")
 gaps 6 overlaps 1
 ";
 
-/// A wide table with an overlap, in front of one with a gap on both sides of 0.
+/// A wide table with an overlap, and then a table with a gap on each side of 0.
 pub const WIDE_AND_OVERLAPPING: &str = "version = 1
 fields = [{name = \"x\", kind = \"number\"}]
 [[tables]]
@@ -49,7 +49,7 @@ rules = [{when = ['0'], then = ['1']}]
 pub const REPORTED_OF_WIDE_AND_OVERLAPPING: &str =
     "overlap table 1: rules 1 3\nwide table 1\ngap table 2: <0\ngap table 2: >0\ngaps 2 overlaps 1\n";
 
-/// A table over a number and a text without a rule.
+/// A table without rules over a number and a text.
 pub const NO_RULES: &str = "version = 1
 [[tables]]
 inputs = [{name = \"billed\"}, {name = \"claim\"}]
@@ -57,8 +57,9 @@ outputs = [{name = \"y\", kind = \"number\"}]
 rules = []
 ";
 
-/// Three tables, each with a gap and an overlap: under `F` without a default, under `A` with one and other entries, under
-/// `C`.
+/// Three tables, each with a gap and an overlap. The first has `F` and no default, so its gap is an
+/// error. The second has `A`, a default and different entries, so its overlap is an error. The
+/// third has `C`, under which neither is an error.
 pub const SOME_ERRORS: &str = "version = 1
 fields = [{name = \"x\", kind = \"number\"}]
 [[tables]]

@@ -1,4 +1,4 @@
-//! Journals by hand. What is refused memory is asked for once more.
+//! Journals that are written by hand. A refused allocation is tried once more.
 use crate::testing::fail;
 use dtable::Sequence;
 use feel_tests::{TEXT_LIMIT_BYTES, Text};
@@ -8,7 +8,7 @@ use settlement::{Money, Outcome, Reason, Remarks, Role, Verdict};
 use std::alloc::{AllocError, Global};
 use std::process::Abort;
 
-// An empty journal, with room for those of the tests.
+// Returns an empty journal with room for all events of a test.
 fn begin(rt: &impl Abort, alloc: Global) -> Vec<Event> {
     if let Ok(journal) = Vec::with_capacity(alloc, 32) {
         return journal;
@@ -24,7 +24,7 @@ fn accept(rt: &impl Abort, journal: &mut Vec<Event>, provider: usize, place: usi
     push(rt, journal, Event::Accept { provider, place });
 }
 
-// So many files have ended, and as many claims as were accepted are taken.
+// Ends `files` providers, closes the journal, and takes `claims` claims.
 fn close(rt: &impl Abort, journal: &mut Vec<Event>, files: usize, claims: usize) {
     for file in 0..files {
         let provider = file.saturating_add(1);
@@ -36,7 +36,6 @@ fn close(rt: &impl Abort, journal: &mut Vec<Event>, files: usize, claims: usize)
     }
 }
 
-// So many cents.
 fn money(rt: &impl Abort, cents: i64) -> Money {
     let amount = Fixed::from_units(cents.saturating_mul(100)).expect(rt, "a number");
     Money::new(amount).expect(rt, "money")
@@ -52,7 +51,7 @@ fn remarks_of(alloc: Global, remarks: &[&str]) -> Result<Remarks, AllocError> {
     Remarks::new(alloc, texts)
 }
 
-// An outcome of these amounts in cents.
+// The amounts are in cents.
 fn outcome_of(
     rt: &impl Abort,
     alloc: Global,
@@ -101,7 +100,7 @@ fn decide(
     push(rt, journal, Event::Decide { position, outcome });
 }
 
-// Nothing is paid, and there are no remarks.
+// Decides a claim with all amounts zero and no remarks.
 fn decide_nothing(
     rt: &impl Abort,
     alloc: Global,
@@ -135,7 +134,7 @@ fn pay(
     );
 }
 
-// The second provider's claims are accepted between those of the first.
+// The second provider's claims are accepted between the claims of the first.
 fn accept_both_files(rt: &impl Abort, journal: &mut Vec<Event>) {
     accept(rt, journal, 1, 0);
     accept(rt, journal, 2, 0);
@@ -157,7 +156,7 @@ fn pay_both_files(rt: &impl Abort, alloc: Global, journal: &mut Vec<Event>) {
     pay(rt, alloc, journal, 5, met, &["MET"]);
 }
 
-/// The journal of both files.
+/// Returns a journal of both files.
 pub fn of_both_files(rt: &impl Abort, alloc: Global) -> Vec<Event> {
     let mut journal = begin(rt, alloc);
     accept_both_files(rt, &mut journal);
@@ -166,7 +165,7 @@ pub fn of_both_files(rt: &impl Abort, alloc: Global) -> Vec<Event> {
     journal
 }
 
-// So many first claims of the only file are accepted, and taken.
+// The first `claims` claims of the only file are accepted and taken.
 fn begin_with(rt: &impl Abort, alloc: Global, claims: usize) -> Vec<Event> {
     let mut journal = begin(rt, alloc);
     for place in 0..claims {
@@ -176,7 +175,7 @@ fn begin_with(rt: &impl Abort, alloc: Global, claims: usize) -> Vec<Event> {
     journal
 }
 
-/// One claim is denied, with two remarks.
+/// Returns a journal with one claim, which is denied with two remarks.
 pub fn of_one_denied(rt: &impl Abort, alloc: Global) -> Vec<Event> {
     let mut journal = begin_with(rt, alloc, 1);
     let remarks = ["X,Y", "Z"];
@@ -204,14 +203,15 @@ fn pend_for_each_reason(rt: &impl Abort, alloc: Global, journal: &mut Vec<Event>
     pend(rt, alloc, journal, 4, Reason::Term(Role::OopMax));
 }
 
-/// A claim pended for each reason.
+/// Returns a journal with one pended claim for each reason.
 pub fn of_all_reasons(rt: &impl Abort, alloc: Global) -> Vec<Event> {
     let mut journal = begin_with(rt, alloc, 5);
     pend_for_each_reason(rt, alloc, &mut journal);
     journal
 }
 
-/// Three claims paid with the greatest amounts, and one denied.
+/// Returns a journal with three claims that are paid with the greatest amounts, and one denied
+/// claim.
 pub fn of_great_amounts(rt: &impl Abort, alloc: Global) -> Vec<Event> {
     let mut journal = begin_with(rt, alloc, 4);
     for position in 0..3 {
@@ -228,7 +228,7 @@ pub fn of_great_amounts(rt: &impl Abort, alloc: Global) -> Vec<Event> {
     journal
 }
 
-/// The only file has ended without a claim.
+/// Returns a journal in which the only file has ended without a claim.
 pub fn of_no_claims(rt: &impl Abort, alloc: Global) -> Vec<Event> {
     let mut journal = begin(rt, alloc);
     close(rt, &mut journal, 1, 0);

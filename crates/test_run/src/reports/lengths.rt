@@ -1,4 +1,5 @@
-//! Reports into writers that are full at each length below the report's, once by an error and once by taking nothing.
+//! Reports into writers that are full at each length below the report's. A full writer returns an
+//! error, or it takes no bytes.
 use super::journals::of_both_files;
 use super::writing::{is_filled, with_room, write_late, write_over};
 use crate::testing::{WhenFull, expects_at};
@@ -7,7 +8,6 @@ use std::alloc::Global;
 use std::process::Abort;
 use test_fixtures::{both_files, late_remittance, remittance};
 
-// The report of a journal of both files.
 fn fills(rt: &impl Abort, alloc: Global, journal: &[Event], limit: usize, when_full: WhenFull) {
     let mut out = with_room(rt, alloc, limit, when_full);
     let answer = write_over(rt, alloc, both_files(), None, journal, &mut out);
@@ -23,7 +23,7 @@ fn a_report_is_cut_at_each_length(rt: HostRuntime) {
     }
 }
 
-// The report of a run that admits no claim of both files.
+// The run accepts no claim of both files.
 fn fills_late(rt: &impl Abort, alloc: Global, limit: usize, when_full: WhenFull) {
     let mut out = with_room(rt, alloc, limit, when_full);
     let answer = write_late(rt, alloc, both_files(), &mut out);

@@ -1,9 +1,10 @@
-//! Files and reports, by hand. Each text is what a function returns, so that whoever calls it is proved without the text.
+//! Files and reports, which are written by hand. A function returns each text, so that its callers
+//! are proved without the text.
 
 const QUOTED: &[u8] =
     b"claim,member,service,billed,code\na,\"M\"\"1\",2024-02-29,1.00,A\n\"b,2\",M2,2024-02-29,1.00,A\n";
 
-// A member whose number has a quote, and a claim whose number has a comma.
+// One member's identifier has a quote, and one claim's identifier has a comma.
 pub fn quoted_file() -> &'static [u8] {
     QUOTED
 }
@@ -15,7 +16,7 @@ const QUOTED_REPORT: &[u8] =
 total,1,,,,,0.00,0.00,0.00,0.00,0.00,0.00,\r
 ";
 
-// The first claim is accepted and denied with two remarks, the second came too late.
+// The first claim is accepted and denied with two remarks, and the second is late.
 pub fn quoted_report() -> &'static [u8] {
     QUOTED_REPORT
 }
@@ -28,14 +29,14 @@ e,M,2024-01-01,-1.005,A
 f,M,2024-01-01,-1.00,A
 ";
 
-// A file with each fault that a record can have, apart from those of a text that is too long or no text.
+// The file has each fault of a record but a text that is too long or not UTF-8.
 pub fn faults() -> &'static [u8] {
     FAULTS
 }
 
 const NO_TEXT: &[u8] = b"claim,member,service,billed,code\ng,\xFF,2024-01-01,1.00,A\n";
 
-// A member that is no UTF-8.
+// The member is not UTF-8.
 pub fn no_text() -> &'static [u8] {
     NO_TEXT
 }
@@ -64,7 +65,6 @@ d,M,2024-01-01,1.00,A
 e,M,2024-01-01,1.00,A
 ";
 
-// Five claims of one member.
 pub fn five() -> &'static [u8] {
     FIVE
 }
@@ -93,8 +93,8 @@ const GREAT_REPORT: &[u8] =
 total,4,,,,,299999999999.97,299999999999.97,299999999999.97,299999999999.97,299999999999.97,299999999999.97,\r
 ";
 
-// Each amount is the greatest money, so that the sums leave the range of numbers; the fourth and the fifth claim are none
-// of them.
+// Each amount is the greatest amount of money, so the sums leave the range of numbers. The fourth
+// and the fifth claim are not paid.
 pub fn great_report() -> &'static [u8] {
     GREAT_REPORT
 }
@@ -108,7 +108,7 @@ pub fn header_record() -> &'static str {
 
 const TOTAL_OF_NONE: &str = "total,0,,,,,0.00,0.00,0.00,0.00,0.00,0.00,\r\n";
 
-// The record with the totals where no claim is accepted.
+// The record of totals if no claim is accepted.
 pub fn total_of_none() -> &'static str {
     TOTAL_OF_NONE
 }

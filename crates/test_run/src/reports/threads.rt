@@ -1,4 +1,5 @@
-//! Reports whose records become text by threads: the same bytes as one thread's, and the same answers.
+//! Reports whose sections are rendered by threads. They have the same bytes and the same results as
+//! with one thread.
 use super::journals::{of_both_files, of_no_claims};
 use super::writing::{is_filled, is_whole, late_batch, with_room};
 use super::{push_one_field_records, repeat_bytes, texts};
@@ -13,7 +14,6 @@ use std::process::Abort;
 use std::thread::Threads;
 use test_fixtures::{both_files, empty_remittance, header, late_remittance, remittance};
 
-// Writes the report of a journal over these files and this cutoff by threads.
 fn write_by_threads<R: Threads + Abort + Sync, W: Write>(
     rt: &R,
     alloc: Global,
@@ -37,7 +37,7 @@ fn write_late_over<R: Threads + Abort + Sync, W: Write>(
     write_report_by_threads(rt, alloc, terms, &batch, out)
 }
 
-// Writes the report of a run that admits no claim of both files by threads.
+// The run accepts no claim of both files.
 fn write_late_by_threads<R: Threads + Abort + Sync, W: Write>(
     rt: &R,
     alloc: Global,
@@ -48,7 +48,7 @@ fn write_late_by_threads<R: Threads + Abort + Sync, W: Write>(
     write_late_over(rt, alloc, &terms, out)
 }
 
-// The journal has this report. False where it was not written whole.
+// Returns whether the whole report was written. If it was, it must be this one.
 fn reports_by_threads<R: Threads + Abort + Sync>(
     rt: &R,
     alloc: Global,
@@ -100,12 +100,10 @@ fn one_file_by_threads(rt: HostRuntime) {
     );
 }
 
-// A file of so many records that have one field each.
 fn one_field_file(rt: &impl Abort, alloc: Global, count: usize) -> Vec<u8> {
     repeat_bytes(rt, alloc, header(), b"x\n", count)
 }
 
-// The report over such files.
 fn one_field_report(rt: &impl Abort, alloc: Global, counts: &[usize]) -> String {
     let mut text = String::new(alloc);
     text.push_str(texts::header_record())
@@ -119,7 +117,8 @@ fn one_field_report(rt: &impl Abort, alloc: Global, counts: &[usize]) -> String 
     text
 }
 
-/// So many records of one field each have a text of more than four times their bytes and 1 MiB.
+/// The number of records with one field each whose section is too large to be buffered: it has more
+/// than four times the bytes of the file plus 1 MiB.
 const TOO_MANY: usize = 40_000;
 
 #[test]
@@ -165,7 +164,8 @@ fn fills_by_threads<R: Threads + Abort + Sync>(
     expects_at(rt, is_filled(answer, out, remittance().as_bytes()), limit);
 }
 
-// A writer is full at once, in the header, behind it, in the first file's records, and in the last file's.
+// The writer is full at the start, within the header, after it, within the first file's records,
+// and within the last file's.
 #[test]
 fn a_report_by_threads_is_cut(rt: HostRuntime) {
     let journal = of_both_files(&rt, rt.alloc());

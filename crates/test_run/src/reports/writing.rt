@@ -1,4 +1,5 @@
-//! How the tests write reports: what is refused memory before that is asked for once more.
+//! The calls with which the tests write reports. A refused allocation before a report is tried once
+//! more.
 ghost use Rattle.std.specs.Prelude.{◌≡◌};
 
 use crate::testing::{Narrow, WhenFull, expects, fail, plan_of, terms_of};
@@ -10,7 +11,7 @@ use std::alloc::Global;
 use std::io::Write;
 use std::process::Abort;
 
-/// Writes the report of a journal over these files and this cutoff.
+/// Writes the report of a journal for these files and this cutoff.
 pub fn write_over<W: Write>(
     rt: &impl Abort,
     alloc: Global,
@@ -33,7 +34,7 @@ fn gate_of<'t>(rt: &impl Abort, alloc: Global, terms: &'t Terms<'t>) -> GateStat
     GateState::new(alloc, terms).expect(rt, "memory for a gate")
 }
 
-/// The run that admits no claim.
+/// Returns a run that accepted no claim.
 pub fn late_batch<'t>(rt: &impl Abort, alloc: Global, terms: &'t Terms<'t>) -> Batch<'t>
     ensures { result.terms ≡ terms.now }
 {
@@ -54,7 +55,7 @@ fn write_late_over<W: Write>(
     write_report(alloc, terms, &batch, out)
 }
 
-/// Writes the report of a run that admits no claim of these files.
+/// Writes the report of a run that accepts no claim of these files.
 pub fn write_late<W: Write>(
     rt: &impl Abort,
     alloc: Global,
@@ -66,8 +67,8 @@ pub fn write_late<W: Write>(
     write_late_over(rt, alloc, &terms, out)
 }
 
-/// Whether the whole report was written. Otherwise the writer has got its first bytes, as many as the fault tells: a `Vec` that can't grow is a
-/// writer that fails.
+/// Returns whether the whole report was written. Otherwise the writer has received its first bytes,
+/// and the fault has their number: a `Vec` that cannot grow is a writer that fails.
 pub fn is_whole(
     rt: &impl Abort,
     answer: Result<(), WriteFault>,
@@ -92,18 +93,18 @@ pub fn is_whole(
     }
 }
 
-/// A writer with room for so many bytes, which takes at most 1,000 at a time, and then fails or takes nothing.
+/// Returns a writer with room for `limit` bytes, which takes at most 1,000 bytes a write.
 pub fn with_room(rt: &impl Abort, alloc: Global, limit: usize, when_full: WhenFull) -> Out<Narrow> {
     Out::new(Narrow::new(rt, alloc, limit, 1_000, when_full))
 }
 
-// The fault tells that so many bytes were written.
 fn is_cut_at(answer: Result<(), WriteFault>, written: usize) -> bool {
     let cause = WriteCause::Device;
     answer == Err(WriteFault { written, cause })
 }
 
-/// The writer has got as many first bytes of the report as it has room for, and the answer tells how many.
+/// Returns whether the writer has received as many first bytes of the report as it has room for,
+/// and the answer has their number.
 pub fn is_filled(answer: Result<(), WriteFault>, out: Out<Narrow>, report: &[u8]) -> bool {
     let has_failed = out.failed();
     let narrow = out.into_inner();

@@ -1,15 +1,16 @@
-//! Runs by a plan that keeps accumulators for families.
+//! Runs under a plan that keeps accumulators for families.
 use super::*;
 use crate::testing::{expects, expects_at};
 use test_fixtures::{family_file, family_plan, family_remittance};
 
-/// What is met by the family leaves the number range with the second member.
+/// The family's sum of the deductibles leaves the range of numbers with the second member.
 const BEYOND_THE_RANGE: &[u8] = b"family,member,year,met,oop,paid
 F1,M1,2024,99999999999.99,0.00,0.00
 F1,M2,2024,0.01,0.00,0.00
 ";
 
-/// A third member has met what the family is to meet, and two others begin with nothing; the other family begins with some.
+/// A third member has met most of the family's deductible, and the other two begin at zero. The
+/// other family has an opening balance too.
 const BALANCES: &[u8] = b"family,member,year,met,oop,paid
 F1,M3,2024,50.00,60.00,0.00
 F2,M2,2024,60.00,60.00,0.00
@@ -24,7 +25,6 @@ const REPORT_BY_BALANCES: &str =
 total,4,,,,,,,330.00,50.00,40.00,48.00,70.00,260.00,\r
 ";
 
-// A run over families.
 fn families<'a>(files: &'a [&'a [u8]], balances: Option<&'a [u8]>, workers: usize) -> RunInput<'a> {
     input_of(family_plan().as_bytes(), balances, files, workers)
 }

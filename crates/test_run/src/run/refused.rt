@@ -1,9 +1,9 @@
-//! Runs that are refused, and in which order.
+//! Runs that end with an error, and the order of the errors.
 use super::*;
 use crate::testing::expects;
 use test_fixtures::first_file;
 
-/// A plan that settles no claims.
+/// A plan without roles, which settles no claims.
 const NO_ROLES: &[u8] = br#"version = 1
 fields = [{name = "x", kind = "number"}]
 [[tables]]
@@ -12,7 +12,7 @@ outputs = [{name = "y", kind = "number"}]
 rules = [{when = ['[0..10['], then = ['1']}, {when = ['>=10'], then = ['2.5']}]
 "#;
 
-/// A plan that has no version.
+/// A plan without a version.
 const NO_VERSION: &[u8] = b"fields = []\n";
 
 const NO_BILLED: &[u8] = b"claim,member,service,code\n";
@@ -21,7 +21,7 @@ const CLAIM_TWICE: &[u8] = b"claim,member,service,billed,code,claim\n";
 
 const MEMBER_TWICE: &[u8] = b"member,met,oop,paid\nM1,50.00,10.00,5.00\nM1,50.00,10.00,5.00\n";
 
-/// Below zero in the third column of the first record.
+/// The third field of the first record is negative.
 const BELOW_ZERO: &[u8] = b"member,met,oop,paid\nM1,50.00,-10.00,5.00\n";
 
 const EMPTY: &[u8] = b"";
@@ -34,14 +34,13 @@ const NO_COLUMN: &str = "terms fault 3 file 2 cause 3\n";
 
 const REPEATED: &str = "terms fault 4 record 2 cause 8 column 1\n";
 
-// The run is refused with this line and status 1, and nothing is written.
+// The run ends with this line and status 1, and writes nothing.
 fn refuses<R: Threads + Wait + Abort + Sync + AllocGlobal>(rt: &R, input: RunInput, line: &str) {
     let mut out = Out::new(Vec::new(rt.alloc()));
     let answer = do_run(rt, input, &mut out);
     expects(rt, is_refused(answer, out, line), line);
 }
 
-// So it is of both files by this plan, with so many workers.
 fn refuses_plan<R: Threads + Wait + Abort + Sync + AllocGlobal>(
     rt: &R,
     plan: &[u8],
@@ -60,7 +59,7 @@ fn plans_and_numbers_of_workers_that_make_no_run(rt: HostRuntime) {
     refuses_plan(&rt, health_plan().as_bytes(), usize::MAX, "run fault 1\n");
 }
 
-// So it is where this is the second file, in front of one that lacks a column.
+// The tested file comes before one that lacks a column, whose error is not reported.
 fn refuses_file<R: Threads + Wait + Abort + Sync + AllocGlobal>(
     rt: &R,
     file: &'static [u8],
@@ -95,7 +94,7 @@ fn balances_that_make_no_run(rt: HostRuntime) {
     refuses_balances(&rt, first_file(), "terms fault 4 cause 3\n");
 }
 
-// A run with as many faults behind this one as there can be: it is told.
+// The balances and the number of workers are wrong too, but only the first error is reported.
 fn reports_first<'a, R: Threads + Wait + Abort + Sync + AllocGlobal>(
     rt: &R,
     plan: &'a [u8],
@@ -105,7 +104,6 @@ fn reports_first<'a, R: Threads + Wait + Abort + Sync + AllocGlobal>(
     refuses(rt, input_of(plan, Some(MEMBER_TWICE), files, 0), line);
 }
 
-// So it is where the second file lacks a column.
 fn reports_of_a_file<R: Threads + Wait + Abort + Sync + AllocGlobal>(rt: &R) {
     let files = [first_file(), NO_BILLED];
     reports_first(rt, health_plan().as_bytes(), &files, NO_COLUMN);

@@ -1,4 +1,5 @@
-//! Runs on gates that others call too, that wear out, or that answer at the worst moment, and how many threads a run has.
+//! Runs on gates that other threads call as well, that wear out, or that refuse at the worst
+//! moment; and the number of threads of a run.
 
 ghost use Rattle.std.specs.Prelude.{◌≡◌};
 
@@ -15,7 +16,7 @@ use std::thread;
 use std::thread::Threads;
 use turn_lock::{Section, TicketLock};
 
-// A run has so many workers, its caller, and an intake for each of both files.
+// A run has its workers, its caller, and one intake thread for each of the two files.
 fn check_threads<R: Threads + Wait + Abort + Sync>(
     rt: &R,
     alloc: Global,
@@ -37,7 +38,8 @@ pub fn check_all_threads<R: Threads + Wait + Abort + Sync>(rt: &R, alloc: Global
     check_threads(rt, alloc, terms, 64);
 }
 
-// An intake that is refused memory twice stops the gate, once the caller and both workers know that the run is over.
+// An intake thread that is refused memory twice stops the gate, but only after the caller and both
+// workers have learned that the run is over.
 fn check_finished<R: Threads + Wait + Abort + Sync>(rt: &R, alloc: Global, terms: &Terms) {
     let mut watch = nothing();
     watch.overs = 3;
@@ -48,7 +50,7 @@ fn check_finished<R: Threads + Wait + Abort + Sync>(rt: &R, alloc: Global, terms
     );
 }
 
-// With two tickets left the lock wears out.
+// With two tickets left, the lock wears out.
 fn check_worn<R: Threads + Wait + Abort + Sync>(rt: &R, alloc: Global, terms: &Terms) {
     let met = watched_from(rt, alloc, terms, 4, nothing(), u64::MAX - 2);
     expects(
@@ -58,7 +60,7 @@ fn check_worn<R: Threads + Wait + Abort + Sync>(rt: &R, alloc: Global, terms: &T
     );
 }
 
-// The fault of a run beside a third caller that stops the gate, if there is one.
+// Returns the fault of a run while a third caller stops the gate.
 fn run_beside_a_stop<R: Threads + Wait + Sync, G: Gate + Sync>(
     rt: &R,
     alloc: Global,
@@ -74,7 +76,8 @@ fn run_beside_a_stop<R: Threads + Wait + Sync, G: Gate + Sync>(
         thread::scope_env(),
         rt,
         |scope| -> Option<RunFault>
-            requires { G.has_pass gate.now mine × ((G.known mine).seen.terms ≡ terms.now) × G.has_pass gate.now theirs }
+            requires { G.has_pass gate.now mine × ((G.known mine).seen.terms ≡ terms.now)
+                × G.has_pass gate.now theirs }
         {
             let job = move ||
                 requires { G.has_pass gate.now theirs }
@@ -111,7 +114,7 @@ where
     run_beside_a_stop(rt, alloc, terms, &gate, pass)
 }
 
-// Such a run is stopped, or Ok where its caller was told first that it is over.
+// The run is stopped, or it succeeds if its caller learned before that it is over.
 fn check_third_caller<R: Threads + Wait + Abort + Sync>(rt: &R, alloc: Global, terms: &Terms) {
     let state = GateState::new(alloc, terms).expect(rt, "a gate");
     let (lock, pass) = TicketLock::new(alloc, state).expect(rt, "a lock");
@@ -123,7 +126,7 @@ fn check_third_caller<R: Threads + Wait + Abort + Sync>(rt: &R, alloc: Global, t
     );
 }
 
-/// Runs that others call off.
+/// Checks runs that other callers stop, and runs whose lock wears out.
 pub fn check_called_off<R: Threads + Wait + Abort + Sync>(rt: &R, alloc: Global, terms: &Terms) {
     check_finished(rt, alloc, terms);
     check_worn(rt, alloc, terms);

@@ -1,4 +1,4 @@
-//! What a journal comes to, as text, whatever the schedule was.
+//! The result of a journal as a text that does not depend on the schedule.
 
 use crate::testing::expects;
 use journal::Event;
@@ -20,7 +20,6 @@ fn write_remarks(rt: &impl Abort, text: &mut String, outcome: &Outcome) {
     }
 }
 
-// An outcome: its verdict, its amounts as money, and its remarks.
 fn write_outcome(rt: &impl Abort, text: &mut String, outcome: &Outcome) {
     write!(text, "{:?}", outcome.verdict).expect(rt, "memory for a verdict");
     write_amount(rt, text, outcome.allowed);
@@ -32,7 +31,6 @@ fn write_outcome(rt: &impl Abort, text: &mut String, outcome: &Outcome) {
     write_remarks(rt, text, outcome);
 }
 
-// The outcome of the claim at a position.
 fn write_decision(rt: &impl Abort, text: &mut String, journal: &[Event], position: usize) {
     for event in journal {
         if let Event::Decide {
@@ -46,7 +44,8 @@ fn write_decision(rt: &impl Abort, text: &mut String, journal: &[Event], positio
     }
 }
 
-// A provider's claims in the order in which they were accepted, each with its place and its outcome, a line each.
+// Writes a line for each claim of a provider, in the order of acceptance, with its place and
+// outcome.
 fn write_claims(rt: &impl Abort, text: &mut String, journal: &[Event], provider: usize) {
     let mut position = 0usize;
     for event in journal {
@@ -75,7 +74,7 @@ fn kind_of(event: &Event) -> &'static str {
     }
 }
 
-/// How many events of a kind there are.
+/// Returns the number of events of a kind.
 pub fn count_of(journal: &[Event], kind: &str) -> usize {
     let mut count = 0usize;
     for event in journal {
@@ -86,12 +85,12 @@ pub fn count_of(journal: &[Event], kind: &str) -> usize {
     count
 }
 
-fn write_count(rt: &impl Abort, text: &mut String, journal: &[Event], kind: &str, following: &str) {
+fn write_count(rt: &impl Abort, text: &mut String, journal: &[Event], kind: &str, after: &str) {
     let count = count_of(journal, kind);
-    write!(text, "{kind} {count}{following}").expect(rt, "memory for a count");
+    write!(text, "{kind} {count}{after}").expect(rt, "memory for a count");
 }
 
-// The claims of so many providers, and how many events of each kind there are.
+// Writes the claims of the providers, and the number of events of each kind.
 fn write_journal(rt: &impl Abort, text: &mut String, journal: &[Event], providers: usize) {
     for place in 0..providers {
         write_claims(rt, text, journal, place + 1);
@@ -103,14 +102,13 @@ fn write_journal(rt: &impl Abort, text: &mut String, journal: &[Event], provider
     write_count(rt, text, journal, "closes", "\n");
 }
 
-/// Compares what a journal comes to.
+/// Compares the result of a journal with a text.
 pub fn comes_to(rt: &impl Abort, alloc: Global, journal: &[Event], providers: usize, wanted: &str) {
     let mut text = String::new(alloc);
     write_journal(rt, &mut text, journal, providers);
     expects(rt, text.as_str() == wanted, "the wanted text");
 }
 
-// How often a journal has the end of a provider.
 fn count_ends(journal: &[Event], wanted: usize) -> usize {
     let mut count = 0usize;
     for event in journal {
@@ -123,7 +121,7 @@ fn count_ends(journal: &[Event], wanted: usize) -> usize {
     count
 }
 
-/// Whether a journal is one end of each of so many providers, and the close.
+/// Returns whether a journal has one end of each provider, the close, and no other event.
 pub fn is_ends_and_close(journal: &[Event], providers: usize) -> bool {
     for provider in 0..providers {
         if count_ends(journal, provider.saturating_add(1)) != 1 {

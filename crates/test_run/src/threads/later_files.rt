@@ -1,4 +1,4 @@
-//! Runs on a gate that others have called before.
+//! Runs on a gate that other callers have used before.
 
 ghost use Rattle.std.specs.Prelude.{◌≡◌, ◌≤◌, ◌+◌, length, slice_get, Some};
 ghost use Rattle.journal.specs.Terms.{claims_of};
@@ -21,7 +21,8 @@ use std::sync::Wait;
 use std::thread::Threads;
 use turn_lock::{Section, SpinLock};
 
-// Offers the first provider's claim at a place, which is accepted. Only claims of this provider were before, so its position is that place.
+// Offers the first provider's claim at a place, which must be accepted. Only claims of this
+// provider were accepted before, so its position is its place.
 fn accept<R: Wait + Abort, G: Gate>(
     rt: &R,
     terms: &Terms,
@@ -38,7 +39,7 @@ fn accept<R: Wait + Abort, G: Gate>(
     ensures terms { (G.known result).seen.terms ≡ terms.now }
     ensures taken { HasAccepted (G.known result).seen 1 (place + 1) }
 {
-    // Known from here: the texts have lists of claims, so that what holds for each list says something.
+    // proof: each text has a list of claims, so a condition on every such list is not vacuous
     claim_lists_exist(terms);
     let offered = Offer {
         provider: 1,
@@ -57,7 +58,6 @@ fn accept<R: Wait + Abort, G: Gate>(
     }
 }
 
-// The first two claims of the first provider.
 fn first_two(rt: &impl Abort, alloc: Global, terms: &Terms) -> (BoxedClaim, BoxedClaim)
     requires { 1 ≤ length terms.now.files }
     ensures first { ForTerms terms.now (λ T. slice_get (claims_of T 1) 0 ≡ Some result.0) }
@@ -89,7 +89,7 @@ fn boxed_claim_of(rt: &impl Abort, alloc: Global, claim: Claim) -> BoxedClaim
     }
 }
 
-// Runs on a gate where another pass has had the first two claims of the first provider accepted.
+// Runs on a gate that has accepted the first provider's first two claims by another pass.
 fn run_later_files<S: Section + Drop + Sync, R: Threads + Wait + Abort + Sync>(
     rt: &R,
     alloc: Global,
@@ -105,7 +105,7 @@ where
 {
     let files = terms.files().len();
     assert!(rt; 1 <= files);
-    // A run without end is stopped, and then it isn't Ok.
+    // The stop ends a run that would never end, and the test fails then.
     let mut watch = nothing();
     watch.stop_at_take = 100_000_000;
     let gate = WatchedGate::over(LockedGate::over(lock), watch);
@@ -114,7 +114,7 @@ where
     let theirs = accept(rt, terms, &gate, theirs, 0, first);
     let _ = accept(rt, terms, &gate, theirs, 1, second);
     let Ok(mine) = run_with(rt, alloc, terms, 2, &gate, mine) else {
-        fail(rt, "a run behind others")
+        fail(rt, "a run after others")
     };
     match gate.inner().retire(rt, mine) {
         Ok(state) => comes_to(rt, alloc, state.journal(), files, outcomes_of_both()),
@@ -122,7 +122,7 @@ where
     }
 }
 
-/// The same behind a spin lock.
+/// Runs on such a gate with a spin lock.
 pub fn goes_on<R: Threads + Wait + Abort + Sync>(rt: &R, alloc: Global, terms: &Terms) {
     let state = GateState::new(alloc, terms).expect(rt, "a gate");
     let (lock, pass) = SpinLock::new(alloc, state).expect(rt, "a lock");

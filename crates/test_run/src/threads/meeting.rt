@@ -1,4 +1,5 @@
-//! Calls that are held until another thread makes one: they show that the work isn't all done by one thread.
+//! Calls that wait until another thread makes a call. They show that the work is not all done by
+//! one thread.
 
 use super::met::watched_spinning;
 use super::watched::nothing;
@@ -9,7 +10,7 @@ use std::process::Abort;
 use std::sync::Wait;
 use std::thread::Threads;
 
-/// A `take` of the caller's and one of the only worker's.
+/// A `take` of the caller meets one of the only worker.
 pub fn check_workers<R: Threads + Wait + Abort + Sync>(rt: &R, alloc: Global, terms: &Terms) {
     let mut watch = nothing();
     watch.takes = 2;
@@ -17,7 +18,7 @@ pub fn check_workers<R: Threads + Wait + Abort + Sync>(rt: &R, alloc: Global, te
     expects(rt, met.fault.is_none() && met.takes == 2, "no fault");
 }
 
-/// An `offer` of the first provider's intake and one of the second's.
+/// An `offer` of the first provider's intake thread meets one of the second's.
 pub fn check_intakes<R: Threads + Wait + Abort + Sync>(rt: &R, alloc: Global, terms: &Terms) {
     let mut watch = nothing();
     watch.offers = 2;

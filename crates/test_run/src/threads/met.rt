@@ -1,4 +1,4 @@
-//! Runs on a watched gate, and what came of them.
+//! Runs on a watched gate, and their results.
 
 ghost use Rattle.std.specs.Prelude.{◌≡◌};
 
@@ -11,23 +11,25 @@ use std::sync::Wait;
 use std::thread::Threads;
 use turn_lock::{Section, SpinLock, TicketLock};
 
-/// What came of a run on a watched gate.
+/// The result of a run on a watched gate.
 #[derive(Drop)]
 pub struct Met {
-    /// Its fault, if there is one.
+    /// The fault of the run, if there is one.
     pub fault: Option<RunFault>,
-    /// Whether the pass that came back with it is worn.
+    /// Whether the pass that came back with the fault is worn.
     pub is_worn: bool,
-    /// How many `take`s there were at once, and how many `offer`s.
+    /// The greatest number of simultaneous `take`s.
     pub takes: u64,
+    /// The greatest number of simultaneous `offer`s.
     pub offers: u64,
     /// The sum of the numbers of the providers whose `offer`s met.
     pub providers: u64,
-    /// How many outcomes came back.
+    /// The number of outcomes that came back.
     pub handed_back: u64,
 }
 
-// The fault of a run on a gate that somebody may have stopped, and whether the pass that comes back with it is worn.
+// Returns the fault of a run, and whether the pass that comes back with it is worn. The gate may be
+// stopped before the run.
 fn fault_on<R: Threads + Wait + Sync, G: Gate + Sync>(
     rt: &R,
     alloc: Global,
@@ -50,7 +52,6 @@ fn fault_on<R: Threads + Wait + Sync, G: Gate + Sync>(
     }
 }
 
-// A run on a watched gate.
 fn run_watched<S: Section + Drop + Sync, R: Threads + Wait + Sync>(
     rt: &R,
     alloc: Global,
@@ -79,7 +80,7 @@ where
     }
 }
 
-/// Behind a ticket lock of which so many tickets are used.
+/// Runs with a ticket lock whose first `tickets` tickets are used.
 pub fn watched_from<R: Threads + Wait + Abort + Sync>(
     rt: &R,
     alloc: Global,
@@ -93,7 +94,7 @@ pub fn watched_from<R: Threads + Wait + Abort + Sync>(
     run_watched(rt, alloc, terms, workers, watch, lock, pass)
 }
 
-/// Behind a new ticket lock.
+/// Runs with a new ticket lock.
 pub fn start_watched<R: Threads + Wait + Abort + Sync>(
     rt: &R,
     alloc: Global,
@@ -104,7 +105,7 @@ pub fn start_watched<R: Threads + Wait + Abort + Sync>(
     watched_from(rt, alloc, terms, workers, watch, 0)
 }
 
-/// Behind a spin lock.
+/// Runs with a spin lock.
 pub fn watched_spinning<R: Threads + Wait + Abort + Sync>(
     rt: &R,
     alloc: Global,

@@ -1,4 +1,5 @@
-//! Runs on a gate that refuses some of its calls for memory, whatever memory there is: such a call is made once more, and then the run is told.
+//! Runs on a gate that refuses some of its calls as if memory had run out. A refused call is made
+//! once more, and a second refusal ends the run.
 
 use super::is_wanted_fault;
 use super::met::start_watched;
@@ -13,7 +14,6 @@ use std::sync::Wait;
 use std::thread::Threads;
 use test_fixtures::first_file;
 
-// One call of each kind is refused.
 fn one_of_each() -> Watch {
     let mut watch = nothing();
     watch.refused_offers = 1;
@@ -23,13 +23,14 @@ fn one_of_each() -> Watch {
     watch
 }
 
-/// A call that is refused is made once more.
+/// A call that is refused once is made once more.
 pub fn check_refused_once<R: Threads + Wait + Abort + Sync>(rt: &R, alloc: Global, terms: &Terms) {
     let met = start_watched(rt, alloc, terms, 2, one_of_each());
     expects(rt, met.fault.is_none(), "no fault");
 }
 
-// One file has one intake, so that both of its first calls are the same thread's; of the workers' calls all are refused.
+// One file has one intake thread, which makes both refused calls. Several workers share the other
+// calls, so all of them are refused.
 fn refused_twice(kind: usize) -> Watch {
     let mut watch = nothing();
     match kind {

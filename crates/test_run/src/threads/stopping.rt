@@ -1,4 +1,5 @@
-//! Gates that somebody stops, by a pass split off the caller's: the workers leave, and the run is stopped.
+//! Gates that another caller stops, by a pass that is split off. The workers leave, and the run is
+//! stopped.
 
 use super::is_wanted_fault;
 use super::met::{start_watched, watched_spinning};
@@ -11,7 +12,7 @@ use std::process::Abort;
 use std::sync::Wait;
 use std::thread::Threads;
 
-/// A gate that was stopped before the run.
+/// The gate is stopped before the run.
 pub fn check_stopped_gate<R: Threads + Wait + Abort + Sync>(rt: &R, alloc: Global, terms: &Terms) {
     let mut watch = nothing();
     watch.is_stopped = true;
@@ -23,7 +24,7 @@ pub fn check_stopped_gate<R: Threads + Wait + Abort + Sync>(rt: &R, alloc: Globa
     );
 }
 
-/// Each outcome that is handed in behind the stop comes back with its job.
+/// Each outcome that is recorded after the stop comes back with its job.
 pub fn check_stopped_outcomes<R: Threads + Wait + Abort + Sync>(
     rt: &R,
     alloc: Global,

@@ -1,4 +1,5 @@
-//! A gate that looks at how a run calls it, and that answers some calls as a gate may answer them at the worst moment.
+//! A gate that observes how a run calls it, and that refuses or stops at the worst moment that a
+//! gate may choose.
 
 ghost use Rattle.std.specs.Prelude.{◌≡◌};
 
@@ -13,13 +14,13 @@ use std::thread;
 use std::time::Duration;
 use turn_lock::Worn;
 
-/// So many looks at a word, far more than any of the waits here needs.
+/// The greatest number of loads of a wait, which is far more than any wait of these tests needs.
 const LOOKS_LIMIT: u64 = 100_000_000;
 
-/// So long a crowd that is complete looks whether somebody else comes.
+/// The time for which a complete crowd waits for further calls, in milliseconds.
 const LINGER_MILLIS: u64 = 100;
 
-/// Calls that wait for each other until so many are there.
+/// Calls that wait for each other until the wanted number of them is there.
 #[derive(Drop)]
 pub struct Crowd {
     wanted: u64,
@@ -30,7 +31,7 @@ pub struct Crowd {
 }
 
 impl Crowd {
-    /// Nobody waits where none is wanted.
+    /// With 0 wanted calls, no call waits.
     fn of(wanted: u64) -> Crowd {
         Crowd {
             wanted,
@@ -41,7 +42,8 @@ impl Crowd {
         }
     }
 
-    // The last who is wanted sees for a while whether more come, and lets all go on. Who comes before that leaves a number.
+    // The last wanted call waits for further calls for a while, and then opens the crowd for all.
+    // The calls before that leave their numbers.
     fn come<R: Wait>(&self, rt: &R, number: u64) {
         let inside = next_number(&self.inside);
         self.most.fetch_max(inside, Ordering::SeqCst);
@@ -62,18 +64,18 @@ impl Crowd {
         self.inside.fetch_sub(1, Ordering::SeqCst);
     }
 
-    /// How many were there at once.
+    /// Returns the greatest number of simultaneous calls.
     pub fn most(&self) -> u64 {
         self.most.load(Ordering::SeqCst)
     }
 
-    /// The sum of the numbers of those who met.
+    /// Returns the sum of the numbers of the calls that met.
     pub fn numbers(&self) -> u64 {
         self.numbers.load(Ordering::SeqCst)
     }
 }
 
-// Waits until a word is so great; after a very long while it gives up.
+// Waits until the word is at least `least`, but gives up after a very long time.
 fn wait_for(word: &AtomicU64, least: u64) {
     for _ in 0..LOOKS_LIMIT {
         if word.load(Ordering::SeqCst) >= least {
@@ -83,34 +85,37 @@ fn wait_for(word: &AtomicU64, least: u64) {
     }
 }
 
-// Counts one more, and gives its number, from 1.
+// Counts a call, and returns its number, from 1.
 fn next_number(count: &AtomicU64) -> u64 {
     count.fetch_add(1, Ordering::SeqCst).saturating_add(1)
 }
 
-/// What a watched gate does beside handing calls on.
+/// The actions of a watched gate besides forwarding calls.
 #[derive(Drop)]
 pub struct Watch {
-    /// So many `take`s are to be there at once, and so many `offer`s; none where nobody waits.
+    /// The number of `take`s that wait for each other, or 0.
     pub takes: u64,
+    /// The number of `offer`s that wait for each other, or 0.
     pub offers: u64,
-    /// Somebody has stopped the gate before the run.
+    /// Whether another caller stops the gate before the run.
     pub is_stopped: bool,
-    /// At this `take`, counted from 1, somebody stops the gate.
+    /// The number of the `take`, from 1, at which another caller stops the gate, or 0.
     pub stop_at_take: u64,
-    /// Somebody stops the gate before each outcome is handed in.
+    /// Whether another caller stops the gate before each outcome is recorded.
     pub stops_outcomes: bool,
-    /// Somebody else ends the first provider before its intake does, which is then refused for memory, once so many callers were
-    /// told that the run is over; 0 where nobody does.
+    /// If this is not 0, another caller ends the first provider before its intake thread does. The
+    /// intake thread is refused memory after this number of `take`s has reported the end of the
+    /// run.
     pub overs: u64,
-    /// How many of the first calls of each kind are refused for memory, whatever memory there is.
+    /// The number of first `offer`s that are refused as if memory had run out. The following fields
+    /// have the same meaning for the other calls.
     pub refused_offers: u64,
     pub refused_ends: u64,
     pub refused_takes: u64,
     pub refused_outcomes: u64,
 }
 
-/// A gate that hands calls on and does nothing else.
+/// Returns the watch of a gate that only forwards calls.
 pub fn nothing() -> Watch {
     Watch {
         takes: 0,
@@ -126,7 +131,7 @@ pub fn nothing() -> Watch {
     }
 }
 
-/// A gate over another one.
+/// A gate that forwards its calls to another gate and observes them.
 #[derive(Drop)]
 pub struct WatchedGate<G> {
     gate: G,
@@ -161,19 +166,18 @@ impl<G> WatchedGate<G> {
         }
     }
 
-    /// The gate below.
+    /// Returns the gate to which calls are forwarded.
     pub fn inner(&self) -> &G
         ensures { result.now ≡ self.now.gate }
     {
         &self.gate
     }
 
-    /// How many outcomes were refused since the gate was stopped, and came back with their jobs.
+    /// Returns the number of outcomes that came back with their jobs because the gate was stopped.
     pub fn handed_back(&self) -> u64 {
         self.handed_back.load(Ordering::SeqCst)
     }
 
-    // Whether somebody else ends this provider before its intake does.
     fn is_ended_by_another(&self, provider: usize) -> bool {
         provider == 1 && self.watch.overs != 0
     }
@@ -199,8 +203,8 @@ impl<G> WatchedGate<G> {
     }
 }
 
-// A refused call asks for the counts of the gate below: a section that changes nothing. What somebody else does, it does by a pass
-// split off the caller's.
+// A refused call requests the counts of the other gate, which is a critical section without effect.
+// The calls of another caller use a pass that is split off.
 impl<G: Gate> Gate for WatchedGate<G> {
     type Pass = G::Pass;
 

@@ -1,10 +1,10 @@
-//! Tables by their hit policies (DMN 1.4, hit policies), at worked values.
+//! Worked examples of tables by their hit policies (DMN 1.4, hit policies).
 use super::{gives, refuses};
 use crate::testing::expects;
 use std::alloc::Global;
 use std::process::Abort;
 
-/// The texts behind one another.
+/// Returns the texts in sequence as one text.
 pub fn join_texts(rt: &impl Abort, alloc: Global, texts: &[&str]) -> String {
     let mut whole = String::new(alloc);
     for text in texts {
@@ -13,7 +13,8 @@ pub fn join_texts(rt: &impl Abort, alloc: Global, texts: &[&str]) -> String {
     whole
 }
 
-/// A plan with the field `x` and one table over it: its hit policy, the entries of `outputs`, and those of `rules`.
+/// Returns a plan with the field `x` and one table over it, with this hit policy, outputs and
+/// rules.
 fn plan_over_x(rt: &impl Abort, alloc: Global, hit: &str, outputs: &str, rules: &str) -> String {
     let parts = [
         "version = 1\nfields = [{name = \"x\", kind = \"number\"}]\n[[tables]]\nhit = \"",
@@ -27,7 +28,6 @@ fn plan_over_x(rt: &impl Abort, alloc: Global, hit: &str, outputs: &str, rules: 
     join_texts(rt, alloc, &parts)
 }
 
-/// The output `y` of kind number.
 const NUMBER: &str = "{name = \"y\", kind = \"number\"}";
 
 const WITH_DEFAULT: &str = "{name = \"y\", kind = \"number\", default = \"0\"}";
@@ -38,34 +38,35 @@ const TEXT: &str = "{name = \"y\", kind = \"text\"}";
 const WITH_PRIORITIES: &str = "{name = \"a\", kind = \"text\", priority = ['\"X\"', '\"Y\"']}, \
     {name = \"b\", kind = \"text\", priority = ['\"H\"', '\"L\"']}, {name = \"c\", kind = \"number\"}";
 
-/// Two rules that match at 2, with equal entries and with others.
+/// Two rules that match 2, with equal entries.
 const EQUAL: &str = "{when = ['>0'], then = ['1']}, {when = ['>1'], then = ['1']}";
 
+/// Two rules that match 2, with different entries.
 const DIFFERENT: &str = "{when = ['>0'], then = ['1']}, {when = ['>1'], then = ['2']}";
 
-/// A rule that matches at no positive number.
+/// A rule that matches no positive number.
 const NEGATIVE: &str = "{when = ['<0'], then = ['1']}";
 
-/// Four rules that match, over the outputs with priority lists.
+/// Four rules that match, for the outputs with priority lists.
 const FOUR: &str =
     "{when = ['-'], then = ['\"Y\"', '\"H\"', '1']}, {when = ['-'], then = ['\"X\"', '\"L\"', '2']}, \
     {when = ['-'], then = ['\"X\"', '\"H\"', '3']}, {when = ['-'], then = ['\"X\"', '\"H\"', '4']}";
 
-/// Numbers to be aggregated.
 const THREE: &str =
     "{when = ['-'], then = ['1.5']}, {when = ['-'], then = ['2']}, {when = ['-'], then = ['-0.25']}";
 
-/// Numbers whose sum leaves the number range, and the same with one that brings it back.
+/// Numbers whose sum is outside the range of numbers.
 const BEYOND: &str =
     "{when = ['-'], then = ['99999999999.9999']}, {when = ['-'], then = ['0.0001']}";
 
+/// The numbers of `BEYOND`, and one more that brings the sum back into the range.
 const BACK: &str =
     "{when = ['-'], then = ['99999999999.9999']}, {when = ['-'], then = ['0.0001']}, \
     {when = ['-'], then = ['-0.0001']}";
 
 const EQUAL_TEXTS: &str = "{when = ['-'], then = ['\"A\"']}, {when = ['-'], then = ['\"A\"']}";
 
-/// A hit policy, outputs, rules, and what is printed at 2.
+/// A hit policy, outputs, rules, and the output for 2.
 const PRINTED: &[(&str, &str, &str, &str)] = &[
     ("A", NUMBER, EQUAL, "y = 1\n"),
     ("F", NUMBER, DIFFERENT, "y = 1\n"),
@@ -89,7 +90,7 @@ const PRINTED: &[(&str, &str, &str, &str)] = &[
     ("F", WITH_DEFAULT, NEGATIVE, "y = 0\n"),
 ];
 
-/// A hit policy, outputs, rules, and the line of the refusal at 2.
+/// A hit policy, outputs, rules, and the line of the error for 2.
 const REFUSED: &[(&str, &str, &str, &str)] = &[
     ("U", NUMBER, EQUAL, "fault clash:1\n"),
     ("U", NUMBER, DIFFERENT, "fault clash:1\n"),

@@ -1,4 +1,4 @@
-//! Plans that are refused, each at its place.
+//! Plans with one fault each, and the place that is reported.
 use super::hit_policies::join_texts;
 use super::{PLAN, refuses};
 use crate::testing::expects;
@@ -7,7 +7,7 @@ const FIELD: &str = "{name = \"x\", kind = \"number\"}";
 
 const FIELD_TWICE: &str = "{name = \"x\", kind = \"number\"}, {name = \"x\", kind = \"number\"}";
 
-/// A part of the first plan, what stands in its place, and the line of the refusal.
+/// A part of the first plan, the text that replaces it, and the line of the error.
 const CHANGED: &[(&str, &str, &str)] = &[
     ("version = 1", "", "plan fault 2 table 0 rule 0 column 0\n"),
     (
@@ -33,7 +33,7 @@ const CHANGED: &[(&str, &str, &str)] = &[
     ),
 ];
 
-/// A plan that has roles alone, with no fee.
+/// A plan that has only roles, without a fee.
 const WITHOUT_FEE: &str = "version = 1
 [roles]
 cover = \"true\"
@@ -43,7 +43,7 @@ oop_max = \"1000\"
 rate = \"0\"
 ";
 
-/// The same with a fee, and a rate above one.
+/// A plan that has only roles, with a fee and a rate above 1.
 const RATE_OF_TWO: &str = "version = 1
 [roles]
 cover = \"true\"

@@ -1,7 +1,7 @@
-//! Values of all kinds, names of a claim and of a member, and chained tables.
+//! Worked examples with values of all kinds, names of a claim and of a member, and chained tables.
 use super::{all_give, all_refuse};
 
-/// Inputs and outputs of the kinds that are no numbers.
+/// Inputs and outputs of all kinds but numbers.
 const KINDS: &str = "version = 1
 fields = [{name = \"code\", kind = \"text\"}, {name = \"urgent\", kind = \"flag\"}, {name = \"seen\", kind = \"day\"}]
 [[tables]]
@@ -12,7 +12,7 @@ rules = [
 ]
 ";
 
-/// A plan that settles claims: coverage and fee by the code, and remarks.
+/// A plan that settles claims, with coverage and fee by the code, and with remarks.
 const SETTLING: &str = "version = 1
 fields = [{name = \"code\", kind = \"text\"}]
 
@@ -44,7 +44,7 @@ rules = [
 ]
 ";
 
-/// A plan whose roles read names that no table reads.
+/// A plan without tables, so that only its roles use names.
 const WITHOUT_TABLES: &str = "version = 1
 [roles]
 cover = \"true\"
@@ -55,7 +55,7 @@ rate = \"0\"
 oop_max = \"1000\"
 ";
 
-/// A score by the sum of points, and a level by the score.
+/// A table sums points into a score, and the next table finds the level of the score.
 const CHAINED: &str = "version = 1
 fields = [{name = \"age\", kind = \"number\"}]
 
@@ -80,7 +80,7 @@ outputs = [{name = \"y\", kind = \"number\"}]
 rules = [{when = ['-'], then = ['1']}]
 ";
 
-/// A plan, arguments, and what is printed.
+/// A plan, arguments, and the output.
 const PRINTED: &[(&str, &[&str], &str)] = &[
     (
         KINDS,
@@ -108,7 +108,7 @@ const PRINTED: &[(&str, &[&str], &str)] = &[
     (ALLOWING, &["x=5"], "y = 1\n"),
 ];
 
-/// A plan, arguments, and the line of the refusal.
+/// A plan, arguments, and the line of the error.
 const REFUSED: &[(&str, &[&str], &str)] = &[
     (KINDS, &["code=1"], "argument 1 fault 4 cell 3 at 0\n"),
     (

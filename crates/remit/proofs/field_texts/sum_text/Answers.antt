@@ -4,7 +4,7 @@ use Rattle.std.proofs.lemmas.Result.{IfOk-weaker}
 use Rattle.fixpoint.specs.Money.{money_text}
 use Rattle.remit.proofs.field_texts.sum_text.Goals as goal
 
--- the two digits of the cents, each by itself
+-- the two digits of the cents are written one by one
 by_digits : (units : ℕ) → decimal (units / 10000) ++ (46 ∷ (decimal (units % 10000 / 100 / 10) ++ decimal (units % 10000 / 100 % 10))) ≡ money_text (pos units)
 by_digits units =
     let tens = decimal_digit (units % 10000 / 100 / 10) (omega arith) in

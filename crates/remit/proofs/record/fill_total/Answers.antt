@@ -6,7 +6,7 @@ use Rattle.remit.specs.Records.{total_front}
 use Rattle.remit.proofs.Adding.{sums_reported}
 use Rattle.remit.proofs.record.fill_total.Goals as goal
 
--- the record of totals, of a number of claims and the texts of sums
+-- the record of totals, from the number of accepted claims and the texts of the sums
 abbrev totals : ℕ → ℕ → List (List ℕ) → List (List ℕ)
 totals version accepted sums = total_front version accepted ++ (sums ++ [] ∷ [])
 

@@ -2,6 +2,6 @@ use Rattle.std.proofs.Common.{◌≡◌, ℕ, ◌<◌, slice_get, Some}
 use Rattle.dtable.specs.Scope.{data_names}
 use Rattle.evaluation.proofs.value.arguments.data_named.Given as goal
 
--- no data so far has the name
+-- no input data so far has the name
 abbrev pub invariant-loop-place : goal.invariant-loop-place
 invariant-loop-place l = (k : ℕ) → k < l.place → slice_get (data_names l.names) k ≡ Some l.name → ⊥

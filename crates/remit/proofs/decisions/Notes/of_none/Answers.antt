@@ -4,7 +4,7 @@ use Rattle.std.proofs.lemmas.List.{get_or_append_left, get_or_push, length_push}
 use Rattle.std.specs.Global.{Vec}
 use Rattle.remit.proofs.decisions.Notes.of_none.Goals as goal
 
--- one empty list more
+-- one more empty list
 empty-more :
     (xs : List (Vec ℕ)) (x : Vec ℕ) (n : ℕ) → length xs ≡ n → x.items ≡ [] → ((i : ℕ) (d : Vec ℕ) → i < n → (get_or xs i d).items ≡ [])
     → (i : ℕ) (d : Vec ℕ) → i < n + 1 → (get_or (xs ++ x ∷ []) i d).items ≡ []

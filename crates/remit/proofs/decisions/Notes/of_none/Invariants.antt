@@ -2,7 +2,7 @@ use Rattle.std.proofs.Common.{◌≡◌, ◌<◌, ℕ, [], get_or, length}
 use Rattle.std.specs.Global.{Vec}
 use Rattle.remit.proofs.decisions.Notes.of_none.Given as goal
 
--- so many lists, each empty
+-- there is one empty list for each round
 abbrev pub invariant-loop : goal.invariant-loop
 invariant-loop l = record {
   count : length l.positions.items ≡ l.counter;
