@@ -280,12 +280,12 @@ pub fn count_at(document: &Value, steps: &[Step], key: &str) -> usize {
 
 /// The string at a key of an entry, if there is one.
 pub fn text_after<'d>(entry: Option<&'d Value>, key: &str) -> Option<&'d str> {
-    value_behind(entry, key)?.as_str()
+    value_at_key(entry, key)?.as_str()
 }
 
 /// The items of the array at a key of an entry; none if there is no such array.
 pub fn items_after<'d>(entry: Option<&'d Value>, key: &str) -> &'d [Value] {
-    match value_behind(entry, key) {
+    match value_at_key(entry, key) {
         Some(array) => items(array),
         None => &[],
     }
@@ -298,6 +298,6 @@ fn items(array: &Value) -> &[Value] {
     }
 }
 
-fn value_behind<'d>(entry: Option<&'d Value>, key: &str) -> Option<&'d Value> {
+fn value_at_key<'d>(entry: Option<&'d Value>, key: &str) -> Option<&'d Value> {
     entry?.get(key)
 }

@@ -383,7 +383,7 @@ fn faults_have_numbers_and_texts(rt: HostRuntime) {
     expects(&rt, text.as_str() == fault_lines(), "these lines");
 }
 
-fn is_wanting(fault: RunFault) -> bool {
+fn is_resource_fault(fault: RunFault) -> bool {
     is(fault, RunFault::OutOfMemory) || is(fault, RunFault::Thread)
 }
 
@@ -396,7 +396,7 @@ fn batch_though_refused<'t, R: Threads + Wait + Abort + Sync>(
     match run(rt, alloc, terms, 2) {
         Ok(batch) => batch,
         Err(fault) => {
-            expects(rt, is_wanting(fault), "a lack of memory");
+            expects(rt, is_resource_fault(fault), "a lack of memory");
             batch_of(rt, alloc, terms, 2)
         }
     }
