@@ -16,7 +16,7 @@ text_at matches name = one_text (found_of matches) name
 pub record IsFlag (text : Option (List ℕ)) (flag : Bool) : Type 0 where
   pub set : text ≡ Some (codes "true") → flag ≡ true
   pub unset : text ≡ Some (codes "false") → flag ≡ false
-  pub untold : text ≡ None → flag ≡ false
+  pub absent : text ≡ None → flag ≡ false
 
 -- the number that a text gives in decimal digits; none if there is no text
 abbrev pub IsNumber : Option (List ℕ) → Option ℕ → Type 0

@@ -26,7 +26,7 @@ use std::alloc::Global;
 impl Valuer for Plan {
     ghost plan_of = { λ plan. plan };
 
-    // A plan that is not compiled has no zones.
+    // A plan that is not compiled has no input classes.
     ghost in_class = { λ plan given input_class. ⊥ };
 
     fn plan(&self) -> &Plan {

@@ -17,7 +17,7 @@ pub trait Valuer {
     /// The plan that is evaluated.
     ghost plan_of: { Self → PlanParts };
 
-    /// The inputs lie in the zone with this number.
+    /// The inputs lie in the input class with this number.
     ghost in_class: { Self → List Slot → ℕ → Type 0 };
 
     /// Returns the plan.
@@ -31,8 +31,8 @@ pub trait Valuer {
             ≡ Ok environment) }
         ensures fault { IfErr result (IsFaultOf (env (plan_of self.now) inputs.now)) };
 
-    /// Returns the number of the zone that contains the inputs, if it is known. A zone is a class
-    /// of inputs for which the tables have the same value.
+    /// Returns the number of the input class that contains the inputs, if it is known. The tables
+    /// have the same value for all inputs of a class.
     fn input_class(&self, inputs: &Inputs) -> Option<u64>
         ensures inside { IfSome result (in_class self.now inputs.now) }
         ensures alike { IfSome result (λ input_class. (other : List Slot)

@@ -132,7 +132,7 @@ enum Tried<'a> {
     /// second.
     Alike(&'a [&'a str], &'a [&'a str]),
     /// The masks have the matching rules for each of these literals of the first field.
-    Told(&'a [&'a str]),
+    Matching(&'a [&'a str]),
     /// The compiled plan has this answer for this literal of the first field.
     Answer(&'a str, &'a str),
     /// The answers are the same for each code and amount of the health plan.
@@ -140,18 +140,18 @@ enum Tried<'a> {
     /// The masks of the only column of two rules begin with these words.
     Masks(&'a [u64]),
     /// These literals of the first field and of the second lie in these input classes.
-    Zones(&'a [(&'a str, &'a str, Option<u64>)]),
+    Classes(&'a [(&'a str, &'a str, Option<u64>)]),
 }
 
 fn try_cut(rt: &impl Abort, alloc: Global, plan: &Plan, tried: Tried<'_>) {
     let cut = cut_of(rt, alloc, plan);
     match tried {
         Tried::Alike(firsts, seconds) => check_each(rt, alloc, plan, &cut, (firsts, seconds)),
-        Tried::Told(literals) => check_each_reported(rt, alloc, plan, &cut, literals),
+        Tried::Matching(literals) => check_each_matching(rt, alloc, plan, &cut, literals),
         Tried::Answer(literal, answer) => check_answer(rt, alloc, &cut, literal, answer),
         Tried::Remarks => check_remarks(rt, alloc, plan, &cut),
         Tried::Masks(words) => check_masks(rt, plan, &cut, words),
-        Tried::Zones(wanted) => check_classes(rt, alloc, &cut, wanted),
+        Tried::Classes(wanted) => check_classes(rt, alloc, &cut, wanted),
     }
 }
 
@@ -327,7 +327,7 @@ fn check_reported(rt: &impl Abort, alloc: Global, plan: &Plan, cut: &CutPlan, li
     }
 }
 
-fn check_each_reported(
+fn check_each_matching(
     rt: &impl Abort,
     alloc: Global,
     plan: &Plan,
@@ -352,16 +352,16 @@ fn masks_speak_of_allowed_values(rt: HostRuntime) {
         &rt,
         rt.alloc(),
         disjoint_plan(),
-        Tried::Told(around_apart()),
+        Tried::Matching(around_apart()),
     );
-    try_plan(&rt, rt.alloc(), codes(), Tried::Told(of_codes()));
+    try_plan(&rt, rt.alloc(), codes(), Tried::Matching(of_codes()));
     try_plan(
         &rt,
         rt.alloc(),
         allowed_codes(),
-        Tried::Told(allowed_literals()),
+        Tried::Matching(allowed_literals()),
     );
-    try_plan(&rt, rt.alloc(), days(), Tried::Told(around_days()));
+    try_plan(&rt, rt.alloc(), days(), Tried::Matching(around_days()));
 }
 
 // Returns whether the masks begin with these words.
@@ -440,7 +440,7 @@ fn classes_of_chain() -> &'static [(&'static str, &'static str, Option<u64>)] {
 
 #[test]
 fn values_of_one_class_and_of_others(rt: HostRuntime) {
-    let of_both = Tried::Zones(classes_of_flag_and_code());
+    let of_both = Tried::Classes(classes_of_flag_and_code());
     try_plan(&rt, rt.alloc(), flag_and_code(), of_both);
-    try_plan(&rt, rt.alloc(), chain(), Tried::Zones(classes_of_chain()));
+    try_plan(&rt, rt.alloc(), chain(), Tried::Classes(classes_of_chain()));
 }
