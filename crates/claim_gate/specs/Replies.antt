@@ -1,4 +1,4 @@
--- The calls' answers, as the gate of one thread has them, and what callers know.
+-- The results of the calls in the terms of the sequential gate, and what the calls require.
 use Rattle.std.specs.Prelude.{◌≡◌, ◌<◌, ◌++◌, ℕ, true, List, [], ◌∷◌, length, Some, Result, Ok, Err, cond, Option}
 use Rattle.settlement.specs.declared.outcome.Outcome.{Outcome}
 use Rattle.journal.specs.Terms.{Terms, IsProvider, claims_of}
@@ -28,12 +28,12 @@ offer_refusal offer.Closed = OfferReply.Closed
 offer_refusal (offer.OutOfTurn expected) = OfferReply.OutOfTurn expected
 offer_refusal offer.OutOfMemory = OfferReply.NoMemory
 
--- the answer of `offer`
+-- the result of `offer`
 abbrev pub offer_reply : Result Accepted (OfferFault × Offer) → OfferReply
 offer_reply (Ok accepted_count) = OfferReply.Accepted accepted_count.position
 offer_reply (Err refused) = offer_refusal refused.0
 
--- the answer of `end`
+-- the result of `end`
 abbrev pub end_reply : Result Ended EndFault → EndReply
 end_reply (Ok ended) = EndReply.Ended
 end_reply (Err end.Stopped) = EndReply.Stopped
@@ -42,7 +42,7 @@ end_reply (Err (end.OutOfTurn expected)) = EndReply.OutOfTurn expected
 end_reply (Err end.AlreadyEnded) = EndReply.AlreadyEnded
 end_reply (Err end.OutOfMemory) = EndReply.NoMemory
 
--- the answer of `take`
+-- the result of `take`
 abbrev pub take_reply : Result Taken TakeFault → TakeReply
 take_reply (Ok Stopped) = TakeReply.Stopped
 take_reply (Ok Over) = TakeReply.Over
@@ -55,16 +55,16 @@ finish_refusal finish.Stopped = FinishReply.Stopped
 finish_refusal finish.AlreadyDecided = FinishReply.AlreadyDecided
 finish_refusal finish.OutOfMemory = FinishReply.NoMemory
 
--- the answer of `finish`
+-- the result of `finish`
 abbrev pub finish_reply : Result Recorded (FinishFault × Job × Outcome) → FinishReply
 finish_reply (Ok recorded) = FinishReply.Recorded
 finish_reply (Err refused) = finish_refusal refused.0
 
--- the claim that is offered is that of its provider and place
+-- the offered claim is the one at its provider's place
 abbrev pub IsFiled : Terms → Offer → Type 0
 IsFiled T offer = claim_filed T (record { provider = offer.provider; place = offer.place }) ≡ Some offer.claim
 
--- the provider is one of the terms', and has so many claims
+-- the provider exists under these terms and has exactly this number of claims
 pub record HasClaims (T : Terms) (provider count : ℕ) : Type 0 where
   pub known : IsProvider T provider
   pub count_is : count ≡ length (claims_of T provider)
@@ -74,11 +74,11 @@ pub record IsOver (J : List Event) : Type 0 where
   pub closed : closed J ≡ true
   pub all : (position : ℕ) → position < accepted_count J → has_decision J position ≡ true
 
--- what `take` does: work goes with its take behind the journal, and nothing else changes anything
+-- the effect of `take`: it appends the take of the job that it returns, and otherwise changes nothing
 abbrev pub IsWorkOf : GateParts → GateParts → Taken → Type 0
 IsWorkOf old new (Work job) = new ≡ record old { journal = old.journal ++ Take job.position ∷ [] }
 IsWorkOf old new _ = new ≡ old
 
--- the journal of a gate that nothing was offered yet: it is closed at once where no claim is to be accepted
+-- the journal of a new gate: it is closed at once where the cutoff is 0
 abbrev pub first_journal : Option ℕ → List Event
 first_journal cutoff = cond (reached cutoff 0) (Close ∷ []) []

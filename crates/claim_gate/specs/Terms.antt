@@ -1,4 +1,4 @@
--- What a run is fixed over: as texts, as the code keeps it, and as journals see it.
+-- The inputs of a run: as texts, as contracts see them, and as journals see them.
 use Rattle.std.specs.Prelude.{◌≡◌, ◌≤◌, ℕ, Bool, List, [], length, map, option_map, Option, Some, None, IsSome}
 use Rattle.std.specs.Borrow.{Bor}
 use Rattle.std.specs.List.{All, AllZip}
@@ -18,65 +18,65 @@ use Rattle.journal.specs.Terms.{Terms}
 use Rattle.journal.specs.Lawful.{Finished}
 use Rattle.journal.specs.declared.event.Event.{Event}
 
--- what a run is fixed over: the plan, the text of each provider's file, the families that have balances in each year, with their
--- members and these, and how many claims are accepted at most, if that is limited
+-- the inputs of a run: the plan, the text of each provider's file, the opening balances by family and year with those of
+-- each member, and the maximum number of claims that are accepted, if there is one
 pub record TermsParts : Type 0 where
   pub plan : PlanParts
   pub files : List (List ℕ)
   pub balances : List Book
   pub cutoff : Option ℕ
-  -- whether claims are accepted in the order of the files, and in each in its own
+  -- all claims of a file are accepted before those of the next file
   pub in_order : Bool
 
--- the claims of a file: those among its rows
+-- the claims of a file are those among its rows
 pub record AreClaimsOf (names : List InputData) (text : List ℕ) (claims : List Claim) : Type 0 where
   pub rows : List Row
   pub are_rows : AreRowsOf names text rows
   pub claims_are : claims ≡ claims_among rows
 
--- these parts, as journals see them: of each file its claims, and of the balances what accounts begin with
+-- these inputs as journals see them: the claims of each file, and the opening accumulators of each account
 pub record IsTermsOf (parts : TermsParts) (T : Terms) : Type 0 where
   pub plan : T.plan ≡ parts.plan
   pub files : AllZip (AreClaimsOf parts.plan.names) parts.files T.files
   pub openings : (account : Account) → opening T.balances account ≡ opening (accounts_of parts.balances) account
   pub cutoff : T.cutoff ≡ parts.cutoff
 
--- for these terms, as journals see them: for each list of claims that the files' texts have
+-- the statement holds for every reading of these terms: for each list of claims that the files' texts contain
 abbrev pub ForTerms : TermsParts → (Terms → Type 0) → Type 0
 ForTerms parts P = (T : Terms) → IsTermsOf parts T → P T
 
--- the journal is finished over these terms
+-- the journal is finished under these terms
 abbrev pub IsFinishedOver : TermsParts → List Event → Type 0
 IsFinishedOver parts J = ForTerms parts (λ T. Finished T J)
 
--- the texts behind references
+-- the texts that these references refer to
 abbrev pub texts_of : List (Bor (List ℕ)) → List (List ℕ)
 texts_of files = map (λ f. f.now) files
 
--- the text behind a reference, if there is one
+-- the text that an optional reference refers to
 abbrev pub text_in : Option (Bor (List ℕ)) → Option (List ℕ)
 text_in text = option_map (λ t. t.now) text
 
--- the text is a file with the columns that claims need under a plan with these names
+-- the text is a claim file with the columns that a plan with these inputs needs
 pub record IsClaimFile (names : List InputData) (text : List ℕ) : Type 0 where
   pub layout : Layout
   pub records : List Fields
   pub headered_file : IsHeaderedFile (claim_columns names) text layout records
 
--- these are the files of the texts
+-- these are the claim files of the texts, one for one
 abbrev pub AreFilesOf : List InputData → List (List ℕ) → List FileParts → Type 0
 AreFilesOf names = AllZip (IsFileOf names)
 
--- how many files a run has at most
+-- the maximum number of files in a run
 abbrev pub files_limit : ℕ
 files_limit = 64
 
--- a run has one file at least, and so many at most
+-- a run has at least one file and at most `files_limit`
 pub record IsFileCount (count : ℕ) : Type 0 where
   pub least : 1 ≤ count
   pub most : count ≤ files_limit
 
--- what holds of all terms: the plan has roles, there are as many files as a run may have, and each is one of claims
+-- valid terms: the plan has roles, the number of files is allowed, and each file is a valid claim file
 pub record AreTerms (parts : TermsParts) : Type 0 where
   pub roles : IsSome parts.plan.roles
   pub count : IsFileCount (length parts.files)
@@ -87,7 +87,7 @@ abbrev pub AreBalancesOf : PlanParts → Option (List ℕ) → List Book → Typ
 AreBalancesOf plan None balances = balances ≡ []
 AreBalancesOf plan (Some text) balances = AreBalances plan.version text balances
 
--- the terms of a plan, of the files' texts, of the text of the balances, if there is one, and of a cutoff
+-- these are the terms of a plan, of the files' texts, of an optional text of the balances, and of an optional cutoff
 pub record AreTermsOf (plan : PlanParts) (files : List (List ℕ)) (balances : Option (List ℕ)) (cutoff : Option ℕ) (parts : TermsParts) : Type 0 where
   pub plan_is : parts.plan ≡ plan
   pub files_are : parts.files ≡ files

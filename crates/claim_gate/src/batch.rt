@@ -8,7 +8,7 @@ use crate::terms::Terms;
 use journal::Event;
 use std::marker::Model;
 
-/// A run whose journal is finished: its terms and its journal.
+/// A finished run: its terms and its journal, which is finished.
 #[derive(Drop)]
 pub struct Batch<'t> {
     terms: &'t Terms<'t>,
@@ -28,13 +28,16 @@ impl<'t> Model for Batch<'t> {
 }
 
 impl<'t> Batch<'t> {
-    /// The run of a gate, where its journal is finished; the gate comes back where it isn't.
+    /// Creates the batch of a gate whose journal is finished. Returns the gate where the journal is not finished.
     pub fn from_state(state: GateState<'t>, terms: &'t Terms) -> Result<Batch<'t>, GateState<'t>>
         requires { state.terms ≡ terms.now }
-        ensures batch { IfOk result (λ batch. (batch.terms ≡ terms.now) × (batch.journal ≡ state.entry.journal)) }
-        ensures finished { IfOk result (λ batch. ForTerms terms.now (λ T. Finished T batch.journal)) }
+        ensures batch { IfOk result
+            (λ batch. (batch.terms ≡ terms.now) × (batch.journal ≡ state.entry.journal)) }
+        ensures finished { IfOk result
+            (λ batch. ForTerms terms.now (λ T. Finished T batch.journal)) }
         ensures back { IfErr result (λ back. back ≡ state.entry) }
-        ensures unfinished { IfErr result (λ _. ForTerms terms.now (λ T. ¬ Finished T state.entry.journal)) }
+        ensures unfinished { IfErr result
+            (λ _. ForTerms terms.now (λ T. ¬ Finished T state.entry.journal)) }
     {
         if !state.is_over() {
             return Err(state);
@@ -45,7 +48,7 @@ impl<'t> Batch<'t> {
         })
     }
 
-    /// The journal, which is finished.
+    /// Returns the finished journal.
     pub fn journal(&self) -> &[Event]
         ensures journal { result.now ≡ self.now.journal }
         ensures finished { ForTerms self.now.terms (λ T. Finished T self.now.journal) }

@@ -1,15 +1,16 @@
-//! How far a gate is.
+//! The progress of a gate.
 
-/// How many claims a gate has accepted and decided, how many providers have ended, and whether it is closed or stopped.
+/// The progress of a gate: the numbers of accepted claims, ended providers and decided claims, and whether it is closed or
+/// stopped.
 #[derive(Clone, Copy, PartialEq, Eq, Drop)]
 pub struct Counts {
-    /// The claims accepted.
+    /// The number of accepted claims.
     pub accepted: usize,
-    /// The providers that have ended.
+    /// The number of providers that have ended.
     pub ended: usize,
-    /// The claims decided.
+    /// The number of decided claims.
     pub decided: usize,
-    /// Whether no more claims are accepted.
+    /// Whether the journal is closed, so that no more claims are accepted.
     pub closed: bool,
     /// Whether the gate is stopped.
     pub stopped: bool,

@@ -1,4 +1,4 @@
-//! Why the calls of a gate are refused. A refused call has changed nothing.
+//! Why a gate refuses a call. A refused call changes nothing.
 ghost use Rattle.std.specs.Prelude.{◌≡◌};
 ghost use Rattle.claim_gate.specs.FaultNumber.{
   offer_number_of,
@@ -9,33 +9,33 @@ ghost use Rattle.claim_gate.specs.FaultNumber.{
 
 use thiserror::Error;
 
-/// Why a claim isn't accepted. The faults are tried in this order.
+/// Why a claim is not accepted. The faults are checked in this order.
 #[derive(Clone, Copy, Debug, PartialEq, Eq, Drop, Error)]
 pub enum OfferFault {
     /// The gate is stopped.
     #[error("the gate is stopped")]
     Stopped,
-    /// No more claims are accepted.
+    /// The journal is closed, so no more claims are accepted.
     #[error("no more claims are accepted")]
     Closed,
-    /// The provider's next claim is that at another place.
+    /// The claim is not the provider's next one.
     #[error("the provider's next claim is that at place {expected}")]
     OutOfTurn {
         /// The place of the provider's next claim, from 0.
         expected: usize,
     },
-    /// No memory.
+    /// An allocation failed.
     #[error("out of memory")]
     OutOfMemory,
 }
 
-/// Why a provider doesn't end. The faults are tried in this order.
+/// Why a provider does not end. The faults are checked in this order.
 #[derive(Clone, Copy, Debug, PartialEq, Eq, Drop, Error)]
 pub enum EndFault {
     /// The gate is stopped.
     #[error("the gate is stopped")]
     Stopped,
-    /// No more claims are accepted.
+    /// The journal is closed, so no more claims are accepted.
     #[error("no more claims are accepted")]
     Closed,
     /// Not all claims of the provider are accepted.
@@ -44,38 +44,38 @@ pub enum EndFault {
         /// The place of the provider's next claim, from 0.
         expected: usize,
     },
-    /// The provider has ended before.
+    /// The provider has already ended.
     #[error("the provider has ended before")]
     AlreadyEnded,
-    /// No memory.
+    /// An allocation failed.
     #[error("out of memory")]
     OutOfMemory,
 }
 
-/// Why no claim can be taken.
+/// Why no claim is taken.
 #[derive(Clone, Copy, Debug, PartialEq, Eq, Drop, Error)]
 pub enum TakeFault {
-    /// No memory.
+    /// An allocation failed.
     #[error("out of memory")]
     OutOfMemory,
 }
 
-/// Why a decision isn't recorded. The faults are tried in this order.
+/// Why a decision is not recorded. The faults are checked in this order.
 #[derive(Clone, Copy, Debug, PartialEq, Eq, Drop, Error)]
 pub enum FinishFault {
     /// The gate is stopped.
     #[error("the gate is stopped")]
     Stopped,
-    /// The claim is decided already.
+    /// The claim is already decided.
     #[error("the claim is decided already")]
     AlreadyDecided,
-    /// No memory.
+    /// An allocation failed.
     #[error("out of memory")]
     OutOfMemory,
 }
 
 impl OfferFault {
-    /// The fault's number.
+    /// Returns the fault's number.
     pub fn number(self) -> u8
         ensures { result ≡ offer_number_of self }
     {
@@ -89,7 +89,7 @@ impl OfferFault {
 }
 
 impl EndFault {
-    /// The fault's number.
+    /// Returns the fault's number.
     pub fn number(self) -> u8
         ensures { result ≡ end_number_of self }
     {
@@ -104,7 +104,7 @@ impl EndFault {
 }
 
 impl TakeFault {
-    /// The fault's number.
+    /// Returns the fault's number.
     pub fn number(self) -> u8
         ensures { result ≡ take_number_of self }
     {
@@ -115,7 +115,7 @@ impl TakeFault {
 }
 
 impl FinishFault {
-    /// The fault's number.
+    /// Returns the fault's number.
     pub fn number(self) -> u8
         ensures { result ≡ finish_number_of self }
     {

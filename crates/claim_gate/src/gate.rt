@@ -1,4 +1,4 @@
-//! A gate that several callers share, each with a pass of its own.
+//! A gate that several callers share, each of them with its own pass.
 
 use crate::counts::Counts;
 use crate::fault::{EndFault, FinishFault, OfferFault, TakeFault};
@@ -6,14 +6,14 @@ use crate::job::Job;
 use crate::offer::Offer;
 use crate::reply::{Accepted, Ended, Recorded, Taken};
 use journal::BoxedOutcome;
-use lanes::BoxedClaim;
 use std::sync::Wait;
 use turn_lock::Worn;
 
-/// A gate that several callers share. Each call ends exactly one section of the caller's pass, in which it is the call of the
-/// gate of one thread; `Worn`, where the lock has no ticket left, has changed nothing, and comes before all other answers.
+/// A gate that several callers share. Each call is exactly one critical section of the caller's pass, in which it behaves as
+/// the call of the sequential gate does. `Worn` says that the lock has no ticket left; it changes nothing and takes
+/// precedence over all other results.
 ///
-/// The pass comes back from each call, and knows what it had seen before. Calls may wait, and their promises hold where they
+/// Each call returns the pass, which still knows all that it has seen. Calls may wait, and their contracts hold where they
 /// return.
 pub trait Gate {
     ghost use Rattle.std.specs.Prelude.{◌≡◌, true, IfOk, IfErr, IsErr};
@@ -27,23 +27,23 @@ pub trait Gate {
 
     type Pass: Send + Drop;
 
-    // The pass is one of this gate.
+    // The pass belongs to this gate.
     ghost has_pass: { Self → Self.Pass → Type 0 };
 
-    // What its caller knows.
+    // What the pass has seen of the gate.
     ghost known: { Self.Pass → Known };
 
     // The pass has seen that no ticket is left.
     ghost is_worn: { Self.Pass → Type 0 };
 
-    /// A second pass that knows what the first does.
+    /// Splits a pass into two, which both know what the given pass knew.
     fn split(&self, pass: Self::Pass) -> (Self::Pass, Self::Pass)
         requires { has_pass self.now pass }
         ensures own { has_pass self.now result.0 × has_pass self.now result.1 }
         ensures known { (known result.0 ≡ known pass) × (known result.1 ≡ known pass) }
         ensures worn { is_worn pass → is_worn result.0 × is_worn result.1 };
 
-    /// Offers a claim: it is accepted where it is its provider's next. The offer comes back where it is refused.
+    /// Offers a claim, which is accepted if it is its provider's next one. Returns the offer where it is refused.
     fn offer<R: Wait>(
         &self,
         rt: &R,
@@ -54,26 +54,16 @@ pub trait Gate {
         requires filed { ForTerms (known pass).seen.terms (λ T. IsFiled T offer) }
         requires in_order { InTurn (known pass).seen offer.provider }
         ensures served { IfOk result (λ r. IsServed (has_pass self.now) known (known pass) r.1) }
-        ensures reply { IfOk result (λ r. Went (λ old new. Offers old offer.provider offer.place (offer_reply r.0) new) (known r.1)) }
+        ensures reply { IfOk result
+            (λ r. Went (λ old new. Offers old offer.provider offer.place (offer_reply r.0) new)
+            (known r.1)) }
         ensures back { IfOk result (λ r. IfErr r.0 (λ refused. refused.1 ≡ offer)) }
-        ensures worn { IfErr result (λ e. IsWornOut (has_pass self.now) is_worn known (known pass) e.1) }
+        ensures worn { IfErr result
+            (λ e. IsWornOut (has_pass self.now) is_worn known (known pass) e.1) }
         ensures worn_back { IfErr result (λ e. e.2 ≡ offer) }
         ensures late { is_worn pass → IsErr result };
 
-    /// Tells the gate which claims are to be offered next, so that it looks up at once what it will need for them. Nothing changes.
-    fn prefetch<R: Wait>(
-        &self,
-        rt: &R,
-        pass: Self::Pass,
-        claims: &[BoxedClaim],
-    ) -> Result<Self::Pass, (Worn, Self::Pass)>
-        requires { has_pass self.now pass }
-        ensures served { IfOk result (IsServed (has_pass self.now) known (known pass)) }
-        ensures same { IfOk result (λ p. Went (λ old new. new ≡ old) (known p)) }
-        ensures worn { IfErr result (λ e. IsWornOut (has_pass self.now) is_worn known (known pass) e.1) }
-        ensures late { is_worn pass → IsErr result };
-
-    /// Ends a provider whose claims, so many, are all accepted.
+    /// Ends a provider of which all `count` claims are accepted.
     fn end<R: Wait>(
         &self,
         rt: &R,
@@ -84,11 +74,13 @@ pub trait Gate {
         requires own { has_pass self.now pass }
         requires claims { ForTerms (known pass).seen.terms (λ T. HasClaims T provider count) }
         ensures served { IfOk result (λ r. IsServed (has_pass self.now) known (known pass) r.1) }
-        ensures reply { IfOk result (λ r. Went (λ old new. Ends old provider count (end_reply r.0) new) (known r.1)) }
-        ensures worn { IfErr result (λ e. IsWornOut (has_pass self.now) is_worn known (known pass) e.1) }
+        ensures reply { IfOk result
+            (λ r. Went (λ old new. Ends old provider count (end_reply r.0) new) (known r.1)) }
+        ensures worn { IfErr result
+            (λ e. IsWornOut (has_pass self.now) is_worn known (known pass) e.1) }
         ensures late { is_worn pass → IsErr result };
 
-    /// Takes a claim whose family's earlier claims are all decided.
+    /// Takes a claim for which all earlier claims of its family are decided.
     fn take<R: Wait>(
         &self,
         rt: &R,
@@ -96,12 +88,14 @@ pub trait Gate {
     ) -> Result<(Result<Taken, TakeFault>, Self::Pass), (Worn, Self::Pass)>
         requires { has_pass self.now pass }
         ensures served { IfOk result (λ r. IsServed (has_pass self.now) known (known pass) r.1) }
-        ensures reply { IfOk result (λ r. Went (λ old new. Takes old (take_reply r.0) new) (known r.1)) }
+        ensures reply { IfOk result
+            (λ r. Went (λ old new. Takes old (take_reply r.0) new) (known r.1)) }
         ensures work { IfOk result (λ r. IfOk r.0 (IsWorkOf (known r.1).found (known r.1).seen)) }
-        ensures worn { IfErr result (λ e. IsWornOut (has_pass self.now) is_worn known (known pass) e.1) }
+        ensures worn { IfErr result
+            (λ e. IsWornOut (has_pass self.now) is_worn known (known pass) e.1) }
         ensures late { is_worn pass → IsErr result };
 
-    /// Records the outcome of a job, whose claim comes back; both come back where it is refused.
+    /// Records the outcome of a job and returns the job's claim. Returns the job and the outcome where they are refused.
     fn finish<R: Wait>(
         &self,
         rt: &R,
@@ -117,25 +111,32 @@ pub trait Gate {
     >
         requires own { has_pass self.now pass }
         requires in_work { has_take (known pass).seen.journal job.position ≡ true }
-        requires job { ForTerms (known pass).seen.terms (λ T. IsJob T (known pass).seen.journal job.position job.claim job.acc) }
+        requires job { ForTerms (known pass).seen.terms
+            (λ T. IsJob T (known pass).seen.journal job.position job.claim job.acc) }
         requires settled { outcome ≡ outcome_of (known pass).seen.terms.plan job.claim job.acc }
         ensures served { IfOk result (λ r. IsServed (has_pass self.now) known (known pass) r.1) }
-        ensures reply { IfOk result (λ r. Went (λ old new. Finishes old job.position outcome (finish_reply r.0) new) (known r.1)) }
+        ensures reply { IfOk result
+            (λ r. Went (λ old new. Finishes old job.position outcome (finish_reply r.0) new)
+            (known r.1)) }
         ensures claim { IfOk result (λ r. IfOk r.0 (λ recorded. recorded.claim ≡ job.claim)) }
-        ensures back { IfOk result (λ r. IfErr r.0 (λ refused. (refused.1 ≡ job) × (refused.2 ≡ outcome))) }
-        ensures worn { IfErr result (λ e. IsWornOut (has_pass self.now) is_worn known (known pass) e.1) }
+        ensures back { IfOk result
+            (λ r. IfErr r.0 (λ refused. (refused.1 ≡ job) × (refused.2 ≡ outcome))) }
+        ensures worn { IfErr result
+            (λ e. IsWornOut (has_pass self.now) is_worn known (known pass) e.1) }
         ensures worn_back { IfErr result (λ e. (e.2 ≡ job) × (e.3 ≡ outcome)) }
         ensures late { is_worn pass → IsErr result };
 
-    /// Stops the gate: from then on `offer`, `end`, `take` and `finish` answer so, and change nothing. The journal stays as it is.
+    /// Stops the gate. From then on `offer`, `end`, `take` and `finish` report that it is stopped and change nothing. The
+    /// journal is not changed.
     fn stop<R: Wait>(&self, rt: &R, pass: Self::Pass) -> Result<Self::Pass, (Worn, Self::Pass)>
         requires { has_pass self.now pass }
         ensures served { IfOk result (IsServed (has_pass self.now) known (known pass)) }
         ensures stopped { IfOk result (λ p. Went Stops (known p)) }
-        ensures worn { IfErr result (λ e. IsWornOut (has_pass self.now) is_worn known (known pass) e.1) }
+        ensures worn { IfErr result
+            (λ e. IsWornOut (has_pass self.now) is_worn known (known pass) e.1) }
         ensures late { is_worn pass → IsErr result };
 
-    /// How far the gate is.
+    /// Returns the progress of the gate.
     fn counts<R: Wait>(
         &self,
         rt: &R,
@@ -143,7 +144,10 @@ pub trait Gate {
     ) -> Result<(Counts, Self::Pass), (Worn, Self::Pass)>
         requires { has_pass self.now pass }
         ensures served { IfOk result (λ r. IsServed (has_pass self.now) known (known pass) r.1) }
-        ensures reply { IfOk result (λ r. Went (λ old new. (new ≡ old) × AreCounts old r.0.accepted r.0.ended r.0.decided r.0.closed r.0.stopped) (known r.1)) }
-        ensures worn { IfErr result (λ e. IsWornOut (has_pass self.now) is_worn known (known pass) e.1) }
+        ensures reply { IfOk result
+            (λ r. Went (λ old new. (new ≡ old) × AreCounts old r.0.accepted r.0.ended r.0.decided
+            r.0.closed r.0.stopped) (known r.1)) }
+        ensures worn { IfErr result
+            (λ e. IsWornOut (has_pass self.now) is_worn known (known pass) e.1) }
         ensures late { is_worn pass → IsErr result };
 }

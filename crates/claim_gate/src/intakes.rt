@@ -1,4 +1,4 @@
-//! How far the providers' files are accepted.
+//! How many claims of each provider's file are accepted.
 ghost use Rattle.std.specs.Prelude.{◌≡◌, ◌+◌, ◌<◌, ◌^◌, false, IfOk, count_by, replicate};
 ghost use Rattle.std.specs.List.{list_all};
 ghost use Rattle.claim_gate.specs.Intakes.{intake_of, none_yet, with_accept, with_end};
@@ -6,16 +6,16 @@ ghost use Rattle.claim_gate.specs.Intakes.{intake_of, none_yet, with_accept, wit
 use std::alloc::{AllocError, Global};
 use std::marker::Model;
 
-/// How far a provider's file is accepted.
+/// The progress of a provider's file.
 #[derive(Clone, Copy, PartialEq, Eq, Drop)]
 pub struct Intake {
-    /// How many of its claims are accepted.
+    /// The number of its accepted claims.
     pub accepted: usize,
     /// Whether the provider has ended.
     pub ended: bool,
 }
 
-/// How far each provider's file is accepted. Contracts see the list, in the order of the providers, which count from 1.
+/// The progress of each provider's file. Contracts see it as the list by provider. Providers count from 1.
 #[derive(Drop)]
 pub struct Intakes {
     each: Vec<Intake>,
@@ -34,7 +34,7 @@ impl Model for Intakes {
 }
 
 impl Intakes {
-    /// Those of so many providers, of which nothing is accepted yet.
+    /// Creates the progress of the given number of providers, none of whose claims is accepted.
     pub fn new(alloc: Global, providers: usize) -> Result<Intakes, AllocError>
         ensures { IfOk result (λ made. made ≡ replicate providers none_yet) }
     {
@@ -48,14 +48,14 @@ impl Intakes {
         })
     }
 
-    /// How many claims of a provider are accepted; none, where there is no such provider.
+    /// Returns the number of accepted claims of a provider, which is 0 where there is no such provider.
     pub fn accepted_count(&self, provider: usize) -> usize
         ensures { result ≡ (intake_of self.now provider).accepted }
     {
         self.of(provider).accepted
     }
 
-    /// Whether a provider has ended; also where there is no such provider.
+    /// Returns whether a provider has ended. It is true where there is no such provider.
     pub fn is_ended(&self, provider: usize) -> bool
         ensures { result ≡ (intake_of self.now provider).ended }
     {
@@ -74,7 +74,7 @@ impl Intakes {
         }
     }
 
-    /// One claim more of a provider is accepted.
+    /// Counts one more accepted claim of a provider.
     pub fn accept(&mut self, provider: usize)
         requires { (intake_of self.old provider).accepted + 1 < 2 ^ 64 }
         ensures { self.new ≡ with_accept self.old provider }
@@ -86,7 +86,7 @@ impl Intakes {
         }
     }
 
-    /// A provider ends that hasn't ended yet.
+    /// Ends a provider that has not ended yet.
     pub fn end(&mut self, provider: usize)
         requires { (intake_of self.old provider).ended ≡ false }
         ensures { self.new ≡ with_end self.old provider }
@@ -96,14 +96,14 @@ impl Intakes {
         self.ended += 1;
     }
 
-    /// How many providers have ended.
+    /// Returns the number of providers that have ended.
     pub fn ended_count(&self) -> usize
         ensures { result ≡ count_by (λ x. x.ended) self.now }
     {
         self.ended
     }
 
-    /// Whether all providers have ended.
+    /// Returns whether all providers have ended.
     pub fn all_ended(&self) -> bool
         ensures { result ≡ list_all (λ x. x.ended) self.now }
     {

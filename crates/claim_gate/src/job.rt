@@ -1,23 +1,23 @@
-//! Work on claims.
+//! Claims that are being decided.
 ghost use Rattle.std.specs.Prelude.{◌≡◌, IfOk};
 
 use lanes::BoxedClaim;
 use settlement::Acc;
 use std::alloc::{AllocError, Global};
 
-/// A claim to be decided.
+/// A claim that the caller is to decide.
 #[derive(Drop)]
 pub struct Job {
-    /// The claim's position: how many claims were accepted before it.
+    /// The claim's position, which is the number of claims that were accepted before it.
     pub position: usize,
     /// The claim.
     pub claim: BoxedClaim,
-    /// Its account's accumulators, as the earlier claims of its family left them.
+    /// Its account's accumulators after the earlier claims of its family.
     pub acc: Acc,
 }
 
 impl Job {
-    /// A copy, in memory of its own: for a second try.
+    /// Copies the job into new memory, so that its decision can be repeated.
     pub fn again(&self, alloc: Global) -> Result<Job, AllocError>
         ensures { IfOk result (λ copy. copy ≡ self.now) }
     {

@@ -1,17 +1,17 @@
-//! The gate of a run: it accepts the providers' claims, hands each out when its family's turn comes, and keeps the journal.
+//! The gate of a run accepts the providers' claims, hands each one out when its family's earlier claims are decided, and
+//! keeps the journal.
 //!
-//! A `GateState` is the gate as one thread sees it. `offer` and `end` are the calls of those who read the providers' files,
-//! `take` and `finish` those of who decides claims; `stop` ends all that. Its journal is lawful, always. A `Batch` is a run
-//! whose journal is finished. Terms come from `terms.rt`, the families' turns from `lanes`, and what journals and the
-//! calls are from `journal`. A `LockedGate` is such a gate behind a lock from `turn_lock`, and `Gate` is what each of the
-//! callers that share it sees of it.
+//! A `GateState` is the gate as a single thread uses it. An intake, which reads a provider's file, calls `offer` and `end`; a
+//! worker, which decides claims, calls `take` and `finish`; `stop` ends the run. The journal is always valid. A `Batch` is a
+//! run whose journal is finished. A `LockedGate` protects a `GateState` with a lock from `turn_lock`, and the trait `Gate` has
+//! the calls of its users. `lanes` orders the claims of a family, and `journal` defines journals and the calls.
 //!
-//! `Terms::new` takes a plan, the texts of the providers' files, the text of the balances and a cutoff, and gives their `Terms`, or the first
-//! `TermsFault`: `specs/Terms.antt` says what terms are and what journals see of them, and `specs/TermsFault.antt` what each fault means.
+//! `Terms::new` takes a plan, the texts of the providers' files, the text of the balances and a cutoff, and returns their
+//! `Terms`, or the first `TermsFault`. `specs/Terms.antt` defines terms, and `specs/TermsFault.antt` defines each fault.
 //!
-//! Begin with `specs/Parts.antt` and `specs/Replies.antt`, which tie the calls to what `journal` says of them; then read
-//! `state.rt`. What the gate keeps so that no call walks the journal stands in `specs/GateIndex.antt`. For the shared gate read
-//! `specs/Shared.antt`, then `gate.rt` and `locked.rt`.
+//! Begin with `specs/Parts.antt` and `specs/Replies.antt`, which relate the calls to the definitions of `journal`; then read
+//! `state.rt`. `specs/GateIndex.antt` defines the indexes that save each call from a walk over the journal. For the shared gate
+//! read `specs/Shared.antt`, then `gate.rt` and `locked.rt`.
 #![tactic(auto)]
 
 mod batch;
@@ -23,6 +23,7 @@ mod job;
 mod laws;
 mod locked;
 mod offer;
+mod prefetching;
 mod reply;
 mod serial;
 mod state;
@@ -39,6 +40,7 @@ pub use lanes::BoxedClaim;
 pub use laws::claim_lists_exist;
 pub use locked::LockedGate;
 pub use offer::Offer;
+pub use prefetching::{Prefetching, SerialPrefetching};
 pub use reply::{Accepted, Ended, Recorded, Taken};
 pub use serial::SerialGate;
 pub use state::GateState;

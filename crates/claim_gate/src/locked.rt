@@ -1,4 +1,4 @@
-//! The gate behind a lock.
+//! The gate that a lock protects.
 ghost use Rattle.std.specs.Prelude.{◌≡◌, ◌⊎◌, IfOk, IfErr, IsErr};
 ghost use Rattle.journal.specs.Gate.{LeadsTo};
 ghost use Rattle.claim_gate.specs.Shared.{IsLawful};
@@ -9,6 +9,7 @@ use crate::fault::{EndFault, FinishFault, OfferFault, TakeFault};
 use crate::gate::Gate;
 use crate::job::Job;
 use crate::offer::Offer;
+use crate::prefetching::{Prefetching, SerialPrefetching};
 use crate::reply::{Accepted, Ended, Recorded, Taken};
 use crate::serial::SerialGate;
 use journal::{BoxedOutcome, jobs_are_stable};
@@ -16,7 +17,7 @@ use lanes::BoxedClaim;
 use std::sync::Wait;
 use turn_lock::{Pass, Section, TicketLock, Worn};
 
-/// A gate of one thread behind a lock. Its passes are the lock's, and each call is one section.
+/// A sequential gate that is protected by a lock. Its passes are those of the lock, and each call is one critical section.
 #[derive(Drop)]
 pub struct LockedGate<S: Section> {
     lock: S,
@@ -26,27 +27,32 @@ impl<S: Section> LockedGate<S>
 where
     S::Value: SerialGate,
 {
-    /// The gate over a lock. Its passes are the lock's.
+    /// Creates the gate over a lock.
     pub fn over(lock: S) -> LockedGate<S>
         ensures { lock_of result ≡ lock }
     {
         LockedGate { lock }
     }
 
-    /// Takes the gate of one thread out of the lock, as the pass's next section finds it: no later call of any pass is served.
-    /// `Worn` has changed nothing, and the pass knows what it knew.
+    /// Takes the sequential gate out of the lock, in the state that the pass's next section finds. No later call of any pass is
+    /// served. `Worn` changes nothing, and the pass still knows what it knew.
     pub fn retire<R: Wait>(&self, rt: &R, pass: S::Pass) -> Result<S::Value, (Worn, S::Pass)>
         requires { S.has_pass (lock_of self.now) pass }
-        ensures fresh { IfOk result (λ gate. LeadsTo (S.Value.shown (S.seen pass)) (S.Value.shown gate)) }
+        ensures fresh { IfOk result
+            (λ gate. LeadsTo (S.Value.shown (S.seen pass)) (S.Value.shown gate)) }
         ensures lawful { IfOk result (λ gate. IsLawful (S.Value.shown gate)) }
-        ensures found { IfOk result (λ gate. (holder : S.Holder) × S.has_holder (lock_of self.now) holder × (S.found holder ≡ gate) × (S.tally_before holder ≡ S.tally pass)) }
+        ensures found { IfOk result
+            (λ gate. (holder : S.Holder) × S.has_holder (lock_of self.now) holder
+            × (S.found holder ≡ gate) × (S.tally_before holder ≡ S.tally pass)) }
         ensures worn { IfErr result (λ e. S.is_worn e.1) }
-        ensures back { IfErr result (λ e. S.has_pass (lock_of self.now) e.1 × (S.seen e.1 ≡ S.seen pass) × (S.tally e.1 ≡ S.tally pass) × (S.last_found e.1 ≡ S.last_found pass)) }
+        ensures back { IfErr result
+            (λ e. S.has_pass (lock_of self.now) e.1 × (S.seen e.1 ≡ S.seen pass)
+            × (S.tally e.1 ≡ S.tally pass) × (S.last_found e.1 ≡ S.last_found pass)) }
         ensures late { S.is_worn pass → IsErr result }
     {
         match self.lock.lock(rt, pass) {
             Ok((state, holder)) => {
-                // Known from here: the journal that is left is lawful.
+                // proof: the journal that the section found is valid.
                 let _lawful = state.journal();
                 Ok(self.lock.retire(holder, state))
             }
@@ -59,16 +65,18 @@ impl<V: SerialGate> LockedGate<TicketLock<V>> {
     ghost use Rattle.turn_lock.specs.TicketShown.{IsPassOf, IsWornPass, pass_knows};
     ghost use Rattle.claim_gate.specs.Shared.{HaveMet};
 
-    /// Makes what two passes have seen one: both have then seen the later of the two states, whose journal the other's begins.
-    /// The tally of both, and the state that their last section found, are the first's. Where one of them was worn, both are.
+    /// Combines what two passes have seen. Afterwards both have seen the later of the two states, whose journal continues that
+    /// of the other. Both have the first pass's tally and the state that its last section found. Both are worn where one was.
     ///
-    /// It ends no section, waits for nobody and takes no memory. Nothing says that what both have seen then is the newest state.
+    /// The call is no section, waits for no one and allocates no memory. The state that both have seen need not be the newest.
     pub fn meet(&self, one: Pass<V>, other: Pass<V>) -> (Pass<V>, Pass<V>)
         requires { IsPassOf (lock_of self.now) one × IsPassOf (lock_of self.now) other }
         ensures own { IsPassOf (lock_of self.now) result.0 × IsPassOf (lock_of self.now) result.1 }
-        ensures met { HaveMet (known_by V.shown (pass_knows one)) (known_by V.shown (pass_knows other)) (known_by V.shown (pass_knows result.0)) }
+        ensures met { HaveMet (known_by V.shown (pass_knows one))
+            (known_by V.shown (pass_knows other)) (known_by V.shown (pass_knows result.0)) }
         ensures same { pass_knows result.1 ≡ pass_knows result.0 }
-        ensures worn { IsWornPass one ⊎ IsWornPass other → IsWornPass result.0 × IsWornPass result.1 }
+        ensures worn { IsWornPass one ⊎ IsWornPass other → IsWornPass result.0
+            × IsWornPass result.1 }
     {
         self.lock.meet(one, other)
     }
@@ -99,29 +107,12 @@ where
     ) -> Result<(Result<Accepted, (OfferFault, Offer)>, S::Pass), (Worn, S::Pass, Offer)> {
         match self.lock.lock(rt, pass) {
             Ok((mut state, holder)) => {
-                // Known from here: the journal that is left is lawful.
+                // proof: the journal that the section found is valid.
                 let _lawful = state.journal();
                 let reply = state.offer(offer);
                 Ok((reply, self.lock.leave(holder, state)))
             }
             Err((worn, pass)) => Err((worn, pass, offer)),
-        }
-    }
-
-    fn prefetch<R: Wait>(
-        &self,
-        rt: &R,
-        pass: S::Pass,
-        claims: &[BoxedClaim],
-    ) -> Result<S::Pass, (Worn, S::Pass)> {
-        match self.lock.lock(rt, pass) {
-            Ok((mut state, holder)) => {
-                // Known from here: the journal that is left is lawful.
-                let _lawful = state.journal();
-                state.prefetch(claims);
-                Ok(self.lock.leave(holder, state))
-            }
-            Err(worn) => Err(worn),
         }
     }
 
@@ -134,7 +125,7 @@ where
     ) -> Result<(Result<Ended, EndFault>, S::Pass), (Worn, S::Pass)> {
         match self.lock.lock(rt, pass) {
             Ok((mut state, holder)) => {
-                // Known from here: the journal that is left is lawful.
+                // proof: the journal that the section found is valid.
                 let _lawful = state.journal();
                 let reply = state.end(provider, count);
                 Ok((reply, self.lock.leave(holder, state)))
@@ -150,7 +141,7 @@ where
     ) -> Result<(Result<Taken, TakeFault>, S::Pass), (Worn, S::Pass)> {
         match self.lock.lock(rt, pass) {
             Ok((mut state, holder)) => {
-                // Known from here: the journal that is left is lawful.
+                // proof: the journal that the section found is valid.
                 let _lawful = state.journal();
                 let reply = state.take();
                 Ok((reply, self.lock.leave(holder, state)))
@@ -169,11 +160,11 @@ where
         (Result<Recorded, (FinishFault, Job, BoxedOutcome)>, S::Pass),
         (Worn, S::Pass, Job, BoxedOutcome),
     > {
-        // Known from here: a job stays one in each later state of the gate.
+        // proof: a job is a job in every later state of the gate.
         jobs_are_stable();
         match self.lock.lock(rt, pass) {
             Ok((mut state, holder)) => {
-                // Known from here: the journal that is left is lawful.
+                // proof: the journal that the section found is valid.
                 let _lawful = state.journal();
                 let reply = state.finish(job, outcome);
                 Ok((reply, self.lock.leave(holder, state)))
@@ -185,7 +176,7 @@ where
     fn stop<R: Wait>(&self, rt: &R, pass: S::Pass) -> Result<S::Pass, (Worn, S::Pass)> {
         match self.lock.lock(rt, pass) {
             Ok((mut state, holder)) => {
-                // Known from here: the journal that is left is lawful.
+                // proof: the journal that the section found is valid.
                 let _lawful = state.journal();
                 state.stop();
                 Ok(self.lock.leave(holder, state))
@@ -197,10 +188,33 @@ where
     fn counts<R: Wait>(&self, rt: &R, pass: S::Pass) -> Result<(Counts, S::Pass), (Worn, S::Pass)> {
         match self.lock.lock(rt, pass) {
             Ok((state, holder)) => {
-                // Known from here: the journal that is left is lawful.
+                // proof: the journal that the section found is valid.
                 let _lawful = state.journal();
                 let counts = state.counts();
                 Ok((counts, self.lock.leave(holder, state)))
+            }
+            Err(worn) => Err(worn),
+        }
+    }
+}
+
+impl<S: Section> Prefetching for LockedGate<S>
+where
+    S::Value: SerialPrefetching,
+    S::Pass: Send + Drop,
+{
+    fn prefetch<R: Wait>(
+        &self,
+        rt: &R,
+        pass: S::Pass,
+        claims: &[BoxedClaim],
+    ) -> Result<S::Pass, (Worn, S::Pass)> {
+        match self.lock.lock(rt, pass) {
+            Ok((mut state, holder)) => {
+                // proof: the journal that the section found is valid.
+                let _lawful = state.journal();
+                state.prefetch(claims);
+                Ok(self.lock.leave(holder, state))
             }
             Err(worn) => Err(worn),
         }

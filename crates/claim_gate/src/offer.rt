@@ -1,13 +1,13 @@
-//! Claims, as they are offered.
+//! Offers of claims.
 
 use lanes::BoxedClaim;
 
-/// A claim that is offered: that of a provider, which count from 1, at a place among the claims of its file, from 0.
+/// An offer of a provider's claim. Providers count from 1.
 #[derive(Drop)]
 pub struct Offer {
     /// The provider.
     pub provider: usize,
-    /// The claim's place among the claims of the provider's file.
+    /// The claim's place among the claims of the provider's file, from 0.
     pub place: usize,
     /// The claim.
     pub claim: BoxedClaim,

@@ -1,35 +1,35 @@
-//! What the calls of a gate answer where they aren't refused.
+//! The results of a gate's calls that are not refused.
 
 use crate::job::Job;
 use lanes::BoxedClaim;
 
-/// The claim is accepted.
+/// The result of an accepted claim.
 #[derive(Clone, Copy, PartialEq, Eq, Drop)]
 pub struct Accepted {
-    /// Its position: how many claims were accepted before it.
+    /// The claim's position, which is the number of claims that were accepted before it.
     pub position: usize,
 }
 
-/// The provider has ended.
+/// The result of an ended provider.
 #[derive(Clone, Copy, PartialEq, Eq, Drop)]
 pub struct Ended;
 
-/// What there is to do.
+/// What a worker has to do.
 #[derive(Drop)]
 pub enum Taken {
     /// The gate is stopped.
     Stopped,
-    /// The journal is finished: nothing is left to do.
+    /// The journal is finished, so nothing is left to do.
     Over,
-    /// No claim may be taken now.
+    /// No claim can be taken now.
     NothingReady,
     /// A claim to be decided.
     Work(Job),
 }
 
-/// The decision is recorded.
+/// The result of a recorded decision.
 #[derive(Drop)]
 pub struct Recorded {
-    /// The claim that is decided: who had it lets it go, out of the section.
+    /// The decided claim. The caller drops it after the critical section.
     pub claim: BoxedClaim,
 }

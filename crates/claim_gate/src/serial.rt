@@ -1,9 +1,10 @@
-//! The calls of a gate of one thread, for whoever keeps such a gate behind a lock.
+//! The calls of a sequential gate, for code that is generic over the gate that a lock protects.
 
 use crate::counts::Counts;
 use crate::fault::{EndFault, FinishFault, OfferFault, TakeFault};
 use crate::job::Job;
 use crate::offer::Offer;
+use crate::prefetching::SerialPrefetching;
 use crate::reply::{Accepted, Ended, Recorded, Taken};
 use crate::state::GateState;
 use journal::{BoxedOutcome, Event};
@@ -23,8 +24,8 @@ impl<'t> Growing for GateState<'t> {
     ghost ordered = { leads_either };
 }
 
-/// A gate of one thread. `GateState` is one; a lock's code names the calls alone, since a value that borrows its terms can't
-/// be named there.
+/// A sequential gate, such as `GateState`. Generic code uses this trait because a `GateState` borrows its terms, and a type
+/// that borrows can't be named there.
 pub trait SerialGate: Growing {
     ghost use Rattle.std.specs.Prelude.{◌≡◌, true, IfOk, IfErr};
     ghost use Rattle.journal.specs.Terms.{Terms as AnyTerms};
@@ -37,70 +38,73 @@ pub trait SerialGate: Growing {
     ghost use Rattle.journal.specs.Gate.{LeadsTo};
     ghost use Rattle.claim_gate.specs.Shared.{InTurn, IsLawful, IsOrdered};
 
-    // Its terms, its journal, and whether it is stopped.
+    // The gate as contracts see it: its terms, its journal, and whether it is stopped.
     ghost shown: { Self → GateParts };
 
-    /// The journal.
+    /// Returns the journal, as `GateState::journal` does.
     fn journal(&self) -> &[Event]
         ensures journal { result.now ≡ (shown self.now).journal }
         ensures lawful { IsLawful (shown self.now) }
         ensures ordered { IsOrdered (shown self.now) };
 
-    /// `GateState::offer`.
+    /// Offers a claim, as `GateState::offer` does.
     fn offer(&mut self, offer: Offer) -> Result<Accepted, (OfferFault, Offer)>
         requires filed { ForTerms (shown self.old).terms (λ T. IsFiled T offer) }
         requires in_order { InTurn (shown self.old) offer.provider }
         ensures grown { Self.leads self.old self.new }
-        ensures reply { ForTerms (shown self.old).terms (λ T. Offers (at T (shown self.old)) offer.provider offer.place (offer_reply result) (at T (shown self.new))) }
+        ensures reply { ForTerms (shown self.old).terms
+            (λ T. Offers (at T (shown self.old)) offer.provider offer.place (offer_reply result)
+            (at T (shown self.new))) }
         ensures lawful { IsLawful (shown self.new) }
         ensures back { IfErr result (λ refused. refused.1 ≡ offer) };
 
-    /// `GateState::prefetch`.
-    fn prefetch(&mut self, claims: &[BoxedClaim])
-        ensures grown { Self.leads self.old self.new }
-        ensures same { shown self.new ≡ shown self.old }
-        ensures lawful { IsLawful (shown self.new) };
-
-    /// `GateState::end`.
+    /// Ends a provider, as `GateState::end` does.
     fn end(&mut self, provider: usize, count: usize) -> Result<Ended, EndFault>
         requires { ForTerms (shown self.old).terms (λ T. HasClaims T provider count) }
         ensures grown { Self.leads self.old self.new }
-        ensures reply { ForTerms (shown self.old).terms (λ T. Ends (at T (shown self.old)) provider count (end_reply result) (at T (shown self.new))) }
+        ensures reply { ForTerms (shown self.old).terms
+            (λ T. Ends (at T (shown self.old)) provider count (end_reply result)
+            (at T (shown self.new))) }
         ensures lawful { IsLawful (shown self.new) };
 
-    /// `GateState::take`.
+    /// Takes a claim, as `GateState::take` does.
     fn take(&mut self) -> Result<Taken, TakeFault>
         ensures grown { Self.leads self.old self.new }
-        ensures reply { ForTerms (shown self.old).terms (λ T. Takes (at T (shown self.old)) (take_reply result) (at T (shown self.new))) }
+        ensures reply { ForTerms (shown self.old).terms
+            (λ T. Takes (at T (shown self.old)) (take_reply result) (at T (shown self.new))) }
         ensures work { IfOk result (IsWorkOf (shown self.old) (shown self.new)) }
         ensures lawful { IsLawful (shown self.new) };
 
-    /// `GateState::finish`.
+    /// Records an outcome, as `GateState::finish` does.
     fn finish(
         &mut self,
         job: Job,
         outcome: BoxedOutcome,
     ) -> Result<Recorded, (FinishFault, Job, BoxedOutcome)>
         requires in_work { has_take (shown self.old).journal job.position ≡ true }
-        requires job { ForTerms (shown self.old).terms (λ T. IsJob T (shown self.old).journal job.position job.claim job.acc) }
+        requires job { ForTerms (shown self.old).terms
+            (λ T. IsJob T (shown self.old).journal job.position job.claim job.acc) }
         requires settled { outcome ≡ outcome_of (shown self.old).terms.plan job.claim job.acc }
         ensures grown { Self.leads self.old self.new }
-        ensures reply { ForTerms (shown self.old).terms (λ T. Finishes (at T (shown self.old)) job.position outcome (finish_reply result) (at T (shown self.new))) }
+        ensures reply { ForTerms (shown self.old).terms
+            (λ T. Finishes (at T (shown self.old)) job.position outcome (finish_reply result)
+            (at T (shown self.new))) }
         ensures lawful { IsLawful (shown self.new) }
         ensures claim { IfOk result (λ recorded. recorded.claim ≡ job.claim) }
         ensures back { IfErr result (λ refused. (refused.1 ≡ job) × (refused.2 ≡ outcome)) };
 
-    /// `GateState::stop`.
+    /// Stops the gate, as `GateState::stop` does.
     fn stop(&mut self)
         ensures grown { Self.leads self.old self.new }
         ensures stopped { shown self.new ≡ record (shown self.old) { stopped = true } }
         ensures lawful { IsLawful (shown self.new) };
 
-    /// `GateState::counts`.
+    /// Returns the progress of the gate, as `GateState::counts` does.
     fn counts(&self) -> Counts
-        ensures { (T : AnyTerms) → AreCounts (at T (shown self.now)) result.accepted result.ended result.decided result.closed result.stopped };
+        ensures { (T : AnyTerms) → AreCounts (at T (shown self.now)) result.accepted result.ended
+            result.decided result.closed result.stopped };
 
-    // What leads to another state does so as contracts see the two.
+    // A state that leads to another one also does so as contracts see the two.
     ghost shows: { (earlier later : Self) → Self.leads earlier later → LeadsTo (shown earlier) (shown later) };
 }
 
@@ -115,10 +119,6 @@ impl<'t> SerialGate for GateState<'t> {
 
     fn offer(&mut self, offer: Offer) -> Result<Accepted, (OfferFault, Offer)> {
         self.offer(offer)
-    }
-
-    fn prefetch(&mut self, claims: &[BoxedClaim]) {
-        self.prefetch(claims);
     }
 
     fn end(&mut self, provider: usize, count: usize) -> Result<Ended, EndFault> {
@@ -146,7 +146,7 @@ impl<'t> SerialGate for GateState<'t> {
     }
 }
 
-// A gate on the heap goes in and out of a lock as one pointer.
+// A lock moves a gate on the heap as one pointer.
 impl<V: SerialGate> SerialGate for Box<V> {
     ghost shown = { λ gate. V.shown gate.value };
 
@@ -158,10 +158,6 @@ impl<V: SerialGate> SerialGate for Box<V> {
 
     fn offer(&mut self, offer: Offer) -> Result<Accepted, (OfferFault, Offer)> {
         (**self).offer(offer)
-    }
-
-    fn prefetch(&mut self, claims: &[BoxedClaim]) {
-        (**self).prefetch(claims);
     }
 
     fn end(&mut self, provider: usize, count: usize) -> Result<Ended, EndFault> {
@@ -186,5 +182,17 @@ impl<V: SerialGate> SerialGate for Box<V> {
 
     fn counts(&self) -> Counts {
         (**self).counts()
+    }
+}
+
+impl<'t> SerialPrefetching for GateState<'t> {
+    fn prefetch(&mut self, claims: &[BoxedClaim]) {
+        self.prefetch(claims);
+    }
+}
+
+impl<V: SerialPrefetching> SerialPrefetching for Box<V> {
+    fn prefetch(&mut self, claims: &[BoxedClaim]) {
+        (**self).prefetch(claims);
     }
 }

@@ -1,4 +1,4 @@
-//! The gate of one thread.
+//! The sequential gate.
 ghost use Rattle.std.specs.Prelude.{◌≡◌, ◌+◌, ◌<◌, ◌≤◌, ◌≢◌, ◌↔◌, ◌++◌, ◌∷◌, [], true, false, cond, IsTrue, length, vec_len, vec_capacity, IfOk, IfErr, OnOk, OnErr};
 ghost use Rattle.settlement.specs.Opening.{opening};
 ghost use Rattle.journal.specs.Terms.{Terms as AnyTerms};
@@ -30,9 +30,9 @@ use settlement::{Acc, account_year, after};
 use std::alloc::{AllocError, Global};
 use std::marker::Model;
 
-/// A gate of one thread: its terms, its journal, which is lawful, and whether it is stopped.
+/// The sequential gate: its terms, its journal, which is always valid, and whether it is stopped.
 ///
-/// Each call makes all its growths before its first change, so that a refused one has changed nothing; none walks the
+/// Each call makes all its allocations before its first change, so that a refused call changes nothing. No call walks the
 /// journal, the claims or the families.
 pub struct GateState<'t> {
     terms: &'t Terms<'t>,
@@ -70,11 +70,15 @@ impl<'t> Model for GateState<'t> {
 }
 
 impl<'t> GateState<'t> {
-    /// A gate that nothing was offered yet. With cutoff 0 it is closed at once.
+    /// Creates a gate without claims. With cutoff 0 it is closed from the start.
     pub fn new(alloc: Global, terms: &'t Terms) -> Result<GateState<'t>, AllocError>
-        ensures { IfOk result (λ made. made ≡ record { terms = terms.now; journal = first_journal terms.now.cutoff; stopped = false }) }
+        ensures { IfOk result (λ made. made ≡ record {
+          terms = terms.now;
+          journal = first_journal terms.now.cutoff;
+          stopped = false;
+        }) }
     {
-        // Known from here: the journal of no event is lawful.
+        // proof: the empty journal is valid.
         empty_journal_is_lawful();
         let mut journal = Vec::new(alloc);
         journal.reserve(1)?;
@@ -91,7 +95,7 @@ impl<'t> GateState<'t> {
         })
     }
 
-    /// The journal.
+    /// Returns the journal.
     pub fn journal(&self) -> &[Event]
         ensures journal { result.now ≡ self.now.journal }
         ensures lawful { IsLawful self.now }
@@ -100,7 +104,7 @@ impl<'t> GateState<'t> {
         &self.journal
     }
 
-    /// The journal alone.
+    /// Returns the journal and drops the rest of the gate.
     pub fn into_journal(self) -> Vec<Event>
         ensures journal { result.items ≡ self.entry.journal }
         ensures lawful { IsLawful self.entry }
@@ -117,11 +121,13 @@ impl<'t> GateState<'t> {
         journal
     }
 
-    /// Offers a claim: it is accepted where it is its provider's next. The offer comes back where it is refused.
+    /// Offers a claim, which is accepted if it is its provider's next one. Returns the offer where it is refused.
     pub fn offer(&mut self, offer: Offer) -> Result<Accepted, (OfferFault, Offer)>
         requires filed { ForTerms self.old.terms (λ T. IsFiled T offer) }
         requires in_order { InTurn self.old offer.provider }
-        ensures reply { ForTerms self.old.terms (λ T. Offers (at T self.old) offer.provider offer.place (offer_reply result) (at T self.new)) }
+        ensures reply { ForTerms self.old.terms
+            (λ T. Offers (at T self.old) offer.provider offer.place (offer_reply result)
+            (at T self.new)) }
         ensures lawful { IsLawful self.new }
         ensures leads { LeadsTo self.old self.new }
         ensures back { IfErr result (λ refused. refused.1 ≡ offer) }
@@ -140,20 +146,22 @@ impl<'t> GateState<'t> {
         self.accept(offer)
     }
 
-    // Accepts the next claim of a provider.
     fn accept(&mut self, offer: Offer) -> Result<Accepted, (OfferFault, Offer)>
         requires runs { self.old.stopped ≡ false }
         requires open_yet { closed self.old.journal ≡ false }
         requires filed { ForTerms self.old.terms (λ T. IsFiled T offer) }
-        requires in_turn { ForTerms self.old.terms (λ T. offer.place ≡ length (places self.old.journal offer.provider)) }
+        requires in_turn { ForTerms self.old.terms
+            (λ T. offer.place ≡ length (places self.old.journal offer.provider)) }
         requires in_order { InTurn self.old offer.provider }
-        ensures reply { ForTerms self.old.terms (λ T. Offers (at T self.old) offer.provider offer.place (offer_reply result) (at T self.new)) }
+        ensures reply { ForTerms self.old.terms
+            (λ T. Offers (at T self.old) offer.provider offer.place (offer_reply result)
+            (at T self.new)) }
         ensures lawful { IsLawful self.new }
         ensures leads { LeadsTo self.old self.new }
         ensures back { IfErr result (λ refused. refused.1 ≡ offer) }
         ensures refused { OnErr result (self.new ≡ self.old) }
     {
-        // Known from here: from a lawful journal each call goes to a lawful one, and an accept in turn leaves the order.
+        // proof: each call keeps the journal valid, and an acceptance in turn keeps the order of the files.
         gate_keeps_lawful();
         acceptance_stays_in_order();
         if self.journal.reserve(2).is_err() {
@@ -182,7 +190,7 @@ impl<'t> GateState<'t> {
         Ok(Accepted { position })
     }
 
-    /// Reads what these claims will need when they are offered, many at once, so that each offer finds it at hand. Nothing changes.
+    /// Prefetches into the cache what the offers of these claims will read. The gate doesn't change.
     pub fn prefetch(&mut self, claims: &[BoxedClaim])
         ensures same { self.new ≡ self.old }
         ensures lawful { IsLawful self.new }
@@ -190,15 +198,16 @@ impl<'t> GateState<'t> {
         self.lanes.prefetch(claims);
     }
 
-    /// Ends a provider whose claims, so many, are all accepted.
+    /// Ends a provider of which all `count` claims are accepted.
     pub fn end(&mut self, provider: usize, count: usize) -> Result<Ended, EndFault>
         requires { ForTerms self.old.terms (λ T. HasClaims T provider count) }
-        ensures reply { ForTerms self.old.terms (λ T. Ends (at T self.old) provider count (end_reply result) (at T self.new)) }
+        ensures reply { ForTerms self.old.terms
+            (λ T. Ends (at T self.old) provider count (end_reply result) (at T self.new)) }
         ensures lawful { IsLawful self.new }
         ensures leads { LeadsTo self.old self.new }
         ensures refused { OnErr result (self.new ≡ self.old) }
     {
-        // Known from here: from a lawful journal each call goes to a lawful one.
+        // proof: each call keeps the journal valid.
         gate_keeps_lawful();
         if self.stopped {
             return Err(EndFault::Stopped);
@@ -223,15 +232,16 @@ impl<'t> GateState<'t> {
         Ok(Ended)
     }
 
-    /// Takes a claim whose family's earlier claims are all decided.
+    /// Takes a claim for which all earlier claims of its family are decided.
     pub fn take(&mut self) -> Result<Taken, TakeFault>
-        ensures reply { ForTerms self.old.terms (λ T. Takes (at T self.old) (take_reply result) (at T self.new)) }
+        ensures reply { ForTerms self.old.terms
+            (λ T. Takes (at T self.old) (take_reply result) (at T self.new)) }
         ensures work { IfOk result (IsWorkOf self.old self.new) }
         ensures lawful { IsLawful self.new }
         ensures leads { LeadsTo self.old self.new }
         ensures refused { OnErr result (self.new ≡ self.old) }
     {
-        // Known from here: from a lawful journal each call goes to a lawful one.
+        // proof: each call keeps the journal valid.
         gate_keeps_lawful();
         if self.stopped {
             return Ok(Taken::Stopped);
@@ -255,19 +265,24 @@ impl<'t> GateState<'t> {
         }))
     }
 
-    /// Records the outcome of a job, whose claim comes back; both come back where it is refused.
+    /// Records the outcome of a job and returns the job's claim. Returns the job and the outcome where they are refused.
     pub fn finish(
         &mut self,
         job: Job,
         outcome: BoxedOutcome,
     ) -> Result<Recorded, (FinishFault, Job, BoxedOutcome)>
         requires in_work { has_take self.old.journal job.position ≡ true }
-        requires job { ForTerms self.old.terms (λ T. IsJob T self.old.journal job.position job.claim job.acc) }
+        requires job { ForTerms self.old.terms
+            (λ T. IsJob T self.old.journal job.position job.claim job.acc) }
         requires settled { outcome ≡ outcome_of self.old.terms.plan job.claim job.acc }
-        ensures reply { ForTerms self.old.terms (λ T. Finishes (at T self.old) job.position outcome (finish_reply result) (at T self.new)) }
+        ensures reply { ForTerms self.old.terms
+            (λ T. Finishes (at T self.old) job.position outcome (finish_reply result)
+            (at T self.new)) }
         ensures lawful { IsLawful self.new }
         ensures leads { LeadsTo self.old self.new }
-        ensures recorded { OnOk result (self.new ≡ record self.old { journal = self.old.journal ++ events.Decide job.position outcome ∷ [] }) }
+        ensures recorded { OnOk result (self.new ≡ record self.old {
+          journal = self.old.journal ++ events.Decide job.position outcome ∷ [];
+        }) }
         ensures claim { IfOk result (λ recorded. recorded.claim ≡ job.claim) }
         ensures back { IfErr result (λ refused. (refused.1 ≡ job) × (refused.2 ≡ outcome)) }
         ensures refused { OnErr result (self.new ≡ self.old) }
@@ -281,7 +296,6 @@ impl<'t> GateState<'t> {
         self.record(job, outcome)
     }
 
-    // Records the outcome of a claim in work.
     fn record(
         &mut self,
         job: Job,
@@ -290,17 +304,22 @@ impl<'t> GateState<'t> {
         requires runs { self.old.stopped ≡ false }
         requires once { has_decision self.old.journal job.position ≡ false }
         requires in_work { has_take self.old.journal job.position ≡ true }
-        requires job { ForTerms self.old.terms (λ T. IsJob T self.old.journal job.position job.claim job.acc) }
+        requires job { ForTerms self.old.terms
+            (λ T. IsJob T self.old.journal job.position job.claim job.acc) }
         requires settled { outcome ≡ outcome_of self.old.terms.plan job.claim job.acc }
-        ensures reply { ForTerms self.old.terms (λ T. Finishes (at T self.old) job.position outcome (finish_reply result) (at T self.new)) }
+        ensures reply { ForTerms self.old.terms
+            (λ T. Finishes (at T self.old) job.position outcome (finish_reply result)
+            (at T self.new)) }
         ensures lawful { IsLawful self.new }
         ensures leads { LeadsTo self.old self.new }
-        ensures recorded { OnOk result (self.new ≡ record self.old { journal = self.old.journal ++ events.Decide job.position outcome ∷ [] }) }
+        ensures recorded { OnOk result (self.new ≡ record self.old {
+          journal = self.old.journal ++ events.Decide job.position outcome ∷ [];
+        }) }
         ensures claim { IfOk result (λ recorded. recorded.claim ≡ job.claim) }
         ensures back { IfErr result (λ refused. (refused.1 ≡ job) × (refused.2 ≡ outcome)) }
         ensures refused { OnErr result (self.new ≡ self.old) }
     {
-        // Known from here: from a lawful journal each call goes to a lawful one.
+        // proof: each call keeps the journal valid.
         gate_keeps_lawful();
         let left = after(job.acc, outcome.outcome()).unwrap();
         if self.journal.reserve(1).is_err() {
@@ -315,7 +334,8 @@ impl<'t> GateState<'t> {
         Ok(Recorded { claim: job.claim })
     }
 
-    /// Stops the gate: from now on `offer`, `end`, `take` and `finish` answer so, and change nothing. The journal stays as it is.
+    /// Stops the gate. From then on `offer`, `end`, `take` and `finish` report that it is stopped and change nothing. The
+    /// journal is not changed.
     pub fn stop(&mut self)
         ensures stopped { self.new ≡ record self.old { stopped = true } }
         ensures lawful { IsLawful self.new }
@@ -323,9 +343,10 @@ impl<'t> GateState<'t> {
         self.stopped = true;
     }
 
-    /// How far the gate is.
+    /// Returns the progress of the gate.
     pub fn counts(&self) -> Counts
-        ensures { (T : AnyTerms) → AreCounts (at T self.now) result.accepted result.ended result.decided result.closed result.stopped }
+        ensures { (T : AnyTerms) → AreCounts (at T self.now) result.accepted result.ended
+            result.decided result.closed result.stopped }
     {
         Counts {
             accepted: self.lanes.len(),
@@ -336,7 +357,7 @@ impl<'t> GateState<'t> {
         }
     }
 
-    /// Whether the journal is closed, and each claim decided.
+    /// Returns whether the journal is closed and each accepted claim is decided.
     pub(crate) fn is_over(&self) -> bool
         ensures { IsTrue result ↔ IsOver self.now.journal }
     {
@@ -344,9 +365,12 @@ impl<'t> GateState<'t> {
     }
 }
 
-// What a claim that is picked is decided at. The terms are asked what its account begins with where that is a part of it alone.
+// Returns the accumulators at which a ready claim is decided. The opening balance is looked up only where the member or the
+// family has no earlier claim in the year.
 fn start_of(terms: &Terms, picked: &ReadyClaim) -> Acc
-    ensures { result ≡ started (opening (accounts_of terms.now.balances) (account_of terms.now.plan picked.now.claim)) picked.now.own picked.now.family_year }
+    ensures { result ≡ started
+        (opening (accounts_of terms.now.balances) (account_of terms.now.plan picked.now.claim))
+        picked.now.own picked.now.family_year }
 {
     if picked.has_begun() {
         return picked.start(Acc::zero());
@@ -355,11 +379,12 @@ fn start_of(terms: &Terms, picked: &ReadyClaim) -> Acc
     picked.start(opening)
 }
 
-// Puts the close behind the journal where it is due, and says whether it is.
+// Appends the close to the journal where it is due. Returns whether it is due.
 fn close_if_due(journal: &mut Vec<Event>, terms: &Terms, accepted: usize, intakes: &Intakes) -> bool
     requires { vec_len journal.old < vec_capacity journal.old }
     ensures due { result ≡ is_due terms.now accepted intakes.now }
-    ensures journal { journal.new.items ≡ cond result (journal.old.items ++ events.Close ∷ []) journal.old.items }
+    ensures journal { journal.new.items ≡ cond result
+        (journal.old.items ++ events.Close ∷ []) journal.old.items }
 {
     let due = is_reached(terms.cutoff(), accepted) || intakes.all_ended();
     if due {
@@ -368,14 +393,14 @@ fn close_if_due(journal: &mut Vec<Event>, terms: &Terms, accepted: usize, intake
     due
 }
 
-// Whether so many claims are as many as the cutoff admits.
+// Returns whether the number of accepted claims is the cutoff.
 fn is_reached(cutoff: Option<u64>, accepted: usize) -> bool
     ensures { result ≡ reached cutoff accepted }
 {
     cutoff == Some(accepted as u64)
 }
 
-// Puts an event behind the journal, which has room for it.
+// Appends an event to the journal, which has room for it.
 fn append(journal: &mut Vec<Event>, event: Event)
     requires { vec_len journal.old < vec_capacity journal.old }
     ensures items { journal.new.items ≡ journal.old.items ++ event ∷ [] }

@@ -1,5 +1,5 @@
-//! Terms: what a run is fixed over.
-ghost use Rattle.std.specs.Prelude.{◌≡◌, ◌≤◌, ◌-◌, [], List, get_or, length, IfOk, IfErr};
+//! Terms: the inputs of a run.
+ghost use Rattle.std.specs.Prelude.{◌≡◌, ◌≤◌, ◌-◌, false, [], List, get_or, length, IfOk, IfErr};
 ghost use Rattle.std.specs.Option.{unwrap_or};
 ghost use Rattle.claim_gate.specs.TermsFault.{HasTermsFault, IsFaultOfBalances, IsFaultOfFile, IsFaultOfFiles};
 ghost use Rattle.settlement.specs.Accounts.{account_of};
@@ -18,11 +18,11 @@ use settlement::{Acc, Claim, account_year};
 use std::alloc::{AllocError, Global};
 use std::marker::Model;
 
-/// How many providers' files a run has at most.
+/// The maximum number of providers' files in a run.
 pub const FILES_LIMIT: usize = 64;
 
-/// What a run is fixed over: a plan with roles, the text of each provider's file, the members' balances, and how many
-/// claims are accepted at most. It borrows the plan and the texts.
+/// The inputs of a run: a plan with roles, the text of each provider's file, the members' opening balances, and the
+/// maximum number of claims that are accepted. It borrows the plan and the texts.
 pub struct Terms<'a> {
     plan: &'a Plan,
     files: &'a [&'a [u8]],
@@ -58,8 +58,8 @@ impl<'a> Model for Terms<'a> {
 }
 
 impl<'a> Terms<'a> {
-    /// The terms of a plan, the providers' files in order, a file of balances, if there is one, and a cutoff, or
-    /// without one. Without balances every member begins with nothing. Claims of different files are accepted in any order.
+    /// Creates the terms of a plan, the providers' files in order, an optional file of balances, and an optional cutoff.
+    /// Without balances every accumulator begins at zero. Claims of different files are accepted in any order.
     pub fn new(
         alloc: Global,
         plan: &'a Plan,
@@ -67,14 +67,16 @@ impl<'a> Terms<'a> {
         balances: Option<&[u8]>,
         cutoff: Option<u64>,
     ) -> Result<Terms<'a>, TermsFault>
-        ensures ok { IfOk result (AreTermsOf plan.now (texts_of files.now) (text_in balances.entry) cutoff) }
+        ensures ok { IfOk result
+            (AreTermsOf plan.now (texts_of files.now) (text_in balances.entry) cutoff) }
         ensures any_order { IfOk result (λ terms. terms.in_order ≡ false) }
-        ensures fault { IfErr result (HasTermsFault plan.now (texts_of files.now) (text_in balances.entry)) }
+        ensures fault { IfErr result
+            (HasTermsFault plan.now (texts_of files.now) (text_in balances.entry)) }
     {
         Terms::with_order(alloc, plan, files, balances, cutoff, false)
     }
 
-    /// The terms as `new` makes them; where `in_order` is set, claims are accepted file after file.
+    /// Creates the terms as `new` does. With `in_order`, all claims of a file are accepted before those of the next file.
     pub fn with_order(
         alloc: Global,
         plan: &'a Plan,
@@ -83,9 +85,11 @@ impl<'a> Terms<'a> {
         cutoff: Option<u64>,
         in_order: bool,
     ) -> Result<Terms<'a>, TermsFault>
-        ensures ok { IfOk result (AreTermsOf plan.now (texts_of files.now) (text_in balances.entry) cutoff) }
+        ensures ok { IfOk result
+            (AreTermsOf plan.now (texts_of files.now) (text_in balances.entry) cutoff) }
         ensures order { IfOk result (λ terms. terms.in_order ≡ in_order) }
-        ensures fault { IfErr result (HasTermsFault plan.now (texts_of files.now) (text_in balances.entry)) }
+        ensures fault { IfErr result
+            (HasTermsFault plan.now (texts_of files.now) (text_in balances.entry)) }
     {
         if plan.roles().is_none() {
             return Err(TermsFault::NoRoles);
@@ -103,7 +107,7 @@ impl<'a> Terms<'a> {
         })
     }
 
-    /// The plan.
+    /// Returns the plan, whose rules decide the claims.
     pub fn plan(&self) -> &'a Plan
         ensures plan { result.now ≡ self.now.plan }
         ensures terms { AreTerms self.now }
@@ -111,7 +115,7 @@ impl<'a> Terms<'a> {
         self.plan
     }
 
-    /// The texts of the providers' files, in order.
+    /// Returns the texts of the providers' files, by provider.
     pub fn files(&self) -> &'a [&'a [u8]]
         ensures files { texts_of result.now ≡ self.now.files }
         ensures terms { AreTerms self.now }
@@ -119,34 +123,39 @@ impl<'a> Terms<'a> {
         self.files
     }
 
-    /// The reader of a provider's file, at its first row. Providers count from 1.
+    /// Returns a reader at the first row of a provider's file. Providers count from 1.
     pub fn rows(&self, alloc: Global, provider: usize) -> Result<Rows<'a>, AllocError>
         requires least { 1 ≤ provider }
         requires most { provider ≤ length self.now.files }
-        ensures start { IfOk result (IsAtStart self.now.plan.names (get_or self.now.files (provider - 1) [])) }
+        ensures start { IfOk result
+            (IsAtStart self.now.plan.names (get_or self.now.files (provider - 1) [])) }
         ensures apart { IfOk result (λ rows. LieApart rows.layout.columns) }
-        ensures rows { IfOk result (λ rows. (all : List AnyRow) → AreRowsLeft rows all → AreRowsOf self.now.plan.names (get_or self.now.files (provider - 1) []) all) }
+        ensures rows { IfOk result
+            (λ rows. (all : List AnyRow) → AreRowsLeft rows all
+            → AreRowsOf self.now.plan.names (get_or self.now.files (provider - 1) []) all) }
     {
         self.validated.as_slice()[provider - 1].rows(alloc)
     }
 
-    /// How many claims are accepted at most, if that is limited.
+    /// Returns the maximum number of claims that are accepted, if there is one.
     pub fn cutoff(&self) -> Option<u64>
         ensures { result ≡ self.now.cutoff }
     {
         self.cutoff
     }
 
-    /// Whether claims are accepted in the order of the files, and in each in its own.
+    /// Returns whether all claims of a file are accepted before those of the next file.
     pub fn in_order(&self) -> bool
         ensures { result ≡ self.now.in_order }
     {
         self.in_order
     }
 
-    /// What the account of a claim begins with: of its own zeros where the balances don't name its member, or not in its year.
+    /// Returns the opening accumulators of a claim's account. The member's own are zero where the balances have no entry for
+    /// the member in the claim's year.
     pub fn opening(&self, claim: &Claim) -> Acc
-        ensures { result ≡ opening (accounts_of self.now.balances) (account_of self.now.plan claim.now) }
+        ensures { result ≡ opening (accounts_of self.now.balances)
+            (account_of self.now.plan claim.now) }
     {
         match &self.balances {
             Some(balances) => balances.of(
@@ -159,7 +168,7 @@ impl<'a> Terms<'a> {
     }
 }
 
-// The files, whose headers have the columns that claims need under the plan; or the first that has not.
+// Returns the claim files of these texts, or the first text that is not a valid claim file under the plan.
 fn validate_files<'t>(
     alloc: Global,
     plan: &Plan,
@@ -175,7 +184,7 @@ fn validate_files<'t>(
     Ok(validated)
 }
 
-// The provider's file, whose header has the columns that claims need under the plan.
+// A failed allocation is a fault of the run and not of this file.
 fn validate_file<'t>(
     alloc: Global,
     plan: &Plan,
@@ -192,13 +201,13 @@ fn validate_file<'t>(
     }
 }
 
-// The balances of a text, if there is one.
 fn balances_of(
     alloc: Global,
     plan: &Plan,
     text: Option<&[u8]>,
 ) -> Result<Option<Balances>, TermsFault>
-    ensures ok { IfOk result (λ balances. AreBalancesOf plan.now (text_in text.entry) (unwrap_or balances [])) }
+    ensures ok { IfOk result
+        (λ balances. AreBalancesOf plan.now (text_in text.entry) (unwrap_or balances [])) }
     ensures fault { IfErr result (IsFaultOfBalances plan.now (text_in text.entry)) }
 {
     let Some(given) = text else {

@@ -6,7 +6,7 @@ use Rattle.intake_csv.specs.Rows.{AreRowsLeft, RowsLeft, claims_among}
 use Rattle.intake_csv.specs.declared.rows.Row.{Row}
 use Rattle.journal.specs.Terms.{Terms, claims_of}
 
--- behind so many claims of a provider, those among the rows that are left are its other ones
+-- after this number of claims of a provider, the remaining ones are those among the rows that the reader has left
 pub record AreLeft (T : Terms) (provider count : ℕ) (left : RowsLeft) : Type 0 where
   pub front : List Claim
   pub rows : List Row
@@ -14,12 +14,12 @@ pub record AreLeft (T : Terms) (provider count : ℕ) (left : RowsLeft) : Type 0
   pub whole : claims_of T provider ≡ front ++ claims_among rows
   pub counted : length front ≡ count
 
--- these claims stand one after another among the provider's, the first of them at this place
+-- these are consecutive claims of the provider, the first of them at this place
 abbrev pub AreNext : Terms → ℕ → ℕ → List Claim → Type 0
 AreNext T provider place [] = Unit {0}
 AreNext T provider place (claim ∷ rest) = (slice_get (claims_of T provider) place ≡ Some claim) × AreNext T provider (place + 1) rest
 
--- of any provider whose rows were left these claims are the next ones, and its other ones are left behind them
+-- for any provider whose rows the reader had left, these claims are the next ones, and the remaining ones are left after them
 pub record ReadsAhead (old new : RowsLeft) (claims : List Claim) : Type 0 where
   pub next : (T : Terms) (provider count : ℕ) → AreLeft T provider count old → AreNext T provider count claims × AreLeft T provider (count + length claims) new
   pub place : new.place ≡ old.place + length claims

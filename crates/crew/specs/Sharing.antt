@@ -15,50 +15,51 @@ use Rattle.claim_gate.specs.declared.job.Job.{Job}
 use Rattle.crew.specs.declared.worker.Task.{Task}
 use Rattle.crew.specs.declared.worker.Task.TheVariants.{Over, Work, NothingReady}
 
--- so many claims of the provider are accepted at least
+-- at least this number of claims of the provider are accepted
 abbrev pub HasAccepted : GateParts → ℕ → ℕ → Type 0
 HasAccepted gate provider count = count ≤ length (places gate.journal provider)
 
--- no claim and no end is accepted any more: the gate is stopped, or its journal is closed
+-- no more claims are accepted and no more providers end: the gate is stopped, or its journal is closed
 abbrev pub is_shut : GateParts → Bool
 is_shut gate = gate.stopped || closed gate.journal
 
--- nor is one of this provider, where it has ended
+-- no more claims of this provider are accepted: the gate is shut, or the provider has ended
 abbrev pub is_past : GateParts → ℕ → Bool
 is_past gate provider = is_shut gate || has_end gate.journal provider
 
--- what a provider is to offer behind the claim at a place: all in front of this later place are accepted, or no more is
+-- where an intake continues after the claim at a place: all claims before this later place are accepted, or no more will be
 abbrev pub GoesOnAt : GateParts → ℕ → ℕ → Option ℕ → Type 0
 GoesOnAt gate provider place (Some next) = (place < next) × HasAccepted gate provider next
 GoesOnAt gate provider place None = is_shut gate ≡ true
 
--- what a provider is to offer behind so many of its claims: all in front of this place, which is no earlier, are accepted, or no more is
+-- where an intake continues after this number of claims: all claims before this place, which is no earlier, are accepted, or
+-- no more will be
 abbrev pub GoesOnAfter : GateParts → ℕ → ℕ → Option ℕ → Type 0
 GoesOnAfter gate provider count (Some next) = (count ≤ next) × HasAccepted gate provider next
 GoesOnAfter gate provider count None = is_shut gate ≡ true
 
--- the claim is taken, the job is its, and it has the fields that the plan decides by
+-- the job's claim is taken and in work, and it has the fields that the plan needs
 pub record IsInWork (gate : GateParts) (job : Job) : Type 0 where
   pub in_work : has_take gate.journal job.position ≡ true
   pub is_job : ForTerms gate.terms (λ T. IsJob T gate.journal job.position job.claim job.acc)
   pub fields : IsClaimOf gate.terms.plan job.claim
 
--- what a worker is to do: nothing any more, where the journal is finished; or to decide a claim
+-- the next step of a worker is right: it leaves only after a finished journal, and it decides only a claim in work
 abbrev pub IsTask : GateParts → Task → Type 0
 IsTask gate Over = ForTerms gate.terms (λ T. Finished T gate.journal)
 IsTask gate (Work job) = IsInWork gate job
 IsTask gate NothingReady = Unit {0}
 
--- a claim in work, with its settlement
+-- a claim in work with its outcome
 pub record IsSettledIn (gate : GateParts) (settled : DecidedJob) : Type 0 where
   pub in_work : IsInWork gate settled.job
   pub value : settled.outcome ≡ outcome_of gate.terms.plan settled.job.claim settled.job.acc
 
--- what a worker has taken in a row of calls: nothing any more, where the journal is finished; or claims, which are in work
+-- the result of a worker's calls in one turn: a finished journal, or claims in work
 abbrev pub IsGathered : GateParts → TakenJobs → Type 0
 IsGathered gate gathered.Over = ForTerms gate.terms (λ T. Finished T gate.journal)
 IsGathered gate (gathered.Jobs jobs) = All (IsInWork gate) jobs.items
 
--- a claim with its settlement by a plan
+-- a claim with its outcome under a plan
 abbrev pub settled_by : PlanParts → Job → DecidedJob
 settled_by plan job = record { job = job; outcome = outcome_of plan job.claim job.acc }

@@ -1,11 +1,11 @@
--- How many workers a run may have.
+-- The number of workers of a run.
 use Rattle.std.specs.Prelude.{◌≤◌, ℕ}
 
--- how many workers a run has at most
+-- the maximum number of workers of a run
 abbrev pub workers_limit : ℕ
 workers_limit = 64
 
--- a run has one worker at least, and so many at most
+-- a run has at least one worker and at most `workers_limit`
 pub record IsWorkerCount (workers : ℕ) : Type 0 where
   pub least : 1 ≤ workers
   pub most : workers ≤ workers_limit

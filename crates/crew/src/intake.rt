@@ -1,4 +1,4 @@
-//! What an intake of a run does: it reads a provider's file.
+//! The work of an intake thread, which reads a provider's file and offers its claims.
 ghost use Rattle.std.specs.Prelude.{◌≡◌, ◌<◌, ◌≤◌, ◌+◌, ◌-◌, ◌^◌, true, false, [], length, get_or, slice_get, Some, IfOk, IfErr, IsTrue};
 ghost use Rattle.intake_csv.specs.Rows.{IsAtStart};
 ghost use Rattle.claim_gate.specs.Terms.{ForTerms};
@@ -9,32 +9,33 @@ ghost use Rattle.crew.specs.Reading.{AreNext, ReadsAhead};
 ghost use Rattle.crew.specs.Sharing.{GoesOnAt, GoesOnAfter, HasAccepted, is_past};
 ghost use Rattle.faults.specs.declared.run_fault.RunFault.TheVariants.{OutOfMemory};
 
+use crate::hints::{Hints, Preparation};
 use crate::stopping::ATTEMPTS;
 use claim_gate::{BoxedClaim, EndFault, Gate, Offer, OfferFault, Terms, claim_lists_exist};
 use faults::RunFault;
-use gate_batching::{BatchTurn, GateBatching, OFFERS_LIMIT};
+use gate_batching::{BatchTurn, OFFERS_LIMIT};
 use intake_csv::{
     Row, Rows, given_row_has_the_claim, no_records_give_no_rows, reader_begins_with_all_rows,
 };
 use std::alloc::{AllocError, Global};
 use std::sync::Wait;
 
-/// The claims of records that an intake has read and not offered yet, and whether they are the last of its file.
+/// Claims that an intake has read and not offered yet, and whether the file has no more records.
 struct ReadAhead {
     claims: Vec<BoxedClaim>,
     is_last: bool,
 }
 
-/// What the intake of this number does, from 0: it takes in its provider's file. Where claims are accepted in the order of the files the first
-/// takes in all, one after another, and the others nothing.
-pub(crate) fn run_intake_part<R: Wait, G: Gate>(
+/// Does the work of the intake with this number, from 0, which offers the claims of its provider's file. Where claims are
+/// accepted in the order of the files, intake 0 offers those of all files, and the others do nothing.
+pub(crate) fn run_intake_part<R: Wait, G: Gate, P: Preparation<G>>(
     rt: &R,
     alloc: Global,
     terms: &Terms,
     gate: &G,
     pass: G::Pass,
     number: usize,
-    turns: &GateBatching,
+    hints: &Hints<P>,
 ) -> Result<G::Pass, (RunFault, G::Pass)>
     requires own { G.has_pass gate.now pass }
     requires terms { (G.known pass).seen.terms ≡ terms.now }
@@ -42,25 +43,25 @@ pub(crate) fn run_intake_part<R: Wait, G: Gate>(
     ensures goes_on { IfOk result (GoesOn (G.has_pass gate.now) G.known pass) }
     ensures leaves { IfErr result (LeavesWith (G.has_pass gate.now) G.known pass) }
 {
-    // Known from here: how many files a run has at most.
+    // proof: the number of files has an upper limit, so `number + 1` does not overflow.
     let _files = terms.files();
     if !terms.in_order() {
-        return run_intake(rt, alloc, terms, gate, pass, number + 1, turns);
+        return run_intake(rt, alloc, terms, gate, pass, number + 1, hints);
     }
     if number != 0 {
         return Ok(pass);
     }
-    run_intakes(rt, alloc, terms, gate, pass, turns)
+    run_intakes(rt, alloc, terms, gate, pass, hints)
 }
 
-// Takes in the files one after another, each behind the end of the one in front.
-fn run_intakes<R: Wait, G: Gate>(
+// Offers the claims of all files, one file after another. Each file begins after the end of the file before it.
+fn run_intakes<R: Wait, G: Gate, P: Preparation<G>>(
     rt: &R,
     alloc: Global,
     terms: &Terms,
     gate: &G,
     mut pass: G::Pass,
-    turns: &GateBatching,
+    hints: &Hints<P>,
 ) -> Result<G::Pass, (RunFault, G::Pass)>
     requires own { G.has_pass gate.now pass }
     requires terms { (G.known pass).seen.terms ≡ terms.now }
@@ -69,7 +70,7 @@ fn run_intakes<R: Wait, G: Gate>(
 {
     let files = terms.files().len();
     'files: for place in 0..files {
-        pass = match run_intake(rt, alloc, terms, gate, pass, place + 1, turns) {
+        pass = match run_intake(rt, alloc, terms, gate, pass, place + 1, hints) {
             Ok(pass) => pass,
             Err(left) => return Err(left),
         };
@@ -77,16 +78,16 @@ fn run_intakes<R: Wait, G: Gate>(
     Ok(pass)
 }
 
-/// Offers the claims of a provider's file in order, and ends the provider behind the last. What others have offered of it isn't
-/// offered again. So many records are read ahead as are offered in one turn, while another thread has its own.
-fn run_intake<R: Wait, G: Gate>(
+/// Offers the claims of a provider's file in order, and ends the provider after the last one. Claims that other callers have
+/// already offered are skipped. The records for one turn are read before it begins, while another thread has its turn.
+fn run_intake<R: Wait, G: Gate, P: Preparation<G>>(
     rt: &R,
     alloc: Global,
     terms: &Terms,
     gate: &G,
     mut pass: G::Pass,
     provider: usize,
-    turns: &GateBatching,
+    hints: &Hints<P>,
 ) -> Result<G::Pass, (RunFault, G::Pass)>
     requires own { G.has_pass gate.now pass }
     requires terms { (G.known pass).seen.terms ≡ terms.now }
@@ -97,7 +98,7 @@ fn run_intake<R: Wait, G: Gate>(
     ensures past { IfOk result (λ p. is_past (G.known p).seen provider ≡ true) }
     ensures leaves { IfErr result (LeavesWith (G.has_pass gate.now) G.known pass) }
 {
-    // Known from here: what a reader has left is what the file has.
+    // proof: the rows that a new reader has left are those of the file.
     reader_begins_with_all_rows();
     no_records_give_no_rows();
     let mut rows = match open(alloc, terms, provider) {
@@ -113,7 +114,7 @@ fn run_intake<R: Wait, G: Gate>(
         let ReadAhead { claims, is_last } = ahead;
         let following = count + claims.len();
         (expected, pass) = match offer_all(
-            rt, terms, gate, pass, provider, count, expected, claims, turns,
+            rt, terms, gate, pass, provider, count, expected, claims, hints,
         ) {
             Ok((Some(next), pass)) => (next, pass),
             Ok((None, pass)) => return Ok(pass),
@@ -126,14 +127,15 @@ fn run_intake<R: Wait, G: Gate>(
     }
 }
 
-// Reads the next records, as many as are offered in one turn.
 fn read_ahead(alloc: Global, rows: &mut Rows<'_>) -> Result<ReadAhead, AllocError>
     ensures ahead { IfOk result (λ ahead. ReadsAhead rows.old rows.new ahead.claims.items) }
-    ensures room { rows.old.place < rows.old.number → rows.old.place < 2 ^ 64 → IfOk result (λ ahead. rows.old.place + length ahead.claims.items < 2 ^ 64) }
+    ensures room { rows.old.place < rows.old.number → rows.old.place < 2 ^ 64 → IfOk result
+        (λ ahead. rows.old.place + length ahead.claims.items < 2 ^ 64) }
     ensures last { IfOk result (λ ahead. IsTrue ahead.is_last → rows.new.records ≡ []) }
-    ensures fewer { IfOk result (λ ahead. ahead.is_last ≡ false → length rows.new.records < length rows.old.records) }
+    ensures fewer { IfOk result
+        (λ ahead. ahead.is_last ≡ false → length rows.new.records < length rows.old.records) }
 {
-    // Known from here: a row that a reader gives is the first of those that it has left.
+    // proof: a reader returns the first of the rows that it has left.
     given_row_has_the_claim();
     let mut claims = Vec::with_capacity(alloc, OFFERS_LIMIT as usize)?;
     'records: for record in 0..OFFERS_LIMIT {
@@ -154,10 +156,10 @@ fn read_ahead(alloc: Global, rows: &mut Rows<'_>) -> Result<ReadAhead, AllocErro
     })
 }
 
-// Offers these claims of a provider in one turn, of which the first stands at this place, from the place on that is expected. Gives the
-// place that is expected then; none where no more claims are accepted. Where there are none, as of records that are all refused, the gate
-// isn't called, and no turn is waited for.
-fn offer_all<R: Wait, G: Gate>(
+// Offers these claims of a provider in one turn. The first of them is at place `first`, and those before `expected` are
+// skipped. Returns the place that the gate expects next, or `None` where no more claims are accepted. Without claims, for
+// example when all records were refused, it neither waits for a turn nor calls the gate.
+fn offer_all<R: Wait, G: Gate, P: Preparation<G>>(
     rt: &R,
     terms: &Terms,
     gate: &G,
@@ -166,7 +168,7 @@ fn offer_all<R: Wait, G: Gate>(
     first: usize,
     expected: usize,
     claims: Vec<BoxedClaim>,
-    turns: &GateBatching,
+    hints: &Hints<P>,
 ) -> Result<(Option<usize>, G::Pass), (RunFault, G::Pass)>
     requires own { G.has_pass gate.now pass }
     requires terms { (G.known pass).seen.terms ≡ terms.now }
@@ -176,14 +178,15 @@ fn offer_all<R: Wait, G: Gate>(
     requires reached { first ≤ expected }
     requires room { first + length claims.items < 2 ^ 64 }
     ensures goes_on { IfOk result (λ r. GoesOn (G.has_pass gate.now) G.known pass r.1) }
-    ensures next { IfOk result (λ r. GoesOnAfter (G.known r.1).seen provider (first + length claims.items) r.0) }
+    ensures next { IfOk result
+        (λ r. GoesOnAfter (G.known r.1).seen provider (first + length claims.items) r.0) }
     ensures leaves { IfErr result (LeavesWith (G.has_pass gate.now) G.known pass) }
 {
     if claims.is_empty() {
         return Ok((Some(expected), pass));
     }
-    let turn = turns.begin_offers(rt);
-    let pass = match prefetch(rt, gate, pass, claims.as_slice()) {
+    let turn = hints.turns.begin_offers(rt);
+    let pass = match hints.preparation.prepare(rt, gate, pass, claims.as_slice()) {
         Ok(pass) => pass,
         Err(left) => return Err(left),
     };
@@ -192,24 +195,7 @@ fn offer_all<R: Wait, G: Gate>(
     )
 }
 
-// Tells the gate which claims come, before the first of them is offered.
-fn prefetch<R: Wait, G: Gate>(
-    rt: &R,
-    gate: &G,
-    pass: G::Pass,
-    claims: &[BoxedClaim],
-) -> Result<G::Pass, (RunFault, G::Pass)>
-    requires own { G.has_pass gate.now pass }
-    ensures goes_on { IfOk result (GoesOn (G.has_pass gate.now) G.known pass) }
-    ensures leaves { IfErr result (LeavesWith (G.has_pass gate.now) G.known pass) }
-{
-    match gate.prefetch(rt, pass, claims) {
-        Ok(pass) => Ok(pass),
-        Err((_, pass)) => Err((RunFault::Worn, pass)),
-    }
-}
-
-// The same in a turn that has begun.
+// Offers the claims in a turn that has begun, as `offer_all` does.
 fn offer_each<R: Wait, G: Gate>(
     rt: &R,
     terms: &Terms,
@@ -229,7 +215,8 @@ fn offer_each<R: Wait, G: Gate>(
     requires reached { first ≤ expected }
     requires room { first + length claims.items < 2 ^ 64 }
     ensures goes_on { IfOk result (λ r. GoesOn (G.has_pass gate.now) G.known pass r.1) }
-    ensures next { IfOk result (λ r. GoesOnAfter (G.known r.1).seen provider (first + length claims.items) r.0) }
+    ensures next { IfOk result
+        (λ r. GoesOnAfter (G.known r.1).seen provider (first + length claims.items) r.0) }
     ensures leaves { IfErr result (LeavesWith (G.has_pass gate.now) G.known pass) }
 {
     let mut place = first;
@@ -253,11 +240,11 @@ fn offer_each<R: Wait, G: Gate>(
     Ok((Some(expected), pass))
 }
 
-// The rows of a provider's file.
 fn open<'t>(alloc: Global, terms: &'t Terms, provider: usize) -> Result<Rows<'t>, RunFault>
     requires least { 1 ≤ provider }
     requires most { provider ≤ length terms.now.files }
-    ensures rows { IfOk result (IsAtStart terms.now.plan.names (get_or terms.now.files (provider - 1) [])) }
+    ensures rows { IfOk result
+        (IsAtStart terms.now.plan.names (get_or terms.now.files (provider - 1) [])) }
     ensures fault { IfErr result (λ fault. fault ≡ OutOfMemory) }
 {
     match terms.rows(alloc, provider) {
@@ -266,7 +253,8 @@ fn open<'t>(alloc: Global, terms: &'t Terms, provider: usize) -> Result<Rows<'t>
     }
 }
 
-// Offers a claim, as often as a call is tried. Gives the place of the provider's next one; none where no more claims are accepted.
+// Offers a claim, in at most `ATTEMPTS` calls. Returns the place of the provider's next claim, or `None` where no more claims
+// are accepted.
 fn offer<R: Wait, G: Gate>(
     rt: &R,
     terms: &Terms,
@@ -284,7 +272,7 @@ fn offer<R: Wait, G: Gate>(
     ensures next { IfOk result (λ r. GoesOnAt (G.known r.1).seen offer.provider offer.place r.0) }
     ensures leaves { IfErr result (LeavesWith (G.has_pass gate.now) G.known pass) }
 {
-    // Known from here: the texts have lists of claims, so that what holds for each list says something.
+    // proof: the claim files have lists of claims, so a statement about all such lists is not empty.
     claim_lists_exist(terms);
     let following = offer.place + 1;
     'tries: for _ in 0..ATTEMPTS {
@@ -303,7 +291,7 @@ fn offer<R: Wait, G: Gate>(
     Err((RunFault::OutOfMemory, pass))
 }
 
-// Ends a provider whose claims, so many, are all accepted; a call is tried as often as others.
+// Ends a provider of which all `count` claims are accepted, in at most `ATTEMPTS` calls.
 fn end<R: Wait, G: Gate>(
     rt: &R,
     terms: &Terms,
@@ -320,7 +308,7 @@ fn end<R: Wait, G: Gate>(
     ensures past { IfOk result (λ p. is_past (G.known p).seen provider ≡ true) }
     ensures leaves { IfErr result (LeavesWith (G.has_pass gate.now) G.known pass) }
 {
-    // Known from here: the texts have lists of claims, so that what holds for each list says something.
+    // proof: the claim files have lists of claims, so a statement about all such lists is not empty.
     claim_lists_exist(terms);
     'tries: for _ in 0..ATTEMPTS {
         let (ended, after) = match gate.end(rt, pass, provider, count) {

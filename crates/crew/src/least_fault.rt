@@ -1,4 +1,4 @@
-//! The least fault that the threads of a run have met.
+//! The first fault, in the order of `RunFault`, of the threads of a run.
 ghost use Rattle.std.specs.Prelude.{◌≡◌, ◌≢◌, ◌≤◌, IfSome, IfNone};
 ghost use Rattle.faults.specs.RunFaultNumber.{number_of};
 ghost use Rattle.crew.specs.MetAlone.{IsMetAlone};
@@ -8,14 +8,14 @@ ghost use Rattle.faults.specs.declared.run_fault.RunFault.TheVariants.{Workers, 
 use faults::RunFault;
 use std::sync::atomic::{AtomicU64, Ordering};
 
-/// The least fault that any thread has noted, by its number.
+/// The fault with the least number that any thread has noted.
 #[derive(Drop)]
 pub(crate) struct LeastFault {
     number: AtomicU64,
 }
 
 impl LeastFault {
-    /// Nothing is noted yet.
+    /// Creates the record of a run without faults.
     pub(crate) fn new() -> LeastFault {
         LeastFault {
             number: AtomicU64::new(u64::MAX),
@@ -28,8 +28,8 @@ impl LeastFault {
             .fetch_min(u64::from(fault.number()), Ordering::SeqCst);
     }
 
-    /// The lesser of the caller's own fault and of the least that was noted. Only the faults that a thread meets by itself count:
-    /// that the run was stopped each caller sees for itself.
+    /// Returns the caller's own fault or the noted one, whichever has the lesser number. Only a thread's own faults count: a
+    /// stop of the run is seen by each caller itself.
     pub(crate) fn least_with(&self, own: RunFault) -> RunFault
         ensures least { number_of result ≤ number_of own }
         ensures workers { result ≡ Workers → own ≡ Workers }
@@ -43,10 +43,11 @@ impl LeastFault {
     }
 }
 
-// The fault of this number, where it is one that a thread meets by itself.
+// Returns the fault with this number where it can be a thread's own.
 fn met_alone(number: u64) -> Option<RunFault>
     ensures found { IfSome result (λ fault. (number_of fault ≡ number) × IsMetAlone fault) }
-    ensures none { IfNone result ((fault : RunFault) → IsMetAlone fault → number_of fault ≢ number) }
+    ensures none { IfNone result
+        ((fault : RunFault) → IsMetAlone fault → number_of fault ≢ number) }
 {
     match number {
         2 => Some(RunFault::OutOfMemory),

@@ -1,12 +1,15 @@
-//! Runs: the providers' files are read, their claims accepted and decided, until the journal is finished.
+//! A run reads the providers' files, and accepts and decides their claims, until the journal is finished.
 //!
-//! `run` does so by an intake thread for each provider's file and by workers, over terms and a gate from `claim_gate`,
-//! which they share behind a lock from `turn_lock`; files come from `intake_csv`, decisions from `settlement`,
-//! and from `gate_batching` a hint which thread is to call the gate next. `run_with` is the same on a gate of the caller's.
+//! `run` starts an intake thread for each provider's file and the given number of workers. They share a gate from
+//! `claim_gate`, which a lock from `turn_lock` protects. The terms come from `claim_gate`, the readers of the files from
+//! `intake_csv`, the decisions from `settlement`, and from `gate_batching` a hint which thread calls the gate next. `run_with`
+//! uses a gate of the caller's.
 //!
-//! Begin with `threads.rt`, whose `run` and `run_with` carry the promise; `intake.rt` and `worker.rt` are what the threads do.
+//! Begin with `threads.rt`, which has the contracts of `run` and `run_with`; `intake.rt` and `worker.rt` have the work of the
+//! threads, and `hints.rt` has what makes it quicker.
 #![tactic(auto)]
 
+mod hints;
 mod intake;
 mod least_fault;
 mod stopping;

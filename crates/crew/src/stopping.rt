@@ -1,14 +1,15 @@
-//! When a thread can't go on, and how it ends the run.
+//! How a thread that can't continue ends the run.
 ghost use Rattle.std.specs.Prelude.{◌≡◌, ◌⊎◌, true};
 ghost use Rattle.journal.specs.Gate.{LeadsTo};
 
 use claim_gate::{Gate, Terms, claim_lists_exist};
 use std::sync::Wait;
 
-/// So often a call of the gate is made that is refused memory, each time with what came back. Then the thread leaves, and stops the gate.
+/// The number of times that a call of the gate is made while it runs out of memory, with the values that it returned. After
+/// the last one the thread stops the gate and leaves.
 pub(crate) const ATTEMPTS: u32 = 2;
 
-/// Stops the gate, so that all threads leave. Where its lock is worn, no thread can call it any more.
+/// Stops the gate, so that all threads leave. Where the lock is worn, they leave because no call can be made.
 pub(crate) fn stop<R: Wait, G: Gate>(rt: &R, terms: &Terms, gate: &G, pass: G::Pass) -> G::Pass
     requires own { G.has_pass gate.now pass }
     requires terms { (G.known pass).seen.terms ≡ terms.now }
@@ -16,7 +17,7 @@ pub(crate) fn stop<R: Wait, G: Gate>(rt: &R, terms: &Terms, gate: &G, pass: G::P
     ensures seen { LeadsTo (G.known pass).seen (G.known result).seen }
     ensures stopped { ((G.known result).seen.stopped ≡ true) ⊎ G.is_worn result }
 {
-    // Known from here: the texts have lists of claims, so that what holds for each list says something.
+    // proof: the claim files have lists of claims, so a statement about all such lists is not empty.
     claim_lists_exist(terms);
     match gate.stop(rt, pass) {
         Ok(pass) => pass,

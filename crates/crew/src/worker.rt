@@ -1,4 +1,4 @@
-//! What a worker of a run does.
+//! The work of a worker thread, which decides claims.
 ghost use Rattle.std.specs.Prelude.{◌≡◌, [], true, map, IsSome, IfOk, IfErr};
 ghost use Rattle.std.specs.List.{All};
 ghost use Rattle.settlement.specs.Claim.{IsClaimOf};
@@ -21,32 +21,33 @@ use settlement::Adjudicator;
 use std::alloc::{AllocError, Global};
 use std::sync::Wait;
 
-/// What a worker is to do.
+/// The next step of a worker.
 enum Task {
-    /// Nothing any more: the journal is finished.
+    /// The worker leaves, since the journal is finished.
     Over,
-    /// To decide a claim.
+    /// The worker decides this claim.
     Work(Job),
-    /// To ask again: no claim may be taken now.
+    /// The worker asks again later, since no claim can be taken now.
     NothingReady,
 }
 
-/// What a worker has taken in a row of calls.
+/// The result of a worker's calls in one turn.
 enum TakenJobs {
-    /// Nothing, and never again: the journal is finished.
+    /// The journal is finished.
     Over,
-    /// These claims.
+    /// The worker has taken these claims, perhaps none.
     Jobs(Vec<Job>),
 }
 
-/// A claim in work, with its outcome, which isn't recorded yet.
+/// A decided claim whose outcome is not recorded yet.
 #[derive(Drop)]
 struct DecidedJob {
     job: Job,
     outcome: BoxedOutcome,
 }
 
-/// Takes claims and decides them until the journal is finished. The claims of a turn are decided while another thread has its own.
+/// Takes and decides claims until the journal is finished. The claims of a turn are decided after it, while another thread has
+/// its turn.
 pub(crate) fn run_worker<R: Wait, G: Gate>(
     rt: &R,
     alloc: Global,
@@ -60,10 +61,11 @@ pub(crate) fn run_worker<R: Wait, G: Gate>(
     requires own { G.has_pass gate.now pass }
     requires terms { (G.known pass).seen.terms ≡ terms.now }
     ensures goes_on { IfOk result (GoesOn (G.has_pass gate.now) G.known pass) }
-    ensures finished { IfOk result (λ p. ForTerms terms.now (λ T. Finished T (G.known p).seen.journal)) }
+    ensures finished { IfOk result
+        (λ p. ForTerms terms.now (λ T. Finished T (G.known p).seen.journal)) }
     ensures leaves { IfErr result (LeavesWith (G.has_pass gate.now) G.known pass) }
 {
-    // Known from here: what holds of every plan.
+    // proof: the plan is valid.
     let _plan = terms.plan();
     let Ok(mut adjudicator) = Adjudicator::new(alloc, plan) else {
         return Err((RunFault::OutOfMemory, pass));
@@ -93,8 +95,8 @@ pub(crate) fn run_worker<R: Wait, G: Gate>(
     unreachable!()
 }
 
-// A row of calls: records what is settled, and takes as many claims as there are to be had. Their room is made before the turn
-// begins, for as many as the last time, and the claims that are decided are let go behind it.
+// Records the outcomes of the last turn and takes claims, in one turn. To keep the turn short, memory for as many claims as in
+// the last turn is allocated before it, and the decided claims are dropped after it.
 fn take_turn<R: Wait, G: Gate>(
     rt: &R,
     alloc: Global,
@@ -125,7 +127,7 @@ fn take_turn<R: Wait, G: Gate>(
     gather(rt, terms, gate, pass, &turn, jobs)
 }
 
-// Takes claims, one call after another, into a list that has none yet, until none is ready or a turn has no call left.
+// Takes claims, one call after another, until none is ready or the turn has reached its limit.
 fn gather<R: Wait, G: Gate>(
     rt: &R,
     terms: &Terms,
@@ -141,7 +143,7 @@ fn gather<R: Wait, G: Gate>(
     ensures gathered { IfOk result (λ r. IsGathered (G.known r.1).seen r.0) }
     ensures leaves { IfErr result (LeavesWith (G.has_pass gate.now) G.known pass) }
 {
-    // Known from here: a job stays one in each later state of the gate.
+    // proof: a job is a job in every later state of the gate.
     jobs_are_stable();
     'calls: for _ in 0..TAKES_LIMIT {
         let (task, back) = match take(rt, terms, gate, pass) {
@@ -163,7 +165,7 @@ fn gather<R: Wait, G: Gate>(
     Ok((TakenJobs::Jobs(jobs), pass))
 }
 
-// Asks the gate what there is to do, as often as a call is tried.
+// Takes a claim, in at most `ATTEMPTS` calls.
 fn take<R: Wait, G: Gate>(
     rt: &R,
     terms: &Terms,
@@ -176,8 +178,7 @@ fn take<R: Wait, G: Gate>(
     ensures task { IfOk result (λ r. IsTask (G.known r.1).seen r.0) }
     ensures leaves { IfErr result (LeavesWith (G.has_pass gate.now) G.known pass) }
 {
-    // Known from here: the texts have lists of claims, so that what holds for each list says something, and these have the
-    // plan's fields.
+    // proof: the claim files have lists of claims, whose claims have the plan's fields.
     claim_lists_exist(terms);
     claims_have_the_plan_s_fields();
     let _names = terms.plan().names();
@@ -197,7 +198,6 @@ fn take<R: Wait, G: Gate>(
     Err((RunFault::OutOfMemory, pass))
 }
 
-// Decides claims in work, in order.
 fn decide_all<'v, 'p>(
     alloc: Global,
     adjudicator: &mut Adjudicator<'v, CutPlan<'p>>,
@@ -206,7 +206,8 @@ fn decide_all<'v, 'p>(
     requires roles { IsSome adjudicator.old.roles }
     requires fields { All (λ job. IsClaimOf adjudicator.old job.claim) jobs.items }
     ensures plan { adjudicator.new ≡ adjudicator.old }
-    ensures settled { IfOk result (λ settled. settled.items ≡ map (settled_by adjudicator.old) jobs.items) }
+    ensures settled { IfOk result
+        (λ settled. settled.items ≡ map (settled_by adjudicator.old) jobs.items) }
 {
     let mut settled = Vec::with_capacity(alloc, jobs.len())?;
     for job in jobs {
@@ -216,7 +217,7 @@ fn decide_all<'v, 'p>(
     Ok(settled)
 }
 
-// Decides a claim in work. What it comes to has its place on the heap from here on.
+// Decides a claim and moves its outcome to the heap, outside the critical section.
 fn settle<'v, 'p>(
     alloc: Global,
     adjudicator: &mut Adjudicator<'v, CutPlan<'p>>,
@@ -232,7 +233,7 @@ fn settle<'v, 'p>(
     Ok(DecidedJob { job, outcome })
 }
 
-// Records outcomes, one call after another, and puts their claims to those that are let go later.
+// Records outcomes, one call after another. Their claims go into `released`, to be dropped after the turn.
 fn record_all<R: Wait, G: Gate>(
     rt: &R,
     terms: &Terms,
@@ -247,7 +248,7 @@ fn record_all<R: Wait, G: Gate>(
     ensures goes_on { IfOk result (GoesOn (G.has_pass gate.now) G.known pass) }
     ensures leaves { IfErr result (LeavesWith (G.has_pass gate.now) G.known pass) }
 {
-    // Known from here: a job stays one in each later state of the gate.
+    // proof: a job is a job in every later state of the gate.
     jobs_are_stable();
     for one in settled {
         pass = match record(rt, terms, gate, pass, one, released) {
@@ -258,7 +259,7 @@ fn record_all<R: Wait, G: Gate>(
     Ok(pass)
 }
 
-// Hands an outcome in, as often as a call is tried. Another worker may have done so already.
+// Records an outcome, in at most `ATTEMPTS` calls. Another caller may have recorded it already.
 fn record<R: Wait, G: Gate>(
     rt: &R,
     terms: &Terms,
@@ -271,11 +272,11 @@ fn record<R: Wait, G: Gate>(
     requires terms { (G.known pass).seen.terms ≡ terms.now }
     requires settled { IsSettledIn (G.known pass).seen settled }
     ensures goes_on { IfOk result (GoesOn (G.has_pass gate.now) G.known pass) }
-    ensures has_decision { IfOk result (λ p. has_decision (G.known p).seen.journal settled.job.position ≡ true) }
+    ensures has_decision { IfOk result
+        (λ p. has_decision (G.known p).seen.journal settled.job.position ≡ true) }
     ensures leaves { IfErr result (LeavesWith (G.has_pass gate.now) G.known pass) }
 {
-    // Known from here: the texts have lists of claims, so that what holds for each list says something, and a job stays one in each
-    // later state of the gate.
+    // proof: the claim files have lists of claims, and a job is a job in every later state of the gate.
     claim_lists_exist(terms);
     jobs_are_stable();
     let DecidedJob {
@@ -289,7 +290,7 @@ fn record<R: Wait, G: Gate>(
         };
         match recorded {
             Ok(recorded) => {
-                // Where there is no room, the claim is let go here.
+                // Without memory for the list, the claim is dropped here.
                 let _ = released.push(recorded.claim);
                 return Ok(after);
             }

@@ -5,28 +5,28 @@ ghost use Rattle.faults.specs.RunFaultNumber.{number_of};
 use std::alloc::AllocError;
 use thiserror::Error;
 
-/// Why a run ends without a finished journal. Where its threads met several faults, it is the first of them in this order.
+/// Why a run ends without a finished journal. Of several faults of its threads, the first in this order is reported.
 #[derive(Clone, Copy, Debug, PartialEq, Eq, Drop, Error)]
 pub enum RunFault {
-    /// There is to be no worker, or more than a run may have.
+    /// The number of workers is 0 or more than `WORKERS_LIMIT`.
     #[error("no worker, or too many workers")]
     Workers,
-    /// No memory.
+    /// An allocation failed.
     #[error("out of memory")]
     OutOfMemory,
-    /// The system starts no more threads.
+    /// The system can't start another thread.
     #[error("a thread can't be started")]
     Thread,
-    /// The gate's lock can't be taken any more.
+    /// The gate's lock has no ticket left.
     #[error("the lock has no ticket left")]
     Worn,
-    /// The gate was stopped by someone else.
+    /// Another caller has stopped the gate.
     #[error("the run was stopped")]
     Stopped,
 }
 
 impl RunFault {
-    /// The fault's number in a program's messages.
+    /// Returns the fault's number in the program's messages.
     pub fn number(self) -> u8
         ensures { result ≡ number_of self }
     {

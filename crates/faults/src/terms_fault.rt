@@ -1,4 +1,4 @@
-//! Why texts make no terms.
+//! Why a run can't be set up from a plan, claim files and balances.
 ghost use Rattle.std.specs.Prelude.{◌≡◌};
 ghost use Rattle.faults.specs.TermsFaultNumber.{number_of};
 
@@ -6,28 +6,28 @@ use crate::file_fault::{BalanceFault, FileFault};
 use std::alloc::AllocError;
 use thiserror::Error;
 
-/// Why a plan, the providers' files and the balances make no terms. The faults are tried in this order.
+/// Why a run can't be set up from a plan, the providers' files and the balances. The faults are checked in this order.
 #[derive(Clone, Copy, Debug, PartialEq, Eq, Drop, Error)]
 pub enum TermsFault {
-    /// The plan has no roles, so that it settles no claims.
+    /// The plan has no roles, so it can't settle claims.
     #[error("the plan has no roles")]
     NoRoles,
-    /// There is no file, or there are more than a run may have.
+    /// There is no file, or there are more than `FILES_LIMIT`.
     #[error("no file, or too many files")]
     Files,
-    /// A file is refused: that of the first such provider, counted from 1, and not for memory.
+    /// The first file that is not a valid claim file under the plan. Providers count from 1.
     #[error("file {provider}: {fault}")]
     File { provider: usize, fault: FileFault },
-    /// The balances are refused, and not for memory.
+    /// The balances are not valid.
     #[error("balances: {0}")]
     Balances(BalanceFault),
-    /// No memory.
+    /// An allocation failed.
     #[error("out of memory")]
     OutOfMemory,
 }
 
 impl TermsFault {
-    /// The fault's number in a program's messages.
+    /// Returns the fault's number in the program's messages.
     pub fn number(self) -> u8
         ensures { result ≡ number_of self }
     {

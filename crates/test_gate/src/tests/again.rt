@@ -1,7 +1,7 @@
 //! Calls that are repeated once if they run out of memory, after a check that the arguments have
 //! come back and nothing has changed. A second refusal ends the test. Each test is run once for
 //! each of its allocations, with that allocation refused.
-ghost use Rattle.std.specs.Prelude.{◌≡◌, true, IfOk, IfErr, OnErr};
+ghost use Rattle.std.specs.Prelude.{◌≡◌, true, false, IfOk, IfErr, OnErr};
 ghost use Rattle.claim_gate.specs.Terms.{ForTerms};
 ghost use Rattle.journal.specs.Events.{has_take, IsJob};
 ghost use Rattle.journal.specs.Gate.{LeadsTo};
@@ -57,11 +57,13 @@ pub fn is_paid(job: &Job, outcome: &BoxedOutcome, position: usize, paid: Money) 
 }
 
 /// Calls `GateState::offer`. The contract is the part that the tests use.
+#[tactic(auto, using(crate::proofs::Order::any_order))]
 pub fn offer_once<'t>(
     gate: &mut GateState<'t>,
     offer: Offer,
 ) -> Result<Accepted, (OfferFault, Offer)>
     requires filed { ForTerms gate.old.terms (λ T. IsFiled T offer) }
+    requires any_order { gate.old.terms.in_order ≡ false }
     ensures leads { LeadsTo gate.old gate.new }
     ensures back { IfErr result (λ refused. refused.1 ≡ offer) }
     ensures refused { OnErr result (gate.new ≡ gate.old) }
@@ -76,6 +78,7 @@ pub fn offer<'t>(
     offer: Offer,
 ) -> Result<Accepted, (OfferFault, Offer)>
     requires filed { ForTerms gate.old.terms (λ T. IsFiled T offer) }
+    requires any_order { gate.old.terms.in_order ≡ false }
     ensures leads { LeadsTo gate.old gate.new }
 {
     let before = Mark::of(gate);

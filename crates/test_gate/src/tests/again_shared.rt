@@ -2,7 +2,7 @@
 //! of memory is repeated once, after a check that the gate still has the counts `before`, which it
 //! had before the call. No test expects a second refusal. Each test is run once for each of its
 //! allocations, with that allocation refused.
-ghost use Rattle.std.specs.Prelude.{◌≡◌, IfOk, IfErr};
+ghost use Rattle.std.specs.Prelude.{◌≡◌, false, IfOk, IfErr};
 ghost use Rattle.claim_gate.specs.Terms.{ForTerms};
 ghost use Rattle.journal.specs.Gate.{LeadsTo};
 ghost use Rattle.journal.specs.Settled.{outcome_of};
@@ -41,6 +41,7 @@ fn is_unchanged<G: Gate>(
 }
 
 /// Offers a claim.
+#[tactic(auto, using(crate::proofs::Order::any_order))]
 pub fn offer_once<G: Gate>(
     rt: &(impl Abort + Wait),
     terms: &Terms,
@@ -50,6 +51,7 @@ pub fn offer_once<G: Gate>(
 ) -> (Result<Accepted, (OfferFault, Offer)>, G::Pass)
     requires caller { IsCaller (G.has_pass gate.now) G.known terms.now pass }
     requires filed { ForTerms terms.now (λ T. IsFiled T offer) }
+    requires any_order { terms.now.in_order ≡ false }
     ensures caller { IsCaller (G.has_pass gate.now) G.known terms.now result.1 }
     ensures leads { LeadsTo (G.known pass).seen (G.known result.1).seen }
     ensures back { IfErr result.0 (λ refused. refused.1 ≡ offer) }
@@ -72,6 +74,7 @@ pub fn offer<G: Gate>(
 ) -> (Result<Accepted, (OfferFault, Offer)>, G::Pass)
     requires caller { IsCaller (G.has_pass gate.now) G.known terms.now pass }
     requires filed { ForTerms terms.now (λ T. IsFiled T offer) }
+    requires any_order { terms.now.in_order ≡ false }
     ensures caller { IsCaller (G.has_pass gate.now) G.known terms.now result.1 }
     ensures leads { LeadsTo (G.known pass).seen (G.known result.1).seen }
 {

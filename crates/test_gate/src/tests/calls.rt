@@ -1,6 +1,6 @@
 //! The calls of a sequential gate with the expected answers: any other answer ends the test. A call
 //! that runs out of memory is repeated once.
-ghost use Rattle.std.specs.Prelude.{◌≡◌, Ok, IfOk};
+ghost use Rattle.std.specs.Prelude.{◌≡◌, false, Ok, IfOk};
 ghost use Rattle.journal.specs.Settled.{outcome_of};
 ghost use Rattle.claim_gate.specs.Terms.{ForTerms};
 ghost use Rattle.claim_gate.specs.Replies.{HasClaims, IsFiled};
@@ -63,6 +63,7 @@ pub fn accept_at<'t>(
 }
 
 // Offers a claim, and expects that it comes back refused and the journal does not grow.
+#[tactic(auto, using(crate::proofs::Order::any_order))]
 fn refuse<'t>(
     rt: &impl Abort,
     terms: &'t Terms<'t>,
@@ -72,6 +73,7 @@ fn refuse<'t>(
 ) -> Offer
     requires terms { gate.old.terms ≡ terms.now }
     requires filed { ForTerms terms.now (λ T. IsFiled T offer) }
+    requires any_order { terms.now.in_order ≡ false }
     ensures terms { gate.new.terms ≡ terms.now }
     ensures stays { WorkStays gate.old gate.new }
 {

@@ -1,6 +1,6 @@
 //! The plan, the terms and the gate of a test, and the claims of the providers' files, read one
 //! after another as an intake thread does. Whatever runs out of memory is repeated once.
-ghost use Rattle.std.specs.Prelude.{◌≡◌, ◌+◌, IfOk, OnOk};
+ghost use Rattle.std.specs.Prelude.{◌≡◌, ◌+◌, false, IfOk, OnOk};
 ghost use Rattle.claim_gate.specs.Terms.{ForTerms};
 ghost use Rattle.claim_gate.specs.Replies.{HasClaims, IsFiled};
 ghost use Rattle.test_gate.specs.Words.{IsReader};
@@ -163,8 +163,10 @@ pub fn offer_at(
     provider: usize,
     place: usize,
 ) -> Offer
-    ensures { ForTerms terms.now (λ T. IsFiled T result) }
+    ensures filed { ForTerms terms.now (λ T. IsFiled T result) }
+    ensures any_order { terms.now.in_order ≡ false }
 {
+    assert!(rt; !terms.in_order());
     match read_offer(rt, alloc, terms, provider, place) {
         Ok(offer) => offer,
         Err(_) => read_offer(rt, alloc, terms, provider, place).expect(rt, "memory for a claim"),

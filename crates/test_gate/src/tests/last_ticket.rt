@@ -18,6 +18,7 @@ use test_fixtures::{both_files, health_plan};
 use turn_lock::Section;
 
 // The calls of an intake thread without a ticket.
+#[tactic(auto, using(crate::proofs::Order::any_order))]
 fn worn_intake<G: Gate>(
     rt: &(impl Abort + Wait),
     alloc: Global,

@@ -1,6 +1,6 @@
 //! Two threads offer the same file, each with a pass of its own. A thread whose claim the other one
 //! has offered before goes on at the expected place.
-ghost use Rattle.std.specs.Prelude.{◌≡◌};
+ghost use Rattle.std.specs.Prelude.{◌≡◌, false};
 ghost use Rattle.claim_gate.specs.Terms.{ForTerms};
 ghost use Rattle.claim_gate.specs.Replies.{IsFiled};
 ghost use Rattle.test_gate.specs.Words.{IsCaller};
@@ -71,6 +71,7 @@ fn is_accept(event: &Event, wanted: usize) -> bool {
 }
 
 // Offers a claim. Returns the place of the next claim to offer.
+#[tactic(auto, using(crate::proofs::Order::any_order))]
 fn offer_next<R: Wait + Abort, G: Gate>(
     rt: &R,
     terms: &Terms,
@@ -81,6 +82,7 @@ fn offer_next<R: Wait + Abort, G: Gate>(
 ) -> (usize, G::Pass)
     requires caller { IsCaller (G.has_pass gate.now) G.known terms.now pass }
     requires filed { ForTerms terms.now (λ T. IsFiled T offer) }
+    requires any_order { terms.now.in_order ≡ false }
     ensures caller { IsCaller (G.has_pass gate.now) G.known terms.now result.1 }
 {
     let _plan = terms.plan();

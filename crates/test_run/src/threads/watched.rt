@@ -4,8 +4,8 @@
 ghost use Rattle.std.specs.Prelude.{◌≡◌};
 
 use claim_gate::{
-    Accepted, BoxedClaim, BoxedOutcome, Counts, EndFault, Ended, FinishFault, Gate, Job, Offer,
-    OfferFault, Recorded, TakeFault, Taken,
+    Accepted, BoxedOutcome, Counts, EndFault, Ended, FinishFault, Gate, Job, Offer, OfferFault,
+    Recorded, TakeFault, Taken,
 };
 use settlement::Money;
 use std::sync::Wait;
@@ -234,15 +234,6 @@ impl<G: Gate> Gate for WatchedGate<G> {
         let answer = self.gate.offer(rt, pass, offer);
         self.offers.go();
         answer
-    }
-
-    fn prefetch<R: Wait>(
-        &self,
-        rt: &R,
-        pass: G::Pass,
-        claims: &[BoxedClaim],
-    ) -> Result<G::Pass, (Worn, G::Pass)> {
-        self.gate.prefetch(rt, pass, claims)
     }
 
     fn end<R: Wait>(

@@ -1,6 +1,6 @@
 use Rattle.std.proofs.Common.{◌+◌, ap, ◌∙◌, rules}
 use Rattle.claim_gate.proofs.Sharing.{had_section}
-use Rattle.claim_gate.proofs.locked.LockedGateGate.prefetch.Goals as goal
+use Rattle.claim_gate.proofs.locked.LockedGatePrefetching.prefetch.Goals as goal
 
 pub returns-in-Ok-clause-served : goal.returns-in-Ok-clause-served
 returns-in-Ok-clause-served g c =

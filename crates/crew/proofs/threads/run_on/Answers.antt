@@ -2,7 +2,7 @@ use Rattle.faults.specs.declared.run_fault.RunFault.TheVariants.{OutOfMemory}
 use Rattle.std.proofs.Common.{refl}
 use Rattle.journal.specs.Leading.{leads_itself}
 use Rattle.crew.proofs.Passes.{not_for_workers}
-use Rattle.crew.proofs.threads.run_with.Goals as goal
+use Rattle.crew.proofs.threads.run_on.Goals as goal
 
 pub returns-then-not-may_have-clause-seen_back : goal.returns-then-not-may_have-clause-seen_back
 returns-then-not-may_have-clause-seen_back g c = leads_itself (g.G.Gate.known c.args.pass).seen

@@ -1,5 +1,5 @@
 use Rattle.crew.proofs.Passes.{after_section, leaves_worn}
-use Rattle.crew.proofs.intake.prefetch.Goals as goal
+use Rattle.crew.proofs.hints.PrefetchPreparation.prepare.Goals as goal
 
 pub returns-in-Ok-clause-goes_on : goal.returns-in-Ok-clause-goes_on
 returns-in-Ok-clause-goes_on g c = after_section (g.G.Gate.has_pass c.args.gate.now) g.G.Gate.known c.args.pass c.in-Ok.pass c.in-Ok.ensures.served
