@@ -41,4 +41,4 @@ pub mod Literals
 pub mod ClassNumbers
 pub mod ClassWise
 pub mod Clashing
-pub mod Violations
+pub mod ViolationFaults
