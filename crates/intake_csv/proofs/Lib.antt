@@ -18,5 +18,5 @@ pub mod SomeRow
 pub mod Spelling
 pub mod FamilyYears
 pub mod AsciiFields
-pub mod Validation
+pub mod ValidRecords
 pub mod ColumnValues

@@ -135,7 +135,7 @@ fn validate_text(
     }
 }
 
-#[tactic(auto, using(crate::proofs::Validation::identifier_validated))]
+#[tactic(auto, using(crate::proofs::ValidRecords::identifier_validated))]
 fn validate_identifier(text: &str) -> Result<(), RowCause>
     ensures { IsFieldValidated contents.Identifier text.now result }
 {
@@ -148,7 +148,7 @@ fn validate_identifier(text: &str) -> Result<(), RowCause>
     Ok(())
 }
 
-#[tactic(auto, using(crate::proofs::Validation::words_validated))]
+#[tactic(auto, using(crate::proofs::ValidRecords::words_validated))]
 fn validate_words(text: &str) -> Result<(), RowCause>
     ensures { IsFieldValidated (contents.Plain kinds.Text) text.now result }
 {

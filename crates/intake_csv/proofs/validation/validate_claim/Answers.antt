@@ -2,7 +2,7 @@ use Rattle.std.specs.List.{All}
 use Rattle.std.proofs.lemmas.Grind.{common_steps}
 use Rattle.std.proofs.Common.{◌≡◌, Bool, true, false, length, subst, sym, ◌∙◌, arith, ◌<◌}
 use Rattle.intake_csv.specs.Record.{IsClaimShaped, has_family_column}
-use Rattle.intake_csv.proofs.Validation.{is-alone, is-joined}
+use Rattle.intake_csv.proofs.ValidRecords.{is-alone, is-joined}
 use Rattle.intake_csv.proofs.Shapes.{claim-shaped}
 use Rattle.intake_csv.proofs.validation.validate_claim.Goals as goal
 use Rattle.intake_csv.proofs.validation.validate_claim.Goals.{then-has_family_column, else-has_family_column}
