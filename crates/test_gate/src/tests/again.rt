@@ -158,7 +158,8 @@ pub fn finish_once<'t>(
     outcome: BoxedOutcome,
 ) -> Result<Recorded, (FinishFault, Job, BoxedOutcome)>
     requires in_work { has_take gate.old.journal job.position ≡ true }
-    requires job { ForTerms gate.old.terms (λ T. IsJob T gate.old.journal job.position job.claim job.acc) }
+    requires job { ForTerms gate.old.terms
+        (λ T. IsJob T gate.old.journal job.position job.claim job.acc) }
     requires settled { outcome ≡ outcome_of gate.old.terms.plan job.claim job.acc }
     ensures leads { LeadsTo gate.old gate.new }
     ensures back { IfErr result (λ refused. (refused.1 ≡ job) × (refused.2 ≡ outcome)) }
@@ -175,7 +176,8 @@ pub fn finish<'t>(
     outcome: BoxedOutcome,
 ) -> Result<Recorded, (FinishFault, Job, BoxedOutcome)>
     requires in_work { has_take gate.old.journal job.position ≡ true }
-    requires job { ForTerms gate.old.terms (λ T. IsJob T gate.old.journal job.position job.claim job.acc) }
+    requires job { ForTerms gate.old.terms
+        (λ T. IsJob T gate.old.journal job.position job.claim job.acc) }
     requires settled { outcome ≡ outcome_of gate.old.terms.plan job.claim job.acc }
     ensures leads { LeadsTo gate.old gate.new }
 {

@@ -160,7 +160,8 @@ fn settled_once(
     terms: &Terms,
     job: &Job,
 ) -> Result<BoxedOutcome, AllocError>
-    ensures { IfOk result (λ outcome. outcome ≡ outcome_of terms.now.plan job.now.claim job.now.acc) }
+    ensures { IfOk result
+        (λ outcome. outcome ≡ outcome_of terms.now.plan job.now.claim job.now.acc) }
 {
     let outcome = decide_once(rt, alloc, terms, job.claim.as_claim(), job.acc)?;
     Ok(BoxedOutcome::new(alloc, outcome)?)

@@ -154,7 +154,8 @@ fn offer_by_two<R: Threads + Wait + Abort + Sync, G: Gate + Sync>(
         thread::scope_env(),
         rt,
         |scope|
-            requires { IsCaller (G.has_pass gate.now) G.known terms.now mine × IsCaller (G.has_pass gate.now) G.known terms.now theirs }
+            requires { IsCaller (G.has_pass gate.now) G.known terms.now mine
+                × IsCaller (G.has_pass gate.now) G.known terms.now theirs }
         {
             let job = move ||
                 requires { IsCaller (G.has_pass gate.now) G.known terms.now theirs }

@@ -383,7 +383,7 @@ pub fn closed_calls(rt: &impl Abort, alloc: Global, terms: &Terms) {
     let back = refuse_intake(rt, alloc, terms, &mut gate, 0, faults);
     expects(rt, is_offer(back, 1, 0, "c1"), "the offer");
     expects(rt, is_over(again::take_once(&mut gate)), "the end");
-    expects(rt, gate.into_journal().len() == 1, "so many events");
+    expects(rt, gate.into_journal().len() == 1, "the number of events");
 }
 
 #[test]
